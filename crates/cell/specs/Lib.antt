@@ -1,0 +1,4 @@
+pub mod Attributes
+pub mod Glyphs
+pub mod Pictures
+pub mod Refusals

@@ -1,0 +1,58 @@
+//! Sets of attributes.
+
+ghost use Rattle.std.specs.Prelude.{⊤, ◌≡◌, ◌<◌, [], ◌∷◌, codes};
+ghost use Rattle.cell.specs.Attributes.{bits_of, known};
+
+use bitflags::{Flag, Flags, bitflag_items};
+
+/// A set of the attributes of X/Open Curses that a terminal of ECMA-48 shows. Bits beyond the six can only come in
+/// by `from_bits_retain`, and every call that is handed an `Attr` drops them.
+#[derive(Clone, Copy, PartialEq, Eq, Debug)]
+pub struct Attr(u8);
+
+bitflag_items! {
+    impl Attr: u8 {
+        const BOLD = 0x01;
+        const DIM = 0x02;
+        const UNDERLINE = 0x04;
+        const BLINK = 0x08;
+        const REVERSE = 0x10;
+        const INVIS = 0x20;
+    }
+}
+
+impl Flags for Attr {
+    type Bits = u8;
+
+    ghost exact = { ⊤ };
+
+    ghost table = { (codes "BOLD", 0x01) ∷ (codes "DIM", 0x02) ∷ (codes "UNDERLINE", 0x04) ∷ (codes "BLINK", 0x08)
+        ∷ (codes "REVERSE", 0x10) ∷ (codes "INVIS", 0x20) ∷ [] };
+
+    ghost set_of = { λ a. a.0 };
+
+    fn flags<'a>() -> &'a [Flag<Attr>] {
+        Attr::FLAGS
+    }
+
+    fn bits(&self) -> u8 {
+        self.0
+    }
+
+    fn from_bits_retain(bits: u8) -> Attr {
+        Attr(bits)
+    }
+}
+
+impl Attr {
+    /// No attribute.
+    pub const NONE: Attr = Attr(0);
+
+    /// The six attributes of the set, with other bits dropped.
+    pub fn known(self) -> Attr
+        ensures value { bits_of result ≡ known (bits_of self) }
+        ensures of_the_six { bits_of result < 64 }
+    {
+        Attr(self.0 & 0x3f)
+    }
+}

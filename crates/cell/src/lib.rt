@@ -1,0 +1,13 @@
+//! What every layer of Curspan speaks of: characters with attributes, pictures of them, windows by number, and
+//! refusals. The definitions of a screen and of each call on it stand in `specs/`.
+#![tactic(auto)]
+
+mod attr;
+mod cell;
+mod refusal;
+mod window;
+
+pub use attr::Attr;
+pub use cell::Cell;
+pub use refusal::Refusal;
+pub use window::{Frame, Run, Settings, WinId};
