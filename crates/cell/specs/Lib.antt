@@ -2,3 +2,9 @@ pub mod Attributes
 pub mod Glyphs
 pub mod Pictures
 pub mod Refusals
+pub mod Windows
+pub mod Panels
+pub mod World
+pub mod Sound
+pub mod Writing
+pub mod Refresh

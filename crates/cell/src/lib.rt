@@ -4,6 +4,7 @@
 
 mod attr;
 mod cell;
+pub mod laws;
 mod refusal;
 mod window;
 

@@ -1,0 +1,27 @@
+//! What holds of the definitions alone. Each function does nothing, and its contract is the law.
+
+ghost use Rattle.std.specs.Prelude.{◌≡◌, ◌<◌, ℕ, Some, option_map};
+ghost use Rattle.cell.specs.Glyphs.{Glyph};
+ghost use Rattle.cell.specs.Windows.{Drawing, GridPlace, Window, WindowMap, cell_at, onward, over, own, put_windows};
+
+/// The places of a window lead to a rectangle of one grid: where one leads is where the first one leads, moved.
+pub fn own_is_moved()
+    ensures { (window : WindowMap) (w y x : ℕ) → own window w y x ≡ option_map (onward y x) (own window w 0 0) }
+{}
+
+/// A second write through a window is one write of its drawing laid over the first one's.
+pub fn joined_writes()
+    ensures { (window : WindowMap) (w : ℕ) (f g : Drawing) → put_windows (put_windows window w f) w g ≡ put_windows window w (over g f) }
+{}
+
+/// No write changes where a place leads.
+pub fn own_after_write()
+    ensures { (window : WindowMap) (w : ℕ) (f : Drawing) (u y x : ℕ) → own (put_windows window w f) u y x ≡ own window u y x }
+{}
+
+/// A cell that was written through one window is shown by each window at each place that leads where it was written.
+pub fn written_cell()
+    ensures { (window : WindowMap) (w : ℕ) (a : Window) (p : GridPlace) (f : Drawing) (y x : ℕ) (glyph : Glyph) (u v z : ℕ)
+        → window w ≡ Some a → own window w 0 0 ≡ Some p → y < a.lines → x < a.columns → f y x ≡ Some glyph
+        → own window u v z ≡ own window w y x → cell_at (put_windows window w f) u v z ≡ glyph }
+{}
