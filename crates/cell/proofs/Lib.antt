@@ -1,1 +1,5 @@
 pub mod WindowLaws
+pub mod OneCell
+pub mod GridLemmas
+pub mod PictureLemmas
+pub mod RefreshLaws

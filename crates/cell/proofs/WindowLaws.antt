@@ -1,8 +1,9 @@
 -- Laws of windows that share cells.
-use Rattle.std.proofs.Common.{◌≡◌, ℕ, zero, suc, ◌+◌, ◌-◌, ◌<◌, min, max, Bool, true, false, if◌then◌else◌, ◌==◌, ◌&&◌, ◌||◌, nat_lt, nat_le, Option, Some, None, is_some, IsSomeAnd, unwrap_or, ap, arith, refl, sym, ◌∙◌, zero-add, eq-eqb}
+use Rattle.std.proofs.Common.{◌≡◌, ℕ, zero, suc, ◌+◌, ◌-◌, ◌<◌, min, max, Bool, true, false, if◌then◌else◌, ◌==◌, ◌&&◌, ◌||◌, nat_lt, nat_le, Option, Some, None, is_some, IsSome, IsSomeAnd, unwrap_or, subst, ◌≤◌, inl, inr, ap, arith, refl, sym, ◌∙◌, zero-add, eq-eqb}
 use Rattle.std.specs.Prelude.{option_and_then}
 use Rattle.std.specs.Option.{option_map, option_map_or}
 use mathlib.Core.Path.{fun_ext}
+use Rattle.std.proofs.lemmas.Bool.{cases_lt, lt-ltb, le-ltb, le-leb, lt-leb, eqb-true}
 use Rattle.std.proofs.lemmas.Bool.Decides.{nat_tests}
 use Rattle.cell.specs.Glyphs.{Glyph, blank}
 use Rattle.cell.specs.Windows.{Source, own_grid, part_of, Window, WindowMap, GridPlace, Drawing, leads, own_within, own, cell_of, cell_in_grid, cell_at, within, moved, laid_over, widened, touched_below, touched_by, drawn, put_from, put_windows, HasPlace, window_limit, onward, over}
@@ -240,3 +241,59 @@ put-takes window w a spot f y x c u v z e leads_w in_lines in_cols is same =
     ap (cell_in_grid p) (own-put window w f u v z ∙ there)
     ∙ ap (λ o. option_map_or (λ b. cell_of b.source s.line s.column) o blank) (here ∙ ap (option_map (drawn w a spot f s.grid)) end.2)
     ∙ taken-point (s.grid == spot.grid) (moved spot (within a f)) (end.0).source s.line s.column end.1 c (eq-eqb s.grid spot.grid refl) end.3 (drawn-point spot a f y x c in_lines in_cols is)
+
+-- ---- a place that no written place of the window shares keeps its cell
+
+kept-if : (t : Bool) (f : Drawing) (s : Source) (y x : ℕ) → (t ≡ true → f y x ≡ None) → cell_of (if t then laid_over f s else s) y x ≡ cell_of s y x
+kept-if true f s y x h = kept-point true f s y x (h refl)
+kept-if false f s y x h = refl
+
+kept-grid : (w : ℕ) (a : Window) (p : GridPlace) (f : Drawing) (s : GridPlace) (o : Option Window) → ((s.grid == p.grid) ≡ true → moved p (within a f) s.line s.column ≡ None)
+    → option_map_or (λ c. cell_of c.source s.line s.column) (option_map (drawn w a p f s.grid) o) blank ≡ option_map_or (λ c. cell_of c.source s.line s.column) o blank
+kept-grid w a p f s None h = refl
+kept-grid w a p f s (Some b) h = kept-if (s.grid == p.grid) (moved p (within a f)) b.source s.line s.column h
+
+-- the drawing leaves out what the premise rules out
+left-out : (a : Window) (f : Drawing) (y x : ℕ) → (y < a.lines → x < a.columns → IsSome (f y x) → ⊥) → within a f y x ≡ None
+left-out a f y x h = elim (cases_lt y a.lines) [
+  | inl line ↦ elim (cases_lt x a.columns) [
+    | inl column ↦ let l = lt-ltb y a.lines line in let c = lt-ltb x a.columns column in rw (l, c) (none-from (f y x) (h line column))
+    | inr column ↦ let l = lt-ltb y a.lines line in let c = le-ltb x a.columns column in rw (l, c) refl
+  ]
+  | inr line ↦ let l = le-ltb y a.lines line in rw l refl
+] where
+  none-from : (o : Option Glyph) → (IsSome o → ⊥) → o ≡ None
+  none-from None k = refl
+  none-from (Some g) k = absurd (k refl)
+
+module _ (window : WindowMap) (w : ℕ) (f : Drawing) (u v z : ℕ)
+    (apart : (y x : ℕ) → HasPlace window w y x → IsSome (f y x) → own window w y x ≡ own window u v z → ⊥) where
+  moved-left_out : (a : Window) (p s : GridPlace) → window w ≡ Some a → own window w 0 0 ≡ Some p → own window u v z ≡ Some s → (s.grid == p.grid) ≡ true
+      → moved p (within a f) s.line s.column ≡ None
+  moved-left_out a p s e leads_w leads_u same = elim (cases_lt s.line p.line) [
+    | inl above ↦ let l = lt-leb p.line s.line above in rw l refl
+    | inr line ↦ elim (cases_lt s.column p.column) [
+      | inl before ↦ let l = le-leb p.line s.line line in let c = lt-leb p.column s.column before in rw (l, c) refl
+      | inr column ↦
+          let l = le-leb p.line s.line line in let c = le-leb p.column s.column column in
+          rw (l, c) (left-out a f (s.line - p.line) (s.column - p.column) (λ in_lines in_columns some.
+          apart (s.line - p.line) (s.column - p.column) (subst (λ o. IsSomeAnd o (λ b. (s.line - p.line < b.lines) × (s.column - p.column < b.columns))) (sym e) (in_lines, in_columns)) some
+          (own-onward window w (s.line - p.line) (s.column - p.column) ∙ ap (option_map (onward (s.line - p.line) (s.column - p.column))) leads_w ∙ there line column ∙ sym leads_u)))
+    ]
+  ] where
+    there : p.line ≤ s.line → p.column ≤ s.column → option_map (onward (s.line - p.line) (s.column - p.column)) (Some p) ≡ Some s
+    there line column =
+        let g : p.grid ≡ s.grid = sym (eqb-true s.grid p.grid same) in
+        let l : p.line + (s.line - p.line) ≡ s.line = omega arith in
+        let c : p.column + (s.column - p.column) ≡ s.column = omega arith in
+        λ i. Some (record { grid = g i; line = l i; column = c i })
+
+  kept-from : (o : Option Window) (leads_w leads_u : Option GridPlace) → window w ≡ o → own window w 0 0 ≡ leads_w → own window u v z ≡ leads_u
+      → cell_in_grid (put_from window w o leads_w f) leads_u ≡ cell_in_grid window leads_u
+  kept-from o leads_w None e lw lu = refl
+  kept-from None leads_w (Some s) e lw lu = refl
+  kept-from (Some a) None (Some s) e lw lu = refl
+  kept-from (Some a) (Some p) (Some s) e lw lu = kept-grid w a p f s (window s.grid) (moved-left_out a p s e lw lu)
+
+  pub put-keeps : cell_at (put_windows window w f) u v z ≡ cell_at window u v z
+  put-keeps = ap (cell_in_grid (put_windows window w f)) (own-put window w f u v z) ∙ kept-from (window w) (own window w 0 0) (own window u v z) refl refl refl

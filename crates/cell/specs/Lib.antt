@@ -1,5 +1,6 @@
 pub mod Attributes
 pub mod Glyphs
+pub mod Grids
 pub mod Pictures
 pub mod Refusals
 pub mod Windows

@@ -1,10 +1,10 @@
 -- The panels, and the picture that they make of the windows.
 -- NetBSD panel(3): panels are windows with an order of depth, above the standard screen; hidden ones stand outside it.
-use Rattle.std.specs.Prelude.{ℕ, ◌+◌, ◌-◌, Bool, false, if◌then◌else◌, ◌&&◌, nat_lt, nat_le, Option, None, List, [], ◌∷◌, reverse}
+use Rattle.std.specs.Prelude.{unwrap_or, ℕ, ◌+◌, ◌-◌, Bool, false, if◌then◌else◌, ◌&&◌, nat_lt, nat_le, Option, None, List, [], ◌∷◌, reverse}
 use Rattle.std.specs.List.{filter_map}
 use Rattle.std.specs.Option.{option_map_or}
 use Rattle.cell.specs.Pictures.{Place, Shown, origin}
-use Rattle.cell.specs.Windows.{WindowMap, cell_at}
+use Rattle.cell.specs.Windows.{Window, WindowMap, cell_at}
 
 -- the visible panels from bottom to top, and the window of each panel, which is hidden where the list lacks it
 pub record Panels : Type 0 where
@@ -29,10 +29,12 @@ first_or_standard (w ∷ ws) = w
 
 -- ---- the picture
 
--- whether the window's rectangle holds the place (y, x) of the screen
+-- whether the window's rectangle holds the place (y, x) of the screen; a pad's holds none
+abbrev pub holds_place : ℕ → ℕ → Window → Bool
+holds_place y x a = option_map_or (λ p. (nat_le p.0 y && nat_lt y (p.0 + a.lines)) && (nat_le p.1 x && nat_lt x (p.1 + a.columns))) a.place false
+
 abbrev pub holds : WindowMap → ℕ → ℕ → ℕ → Bool
-holds window w y x = option_map_or (λ a. option_map_or (λ p.
-    (nat_le p.0 y && nat_lt y (p.0 + a.lines)) && (nat_le p.1 x && nat_lt x (p.1 + a.columns))) a.place false) (window w) false
+holds window w y x = option_map_or (holds_place y x) (window w) false
 
 -- the first of these windows that holds the place, or else the standard screen
 abbrev pub owner_among : WindowMap → List ℕ → ℕ → ℕ → ℕ
@@ -40,8 +42,11 @@ owner_among window [] y x = standard_screen
 owner_among window (w ∷ ws) y x = if holds window w y x then w else owner_among window ws y x
 
 -- the window's place on the screen; a pad has none
+abbrev pub screen_place : Window → Place
+screen_place a = unwrap_or a.place origin
+
 abbrev pub place_of : WindowMap → ℕ → Place
-place_of window w = option_map_or (λ a. option_map_or (λ p. p) a.place origin) (window w) origin
+place_of window w = option_map_or screen_place (window w) origin
 
 -- the cell that window w shows at the place (y, x) of the screen
 abbrev pub cell_on_screen : WindowMap → ℕ → ℕ → ℕ → Shown
@@ -55,9 +60,11 @@ found_from_top window panels y x = cell_on_screen window (owner_among window (wi
 -- ---- the cursor
 
 -- where the window's cursor stands on the screen
+abbrev pub cursor_from : Place → Window → Place
+cursor_from place a = (place.0 + a.settings.cursor.0, place.1 + a.settings.cursor.1)
+
 abbrev pub cursor_on_screen : WindowMap → ℕ → Place
-cursor_on_screen window w = option_map_or (λ a.
-    ((place_of window w).0 + a.settings.cursor.0, (place_of window w).1 + a.settings.cursor.1)) (window w) origin
+cursor_on_screen window w = option_map_or (cursor_from (place_of window w)) (window w) origin
 
 -- the cursor of the top visible panel's window, or the standard screen's if no panel is visible
 abbrev pub cursor_of_topmost : WindowMap → Panels → Place

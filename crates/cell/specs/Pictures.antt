@@ -55,6 +55,10 @@ pub record HasSize (lines columns : ℕ) (picture : Picture) : Type 0 where
   pub height : length picture ≡ lines
   pub width : AllByRecursion (λ line. length line ≡ columns) picture
 
+-- how many lines, and how many columns the first has
+abbrev pub size_of : Picture → ℕ × ℕ
+size_of picture = (length picture, length (line_of picture 0))
+
 -- each of its glyphs is a cell's
 abbrev pub AreCells : Picture → Type 0
 AreCells picture = AllByRecursion (AllByRecursion IsCell) picture

@@ -56,6 +56,9 @@ written_in a windows w character =
 abbrev pub written : ℕ → Windows → ℕ → Windows
 written w windows character = option_map_or (λ a. written_in a windows w character) (windows.window w) windows
 
+abbrev pub after_addch : World → ℕ → ℕ → World
+after_addch world w character = record world { windows = written w world.windows character }
+
 -- waddstr: no character of a refused text is written
 
 abbrev pub addstr_refusal : World → ℕ → List ℕ → Option Refusal

@@ -1,8 +1,10 @@
 //! What holds of the definitions alone. Each function does nothing, and its contract is the law.
 
-ghost use Rattle.std.specs.Prelude.{◌≡◌, ◌<◌, ℕ, Some, option_map};
+ghost use Rattle.std.specs.Prelude.{◌≡◌, ◌<◌, ℕ, List, Some, IsSome, option_map};
+ghost use Rattle.cell.specs.Panels.{Panels, cursor_of_topmost, found_from_top};
+ghost use Rattle.cell.specs.Refresh.{with_refreshed};
 ghost use Rattle.cell.specs.Glyphs.{Glyph};
-ghost use Rattle.cell.specs.Windows.{Drawing, GridPlace, Window, WindowMap, cell_at, onward, over, own, put_windows};
+ghost use Rattle.cell.specs.Windows.{Drawing, GridPlace, HasPlace, Window, WindowMap, cell_at, onward, over, own, put_windows};
 
 /// The places of a window lead to a rectangle of one grid: where one leads is where the first one leads, moved.
 pub fn own_is_moved()
@@ -24,4 +26,19 @@ pub fn written_cell()
     ensures { (window : WindowMap) (w : ℕ) (a : Window) (p : GridPlace) (f : Drawing) (y x : ℕ) (glyph : Glyph) (u v z : ℕ)
         → window w ≡ Some a → own window w 0 0 ≡ Some p → y < a.lines → x < a.columns → f y x ≡ Some glyph
         → own window u v z ≡ own window w y x → cell_at (put_windows window w f) u v z ≡ glyph }
+{}
+
+/// A place of any window that leads where no written place of the window leads keeps its cell.
+pub fn kept_cell()
+    ensures { (window : WindowMap) (w : ℕ) (f : Drawing) (u v z : ℕ)
+        → ((y x : ℕ) → HasPlace window w y x → IsSome (f y x) → own window w y x ≡ own window u v z → ⊥)
+        → cell_at (put_windows window w f) u v z ≡ cell_at window u v z }
+{}
+
+/// Refreshing windows changes neither what a search from the top finds nor the topmost's cursor.
+pub fn refreshed_picture()
+    ensures found { (window : WindowMap) (ws : List ℕ) (panels : Panels) (y x : ℕ)
+        → found_from_top (with_refreshed window ws) panels y x ≡ found_from_top window panels y x }
+    ensures cursor { (window : WindowMap) (ws : List ℕ) (panels : Panels)
+        → cursor_of_topmost (with_refreshed window ws) panels ≡ cursor_of_topmost window panels }
 {}

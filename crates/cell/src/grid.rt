@@ -1,0 +1,73 @@
+//! A grid of cells: a screen, or what a terminal shows.
+
+ghost use Rattle.std.specs.Prelude.{◌≡◌, ◌≤◌, ◌<◌, length, IfOk};
+ghost use Rattle.cell.specs.Pictures.{AreCells, blank_picture, line_of, size_of, with_shown};
+
+use crate::cell::Cell;
+use std::alloc::{AllocError, Global};
+use std::marker::Model;
+
+/// Lines of cells, all of one width, that stand one after another in memory. Lines and columns count from 0.
+#[derive(Drop)]
+pub struct Grid {
+    lines: usize,
+    columns: usize,
+    cells: Vec<Cell>,
+}
+
+impl Model for Grid {
+    ghost use Rattle.cell.specs.Pictures.{Picture};
+    ghost use Rattle.cell.specs.Grids.{rows, IsGrid};
+
+    ghost Value = { Picture };
+
+    ghost view = { λ grid. rows grid.lines grid.columns grid.cells.items };
+
+    ghost invariant = { λ grid. IsGrid grid.lines grid.columns grid.cells.items };
+}
+
+impl Grid {
+    /// A grid of blanks, in one allocation. It has at most 1000 lines and 1000 columns, and fails only for want of
+    /// memory.
+    pub fn new(alloc: Global, lines: u16, columns: u16) -> Result<Grid, AllocError>
+        requires lines { lines ≤ 1000 }
+        requires columns { columns ≤ 1000 }
+        ensures { IfOk result (λ grid. grid ≡ blank_picture lines columns) }
+    {
+        let lines = usize::from(lines);
+        let columns = usize::from(columns);
+        Ok(Grid {
+            lines,
+            columns,
+            cells: vec![in alloc; Cell::BLANK; lines * columns]?,
+        })
+    }
+
+    /// The cells of line `y`, from left to right.
+    pub fn row(&self, y: usize) -> &[Cell]
+        requires { y < length self.now }
+        ensures row { result.now ≡ line_of self.now y }
+        ensures cells { AreCells self.now }
+    {
+        let start = y * self.columns;
+        &self.cells[start..start + self.columns]
+    }
+
+    /// Puts a cell at line `y` and column `x`.
+    pub fn set(&mut self, y: usize, x: usize, cell: Cell)
+        requires line { y < length self.old }
+        requires column { x < length (line_of self.old y) }
+        ensures { self.new ≡ with_shown self.old (y, x) cell }
+    {
+        prove!(cell.ch() >= b' ');
+        self.cells[y * self.columns + x] = cell;
+    }
+
+    /// Takes over all cells of a grid of the same size.
+    pub fn copy_from(&mut self, other: &Grid)
+        requires { size_of self.old ≡ size_of other.now }
+        ensures { self.new ≡ other.now }
+    {
+        self.cells.copy_from_slice(&other.cells);
+    }
+}

@@ -1,0 +1,65 @@
+use crate::{Attr, Cell, Grid, Refusal};
+use bitflags::Flags;
+use std::test::Fail;
+
+const BLANK: Cell = Cell::BLANK;
+
+#[test]
+fn new_grid_is_blank(rt: HostRuntime) -> Result<(), Fail> {
+    let grid = Grid::new(rt.alloc(), 2, 3)?;
+    assert_eq!(rt; grid.row(0), [BLANK, BLANK, BLANK].as_slice());
+    assert_eq!(rt; grid.row(1), [BLANK, BLANK, BLANK].as_slice());
+    Ok(())
+}
+
+#[test]
+fn set_cell_stands_in_its_line(rt: HostRuntime) -> Result<(), Fail> {
+    let letter = Cell::new(b'A', Attr::BOLD).ok_or("no cell")?;
+    let mut grid = Grid::new(rt.alloc(), 3, 2)?;
+    grid.set(1, 0, letter);
+    assert_eq!(rt; grid.row(0), [BLANK, BLANK].as_slice());
+    assert_eq!(rt; grid.row(1), [letter, BLANK].as_slice());
+    assert_eq!(rt; grid.row(2), [BLANK, BLANK].as_slice());
+    Ok(())
+}
+
+#[test]
+fn copied_grid_has_every_cell(rt: HostRuntime) -> Result<(), Fail> {
+    let letter = Cell::new(b'~', Attr::NONE).ok_or("no cell")?;
+    let mut from = Grid::new(rt.alloc(), 2, 2)?;
+    from.set(0, 1, letter);
+    let mut to = Grid::new(rt.alloc(), 2, 2)?;
+    to.set(1, 0, letter);
+    to.copy_from(&from);
+    assert_eq!(rt; to.row(0), [BLANK, letter].as_slice());
+    assert_eq!(rt; to.row(1), [BLANK, BLANK].as_slice());
+    Ok(())
+}
+
+#[test]
+fn cell_is_its_character_and_attributes(rt: HostRuntime) -> Result<(), Fail> {
+    let cell = Cell::new(b'~', Attr::BOLD | Attr::INVIS).ok_or("no cell")?;
+    assert_eq!(rt; cell.ch(), 126);
+    assert_eq!(rt; cell.attr().bits(), 0x21);
+    assert_eq!(rt; cell.bits(), 0x217e);
+    assert_eq!(rt; BLANK.bits(), 0x0020);
+    assert_eq!(rt; Cell::new(31, Attr::NONE), None);
+    assert_eq!(rt; Cell::new(127, Attr::NONE), None);
+    Ok(())
+}
+
+#[test]
+fn bits_beyond_the_six_are_dropped(rt: HostRuntime) -> Result<(), Fail> {
+    let all = Attr::from_bits_retain(0xff);
+    assert_eq!(rt; all.known().bits(), 0x3f);
+    let cell = Cell::new(b'x', all).ok_or("no cell")?;
+    assert_eq!(rt; cell.attr().bits(), 0x3f);
+    Ok(())
+}
+
+#[test]
+fn refusals_have_number_and_name(rt: HostRuntime) {
+    assert_eq!(rt; Refusal::NoSuchWindow.text(), "E1 NoSuchWindow");
+    assert_eq!(rt; Refusal::ScrollingOff.text(), "E16 ScrollingOff");
+    assert_eq!(rt; Refusal::BadRectangle.text(), "E19 BadRectangle");
+}
