@@ -1,0 +1,67 @@
+-- Pictures that differ in no place are one.
+use Rattle.std.proofs.Common.{◌≡◌, ℕ, ◌+◌, true, false, List, [], ◌∷◌, length, inl, inr, refl, sym, ◌∙◌, arith}
+use Rattle.std.specs.Prelude.{◌==◌, ◌↔◌}
+use Rattle.std.specs.List.{AllByRecursion}
+use Rattle.std.proofs.lemmas.Bool.{and_parts, eqb-true, eqb-false, true_from_ne_false, cases_Bool}
+use Rattle.cell.specs.Pictures.{Picture, Shown, HasSize}
+use Rattle.ecma.specs.Difference.{same_shown, line_difference, difference}
+
+pub same_shown-equal : (a b : Shown) → same_shown a b ≡ true → a ≡ b
+same_shown-equal a b h =
+    let parts = and_parts (a.character == b.character) (a.attributes == b.attributes) h in
+    let character : a.character ≡ b.character = eqb-true a.character b.character parts.0 in
+    let attributes : a.attributes ≡ b.attributes = eqb-true a.attributes b.attributes parts.1 in
+    rw (character, attributes) refl
+
+eqb-self : (n : ℕ) → (n == n) ≡ true
+eqb-self n = true_from_ne_false (n == n) (λ e. eqb-false n n e refl)
+
+pub same_shown-self : (a : Shown) → same_shown a a ≡ true
+same_shown-self a = rw (eqb-self a.character, eqb-self a.attributes) refl
+
+-- ---- lines
+
+pub line_difference-self : (line : List Shown) → line_difference line line ≡ 0
+line_difference-self [] = refl
+line_difference-self (a ∷ line) = rw (same_shown-self a) (omega (arith, line_difference-self line))
+
+pub line_difference-same : (a b : Shown) (old new : List Shown) → same_shown a b ≡ true → line_difference (a ∷ old) (b ∷ new) ≡ line_difference old new
+line_difference-same a b old new h = rw h (omega arith)
+
+pub line_difference-other : (a b : Shown) (old new : List Shown) → same_shown a b ≡ false → line_difference (a ∷ old) (b ∷ new) ≡ 1 + line_difference old new
+line_difference-other a b old new h = rw h refl
+
+pub line_difference-none : (old new : List Shown) → length old ≡ length new → line_difference old new ≡ 0 → old ≡ new
+line_difference-none [] [] long none = refl
+line_difference-none [] (b ∷ new) long none = absurd (omega arith)
+line_difference-none (a ∷ old) [] long none = absurd (omega arith)
+line_difference-none (a ∷ old) (b ∷ new) long none =
+    elim (cases_Bool (same_shown a b)) [
+      | inl same ↦
+          let first : a ≡ b = same_shown-equal a b same in
+          let others : old ≡ new = line_difference-none old new (omega arith) (sym (line_difference-same a b old new same) ∙ none) in
+          cc
+      | inr other ↦ absurd (let one = line_difference-other a b old new other in omega arith)
+    ]
+
+-- ---- pictures
+
+pub difference-self : (picture : Picture) → difference picture picture ≡ 0
+difference-self [] = refl
+difference-self (line ∷ picture) = omega (arith, line_difference-self line, difference-self picture)
+
+lines-equal : (columns : ℕ) (old new : Picture) → length old ≡ length new → AllByRecursion (λ line. length line ≡ columns) old → AllByRecursion (λ line. length line ≡ columns) new
+    → difference old new ≡ 0 → old ≡ new
+lines-equal columns [] [] long wide wide_new none = refl
+lines-equal columns [] (other ∷ new) long wide wide_new none = absurd (omega arith)
+lines-equal columns (line ∷ old) [] long wide wide_new none = absurd (omega arith)
+lines-equal columns (line ∷ old) (other ∷ new) long wide wide_new none =
+    let first : line ≡ other = line_difference-none line other (wide.0 ∙ sym wide_new.0) (omega arith) in
+    let others : old ≡ new = lines-equal columns old new (omega arith) wide.1 wide_new.1 (omega arith) in
+    cc
+
+pub difference-none : (lines columns : ℕ) (old new : Picture) → HasSize lines columns old → HasSize lines columns new → difference old new ≡ 0 → old ≡ new
+difference-none lines columns old new h k none = lines-equal columns old new (h.height ∙ sym k.height) h.width k.width none
+
+pub difference-zero : (lines columns : ℕ) (old new : Picture) → HasSize lines columns old → HasSize lines columns new → (difference old new ≡ 0) ↔ (old ≡ new)
+difference-zero lines columns old new h k = (difference-none lines columns old new h k, λ same. rw same (difference-self new))

@@ -1,0 +1,149 @@
+-- Worked streams on a terminal of 4 by 10, for a reader of the definitions.
+use Rattle.std.proofs.Common.{◌≡◌, [], ◌∷◌, ◌++◌, replicate, Option, Some, None, refl, arith}
+use Rattle.std.specs.Prelude.{codes}
+use Rattle.cell.specs.Pictures.{Place, Rendition, shown_blank, shown_with, no_rendition, blank_picture, origin}
+use Rattle.ecma.specs.Items.{Printable, Control, Unfinished, CUP, ED, EL, SGR, AreParameters, IsBeginning, escape}
+use Rattle.ecma.specs.Terminals.{Terminal, effect, effects, position, extent, select_all, select}
+use Rattle.ecma.specs.Streams.{IsInProfile}
+use Rattle.ecma.specs.Difference.{difference}
+use Rattle.ecma.specs.declared.token.Erase.TheVariants.{ToEnd}
+
+-- a blank picture with its cursor and rendition
+blank_with : Option Place → Rendition → Terminal
+blank_with cursor rendition = record { picture = blank_picture 4 10; cursor = cursor; rendition = rendition }
+
+new : Terminal
+unfolding blank_with
+new = blank_with (Some origin) no_rendition
+
+-- ---- sequences that were never finished; E stands for the escape
+
+five-is-parameter : AreParameters (codes "5" ∷ [])
+five-is-parameter = record { one = omega arith; most = omega arith; digits = (((omega arith, omega arith), tt), tt); short = (omega arith, tt) }
+
+begun : IsBeginning (escape ∷ codes "[5")
+begun = record { begun = omega arith; function = CUP; parameters = codes "5" ∷ []; missing = codes "H"; well_formed = five-is-parameter; not_finished = omega arith; goes_on = refl }
+
+-- E[5 leaves the terminal as it is
+unfinished_at_end : IsInProfile (escape ∷ codes "[5") new new
+unfinished_at_end = record { items = Unfinished (escape ∷ codes "[5") ∷ []; splits = ([], refl, begun, tt, refl); have_effect = refl }
+
+-- E[5E[2;3Hx puts the x at line 1 and column 2, and the cursor behind it
+restarted : IsInProfile (escape ∷ codes "[5" ++ escape ∷ codes "[2;3Hx") new
+    (record {
+      picture = replicate 10 shown_blank ∷ (shown_blank ∷ shown_blank ∷ shown_with no_rendition 120 ∷ replicate 7 shown_blank) ∷ replicate 2 (replicate 10 shown_blank);
+      cursor = Some (1, 3);
+      rendition = no_rendition;
+    })
+unfolding new blank_with
+restarted = record {
+  items = Unfinished (escape ∷ codes "[5") ∷ Control CUP (codes "2" ∷ codes "3" ∷ []) ∷ Printable 120 ∷ [];
+  splits = (
+    escape ∷ codes "[2;3Hx",
+    refl,
+    begun,
+    refl,
+    (
+      codes "x",
+      refl,
+      record { one = omega arith; most = omega arith; digits = (((omega arith, omega arith), tt), (((omega arith, omega arith), tt), tt)); short = (omega arith, (omega arith, tt)) },
+      tt,
+      ([], refl, (omega arith, omega arith), tt, refl),
+    ),
+  );
+  have_effect = refl;
+}
+
+-- ---- positions
+
+-- E[;H
+empty_position : effect (Control CUP ([] ∷ [] ∷ [])) (blank_with None no_rendition) ≡ Some new
+unfolding new blank_with
+empty_position = refl
+
+-- E[H
+no_digits : position ([] ∷ []) ≡ Some (0, 0)
+no_digits = refl
+
+-- E[0;1H and E[000;1H
+zero_line : position (codes "0" ∷ codes "1" ∷ []) ≡ None
+zero_line = refl
+
+zeros_line : position (codes "000" ∷ codes "1" ∷ []) ≡ None
+zeros_line = refl
+
+-- E[;;H
+three_parameters : position ([] ∷ [] ∷ [] ∷ []) ≡ None
+three_parameters = refl
+
+-- E[5;1H on 4 lines, E[1;11H on 10 columns
+below_last_line : effect (Control CUP (codes "5" ∷ codes "1" ∷ [])) new ≡ None
+unfolding new blank_with
+below_last_line = refl
+
+right_of_last_column : effect (Control CUP (codes "1" ∷ codes "11" ∷ [])) new ≡ None
+unfolding new blank_with
+right_of_last_column = refl
+
+-- ---- printing
+
+-- E[1;10Hx: behind the last column the cursor is unknown
+in_last_column : effects (Control CUP (codes "1" ∷ codes "10" ∷ []) ∷ Printable 120 ∷ []) new
+    ≡ Some (record { picture = (replicate 9 shown_blank ++ shown_with no_rendition 120 ∷ []) ∷ replicate 3 (replicate 10 shown_blank); cursor = None; rendition = no_rendition })
+unfolding new blank_with
+in_last_column = refl
+
+-- E[1;10Hxy: the y has no place
+behind_last_column : effects (Control CUP (codes "1" ∷ codes "10" ∷ []) ∷ Printable 120 ∷ Printable 121 ∷ []) new ≡ None
+unfolding new blank_with
+behind_last_column = refl
+
+-- ---- erasing
+
+-- E[7mE[2J: reverse, under which erasing has no effect
+reverse : effects (Control SGR (codes "7" ∷ []) ∷ []) new ≡ Some (blank_with (Some origin) 0x10)
+unfolding new blank_with select
+reverse = refl
+
+erased_in_reverse : effects (Control SGR (codes "7" ∷ []) ∷ Control ED (codes "2" ∷ []) ∷ []) new ≡ None
+unfolding new blank_with select
+erased_in_reverse = refl
+
+-- E[2J and E[K with an unknown cursor
+page_at_unknown_cursor : effect (Control ED (codes "2" ∷ [])) (blank_with None no_rendition) ≡ Some (blank_with None no_rendition)
+unfolding blank_with
+page_at_unknown_cursor = refl
+
+line_at_unknown_cursor : effect (Control EL ([] ∷ [])) (blank_with None no_rendition) ≡ None
+unfolding blank_with
+line_at_unknown_cursor = refl
+
+-- E[00K is E[K; E[2;2J and E[3J erase nothing
+leading_zero : extent (codes "00" ∷ []) ≡ Some ToEnd
+leading_zero = refl
+
+two_extents : extent (codes "2" ∷ codes "2" ∷ []) ≡ None
+two_extents = refl
+
+other_extent : extent (codes "3" ∷ []) ≡ None
+other_extent = refl
+
+-- ---- renditions
+
+-- E[1;4;22m is underline, and E[m nothing; E[31m is outside the profile
+underlined : select_all (1 ∷ 4 ∷ 22 ∷ []) no_rendition ≡ Some 0x04
+unfolding select
+underlined = refl
+
+all_off : effect (Control SGR ([] ∷ [])) (blank_with None 0x3f) ≡ Some (blank_with None no_rendition)
+unfolding blank_with select
+all_off = refl
+
+colour : effect (Control SGR (codes "31" ∷ [])) new ≡ None
+unfolding new blank_with select
+colour = refl
+
+-- ---- differences
+
+one_place : difference (blank_picture 2 3) ((replicate 2 shown_blank ++ shown_with no_rendition 120 ∷ []) ∷ replicate 3 shown_blank ∷ []) ≡ 1
+one_place = refl

@@ -1,0 +1,10 @@
+pub mod Examples
+pub mod Numbers
+pub mod Tokens
+pub mod Joining
+pub mod Codes
+pub mod Leading
+pub mod Unique
+pub mod Sizes
+pub mod Lengths
+pub mod Difference

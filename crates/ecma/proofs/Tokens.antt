@@ -1,0 +1,118 @@
+-- The spelling of a token is one item, with the token's effect.
+use Rattle.std.proofs.Common.{◌≡◌, ℕ, ◌+◌, ◌-◌, ◌<◌, ◌≤◌, Bool, true, List, [], ◌∷◌, ◌++◌, length, map, Some, refl, sym, ap, arith}
+use Rattle.std.proofs.lemmas.List.{length-map, append-nil}
+use Rattle.std.specs.Prelude.{nat_lt, decimal}
+use Rattle.std.specs.List.{list_all, AllByRecursion, join_with_byte, flat_map}
+use Rattle.std.proofs.lemmas.Fmt.{length-decimal-le}
+use Rattle.std.proofs.lemmas.Bool.{and_parts, ltb-true, lt-ltb}
+use Rattle.cell.specs.Attributes.{bits_of}
+use Rattle.cell.specs.Pictures.{Rendition, no_rendition}
+use Rattle.cell.specs.declared.attr.Attr.{Attr}
+use Rattle.ecma.specs.declared.token.Erase.{Erase}
+use Rattle.ecma.specs.declared.token.Erase.TheVariants.{ToEnd, FromStart, All}
+use Rattle.ecma.specs.declared.token.Token.{Token}
+use Rattle.ecma.specs.declared.token.Token.TheVariants.{Print, Cup, Sgr, El, Ed}
+use Rattle.ecma.specs.Items.{Printable, Control, CUP, ED, EL, SGR, IsDigit, AreParameters}
+use Rattle.ecma.specs.Terminals.{number_or, select, extent_of, place_from_one}
+use Rattle.ecma.specs.Spelling.{codes_of, spelling, extent_spelling, IsToken, IsItemOf}
+use Rattle.ecma.proofs.Numbers.{are_digits-decimal, number_or-decimal, select_all-codes_of, codes_small, codes_few}
+
+abbrev small : List ℕ → Bool
+small codes = list_all (λ code. nat_lt code 10) codes
+
+-- ---- the parameters of SGR
+
+joined-decimals : (first : List ℕ) (codes : List ℕ) → join_with_byte 59 (first ∷ map decimal codes) ≡ first ++ flat_map (λ code. 59 ∷ decimal code) codes
+joined-decimals first [] = sym (append-nil first)
+joined-decimals first (code ∷ codes) = ap (λ (rest : List ℕ). first ++ 59 ∷ rest) (joined-decimals (decimal code) codes)
+
+numbers-decimal : (codes : List ℕ) → small codes ≡ true → map (number_or 0) (map decimal codes) ≡ codes
+numbers-decimal [] h = refl
+numbers-decimal (code ∷ codes) h =
+    let parts = and_parts (nat_lt code 10) (small codes) h in
+    let lt : code < 10 = ltb-true code 10 parts.0 in
+    let first : number_or 0 (decimal code) ≡ code = number_or-decimal 0 code (omega arith) in
+    let others : map (number_or 0) (map decimal codes) ≡ codes = numbers-decimal codes parts.1 in
+    cc
+
+digits-decimals : (codes : List ℕ) → small codes ≡ true → AllByRecursion (AllByRecursion IsDigit) (map decimal codes)
+digits-decimals [] h = tt
+digits-decimals (code ∷ codes) h =
+    let parts = and_parts (nat_lt code 10) (small codes) h in
+    let lt : code < 10 = ltb-true code 10 parts.0 in
+    (are_digits-decimal code (omega arith), digits-decimals codes parts.1)
+
+short-decimals : (codes : List ℕ) → small codes ≡ true → AllByRecursion (λ digits. length digits ≤ 3) (map decimal codes)
+short-decimals [] h = tt
+short-decimals (code ∷ codes) h =
+    let parts = and_parts (nat_lt code 10) (small codes) h in
+    let lt : code < 10 = ltb-true code 10 parts.0 in
+    (length-decimal-le 3 code (omega arith) (omega arith) (omega arith), short-decimals codes parts.1)
+
+-- ---- each kind of token
+
+place_from_one-suc : (line column : ℕ) → place_from_one (line + 1) (column + 1) ≡ Some (line, column)
+place_from_one-suc line column =
+    let line_is : line + 1 - 1 ≡ line = omega arith in
+    let column_is : column + 1 - 1 ≡ column = omega arith in
+    rw (lt-ltb 0 (line + 1) (omega arith), lt-ltb 0 (column + 1) (omega arith), line_is, column_is) refl
+
+cup : (line column : ℕ) → IsToken (Cup line column) → IsItemOf (spelling (Cup line column)) (Cup line column)
+unfolding spelling
+cup line column h =
+    let is_line : number_or 1 (decimal (line + 1)) ≡ line + 1 = number_or-decimal 1 (line + 1) (omega arith) in
+    let is_column : number_or 1 (decimal (column + 1)) ≡ column + 1 = number_or-decimal 1 (column + 1) (omega arith) in
+    record {
+      item = Control CUP (decimal (line + 1) ∷ decimal (column + 1) ∷ []);
+      well_formed = record {
+        one = omega arith;
+        most = omega arith;
+        digits = (are_digits-decimal (line + 1) (omega arith), (are_digits-decimal (column + 1) (omega arith), tt));
+        short = (length-decimal-le 3 (line + 1) (omega arith) (omega arith) (omega arith), (length-decimal-le 3 (column + 1) (omega arith) (omega arith) (omega arith), tt));
+      };
+      finished = tt;
+      spelled = refl;
+      same_effect = λ t. rw (is_line, is_column, place_from_one-suc line column) refl;
+    }
+
+select-zero : (rendition : Rendition) → select 0 rendition ≡ Some no_rendition
+unfolding select
+select-zero rendition = refl
+
+sgr : (attr : Attr) → IsItemOf (spelling (Sgr attr)) (Sgr attr)
+unfolding spelling
+sgr attr =
+    let fine : small (codes_of (bits_of attr)) ≡ true = codes_small (bits_of attr) in
+    record {
+      item = Control SGR ((48 ∷ []) ∷ map decimal (codes_of (bits_of attr)));
+      well_formed = record {
+        one = omega arith;
+        most = omega (arith, codes_few (bits_of attr), length-map (codes_of (bits_of attr)) decimal);
+        digits = ((((omega arith), (omega arith)), tt), digits-decimals (codes_of (bits_of attr)) fine);
+        short = (omega arith, short-decimals (codes_of (bits_of attr)) fine);
+      };
+      finished = tt;
+      spelled = ap (λ (text : List ℕ). 27 ∷ 91 ∷ text ++ 109 ∷ []) (sym (joined-decimals (48 ∷ []) (codes_of (bits_of attr))));
+      same_effect = λ t. rw (numbers-decimal (codes_of (bits_of attr)) fine, select-zero t.rendition, select_all-codes_of (bits_of attr)) refl;
+    }
+
+extent_of-spelling : (how : Erase) → extent_of (number_or 0 (extent_spelling how)) ≡ Some how
+extent_of-spelling ToEnd = refl
+extent_of-spelling FromStart = refl
+extent_of-spelling All = refl
+
+erasing : (how : Erase) → AreParameters (extent_spelling how ∷ [])
+erasing ToEnd = record { one = omega arith; most = omega arith; digits = (tt, tt); short = (omega arith, tt) }
+erasing FromStart = record { one = omega arith; most = omega arith; digits = ((((omega arith), (omega arith)), tt), tt); short = (omega arith, tt) }
+erasing All = record { one = omega arith; most = omega arith; digits = ((((omega arith), (omega arith)), tt), tt); short = (omega arith, tt) }
+
+pub is_item_of : (token : Token) → IsToken token → IsItemOf (spelling token) token
+unfolding spelling
+is_item_of (Print byte) h = record { item = Printable byte; well_formed = h; finished = tt; spelled = refl; same_effect = λ t. refl }
+is_item_of (Cup line column) h = cup line column h
+is_item_of (Sgr attr) h = sgr attr
+is_item_of (El how) h = record { item = Control EL (extent_spelling how ∷ []); well_formed = erasing how; finished = tt; spelled = refl; same_effect = λ t. rw (extent_of-spelling how) refl }
+is_item_of (Ed how) h = record { item = Control ED (extent_spelling how ∷ []); well_formed = erasing how; finished = tt; spelled = refl; same_effect = λ t. rw (extent_of-spelling how) refl }
+
+pub is_item_of_bytes : (token : Token) (bytes : List ℕ) → IsToken token → bytes ≡ spelling token → IsItemOf bytes token
+is_item_of_bytes token bytes h e = rw e (is_item_of token h)

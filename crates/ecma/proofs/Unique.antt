@@ -1,0 +1,228 @@
+-- A stream has one row of items at most.
+use Rattle.std.proofs.Common.{◌≡◌, ℕ, ◌<◌, ◌≤◌, List, [], ◌∷◌, ◌++◌, length, refl, sym, ap, ◌∙◌, subst, arith, append_assoc, length-append, inl, inr}
+use Rattle.std.specs.Prelude.{◌⊎◌}
+use Rattle.ecma.proofs.Joining.{Splits_some}
+use Rattle.std.proofs.lemmas.List.{append-nil}
+use Rattle.std.specs.Prelude.{⊤}
+use Rattle.std.specs.List.{AllByRecursion, join_with_byte}
+use Rattle.ecma.specs.Items.{Function, CUP, ED, EL, SGR, Item, Printable, Control, Unfinished, IsDigit, AreParameters, IsBeginning, IsItem, MayPrecede, EndsOrEscapes, Splits, final_byte, bytes_of}
+
+-- a digit or a semicolon
+abbrev IsInner : ℕ → Type 0
+IsInner byte = (48 ≤ byte) × (byte ≤ 59)
+
+record Same (a b f g : List ℕ) : Type 0 where
+  first : a ≡ b
+  second : f ≡ g
+
+-- nothing follows that has P
+abbrev Stops : (ℕ → Type 0) → List ℕ → Type 0
+Stops P [] = ⊤
+Stops P (byte ∷ bytes) = P byte → ⊥
+
+-- two texts of bytes that have P before a stop are one
+cut : (P : ℕ → Type 0) (a b f g : List ℕ) → AllByRecursion P a → AllByRecursion P b → Stops P f → Stops P g → a ++ f ≡ b ++ g → Same a b f g
+cut P [] [] f g ha hb hf hg e = record { first = refl; second = e }
+cut P [] (y ∷ b) [] g ha hb hf hg e = absurd cc
+cut P [] (y ∷ b) (x ∷ f) g ha hb hf hg e = let same : x ≡ y = cc in absurd (hf (rw same hb.0))
+cut P (x ∷ a) [] f [] ha hb hf hg e = absurd cc
+cut P (x ∷ a) [] f (y ∷ g) ha hb hf hg e = let same : y ≡ x = cc in absurd (hg (rw same ha.0))
+cut P (x ∷ a) (y ∷ b) f g ha hb hf hg e =
+    let head : x ≡ y = cc in
+    let tail : a ++ f ≡ b ++ g = cc in
+    let rest = cut P a b f g ha.1 hb.1 hf hg tail in
+    let first : a ≡ b = rest.first in
+    record { first = cc; second = rest.second }
+
+All-append : (a b : List ℕ) → AllByRecursion IsInner a → AllByRecursion IsInner b → AllByRecursion IsInner (a ++ b)
+All-append [] b ha hb = hb
+All-append (x ∷ a) b ha hb = (ha.0, All-append a b ha.1 hb)
+
+All-front : (a b : List ℕ) → AllByRecursion IsInner (a ++ b) → AllByRecursion IsInner a
+All-front [] b h = tt
+All-front (x ∷ a) b h = (h.0, All-front a b h.1)
+
+digits-inner : (digits : List ℕ) → AllByRecursion IsDigit digits → AllByRecursion IsInner digits
+digits-inner [] h = tt
+digits-inner (digit ∷ digits) h = ((h.0.0, omega (arith, h.0.1)), digits-inner digits h.1)
+
+joined-inner : (parameters : List (List ℕ)) → AllByRecursion (AllByRecursion IsDigit) parameters → AllByRecursion IsInner (join_with_byte 59 parameters)
+joined-inner [] h = tt
+joined-inner (digits ∷ []) h = digits-inner digits h.0
+joined-inner (digits ∷ next ∷ parameters) h = All-append digits (59 ∷ join_with_byte 59 (next ∷ parameters)) (digits-inner digits h.0) ((omega arith, omega arith), joined-inner (next ∷ parameters) h.1)
+
+final-stops : (function : Function) (bytes : List ℕ) → Stops IsInner (final_byte function ∷ bytes)
+final-stops CUP bytes = λ h. omega (arith, h.1)
+final-stops ED bytes = λ h. omega (arith, h.1)
+final-stops EL bytes = λ h. omega (arith, h.1)
+final-stops SGR bytes = λ h. omega (arith, h.1)
+
+not-final : (function : Function) → final_byte function ≡ 27 → ⊥
+not-final CUP e = omega arith
+not-final ED e = omega arith
+not-final EL e = omega arith
+not-final SGR e = omega arith
+
+same-function : (a b : Function) → final_byte a ≡ final_byte b → a ≡ b
+same-function CUP CUP e = refl
+same-function ED ED e = refl
+same-function EL EL e = refl
+same-function SGR SGR e = refl
+same-function CUP ED e = absurd (omega arith)
+same-function CUP EL e = absurd (omega arith)
+same-function CUP SGR e = absurd (omega arith)
+same-function ED CUP e = absurd (omega arith)
+same-function ED EL e = absurd (omega arith)
+same-function ED SGR e = absurd (omega arith)
+same-function EL CUP e = absurd (omega arith)
+same-function EL ED e = absurd (omega arith)
+same-function EL SGR e = absurd (omega arith)
+same-function SGR CUP e = absurd (omega arith)
+same-function SGR ED e = absurd (omega arith)
+same-function SGR EL e = absurd (omega arith)
+
+-- ---- parameters
+
+not-digit : IsDigit 59 → ⊥
+not-digit h = omega (arith, h.1)
+
+same-parameters : (a : List ℕ) (ps : List (List ℕ)) (b : List ℕ) (qs : List (List ℕ)) → AllByRecursion (AllByRecursion IsDigit) (a ∷ ps) → AllByRecursion (AllByRecursion IsDigit) (b ∷ qs)
+    → join_with_byte 59 (a ∷ ps) ≡ join_with_byte 59 (b ∷ qs) → ◌≡◌ {A = List (List ℕ)} (a ∷ ps) (b ∷ qs)
+same-parameters a [] b [] ha hb e = cc
+same-parameters a [] b (d ∷ qs) ha hb e =
+    let both = cut IsDigit a b [] (59 ∷ join_with_byte 59 (d ∷ qs)) ha.0 hb.0 tt not-digit (append-nil a ∙ e) in
+    let never : ◌≡◌ {A = List ℕ} [] (59 ∷ join_with_byte 59 (d ∷ qs)) = both.second in absurd cc
+same-parameters a (c ∷ ps) b [] ha hb e =
+    let both = cut IsDigit a b (59 ∷ join_with_byte 59 (c ∷ ps)) [] ha.0 hb.0 not-digit tt (e ∙ sym (append-nil b)) in
+    let never : ◌≡◌ {A = List ℕ} (59 ∷ join_with_byte 59 (c ∷ ps)) [] = both.second in absurd cc
+same-parameters a (c ∷ ps) b (d ∷ qs) ha hb e =
+    let both = cut IsDigit a b (59 ∷ join_with_byte 59 (c ∷ ps)) (59 ∷ join_with_byte 59 (d ∷ qs)) ha.0 hb.0 not-digit not-digit e in
+    let first : a ≡ b = both.first in
+    let behind : ◌≡◌ {A = List ℕ} (59 ∷ join_with_byte 59 (c ∷ ps)) (59 ∷ join_with_byte 59 (d ∷ qs)) = both.second in
+    let rest : join_with_byte 59 (c ∷ ps) ≡ join_with_byte 59 (d ∷ qs) = cc in
+    let others = same-parameters c ps d qs ha.1 hb.1 rest in cc
+
+-- ---- unfinished items
+
+-- an unfinished item is an escape, or the introducer and some inner bytes
+record Inner (bytes : List ℕ) : Type 0 where
+  inner : List ℕ
+  is : bytes ≡ 27 ∷ 91 ∷ inner
+  each : AllByRecursion IsInner inner
+
+front-inner : (p q : List ℕ) (m : ℕ) (missing : List ℕ) (final : ℕ) → AllByRecursion IsInner q → p ++ m ∷ missing ≡ q ++ final ∷ [] → AllByRecursion IsInner p
+front-inner [] q m missing final h e = tt
+front-inner (x ∷ p) [] m missing final h e =
+    let tail : p ++ m ∷ missing ≡ [] = cc in
+    let len : length (p ++ m ∷ missing) ≡ 0 = ap length tail in
+    absurd (omega (arith, length-append p (m ∷ missing)))
+front-inner (x ∷ p) (y ∷ q) m missing final h e =
+    let head : x ≡ y = cc in
+    let tail : p ++ m ∷ missing ≡ q ++ final ∷ [] = cc in
+    (rw head h.0, front-inner p q m missing final h.1 tail)
+
+shape : (bytes missing : List ℕ) (function : Function) (parameters : List (List ℕ)) → 0 < length bytes → 0 < length missing → AreParameters parameters → bytes ++ missing ≡ bytes_of (Control function parameters)
+    → (bytes ≡ 27 ∷ []) ⊎ Inner bytes
+shape [] missing function parameters some more h e = absurd (omega arith)
+shape (x ∷ bytes) [] function parameters some more h e = absurd (omega arith)
+shape (x ∷ []) (m ∷ missing) function parameters some more h e = inl cc
+shape (x ∷ y ∷ p) (m ∷ missing) function parameters some more h e =
+    let tail : p ++ m ∷ missing ≡ join_with_byte 59 parameters ++ final_byte function ∷ [] = cc in
+    inr (record { inner = p; is = cc; each = front-inner p (join_with_byte 59 parameters) m missing (final_byte function) (joined-inner parameters h.digits) tail })
+
+shape-of : (bytes : List ℕ) → IsBeginning bytes → (bytes ≡ 27 ∷ []) ⊎ Inner bytes
+shape-of bytes h = shape bytes h.missing h.function h.parameters h.begun h.not_finished h.well_formed h.goes_on
+
+escape-stops : (bytes : List ℕ) → EndsOrEscapes bytes → Stops IsInner bytes
+escape-stops [] h = tt
+escape-stops (byte ∷ bytes) h = λ inner. omega (arith, inner.0)
+
+not-escape : (byte : ℕ) (bytes g : List ℕ) → (byte ≡ 27 → ⊥) → byte ∷ bytes ≡ g → EndsOrEscapes g → ⊥
+not-escape byte bytes [] h e k = cc
+not-escape byte bytes (first ∷ g) h e k = let same : byte ≡ first = cc in h (same ∙ k)
+
+-- ---- the first item
+
+pub record SameItem (i j : Item) (f g : List ℕ) : Type 0 where
+  pub item : i ≡ j
+  pub rest : f ≡ g
+
+turned : {i j : Item} {f g : List ℕ} → SameItem i j f g → SameItem j i g f
+turned h = record { item = sym h.item; rest = sym h.rest }
+
+control-control : (a : Function) (ps : List (List ℕ)) (b : Function) (qs : List (List ℕ)) (f g : List ℕ) → AreParameters ps → AreParameters qs
+    → (join_with_byte 59 ps ++ final_byte a ∷ []) ++ f ≡ (join_with_byte 59 qs ++ final_byte b ∷ []) ++ g → SameItem (Control a ps) (Control b qs) f g
+control-control a [] b qs f g h k e = absurd (omega (arith, h.one))
+control-control a (p ∷ ps) b [] f g h k e = absurd (omega (arith, k.one))
+control-control a (p ∷ ps) b (q ∷ qs) f g h k e =
+    let split : join_with_byte 59 (p ∷ ps) ++ final_byte a ∷ f ≡ join_with_byte 59 (q ∷ qs) ++ final_byte b ∷ g =
+    sym (append_assoc (join_with_byte 59 (p ∷ ps)) (final_byte a ∷ []) f) ∙ e ∙ append_assoc (join_with_byte 59 (q ∷ qs)) (final_byte b ∷ []) g in
+    let both = cut IsInner (join_with_byte 59 (p ∷ ps)) (join_with_byte 59 (q ∷ qs)) (final_byte a ∷ f) (final_byte b ∷ g) (joined-inner (p ∷ ps) h.digits) (joined-inner (q ∷ qs) k.digits)
+    (final-stops a f) (final-stops b g) split in
+    let behind : final_byte a ∷ f ≡ final_byte b ∷ g = both.second in
+    let final : final_byte a ≡ final_byte b = cc in
+    let parameters = same-parameters p ps q qs h.digits k.digits both.first in
+    let function = same-function a b final in
+    record { item = cc; rest = cc }
+
+control-unfinished : (a : Function) (ps : List (List ℕ)) (begun f g : List ℕ) → AreParameters ps → EndsOrEscapes g → (begun ≡ 27 ∷ []) ⊎ Inner begun → bytes_of (Control a ps) ++ f ≡ begun ++ g → ⊥
+control-unfinished a ps begun f g h stop (inl lone) e =
+    let whole : 27 ∷ 91 ∷ ((join_with_byte 59 ps ++ final_byte a ∷ []) ++ f) ≡ 27 ∷ g = e ∙ ap (λ (front : List ℕ). front ++ g) lone in
+    let behind : 91 ∷ ((join_with_byte 59 ps ++ final_byte a ∷ []) ++ f) ≡ g = cc in
+    not-escape 91 ((join_with_byte 59 ps ++ final_byte a ∷ []) ++ f) g (λ same. omega arith) behind stop
+control-unfinished a ps begun f g h stop (inr begins) e =
+    let whole : 27 ∷ 91 ∷ ((join_with_byte 59 ps ++ final_byte a ∷ []) ++ f) ≡ 27 ∷ 91 ∷ (begins.inner ++ g) = e ∙ ap (λ (front : List ℕ). front ++ g) begins.is in
+    let behind : (join_with_byte 59 ps ++ final_byte a ∷ []) ++ f ≡ begins.inner ++ g = cc in
+    let both = cut IsInner (join_with_byte 59 ps) begins.inner (final_byte a ∷ f) g (joined-inner ps h.digits) begins.each (final-stops a f) (escape-stops g stop)
+    (sym (append_assoc (join_with_byte 59 ps) (final_byte a ∷ []) f) ∙ behind) in
+    not-escape (final_byte a) f g (not-final a) both.second stop
+
+unfinished-unfinished : (p q f g : List ℕ) → EndsOrEscapes f → EndsOrEscapes g → (p ≡ 27 ∷ []) ⊎ Inner p → (q ≡ 27 ∷ []) ⊎ Inner q → p ++ f ≡ q ++ g → SameItem (Unfinished p) (Unfinished q) f g
+unfinished-unfinished p q f g h k (inl a) (inl b) e =
+    let whole : 27 ∷ f ≡ 27 ∷ g = sym (ap (λ (front : List ℕ). front ++ f) a) ∙ e ∙ ap (λ (front : List ℕ). front ++ g) b in
+    let same : p ≡ q = a ∙ sym b in
+    record { item = cc; rest = cc }
+unfinished-unfinished p q f g h k (inl a) (inr b) e =
+    let whole : 27 ∷ f ≡ 27 ∷ 91 ∷ (b.inner ++ g) = sym (ap (λ (front : List ℕ). front ++ f) a) ∙ e ∙ ap (λ (front : List ℕ). front ++ g) b.is in
+    let behind : 91 ∷ (b.inner ++ g) ≡ f = cc in
+    absurd (not-escape 91 (b.inner ++ g) f (λ same. omega arith) behind h)
+unfinished-unfinished p q f g h k (inr a) (inl b) e =
+    let whole : 27 ∷ 91 ∷ (a.inner ++ f) ≡ 27 ∷ g = sym (ap (λ (front : List ℕ). front ++ f) a.is) ∙ e ∙ ap (λ (front : List ℕ). front ++ g) b in
+    let behind : 91 ∷ (a.inner ++ f) ≡ g = cc in
+    absurd (not-escape 91 (a.inner ++ f) g (λ same. omega arith) behind k)
+unfinished-unfinished p q f g h k (inr a) (inr b) e =
+    let whole : 27 ∷ 91 ∷ (a.inner ++ f) ≡ 27 ∷ 91 ∷ (b.inner ++ g) = sym (ap (λ (front : List ℕ). front ++ f) a.is) ∙ e ∙ ap (λ (front : List ℕ). front ++ g) b.is in
+    let behind : a.inner ++ f ≡ b.inner ++ g = cc in
+    let both = cut IsInner a.inner b.inner f g a.each b.each (escape-stops f h) (escape-stops g k) behind in
+    let same : p ≡ q = a.is ∙ ap (λ (inner : List ℕ). 27 ∷ 91 ∷ inner) both.first ∙ sym b.is in
+    record { item = cc; rest = both.second }
+
+printable-unfinished : (byte : ℕ) (begun f g : List ℕ) → 32 ≤ byte → (begun ≡ 27 ∷ []) ⊎ Inner begun → byte ∷ f ≡ begun ++ g → ⊥
+printable-unfinished byte begun f g h (inl a) e =
+    let whole : byte ∷ f ≡ 27 ∷ g = e ∙ ap (λ (front : List ℕ). front ++ g) a in
+    let same : byte ≡ 27 = cc in omega arith
+printable-unfinished byte begun f g h (inr a) e =
+    let whole : byte ∷ f ≡ 27 ∷ 91 ∷ (a.inner ++ g) = e ∙ ap (λ (front : List ℕ). front ++ g) a.is in
+    let same : byte ≡ 27 = cc in omega arith
+
+pub same-first : (i j : Item) (f g : List ℕ) → IsItem i → IsItem j → MayPrecede i f → MayPrecede j g → bytes_of i ++ f ≡ bytes_of j ++ g → SameItem i j f g
+same-first (Printable a) (Printable b) f g h k p q e = record { item = cc; rest = cc }
+same-first (Printable a) (Control b qs) f g h k p q e = absurd (let same : a ≡ 27 = cc in omega (arith, h.0))
+same-first (Printable a) (Unfinished b) f g h k p q e = absurd (printable-unfinished a b f g h.0 (shape-of b k) e)
+same-first (Control a ps) (Printable b) f g h k p q e = absurd (let same : b ≡ 27 = cc in omega (arith, k.0))
+same-first (Control a ps) (Control b qs) f g h k p q e =
+    let tail : (join_with_byte 59 ps ++ final_byte a ∷ []) ++ f ≡ (join_with_byte 59 qs ++ final_byte b ∷ []) ++ g = cc in control-control a ps b qs f g h k tail
+same-first (Control a ps) (Unfinished b) f g h k p q e = absurd (control-unfinished a ps b f g h q (shape-of b k) e)
+same-first (Unfinished a) (Printable b) f g h k p q e = absurd (printable-unfinished b a g f k.0 (shape-of a h) (sym e))
+same-first (Unfinished a) (Control b qs) f g h k p q e = absurd (control-unfinished b qs a g f k p (shape-of a h) (sym e))
+same-first (Unfinished a) (Unfinished b) f g h k p q e = unfinished-unfinished a b f g p q (shape-of a h) (shape-of b k) e
+
+pub Splits-unique : (bytes : List ℕ) (items others : List Item) → Splits bytes items [] → Splits bytes others [] → items ≡ others
+Splits-unique bytes [] [] h k = refl
+Splits-unique bytes [] (other ∷ others) h k = absurd (let some = Splits_some bytes other others [] k in let none : length bytes ≡ 0 = ap length h in omega arith)
+Splits-unique bytes (item ∷ items) [] h k = absurd (let some = Splits_some bytes item items [] h in let none : length bytes ≡ 0 = ap length k in omega arith)
+Splits-unique bytes (item ∷ items) (other ∷ others) h k =
+    let first = same-first item other h.0 k.0 h.2 k.2 h.3 k.3 (sym h.1 ∙ k.1) in
+    let rest = Splits-unique k.0 items others (subst (λ (following : List ℕ). Splits following items []) first.rest h.4) k.4 in
+    let here : item ≡ other = first.item in
+    cc

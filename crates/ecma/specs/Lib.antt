@@ -1,0 +1,5 @@
+pub mod Items
+pub mod Terminals
+pub mod Streams
+pub mod Spelling
+pub mod Difference

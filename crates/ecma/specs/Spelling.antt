@@ -1,0 +1,70 @@
+-- The one spelling of each token, and what a token does to a terminal.
+-- ECMA-48, 5th edition: 5.4, 8.3.21 CUP, 8.3.39 ED, 8.3.41 EL, 8.3.117 SGR.
+use Rattle.std.specs.Prelude.{◌≡◌, ◌==◌, ℕ, ◌+◌, ◌≤◌, ◌<◌, List, [], ◌∷◌, ◌++◌, if◌then◌else◌, decimal, Option, Some, ⊤}
+use Rattle.std.specs.List.{flat_map}
+use Rattle.std.specs.Int.RustNames.{bit_and}
+use Rattle.cell.specs.Attributes.{known, bits_of}
+use Rattle.ecma.specs.Items.{CUP, ED, EL, SGR, separator, control_sequence, Item, IsItem, IsFinished, bytes_of}
+use Rattle.ecma.specs.Terminals.{Terminal, print, move_to, erase_line, erase_page, effect}
+use Rattle.ecma.specs.declared.token.Erase.{Erase}
+use Rattle.ecma.specs.declared.token.Erase.TheVariants.{ToEnd, FromStart, All}
+use Rattle.ecma.specs.declared.token.Token.{Token}
+use Rattle.ecma.specs.declared.token.Token.TheVariants.{Print, Cup, Sgr, El, Ed}
+
+-- each attribute and the code that switches it on, in ascending order
+abbrev pub attribute_codes : List (ℕ × ℕ)
+attribute_codes = (0x01, 1) ∷ (0x02, 2) ∷ (0x04, 4) ∷ (0x08, 5) ∷ (0x10, 7) ∷ (0x20, 8) ∷ []
+
+-- the codes of the attributes of a set; other bits have none
+unfoldable pub codes_of : ℕ → List ℕ
+codes_of bits = flat_map (λ entry. if bit_and bits entry.0 == entry.0 then entry.1 ∷ [] else []) attribute_codes
+
+-- the codes, each behind a separator
+abbrev pub selection : ℕ → List ℕ
+selection bits = flat_map (λ code. separator ∷ decimal code) (codes_of bits)
+
+-- nothing, 1 or 2
+abbrev pub extent_spelling : Erase → List ℕ
+extent_spelling ToEnd = []
+extent_spelling FromStart = 49 ∷ []
+extent_spelling All = 50 ∷ []
+
+-- a position counts from 1, and a selection begins with the 0 that ends all attributes
+unfoldable pub spelling : Token → List ℕ
+spelling (Print byte) = byte ∷ []
+spelling (Cup line column) = control_sequence CUP (decimal (line + 1) ++ separator ∷ decimal (column + 1))
+spelling (Sgr attr) = control_sequence SGR (48 ∷ selection (bits_of attr))
+spelling (El how) = control_sequence EL (extent_spelling how)
+spelling (Ed how) = control_sequence ED (extent_spelling how)
+
+-- the most bytes that the spelling has
+abbrev pub longest : Token → ℕ
+longest (Print byte) = 1
+longest (Cup line column) = 10
+longest (Sgr attr) = 16
+longest (El how) = 4
+longest (Ed how) = 4
+
+-- what a token does to a terminal; of a set of attributes the six count
+abbrev pub token_effect : Token → Terminal → Option Terminal
+token_effect (Print byte) t = print byte t
+token_effect (Cup line column) t = move_to (line, column) t
+token_effect (Sgr attr) t = Some (record t { rendition = known (bits_of attr) })
+token_effect (El how) t = erase_line how t
+token_effect (Ed how) t = erase_page how t
+
+-- what can be spelled: a byte that is printed, a line and a column below 255, any attributes, any erasure
+abbrev pub IsToken : Token → Type 0
+IsToken (Print byte) = (32 ≤ byte) × (byte ≤ 126)
+IsToken (Cup line column) = (line < 255) × (column < 255)
+IsToken (Sgr attr) = ⊤
+IsToken (El how) = ⊤
+IsToken (Ed how) = ⊤
+
+-- The bytes are one finished item, and it does what the token does.
+pub record IsItemOf (bytes : List ℕ) (token : Token) : Type 0 where
+  pub item : Item
+  pub well_formed : IsItem item
+  pub finished : IsFinished item
+  pub spelled : bytes ≡ bytes_of item
+  pub same_effect : (t : Terminal) → effect item t ≡ token_effect token t

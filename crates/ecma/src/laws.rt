@@ -1,0 +1,54 @@
+//! What holds of streams and terminals by their definitions alone. Each function does nothing, and its contract is the law.
+
+ghost use Rattle.std.specs.Prelude.{◌≡◌, ◌↔◌, ℕ, ◌<◌, List, [], ◌++◌, length, take};
+ghost use Rattle.cell.specs.Pictures.{HasSize, Picture};
+ghost use Rattle.ecma.specs.Difference.{difference};
+ghost use Rattle.ecma.specs.Items.{EndsOrEscapes, Item, Splits};
+ghost use Rattle.ecma.specs.Terminals.{Terminal};
+ghost use Rattle.ecma.specs.Spelling.{spelling, IsToken, IsItemOf};
+ghost use Rattle.ecma.specs.declared.token.Token.{Token};
+ghost use Rattle.ecma.specs.Streams.{Leads, LeadsWithBreaks, IsInProfile, Reaches};
+
+/// A stream has one row of items at most.
+pub fn one_row_of_items()
+    ensures { (stream : List ℕ) (items others : List Item) → Splits stream items [] → Splits stream others [] → items ≡ others }
+{}
+
+/// If a stream leads from t to u and another from u to v, then the one followed by the other leads from t to v.
+pub fn joined_streams()
+    ensures { (stream more : List ℕ) (t u v : Terminal) → Leads stream t u → Leads more u v → Leads (stream ++ more) t v }
+{}
+
+/// The same after a stream with breaks.
+pub fn joined_after_breaks()
+    ensures { (stream more : List ℕ) (t u v : Terminal) → LeadsWithBreaks stream t u → Leads more u v
+        → LeadsWithBreaks (stream ++ more) t v }
+{}
+
+/// What begins with an escape goes on from any stream in the profile, also from one that ends within a control sequence.
+pub fn repaired_stream()
+    ensures { (stream more : List ℕ) (t u v : Terminal) → IsInProfile stream t u → Leads more u v → 0 < length more → EndsOrEscapes more
+        → LeadsWithBreaks (stream ++ more) t v }
+{}
+
+/// A stream that is cut off anywhere is in the profile too.
+pub fn cut_stream()
+    ensures { (stream : List ℕ) (t v : Terminal) (n : ℕ) → Leads stream t v → (u : Terminal) × IsInProfile (take n stream) t u }
+{}
+
+/// No stream changes the size of the picture.
+pub fn size_stays()
+    ensures { (lines columns offset : ℕ) (stream : List ℕ) (t u : Terminal) → HasSize lines columns t.picture
+        → Reaches stream t offset u → HasSize lines columns u.picture }
+{}
+
+/// Two pictures of one size differ in no place exactly if they are one picture.
+pub fn no_difference()
+    ensures { (lines columns : ℕ) (old new : Picture) → HasSize lines columns old → HasSize lines columns new
+        → (difference old new ≡ 0) ↔ (old ≡ new) }
+{}
+
+/// The spelling of a token is one item, and it does what the token does.
+pub fn spelled_item()
+    ensures { (token : Token) → IsToken token → IsItemOf (spelling token) token }
+{}

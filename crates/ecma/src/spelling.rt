@@ -1,0 +1,97 @@
+//! The spelling of tokens.
+
+ghost use Rattle.std.specs.Prelude.{◌≡◌, ◌+◌, ◌≤◌, ◌<◌, ◌++◌, length, take};
+ghost use Rattle.cell.specs.Attributes.{bits_of};
+ghost use Rattle.ecma.specs.Spelling.{spelling, selection, extent_spelling, longest, IsToken, IsItemOf};
+
+use crate::token::{Erase, Token};
+use bitflags::Flags;
+use cell::Attr;
+use itoa::Buffer;
+
+const INTRODUCER: &[u8] = b"\x1b[";
+
+/// The digit that selects each attribute, in ascending order.
+const CODES: [(Attr, u8); 6] = [
+    (Attr::BOLD, b'1'),
+    (Attr::DIM, b'2'),
+    (Attr::UNDERLINE, b'4'),
+    (Attr::BLINK, b'5'),
+    (Attr::REVERSE, b'7'),
+    (Attr::INVIS, b'8'),
+];
+
+/// Writes the piece at a place, and says where it ends.
+fn append(out: &mut [u8; 32], at: usize, piece: &[u8]) -> usize
+    requires { at + length piece.now ≤ 32 }
+    ensures end { result ≡ at + length piece.now }
+    ensures text { take result out.new ≡ take at out.old ++ piece.now }
+{
+    let end = at + piece.len();
+    out[at..end].copy_from_slice(piece);
+    end
+}
+
+/// Writes the spelling of a token to the front of the buffer, and says how many bytes it has: at most 1 for a
+/// character, 10 for a position, 16 for attributes and 4 for an erasure.
+#[tactic(auto, unfolding(crate::specs::Spelling::spelling))]
+pub fn spell(token: &Token, out: &mut [u8; 32]) -> usize
+    requires { IsToken token.now }
+    ensures length { result ≡ length (spelling token.now) }
+    ensures text { take result out.new ≡ spelling token.now }
+    ensures item { IsItemOf (take result out.new) token.now }
+    ensures short { result ≤ longest token.now }
+{
+    match *token {
+        Token::Print(byte) => append(out, 0, &[byte]),
+        Token::Cup(line, column) => {
+            let mut digits = Buffer::new();
+            let at = append(out, 0, INTRODUCER);
+            let at = append(out, at, digits.format(line + 1).as_bytes());
+            let at = append(out, at, b";");
+            let at = append(out, at, digits.format(column + 1).as_bytes());
+            append(out, at, b"H")
+        }
+        Token::Sgr(attr) => {
+            let at = append(out, 0, b"\x1b[0");
+            let at = append_codes(out, at, attr);
+            append(out, at, b"m")
+        }
+        Token::El(extent) => {
+            let at = append(out, 0, INTRODUCER);
+            let at = append(out, at, extent_text(extent));
+            append(out, at, b"K")
+        }
+        Token::Ed(extent) => {
+            let at = append(out, 0, INTRODUCER);
+            let at = append(out, at, extent_text(extent));
+            append(out, at, b"J")
+        }
+    }
+}
+
+fn append_codes(out: &mut [u8; 32], at: usize, attr: Attr) -> usize
+    requires { at + 12 ≤ 32 }
+    ensures end { result ≡ at + length (selection (bits_of attr)) }
+    ensures room { result ≤ at + 12 }
+    ensures text { take result out.new ≡ take at out.old ++ selection (bits_of attr) }
+{
+    let mut end = at;
+    for (flag, code) in CODES {
+        if attr.contains(flag) {
+            end = append(out, end, &[b';', code]);
+        }
+    }
+    end
+}
+
+fn extent_text(extent: Erase) -> &'static [u8]
+    ensures text { result.now ≡ extent_spelling extent }
+    ensures short { length result.now ≤ 1 }
+{
+    match extent {
+        Erase::ToEnd => b"",
+        Erase::FromStart => b"1",
+        Erase::All => b"2",
+    }
+}

@@ -1,0 +1,29 @@
+//! What is sent to a terminal.
+
+use cell::Attr;
+
+/// What is erased of a line or of the page. The cursor's own place is erased too.
+#[derive(Clone, Copy, PartialEq, Eq, Debug)]
+pub enum Erase {
+    /// From the cursor to the end.
+    ToEnd,
+    /// From the start to the cursor.
+    FromStart,
+    /// All of it.
+    All,
+}
+
+/// One character or control function for a terminal.
+#[derive(Clone, Copy, PartialEq, Eq, Debug)]
+pub enum Token {
+    /// The character is printed at the cursor. It is one from 32 to 126.
+    Print(u8),
+    /// The cursor goes to a line and a column, each from 0 to 254.
+    Cup(u8, u8),
+    /// What is printed from now on has these attributes and no others. Bits beyond the six are dropped.
+    Sgr(Attr),
+    /// Erases in the cursor's line.
+    El(Erase),
+    /// Erases in the page.
+    Ed(Erase),
+}
