@@ -1,0 +1,7 @@
+pub mod Sends
+pub mod Changes
+pub mod Lines
+pub mod Lists
+pub mod Shows
+pub mod Updating
+pub mod Repair

@@ -1,0 +1,4 @@
+pub mod Sinks
+pub mod Updates
+pub mod Sending
+pub mod Plain

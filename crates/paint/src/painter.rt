@@ -1,0 +1,112 @@
+//! A painter: it sends pictures to terminals of one size.
+
+ghost use Rattle.std.specs.Prelude.{◌≡◌, ◌<◌, ◌↔◌, ◌⊎◌, ◌||◌, IfOk, IfErr, IsErrOf, IsTrue, MatchResult, Some, None, is_ok, if◌then◌else◌};
+ghost use Rattle.cell.specs.Pictures.{HasSize};
+ghost use Rattle.cell.specs.World.{is_no_size};
+ghost use Rattle.paint.specs.Updates.{first_painter, Updates, BreaksOff};
+
+use crate::plain::send_text;
+use crate::sending::WriteFault;
+use crate::sink::Sink;
+use cell::{Grid, Refusal};
+use std::alloc::Global;
+use std::marker::Model;
+
+/// How many bytes were sent.
+#[derive(Clone, Copy, PartialEq, Eq, Debug)]
+pub struct Sent {
+    pub bytes: u32,
+}
+
+/// Sends pictures to terminals of one size, and knows which picture and cursor it showed there last.
+#[derive(Drop)]
+pub struct Painter {
+    lines: u8,
+    columns: u8,
+    picture: Grid,
+    // The line and column where the cursor was put with the picture, and none where what was shown last is unknown.
+    cursor: Option<(u8, u8)>,
+}
+
+impl Model for Painter {
+    ghost use Rattle.std.specs.Option.{option_map};
+    ghost use Rattle.cell.specs.Pictures.{HasSize};
+    ghost use Rattle.paint.specs.Updates.{PainterState};
+
+    ghost Value = { PainterState };
+
+    ghost view = { λ p. record { lines = p.lines; columns = p.columns; last = option_map (λ cursor. record { picture = p.picture; cursor = cursor }) p.cursor } };
+
+    ghost invariant = { λ p. HasSize p.lines p.columns p.picture };
+}
+
+impl Painter {
+    /// A painter that knows nothing of its terminals. They have 1 to 255 lines and columns; another size is refused
+    /// as `BadSize`, and the only other refusal is `NoMemory`.
+    pub fn new(alloc: Global, lines: u16, columns: u16) -> Result<Painter, Refusal>
+        ensures ok { IfOk result (λ painter. painter ≡ first_painter lines columns) }
+        ensures size { IsErrOf result Refusal.BadSize ↔ IsTrue (is_no_size lines || is_no_size columns) }
+        ensures memory { IfErr result (λ refusal. (refusal ≡ Refusal.BadSize) ⊎ (refusal ≡ Refusal.NoMemory)) }
+    {
+        if !matches!(lines, 1..=255) || !matches!(columns, 1..=255) {
+            return Err(Refusal::BadSize);
+        }
+        match Grid::new(alloc, lines, columns) {
+            Ok(picture) => Ok(Painter {
+                lines: lines as u8,
+                columns: columns as u8,
+                picture,
+                cursor: None,
+            }),
+            Err(_) => Err(Refusal::NoMemory),
+        }
+    }
+
+    /// Shows a picture of the painter's size, with the cursor at a line and a column, on any terminal of that size:
+    /// it sends one text and flushes once. After an error what was shown last is unknown.
+    pub fn doupdate<W: Sink>(
+        &mut self,
+        picture: &Grid,
+        cursor: (u16, u16),
+        sink: &mut W,
+    ) -> Result<Sent, WriteFault>
+        requires size { HasSize self.old.lines self.old.columns picture.now }
+        requires line { cursor.0 < self.old.lines }
+        requires column { cursor.1 < self.old.columns }
+        ensures text { MatchResult result
+            (λ sent. Updates self.old (W.seen sink.old) (W.seen sink.new) (record { picture = picture.now; cursor = cursor }) sent.bytes)
+            (λ fault. BreaksOff self.old (W.seen sink.old) (W.seen sink.new) (record { picture = picture.now; cursor = cursor }) fault.sent) }
+        ensures painter { self.new ≡ record self.old { last = (if is_ok result then Some (record { picture = picture.now; cursor = cursor }) else None) } }
+    {
+        self.cursor = None;
+        let cursor = (cursor.0 as u8, cursor.1 as u8);
+        let sent = send_picture(sink, picture, self.lines, self.columns, cursor)?;
+        self.picture.copy_from(picture);
+        self.cursor = Some(cursor);
+        Ok(sent)
+    }
+}
+
+/// Sends the text of a picture of this size, and flushes.
+fn send_picture<W: Sink>(
+    sink: &mut W,
+    picture: &Grid,
+    lines: u8,
+    columns: u8,
+    cursor: (u8, u8),
+) -> Result<Sent, WriteFault>
+    requires size { HasSize lines columns picture.now }
+    requires line { cursor.0 < lines }
+    requires column { cursor.1 < columns }
+    ensures { MatchResult result
+        (λ sent. Updates (first_painter lines columns) (W.seen sink.old) (W.seen sink.new) (record { picture = picture.now; cursor = cursor }) sent.bytes)
+        (λ fault. BreaksOff (first_painter lines columns) (W.seen sink.old) (W.seen sink.new) (record { picture = picture.now; cursor = cursor }) fault.sent) }
+{
+    // Reading a line tells the proof that each cell can be printed.
+    prove!(picture.row(0).len() == usize::from(columns));
+    let sent = send_text(sink, picture, lines, cursor)?;
+    match sink.flush() {
+        Ok(()) => Ok(Sent { bytes: sent }),
+        Err(_) => Err(WriteFault { sent }),
+    }
+}

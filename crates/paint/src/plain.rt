@@ -1,0 +1,121 @@
+//! The plain painter's text: the opening, each line's cells, and the ending.
+
+ghost use Rattle.std.specs.Prelude.{◌≡◌, ◌+◌, ◌*◌, ◌^◌, ◌<◌, ◌≤◌, ◌++◌, length, IfOk, All};
+ghost use Rattle.cell.specs.Attributes.{bits_of};
+ghost use Rattle.cell.specs.Pictures.{rendition_of};
+ghost use Rattle.ecma.specs.Spelling.{spelling};
+ghost use Rattle.paint.specs.Updates.{opening};
+ghost use Rattle.paint.specs.Plain.{change, line_text, rendition_behind, lines_text, rendition_at_end, ending, plain_text, Draws};
+ghost use Rattle.paint.specs.Sending.{Sends};
+
+use crate::sending::{WriteFault, send_token};
+use crate::sink::Sink;
+use cell::{Attr, Cell, Grid};
+use ecma::{Erase, Token};
+
+/// How many bytes of the text went out, and the attributes under which the terminal prints behind them.
+#[derive(Clone, Copy)]
+pub struct Pen {
+    pub sent: u32,
+    pub rendition: Attr,
+}
+
+/// Changes the rendition, where it is another one.
+fn change<W: Sink>(sink: &mut W, pen: Pen, rendition: Attr) -> Result<u32, WriteFault>
+    requires { pen.sent + 16 < 2 ^ 32 }
+    ensures bound { IfOk result (λ sent. sent ≤ pen.sent + 16) }
+    ensures sends { Sends (W.seen sink.old) (W.seen sink.new) pen.sent (change (bits_of pen.rendition) (bits_of rendition)) result }
+{
+    if rendition == pen.rendition {
+        return Ok(pen.sent);
+    }
+    send_token(sink, pen.sent, Token::Sgr(rendition))
+}
+
+/// Draws a cell at the cursor.
+fn draw_cell<W: Sink>(sink: &mut W, pen: Pen, cell: Cell) -> Result<Pen, WriteFault>
+    requires { pen.sent + 17 < 2 ^ 32 }
+    ensures bound { IfOk result (λ after. after.sent ≤ pen.sent + 17) }
+    ensures draws { Draws (W.seen sink.old) (W.seen sink.new) pen
+        (change (bits_of pen.rendition) (rendition_of cell) ++ spelling (Token.Print cell.character)) (rendition_of cell) result }
+{
+    let rendition = cell.attr();
+    let sent = change(sink, pen, rendition)?;
+    let sent = send_token(sink, sent, Token::Print(cell.ch()))?;
+    Ok(Pen { sent, rendition })
+}
+
+/// Draws all cells of a line.
+fn draw_line<W: Sink>(sink: &mut W, pen: Pen, line: u8, cells: &[Cell]) -> Result<Pen, WriteFault>
+    requires line { line < 255 }
+    requires columns { length cells.now ≤ 255 }
+    requires room { pen.sent + 10 + 17 * 255 < 2 ^ 32 }
+    ensures bound { IfOk result (λ after. after.sent ≤ pen.sent + 10 + 17 * 255) }
+    ensures draws { Draws (W.seen sink.old) (W.seen sink.new) pen
+        (spelling (Token.Cup line 0) ++ line_text (bits_of pen.rendition) cells.now)
+        (rendition_behind (bits_of pen.rendition) cells.now) result }
+{
+    let sent = send_token(sink, pen.sent, Token::Cup(line, 0))?;
+    let mut pen = Pen { sent, ..pen };
+    for cell in cells {
+        pen = draw_cell(sink, pen, *cell)?;
+    }
+    Ok(pen)
+}
+
+/// Draws all lines of a picture, of which there are so many.
+fn draw_lines<W: Sink>(sink: &mut W, pen: Pen, picture: &Grid, lines: u8) -> Result<Pen, WriteFault>
+    requires lines { length picture.now ≡ lines }
+    requires columns { All (λ line. length line ≤ 255) picture.now }
+    requires room { pen.sent + 255 * (10 + 17 * 255) < 2 ^ 32 }
+    ensures bound { IfOk result (λ after. after.sent ≤ pen.sent + 255 * (10 + 17 * 255)) }
+    ensures draws { Draws (W.seen sink.old) (W.seen sink.new) pen
+        (lines_text 0 (bits_of pen.rendition) picture.now) (rendition_at_end (bits_of pen.rendition) picture.now) result }
+{
+    let mut pen = pen;
+    for line in 0..lines {
+        pen = draw_line(sink, pen, line, picture.row(usize::from(line)))?;
+    }
+    Ok(pen)
+}
+
+fn send_opening<W: Sink>(sink: &mut W) -> Result<u32, WriteFault>
+    ensures bound { IfOk result (λ sent. sent ≤ 30) }
+    ensures sends { Sends (W.seen sink.old) (W.seen sink.new) 0 opening result }
+{
+    let sent = send_token(sink, 0, Token::Sgr(Attr::NONE))?;
+    let sent = send_token(sink, sent, Token::Ed(Erase::All))?;
+    send_token(sink, sent, Token::Cup(0, 0))
+}
+
+fn send_ending<W: Sink>(sink: &mut W, pen: Pen, cursor: (u8, u8)) -> Result<u32, WriteFault>
+    requires line { cursor.0 < 255 }
+    requires column { cursor.1 < 255 }
+    requires room { pen.sent + 26 < 2 ^ 32 }
+    ensures sends { Sends (W.seen sink.old) (W.seen sink.new) pen.sent (ending (bits_of pen.rendition) cursor) result }
+{
+    let sent = change(sink, pen, Attr::NONE)?;
+    send_token(sink, sent, Token::Cup(cursor.0, cursor.1))
+}
+
+/// Sends the text of a picture, of which there are so many lines, with the cursor behind it at a place.
+pub fn send_text<W: Sink>(
+    sink: &mut W,
+    picture: &Grid,
+    lines: u8,
+    cursor: (u8, u8),
+) -> Result<u32, WriteFault>
+    requires lines { length picture.now ≡ lines }
+    requires columns { All (λ line. length line ≤ 255) picture.now }
+    requires line { cursor.0 < 255 }
+    requires column { cursor.1 < 255 }
+    ensures sends { Sends (W.seen sink.old) (W.seen sink.new) 0 (plain_text picture.now cursor) result }
+{
+    let sent = send_opening(sink)?;
+    let pen = Pen {
+        sent,
+        rendition: Attr::NONE,
+    };
+    let pen = draw_lines(sink, pen, picture, lines)?;
+    send_ending(sink, pen, cursor)
+}

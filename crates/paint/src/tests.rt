@@ -1,0 +1,176 @@
+ghost use Rattle.std.specs.Prelude.{IfOk};
+ghost use Rattle.cell.specs.Pictures.{HasSize};
+
+use crate::{Counted, Painter, Sent, WriteFault, send};
+use cell::{Attr, Cell, Grid, Refusal};
+use std::alloc::Global;
+use std::io;
+use std::io::{ErrorKind, Write};
+use std::test::Fail;
+
+/// A writer that takes at most `step` bytes a call. Once, where it has taken `stop` bytes, it fails or takes none.
+#[derive(Drop)]
+struct Halting {
+    taken: Vec<u8>,
+    step: usize,
+    stop: Option<usize>,
+    fails: bool,
+}
+
+impl Write for Halting {
+    fn write(&mut self, buf: &[u8]) -> io::Result<usize> {
+        let mut count = self.step.min(buf.len());
+        if let Some(stop) = self.stop {
+            let room = stop.saturating_sub(self.taken.len());
+            if room == 0 {
+                self.stop = None;
+                if self.fails {
+                    return Err(io::Error::from(ErrorKind::Other));
+                }
+                return Ok(0);
+            }
+            count = count.min(room);
+        }
+        self.taken.extend_from_slice(&buf[..count])?;
+        Ok(count)
+    }
+
+    fn flush(&mut self) -> io::Result<()> {
+        Ok(())
+    }
+}
+
+/// A writer that can't be flushed.
+#[derive(Drop)]
+struct Stuck {
+    taken: Vec<u8>,
+}
+
+impl Write for Stuck {
+    fn write(&mut self, buf: &[u8]) -> io::Result<usize> {
+        self.taken.extend_from_slice(buf)?;
+        Ok(buf.len())
+    }
+
+    fn flush(&mut self) -> io::Result<()> {
+        Err(io::Error::from(ErrorKind::Other))
+    }
+}
+
+/// The screen of 4 lines and 10 columns with the word hi at its top, and the text that shows it.
+fn greeting(alloc: Global) -> Result<Grid, Fail>
+    ensures { IfOk result (λ grid. HasSize 4 10 grid) }
+{
+    let mut grid = Grid::new(alloc, 4, 10)?;
+    grid.set(0, 0, Cell::new(b'h', Attr::NONE).ok_or("no cell")?);
+    grid.set(0, 1, Cell::new(b'i', Attr::NONE).ok_or("no cell")?);
+    Ok(grid)
+}
+
+const GREETING: &[u8] =
+    b"\x1b[0m\x1b[2J\x1b[1;1H\x1b[1;1Hhi        \x1b[2;1H          \x1b[3;1H          \x1b[4;1H          \x1b[1;3H";
+
+#[test]
+fn shows_a_screen(rt: HostRuntime) -> Result<(), Fail> {
+    let picture = greeting(rt.alloc())?;
+    let mut painter = Painter::new(rt.alloc(), 4, 10)?;
+    let mut sink = Counted::new(Vec::new(rt.alloc()));
+    assert_eq!(rt;
+        painter.doupdate(&picture, (0, 2), &mut &mut sink)?,
+        Sent { bytes: 84 }
+    );
+    assert_eq!(rt; sink.get_ref().as_slice(), GREETING);
+    assert_eq!(rt; sink.into_inner().as_slice(), GREETING);
+    Ok(())
+}
+
+#[test]
+fn shows_a_bold_cell(rt: HostRuntime) -> Result<(), Fail> {
+    let mut picture = Grid::new(rt.alloc(), 1, 1)?;
+    picture.set(0, 0, Cell::new(b'A', Attr::BOLD).ok_or("no cell")?);
+    let mut painter = Painter::new(rt.alloc(), 1, 1)?;
+    let mut sink = Counted::new(Vec::new(rt.alloc()));
+    let sent = painter.doupdate(&picture, (0, 0), &mut sink)?;
+    let expected = b"\x1b[0m\x1b[2J\x1b[1;1H\x1b[1;1H\x1b[0;1mA\x1b[0m\x1b[1;1H";
+    assert_eq!(rt; sink.get_ref().as_slice(), expected.as_slice());
+    assert_eq!(rt; sent.bytes, 37);
+    Ok(())
+}
+
+#[test]
+fn writes_on_after_each_byte(rt: HostRuntime) -> Result<(), Fail> {
+    let picture = greeting(rt.alloc())?;
+    let mut painter = Painter::new(rt.alloc(), 4, 10)?;
+    let mut sink = Counted::new(Halting {
+        taken: Vec::new(rt.alloc()),
+        step: 1,
+        stop: None,
+        fails: false,
+    });
+    assert_eq!(rt;
+        painter.doupdate(&picture, (0, 2), &mut sink)?,
+        Sent { bytes: 84 }
+    );
+    assert_eq!(rt; sink.get_ref().taken.as_slice(), GREETING);
+    Ok(())
+}
+
+#[test]
+fn shows_all_after_a_fault(rt: HostRuntime) -> Result<(), Fail> {
+    for fails in [true, false] {
+        let picture = greeting(rt.alloc())?;
+        let mut painter = Painter::new(rt.alloc(), 4, 10)?;
+        let mut sink = Counted::new(Halting {
+            taken: Vec::new(rt.alloc()),
+            step: 100,
+            stop: Some(5),
+            fails,
+        });
+        assert_eq!(rt;
+            painter.doupdate(&picture, (0, 2), &mut sink),
+            Err(WriteFault { sent: 5 })
+        );
+        assert_eq!(rt; sink.get_ref().taken.as_slice(), b"\x1b[0m\x1b".as_slice());
+        assert_eq!(rt;
+            painter.doupdate(&picture, (0, 2), &mut sink),
+            Ok(Sent { bytes: 84 })
+        );
+        assert_eq!(rt; sink.get_ref().taken.get(5..), Some(GREETING));
+    }
+    Ok(())
+}
+
+#[test]
+fn tells_of_a_flush_that_fails(rt: HostRuntime) -> Result<(), Fail> {
+    let picture = greeting(rt.alloc())?;
+    let mut painter = Painter::new(rt.alloc(), 4, 10)?;
+    let mut sink = Counted::new(Stuck {
+        taken: Vec::new(rt.alloc()),
+    });
+    assert_eq!(rt;
+        painter.doupdate(&picture, (0, 2), &mut sink),
+        Err(WriteFault { sent: 84 })
+    );
+    assert_eq!(rt; sink.get_ref().taken.as_slice(), GREETING);
+    Ok(())
+}
+
+#[test]
+fn refuses_other_sizes(rt: HostRuntime) -> Result<(), Fail> {
+    for (lines, columns) in [(0, 1), (1, 0), (256, 1), (1, 256)] {
+        assert_eq!(rt;
+            Painter::new(rt.alloc(), lines, columns).err(),
+            Some(Refusal::BadSize)
+        );
+    }
+    let _ = Painter::new(rt.alloc(), 255, 255)?;
+    Ok(())
+}
+
+#[test]
+fn sends_a_piece(rt: HostRuntime) -> Result<(), Fail> {
+    let mut sink = Counted::new(Vec::new(rt.alloc()));
+    assert_eq!(rt; send(&mut sink, 7, b"abc"), Ok(10));
+    assert_eq!(rt; sink.get_ref().as_slice(), b"abc".as_slice());
+    Ok(())
+}
