@@ -1,0 +1,10 @@
+pub mod TableLemmas
+pub mod RunLemmas
+pub mod ShowingLemmas
+pub mod NumberLemmas
+pub mod LineLemmas
+pub mod ArgumentLemmas
+pub mod ByteLemmas
+pub mod AnswerLemmas
+pub mod LineEndLemmas
+pub mod ScriptLemmas

@@ -1,0 +1,109 @@
+-- How a line of a script ends.
+use Rattle.std.proofs.Common.{◌≡◌, ℕ, List, [], ◌∷◌, Bool, true, false, take, None, Some, Ok, Err, Result, is_err, is_ok, not, refl, ap, subst, sym, ◌∙◌, append-nil, ◌||◌}
+use Rattle.std.proofs.KnownBytes.{Appends-nil}
+use Rattle.std.specs.Io.KnownBytes.{Appends}
+use Rattle.paint.specs.Sinks.{Seen}
+use Rattle.desk.specs.Calls.{is_doupdate}
+use Rattle.desk.specs.Ends.{Answers, Makes}
+use Rattle.desk.specs.Script.{said_by_line}
+use Rattle.desk.specs.Log.{log_line}
+use Rattle.desk.specs.ScriptEnds.{LineEnds}
+use Rattle.desk.specs.declared.call.Call.{Call}
+use Rattle.desk.specs.declared.call.Call.TheVariants.{Writing, Refresh}
+use Rattle.desk.specs.declared.call.Refresh.TheVariants.{UpdatePanels, Doupdate}
+use Rattle.desk.specs.declared.call.Reply.{Reply}
+use Rattle.cell.specs.declared.refusal.Refusal.{Refusal}
+use Rattle.paint.specs.declared.sending.WriteFault.{WriteFault}
+use Rattle.desk.specs.declared.screen.Screen.{Screen}
+use Rattle.desk.specs.declared.script.fault.TextFault.{TextFault}
+use Rattle.desk.specs.declared.script.fault.ScriptFault.TheVariants.{Text, Write, Log}
+
+the_doupdate : (call : Call) → is_doupdate call ≡ true → call ≡ Refresh Doupdate
+the_doupdate (Writing w) h = cc
+the_doupdate (Refresh UpdatePanels) h = cc
+the_doupdate (Refresh Doupdate) h = refl
+
+or_nothing : (b : Bool) → (b || false) ≡ b
+or_nothing true = refl
+or_nothing false = refl
+
+refused_is : (answer : Result Reply Refusal) (r : Bool) → r ≡ is_err answer → r ≡ not (is_ok answer)
+refused_is (Ok reply) r e = e
+refused_is (Err refusal) r e = e
+
+module _ {W : Type 0} (seen : W → Seen) where
+  no_calls : (old : Screen W) → Makes seen old [] [] old
+  no_calls old = record { run = tt; state = refl; bytes = Appends-nil _ }
+
+  pub line_says_nothing : (old : Screen W) (n : ℕ) (line : List ℕ) (log : Seen) → said_by_line line ≡ Ok None
+      → LineEnds seen old old n line log log (record { refused = false; fault = None })
+  line_says_nothing old n line log said = record {
+    call = None;
+    outcomes = [];
+    at_stop = old;
+    makes = no_calls old;
+    stop = (said, refl);
+    logs = Appends-nil _;
+    refused = refl;
+  }
+
+  pub line_has_fault : (old : Screen W) (n : ℕ) (line : List ℕ) (log : Seen) (fault : TextFault) → said_by_line line ≡ Err fault
+      → LineEnds seen old old n line log log (record { refused = false; fault = Some (Text n fault) })
+  line_has_fault old n line log fault said = record {
+    call = None;
+    outcomes = [];
+    at_stop = old;
+    makes = no_calls old;
+    stop = (refl, said, refl, refl);
+    logs = Appends-nil _;
+    refused = refl;
+  }
+
+  one_call : (old new : Screen W) (call : Call) (answer : Result Reply Refusal) (a : Answers seen old call (Ok answer) new)
+      → Makes seen old (call ∷ []) (record { answer = answer; sent = a.1.0 } ∷ []) new
+  one_call old new call answer a = record {
+    run = (a.1.1, tt);
+    state = a.0;
+    bytes = subst (Appends _ _) (sym (append-nil a.1.0)) a.1.2;
+  }
+
+  pub line_is_run : (old new : Screen W) (n : ℕ) (line : List ℕ) (log written : Seen) (call : Call) (answer : Result Reply Refusal) (r : Bool)
+      → said_by_line line ≡ Ok (Some call) → Answers seen old call (Ok answer) new → r ≡ is_err answer
+      → Appends log.taken written.taken (log_line n answer)
+      → LineEnds seen old new n line log written (record { refused = r; fault = None })
+  line_is_run old new n line log written call answer r said a e logs = record {
+    call = Some call;
+    outcomes = record { answer = answer; sent = a.1.0 } ∷ [];
+    at_stop = new;
+    makes = one_call old new call answer a;
+    stop = (said, refl);
+    logs = subst (Appends _ _) (sym (append-nil (log_line n answer))) logs;
+    refused = refused_is answer r e ∙ sym (or_nothing _);
+  }
+
+  pub line_is_not_logged : (old new : Screen W) (n : ℕ) (line : List ℕ) (log written : Seen) (call : Call) (answer : Result Reply Refusal) (r : Bool) (sent : ℕ)
+      → said_by_line line ≡ Ok (Some call) → Answers seen old call (Ok answer) new → r ≡ is_err answer
+      → Appends log.taken written.taken (take sent (log_line n answer))
+      → LineEnds seen old new n line log written (record { refused = r; fault = Some Log })
+  line_is_not_logged old new n line log written call answer r sent said a e logs = record {
+    call = Some call;
+    outcomes = record { answer = answer; sent = a.1.0 } ∷ [];
+    at_stop = new;
+    makes = one_call old new call answer a;
+    stop = (said, refl);
+    logs = (sent, subst (λ l. Appends log.taken written.taken (take sent l)) (sym (append-nil (log_line n answer))) logs);
+    refused = refused_is answer r e ∙ sym (or_nothing _);
+  }
+
+  pub line_is_cut : (old new : Screen W) (n : ℕ) (line : List ℕ) (log : Seen) (call : Call) (fault : WriteFault)
+      → said_by_line line ≡ Ok (Some call) → Answers seen old call (Err fault) new
+      → LineEnds seen old new n line log log (record { refused = false; fault = Some (Write n fault) })
+  line_is_cut old new n line log call fault said a = record {
+    call = None;
+    outcomes = [];
+    at_stop = old;
+    makes = no_calls old;
+    stop = (refl, said ∙ ap (λ c. Ok (Some c)) (the_doupdate call a.0), refl, a.1);
+    logs = Appends-nil _;
+    refused = refl;
+  }

@@ -1,0 +1,411 @@
+-- A script is run a line at a time.
+use Rattle.std.proofs.Common.{◌≡◌, ℕ, ◌≤◌, ◌<◌, List, [], ◌∷◌, ◌++◌, length, get_or, zero, suc, Bool, true, false, ◌||◌, take, Option, None, Some, Ok, Err, Result, refl, ap, subst, sym, ◌∙◌, append-nil, append_assoc, length-append, arith, nat_lt, is_some, not, ◌+◌, if◌then◌else◌}
+use Rattle.std.proofs.lemmas.Bool.Decides.{nat_tests}
+use Rattle.std.proofs.Math.Seq.{take-append-add, take-length}
+use Rattle.desk.specs.declared.call.Call.TheVariants.{Refresh}
+use Rattle.desk.specs.declared.call.Refresh.TheVariants.{Doupdate}
+use Rattle.desk.specs.declared.script.fault.ScriptFault.{ScriptFault}
+use Rattle.desk.specs.declared.script.fault.TextFault.TheVariants.{LineTooLong}
+use Rattle.desk.specs.declared.script.fault.ScriptFault.TheVariants.{Text, Reading as Reading_fault, Write, Log}
+use Rattle.std.proofs.lemmas.Grind.{flat_map-append}
+use Rattle.std.proofs.lemmas.List.{map-append}
+use Rattle.std.proofs.lemmas.List.Folds.{list_any-append}
+use Rattle.std.specs.List.{All, list_any, onto_first, slice_split}
+use Rattle.std.specs.Io.KnownBytes.{Appends, Consumes, IsAtEnd, Keeps}
+use Rattle.std.proofs.KnownBytes.{Appends-nil, Appends-trans, Consumes-nil, Consumes-trans}
+use Rattle.std.proofs.lemmas.List.Splits.{length-slice_split, slice_split-cons_no, slice_split_at, slice_split_none}
+use Rattle.paint.specs.Sinks.{Seen}
+use Rattle.desk.specs.Calls.{State}
+use Rattle.desk.specs.Sources.{SourceSeen}
+use Rattle.desk.specs.Runs.{Outcome, Run, is_refused, state_after, state_at_end}
+use Rattle.desk.specs.Ends.{Makes, state_of}
+use Rattle.desk.specs.Showing.{RunShows}
+use Rattle.desk.proofs.ShowingLemmas.{shows-broken, shows-unbroken}
+use Rattle.desk.specs.Script.{Reading, before_others, ends_with, is_newline, next_number, reading, reading_of, said_by_line}
+use Rattle.desk.specs.Bytes.{HasNoNewline, ReadsLine}
+use Rattle.desk.specs.Log.{log_line, log_of}
+use Rattle.desk.specs.ScriptEnds.{LineEnds, LineStops, Logs, MayFollow, RunsLines, ScriptEnds, ScriptStops, calls_of, numbered, write_fault}
+use Rattle.desk.specs.declared.call.Call.{Call}
+use Rattle.desk.specs.declared.screen.Screen.{Screen}
+use Rattle.desk.specs.declared.script.fault.TextFault.{TextFault}
+use Rattle.desk.specs.declared.script.fault.ScriptEnd.{ScriptEnd}
+use Rattle.desk.specs.declared.script.bytes.LineRead.TheVariants.{Line, LastLine, TooLong, FailedRead}
+
+-- calls in front of a reading
+abbrev pub prepend : List (ℕ × Call) → Reading → Reading
+prepend calls r = record { calls = calls ++ r.calls; fault = r.fault }
+
+prepend_numbered : (n : ℕ) (call : Option Call) (r : Reading) → before_others n (Ok call) r ≡ prepend (numbered n call) r
+prepend_numbered n None r = refl
+prepend_numbered n (Some call) r = refl
+
+prepend_twice : (a b : List (ℕ × Call)) (r : Reading) → prepend a (prepend b r) ≡ prepend (a ++ b) r
+prepend_twice a b r = ap (λ (calls : List (ℕ × Call)). let x : Reading = record { calls = calls; fault = r.fault } in x) (sym (append_assoc a b r.calls))
+
+-- a line before others
+line_first : (failed : Bool) (n : ℕ) (line : List ℕ) (pieces : List (List ℕ)) → 0 < length pieces
+    → reading_of failed n (line ∷ pieces) ≡ before_others n (said_by_line line) (reading_of failed (next_number n) pieces)
+line_first failed n line [] some = absurd (omega arith)
+line_first true n line (p ∷ ps) some = refl
+line_first false n line (p ∷ ps) some = refl
+
+short_line : (line : List ℕ) → length line ≤ 512 → nat_lt 512 (length line) ≡ false
+short_line line h = grind (arith, nat_tests)
+
+or_split : (a b : Bool) → (a || b) ≡ false → (a ≡ false) × (b ≡ false)
+or_split true b h = cc
+or_split false b h = (refl, h)
+
+each_fails : (p : ℕ → Bool) (xs : List ℕ) (k d : ℕ) → list_any p xs ≡ false → k < length xs → p (get_or xs k d) ≡ false
+each_fails p [] k d h lt = absurd (omega arith)
+each_fails p (x ∷ xs) zero d h lt = (or_split _ _ h).0
+each_fails p (x ∷ xs) (suc k) d h lt = each_fails p xs k d (or_split _ _ h).1 (omega arith)
+
+no_newlines : (line : List ℕ) → HasNoNewline line → All (λ b. is_newline b ≡ false) line
+no_newlines line h = λ k d lt. each_fails is_newline line k d h lt
+
+-- What a script says whose next line ends with a newline.
+line_of_script : (failed : Bool) (n : ℕ) (line left : List ℕ) → HasNoNewline line
+    → reading_of failed n (slice_split is_newline (line ++ 10 ∷ left)) ≡ before_others n (said_by_line line) (reading_of failed (next_number n) (slice_split is_newline left))
+line_of_script failed n line left h =
+    ap (reading_of failed n) (slice_split_at is_newline line 10 left (no_newlines line h) refl)
+    ∙ line_first failed n line (slice_split is_newline left) (omega (arith, length-slice_split is_newline left))
+
+long_line : (line : List ℕ) → 512 < length line → said_by_line line ≡ Err LineTooLong
+long_line line h = let long : nat_lt 512 (length line) ≡ true = grind (arith, nat_tests) in rw long refl
+
+has_first : (pieces : List (List ℕ)) → 0 < length pieces → (head : List ℕ) × (tail : List (List ℕ)) × (pieces ≡ head ∷ tail)
+has_first [] h = absurd (omega arith)
+has_first (p ∷ ps) h = (p, ps, refl)
+
+-- Bytes with no newline are the beginning of the first piece.
+first_piece : (xs ys : List ℕ) → HasNoNewline xs → (head : List ℕ) × (tail : List (List ℕ)) × (slice_split is_newline (xs ++ ys) ≡ (xs ++ head) ∷ tail)
+first_piece [] ys h = has_first (slice_split is_newline ys) (omega (arith, length-slice_split is_newline ys))
+first_piece (x ∷ xs) ys h =
+    let rest = first_piece xs ys (or_split _ _ h).1 in
+    (rest.0, rest.1, slice_split-cons_no is_newline x (xs ++ ys) (or_split _ _ h).0 ∙ ap (onto_first x) rest.2)
+
+-- However it goes on, a line of more than 512 bytes is too long.
+too_long_says : (n : ℕ) (line more : List ℕ) (b : ℕ) → HasNoNewline line → is_newline b ≡ false → 512 ≤ length line
+    → reading_of false n (slice_split is_newline (line ++ b ∷ more)) ≡ ends_with (Some (Text n LineTooLong))
+too_long_says n line more b h e long =
+    let front : HasNoNewline (line ++ b ∷ []) = rw (list_any-append is_newline line (b ∷ []), h, e) refl in
+    let first = first_piece (line ++ b ∷ []) more front in
+    let length_is : 512 < length ((line ++ b ∷ []) ++ first.0) = simp (length-append, length-append) (omega arith) in
+    ap (λ l. reading_of false n (slice_split is_newline l)) (sym (append_assoc line (b ∷ []) more)) ∙ ap (reading_of false n) first.2
+    ∙ ap (λ t. before_others n t (reading_of false (next_number n) first.1)) (long_line ((line ++ b ∷ []) ++ first.0) length_is)
+
+Run-append : (state : State) (calls more : List Call) (outcomes others : List Outcome) → Run state calls outcomes
+    → Run (state_at_end state calls outcomes) more others → Run state (calls ++ more) (outcomes ++ others)
+Run-append state [] more [] others run next = next
+Run-append state [] more (o ∷ os) others run next = absurd run
+Run-append state (c ∷ cs) more [] others run next = absurd run
+Run-append state (c ∷ cs) more (o ∷ os) others run next = (run.0, Run-append (state_after state c o.answer) cs more os others run.1 next)
+
+state_at_end-append : (state : State) (calls more : List Call) (outcomes others : List Outcome) → Run state calls outcomes
+    → state_at_end state (calls ++ more) (outcomes ++ others) ≡ state_at_end (state_at_end state calls outcomes) more others
+state_at_end-append state [] more [] others run = refl
+state_at_end-append state [] more (o ∷ os) others run = absurd run
+state_at_end-append state (c ∷ cs) more [] others run = absurd run
+state_at_end-append state (c ∷ cs) more (o ∷ os) others run = state_at_end-append (state_after state c o.answer) cs more os others run.1
+
+log_of-append : (state : State) (calls more : List (ℕ × Call)) (outcomes others : List Outcome) → Run state (calls_of calls) outcomes
+    → log_of (calls ++ more) (outcomes ++ others) ≡ log_of calls outcomes ++ log_of more others
+log_of-append state [] more [] others run = refl
+log_of-append state [] more (o ∷ os) others run = absurd run
+log_of-append state (c ∷ cs) more [] others run = absurd run
+log_of-append state (c ∷ cs) more (o ∷ os) others run =
+    ap (λ l. log_line c.0 o.answer ++ l) (log_of-append (state_after state c.1 o.answer) cs more os others run.1) ∙ sym (append_assoc (log_line c.0 o.answer) _ _)
+
+calls_of-append : (a b : List (ℕ × Call)) → calls_of (a ++ b) ≡ calls_of a ++ calls_of b
+calls_of-append a b = map-append _ a b
+
+module _ {W : Type 0} (seen : W → Seen) where
+  Makes-append : (old mid new : Screen W) (a b : List (ℕ × Call)) (outcomes others : List Outcome) → Makes seen old (calls_of a) outcomes mid
+      → Makes seen mid (calls_of b) others new → Makes seen old (calls_of (a ++ b)) (outcomes ++ others) new
+  Makes-append old mid new a b outcomes others first second =
+      subst (λ calls. Makes seen old calls (outcomes ++ others) new) (sym (calls_of-append a b)) (record {
+        run = Run-append (state_of old) (calls_of a) (calls_of b) outcomes others first.run (subst (λ w. Run w (calls_of b) others) first.state second.run);
+        state = second.state ∙ ap (λ w. state_at_end w (calls_of b) others) first.state ∙ sym (state_at_end-append (state_of old) (calls_of a) (calls_of b) outcomes others first.run);
+        bytes = subst (Appends (seen old.writer).taken (seen new.writer).taken) (sym (flat_map-append _ outcomes others)) (Appends-trans _ _ _ _ _ first.bytes second.bytes);
+      })
+
+  -- What was run of a script, and what is left of it.
+  pub record SoFar (old now : Screen W) (input rest : SourceSeen) (log written : Seen) (unused : List ℕ) (number : ℕ) (some_refused : Bool) : Type 0 where
+    pub text : List ℕ
+    pub made : List (ℕ × Call)
+    pub outcomes : List Outcome
+    pub read : Consumes input.left rest.left text
+    pub makes : Makes seen old (calls_of made) outcomes now
+    pub logs : Appends log.taken written.taken (log_of made outcomes)
+    pub is_refused : some_refused ≡ list_any is_refused outcomes
+    pub says : (failed : Bool) (more : List ℕ) → reading failed (text ++ more) ≡ prepend made (reading_of failed number (slice_split is_newline (unused ++ more)))
+
+  pub so_far_none : (old : Screen W) (input : SourceSeen) (log : Seen) (unused : List ℕ) → unused ≡ [] → SoFar old old input input log log unused 1 false
+  so_far_none old input log unused e = record {
+    text = [];
+    made = [];
+    outcomes = [];
+    read = Consumes-nil _;
+    makes = record { run = tt; state = refl; bytes = Appends-nil _ };
+    logs = Appends-nil _;
+    is_refused = refl;
+    says = λ failed more. rw e refl;
+  }
+
+  -- What the script says up to a line that a newline ends.
+  line_says : {old mid : Screen W} {input r1 r2 : SourceSeen} {log l1 : Seen} {unused left line : List ℕ} {n : ℕ} {b : Bool}
+      (s : SoFar old mid input r1 log l1 unused n b) (r : ReadsLine r1 r2 unused left line Line) (failed : Bool) (more : List ℕ)
+      → reading failed ((s.text ++ r.bytes) ++ more)
+      ≡ prepend s.made (before_others n (said_by_line line) (reading_of failed (next_number n) (slice_split is_newline (left ++ more))))
+  line_says {unused} {left} {line} {n} s r failed more =
+      let together : unused ++ (r.bytes ++ more) ≡ line ++ 10 ∷ (left ++ more) =
+      sym (append_assoc unused r.bytes more) ∙ ap (λ l. l ++ more) r.is_line.0 ∙ append_assoc line (10 ∷ left) more in
+      ap (reading failed) (append_assoc s.text r.bytes more) ∙ s.says failed (r.bytes ++ more)
+      ∙ ap (λ l. prepend s.made (reading_of failed n (slice_split is_newline l))) together
+      ∙ ap (prepend s.made) (line_of_script failed n line (left ++ more) r.no_newline)
+
+  says_call : (made : List (ℕ × Call)) (n : ℕ) (said : Result (Option Call) TextFault) (call : Option Call) (others : Reading) → said ≡ Ok call
+      → prepend made (before_others n said others) ≡ prepend (made ++ numbered n call) others
+  says_call made n said call others e =
+      ap (λ t. prepend made (before_others n t others)) e ∙ ap (prepend made) (prepend_numbered n call others) ∙ prepend_twice made (numbered n call) others
+
+  -- one more line
+  pub so_far_next : (old mid now : Screen W) (input r1 r2 : SourceSeen) (log l1 l2 : Seen) (unused left line : List ℕ) (n : ℕ) (b : Bool) (end : ScriptEnd)
+      → SoFar old mid input r1 log l1 unused n b → ReadsLine r1 r2 unused left line Line → LineEnds seen mid now n line l1 l2 end → end.fault ≡ None
+      → SoFar old now input r2 log l2 left (next_number n) (b || end.refused)
+  so_far_next old mid now input r1 r2 log l1 l2 unused left line n b end s r e none =
+      let stop : (said_by_line line ≡ Ok e.call) × (now ≡ e.at_stop) = subst (λ f. LineStops seen n (said_by_line line) e.call e.at_stop f now) none e.stop in
+      let logs : Appends l1.taken l2.taken (log_of (numbered n e.call) e.outcomes) = subst (Logs l1 l2 (log_of (numbered n e.call) e.outcomes)) none e.logs in
+      record {
+        text = s.text ++ r.bytes;
+        made = s.made ++ numbered n e.call;
+        outcomes = s.outcomes ++ e.outcomes;
+        read = Consumes-trans _ _ _ _ _ s.read r.read;
+        makes = Makes-append old mid now s.made (numbered n e.call) s.outcomes e.outcomes s.makes (subst (Makes seen mid _ e.outcomes) (sym stop.1) e.makes);
+        logs = subst (Appends _ _) (sym (log_of-append (state_of old) s.made (numbered n e.call) s.outcomes e.outcomes s.makes.run)) (Appends-trans _ _ _ _ _ s.logs logs);
+        is_refused = ap (λ x. x || end.refused) s.is_refused ∙ ap (λ x. list_any is_refused s.outcomes || x) e.refused ∙ sym (list_any-append is_refused s.outcomes e.outcomes);
+        says = λ failed more. line_says s r failed more ∙ says_call s.made n (said_by_line line) e.call _ stop.0;
+      }
+
+  -- How the script ends at a line, where z is what the script says behind the line.
+  stops : (made : List (ℕ × Call)) (n : ℕ) (said : Result (Option Call) TextFault) (call : Option Call) (at_stop now : Screen W) (ended : Bool) (text : List ℕ) (z : List ℕ → Reading)
+      (fault : Option ScriptFault) → LineStops seen n said call at_stop fault now
+      → ((more : List ℕ) → MayFollow ended more → reading false (text ++ more) ≡ prepend made (before_others n said (z more)))
+      → (fault ≡ None → (ended ≡ true) × (z [] ≡ ends_with None))
+      → ScriptStops seen ended text (made ++ numbered n call) at_stop fault now
+  stops made n said call at_stop now ended text z None ls says last = (
+    (last refl).0,
+    ap (reading false) (sym (append-nil text)) ∙ says [] (λ e. refl) ∙ says_call made n said call (z []) ls.0 ∙ ap (prepend (made ++ numbered n call)) (last refl).1
+        ∙ ap (λ (calls : List (ℕ × Call)). let x : Reading = record { calls = calls; fault = None } in x) (append-nil (made ++ numbered n call)),
+    ls.1,
+  )
+  stops made n said call at_stop now ended text z (Some (Text line fault)) ls says last = (
+    λ more h. says more h ∙ ap (λ t. prepend made (before_others n t (z more))) ls.1
+        ∙ ap (λ m. let x : Reading = record { calls = made ++ []; fault = Some (Text m fault) } in x) (sym ls.0)
+        ∙ ap (λ c. let x : Reading = record { calls = made ++ numbered n c; fault = Some (Text line fault) } in x) (sym ls.2),
+    ls.3,
+  )
+  stops made n said call at_stop now ended text z (Some Reading_fault) ls says last = absurd ls
+  stops made n said call at_stop now ended text z (Some (Write line fault)) ls says last = (
+    λ more h. (
+      (z more).calls,
+      ap (λ (r : Reading). r.calls) (says more h ∙ says_call made n said (Some (Refresh Doupdate)) (z more) ls.1)
+          ∙ ap (λ m. (made ++ (m, Refresh Doupdate) ∷ []) ++ (z more).calls) (sym ls.0)
+          ∙ ap (λ l. (l ++ (line, Refresh Doupdate) ∷ []) ++ (z more).calls) (sym (append-nil made) ∙ ap (λ c. made ++ numbered n c) (sym ls.2)),
+    ),
+    ls.3,
+  )
+  stops made n said call at_stop now ended text z (Some Log) ls says last =
+      (λ more h. ((z more).calls, ap (λ (r : Reading). r.calls) (says more h ∙ says_call made n said call (z more) ls.0)), ls.1)
+
+  logs_after : (old : State) (a b : List (ℕ × Call)) (xs ys : List Outcome) (log l1 l2 : Seen) (fault : Option ScriptFault) → Run old (calls_of a) xs
+      → Appends log.taken l1.taken (log_of a xs) → Logs l1 l2 (log_of b ys) fault → Logs log l2 (log_of (a ++ b) (xs ++ ys)) fault
+  logs_after old a b xs ys log l1 l2 None run first second =
+      subst (Appends log.taken l2.taken) (sym (log_of-append old a b xs ys run)) (Appends-trans _ _ _ _ _ first second)
+  logs_after old a b xs ys log l1 l2 (Some (Text line fault)) run first second =
+      subst (Appends log.taken l2.taken) (sym (log_of-append old a b xs ys run)) (Appends-trans _ _ _ _ _ first second)
+  logs_after old a b xs ys log l1 l2 (Some Reading_fault) run first second =
+      subst (Appends log.taken l2.taken) (sym (log_of-append old a b xs ys run)) (Appends-trans _ _ _ _ _ first second)
+  logs_after old a b xs ys log l1 l2 (Some (Write line fault)) run first second =
+      subst (Appends log.taken l2.taken) (sym (log_of-append old a b xs ys run)) (Appends-trans _ _ _ _ _ first second)
+  logs_after old a b xs ys log l1 l2 (Some Log) run first second = (
+    length (log_of a xs) + second.0,
+    subst (Appends log.taken l2.taken)
+        (sym (ap (take (length (log_of a xs) + second.0)) (log_of-append old a b xs ys run) ∙ take-append-add (log_of a xs) (log_of b ys) second.0))
+        (Appends-trans _ _ _ _ _ first second.1),
+  )
+
+  -- The script ends at a line.
+  ends_at_line : (old mid now : Screen W) (input r1 r2 : SourceSeen) (log l1 l2 : Seen) (unused line bytes : List ℕ) (n : ℕ) (b : Bool) (end : ScriptEnd) (z : List ℕ → Reading)
+      (s : SoFar old mid input r1 log l1 unused n b) → Consumes r1.left r2.left bytes → LineEnds seen mid now n line l1 l2 end
+      → ((more : List ℕ) → MayFollow r2.met_end more → reading false ((s.text ++ bytes) ++ more) ≡ prepend s.made (before_others n (said_by_line line) (z more)))
+      → (end.fault ≡ None → (r2.met_end ≡ true) × (z [] ≡ ends_with None))
+      → (end.fault ≡ None → IsAtEnd r2.left)
+      → RunsLines seen old now input r2 log l2 (record { refused = b || end.refused; fault = end.fault })
+  ends_at_line old mid now input r1 r2 log l1 l2 unused line bytes n b end z s read e says last over = record {
+    text = s.text ++ bytes;
+    made = s.made ++ numbered n e.call;
+    outcomes = s.outcomes ++ e.outcomes;
+    at_stop = e.at_stop;
+    read = Consumes-trans _ _ _ _ _ s.read read;
+    makes = Makes-append old mid e.at_stop s.made (numbered n e.call) s.outcomes e.outcomes s.makes e.makes;
+    stop = stops s.made n (said_by_line line) e.call e.at_stop now r2.met_end (s.text ++ bytes) z end.fault e.stop says last;
+    logs = logs_after (state_of old) s.made (numbered n e.call) s.outcomes e.outcomes log l1 l2 end.fault s.makes.run s.logs e.logs;
+    refused = ap (λ x. x || end.refused) s.is_refused ∙ ap (λ x. list_any is_refused s.outcomes || x) e.refused ∙ sym (list_any-append is_refused s.outcomes e.outcomes);
+    at_end = over;
+  }
+
+  -- A line has a fault, and a newline ends it.
+  pub ends_in_line : (old mid now : Screen W) (input r1 r2 : SourceSeen) (log l1 l2 : Seen) (unused left line : List ℕ) (n : ℕ) (b : Bool) (end : ScriptEnd)
+      → SoFar old mid input r1 log l1 unused n b → ReadsLine r1 r2 unused left line Line → LineEnds seen mid now n line l1 l2 end
+      → (end.fault ≡ None → ⊥)
+      → RunsLines seen old now input r2 log l2 (record { refused = b || end.refused; fault = end.fault })
+  ends_in_line old mid now input r1 r2 log l1 l2 unused left line n b end s r e some =
+      ends_at_line old mid now input r1 r2 log l1 l2 unused line r.bytes n b end (λ more. reading_of false (next_number n) (slice_split is_newline (left ++ more)))
+      s r.read e (λ more h. line_says s r false more) (λ none. absurd (some none)) (λ none. absurd (some none))
+
+  -- the last line
+  pub ends_in_last_line : (old mid now : Screen W) (input r1 r2 : SourceSeen) (log l1 l2 : Seen) (unused left line : List ℕ) (n : ℕ) (b : Bool) (end : ScriptEnd)
+      → SoFar old mid input r1 log l1 unused n b → ReadsLine r1 r2 unused left line LastLine → LineEnds seen mid now n line l1 l2 end → r2.met_end ≡ true
+      → RunsLines seen old now input r2 log l2 (record { refused = b || end.refused; fault = end.fault })
+  ends_in_last_line old mid now input r1 r2 log l1 l2 unused left line n b end s r e ended =
+      ends_at_line old mid now input r1 r2 log l1 l2 unused line r.bytes n b end (λ more. ends_with None) s r.read e
+      (λ more h.
+      ap (reading false) (append_assoc s.text r.bytes more) ∙ s.says false (r.bytes ++ more)
+      ∙ ap (λ l. prepend s.made (reading_of false n (slice_split is_newline l))) (ap (λ m. unused ++ (r.bytes ++ m)) (h ended) ∙ ap (λ l. unused ++ l) (append-nil r.bytes) ∙ r.is_line.0)
+      ∙ ap (λ ps. prepend s.made (reading_of false n ps)) (slice_split_none is_newline line (no_newlines line r.no_newline)))
+      (λ none. (ended, refl)) (λ none. r.at_end refl)
+
+  -- A read failed.
+  pub ends_in_failed_read : (old mid : Screen W) (input r1 r2 : SourceSeen) (log l1 : Seen) (unused left line : List ℕ) (n : ℕ) (b : Bool)
+      → SoFar old mid input r1 log l1 unused n b → ReadsLine r1 r2 unused left line FailedRead
+      → RunsLines seen old mid input r2 log l1 (record { refused = b; fault = Some Reading_fault })
+  ends_in_failed_read old mid input r1 r2 log l1 unused left line n b s r = record {
+    text = s.text ++ r.bytes;
+    made = s.made;
+    outcomes = s.outcomes;
+    at_stop = mid;
+    read = Consumes-trans _ _ _ _ _ s.read r.read;
+    makes = s.makes;
+    stop = (
+      ap (reading true) (ap (λ l. s.text ++ l) (sym (append-nil r.bytes))) ∙ s.says true (r.bytes ++ [])
+          ∙ ap (λ l. prepend s.made (reading_of true n (slice_split is_newline l))) (ap (λ l. unused ++ l) (append-nil r.bytes) ∙ r.is_line.0)
+          ∙ ap (λ ps. prepend s.made (reading_of true n ps)) (slice_split_none is_newline line (no_newlines line r.no_newline))
+          ∙ ap (λ (t : Bool). let x : Reading = record { calls = s.made ++ []; fault = Some (if t then Text n LineTooLong else Reading_fault) } in x) (short_line line r.is_line.2)
+          ∙ ap (λ (calls : List (ℕ × Call)). let x : Reading = record { calls = calls; fault = Some Reading_fault } in x) (append-nil s.made),
+      refl,
+    );
+    logs = s.logs;
+    refused = s.is_refused;
+    at_end = λ none. cc;
+  }
+
+  -- A line is too long.
+  pub ends_too_long : (old mid : Screen W) (input r1 r2 : SourceSeen) (log l1 : Seen) (unused left line : List ℕ) (n : ℕ) (b : Bool)
+      → SoFar old mid input r1 log l1 unused n b → ReadsLine r1 r2 unused left line TooLong
+      → RunsLines seen old mid input r2 log l1 (record { refused = b; fault = Some (Text n LineTooLong) })
+  ends_too_long old mid input r1 r2 log l1 unused left line n b s r =
+      let byte = r.is_line.0 in
+      record {
+        text = s.text ++ r.bytes;
+        made = s.made;
+        outcomes = s.outcomes;
+        at_stop = mid;
+        read = Consumes-trans _ _ _ _ _ s.read r.read;
+        makes = s.makes;
+        stop = (
+          λ more h.
+              ap (reading false) (append_assoc s.text r.bytes more) ∙ s.says false (r.bytes ++ more)
+              ∙ ap (λ l. prepend s.made (reading_of false n (slice_split is_newline l))) (sym (append_assoc unused r.bytes more) ∙ ap (λ l. l ++ more) r.is_line.1 ∙ append_assoc line (byte ∷ left) more)
+              ∙ ap (prepend s.made) (too_long_says n line (left ++ more) byte r.no_newline r.is_line.2 r.is_line.3)
+              ∙ ap (λ (calls : List (ℕ × Call)). let x : Reading = record { calls = calls; fault = Some (Text n LineTooLong) } in x) (append-nil s.made),
+          refl,
+        );
+        logs = s.logs;
+        refused = s.is_refused;
+        at_end = λ none. cc;
+      }
+
+pub some_fault : (fault : Option ScriptFault) → true ≡ is_some fault → fault ≡ None → ⊥
+some_fault None h e = cc
+some_fault (Some f) h e = cc
+
+pub no_fault : (fault : Option ScriptFault) → false ≡ is_some fault → fault ≡ None
+no_fault None h = refl
+no_fault (Some f) h = cc
+
+appends_kept : (a b c : Option (List ℕ)) (bs : List ℕ) → Appends a b bs → Keeps b c → Appends a c bs
+appends_kept None b c bs p q = tt
+appends_kept (Some x) None c bs p q = absurd p
+appends_kept (Some x) (Some y) None bs p q = absurd q
+appends_kept (Some x) (Some y) (Some z) bs p q = q ∙ p
+
+module _ {W : Type 0} (seen : W → Seen) where
+  logs_kept : (log l1 l2 : Seen) (lines : List ℕ) (fault : Option ScriptFault) → Logs log l1 lines fault → Keeps l1.taken l2.taken → Logs log l2 lines fault
+  logs_kept log l1 l2 lines None h k = appends_kept _ _ _ _ h k
+  logs_kept log l1 l2 lines (Some (Text line fault)) h k = appends_kept _ _ _ _ h k
+  logs_kept log l1 l2 lines (Some Reading_fault) h k = appends_kept _ _ _ _ h k
+  logs_kept log l1 l2 lines (Some (Write line fault)) h k = appends_kept _ _ _ _ h k
+  logs_kept log l1 l2 lines (Some Log) h k = (h.0, appends_kept _ _ _ _ h.1 k)
+
+  lines_show : (old at_stop new : Screen W) (calls : List Call) (outcomes : List Outcome) (made : List (ℕ × Call)) (met_end : Bool) (text : List ℕ) (fault : Option ScriptFault)
+      → Makes seen old calls outcomes at_stop → ScriptStops seen met_end text made at_stop fault new → RunShows seen old new calls (write_fault fault)
+  lines_show old at_stop new calls outcomes made met_end text None makes stop = shows-unbroken seen old at_stop new calls calls outcomes makes refl stop.2
+  lines_show old at_stop new calls outcomes made met_end text (Some (Text line fault)) makes stop = shows-unbroken seen old at_stop new calls calls outcomes makes refl stop.1
+  lines_show old at_stop new calls outcomes made met_end text (Some Reading_fault) makes stop = shows-unbroken seen old at_stop new calls calls outcomes makes refl stop.1
+  lines_show old at_stop new calls outcomes made met_end text (Some (Write line fault)) makes stop = shows-broken seen old at_stop new calls calls outcomes makes fault stop.1
+  lines_show old at_stop new calls outcomes made met_end text (Some Log) makes stop = shows-unbroken seen old at_stop new calls calls outcomes makes refl stop.1
+
+  pub script_ends : {old now : Screen W} {input rest : SourceSeen} {log written : Seen} {end : ScriptEnd} → RunsLines seen old now input rest log written end
+      → ScriptEnds seen old now input rest log written end
+  script_ends {old} {now} {rest} {end} s = record {
+    lines = s;
+    shown = lines_show old s.at_stop now (calls_of s.made) s.outcomes s.made rest.met_end s.text end.fault s.makes s.stop;
+  }
+
+  -- The log was flushed.
+  pub ends_flushed : (old now : Screen W) (input rest : SourceSeen) (log l1 l2 : Seen) (end : ScriptEnd) → RunsLines seen old now input rest log l1 end
+      → Keeps l1.taken l2.taken → RunsLines seen old now input rest log l2 end
+  ends_flushed old now input rest log l1 l2 end s k = record {
+    text = s.text;
+    made = s.made;
+    outcomes = s.outcomes;
+    at_stop = s.at_stop;
+    read = s.read;
+    makes = s.makes;
+    stop = s.stop;
+    logs = logs_kept log l1 l2 (log_of s.made s.outcomes) end.fault s.logs k;
+    refused = s.refused;
+    at_end = s.at_end;
+  }
+
+  -- The log could not be flushed, and nothing else failed.
+  pub ends_unflushed : (old now : Screen W) (input rest : SourceSeen) (log l1 l2 : Seen) (end : ScriptEnd) → RunsLines seen old now input rest log l1 end
+      → end.fault ≡ None → Keeps l1.taken l2.taken
+      → RunsLines seen old now input rest log l2 (record { refused = end.refused; fault = Some Log })
+  ends_unflushed old now input rest log l1 l2 end s none k =
+      let stop = subst (λ f. ScriptStops seen rest.met_end s.text s.made s.at_stop f now) none s.stop in
+      let logs : Appends log.taken l1.taken (log_of s.made s.outcomes) = subst (Logs log l1 (log_of s.made s.outcomes)) none s.logs in
+      record {
+        text = s.text;
+        made = s.made;
+        outcomes = s.outcomes;
+        at_stop = s.at_stop;
+        read = s.read;
+        makes = s.makes;
+        stop = (
+          λ more h. (
+            [],
+            ap (λ m. (reading false (s.text ++ m)).calls) (h stop.0) ∙ ap (λ l. (reading false l).calls) (append-nil s.text) ∙ ap (λ (r : Reading). r.calls) stop.1 ∙ sym (append-nil s.made),
+          ),
+          stop.2,
+        );
+        logs = (length (log_of s.made s.outcomes), subst (Appends log.taken l2.taken) (sym (take-length (log_of s.made s.outcomes))) (appends_kept _ _ _ _ logs k));
+        refused = s.refused;
+        at_end = λ none. cc;
+      }
+
+pub none_is : (fault : Option ScriptFault) → is_some fault ≡ not true → fault ≡ None
+none_is None h = refl
+none_is (Some f) h = cc

@@ -1,0 +1,251 @@
+-- What a terminal shows after a run of calls.
+use Rattle.std.proofs.Common.{◌≡◌, ℕ, List, [], ◌∷◌, ◌++◌, take, Option, Some, None, Result, Ok, Err, refl, sym, ap, ◌∙◌, subst, append_assoc, append-nil, fold}
+use Rattle.std.proofs.KnownBytes.{Appends-trans}
+use Rattle.std.specs.Option.{option_map_or}
+use Rattle.std.specs.Prelude.{⊤, MatchOption}
+use Rattle.cell.specs.Pictures.{HasSize}
+use Rattle.cell.specs.Windows.{Window, Windows}
+use Rattle.cell.specs.World.{World, picture}
+use Rattle.cell.specs.Writing.{written, written_in}
+use Rattle.cell.specs.Refresh.{after_update_panels, after_doupdate, composed_windows}
+use Rattle.cell.specs.declared.refusal.Refusal.{Refusal}
+use Rattle.cell.proofs.PictureLemmas.{HasSize-picture_of, shown_at-picture_of}
+use Rattle.cell.proofs.RefreshLaws.{found-refreshed, cursor-refreshed}
+use Rattle.ecma.specs.Terminals.{Terminal}
+use Rattle.ecma.specs.Streams.{Leads, LeadsWithBreaks, showing}
+use Rattle.ecma.proofs.Joining.{Leads-append}
+use Rattle.ecma.proofs.Leading.{Leads-nothing}
+use Rattle.ecma.proofs.Sizes.{size-effects}
+use Rattle.paint.specs.Sinks.{Seen}
+use Rattle.paint.specs.Updates.{Agrees, PainterState}
+use Rattle.paint.specs.declared.sending.WriteFault.{WriteFault}
+use Rattle.paint.proofs.Repair.{Agrees-update, Agrees-fault}
+use Rattle.desk.specs.Calls.{State, wanted}
+use Rattle.desk.specs.Runs.{Outcome, MayAnswer, Run, all_sent, state_after, state_at_end}
+use Rattle.desk.specs.Tables.{world}
+use Rattle.desk.specs.Ends.{IsCut, Makes, RunEnds, Stops, state_of}
+use Rattle.desk.specs.Showing.{EndsInUpdate, ShowsWorld, RunShows}
+use Rattle.desk.specs.declared.call.Call.{Call}
+use Rattle.desk.specs.declared.call.Call.TheVariants as calls
+use Rattle.desk.specs.declared.call.Writing.TheVariants.{Addstr}
+use Rattle.desk.specs.declared.call.Refresh.TheVariants.{UpdatePanels, Doupdate}
+use Rattle.desk.specs.declared.call.Reply.{Reply}
+use Rattle.desk.specs.declared.screen.RunEnd.{RunEnd}
+use Rattle.desk.specs.declared.screen.Screen.{Screen}
+
+-- ---- sizes
+
+record SameSize (one other : Windows) : Type 0 where
+  lines : one.lines ≡ other.lines
+  columns : one.columns ≡ other.columns
+
+written-size : (w : ℕ) (windows : Windows) (character : ℕ) (o : Option Window) → SameSize (option_map_or (λ a. written_in a windows w character) o windows) windows
+written-size w windows character None = record { lines = refl; columns = refl }
+written-size w windows character (Some a) = record { lines = refl; columns = refl }
+
+text-size : (w : ℕ) (text : List ℕ) (windows : Windows) → SameSize (fold (written w) windows text) windows
+text-size w [] windows = record { lines = refl; columns = refl }
+text-size w (character ∷ text) windows =
+    let rest = text-size w text (written w windows character) in
+    let first = written-size w windows character (windows.window w) in
+    record { lines = rest.lines ∙ first.lines; columns = rest.columns ∙ first.columns }
+
+-- the screen and its painter have this size
+pub record HasScreenSize (lines columns : ℕ) (s : State) : Type 0 where
+  pub lines_of : s.world.windows.lines ≡ lines
+  pub columns_of : s.world.windows.columns ≡ columns
+  pub painter_lines : s.painter.lines ≡ lines
+  pub painter_columns : s.painter.columns ≡ columns
+
+size-after : (lines columns : ℕ) (s : State) (call : Call) (answer : Result Reply Refusal) → HasScreenSize lines columns s → HasScreenSize lines columns (state_after s call answer)
+size-after lines columns s call (Err e) h = h
+size-after lines columns s (calls.Writing (Addstr win text)) (Ok r) h =
+    let same = text-size win.0 text.now s.world.windows in
+    record { lines_of = same.lines ∙ h.lines_of; columns_of = same.columns ∙ h.columns_of; painter_lines = h.painter_lines; painter_columns = h.painter_columns }
+size-after lines columns s (calls.Refresh UpdatePanels) (Ok r) h =
+    record { lines_of = h.lines_of; columns_of = h.columns_of; painter_lines = h.painter_lines; painter_columns = h.painter_columns }
+size-after lines columns s (calls.Refresh Doupdate) (Ok r) h =
+    record { lines_of = h.lines_of; columns_of = h.columns_of; painter_lines = h.painter_lines; painter_columns = h.painter_columns }
+
+pub size-at_end : (lines columns : ℕ) (s : State) (cs : List Call) (outcomes : List Outcome) → HasScreenSize lines columns s → HasScreenSize lines columns (state_at_end s cs outcomes)
+size-at_end lines columns s [] outcomes h = h
+size-at_end lines columns s (c ∷ cs) [] h = h
+size-at_end lines columns s (c ∷ cs) (o ∷ os) h = size-at_end lines columns (state_after s c o.answer) cs os (size-after lines columns s c o.answer h)
+
+-- ---- all that was sent agrees with the painter
+
+nothing-sent : (painter : PainterState) (stream sent : List ℕ) (t : Terminal) → sent ≡ [] → Agrees painter stream t → Agrees painter (stream ++ sent) t
+nothing-sent painter stream sent t e h = rw (e, append-nil) h
+
+agrees-call : (lines columns : ℕ) (s : State) (call : Call) (answer : Result Reply Refusal) (sent stream : List ℕ) (t : Terminal) → HasScreenSize lines columns s → HasSize lines columns t.picture
+    → MayAnswer s.world call answer sent → Agrees s.painter stream t → Agrees (state_after s call answer).painter (stream ++ sent) t
+agrees-call lines columns s call (Err e) sent stream t size fits may h = nothing-sent s.painter stream sent t may.1 h
+agrees-call lines columns s (calls.Writing (Addstr win text)) (Ok r) sent stream t size fits may h = nothing-sent s.painter stream sent t may.1.0 h
+agrees-call lines columns s (calls.Refresh UpdatePanels) (Ok r) sent stream t size fits may h = nothing-sent s.painter stream sent t may.1.0 h
+agrees-call lines columns s (calls.Refresh Doupdate) (Ok r) sent stream t size fits may h =
+    Agrees-update s.painter (wanted s.world) stream sent t (rw (size.painter_lines, size.painter_columns) fits) h
+    (rw (size.painter_lines, size.painter_columns, ← size.lines_of, ← size.columns_of) may.1.0)
+
+pub agrees-run : (lines columns : ℕ) (s : State) (cs : List Call) (outcomes : List Outcome) (stream : List ℕ) (t : Terminal) → HasScreenSize lines columns s → HasSize lines columns t.picture
+    → Run s cs outcomes → Agrees s.painter stream t → Agrees (state_at_end s cs outcomes).painter (stream ++ all_sent outcomes) t
+agrees-run lines columns s [] [] stream t size fits run h = rw append-nil h
+agrees-run lines columns s [] (o ∷ os) stream t size fits run h = absurd run
+agrees-run lines columns s (c ∷ cs) [] stream t size fits run h = absurd run
+agrees-run lines columns s (c ∷ cs) (o ∷ os) stream t size fits run h =
+    subst (λ bytes. Agrees (state_at_end (state_after s c o.answer) cs os).painter bytes t) (append_assoc stream o.sent (all_sent os))
+    (agrees-run lines columns (state_after s c o.answer) cs os (stream ++ o.sent) t (size-after lines columns s c o.answer size) fits run.1
+    (agrees-call lines columns s c o.answer o.sent stream t size fits run.0 h))
+
+-- ---- the bytes of a run alone, read by a terminal
+
+-- the terminal shows what the painter knows
+abbrev pub IsKnown : PainterState → Terminal → Type 0
+IsKnown painter t = MatchOption painter.last ⊤ (λ shown. t ≡ showing shown.picture shown.cursor)
+
+pub record LeadsOn (lines columns : ℕ) (painter : PainterState) (bytes : List ℕ) (t : Terminal) : Type 0 where
+  pub last : Terminal
+  pub leads : Leads bytes t last
+  pub fits : HasSize lines columns last.picture
+  pub known : IsKnown painter last
+
+leads-nothing : (lines columns : ℕ) (painter : PainterState) (sent : List ℕ) (t : Terminal) → sent ≡ [] → HasSize lines columns t.picture → IsKnown painter t → LeadsOn lines columns painter sent t
+leads-nothing lines columns painter sent t e fits known = record { last = t; leads = rw e (Leads-nothing t); fits = fits; known = known }
+
+leads-call : (lines columns : ℕ) (s : State) (call : Call) (answer : Result Reply Refusal) (sent : List ℕ) (t : Terminal) → HasScreenSize lines columns s → HasSize lines columns t.picture
+    → MayAnswer s.world call answer sent → IsKnown s.painter t → LeadsOn lines columns (state_after s call answer).painter sent t
+leads-call lines columns s call (Err e) sent t size fits may h = leads-nothing lines columns s.painter sent t may.1 fits h
+leads-call lines columns s (calls.Writing (Addstr win text)) (Ok r) sent t size fits may h = leads-nothing lines columns s.painter sent t may.1.0 fits h
+leads-call lines columns s (calls.Refresh UpdatePanels) (Ok r) sent t size fits may h = leads-nothing lines columns s.painter sent t may.1.0 fits h
+leads-call lines columns s (calls.Refresh Doupdate) (Ok r) sent t size fits may h =
+    let leads = may.1.0.shows t (rw (size.lines_of, size.columns_of) fits) in
+    record {
+      last = showing s.world.virtual.picture s.world.virtual.cursor;
+      leads = leads;
+      fits = size-effects lines columns leads.items t (showing s.world.virtual.picture s.world.virtual.cursor) fits leads.have_effect;
+      known = refl;
+    }
+
+pub leads-run : (lines columns : ℕ) (s : State) (cs : List Call) (outcomes : List Outcome) (t : Terminal) → HasScreenSize lines columns s → HasSize lines columns t.picture
+    → Run s cs outcomes → IsKnown s.painter t → LeadsOn lines columns (state_at_end s cs outcomes).painter (all_sent outcomes) t
+leads-run lines columns s [] [] t size fits run h = leads-nothing lines columns s.painter [] t refl fits h
+leads-run lines columns s [] (o ∷ os) t size fits run h = absurd run
+leads-run lines columns s (c ∷ cs) [] t size fits run h = absurd run
+leads-run lines columns s (c ∷ cs) (o ∷ os) t size fits run h =
+    let first = leads-call lines columns s c o.answer o.sent t size fits run.0 h in
+    let rest = leads-run lines columns (state_after s c o.answer) cs os first.last (size-after lines columns s c o.answer size) first.fits run.1 first.known in
+    record { last = rest.last; leads = Leads-append o.sent (all_sent os) t first.last rest.last first.leads rest.leads; fits = rest.fits; known = rest.known }
+
+-- ---- a run that ends in update_panels and doupdate
+
+-- the state behind the two calls
+pub record EndsShown (s : State) : Type 0 where
+  pub before : World
+  pub world_is : s.world ≡ after_doupdate (after_update_panels before)
+  pub last_is : s.painter.last ≡ Some (wanted (after_update_panels before))
+
+two-calls : (s : State) (one other : Result Reply Refusal) (sent more : List ℕ) → MayAnswer s.world (calls.Refresh UpdatePanels) one sent
+    → MayAnswer (state_after s (calls.Refresh UpdatePanels) one).world (calls.Refresh Doupdate) other more
+    → EndsShown (state_after (state_after s (calls.Refresh UpdatePanels) one) (calls.Refresh Doupdate) other)
+two-calls s (Ok r) (Ok q) sent more h k = record { before = s.world; world_is = refl; last_is = refl }
+two-calls s (Ok r) (Err e) sent more h k = let never : ◌≡◌ {A = Option Refusal} None (Some e) = k.0 in cc
+two-calls s (Err e) other sent more h k = let never : ◌≡◌ {A = Option Refusal} None (Some e) = h.0 in cc
+
+pub ends-shown : (s : State) (others : List Call) (outcomes : List Outcome) → Run s (others ++ calls.Refresh UpdatePanels ∷ calls.Refresh Doupdate ∷ []) outcomes
+    → EndsShown (state_at_end s (others ++ calls.Refresh UpdatePanels ∷ calls.Refresh Doupdate ∷ []) outcomes)
+ends-shown s [] [] run = absurd run
+ends-shown s [] (o ∷ []) run = absurd run.1
+ends-shown s [] (o ∷ p ∷ []) run = two-calls s o.answer p.answer o.sent p.sent run.0 run.1.0
+ends-shown s [] (o ∷ p ∷ q ∷ os) run = absurd run.1.1
+ends-shown s (c ∷ cs) [] run = absurd run
+ends-shown s (c ∷ cs) (o ∷ os) run = ends-shown (state_after s c o.answer) cs os run.1
+
+-- what the doupdate showed is the world behind it
+pub shows-world : (w : World) → ShowsWorld (after_doupdate (after_update_panels w)) (showing (wanted (after_update_panels w)).picture (wanted (after_update_panels w)).cursor)
+shows-world w = record {
+  size = HasSize-picture_of w.windows.lines w.windows.columns (picture w);
+  cells = λ y x in_lines in_columns.
+      shown_at-picture_of w.windows.lines w.windows.columns (picture w) y x in_lines in_columns
+      ∙ sym (found-refreshed w.windows.window (composed_windows w) w.panels y x);
+  cursor = λ i. Some (sym (cursor-refreshed w.windows.window (composed_windows w) w.panels) i);
+  rendition = refl;
+}
+
+-- ---- the theorem of the screen
+
+pub screen-size : {W : Type 0} (s : Screen W) → HasScreenSize s.desk.lines s.desk.columns (state_of s)
+screen-size s = record { lines_of = refl; columns_of = refl; painter_lines = s.same_lines; painter_columns = s.same_columns }
+
+module _ {W : Type 0} (seen : W → Seen) (old at_stop new : Screen W) (cs made : List Call) (outcomes : List Outcome) (makes : Makes seen old made outcomes at_stop) where
+  end : State
+  end = state_at_end (state_of old) made outcomes
+
+  agrees-stop : (stream : List ℕ) (t : Terminal) → HasSize old.desk.lines old.desk.columns t.picture → Agrees old.painter stream t → Agrees at_stop.painter (stream ++ all_sent outcomes) t
+  agrees-stop stream t fits h =
+      subst (λ p. Agrees p (stream ++ all_sent outcomes) t) (ap (λ (s : State). s.painter) (sym makes.state))
+      (agrees-run old.desk.lines old.desk.columns (state_of old) made outcomes stream t (screen-size old) fits makes.run h)
+
+  ended : EndsInUpdate made → EndsShown (state_of at_stop)
+  ended ends = subst EndsShown (sym makes.state)
+      (subst (λ l. EndsShown (state_at_end (state_of old) l outcomes)) (sym ends.1)
+      (ends-shown (state_of old) ends.0 outcomes (subst (λ l. Run (state_of old) l outcomes) ends.1 makes.run)))
+
+  shows-after : (e : EndsShown (state_of at_stop)) → ShowsWorld (world at_stop.desk) (showing (wanted (after_update_panels e.before)).picture (wanted (after_update_panels e.before)).cursor)
+  shows-after e =
+      subst (λ w. ShowsWorld w (showing (wanted (after_update_panels e.before)).picture (wanted (after_update_panels e.before)).cursor)) (sym e.world_is) (shows-world e.before)
+
+  -- every call was made, and no write failed
+  shows-whole : EndsInUpdate made → (stream : List ℕ) (t : Terminal) → HasSize old.desk.lines old.desk.columns t.picture → Agrees old.painter stream t
+      → (u : Terminal) × LeadsWithBreaks (stream ++ all_sent outcomes) t u × ShowsWorld (world at_stop.desk) u
+  shows-whole ends stream t fits h =
+      let e = ended ends in
+      let a = agrees-stop stream t fits h in (
+        showing (wanted (after_update_panels e.before)).picture (wanted (after_update_panels e.before)).cursor,
+        subst (λ o. MatchOption o ⊤ (λ shown. LeadsWithBreaks (stream ++ all_sent outcomes) t (showing shown.picture shown.cursor))) e.last_is a.leads,
+        shows-after e,
+      )
+
+  shows-whole_on_any : EndsInUpdate made → old.painter.last ≡ None → (t : Terminal) → HasSize old.desk.lines old.desk.columns t.picture
+      → (u : Terminal) × Leads (all_sent outcomes) t u × ShowsWorld (world at_stop.desk) u
+  shows-whole_on_any ends nothing t fits =
+      let e = ended ends in
+      let none : IsKnown old.painter t = subst (λ o. MatchOption o ⊤ (λ shown. t ≡ showing shown.picture shown.cursor)) (sym nothing) tt in
+      let r = leads-run old.desk.lines old.desk.columns (state_of old) made outcomes t (screen-size old) fits makes.run none in
+      let known : IsKnown at_stop.painter r.last = subst (λ p. IsKnown p r.last) (ap (λ (s : State). s.painter) (sym makes.state)) r.known in
+      let last : r.last ≡ showing (wanted (after_update_panels e.before)).picture (wanted (after_update_panels e.before)).cursor =
+      subst (λ o. MatchOption o ⊤ (λ shown. r.last ≡ showing shown.picture shown.cursor)) e.last_is known in (
+        showing (wanted (after_update_panels e.before)).picture (wanted (after_update_panels e.before)).cursor,
+        subst (λ u. Leads (all_sent outcomes) t u) last r.leads,
+        shows-after e,
+      )
+
+  pub shows-unbroken : cs ≡ made → new ≡ at_stop → RunShows seen old new cs None
+  shows-unbroken whole same = subst (λ s. RunShows seen old s cs None) (sym same) (record {
+    bytes = all_sent outcomes;
+    taken = makes.bytes;
+    agrees = agrees-stop;
+    shows = λ ends none. shows-whole (ends.0, sym whole ∙ ends.1);
+    shows_on_any = λ ends none. shows-whole_on_any (ends.0, sym whole ∙ ends.1);
+  })
+
+  pub shows-broken : (fault : WriteFault) → IsCut seen at_stop new fault → RunShows seen old new cs (Some fault)
+  shows-broken fault cut = record {
+    bytes = all_sent outcomes ++ take fault.sent cut.text;
+    taken = Appends-trans _ _ _ _ _ makes.bytes cut.bytes;
+    agrees = λ stream t fits h.
+        let size = subst (HasScreenSize old.desk.lines old.desk.columns) (sym makes.state) (size-at_end old.desk.lines old.desk.columns (state_of old) made outcomes (screen-size old)) in
+        subst (λ p. Agrees p (stream ++ (all_sent outcomes ++ take fault.sent cut.text)) t) (ap (λ (s : State). s.painter) (sym cut.state))
+        (subst (λ bytes. Agrees (record at_stop.painter { last = None }) bytes t) (append_assoc stream (all_sent outcomes) (take fault.sent cut.text))
+        (Agrees-fault at_stop.painter (wanted (world at_stop.desk)) (stream ++ all_sent outcomes) cut.text fault.sent t (rw (size.painter_lines, size.painter_columns) fits)
+        (agrees-stop stream t fits h) (rw (at_stop.same_lines, at_stop.same_columns) cut.clearing) cut.within));
+    shows = λ ends none. absurd (let never : Some fault ≡ None = none in cc);
+    shows_on_any = λ ends none. absurd (let never : Some fault ≡ None = none in cc);
+  }
+
+run-stops : {W : Type 0} (seen : W → Seen) (old at_stop new : Screen W) (cs made left : List Call) (outcomes : List Outcome) (fault : Option WriteFault) → Makes seen old made outcomes at_stop
+    → cs ≡ made ++ left → Stops seen at_stop left fault new → RunShows seen old new cs fault
+run-stops seen old at_stop new cs made left outcomes None makes parts stop =
+    shows-unbroken seen old at_stop new cs made outcomes makes (parts ∙ ap (λ l. made ++ l) stop.0 ∙ append-nil made) stop.1
+run-stops seen old at_stop new cs made left outcomes (Some fault) makes parts stop = shows-broken seen old at_stop new cs made outcomes makes fault stop.1
+
+pub run-shows : {W : Type 0} (seen : W → Seen) (old new : Screen W) (cs : List Call) (end : RunEnd) → RunEnds seen old cs end new → RunShows seen old new cs end.fault
+run-shows seen old new cs end h = run-stops seen old h.at_stop new cs h.made h.left h.outcomes end.fault h.makes h.parts h.stop

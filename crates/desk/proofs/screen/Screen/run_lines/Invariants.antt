@@ -1,0 +1,18 @@
+use Rattle.std.proofs.Common.{◌≡◌, ◌+◌, ◌*◌, length}
+use Rattle.desk.proofs.ScriptLemmas.{SoFar}
+use Rattle.desk.proofs.screen.Screen.run_lines.Given as goal
+
+abbrev pub invariant-loop-self : goal.invariant-loop-self
+invariant-loop-self g l =
+    let source = g.R.Source.seen in
+    let writer = g.W.Sink.seen in
+    let logged = g.L.Sink.seen in
+    record {
+      so_far : SoFar writer l.fn.self l.self (source l.fn.input) (source l.input) (logged l.fn.log) (logged l.log) l.bytes l.number l.refused;
+      reading : (source l.input).failures ≡ (source l.fn.input).failures;
+      writing : (writer l.self.writer).failures ≡ (writer l.fn.self.writer).failures;
+      logging : (logged l.log).failures ≡ (logged l.fn.log).failures;
+    }
+
+abbrev pub decreases-loop-self : goal.decreases-loop-self
+decreases-loop-self g l = 513 * (g.R.Source.seen l.input).reads_left + length l.bytes

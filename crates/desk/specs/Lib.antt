@@ -1,0 +1,13 @@
+pub mod Tables
+pub mod Calls
+pub mod Runs
+pub mod Ends
+pub mod Showing
+pub mod Sources
+pub mod Words
+pub mod Texts
+pub mod Script
+pub mod Reads
+pub mod Bytes
+pub mod Log
+pub mod ScriptEnds

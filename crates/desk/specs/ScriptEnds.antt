@@ -1,0 +1,123 @@
+-- How a script ends.
+use Rattle.std.specs.Prelude.{◌≡◌, ◌⊎◌, ◌∷◌, ◌++◌, ℕ, Bool, true, false, List, [], map, take, Option, Some, None, Result, Ok, Err}
+use Rattle.std.specs.List.{list_any}
+use Rattle.std.specs.Io.KnownBytes.{Appends, Consumes, IsAtEnd}
+use Rattle.paint.specs.Sinks.{Seen, next_count}
+use Rattle.paint.specs.declared.sending.WriteFault.{WriteFault}
+use Rattle.desk.specs.Runs.{Outcome, is_refused}
+use Rattle.desk.specs.Ends.{IsCut, Makes}
+use Rattle.desk.specs.Showing.{RunShows}
+use Rattle.desk.specs.Sources.{SourceSeen}
+use Rattle.desk.specs.Script.{Reading, reading, said_by_line}
+use Rattle.desk.specs.Log.{log_of}
+use Rattle.desk.specs.declared.call.Call.{Call}
+use Rattle.desk.specs.declared.call.Call.TheVariants.{Refresh}
+use Rattle.desk.specs.declared.call.Refresh.TheVariants.{Doupdate}
+use Rattle.desk.specs.declared.screen.Screen.{Screen}
+use Rattle.desk.specs.declared.script.fault.TextFault.{TextFault}
+use Rattle.desk.specs.declared.script.fault.ScriptEnd.{ScriptEnd}
+use Rattle.desk.specs.declared.script.fault.ScriptFault.{ScriptFault}
+use Rattle.desk.specs.declared.script.fault.ScriptFault.TheVariants.{Text, Reading as Reading_fault, Write, Log}
+
+abbrev pub read_failed : Option ScriptFault → Bool
+read_failed (Some Reading_fault) = true
+read_failed _ = false
+
+-- the fault of the doupdate that ended it
+abbrev pub write_fault : Option ScriptFault → Option WriteFault
+write_fault (Some (Write line fault)) = Some fault
+write_fault _ = None
+
+abbrev pub log_failed : Option ScriptFault → Bool
+log_failed (Some Log) = true
+log_failed _ = false
+
+-- More bytes may come, unless the end was met.
+abbrev pub MayFollow : Bool → List ℕ → Type 0
+MayFollow met_end more = met_end ≡ true → more ≡ []
+
+-- However a script goes on behind these bytes, it says this.
+abbrev pub SaysHowever : Bool → List ℕ → (Reading → Type 0) → Type 0
+SaysHowever met_end text P = (more : List ℕ) → MayFollow met_end more → P (reading false (text ++ more))
+
+-- the first calls of a reading
+abbrev pub BeginsWith : List (ℕ × Call) → Reading → Type 0
+BeginsWith calls r = (others : List (ℕ × Call)) × (r.calls ≡ calls ++ others)
+
+-- The log took the lines of the calls, or, after a fault in writing it, a beginning of them.
+abbrev pub Logs : Seen → Seen → List ℕ → Option ScriptFault → Type 0
+Logs old new lines (Some Log) = (n : ℕ) × Appends old.taken new.taken (take n lines)
+Logs old new lines _ = Appends old.taken new.taken lines
+
+abbrev pub IsFlushed : Seen → Seen → Type 0
+IsFlushed old new = (new.failures ≡ old.failures) × (new.flushed ≡ true)
+
+-- Without a fault no failure of the log was counted, and a flush succeeded behind its last byte. A fault of the log is one failure.
+-- After another fault only the flush may have failed.
+abbrev pub LogEnds : Option ScriptFault → Seen → Seen → Type 0
+LogEnds None old new = IsFlushed old new
+LogEnds (Some Log) old new = new.failures ≡ next_count old.failures
+LogEnds _ old new = IsFlushed old new ⊎ (new.failures ≡ next_count old.failures)
+
+-- the call of a line, with its number
+abbrev pub numbered : ℕ → Option Call → List (ℕ × Call)
+numbered number None = []
+numbered number (Some call) = (number, call) ∷ []
+
+abbrev pub calls_of : List (ℕ × Call) → List Call
+calls_of = map (λ call. call.1)
+
+module _ {W : Type 0} (seen : W → Seen) where
+  -- A line said its call, if it says one, and it was made, or there was a fault.
+  abbrev pub LineStops : ℕ → Result (Option Call) TextFault → Option Call → Screen W → Option ScriptFault → Screen W → Type 0
+  LineStops number said call at_stop None new = (said ≡ Ok call) × (new ≡ at_stop)
+  LineStops number said call at_stop (Some (Text line fault)) new = (line ≡ number) × (said ≡ Err fault) × (call ≡ None) × (new ≡ at_stop)
+  LineStops number said call at_stop (Some Reading_fault) new = ⊥
+  LineStops number said call at_stop (Some (Write line fault)) new =
+      (line ≡ number) × (said ≡ Ok (Some (Refresh Doupdate))) × (call ≡ None) × IsCut seen at_stop new fault
+  LineStops number said call at_stop (Some Log) new = (said ≡ Ok call) × (new ≡ at_stop)
+
+  -- A line was run and logged.
+  pub record LineEnds (old new : Screen W) (number : ℕ) (line : List ℕ) (log written : Seen) (end : ScriptEnd) : Type 0 where
+    pub call : Option Call
+    pub outcomes : List Outcome
+    pub at_stop : Screen W
+    pub makes : Makes seen old (calls_of (numbered number call)) outcomes at_stop
+    pub stop : LineStops number (said_by_line line) call at_stop end.fault new
+    pub logs : Logs log written (log_of (numbered number call) outcomes) end.fault
+    pub refused : end.refused ≡ list_any is_refused outcomes
+
+  -- A script ended so, after the calls that were made.
+  abbrev pub ScriptStops : Bool → List ℕ → List (ℕ × Call) → Screen W → Option ScriptFault → Screen W → Type 0
+  -- The bytes are all of it, and each call was made.
+  ScriptStops met_end text made at_stop None new = (met_end ≡ true) × (reading false text ≡ record { calls = made; fault = None }) × (new ≡ at_stop)
+  -- It says these calls and then has this fault.
+  ScriptStops met_end text made at_stop (Some (Text line fault)) new =
+      SaysHowever met_end text (λ r. r ≡ record { calls = made; fault = Some (Text line fault) }) × (new ≡ at_stop)
+  -- A read failed behind the bytes.
+  ScriptStops met_end text made at_stop (Some Reading_fault) new =
+      (reading true text ≡ record { calls = made; fault = Some Reading_fault }) × (new ≡ at_stop)
+  -- The next call is a doupdate, whose text was cut short.
+  ScriptStops met_end text made at_stop (Some (Write line fault)) new =
+      SaysHowever met_end text (BeginsWith (made ++ (line, Refresh Doupdate) ∷ [])) × IsCut seen at_stop new fault
+  -- The calls that were made are its first.
+  ScriptStops met_end text made at_stop (Some Log) new = SaysHowever met_end text (BeginsWith made) × (new ≡ at_stop)
+
+  -- The lines of a script, read from a source, were run on a screen and logged.
+  pub record RunsLines (old new : Screen W) (input rest : SourceSeen) (log written : Seen) (end : ScriptEnd) : Type 0 where
+    pub text : List ℕ
+    pub made : List (ℕ × Call)
+    pub outcomes : List Outcome
+    pub at_stop : Screen W
+    pub read : Consumes input.left rest.left text
+    pub makes : Makes seen old (calls_of made) outcomes at_stop
+    pub stop : ScriptStops rest.met_end text made at_stop end.fault new
+    pub logs : Logs log written (log_of made outcomes) end.fault
+    pub refused : end.refused ≡ list_any is_refused outcomes
+    -- Without a fault the source has no byte left.
+    pub at_end : end.fault ≡ None → IsAtEnd rest.left
+
+  -- A script ended so, and what the writer took shows the world that its calls left.
+  pub record ScriptEnds (old new : Screen W) (input rest : SourceSeen) (log written : Seen) (end : ScriptEnd) : Type 0 where
+    pub lines : RunsLines old new input rest log written end
+    pub shown : RunShows seen old new (calls_of lines.made) (write_fault end.fault)

@@ -1,0 +1,41 @@
+-- What a terminal shows after a run of calls: the theorem of the screen.
+use Rattle.std.specs.Prelude.{◌≡◌, ℕ, ◌<◌, List, [], ◌∷◌, ◌++◌, Option, Some, None}
+use Rattle.std.specs.Io.KnownBytes.{Appends}
+use Rattle.cell.specs.Pictures.{HasSize, shown_at, no_rendition}
+use Rattle.cell.specs.World.{World, picture, topmost_cursor}
+use Rattle.ecma.specs.Terminals.{Terminal}
+use Rattle.ecma.specs.Streams.{Leads, LeadsWithBreaks}
+use Rattle.paint.specs.Sinks.{Seen}
+use Rattle.paint.specs.Updates.{Agrees}
+use Rattle.paint.specs.declared.sending.WriteFault.{WriteFault}
+use Rattle.desk.specs.Tables.{world}
+use Rattle.desk.specs.declared.call.Call.{Call}
+use Rattle.desk.specs.declared.call.Call.TheVariants.{Refresh}
+use Rattle.desk.specs.declared.call.Refresh.TheVariants.{UpdatePanels, Doupdate}
+use Rattle.desk.specs.declared.screen.Screen.{Screen}
+
+-- the calls end in update_panels and doupdate
+abbrev pub EndsInUpdate : List Call → Type 0
+EndsInUpdate calls = (others : List Call) × (calls ≡ others ++ Refresh UpdatePanels ∷ Refresh Doupdate ∷ [])
+
+-- The terminal shows in every cell what a search from the top visible panel down to the standard screen finds, and the topmost's cursor;
+-- it prints without attributes.
+pub record ShowsWorld (world : World) (t : Terminal) : Type 0 where
+  pub size : HasSize world.windows.lines world.windows.columns t.picture
+  pub cells : (y x : ℕ) → y < world.windows.lines → x < world.windows.columns → shown_at t.picture (y, x) ≡ picture world y x
+  pub cursor : t.cursor ≡ Some (topmost_cursor world)
+  pub rendition : t.rendition ≡ no_rendition
+
+module _ {W : Type 0} (seen : W → Seen) where
+  -- The writer took these bytes in a run of calls. All that was sent before, if it agreed with the painter, agrees with it again when the
+  -- bytes follow, also where a write failed. Where the calls end in update_panels and doupdate, and no write failed, all of it shows the
+  -- world after the run; and if the painter knew nothing, as that of a screen just made, then these bytes alone show it on any terminal.
+  pub record RunShows (old new : Screen W) (calls : List Call) (fault : Option WriteFault) : Type 0 where
+    pub bytes : List ℕ
+    pub taken : Appends (seen old.writer).taken (seen new.writer).taken bytes
+    pub agrees : (stream : List ℕ) (t : Terminal) → HasSize old.desk.lines old.desk.columns t.picture
+        → Agrees old.painter stream t → Agrees new.painter (stream ++ bytes) t
+    pub shows : EndsInUpdate calls → fault ≡ None → (stream : List ℕ) (t : Terminal) → HasSize old.desk.lines old.desk.columns t.picture
+        → Agrees old.painter stream t → (u : Terminal) × LeadsWithBreaks (stream ++ bytes) t u × ShowsWorld (world new.desk) u
+    pub shows_on_any : EndsInUpdate calls → fault ≡ None → old.painter.last ≡ None → (t : Terminal)
+        → HasSize old.desk.lines old.desk.columns t.picture → (u : Terminal) × Leads bytes t u × ShowsWorld (world new.desk) u

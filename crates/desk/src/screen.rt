@@ -1,0 +1,179 @@
+//! A screen over a writer, and runs of calls on it.
+
+ghost use Rattle.std.specs.Prelude.{◌≡◌, ◌↔◌, ◌⊎◌, ◌||◌, IfErr, IfOk, IsErrOf, IsTrue, false, is_some, if◌then◌else◌};
+ghost use Rattle.cell.specs.World.{first_world, is_no_size};
+ghost use Rattle.paint.specs.Sinks.{next_count};
+ghost use Rattle.paint.specs.Updates.{first_painter};
+ghost use Rattle.desk.specs.Tables.{world};
+ghost use Rattle.desk.specs.Runs.{cells_of_reply};
+ghost use Rattle.desk.specs.declared.screen.Fault.TheVariants.{Refused};
+
+use crate::call::{Call, Refresh, Reply, Writing};
+use crate::desk::Desk;
+use cell::Refusal;
+use paint::{Painter, Sink, WriteFault};
+use std::alloc::Global;
+
+/// A desk, the painter that shows it, and the writer that the bytes go to.
+#[derive(Drop)]
+pub struct Screen<W> {
+    desk: Desk,
+    painter: Painter,
+    writer: W,
+    ghost same_lines: { painter.lines ≡ desk.lines },
+    ghost same_columns: { painter.columns ≡ desk.columns },
+}
+
+/// Why a call did nothing, or not all.
+#[derive(Clone, Copy, PartialEq, Eq, Debug)]
+pub enum Fault {
+    Refused(Refusal),
+    Write(WriteFault),
+}
+
+impl From<Refusal> for Fault {
+    ghost from_gives = { λ refusal fault. fault ≡ Refused refusal };
+
+    fn from(refusal: Refusal) -> Fault {
+        Fault::Refused(refusal)
+    }
+}
+
+/// How a run of calls ended.
+#[derive(Clone, Copy, PartialEq, Eq, Debug)]
+pub struct RunEnd {
+    /// How many calls were accepted.
+    pub done: usize,
+    /// How many calls were refused.
+    pub refused: usize,
+    /// How many cells the calls of `update_panels` read.
+    pub composed: u128,
+    /// The fault that ended the run before all calls were made.
+    pub fault: Option<WriteFault>,
+}
+
+impl<W: Sink + Drop> Screen<W> {
+    /// A blank screen of 1 to 255 lines and columns. Where it is refused, the writer is dropped.
+    pub fn new(alloc: Global, lines: u16, cols: u16, writer: W) -> Result<Screen<W>, Refusal>
+        ensures world { IfOk result (λ screen. world screen.desk ≡ first_world lines cols) }
+        ensures painter { IfOk result (λ screen. screen.painter ≡ first_painter lines cols) }
+        ensures writer { IfOk result (λ screen. screen.writer ≡ writer) }
+        ensures size { IsErrOf result Refusal.BadSize ↔ IsTrue (is_no_size lines || is_no_size cols) }
+        ensures memory { IfErr result (λ refusal. (refusal ≡ Refusal.BadSize) ⊎ (refusal ≡ Refusal.NoMemory)) }
+    {
+        let desk = Desk::new(alloc, lines, cols)?;
+        let painter = Painter::new(alloc, lines, cols)?;
+        Ok(Screen {
+            desk,
+            painter,
+            writer,
+        })
+    }
+}
+
+impl<W: Sink> Screen<W> {
+    ghost use Rattle.desk.specs.Ends.{CallEnds, RunEnds, is_write_fault};
+    ghost use Rattle.desk.specs.Showing.{RunShows};
+
+    /// The windows and the virtual screen.
+    pub fn desk(&self) -> &Desk
+        ensures { result.now ≡ self.now.desk }
+    {
+        &self.desk
+    }
+
+    /// The writer.
+    pub fn writer(&self) -> &W
+        ensures { result.now ≡ self.now.writer }
+    {
+        &self.writer
+    }
+
+    /// Makes one call.
+    pub fn call(&mut self, call: &Call<'_>) -> Result<Reply, Fault>
+        ensures call { CallEnds W.seen self.old call.now result self.new }
+        ensures failures { (W.seen self.new.writer).failures
+            ≡ (if is_write_fault result then next_count (W.seen self.old.writer).failures else (W.seen self.old.writer).failures) }
+    {
+        match *call {
+            Call::Writing(writing) => self.write(writing),
+            Call::Refresh(Refresh::UpdatePanels) => Ok(Reply::Composed(self.desk.update_panels())),
+            Call::Refresh(Refresh::Doupdate) => self.doupdate(),
+        }
+    }
+
+    /// Makes a call of the table of writing.
+    fn write(&mut self, writing: Writing<'_>) -> Result<Reply, Fault>
+        ensures call { CallEnds W.seen self.old (Call.Writing writing.entry) result self.new }
+        ensures writer { self.new.writer ≡ self.old.writer }
+        ensures fault { is_write_fault result ≡ false }
+    {
+        match writing {
+            Writing::Addstr(win, text) => self.desk.waddstr(win, text)?,
+        }
+        Ok(Reply::Nothing)
+    }
+
+    /// Shows the virtual screen.
+    fn doupdate(&mut self) -> Result<Reply, Fault>
+        ensures call { CallEnds W.seen self.old (Call.Refresh Refresh.Doupdate) result self.new }
+        ensures failures { (W.seen self.new.writer).failures
+            ≡ (if is_write_fault result then next_count (W.seen self.old.writer).failures else (W.seen self.old.writer).failures) }
+    {
+        let cursor = self.desk.wanted_cursor();
+        match self
+            .painter
+            .doupdate(self.desk.virtual_screen(), cursor, &mut self.writer)
+        {
+            Ok(sent) => Ok(Reply::Sent(sent)),
+            Err(fault) => Err(Fault::Write(fault)),
+        }
+    }
+
+    /// Makes the calls in order. It goes on after a refusal, and stops where a write or a flush fails.
+    pub fn run(&mut self, calls: &[Call<'_>]) -> RunEnd
+        ensures run { RunEnds W.seen self.old calls.now result self.new }
+        ensures shown { RunShows W.seen self.old self.new calls.now result.fault }
+        ensures failures { (W.seen self.new.writer).failures
+            ≡ (if is_some result.fault then next_count (W.seen self.old.writer).failures else (W.seen self.old.writer).failures) }
+    {
+        self.run_calls(calls)
+    }
+
+    fn run_calls(&mut self, calls: &[Call<'_>]) -> RunEnd
+        ensures run { RunEnds W.seen self.old calls.now result self.new }
+        ensures failures { (W.seen self.new.writer).failures
+            ≡ (if is_some result.fault then next_count (W.seen self.old.writer).failures else (W.seen self.old.writer).failures) }
+    {
+        let mut end = RunEnd {
+            done: 0,
+            refused: 0,
+            composed: 0,
+            fault: None,
+        };
+        for call in calls {
+            match self.call(call) {
+                Ok(reply) => {
+                    end.done += 1;
+                    end.composed += u128::from(cells_of(reply));
+                }
+                Err(Fault::Refused(_)) => end.refused += 1,
+                Err(Fault::Write(fault)) => {
+                    end.fault = Some(fault);
+                    return end;
+                }
+            }
+        }
+        end
+    }
+}
+
+/// How many cells an answer says were read.
+fn cells_of(reply: Reply) -> u32
+    ensures { result ≡ cells_of_reply reply }
+{
+    match reply {
+        Reply::Composed(composed) => composed.cells,
+        _ => 0,
+    }
+}
