@@ -1,0 +1,57 @@
+-- The command line, in the words of clap's definition of a simple command.
+use Rattle.std.specs.Prelude.{◌≡◌, ◌<◌, ◌^◌, ℕ, List, true, pos, codes, Some}
+use Rattle.std.specs.Str.Parse.{IsNumeral, digits_value, without_leading_plus}
+use Rattle.clap.specs.Words.{App, Row, Rule, Text, new_app, new_rule, one_of, subcommand_of, with_rule, with_subcommand}
+use Rattle.clap.specs.declared.builder.action.ArgAction.TheVariants.{Set}
+use Rattle.clap.specs.declared.builder.value_parser.ValueParser.TheVariants as parsers
+use Rattle.curspan.specs.declared.asked.Job.{Job}
+use Rattle.curspan.specs.declared.asked.Kind.{Kind}
+use Rattle.curspan.specs.declared.asked.Kind.TheVariants.{Run}
+
+-- a required option for a number from 1 to 255
+abbrev pub size_rule : Text → Rule
+size_rule name = record (new_rule name) {
+  long = Some name;
+  required = true;
+  action = Some Set;
+  parser = Some (parsers.Signed (pos 1) (pos 255));
+}
+
+-- a subcommand with the number of lines and of columns
+abbrev pub mode : Text → App
+mode name = with_rule (with_rule (new_app name) (size_rule (codes "lines"))) (size_rule (codes "cols"))
+
+-- a command that is nothing without a subcommand
+abbrev pub demanding : App → App
+demanding a = record { top = record a.top { subcommand_required = true }; subs = a.subs }
+
+abbrev pub bare : App
+bare = demanding (new_app (codes "curspan"))
+
+abbrev pub curspan : App
+curspan = with_subcommand bare (mode (codes "run")).top
+
+abbrev pub kind_text : Kind → Text
+kind_text Run = codes "run"
+
+-- `u16` reads a number from the text
+abbrev pub IsNumber : Text → Type 0
+IsNumber text = IsNumeral 10 (without_leading_plus text) × (digits_value 10 (without_leading_plus text) < 2 ^ 16)
+
+-- the number that `u16` reads from the text of an option
+pub record ReadsNumber (option : Text) (rows : List Row) (n : ℕ) : Type 0 where
+  pub text : Text
+  pub is_text : one_of option rows ≡ Some text
+  pub is_number : IsNumber text
+  pub value : n ≡ digits_value 10 (without_leading_plus text)
+
+-- the option has no text, or one from which no number is read
+abbrev pub ReadsNone : Text → List Row → Type 0
+ReadsNone option rows = (text : Text) → one_of option rows ≡ Some text → IsNumber text → ⊥
+
+-- The words ask for this job: its kind is their subcommand's, and its numbers are those of that subcommand's options.
+pub record Asks (words : List Text) (job : Job) : Type 0 where
+  pub rows : List Row
+  pub subcommand : subcommand_of curspan words ≡ Some (kind_text job.kind, rows)
+  pub lines : ReadsNumber (codes "lines") rows job.lines
+  pub cols : ReadsNumber (codes "cols") rows job.cols

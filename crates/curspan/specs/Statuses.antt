@@ -1,0 +1,17 @@
+-- The exit statuses of the program.
+use Rattle.std.specs.Prelude.{ℕ, if◌then◌else◌}
+use Rattle.std.specs.Option.{option_map_or}
+use Rattle.desk.specs.declared.script.fault.ScriptEnd.{ScriptEnd}
+use Rattle.desk.specs.declared.script.fault.ScriptFault.{ScriptFault}
+use Rattle.desk.specs.declared.script.fault.ScriptFault.TheVariants.{Text, Reading, Write, Log}
+
+-- 2 for a fault of the text, 3 where reading or writing failed
+abbrev pub status_of_fault : ScriptFault → ℕ
+status_of_fault (Text line fault) = 2
+status_of_fault Reading = 3
+status_of_fault (Write line fault) = 3
+status_of_fault Log = 3
+
+-- 1 where some call was refused, 0 where each was accepted
+abbrev pub status_of : ScriptEnd → ℕ
+status_of end = option_map_or status_of_fault end.fault (if end.refused then 1 else 0)

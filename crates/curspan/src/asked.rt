@@ -1,0 +1,16 @@
+//! What a command line asks for.
+
+/// The subcommand.
+#[derive(Clone, Copy, PartialEq, Eq, Debug)]
+pub enum Kind {
+    /// Runs a script.
+    Run,
+}
+
+/// What is asked for, on a screen of that many lines and columns.
+#[derive(Clone, Copy, PartialEq, Eq, Debug)]
+pub struct Job {
+    pub kind: Kind,
+    pub lines: u16,
+    pub cols: u16,
+}

@@ -1,0 +1,38 @@
+//! Runs scripts of calls on a screen of windows.
+#![tactic(auto)]
+
+mod asked;
+mod command;
+mod serve;
+
+use desk::{Counted, CountedReader, Sink};
+use serve::{no_memory, put, serve};
+use std::io::{BufReader, BufWriter, ErrorKind};
+use std::process::ExitCode;
+use std::{env, io};
+
+fn main(rt: HostRuntime) -> ExitCode {
+    let mut log = Counted::new(rt.stderr());
+    let status = match run(&rt, &mut log) {
+        Ok(status) => status,
+        Err(error) if error.kind() == ErrorKind::OutOfMemory => no_memory(&mut log),
+        Err(_) => {
+            put(&mut log, b"a word of the command line is not in UTF-8\n");
+            2
+        }
+    };
+    ExitCode::from(status)
+}
+
+/// Does what the command line asks for, on the standard streams. An error says that its words can't be had, or that
+/// there is no memory for the streams.
+fn run<L: Sink>(rt: &HostRuntime, log: &mut L) -> io::Result<u8> {
+    let alloc = rt.alloc();
+    let words: Vec<String> = env::args(rt)?.collect(alloc)?;
+    let mut input = CountedReader::new(BufReader::new(alloc, rt.stdin())?);
+    let mut out = Counted::new(BufWriter::new(alloc, rt.stdout())?);
+    Ok(serve(alloc, words.as_slice(), &mut input, &mut out, log))
+}
+
+#[cfg(test)]
+mod tests;

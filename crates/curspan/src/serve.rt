@@ -1,0 +1,151 @@
+//! Does what the command line asks for, over any reader and writers.
+
+ghost use Rattle.std.specs.Prelude.{◌≡◌, ◌<◌, ◌≤◌, true, if◌then◌else◌};
+ghost use Rattle.std.specs.Io.KnownBytes.{Appends};
+ghost use Rattle.paint.specs.Sinks.{next_count};
+ghost use Rattle.curspan.specs.Statuses.{status_of};
+
+use crate::asked::{Job, Kind};
+use crate::command::job;
+use arrayvec::ArrayString;
+use clap::Error;
+use clap::error::ErrorKind;
+use desk::{Refusal, Screen, ScriptEnd, ScriptFault, Sink, Source};
+use paint::send;
+use std::alloc::Global;
+use std::convert::AsStr;
+use std::fmt::Write;
+
+/// Every call was accepted, or help was asked for.
+const ACCEPTED: u8 = 0;
+/// Some call was refused.
+const REFUSED: u8 = 1;
+/// The command line or the script's text has a fault.
+const BAD_TEXT: u8 = 2;
+/// Reading or writing failed.
+const FAILED: u8 = 3;
+/// There is no memory for the screen.
+const NO_MEMORY: u8 = 4;
+
+/// Writes a text, and answers whether all of it went out.
+pub fn put<W: Sink>(sink: &mut W, text: &[u8]) -> bool
+    ensures taken { result ≡ true → Appends (W.seen sink.old).taken (W.seen sink.new).taken text.now }
+    ensures failures { (W.seen sink.new).failures ≡ (if result then (W.seen sink.old).failures else next_count (W.seen sink.old).failures) }
+{
+    let mut rest = text;
+    while !rest.is_empty() {
+        let (piece, after) = rest.split_at(rest.len().min(4096));
+        match send(sink, 0, piece) {
+            Ok(_) => rest = after,
+            Err(_) => return false,
+        }
+    }
+    true
+}
+
+/// Says on the log that there is no memory, and answers that status.
+pub fn no_memory<L: Sink>(log: &mut L) -> u8
+    ensures { result ≡ 4 }
+{
+    put(log, b"no memory for the screen\n");
+    NO_MEMORY
+}
+
+/// Prints help on the output and a usage fault on the log, and answers the status.
+fn usage<O: Sink, L: Sink>(alloc: Global, error: &Error, out: &mut O, log: &mut L) -> u8
+    ensures status { result ≤ 4 }
+    ensures log { result < 2 → log.new ≡ log.old }
+{
+    if error.kind() == ErrorKind::OutOfMemory {
+        return no_memory(log);
+    }
+    match error.to_string(alloc) {
+        Ok(text) if error.use_stderr() => {
+            put(log, text.as_bytes());
+            BAD_TEXT
+        }
+        Ok(text) => {
+            if put(out, text.as_bytes()) && out.flush().is_ok() {
+                ACCEPTED
+            } else {
+                put(log, b"writing failed\n");
+                FAILED
+            }
+        }
+        Err(_) => no_memory(log),
+    }
+}
+
+/// The last line of the log after a fault.
+fn last_line(fault: ScriptFault) -> ArrayString<80> {
+    let mut text = ArrayString::new();
+    let _ = match fault {
+        ScriptFault::Text { line, fault } => write!(text, "line {line}: {fault}\n"),
+        ScriptFault::Reading => write!(text, "reading failed\n"),
+        ScriptFault::Write { line, fault } => {
+            let sent = fault.sent;
+            write!(text, "line {line}: write failed after {sent} bytes\n")
+        }
+        ScriptFault::Log => write!(text, "writing failed\n"),
+    };
+    text
+}
+
+/// The status of a script that ended so.
+fn status_of(end: ScriptEnd) -> u8
+    ensures { result ≡ status_of end }
+{
+    match end.fault {
+        Some(ScriptFault::Text { .. }) => BAD_TEXT,
+        Some(_) => FAILED,
+        None if end.refused => REFUSED,
+        None => ACCEPTED,
+    }
+}
+
+/// Runs a script and answers the status.
+fn run<R: Source, O: Sink, L: Sink>(
+    alloc: Global,
+    job: Job,
+    input: &mut R,
+    out: &mut O,
+    log: &mut L,
+) -> u8
+    ensures status { result ≤ 4 }
+    ensures reads { result < 3 → (R.seen input.new).failures ≡ (R.seen input.old).failures }
+    ensures log { result < 2 → (L.seen log.new).failures ≡ (L.seen log.old).failures }
+{
+    let mut screen = match Screen::new(alloc, job.lines, job.cols, out) {
+        Ok(screen) => screen,
+        Err(Refusal::BadSize) => return BAD_TEXT,
+        Err(_) => return no_memory(log),
+    };
+    let end = screen.run_script(input, log);
+    if let Some(fault) = end.fault {
+        let line = last_line(fault);
+        put(log, line.as_str().as_bytes());
+        let _ = log.flush();
+    }
+    status_of(end)
+}
+
+/// Does what the words ask for, and answers the status. The first word is the program's name. A status below 3 tells
+/// that no read failed, one below 2 that no write or flush of the log did.
+pub fn serve<S: AsStr, R: Source, O: Sink, L: Sink>(
+    alloc: Global,
+    words: &[S],
+    input: &mut R,
+    out: &mut O,
+    log: &mut L,
+) -> u8
+    ensures status { result ≤ 4 }
+    ensures reads { result < 3 → (R.seen input.new).failures ≡ (R.seen input.old).failures }
+    ensures log { result < 2 → (L.seen log.new).failures ≡ (L.seen log.old).failures }
+{
+    match job(alloc, words) {
+        Ok(job) => match job.kind {
+            Kind::Run => run(alloc, job, input, out, log),
+        },
+        Err(error) => usage(alloc, &error, out, log),
+    }
+}

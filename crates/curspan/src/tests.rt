@@ -1,0 +1,383 @@
+use crate::serve::serve;
+use desk::{Counted, CountedReader};
+use std::alloc::Global;
+use std::io;
+use std::io::{ErrorKind, Read, Write};
+use std::test::Fail;
+
+/// A reader that gives some bytes, at most `step` at a time, and then fails or ends.
+#[derive(Drop)]
+struct Pieces<'a> {
+    bytes: &'a [u8],
+    step: usize,
+    fails: bool,
+}
+
+impl Read for Pieces<'_> {
+    fn read(&mut self, buf: &mut [u8]) -> io::Result<usize> {
+        if self.bytes.is_empty() && self.fails {
+            return Err(io::Error::from(ErrorKind::Other));
+        }
+        let count = self.step.min(buf.len()).min(self.bytes.len());
+        let (front, rest) = self.bytes.split_at(count);
+        buf[..count].copy_from_slice(front);
+        self.bytes = rest;
+        Ok(count)
+    }
+}
+
+/// A writer that takes `room` bytes, then fails some times, and then takes all.
+#[derive(Drop)]
+struct Narrow {
+    taken: Vec<u8>,
+    room: usize,
+    failures: usize,
+    flushes: bool,
+}
+
+impl Write for Narrow {
+    fn write(&mut self, buf: &[u8]) -> io::Result<usize> {
+        let mut count = buf.len();
+        if self.failures > 0 {
+            if self.room == 0 {
+                self.failures -= 1;
+                return Err(io::Error::from(ErrorKind::Other));
+            }
+            count = count.min(self.room);
+            self.room -= count;
+        }
+        self.taken.extend_from_slice(&buf[..count])?;
+        Ok(count)
+    }
+
+    fn flush(&mut self) -> io::Result<()> {
+        if self.flushes {
+            Ok(())
+        } else {
+            Err(io::Error::from(ErrorKind::Other))
+        }
+    }
+}
+
+fn taking(alloc: Global, room: usize, failures: usize) -> Counted<Narrow> {
+    Counted::new(Narrow {
+        taken: Vec::new(alloc),
+        room,
+        failures,
+        flushes: true,
+    })
+}
+
+#[derive(Drop)]
+struct Ended {
+    status: u8,
+    out: Vec<u8>,
+    log: Vec<u8>,
+}
+
+fn served(alloc: Global, words: &[&str], script: Pieces<'_>) -> Ended {
+    let mut input = CountedReader::new(script);
+    let mut out = Counted::new(Vec::new(alloc));
+    let mut log = Counted::new(Vec::new(alloc));
+    let status = serve(alloc, words, &mut input, &mut out, &mut log);
+    Ended {
+        status,
+        out: out.into_inner(),
+        log: log.into_inner(),
+    }
+}
+
+const FOUR_BY_TEN: [&str; 6] = ["curspan", "run", "--lines", "4", "--cols", "10"];
+
+const TWO_BY_TWO: [&str; 6] = ["curspan", "run", "--lines", "2", "--cols", "2"];
+
+/// Runs a script on a screen of 4 by 10.
+fn ran(alloc: Global, bytes: &[u8]) -> Ended {
+    let (step, fails) = (512, false);
+    served(alloc, &FOUR_BY_TEN, Pieces { bytes, step, fails })
+}
+
+/// Runs what is read of a script before a read fails.
+fn ran_until_failure(alloc: Global, bytes: &[u8]) -> Ended {
+    let (step, fails) = (7, true);
+    served(alloc, &FOUR_BY_TEN, Pieces { bytes, step, fails })
+}
+
+const HELLO: &[u8] = b"addstr 0 hi\nupdate_panels\ndoupdate";
+
+const HELLO_SENT: &[u8] =
+    b"\x1b[0m\x1b[2J\x1b[1;1H\x1b[1;1Hhi        \x1b[2;1H          \x1b[3;1H          \x1b[4;1H          \x1b[1;3H";
+
+const BLANK_SENT: &[u8] =
+    b"\x1b[0m\x1b[2J\x1b[1;1H\x1b[1;1H          \x1b[2;1H          \x1b[3;1H          \x1b[4;1H          \x1b[1;1H";
+
+#[test]
+fn shows_a_text_however_the_script_is_cut(rt: HostRuntime) -> Result<(), Fail> {
+    assert_eq!(rt; HELLO_SENT.len(), 84);
+    for step in [1, 2, 3, 512] {
+        let (bytes, fails) = (HELLO, false);
+        let end = served(rt.alloc(), &FOUR_BY_TEN, Pieces { bytes, step, fails });
+        assert_eq!(rt; end.status, 0);
+        assert_eq!(rt; end.out.as_slice(), HELLO_SENT);
+        assert!(rt; end.log.is_empty());
+    }
+    Ok(())
+}
+
+#[test]
+fn a_text_goes_on_in_the_next_line_and_stays_in_the_last_cell(rt: HostRuntime) -> Result<(), Fail> {
+    let script = Pieces {
+        bytes: b"addstr 0 abcde\nupdate_panels\ndoupdate\n",
+        step: 512,
+        fails: false,
+    };
+    let end = served(rt.alloc(), &TWO_BY_TWO, script);
+    assert_eq!(rt; end.status, 0);
+    assert_eq!(rt; end.out.len(), 36);
+    assert_eq!(rt;
+        end.out.as_slice(),
+        b"\x1b[0m\x1b[2J\x1b[1;1H\x1b[1;1Hab\x1b[2;1Hce\x1b[2;2H".as_slice()
+    );
+    Ok(())
+}
+
+#[test]
+fn an_empty_script_sends_nothing(rt: HostRuntime) -> Result<(), Fail> {
+    for script in [b"".as_slice(), b"\n\n", b"# a comment\n", b"addstr 0 \n"] {
+        let end = ran(rt.alloc(), script);
+        assert_eq!(rt; end.status, 0);
+        assert!(rt; end.out.is_empty());
+        assert!(rt; end.log.is_empty());
+    }
+    Ok(())
+}
+
+#[test]
+fn goes_on_after_a_refused_call(rt: HostRuntime) -> Result<(), Fail> {
+    let end = ran(
+        rt.alloc(),
+        b"addstr 1 hi\n\nupdate_panels\ndoupdate\naddstr 2 hi",
+    );
+    assert_eq!(rt; end.status, 1);
+    assert_eq!(rt; end.out.as_slice(), BLANK_SENT);
+    assert_eq!(rt;
+        end.log.as_slice(),
+        b"line 1: E1 NoSuchWindow\nline 5: E1 NoSuchWindow\n".as_slice()
+    );
+    Ok(())
+}
+
+#[test]
+fn names_the_first_fault_of_a_text(rt: HostRuntime) -> Result<(), Fail> {
+    let cases: [(&[u8], &[u8]); 20] = [
+        (b"fly 0", b"line 1: unknown call\n"),
+        (b" doupdate", b"line 1: unknown call\n"),
+        (b"Doupdate\n", b"line 1: unknown call\n"),
+        (b"\n# a\nfly\n", b"line 3: unknown call\n"),
+        (b"addstr 0", b"line 1: wrong number of arguments\n"),
+        (b"addstr", b"line 1: wrong number of arguments\n"),
+        (b"doupdate ", b"line 1: wrong number of arguments\n"),
+        (b"update_panels  ", b"line 1: wrong number of arguments\n"),
+        (b"addstr 00 a", b"line 1: bad argument\n"),
+        (b"addstr 07 a", b"line 1: bad argument\n"),
+        (b"addstr  0 a", b"line 1: bad argument\n"),
+        (b"addstr 65536 a", b"line 1: bad argument\n"),
+        (b"addstr 000000 a", b"line 1: bad argument\n"),
+        (b"addstr -1 a", b"line 1: bad argument\n"),
+        (b"addstr x a", b"line 1: bad argument\n"),
+        (b"addstr 0 a\\n", b"line 1: bad argument\n"),
+        (b"\n\naddstr 0 a\r\n", b"line 3: bad byte\n"),
+        (b"# a\tb\n", b"line 1: bad byte\n"),
+        (b"#\x7f\n", b"line 1: bad byte\n"),
+        (b"fly\x80 0\n", b"line 1: bad byte\n"),
+    ];
+    for (script, message) in cases {
+        let end = ran(rt.alloc(), script);
+        assert_eq!(rt; end.status, 2);
+        assert_eq!(rt; end.log.as_slice(), message);
+        assert!(rt; end.out.is_empty());
+    }
+    Ok(())
+}
+
+#[test]
+fn makes_the_calls_before_a_fault_and_none_behind(rt: HostRuntime) -> Result<(), Fail> {
+    let end = ran(
+        rt.alloc(),
+        b"addstr 9 a\nupdate_panels\ndoupdate\nfly\ndoupdate\n",
+    );
+    assert_eq!(rt; end.status, 2);
+    assert_eq!(rt; end.out.as_slice(), BLANK_SENT);
+    assert_eq!(rt;
+        end.log.as_slice(),
+        b"line 1: E1 NoSuchWindow\nline 4: unknown call\n".as_slice()
+    );
+    Ok(())
+}
+
+#[test]
+fn lines_have_at_most_512_bytes(rt: HostRuntime) -> Result<(), Fail> {
+    let mut line = [b'a'; 514];
+    line[..9].copy_from_slice(b"addstr 0 ");
+    line[513] = b'\n';
+    let end = ran(rt.alloc(), &line[..512]);
+    assert_eq!(rt; end.status, 0);
+    for length in [513, 514] {
+        let end = ran(rt.alloc(), &line[..length]);
+        assert_eq!(rt; end.status, 2);
+        assert_eq!(rt; end.log.as_slice(), b"line 1: line too long\n".as_slice());
+    }
+    line[512] = b'\n';
+    line[513] = b'x';
+    let end = ran(rt.alloc(), &line);
+    assert_eq!(rt; end.log.as_slice(), b"line 2: unknown call\n".as_slice());
+    Ok(())
+}
+
+#[test]
+fn stops_where_a_read_fails(rt: HostRuntime) -> Result<(), Fail> {
+    let end = ran_until_failure(rt.alloc(), b"update_panels\ndoupdate\ndoupd");
+    assert_eq!(rt; end.status, 3);
+    assert_eq!(rt; end.out.as_slice(), BLANK_SENT);
+    assert_eq!(rt; end.log.as_slice(), b"reading failed\n".as_slice());
+    let whole = ran_until_failure(rt.alloc(), b"addstr 1 x\ndoupdate");
+    assert_eq!(rt; whole.status, 3);
+    assert!(rt; whole.out.is_empty());
+    assert_eq!(rt;
+        whole.log.as_slice(),
+        b"line 1: E1 NoSuchWindow\nreading failed\n".as_slice()
+    );
+    let long = [b'a'; 513];
+    let end = ran_until_failure(rt.alloc(), &long);
+    assert_eq!(rt; end.status, 2);
+    assert_eq!(rt; end.log.as_slice(), b"line 1: line too long\n".as_slice());
+    let end = ran_until_failure(rt.alloc(), &long[..512]);
+    assert_eq!(rt; end.status, 3);
+    assert_eq!(rt; end.log.as_slice(), b"reading failed\n".as_slice());
+    Ok(())
+}
+
+#[test]
+fn stops_where_a_write_fails(rt: HostRuntime) -> Result<(), Fail> {
+    let alloc = rt.alloc();
+    let (step, fails) = (512, false);
+    let bytes = b"update_panels\ndoupdate\naddstr 1 x\ndoupdate\n".as_slice();
+    let mut input = CountedReader::new(Pieces { bytes, step, fails });
+    let mut out = taking(alloc, 5, 1);
+    let mut log = taking(alloc, 0, 0);
+    let status = serve(alloc, &FOUR_BY_TEN, &mut input, &mut out, &mut log);
+    assert_eq!(rt; status, 3);
+    assert_eq!(rt;
+        out.into_inner().taken.as_slice(),
+        b"\x1b[0m\x1b".as_slice()
+    );
+    assert_eq!(rt;
+        log.into_inner().taken.as_slice(),
+        b"line 2: write failed after 5 bytes\n".as_slice()
+    );
+    Ok(())
+}
+
+#[test]
+fn stops_where_a_flush_fails(rt: HostRuntime) -> Result<(), Fail> {
+    let alloc = rt.alloc();
+    let (bytes, step, fails) = (HELLO, 512, false);
+    let mut input = CountedReader::new(Pieces { bytes, step, fails });
+    let mut out = Counted::new(Narrow {
+        taken: Vec::new(alloc),
+        room: 0,
+        failures: 0,
+        flushes: false,
+    });
+    let mut log = taking(alloc, 0, 0);
+    let status = serve(alloc, &FOUR_BY_TEN, &mut input, &mut out, &mut log);
+    assert_eq!(rt; status, 3);
+    assert_eq!(rt; out.into_inner().taken.as_slice(), HELLO_SENT);
+    assert_eq!(rt;
+        log.into_inner().taken.as_slice(),
+        b"line 3: write failed after 84 bytes\n".as_slice()
+    );
+    Ok(())
+}
+
+#[test]
+fn stops_where_the_log_fails(rt: HostRuntime) -> Result<(), Fail> {
+    let alloc = rt.alloc();
+    let (step, fails) = (512, false);
+    let bytes = b"addstr 1 x\nupdate_panels\ndoupdate\n".as_slice();
+    for (failures, logged) in [(9, b"line 1".as_slice()), (1, b"line 1writing failed\n")] {
+        let mut input = CountedReader::new(Pieces { bytes, step, fails });
+        let mut out = taking(alloc, 0, 0);
+        let mut log = taking(alloc, 6, failures);
+        let status = serve(alloc, &FOUR_BY_TEN, &mut input, &mut out, &mut log);
+        assert_eq!(rt; status, 3);
+        assert!(rt; out.into_inner().taken.is_empty());
+        assert_eq!(rt; log.into_inner().taken.as_slice(), logged);
+    }
+    Ok(())
+}
+
+#[test]
+fn a_log_that_cannot_be_flushed_has_failed(rt: HostRuntime) -> Result<(), Fail> {
+    let alloc = rt.alloc();
+    for (script, status, last) in [
+        (HELLO, 3, b"writing failed\n".as_slice()),
+        (b"fly", 2, b"line 1: unknown call\n"),
+    ] {
+        let (bytes, step, fails) = (script, 512, false);
+        let mut input = CountedReader::new(Pieces { bytes, step, fails });
+        let mut out = taking(alloc, 0, 0);
+        let mut log = Counted::new(Narrow {
+            taken: Vec::new(alloc),
+            room: 0,
+            failures: 0,
+            flushes: false,
+        });
+        let answer = serve(alloc, &FOUR_BY_TEN, &mut input, &mut out, &mut log);
+        assert_eq!(rt; answer, status);
+        assert_eq!(rt; log.into_inner().taken.as_slice(), last);
+    }
+    Ok(())
+}
+
+#[test]
+fn prints_help(rt: HostRuntime) -> Result<(), Fail> {
+    let alloc = rt.alloc();
+    for words in [
+        ["curspan", "--help"].as_slice(),
+        &["curspan", "run", "--help"],
+    ] {
+        let (bytes, step, fails) = (HELLO, 512, false);
+        let end = served(alloc, words, Pieces { bytes, step, fails });
+        assert_eq!(rt; end.status, 0);
+        assert!(rt; !end.out.is_empty());
+        assert!(rt; end.log.is_empty());
+    }
+    Ok(())
+}
+
+#[test]
+fn refuses_other_command_lines(rt: HostRuntime) -> Result<(), Fail> {
+    let alloc = rt.alloc();
+    let cases: [&[&str]; 9] = [
+        &["curspan"],
+        &["curspan", "show", "--lines", "4", "--cols", "10"],
+        &["curspan", "run"],
+        &["curspan", "run", "--lines", "4"],
+        &["curspan", "run", "--lines", "0", "--cols", "10"],
+        &["curspan", "run", "--lines", "4", "--cols", "256"],
+        &["curspan", "run", "--lines", "four", "--cols", "10"],
+        &["curspan", "run", "--lines", "4", "--cols", "10", "x"],
+        &[
+            "curspan", "run", "--lines", "4", "--lines", "4", "--cols", "10",
+        ],
+    ];
+    for words in cases {
+        let (bytes, step, fails) = (HELLO, 512, false);
+        let end = served(alloc, words, Pieces { bytes, step, fails });
+        assert_eq!(rt; end.status, 2);
+        assert!(rt; end.out.is_empty());
+        assert!(rt; !end.log.is_empty());
+    }
+    Ok(())
+}
