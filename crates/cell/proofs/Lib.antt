@@ -3,3 +3,7 @@ pub mod OneCell
 pub mod GridLemmas
 pub mod PictureLemmas
 pub mod RefreshLaws
+pub mod Fills
+pub mod PutLaws
+pub mod FrameLaws
+pub mod Pieces

@@ -6,7 +6,7 @@ use Rattle.std.proofs.lemmas.List.{get_or-set_same, get_or-set_other}
 use Rattle.cell.specs.Glyphs.{Glyph, blank}
 use Rattle.cell.specs.Pictures.{Picture, line_of, shown_at, with_shown}
 use Rattle.cell.specs.Windows.{own_grid, Window, WindowMap, Drawing, own_within, own, within, moved, laid_over, widened, touched_below, touched_by, window_limit}
-use Rattle.cell.specs.Writing.{at_place}
+use Rattle.cell.specs.Drawings.{at_place}
 use Rattle.cell.specs.declared.window.Run.{Run}
 
 -- ---- where its places lead

@@ -7,5 +7,13 @@ pub mod Windows
 pub mod Panels
 pub mod World
 pub mod Sound
+pub mod Drawings
+pub mod Frames
 pub mod Writing
+pub mod Editing
+pub mod Options
 pub mod Refresh
+pub mod Settings
+pub mod Rows
+pub mod Placing
+pub mod Queries

@@ -1,5 +1,5 @@
 -- Why a call is refused, as the log names it.
-use Rattle.std.specs.Prelude.{ℕ, List, [], ◌∷◌, Bool, codes, Option, Some, None, if◌then◌else◌}
+use Rattle.std.specs.Prelude.{◌≡◌, ℕ, List, [], ◌∷◌, Bool, codes, Option, Some, None, if◌then◌else◌, Result, MatchResult, ◌⊎◌}
 use Rattle.cell.specs.declared.refusal.Refusal.{Refusal}
 use Rattle.cell.specs.declared.refusal.Refusal.TheVariants.{NoSuchWindow, NoSuchPanel, OffScreen, OutsideParent, OutsideWindow, HasDerived, InPanel, IsPad, NotPad, NotDerived, BadSize, BadRegion, BadCharacter, StandardScreen, Hidden, ScrollingOff, TooMany, NoMemory, BadRectangle}
 
@@ -7,6 +7,10 @@ use Rattle.cell.specs.declared.refusal.Refusal.TheVariants.{NoSuchWindow, NoSuch
 abbrev pub first_of : List (Bool × Refusal) → Option Refusal
 first_of [] = None
 first_of (row ∷ rows) = if row.0 then Some row.1 else first_of rows
+
+-- a call that takes memory is refused by that refusal; where there is none, only for want of memory
+abbrev pub RefusedBy : {T : Type 0} → Option Refusal → Result T Refusal → Type 0
+RefusedBy refusal result = MatchResult result (λ _. refusal ≡ None) (λ e. (refusal ≡ Some e) ⊎ ((refusal ≡ None) × (e ≡ NoMemory)))
 
 abbrev pub refusal_text : Refusal → List ℕ
 refusal_text NoSuchWindow = codes "E1 NoSuchWindow"

@@ -1,6 +1,6 @@
 -- The world that calls change: the windows, the panels, and the virtual screen, which is what the next doupdate shows.
 -- X/Open Curses Issue 7: wnoutrefresh and doupdate ("virtual screen"); NetBSD panel(3): update_panels.
-use Rattle.std.specs.Prelude.{ℕ, ◌-◌, ◌==◌, ◌||◌, nat_lt, Bool, false, Some, None}
+use Rattle.std.specs.Prelude.{ℕ, ◌-◌, Bool, false, Some, None}
 use Rattle.cell.specs.Glyphs.{blank}
 use Rattle.cell.specs.Pictures.{Picture, Place, Shown, origin, blank_picture}
 use Rattle.cell.specs.Windows.{Source, own_grid, Window, Windows, no_windows, replaced}
@@ -27,10 +27,6 @@ abbrev pub topmost_cursor : World → Place
 topmost_cursor world = cursor_of_topmost world.windows.window world.panels
 
 -- ---- a new screen
-
--- lines or columns that no screen has so many of: other than 1 to 255
-abbrev pub is_no_size : ℕ → Bool
-is_no_size n = n == 0 || nat_lt 255 n
 
 -- what a new window is set to
 abbrev pub first_settings : ℕ → Settings

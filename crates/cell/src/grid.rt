@@ -1,7 +1,9 @@
 //! A grid of cells: a screen, or what a terminal shows.
 
-ghost use Rattle.std.specs.Prelude.{◌≡◌, ◌≤◌, ◌<◌, length, IfOk};
-ghost use Rattle.cell.specs.Pictures.{AreCells, blank_picture, line_of, size_of, with_shown};
+ghost use Rattle.std.specs.Prelude.{◌≡◌, ◌≤◌, ◌<◌, ◌==◌, ◌&&◌, ℕ, ◌+◌, ◌-◌, nat_le, nat_lt, if◌then◌else◌, length, slice_index_or, IfOk};
+ghost use Rattle.std.specs.List.{AllByRecursion, splice};
+ghost use Rattle.cell.specs.Glyphs.{blank, IsCell};
+ghost use Rattle.cell.specs.Pictures.{AreCells, HasSize, blank_picture, line_of, shown_at, size_of, with_shown};
 
 use crate::cell::Cell;
 use std::alloc::{AllocError, Global};
@@ -63,6 +65,35 @@ impl Grid {
         self.cells[y * self.columns + x] = cell;
     }
 
+    /// Puts one cell in the columns of line `y` from `start` on, up to `end`, which it leaves out.
+    pub fn fill(&mut self, y: usize, start: usize, end: usize, cell: Cell)
+        requires line { y < length self.old }
+        requires ordered { start ≤ end }
+        requires columns { end ≤ length (line_of self.old y) }
+        ensures shown { (v u : ℕ) → shown_at self.new (v, u) ≡ (if (v == y) && (nat_le start u && nat_lt u end) then cell else shown_at self.old (v, u)) }
+        ensures height { length self.new ≡ length self.old }
+        ensures size { (lines columns : ℕ) → HasSize lines columns self.old → HasSize lines columns self.new }
+        ensures cells { AreCells self.old → AreCells self.new }
+    {
+        prove!(cell.ch() >= b' ');
+        for x in start..end {
+            self.set(y, x, cell);
+        }
+    }
+
+    /// Puts cells into line `y`, from column `x` on.
+    pub fn put_cells(&mut self, y: usize, x: usize, cells: &[Cell])
+        requires line { y < length self.old }
+        requires columns { x + length cells.now ≤ length (line_of self.old y) }
+        requires cells { AllByRecursion IsCell cells.now }
+        ensures shown { (v u : ℕ) → shown_at self.new (v, u) ≡ (if (v == y) && (nat_le x u && nat_lt u (x + length cells.now)) then slice_index_or cells.now (u - x) blank else shown_at self.old (v, u)) }
+        ensures height { length self.new ≡ length self.old }
+        ensures size { (lines columns : ℕ) → HasSize lines columns self.old → HasSize lines columns self.new }
+        ensures cells { AreCells self.old → AreCells self.new }
+    {
+        put_piece(&mut self.cells, y * self.columns + x, cells);
+    }
+
     /// Takes over all cells of a grid of the same size.
     pub fn copy_from(&mut self, other: &Grid)
         requires { size_of self.old ≡ size_of other.now }
@@ -70,4 +101,12 @@ impl Grid {
     {
         self.cells.copy_from_slice(&other.cells);
     }
+}
+
+/// Puts cells among others, from a place on.
+fn put_piece(cells: &mut Vec<Cell>, start: usize, piece: &[Cell])
+    requires { start + length piece.now ≤ length cells.old.items }
+    ensures { cells.new.items ≡ splice cells.old.items start (start + length piece.now) piece.now }
+{
+    cells[start..start + piece.len()].copy_from_slice(piece);
 }

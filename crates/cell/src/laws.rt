@@ -1,6 +1,7 @@
 //! What holds of the definitions alone. Each function does nothing, and its contract is the law.
 
-ghost use Rattle.std.specs.Prelude.{◌≡◌, ◌<◌, ℕ, List, Some, IsSome, option_map};
+ghost use Rattle.std.specs.Prelude.{◌≡◌, ◌<◌, ℕ, List, Some, IsSome, option_map, ◌⊎◌};
+ghost use Rattle.cell.specs.Frames.{Covers, IsFrameOf, frame_of, joined};
 ghost use Rattle.cell.specs.Panels.{Panels, cursor_of_topmost, found_from_top};
 ghost use Rattle.cell.specs.Refresh.{with_refreshed};
 ghost use Rattle.cell.specs.Glyphs.{Glyph};
@@ -33,6 +34,18 @@ pub fn kept_cell()
     ensures { (window : WindowMap) (w : ℕ) (f : Drawing) (u v z : ℕ)
         → ((y x : ℕ) → HasPlace window w y x → IsSome (f y x) → own window w y x ≡ own window u v z → ⊥)
         → cell_at (put_windows window w f) u v z ≡ cell_at window u v z }
+{}
+
+/// The rectangle of a drawing holds each place of the window that the drawing covers, and each of its sides has such a place; there is
+/// none where it covers no place.
+pub fn frame_is_smallest()
+    ensures { (a : Window) (f : Drawing) → IsFrameOf (Covers f a.columns a.lines) (frame_of a f) }
+{}
+
+/// The rectangle of two drawings is the smallest that holds what either covers.
+pub fn joined_frames()
+    ensures { (a : Window) (f g : Drawing)
+        → IsFrameOf (λ y x. Covers f a.columns a.lines y x ⊎ Covers g a.columns a.lines y x) (joined (frame_of a f) (frame_of a g)) }
 {}
 
 /// Refreshing windows changes neither what a search from the top finds nor the topmost's cursor.

@@ -2,6 +2,8 @@
 
 ghost use Rattle.std.specs.Prelude.{◌≡◌, ◌≤◌, length};
 
+use std::alloc::AllocError;
+
 /// A refused call changed nothing and sent nothing.
 #[derive(Clone, Copy, PartialEq, Eq, Debug)]
 pub enum Refusal {
@@ -43,6 +45,16 @@ pub enum Refusal {
     NoMemory,
     /// A rectangle's first line or column is after its last.
     BadRectangle,
+}
+
+impl From<AllocError> for Refusal {
+    ghost use Rattle.cell.specs.declared.refusal.Refusal.TheVariants.{NoMemory};
+
+    ghost from_gives = { λ error refusal. refusal ≡ NoMemory };
+
+    fn from(error: AllocError) -> Refusal {
+        Refusal::NoMemory
+    }
 }
 
 impl Refusal {

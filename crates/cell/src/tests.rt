@@ -63,3 +63,25 @@ fn refusals_have_number_and_name(rt: HostRuntime) {
     assert_eq!(rt; Refusal::ScrollingOff.text(), "E16 ScrollingOff");
     assert_eq!(rt; Refusal::BadRectangle.text(), "E19 BadRectangle");
 }
+
+#[test]
+fn filled_columns_have_the_cell(rt: HostRuntime) -> Result<(), Fail> {
+    let letter = Cell::new(b'*', Attr::NONE).ok_or("no cell")?;
+    let mut grid = Grid::new(rt.alloc(), 2, 4)?;
+    grid.fill(1, 1, 3, letter);
+    assert_eq!(rt; grid.row(0), [BLANK, BLANK, BLANK, BLANK].as_slice());
+    assert_eq!(rt; grid.row(1), [BLANK, letter, letter, BLANK].as_slice());
+    Ok(())
+}
+
+#[test]
+fn put_cells_stand_one_after_another(rt: HostRuntime) -> Result<(), Fail> {
+    let first = Cell::new(b'a', Attr::NONE).ok_or("no cell")?;
+    let second = Cell::new(b'b', Attr::BOLD).ok_or("no cell")?;
+    let mut grid = Grid::new(rt.alloc(), 2, 4)?;
+    assert_eq!(rt; (first.ch(), second.ch()), (b'a', b'b'));
+    grid.put_cells(0, 2, &[first, second]);
+    assert_eq!(rt; grid.row(0), [BLANK, BLANK, first, second].as_slice());
+    assert_eq!(rt; grid.row(1), [BLANK, BLANK, BLANK, BLANK].as_slice());
+    Ok(())
+}

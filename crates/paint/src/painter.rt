@@ -2,7 +2,7 @@
 
 ghost use Rattle.std.specs.Prelude.{◌≡◌, ◌<◌, ◌↔◌, ◌⊎◌, ◌||◌, IfOk, IfErr, IsErrOf, IsTrue, MatchResult, Some, None, is_ok, if◌then◌else◌};
 ghost use Rattle.cell.specs.Pictures.{HasSize};
-ghost use Rattle.cell.specs.World.{is_no_size};
+ghost use Rattle.cell.specs.Placing.{is_no_size};
 ghost use Rattle.paint.specs.Updates.{first_painter, Updates, BreaksOff};
 
 use crate::plain::send_text;
@@ -45,7 +45,7 @@ impl Painter {
     /// as `BadSize`, and the only other refusal is `NoMemory`.
     pub fn new(alloc: Global, lines: u16, columns: u16) -> Result<Painter, Refusal>
         ensures ok { IfOk result (λ painter. painter ≡ first_painter lines columns) }
-        ensures size { IsErrOf result Refusal.BadSize ↔ IsTrue (is_no_size lines || is_no_size columns) }
+        ensures size { IsErrOf result Refusal.BadSize ↔ IsTrue (is_no_size 255 lines || is_no_size 255 columns) }
         ensures memory { IfErr result (λ refusal. (refusal ≡ Refusal.BadSize) ⊎ (refusal ≡ Refusal.NoMemory)) }
     {
         if !matches!(lines, 1..=255) || !matches!(columns, 1..=255) {

@@ -1,0 +1,180 @@
+-- A piece of a line of a grid that is written at once.
+use Rattle.std.proofs.Common.{◌≡◌, ℕ, suc, ◌∷◌, ◌+◌, ◌-◌, ◌*◌, ◌<◌, ◌≤◌, ◌==◌, ◌&&◌, nat_le, nat_lt, if◌then◌else◌, true, false, List, [], ◌++◌, length, take, drop, get_or, ap, sym, ◌∙◌, refl, arith, inl, inr, ◌⊎◌, length-append, eq-eqb, ne_eqb}
+use Rattle.std.specs.List.{AllByRecursion, splice}
+use Rattle.std.proofs.Math.ListN.{get_or-append}
+use Rattle.std.proofs.Math.Seq.{get_or-append_right}
+use Rattle.std.proofs.lemmas.Bool.{cases_lt, cases_eq, cases_order, cond-true, cond-false}
+use Rattle.std.proofs.lemmas.Bool.Decides.{nat_tests}
+use Rattle.std.proofs.lemmas.List.{get_or-take, get_or-drop, get_or_past, length-take-le, length-drop}
+use Rattle.std.proofs.lemmas.List.Elements.{All-from_recursion, recursion_from_All, All-take, All-drop, All-append}
+use Rattle.cell.specs.Glyphs.{Glyph, blank, IsCell}
+use Rattle.cell.specs.Pictures.{Picture, line_of, shown_at, HasSize}
+use Rattle.cell.specs.Grids.{rows, IsGrid}
+use Rattle.cell.proofs.GridLemmas.{HasLine-from_length, length-rows, length-line_of-rows, line_of-rows, line_end}
+
+module _ (old piece : List Glyph) (start : ℕ) (fits : start + length piece ≤ length old) where
+  front : length (take start old) ≡ start
+  front = length-take-le start old (omega (arith, fits))
+
+  before : (n : ℕ) → n < start → get_or (splice old start (start + length piece) piece) n blank ≡ get_or old n blank
+  before n below = get_or-append (take start old) (piece ++ drop (start + length piece) old) blank n (omega (arith, front)) ∙ get_or-take start old n blank below
+
+  within : (n : ℕ) → start ≤ n → n < start + length piece → get_or (splice old start (start + length piece) piece) n blank ≡ get_or piece (n - start) blank
+  within n from to =
+      get_or-append_right (take start old) (piece ++ drop (start + length piece) old) n blank (omega (arith, front))
+      ∙ ap (λ k. get_or (piece ++ drop (start + length piece) old) (n - k) blank) front
+      ∙ get_or-append piece (drop (start + length piece) old) blank (n - start) (omega arith)
+
+  behind : (n : ℕ) → start + length piece ≤ n → get_or (splice old start (start + length piece) piece) n blank ≡ get_or old n blank
+  behind n from =
+      get_or-append_right (take start old) (piece ++ drop (start + length piece) old) n blank (omega (arith, front))
+      ∙ ap (λ k. get_or (piece ++ drop (start + length piece) old) (n - k) blank) front
+      ∙ get_or-append_right piece (drop (start + length piece) old) (n - start) blank (omega arith)
+      ∙ get_or-drop (start + length piece) old (n - start - length piece) blank
+      ∙ ap (λ k. get_or old k blank) (let e : start + length piece + (n - start - length piece) ≡ n = omega arith in e)
+
+  pub length-splice : length (splice old start (start + length piece) piece) ≡ length old
+  length-splice =
+      length-append (take start old) (piece ++ drop (start + length piece) old)
+      ∙ omega (arith, front, length-append piece (drop (start + length piece) old), length-drop (start + length piece) old, fits)
+
+-- what a grid shows at a place
+
+shown-rows : (lines columns : ℕ) (cells : List Glyph) (v u : ℕ) → v < lines → u < columns → shown_at (rows lines columns cells) (v, u) ≡ get_or cells (v * columns + u) blank
+shown-rows lines columns cells v u below left =
+    ap (λ (line : List Glyph). get_or line u blank) (line_of-rows lines columns cells v below)
+    ∙ get_or-take columns (drop (v * columns) cells) u blank left
+    ∙ get_or-drop (v * columns) cells u blank
+
+shown-outside : (lines columns : ℕ) (cells : List Glyph) → IsGrid lines columns cells → (v u : ℕ) → (lines ≤ v) ⊎ (columns ≤ u) → shown_at (rows lines columns cells) (v, u) ≡ blank
+shown-outside lines columns cells grid v u (inl past) =
+    ap (λ (line : List Glyph). get_or line u blank) (get_or_past (rows lines columns cells) v [] (omega (arith, length-rows lines columns cells)))
+shown-outside lines columns cells grid v u (inr past) = elim (cases_lt v lines) [
+  | inl below ↦ get_or_past (line_of (rows lines columns cells) v) u blank (omega (arith, length-line_of-rows lines columns cells v grid below))
+  | inr out ↦ shown-outside-line out
+] where
+  shown-outside-line : lines ≤ v → shown_at (rows lines columns cells) (v, u) ≡ blank
+  shown-outside-line out = ap (λ (line : List Glyph). get_or line u blank) (get_or_past (rows lines columns cells) v [] (omega (arith, length-rows lines columns cells)))
+
+inside : (v u y x n : ℕ) → v ≡ y → x ≤ u → u < x + n → ((v == y) && (nat_le x u && nat_lt u (x + n))) ≡ true
+inside v u y x n line from to = grind (arith, nat_tests)
+
+outside : (v u y x n : ℕ) → ((v ≡ y) → (x ≤ u) → (u < x + n) → ⊥) → ((v == y) && (nat_le x u && nat_lt u (x + n))) ≡ false
+outside v u y x n other = elim (cases_eq v y) [
+  | inl line ↦
+      let on = eq-eqb v y line in
+      elim (cases_lt u x) [
+        | inl before ↦ let off : nat_le x u ≡ false = grind (arith, nat_tests) in rw (on, off) refl
+        | inr from ↦ elim (cases_lt u (x + n)) [
+          | inl to ↦ absurd (other line from to)
+          | inr past ↦ let off : nat_lt u (x + n) ≡ false = grind (arith, nat_tests) in let at : nat_le x u ≡ true = grind (arith, nat_tests) in rw (on, at, off) refl
+        ]
+      ]
+  | inr line ↦ let off = ne_eqb v y line in rw off refl
+]
+
+-- a piece of line y from column x on
+module _ (lines columns : ℕ) (cells piece : List Glyph) (y x : ℕ) (grid : IsGrid lines columns cells) (below : y < lines) (fits : x + length piece ≤ columns) where
+  abbrev after : List Glyph
+  after = splice cells (y * columns + x) (y * columns + x + length piece) piece
+
+  pub piece_end : y * columns + x + length piece ≤ length cells
+  piece_end = omega (arith, grid.whole, line_end lines columns y below, fits)
+
+  pub IsGrid-piece : AllByRecursion IsCell piece → IsGrid lines columns after
+  IsGrid-piece sound = record {
+    few_lines = grid.few_lines;
+    few_columns = grid.few_columns;
+    whole = length-splice cells piece (y * columns + x) piece_end ∙ grid.whole;
+    each = recursion_from_All IsCell after
+        (All-append IsCell (take (y * columns + x) cells) (piece ++ drop (y * columns + x + length piece) cells) (All-take IsCell (y * columns + x) cells (All-from_recursion IsCell cells grid.each))
+        (All-append IsCell piece (drop (y * columns + x + length piece) cells) (All-from_recursion IsCell piece sound) (All-drop IsCell (y * columns + x + length piece) cells (All-from_recursion IsCell cells grid.each))));
+  }
+
+  at_place : (v u : ℕ) → v < lines → u < columns → get_or after (v * columns + u) blank ≡ (if (v == y) && (nat_le x u && nat_lt u (x + length piece)) then get_or piece (u - x) blank else get_or cells (v * columns + u) blank)
+  at_place v u above left =
+      let inner = get_or piece (u - x) blank in
+      let outer = get_or cells (v * columns + u) blank in
+      let test = (v == y) && (nat_le x u && nat_lt u (x + length piece)) in
+      elim (cases_order v y) [
+        | inl same ↦
+            let line : v * columns ≡ y * columns = ap (λ k. k * columns) same in
+            elim (cases_lt u x) [
+              | inl front ↦ before cells piece (y * columns + x) piece_end (v * columns + u) (omega (arith, line))
+                  ∙ sym (cond-false test inner outer (outside v u y x (length piece) (λ _ from to. omega arith)))
+              | inr from ↦ elim (cases_lt u (x + length piece)) [
+                | inl to ↦ within cells piece (y * columns + x) piece_end (v * columns + u) (omega (arith, line)) (omega (arith, line))
+                    ∙ ap (λ k. get_or piece k blank) (let e : v * columns + u - (y * columns + x) ≡ u - x = omega (arith, line) in e)
+                    ∙ sym (cond-true test inner outer (inside v u y x (length piece) same from to))
+                | inr past ↦ behind cells piece (y * columns + x) piece_end (v * columns + u) (omega (arith, line))
+                    ∙ sym (cond-false test inner outer (outside v u y x (length piece) (λ _ from to. omega arith)))
+              ]
+            ]
+        | inr apart ↦ elim apart [
+          | inl up ↦ before cells piece (y * columns + x) piece_end (v * columns + u) (omega (arith, line_end y columns v up))
+              ∙ sym (cond-false test inner outer (outside v u y x (length piece) (λ e from to. omega arith)))
+          | inr down ↦ behind cells piece (y * columns + x) piece_end (v * columns + u) (omega (arith, line_end v columns y down, fits))
+              ∙ sym (cond-false test inner outer (outside v u y x (length piece) (λ e from to. omega arith)))
+        ]
+      ]
+
+  pub shown-piece : AllByRecursion IsCell piece → (v u : ℕ)
+      → shown_at (rows lines columns after) (v, u) ≡ (if (v == y) && (nat_le x u && nat_lt u (x + length piece)) then get_or piece (u - x) blank else shown_at (rows lines columns cells) (v, u))
+  shown-piece sound v u =
+      let new = IsGrid-piece sound in
+      let inner = get_or piece (u - x) blank in
+      let test = (v == y) && (nat_le x u && nat_lt u (x + length piece)) in
+      elim (cases_lt v lines) [
+        | inl above ↦ elim (cases_lt u columns) [
+          | inl left ↦
+              shown-rows lines columns after v u above left ∙ at_place v u above left
+              ∙ ap (λ (g : Glyph). if test then inner else g) (sym (shown-rows lines columns cells v u above left))
+          | inr right ↦
+              shown-outside lines columns after new v u (inr right) ∙ sym (shown-outside lines columns cells grid v u (inr right))
+              ∙ sym (cond-false test inner (shown_at (rows lines columns cells) (v, u)) (outside v u y x (length piece) (λ _ from to. omega (arith, fits))))
+        ]
+        | inr low ↦
+            shown-outside lines columns after new v u (inl low) ∙ sym (shown-outside lines columns cells grid v u (inl low))
+            ∙ sym (cond-false test inner (shown_at (rows lines columns cells) (v, u)) (outside v u y x (length piece) (λ e from to. omega (arith, below))))
+      ]
+
+-- grids of one size
+
+widths : (width : ℕ) (one other : Picture) → length one ≡ length other → ((k : ℕ) → length (line_of one k) ≡ length (line_of other k))
+    → AllByRecursion (λ (line : List Glyph). length line ≡ width) one → AllByRecursion (λ (line : List Glyph). length line ≡ width) other
+widths width [] [] e same h = tt
+widths width [] (line ∷ lines) e same h = absurd (omega arith)
+widths width (line ∷ lines) [] e same h = absurd (omega arith)
+widths width (line ∷ lines) (other ∷ others) e same h = (sym (same 0) ∙ h.0, widths width lines others (omega arith) (λ k. same (suc k)) h.1)
+
+line_width : (lines columns : ℕ) (one other : List Glyph) → IsGrid lines columns one → IsGrid lines columns other → (k : ℕ)
+    → length (line_of (rows lines columns one) k) ≡ length (line_of (rows lines columns other) k)
+line_width lines columns one other grid grid' k = elim (cases_lt k lines) [
+  | inl below ↦ length-line_of-rows lines columns one k grid below ∙ sym (length-line_of-rows lines columns other k grid' below)
+  | inr past ↦
+      ap (length {A = Glyph}) (get_or_past (rows lines columns one) k [] (omega (arith, length-rows lines columns one)))
+      ∙ ap (length {A = Glyph}) (sym (get_or_past (rows lines columns other) k [] (omega (arith, length-rows lines columns other))))
+]
+
+pub HasSize-same : {height width lines columns : ℕ} {one other : List Glyph} → IsGrid lines columns one → IsGrid lines columns other → HasSize height width (rows lines columns one) → HasSize height width (rows lines columns other)
+HasSize-same {height} {width} {lines} {columns} {one} {other} grid grid' size =
+    let same = length-rows lines columns one ∙ sym (length-rows lines columns other) in
+    record {
+      height = sym same ∙ size.height;
+      width = widths width (rows lines columns one) (rows lines columns other) same (line_width lines columns one other grid grid') size.width;
+    }
+
+-- a piece that fits into a line of the picture fits into the line of the grid
+pub record PieceFits (lines columns : ℕ) (cells piece : List Glyph) (y x : ℕ) : Type 0 where
+  pub below : y < lines
+  pub fits : x + length piece ≤ columns
+  pub end : y * columns + x + length piece ≤ length cells
+  pub few : length cells ≤ 1000000
+
+pub PieceFits-from : {lines columns y x : ℕ} {cells piece : List Glyph} {picture : Picture} → IsGrid lines columns cells → rows lines columns cells ≡ picture
+    → y < length picture → x + length piece ≤ length (line_of picture y) → PieceFits lines columns cells piece y x
+PieceFits-from {lines} {columns} {y} {x} {cells} {piece} grid is within fits =
+    let line = HasLine-from_length grid is within in
+    let width = length-line_of-rows lines columns cells y grid line.below in
+    let inside : x + length piece ≤ columns = rw width at (rw (← is) at fits) in
+    record { below = line.below; fits = inside; end = piece_end lines columns cells piece y x grid line.below inside; few = line.few }
