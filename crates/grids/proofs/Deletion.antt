@@ -1,0 +1,90 @@
+-- A window from which none derives is given up.
+use Rattle.std.proofs.Common.{◌≡◌, ℕ, zero, suc, ◌<◌, ◌≤◌, ◌≢◌, Bool, true, false, ◌||◌, Option, Some, None, IsSomeAnd, MatchOption, List, [], ◌∷◌, length, ap, arith, refl, sym, ◌∙◌, subst, inl, inr, eq-eqb}
+use Rattle.std.specs.Prelude.{⊤}
+use Rattle.std.specs.List.{list_any}
+use Rattle.std.proofs.lemmas.Bool.{cases_eq, or_parts, false≢true}
+use Rattle.cell.specs.Windows.{window_limit}
+use Rattle.cell.specs.Placing.{any_below, has_derived}
+use Rattle.grids.specs.declared.slot.Part.{Part}
+use Rattle.grids.specs.declared.slot.Cells.{Cells}
+use Rattle.grids.specs.declared.slot.Cells.TheVariants.{Own, Shared}
+use Rattle.grids.specs.Kept.{Kept, IsKept, window_of}
+use Rattle.grids.specs.Tables.{Table, IsTable, slot_at, window_map, names_parent, StandsIn, IsChained, IsPlaced, IsStandard}
+use Rattle.grids.specs.Changes.{SetAt}
+use Rattle.grids.proofs.Chain.{limit-is}
+use Rattle.grids.proofs.Changes.{slot_below}
+
+stands_without : (old new : List (Option Kept)) (at : ℕ) → SetAt old new at None → (k : Kept) (cells : Cells) → ((part : Part) → cells ≡ Shared part → part.parent ≢ at) → StandsIn old k cells → StandsIn new k cells
+stands_without old new at set k (Own a) apart h = h
+stands_without old new at set k (Shared p) apart h = rw (set.others p.parent (apart p refl)) h
+
+each_without : (old new : List (Option Kept)) (at : ℕ) → SetAt old new at None → (o : Option Kept) → ((k : Kept) (part : Part) → o ≡ Some k → k.cells ≡ Shared part → part.parent ≢ at)
+    → MatchOption o ⊤ (λ k. IsKept k × StandsIn old k k.cells) → MatchOption o ⊤ (λ k. IsKept k × StandsIn new k k.cells)
+each_without old new at set None apart h = h
+each_without old new at set (Some k) apart h = (h.0, stands_without old new at set k k.cells (λ part is. apart k part refl is) h.1)
+
+any_below-at : (n : ℕ) (test : ℕ → Bool) (k : ℕ) → any_below n test ≡ false → k < n → test k ≡ false
+any_below-at zero test k h lt = absurd (omega arith)
+any_below-at (suc n) test k h lt =
+    let parts = or_parts (test n) (any_below n test) h in
+    elim (cases_eq k n) [
+      | inl same ↦ rw same parts.0
+      | inr less ↦ any_below-at n test k parts.1 (omega arith)
+    ]
+
+none_derives : (slots : List (Option Kept)) (at : ℕ) → length slots ≤ 1001 → has_derived (window_map slots) at ≡ false → (w : ℕ) (k : Kept) (part : Part) → slot_at slots w ≡ Some k → k.cells ≡ Shared part → part.parent ≢ at
+none_derives slots at few h w k part e is same =
+    let test : ℕ → Bool = λ u. names_parent at (slot_at slots u) in
+    let bound : w < window_limit = omega (arith, limit-is, slot_below slots w k e) in
+    let no : names_parent at (Some k) ≡ false = rw e at (any_below-at window_limit test w h bound) in
+    let yes : names_parent at (Some k) ≡ true = rw is (eq-eqb part.parent at same) in
+    false≢true (sym no ∙ yes)
+
+placed_without : (t : Table) (new : List (Option Kept)) (at : ℕ) → SetAt t.slots new at None → IsTable t → (w : ℕ) → MatchOption (slot_at new w) ⊤ (λ k. IsPlaced t.lines t.columns (window_of k))
+placed_without t new at set s w = elim (cases_eq w at) [
+  | inl same ↦ let none : slot_at new w ≡ None = ap (slot_at new) same ∙ set.here in rw none tt
+  | inr other ↦ let stays : slot_at new w ≡ slot_at t.slots w = set.others w other in rw stays (s.placed w)
+]
+
+chained_without : (t : Table) (new : List (Option Kept)) (at : ℕ) → SetAt t.slots new at None → IsTable t → has_derived (window_map t.slots) at ≡ false → IsChained new
+chained_without t new at set s h = record {
+  each = λ w. elim (cases_eq w at) [
+    | inl same ↦ let none : slot_at new w ≡ None = ap (slot_at new) same ∙ set.here in rw none tt
+    | inr other ↦
+        let stays : slot_at new w ≡ slot_at t.slots w = set.others w other in
+        rw stays (each_without t.slots new at set (slot_at t.slots w) (λ k part e is. none_derives t.slots at s.few_slots h w k part e is) (s.chained.each w))
+  ];
+}
+
+pub IsTable-without : (t : Table) (new : List (Option Kept)) (at : ℕ) → SetAt t.slots new at None → IsTable t → at ≢ 0 → has_derived (window_map t.slots) at ≡ false → IsTable (record t { slots = new })
+IsTable-without t new at set s other h = record {
+  some_slot = omega (arith, s.some_slot, set.more);
+  few_slots = set.few;
+  has_line = s.has_line;
+  has_column = s.has_column;
+  few_lines = s.few_lines;
+  few_columns = s.few_columns;
+  standard = subst (λ o. IsSomeAnd o (IsStandard t.lines t.columns)) (sym (set.others 0 (λ e. other (sym e)))) s.standard;
+  chained = chained_without t new at set s h;
+  placed = placed_without t new at set s;
+}
+
+-- the test over the list is the one over the numbers
+or_swap : (a b c : Bool) → (a || (b || c)) ≡ (b || (a || c))
+or_swap true true c = refl
+or_swap true false c = refl
+or_swap false b c = refl
+
+any_below-first : (n : ℕ) (test : ℕ → Bool) → any_below (suc n) test ≡ (test 0 || any_below n (λ u. test (suc u)))
+any_below-first zero test = refl
+any_below-first (suc n) test = rw (any_below-first n test) (or_swap (test (suc n)) (test 0) (any_below n (λ u. test (suc u))))
+
+any_below-list : (test : Option Kept → Bool) → test None ≡ false → (slots : List (Option Kept)) (n : ℕ) → length slots ≤ n → any_below n (λ u. test (slot_at slots u)) ≡ list_any test slots
+any_below-list test none [] zero h = refl
+any_below-list test none [] (suc n) h = ap (λ b. b || any_below n (λ u. test None)) none ∙ any_below-list test none [] n (omega arith)
+any_below-list test none (o ∷ slots) zero h = absurd (omega arith)
+any_below-list test none (o ∷ slots) (suc n) h =
+    any_below-first n (λ u. test (slot_at (o ∷ slots) u)) ∙ ap (λ b. test o || b) (any_below-list test none slots n (omega arith))
+
+pub has_derived-list : (slots : List (Option Kept)) (w : ℕ) → length slots ≤ 1001 → list_any (names_parent w) slots ≡ has_derived (window_map slots) w
+has_derived-list slots w few = sym (any_below-list (names_parent w) refl slots window_limit (omega (arith, limit-is)))

@@ -1,0 +1,11 @@
+pub mod NewSlots
+pub mod Chain
+pub mod Changes
+pub mod Sounds
+pub mod Numbers
+pub mod Writes
+pub mod Shifts
+pub mod Deletion
+pub mod NewWindows
+pub mod Showing
+pub mod Copies

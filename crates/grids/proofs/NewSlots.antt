@@ -1,0 +1,96 @@
+-- The cells of a new slot, and the lines of a grid.
+use Rattle.std.proofs.Common.{◌≡◌, ℕ, ◌+◌, ◌<◌, ◌≤◌, ◌∙◌, List, [], length, take, drop, replicate, get_or, map, Option, Some, None, sym, ap, arith, inl, inr, zero-add, lit≤, lit<}
+use Rattle.std.proofs.lemmas.Bool.{cases_lt}
+use Rattle.std.specs.List.{AllByRecursion, range_with_len}
+use Rattle.std.proofs.lemmas.List.Elements.{All-from_recursion, recursion_from_All, All-get_or, All-take, All-drop}
+use Rattle.std.proofs.lemmas.List.{ext_get_or, get_or-take, get_or-drop, get_or-replicate, get_or_past, length-replicate, length-take-le, length-drop}
+use Rattle.std.proofs.lemmas.List.FromFn.{length-map-range_with_len, get_or-map-range_with_len}
+use mathlib.Core.Path.{fun_ext}
+use Rattle.cell.specs.Glyphs.{Glyph, blank, IsCell}
+use Rattle.cell.specs.Pictures.{Picture, Place, AreCells, line_of, shown_at, blank_picture}
+use Rattle.cell.specs.Windows.{own_grid}
+use Rattle.cell.specs.World.{first_settings, blank_grid}
+use Rattle.cell.specs.Placing.{new_window}
+use Rattle.cell.proofs.PictureLemmas.{HasSize-blank, AreCells-blank}
+use Rattle.grids.specs.declared.slot.Cells.{Cells}
+use Rattle.grids.specs.declared.slot.Cells.TheVariants.{Own}
+use Rattle.grids.specs.Kept.{IsKept, IsGridOf, window_of}
+use Rattle.cell.specs.Sound.{IsRunWithin}
+use Rattle.cell.specs.declared.window.Run.{Run}
+
+-- a piece of a line
+pub piece-of_line : (picture : Picture) (line left len : ℕ) → left + len ≤ length (line_of picture line)
+    → take len (drop left (line_of picture line)) ≡ map (λ x. shown_at picture (line, left + x)) (range_with_len 0 len)
+piece-of_line picture line left len fits =
+    let cells = line_of picture line in
+    let shown : ℕ → Glyph = λ x. shown_at picture (line, left + x) in
+    let whole : length (take len (drop left cells)) ≡ len = length-take-le len (drop left cells) (omega (arith, length-drop left cells)) in
+    ext_get_or blank (take len (drop left cells)) (map shown (range_with_len 0 len))
+    (whole ∙ sym (length-map-range_with_len shown 0 len))
+    (λ x below.
+    let within : x < len = omega arith in
+    get_or-take len (drop left cells) x blank within
+    ∙ get_or-drop left cells x blank
+    ∙ sym (get_or-map-range_with_len shown 0 len x x blank within (zero-add x)))
+
+pub cells-of_line : (picture : Picture) (line left len : ℕ) → AreCells picture → line < length picture → AllByRecursion IsCell (take len (drop left (line_of picture line)))
+cells-of_line picture line left len cells below =
+    let row = All-get_or (AllByRecursion IsCell) picture line [] below (All-from_recursion (AllByRecursion IsCell) picture cells) in
+    recursion_from_All IsCell (take len (drop left (line_of picture line)))
+    (All-take IsCell len (drop left (line_of picture line)) (All-drop IsCell left (line_of picture line) (All-from_recursion IsCell (line_of picture line) row)))
+
+-- a blank grid
+
+blank_at : (n k : ℕ) → get_or (replicate n blank) k blank ≡ blank
+blank_at n k = elim (cases_lt k n) [
+  | inl below ↦ get_or-replicate n k blank blank below
+  | inr past ↦ get_or_past (replicate n blank) k blank (omega (arith, length-replicate n blank))
+]
+
+pub shown-blank : (lines columns y x : ℕ) → shown_at (blank_picture lines columns) (y, x) ≡ blank
+shown-blank lines columns y x = elim (cases_lt y lines) [
+  | inl below ↦ ap (λ (cells : List Glyph). get_or cells x blank) (get_or-replicate lines y (replicate columns blank) [] below) ∙ blank_at columns x
+  | inr past ↦ ap (λ (cells : List Glyph). get_or cells x blank) (get_or_past (blank_picture lines columns) y [] (omega (arith, length-replicate lines (replicate columns blank))))
+]
+
+pub grid-blank : (lines columns : ℕ) → own_grid (λ y x. shown_at (blank_picture lines columns) (y, x)) ≡ blank_grid
+grid-blank lines columns = ap own_grid (fun_ext (λ y. fun_ext (λ x. shown-blank lines columns y x)))
+
+-- no line is touched
+pub run-none : (n y : ℕ) → get_or (replicate n (let o : Option Run = None in o)) y None ≡ None
+run-none n y = elim (cases_lt y n) [
+  | inl below ↦ get_or-replicate n y None None below
+  | inr past ↦ get_or_past (replicate n None) y None (omega (arith, length-replicate n (let o : Option Run = None in o)))
+]
+
+-- a new window with a grid
+
+IsCell-blank : IsCell blank
+IsCell-blank = record { from_space = lit≤ tt; to_tilde = lit≤ tt; of_the_six = lit< tt }
+
+run_within : (columns : ℕ) (o : Option Run) → o ≡ None → IsRunWithin columns o
+run_within columns None e = tt
+run_within columns (Some r) e = cc
+
+pub IsKept-new : (lines columns depth : ℕ) (place : Option Place) (cells : Cells) → 0 < lines → 0 < columns → lines ≤ 1000 → columns ≤ 1000 → IsGridOf lines columns cells
+    → IsKept (record { lines = lines; columns = columns; place = place; settings = first_settings lines; runs = replicate lines None; depth = depth; cells = cells })
+IsKept-new lines columns depth place cells has_line has_column few_lines few_columns grid = record {
+  has_line = has_line;
+  has_column = has_column;
+  few_lines = few_lines;
+  few_columns = few_columns;
+  run_each = length-replicate lines None;
+  runs = λ y. run_within columns (get_or (replicate lines None) y None) (run-none lines y);
+  settings = record { cursor_line = has_line; cursor_column = has_column; region_order = omega arith; region_end = omega arith; attributes = lit< tt; background = IsCell-blank };
+  grid = grid;
+}
+
+pub IsGridOf-blank : (lines columns : ℕ) → IsGridOf lines columns (Own (blank_picture lines columns))
+IsGridOf-blank lines columns = (HasSize-blank lines columns, AreCells-blank lines columns)
+
+pub window-blank : (lines columns depth : ℕ) (place : Option Place)
+    → window_of (record { lines = lines; columns = columns; place = place; settings = first_settings lines; runs = replicate lines None; depth = depth; cells = Own (blank_picture lines columns) })
+    ≡ new_window lines columns place blank_grid
+window-blank lines columns depth place =
+    let none : (λ y. get_or (replicate lines (let o : Option Run = None in o)) y None) ≡ (λ y. None) = fun_ext (λ y. run-none lines y) in
+    λ i. record (new_window lines columns place blank_grid) { run = none i; source = grid-blank lines columns i }

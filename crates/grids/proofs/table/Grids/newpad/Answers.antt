@@ -1,0 +1,21 @@
+use Rattle.cell.specs.World.{blank_grid}
+use Rattle.cell.specs.Placing.{new_window}
+use Rattle.std.proofs.Common.{None}
+use Rattle.grids.specs.contracts.table.Grids.{the_view}
+use Rattle.grids.proofs.NewWindows.{IsTable-added, windows-added, stands_alone, placed_pad}
+use Rattle.grids.proofs.table.Grids.newpad.Goals as goal
+
+pub invariant_of-self-2 : goal.invariant_of-self-2
+invariant_of-self-2 c =
+    let t = the_view c.self.inside in
+    let k = c.in_ok-slot.slot in
+    let kept = c.in_ok-slot.ensures.kept in
+    let free = rw (c.deref.ensures.value, c.in_ok-number.ensures.ok_part) at c.free_number.ensures.free in
+    IsTable-added t c.fill_slot_at.new.slots.items c.in_ok-number.number k c.in_ok-fill_slot_at.ensures.set c.self.invariant free kept.0 (stands_alone t.slots k k.cells kept.2 kept.1)
+    (placed_pad t.lines t.columns c.args.nlines c.args.ncols blank_grid k c.in_ok-slot.ensures.window)
+
+pub returns-clause-made : goal.returns-clause-made
+returns-clause-made c =
+    let t = the_view c.self.inside in
+    rw (← c.self.view_is)
+    (windows-added t c.fill_slot_at.new.slots.items c.in_ok-number.number c.in_ok-slot.slot c.in_ok-fill_slot_at.ensures.set (new_window c.args.nlines c.args.ncols None blank_grid) c.in_ok-slot.ensures.window)

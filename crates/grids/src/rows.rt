@@ -1,0 +1,149 @@
+//! Reading a line of a window, and the two writes of which every write is made.
+
+ghost use Rattle.std.specs.Prelude.{◌≡◌, ℕ, ◌<◌, ◌≤◌, ◌+◌, ◌-◌, is_some, true, false};
+ghost use Rattle.std.specs.List.{AllByRecursion};
+ghost use Rattle.cell.specs.Glyphs.{IsCell};
+ghost use Rattle.cell.specs.Windows.{HasPlace, cell_at, put};
+ghost use Rattle.cell.specs.Sound.{AreSoundWindows};
+ghost use Rattle.cell.specs.Rows.{filled, overlaid, copied, line_shown};
+ghost use Rattle.grids.specs.Tables.{windows};
+
+use crate::slots::{columns_of, fill_row, origin_of, put_row, row_in, touch_row};
+use crate::table::Grids;
+use cell::{Cell, WinId};
+
+impl Grids {
+    /// The cells of line `y` of a window, from left to right, without copying them. The line must be there.
+    pub fn row(&self, win: WinId, y: u16) -> &[Cell]
+        requires { HasPlace (windows self.now).window win.0 y 0 }
+        ensures row { result.now ≡ line_shown (windows self.now).window win.0 y }
+        ensures cells { AllByRecursion IsCell result.now }
+        ensures sound { AreSoundWindows (windows self.now) }
+    {
+        prove!(self.is_sound());
+        let origin = origin_of(&self.slots, win.0);
+        let columns = columns_of(&self.slots, win.0);
+        row_in(
+            &self.slots,
+            origin.grid,
+            origin.line + y,
+            origin.column,
+            columns,
+        )
+    }
+
+    /// The cell that a window shows at line `y` and column `x`. The place must be there.
+    pub fn cell(&self, win: WinId, y: u16, x: u16) -> Cell
+        requires { HasPlace (windows self.now).window win.0 y x }
+        ensures cell { result ≡ cell_at (windows self.now).window win.0 y x }
+        ensures sound { AreSoundWindows (windows self.now) }
+    {
+        self.row(win, y)[usize::from(x)]
+    }
+
+    /// Sets the cells of line `y` of a window in the columns from `left` to `right`, both inclusive, to one cell. The places
+    /// must be there, and `left` not after `right`.
+    pub fn fill(&mut self, win: WinId, y: u16, left: u16, right: u16, cell: Cell)
+        requires ordered { left ≤ right }
+        requires there { HasPlace (windows self.old).window win.0 y right }
+        ensures written { windows self.new ≡ put (windows self.old) win.0 (filled y left right cell) }
+        ensures sound { AreSoundWindows (windows self.new) }
+    {
+        let origin = origin_of(&self.slots, win.0);
+        fill_row(
+            &mut self.slots,
+            origin.grid,
+            origin.line + y,
+            origin.column + left,
+            origin.column + right,
+            cell,
+        );
+        touch_row(&mut self.slots, win.0, y, left, right);
+        prove!(self.is_sound());
+    }
+
+    /// Sets `n` cells of line `dy` of `dst` from column `dx` on to those that line `sy` of `src` has from column `sx` on, as if all
+    /// were read before any is written; with `overlay`, all but the spaces. The places must be there.
+    pub fn copy_row(
+        &mut self,
+        src: WinId,
+        sy: u16,
+        sx: u16,
+        dst: WinId,
+        dy: u16,
+        dx: u16,
+        n: u16,
+        overlay: bool,
+    )
+        requires from { 0 < n → HasPlace (windows self.old).window src.0 sy (sx + n - 1) }
+        requires to { 0 < n → HasPlace (windows self.old).window dst.0 dy (dx + n - 1) }
+        ensures written { windows self.new ≡ put (windows self.old) dst.0 (copied (windows self.old).window src.0 sy sx dy dx n overlay) }
+        ensures sound { AreSoundWindows (windows self.new) }
+    {
+        if n > 0 && overlay {
+            self.overlay_cells(src, sy, sx, dst, dy, dx, n);
+        } else if n > 0 {
+            self.copy_cells(src, sy, sx, dst, dy, dx, n);
+        }
+        prove!(self.is_sound());
+    }
+
+    /// Copies all cells: it reads them into the spare line, and then writes that.
+    fn copy_cells(&mut self, src: WinId, sy: u16, sx: u16, dst: WinId, dy: u16, dx: u16, n: u16)
+        requires some { 0 < n }
+        requires from { HasPlace (windows self.old).window src.0 sy (sx + n - 1) }
+        requires to { HasPlace (windows self.old).window dst.0 dy (dx + n - 1) }
+        ensures { windows self.new ≡ put (windows self.old) dst.0 (copied (windows self.old).window src.0 sy sx dy dx n false) }
+    {
+        let from = origin_of(&self.slots, src.0);
+        let to = origin_of(&self.slots, dst.0);
+        self.line.hold(row_in(&self.slots, from.grid, from.line + sy, from.column + sx, n));
+        put_row(
+            &mut self.slots,
+            to.grid,
+            to.line + dy,
+            to.column + dx,
+            self.line.cells(),
+        );
+        touch_row(&mut self.slots, dst.0, dy, dx, dx + n - 1);
+    }
+
+    /// Copies the cells that aren't spaces, from the end at which no cell is written before it is read.
+    fn overlay_cells(&mut self, src: WinId, sy: u16, sx: u16, dst: WinId, dy: u16, dx: u16, n: u16)
+        requires some { 0 < n }
+        requires from { HasPlace (windows self.old).window src.0 sy (sx + n - 1) }
+        requires to { HasPlace (windows self.old).window dst.0 dy (dx + n - 1) }
+        ensures { windows self.new ≡ put (windows self.old) dst.0 (copied (windows self.old).window src.0 sy sx dy dx n true) }
+    {
+        let from = origin_of(&self.slots, src.0);
+        let to = origin_of(&self.slots, dst.0);
+        if to.column + dx <= from.column + sx {
+            'forward: for k in 0..n {
+                self.overlay_cell(src, sy, sx + k, dst, dy, dx + k);
+            }
+        } else {
+            'backward: for k in (0..n).rev() {
+                self.overlay_cell(src, sy, sx + k, dst, dy, dx + k);
+            }
+        }
+    }
+
+    /// Copies one cell unless it is a space.
+    fn overlay_cell(&mut self, src: WinId, sy: u16, sx: u16, dst: WinId, dy: u16, dx: u16)
+        requires from { HasPlace (windows self.old).window src.0 sy sx }
+        requires to { HasPlace (windows self.old).window dst.0 dy dx }
+        ensures { windows self.new ≡ put (windows self.old) dst.0 (copied (windows self.old).window src.0 sy sx dy dx 1 true) }
+    {
+        let cell = self.cell(src, sy, sx);
+        if is_visible(cell) {
+            self.fill(dst, dy, dx, dx, cell);
+        }
+    }
+}
+
+/// Whether a cell isn't a space.
+fn is_visible(cell: Cell) -> bool
+    ensures { result ≡ is_some (overlaid true cell) }
+{
+    cell.ch() != b' '
+}

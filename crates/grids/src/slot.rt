@@ -1,0 +1,397 @@
+//! What the table keeps of one window.
+
+ghost use Rattle.std.specs.Prelude.{◌≡◌, ℕ, ◌<◌, ◌≤◌, ◌+◌, IfOk, IsSome, Some, None, length, map, replicate};
+ghost use Rattle.std.specs.List.{AllByRecursion, range_with_len};
+ghost use Rattle.cell.specs.Glyphs.{IsCell};
+ghost use Rattle.cell.specs.Pictures.{HasSize, AreCells};
+ghost use Rattle.cell.specs.Refresh.{refreshed};
+ghost use Rattle.cell.specs.Rows.{filled, listed};
+ghost use Rattle.cell.specs.Settings.{with_settings};
+ghost use Rattle.cell.specs.Placing.{new_window, with_place, with_part};
+ghost use Rattle.cell.specs.Windows.{laid_over, cell_of, part_of};
+ghost use Rattle.cell.specs.World.{first_settings, blank_grid};
+ghost use Rattle.grids.specs.Kept.{window_of, source_of, IsGridOf, IsKept, part_in, spread};
+ghost use Rattle.grids.specs.Tables.{names_parent};
+ghost use Rattle.grids.specs.Changes.{with_run, with_drawing, SameFrame, shifted};
+
+use cell::{Attr, Cell, Grid, Run, Settings};
+use std::alloc::{AllocError, Global};
+use std::marker::Model;
+
+/// The parent of a derived window, and the offset into it.
+#[derive(Clone, Copy, Debug, PartialEq, Eq)]
+pub struct Part {
+    pub parent: u16,
+    pub line: u16,
+    pub column: u16,
+}
+
+/// The cells of a window: a grid of its own, or a part of its parent.
+#[derive(Drop)]
+pub enum Cells {
+    Own(Grid),
+    Shared(Part),
+}
+
+/// A window or pad.
+#[derive(Drop)]
+pub struct Slot {
+    lines: u16,
+    columns: u16,
+    place: Option<(u16, u16)>,
+    settings: Settings,
+    runs: Vec<Option<Run>>,
+    depth: u16,
+    cells: Cells,
+}
+
+impl Model for Slot {
+    ghost use Rattle.grids.specs.Kept.{Kept, IsKept};
+
+    ghost Value = { Kept };
+
+    ghost view = { λ a. record {
+      lines = a.lines;
+      columns = a.columns;
+      place = a.place;
+      settings = a.settings;
+      runs = a.runs.items;
+      depth = a.depth;
+      cells = a.cells;
+    } };
+
+    ghost invariant = { λ a. IsKept (record {
+      lines = a.lines;
+      columns = a.columns;
+      place = a.place;
+      settings = a.settings;
+      runs = a.runs.items;
+      depth = a.depth;
+      cells = a.cells;
+    }) };
+}
+
+impl Slot {
+    /// A new window or pad with a blank grid.
+    pub fn with_grid(
+        alloc: Global,
+        lines: u16,
+        columns: u16,
+        place: Option<(u16, u16)>,
+    ) -> Result<Slot, AllocError>
+        requires has_line { 0 < lines }
+        requires has_column { 0 < columns }
+        requires few_lines { lines ≤ 1000 }
+        requires few_columns { columns ≤ 1000 }
+        ensures window { IfOk result (λ s. window_of s ≡ new_window lines columns place blank_grid) }
+        ensures kept { IfOk result (λ s. IsKept s × (s.depth ≡ 0) × (part_in s.cells ≡ None)) }
+    {
+        Ok(Slot {
+            lines,
+            columns,
+            place,
+            settings: first_settings(lines),
+            runs: no_runs(alloc, lines)?,
+            depth: 0,
+            cells: Cells::Own(Grid::new(alloc, lines, columns)?),
+        })
+    }
+
+    /// A new window or pad that shows a part of another.
+    pub fn with_parent(
+        alloc: Global,
+        lines: u16,
+        columns: u16,
+        place: Option<(u16, u16)>,
+        part: Part,
+        depth: u16,
+    ) -> Result<Slot, AllocError>
+        requires has_line { 0 < lines }
+        requires has_column { 0 < columns }
+        requires few_lines { lines ≤ 1000 }
+        requires few_columns { columns ≤ 1000 }
+        ensures window { IfOk result (λ s. window_of s ≡ new_window lines columns place (part_of part.parent part.line part.column)) }
+        ensures kept { IfOk result (λ s. IsKept s × (s.depth ≡ depth) × (part_in s.cells ≡ Some part)) }
+    {
+        Ok(Slot {
+            lines,
+            columns,
+            place,
+            settings: first_settings(lines),
+            runs: no_runs(alloc, lines)?,
+            depth,
+            cells: Cells::Shared(part),
+        })
+    }
+
+    /// The number of lines.
+    pub fn lines(&self) -> u16
+        ensures { result ≡ self.now.lines }
+    {
+        self.lines
+    }
+
+    /// The number of columns.
+    pub fn columns(&self) -> u16
+        ensures { result ≡ self.now.columns }
+    {
+        self.columns
+    }
+
+    /// The place on the screen, which a pad has not.
+    pub fn place(&self) -> Option<(u16, u16)>
+        ensures { result ≡ self.now.place }
+    {
+        self.place
+    }
+
+    /// What the window is set to.
+    pub fn settings(&self) -> Settings
+        ensures { result ≡ self.now.settings }
+    {
+        self.settings
+    }
+
+    /// The run of touched columns of a line.
+    pub fn run(&self, line: u16) -> Option<Run>
+        requires { line < self.now.lines }
+        ensures { result ≡ (window_of self.now).run line }
+    {
+        self.runs[usize::from(line)]
+    }
+
+    /// How many ancestors the window has.
+    pub fn depth(&self) -> u16
+        ensures { result ≡ self.now.depth }
+    {
+        self.depth
+    }
+
+    /// The parent and the offset into it, of a derived window.
+    pub fn part(&self) -> Option<Part>
+        ensures { result ≡ part_in self.now.cells }
+    {
+        match &self.cells {
+            Cells::Own(_) => None,
+            Cells::Shared(part) => Some(*part),
+        }
+    }
+
+    /// Whether the window's parent is this one.
+    pub fn is_part_of(&self, win: u16) -> bool
+        ensures { result ≡ names_parent win (Some self.now) }
+    {
+        match &self.cells {
+            Cells::Own(_) => false,
+            Cells::Shared(part) => part.parent == win,
+        }
+    }
+
+    /// The cells of a line of the window's own grid, `len` of them from a column on.
+    pub fn row(&self, line: u16, left: u16, len: u16) -> &[Cell]
+        requires own { part_in self.now.cells ≡ None }
+        requires line_in { line < self.now.lines }
+        requires columns_in { left + len ≤ self.now.columns }
+        ensures row { result.now ≡ map (λ x. cell_of (window_of self.now).source line (left + x)) (range_with_len 0 len) }
+        ensures cells { AllByRecursion IsCell result.now }
+    {
+        match &self.cells {
+            Cells::Own(grid) => {
+                let start = usize::from(left);
+                &grid.row(usize::from(line))[start..start + usize::from(len)]
+            }
+            Cells::Shared(_) => unreachable!(),
+        }
+    }
+
+    /// Sets what the window is set to; bits beyond the six attributes are dropped.
+    pub fn set_settings(&mut self, settings: Settings)
+        requires cursor_line { settings.cursor.0 < self.old.lines }
+        requires cursor_column { settings.cursor.1 < self.old.columns }
+        requires region_order { settings.region.0 ≤ settings.region.1 }
+        requires region_end { settings.region.1 < self.old.lines }
+        ensures window { window_of self.new ≡ with_settings settings (window_of self.old) }
+        ensures frame { SameFrame self.old self.new }
+        ensures part { part_in self.new.cells ≡ part_in self.old.cells }
+        ensures kept { IsKept self.new }
+    {
+        prove!(settings.background.ch() >= b' ');
+        self.settings = Settings {
+            attrs: settings.attrs.known(),
+            ..settings
+        };
+    }
+
+    /// Moves the window to a place of the screen.
+    pub fn set_place(&mut self, y: u16, x: u16)
+        requires { IsSome self.old.place }
+        ensures window { window_of self.new ≡ with_place y x (window_of self.old) }
+        ensures frame { SameFrame self.old self.new }
+        ensures part { part_in self.new.cells ≡ part_in self.old.cells }
+        ensures kept { IsKept self.new }
+    {
+        self.place = Some((y, x));
+    }
+
+    /// Moves a derived window to another offset in its parent.
+    pub fn shift(&mut self, y: u16, x: u16)
+        ensures window { window_of self.new ≡ with_part y x (window_of self.old) }
+        ensures frame { SameFrame self.old self.new }
+        ensures cells { self.new.cells ≡ shifted y x self.old.cells }
+        ensures kept { IsKept self.new }
+    {
+        shift_cells(&mut self.cells, y, x);
+    }
+
+    /// Sets the cells of a line of the grid from `left` to `right` to one cell.
+    pub fn fill(&mut self, line: u16, left: u16, right: u16, cell: Cell)
+        requires line_in { line < self.old.lines }
+        requires ordered { left ≤ right }
+        requires right_in { right < self.old.columns }
+        ensures window { window_of self.new ≡ with_drawing (filled line left right cell) (window_of self.old) }
+        ensures frame { SameFrame self.old self.new }
+        ensures part { part_in self.new.cells ≡ part_in self.old.cells }
+        ensures kept { IsKept self.new }
+    {
+        fill_cells(
+            &mut self.cells,
+            self.lines,
+            self.columns,
+            line,
+            left,
+            right,
+            cell,
+        );
+    }
+
+    /// Takes all touches away, and asks for a clear screen no more.
+    pub fn refresh(&mut self)
+        ensures window { window_of self.new ≡ refreshed (window_of self.old) }
+        ensures frame { SameFrame self.old self.new }
+        ensures part { part_in self.new.cells ≡ part_in self.old.cells }
+        ensures kept { IsKept self.new }
+    {
+        self.runs.fill(None);
+        self.settings.clear = false;
+    }
+
+    /// Puts cells into a line of the grid, from column `left` on.
+    pub fn put_row(&mut self, line: u16, left: u16, row: &[Cell])
+        requires own { part_in self.old.cells ≡ None }
+        requires line_in { line < self.old.lines }
+        requires columns_in { left + length row.now ≤ self.old.columns }
+        requires cells { AllByRecursion IsCell row.now }
+        ensures window { window_of self.new ≡ with_drawing (listed line left row.now) (window_of self.old) }
+        ensures frame { SameFrame self.old self.new }
+        ensures part { part_in self.new.cells ≡ part_in self.old.cells }
+        ensures kept { IsKept self.new }
+    {
+        put_cells(&mut self.cells, self.lines, self.columns, line, left, row);
+    }
+
+    /// Touches the columns from `left` to `right` of a line.
+    pub fn touch(&mut self, line: u16, left: u16, right: u16)
+        requires line_in { line < self.old.lines }
+        requires ordered { left ≤ right }
+        requires right_in { right < self.old.columns }
+        ensures window { window_of self.new ≡ with_run line left right (window_of self.old) }
+        ensures frame { SameFrame self.old self.new }
+        ensures part { part_in self.new.cells ≡ part_in self.old.cells }
+        ensures kept { IsKept self.new }
+    {
+        let at = usize::from(line);
+        self.runs[at] = Some(spread_over(self.runs[at], left, right));
+    }
+}
+
+/// The runs of lines that nothing touched.
+fn no_runs(alloc: Global, lines: u16) -> Result<Vec<Option<Run>>, AllocError>
+    ensures { IfOk result (λ runs. runs.items ≡ replicate lines None) }
+{
+    vec![in alloc; None; usize::from(lines)]
+}
+
+/// What a new window is set to.
+fn first_settings(lines: u16) -> Settings
+    requires { 0 < lines }
+    ensures { result ≡ first_settings lines }
+{
+    Settings {
+        cursor: (0, 0),
+        region: (0, lines - 1),
+        attrs: Attr::NONE,
+        background: Cell::BLANK,
+        scrolling: false,
+        clear: false,
+    }
+}
+
+/// Sets the cells of a line from `left` to `right` to one cell, if they are a window's own.
+fn fill_cells(
+    cells: &mut Cells,
+    lines: u16,
+    columns: u16,
+    line: u16,
+    left: u16,
+    right: u16,
+    cell: Cell,
+)
+    requires few_columns { columns ≤ 1000 }
+    requires grid { IsGridOf lines columns cells.old }
+    requires line_in { line < lines }
+    requires ordered { left ≤ right }
+    requires right_in { right < columns }
+    ensures source { source_of cells.new ≡ laid_over (filled line left right cell) (source_of cells.old) }
+    ensures grid { IsGridOf lines columns cells.new }
+    ensures part { part_in cells.new ≡ part_in cells.old }
+{
+    if let Cells::Own(grid) = cells {
+        grid.fill(
+            usize::from(line),
+            usize::from(left),
+            usize::from(right) + 1,
+            cell,
+        );
+    }
+}
+
+/// Puts cells into a line from column `left` on, if they are a window's own.
+fn put_cells(cells: &mut Cells, lines: u16, columns: u16, line: u16, left: u16, row: &[Cell])
+    requires grid { IsGridOf lines columns cells.old }
+    requires line_in { line < lines }
+    requires columns_in { left + length row.now ≤ columns }
+    requires cells { AllByRecursion IsCell row.now }
+    ensures source { source_of cells.new ≡ laid_over (listed line left row.now) (source_of cells.old) }
+    ensures grid { IsGridOf lines columns cells.new }
+    ensures part { part_in cells.new ≡ part_in cells.old }
+{
+    if let Cells::Own(grid) = cells {
+        grid.put_cells(usize::from(line), usize::from(left), row);
+    }
+}
+
+/// Moves a derived window's cells to another offset in the parent.
+fn shift_cells(cells: &mut Cells, y: u16, x: u16)
+    ensures { cells.new ≡ shifted y x cells.old }
+{
+    if let Cells::Shared(part) = cells {
+        part.line = y;
+        part.column = x;
+    }
+}
+
+/// The least run that holds a run and the columns from `left` to `right`.
+fn spread_over(run: Option<Run>, left: u16, right: u16) -> Run
+    ensures { spread run left right ≡ Some result }
+{
+    match run {
+        None => Run {
+            first: left,
+            last: right,
+        },
+        Some(old) => Run {
+            first: old.first.min(left),
+            last: old.last.max(right),
+        },
+    }
+}
