@@ -1,0 +1,9 @@
+pub mod Strokes
+pub mod Rectangles
+pub mod States
+pub mod Steps
+pub mod Calls
+pub mod Typing
+pub mod Texts
+pub mod OptionLemmas
+pub mod Scrolls

@@ -1,0 +1,58 @@
+-- Settings of a window of a known state, changed.
+use Rattle.std.proofs.Common.{◌≡◌, ℕ, ◌-◌, ◌<◌, ◌≤◌, Bool, true, false, if◌then◌else◌, ◌&&◌, nat_le, Option, Some, None, ap, arith, refl, ◌∙◌}
+use Rattle.std.specs.Int.RustNames.{bit_or}
+use Rattle.std.proofs.lemmas.Nat.{and_le_l}
+use Rattle.cell.specs.Attributes.{bits_of, known}
+use Rattle.cell.specs.Glyphs.{Glyph}
+use Rattle.cell.specs.Windows.{Windows}
+use Rattle.cell.specs.Settings.{after_set_settings, set}
+use Rattle.cell.specs.Options.{with_attributes, without, with_background, with_region, with_scrolling, after_attron, after_attroff, after_bkgdset, after_setscrreg, after_scrollok}
+use Rattle.cell.specs.declared.attr.Attr.{Attr}
+use Rattle.cell.specs.declared.window.Settings.{Settings}
+use Rattle.windows.specs.State.{IsStateOf}
+use Rattle.windows.specs.declared.state.WindowState.{WindowState}
+use Rattle.windows.proofs.States.{known-small, set-is}
+use Rattle.windows.proofs.Typing.{known-either}
+
+module _ (windows new : Windows) (w : ℕ) (s : WindowState) (h : IsStateOf windows w s) where
+  set-known : (settings : Settings) (change : Settings → Settings) → bits_of settings.attrs < 64 → settings ≡ change s.settings
+      → new ≡ after_set_settings windows w settings → new ≡ set windows w change
+  set-known settings change few same is =
+      let bits = known-small (bits_of settings.attrs) few in
+      is ∙ set-is windows w s settings change h ((λ i. record settings { attrs = record { 0 = bits i } }) ∙ same)
+
+  pub scrolling_set : (flag : Bool) → new ≡ after_set_settings windows w (record s.settings { scrolling = flag }) → new ≡ after_scrollok windows w flag
+  scrolling_set flag is = set-known (record s.settings { scrolling = flag }) (with_scrolling flag) h.within.attributes refl is
+
+  pub region_set : (top bottom : ℕ) → new ≡ after_set_settings windows w (record s.settings { region = (top, bottom) }) → new ≡ after_setscrreg windows w top bottom
+  region_set top bottom is = set-known (record s.settings { region = (top, bottom) }) (with_region top bottom) h.within.attributes refl is
+
+  pub background_set : (cell : Glyph) (attributes character : ℕ) → cell ≡ record { character = character; attributes = known attributes }
+      → new ≡ after_set_settings windows w (record s.settings { background = cell }) → new ≡ after_bkgdset windows w attributes character
+  background_set cell attributes character e is =
+      set-known (record s.settings { background = cell }) (with_background (record { character = character; attributes = known attributes })) h.within.attributes
+      (ap (λ g. with_background g s.settings) e) is
+
+  pub attributes_added : (sum own : Attr) (attributes : ℕ) → bits_of own ≡ known attributes → bits_of own < 64 → bits_of sum ≡ bit_or (bits_of s.settings.attrs) (bits_of own)
+      → new ≡ after_set_settings windows w (record s.settings { attrs = sum }) → new ≡ after_attron windows w attributes
+  attributes_added sum own attributes own_is few sum_is is =
+      is ∙ set-is windows w s (record s.settings { attrs = sum }) (λ (v : Settings). with_attributes (bit_or (bits_of v.attrs) (known attributes)) v) h
+      (ap (λ n. with_attributes n s.settings) (ap known sum_is ∙ known-either (bits_of s.settings.attrs) (bits_of own) h.within.attributes few
+      ∙ ap (λ n. bit_or (bits_of s.settings.attrs) n) own_is))
+
+  pub attributes_taken : (rest own : Attr) (attributes : ℕ) → bits_of own ≡ known attributes → bits_of rest ≡ without (bits_of s.settings.attrs) (bits_of own)
+      → new ≡ after_set_settings windows w (record s.settings { attrs = rest }) → new ≡ after_attroff windows w attributes
+  attributes_taken rest own attributes own_is rest_is is =
+      let less : bits_of rest ≤ bits_of s.settings.attrs = omega (arith, and_le_l (bits_of s.settings.attrs) (0xff - bits_of own), rest_is) in
+      let all = h.within.attributes in
+      is ∙ set-is windows w s (record s.settings { attrs = rest }) (λ (v : Settings). with_attributes (without (bits_of v.attrs) (known attributes)) v) h
+      (ap (λ n. with_attributes n s.settings) (known-small (bits_of rest) (omega arith) ∙ rest_is ∙ ap (λ n. without (bits_of s.settings.attrs) n) own_is))
+
+some-of : (t : Bool) (cell v : Glyph) → (let o : Option Glyph = if t then Some v else None in Some cell ≡ o) → cell ≡ v
+some-of true cell v e = cc
+some-of false cell v e = cc
+
+pub made-cell : (cell : Glyph) (character attributes : ℕ)
+    → (let o : Option Glyph = if nat_le 32 character && nat_le character 126 then Some (record { character = character; attributes = known attributes }) else None in Some cell ≡ o)
+    → cell ≡ record { character = character; attributes = known attributes }
+made-cell cell character attributes e = some-of (nat_le 32 character && nat_le character 126) cell (record { character = character; attributes = known attributes }) e

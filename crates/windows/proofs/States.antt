@@ -1,0 +1,89 @@
+-- A window keeps its size and its settings where something is written, and another settings are one change of it.
+use Rattle.std.proofs.Common.{◌≡◌, ℕ, ◌<◌, Bool, true, false, if◌then◌else◌, ◌==◌, Option, Some, None, IsSome, IsSomeAnd, ap, arith, refl, sym, subst, ◌∙◌}
+use Rattle.std.specs.Option.{option_map}
+use mathlib.Core.Path.{fun_ext}
+use Rattle.std.proofs.lemmas.Bool.{eqb-true}
+use Rattle.std.proofs.lemmas.Nat.{and_mask}
+use Rattle.cell.specs.Attributes.{bits_of, known}
+use Rattle.cell.specs.Pictures.{Place}
+use Rattle.cell.specs.Windows.{Window, WindowMap, Windows, GridPlace, Drawing, own, drawn, put_from, put_windows, put, HasPlace}
+use Rattle.cell.specs.Settings.{with_settings, after_set_settings, set_in, set, with_cursor}
+use Rattle.cell.specs.Sound.{AreSoundWindows}
+use Rattle.cell.specs.declared.window.Settings.{Settings}
+use Rattle.cell.proofs.WindowLaws.{own-put}
+use Rattle.windows.specs.State.{IsStateOf}
+use Rattle.windows.specs.declared.state.WindowState.{WindowState}
+
+-- ---- after a write
+
+some-place : (o : Option GridPlace) → IsSome o → (p : GridPlace) × (o ≡ Some p)
+some-place None h = cc
+some-place (Some p) h = (p, refl)
+
+pub spot-of : (windows : Windows) (w : ℕ) (s : WindowState) → IsStateOf windows w s → (p : GridPlace) × (own windows.window w 0 0 ≡ Some p)
+spot-of windows w s h = some-place (own windows.window w 0 0) h.chain_ends
+
+window-put : (window : WindowMap) (w : ℕ) (a : Window) (p : GridPlace) (f : Drawing) → window w ≡ Some a → own window w 0 0 ≡ Some p
+    → put_windows window w f w ≡ Some (drawn w a p f w a)
+window-put window w a p f there leads =
+    ap (λ o. put_from window w o (own window w 0 0) f w) there ∙ ap (λ o. put_from window w (Some a) o f w) leads ∙ ap (option_map (drawn w a p f w)) there
+
+pub state-put : (windows : Windows) (w : ℕ) (s : WindowState) (f : Drawing) → IsStateOf windows w s → AreSoundWindows (put windows w f) → IsStateOf (put windows w f) w s
+state-put windows w s f h sound =
+    let spot = spot-of windows w s h in
+    record {
+      window = drawn w h.window spot.0 f w h.window;
+      there = window-put windows.window w h.window spot.0 f h.there spot.1;
+      lines = h.lines;
+      columns = h.columns;
+      settings = h.settings;
+      has_line = h.has_line;
+      has_column = h.has_column;
+      few_lines = h.few_lines;
+      few_columns = h.few_columns;
+      within = h.within;
+      chain_ends = subst (λ o. IsSome o) (sym (own-put windows.window w f w 0 0)) h.chain_ends;
+      sound = sound;
+    }
+
+pub state-written : (windows new : Windows) (w : ℕ) (s : WindowState) (f : Drawing) → IsStateOf windows w s → new ≡ put windows w f → AreSoundWindows new → IsStateOf new w s
+state-written windows new w s f h is sound =
+    subst (λ v. IsStateOf v w s) (sym is) (state-put windows w s f h (subst (λ v. AreSoundWindows v) is sound))
+
+place-in : (o : Option Window) (a : Window) (lines columns y x : ℕ) → o ≡ Some a → a.lines ≡ lines → a.columns ≡ columns → y < lines → x < columns
+    → IsSomeAnd o (λ b. (y < b.lines) × (x < b.columns))
+place-in None a lines columns y x e l k below on = cc
+place-in (Some b) a lines columns y x e l k below on =
+    let same : b ≡ a = cc in
+    subst (λ c. (y < c.lines) × (x < c.columns)) (sym same) (omega arith, omega arith)
+
+-- the places of a window
+pub has_place : (windows : Windows) (w : ℕ) (s : WindowState) (y x : ℕ) → IsStateOf windows w s → y < s.lines → x < s.columns → HasPlace windows.window w y x
+has_place windows w s y x h below on = place-in (windows.window w) h.window s.lines s.columns y x h.there h.lines h.columns below on
+
+-- ---- other settings
+
+pub known-small : (bits : ℕ) → bits < 64 → known bits ≡ bits
+known-small bits h = and_mask bits 6 ∙ omega arith
+
+set-at : (settings : Settings) (change : Settings → Settings) (a : Window) (t : Bool) (o : Option Window) → (t ≡ true → o ≡ Some a)
+    → record settings { attrs = record { 0 = known (bits_of settings.attrs) } } ≡ change a.settings
+    → (if t then option_map (with_settings settings) o else o) ≡ (if t then option_map (set_in change) o else o)
+set-at settings change a true o there e =
+    let here = there refl in
+    ap (option_map (with_settings settings)) here ∙ ap (λ (v : Settings). Some (record a { settings = v })) e ∙ sym (ap (option_map (set_in change)) here)
+set-at settings change a false o there e = refl
+
+pub set-is : (windows : Windows) (w : ℕ) (s : WindowState) (settings : Settings) (change : Settings → Settings) → IsStateOf windows w s
+    → record settings { attrs = record { 0 = known (bits_of settings.attrs) } } ≡ change s.settings
+    → after_set_settings windows w settings ≡ set windows w change
+set-is windows w s settings change h e = λ i. record windows {
+  window = fun_ext (λ u.
+      set-at settings change h.window (u == w) (windows.window u) (λ t. ap windows.window (eqb-true u w t) ∙ h.there) (e ∙ sym (ap change h.settings))) i;
+}
+
+pub set-cursor : (windows new : Windows) (w : ℕ) (s : WindowState) (place : Place) → IsStateOf windows w s
+    → new ≡ after_set_settings windows w (record s.settings { cursor = place }) → new ≡ set windows w (with_cursor place)
+set-cursor windows new w s place h is =
+    let bits = known-small (bits_of s.settings.attrs) h.within.attributes in
+    is ∙ set-is windows w s (record s.settings { cursor = place }) (with_cursor place) h (λ i. record s.settings { cursor = place; attrs = record { 0 = bits i } })

@@ -1,0 +1,111 @@
+-- A text is written character after character: the windows stay, and the rectangle grows.
+use Rattle.std.proofs.Common.{◌≡◌, ℕ, ◌+◌, ◌-◌, ◌<◌, min, max, Bool, true, false, if◌then◌else◌, ◌==◌, nat_lt, Option, Some, None, IsSome, is_some, List, [], ◌∷◌, ◌++◌, length, get_or, take, ap, arith, refl, sym, ◌∙◌}
+use Rattle.std.specs.Option.{option_map}
+use Rattle.std.proofs.lemmas.List.{take_more}
+use Rattle.cell.specs.Pictures.{Place}
+use Rattle.cell.specs.Windows.{Window, WindowMap, Windows, GridPlace, Drawing, own, drawn, put_from, put}
+use Rattle.cell.specs.Settings.{set_in, set, with_cursor}
+use Rattle.cell.specs.Drawings.{written_glyph, at_place, to_end_of_line}
+use Rattle.cell.specs.Frames.{joined}
+use Rattle.cell.specs.Writing.{newline, carriage_return, backspace, drawn_to, region_up, scrolls, is_last_line, to_next_line, printed, line_ended, typed_in, after_addch, addch_frame, after_addstr, addstr_frame}
+use Rattle.cell.specs.declared.window.Frame.{Frame}
+use Rattle.cell.specs.declared.window.Settings.{Settings}
+
+-- ---- no window comes or goes
+
+abbrev HasSame : Windows → Windows → Type 0
+HasSame before after = (u : ℕ) → is_some (after.window u) ≡ is_some (before.window u)
+
+some-mapped : (change : Window → Window) (o : Option Window) → is_some (option_map change o) ≡ is_some o
+some-mapped change None = refl
+some-mapped change (Some a) = refl
+
+some-put_from : (window : WindowMap) (w : ℕ) (o : Option Window) (s : Option GridPlace) (f : Drawing) (u : ℕ) → is_some (put_from window w o s f u) ≡ is_some (window u)
+some-put_from window w None s f u = refl
+some-put_from window w (Some a) None f u = refl
+some-put_from window w (Some a) (Some p) f u = some-mapped (drawn w a p f u) (window u)
+
+same-put : (windows : Windows) (w : ℕ) (f : Drawing) → HasSame windows (put windows w f)
+same-put windows w f u = some-put_from windows.window w (windows.window w) (own windows.window w 0 0) f u
+
+some-if : (t : Bool) (change : Window → Window) (o : Option Window) → is_some (if t then option_map change o else o) ≡ is_some o
+some-if true change o = some-mapped change o
+some-if false change o = refl
+
+same-set : (windows : Windows) (w : ℕ) (change : Settings → Settings) → HasSame windows (set windows w change)
+same-set windows w change u = some-if (u == w) (set_in change) (windows.window u)
+
+same-if : (t : Bool) (before one other : Windows) → HasSame before one → HasSame before other → HasSame before (if t then one else other)
+same-if true before one other h k = h
+same-if false before one other h k = k
+
+same-drawn : (windows : Windows) (w : ℕ) (f : Drawing) (place : Place) → HasSame windows (drawn_to windows w f place)
+same-drawn windows w f place u = same-set (put windows w f) w (with_cursor place) u ∙ same-put windows w f u
+
+same-next_line : (windows : Windows) (w : ℕ) (a : Window) (place : Place) → HasSame windows (to_next_line windows w a place)
+same-next_line windows w a place = same-if (scrolls a) windows _ _ (same-drawn windows w (region_up windows.window w a) (a.settings.cursor.0, 0))
+    (same-if (is_last_line a a.settings.cursor.0) windows _ _ (same-set windows w (with_cursor place)) (same-set windows w (with_cursor (a.settings.cursor.0 + 1, 0))))
+
+same-printed : (windows : Windows) (w character : ℕ) (a : Window) → HasSame windows (printed windows w character a)
+same-printed windows w character a =
+    let glyph = at_place a.settings.cursor (written_glyph a.settings character) in
+    same-if (nat_lt (a.settings.cursor.1 + 1) a.columns) windows _ _ (same-drawn windows w glyph (a.settings.cursor.0, a.settings.cursor.1 + 1))
+    (λ u. same-next_line (put windows w glyph) w a a.settings.cursor u ∙ same-put windows w glyph u)
+
+same-ended : (windows : Windows) (w : ℕ) (a : Window) → HasSame windows (line_ended windows w a)
+same-ended windows w a u =
+    let rest = to_end_of_line a.settings.cursor a.settings.background in
+    same-next_line (put windows w rest) w a (a.settings.cursor.0, 0) u ∙ same-put windows w rest u
+
+same-typed : (windows : Windows) (w character : ℕ) (a : Window) → HasSame windows (typed_in windows w character a)
+same-typed windows w character a =
+    same-if (character == newline) windows _ _ (same-ended windows w a)
+    (same-if (character == carriage_return) windows _ _ (same-set windows w (with_cursor (a.settings.cursor.0, 0)))
+    (same-if (character == backspace) windows _ _ (same-set windows w (with_cursor (a.settings.cursor.0, a.settings.cursor.1 - 1)))
+    (same-printed windows w character a)))
+
+pub still_there : (windows new : Windows) (w character : ℕ) (a : Window) → IsSome (windows.window w) → new ≡ typed_in windows w character a → IsSome (new.window w)
+still_there windows new w character a there e = ap (λ (v : Windows). is_some (v.window w)) e ∙ same-typed windows w character a w ∙ there
+
+-- ---- one character more
+
+joined-none : (o : Option Frame) → joined o None ≡ o
+joined-none None = refl
+joined-none (Some a) = refl
+
+joined-joined : (o p q : Option Frame) → joined (joined o p) q ≡ joined o (joined p q)
+joined-joined None p q = refl
+joined-joined (Some a) None None = refl
+joined-joined (Some a) None (Some c) = refl
+joined-joined (Some a) (Some b) None = refl
+joined-joined (Some a) (Some b) (Some c) =
+    let top : min (min a.top b.top) c.top ≡ min a.top (min b.top c.top) = omega arith in
+    let left : min (min a.left b.left) c.left ≡ min a.left (min b.left c.left) = omega arith in
+    let bottom : max (max a.bottom b.bottom) c.bottom ≡ max a.bottom (max b.bottom c.bottom) = omega arith in
+    let right : max (max a.right b.right) c.right ≡ max a.right (max b.right c.right) = omega arith in
+    λ i. Some (record { top = top i; left = left i; bottom = bottom i; right = right i })
+
+frame-push : (text : List ℕ) (windows : Windows) (w character : ℕ)
+    → addstr_frame windows w (text ++ (character ∷ [])) ≡ joined (addstr_frame windows w text) (addch_frame (after_addstr windows w text) w character)
+frame-push [] windows w character = joined-none (addch_frame windows w character)
+frame-push (first ∷ text) windows w character =
+    ap (λ o. joined (addch_frame windows w first) o) (frame-push text (after_addch windows w first) w character)
+    ∙ sym (joined-joined (addch_frame windows w first) (addstr_frame (after_addch windows w first) w text)
+    (addch_frame (after_addstr (after_addch windows w first) w text) w character))
+
+after-push : (text : List ℕ) (windows : Windows) (w character : ℕ) → after_addstr windows w (text ++ (character ∷ [])) ≡ after_addch (after_addstr windows w text) w character
+after-push [] windows w character = refl
+after-push (first ∷ text) windows w character = after-push text (after_addch windows w first) w character
+
+module _ (windows now new : Windows) (w : ℕ) (text : List ℕ) (i : ℕ) (inside : i < length text) (before : now ≡ after_addstr windows w (take i text)) where
+  more_text : take (i + 1) text ≡ take i text ++ (get_or text i 0 ∷ [])
+  more_text = take_more text i 0 inside
+
+  pub text_more : new ≡ after_addch now w (get_or text i 0) → new ≡ after_addstr windows w (take (i + 1) text)
+  text_more e = e ∙ ap (λ v. after_addch v w (get_or text i 0)) before ∙ sym (ap (after_addstr windows w) more_text ∙ after-push (take i text) windows w (get_or text i 0))
+
+  pub frame_more : (frame next o : Option Frame) → frame ≡ addstr_frame windows w (take i text) → next ≡ addch_frame now w (get_or text i 0) → o ≡ joined frame next
+      → o ≡ addstr_frame windows w (take (i + 1) text)
+  frame_more frame next o so_far e is =
+      is ∙ (λ k. joined (so_far k) (e k)) ∙ ap (λ v. joined (addstr_frame windows w (take i text)) (addch_frame v w (get_or text i 0))) before
+      ∙ sym (ap (addstr_frame windows w) more_text ∙ frame-push (take i text) windows w (get_or text i 0))

@@ -1,0 +1,133 @@
+-- A character written at the cursor of a window of a known state.
+use Rattle.std.proofs.Common.{◌≡◌, ℕ, ◌+◌, ◌-◌, ◌^◌, ◌<◌, ◌≤◌, Bool, true, false, if◌then◌else◌, ◌==◌, ◌&&◌, nat_lt, Option, Some, None, ap, arith, refl, sym, ◌∙◌, eq-eqb}
+use Rattle.std.specs.Int.RustNames.{bit_or}
+use Rattle.std.proofs.lemmas.Bool.{lt-ltb}
+use Rattle.std.proofs.lemmas.Bool.Decides.{nat_tests}
+use Rattle.std.proofs.lemmas.Nat.{and_mask, or_lt}
+use Rattle.cell.specs.Attributes.{bits_of, known}
+use Rattle.cell.specs.Glyphs.{Glyph}
+use Rattle.cell.specs.Pictures.{Place}
+use Rattle.cell.specs.Windows.{Windows, put}
+use Rattle.cell.specs.Settings.{set, with_cursor}
+use Rattle.cell.specs.Drawings.{written_glyph, at_place, to_end_of_line, lines_up}
+use Rattle.cell.specs.Frames.{joined, frame_of}
+use Rattle.cell.specs.Writing.{scrolls, region_up, to_next_line, next_line_frame, printed, printed_frame, line_ended, line_ended_frame, typed_in, typed_frame, after_addch, addch_frame}
+use Rattle.cell.specs.declared.window.Frame.{Frame}
+use Rattle.cell.specs.declared.window.Settings.{Settings}
+use Rattle.windows.specs.State.{IsStateOf, window_with}
+use Rattle.windows.specs.declared.state.WindowState.{WindowState}
+use Rattle.windows.proofs.Rectangles.{frame-at_place, frame-to_end_of_line, frame-lines_up}
+use Rattle.windows.proofs.Calls.{call-is, frame-is}
+
+pub if_true : {X : Type 0} (t : Bool) (a b : X) → t ≡ true → (if t then a else b) ≡ a
+if_true true a b h = refl
+if_true false a b h = cc
+
+pub if_false : {X : Type 0} (t : Bool) (a b : X) → t ≡ false → (if t then a else b) ≡ b
+if_false true a b h = cc
+if_false false a b h = refl
+
+both : (s t : Bool) → s ≡ true → t ≡ true → (s && t) ≡ true
+both true true h k = refl
+both true false h k = k
+both false t h k = h
+
+-- attributes of the six are known
+pub known-either : (a b : ℕ) → a < 64 → b < 64 → known (bit_or a b) ≡ bit_or a b
+known-either a b h k =
+    let small : bit_or a b < 2 ^ 6 = or_lt 6 a b h k in
+    and_mask (bit_or a b) 6 ∙ omega arith
+
+module _ (windows : Windows) (w : ℕ) (s : WindowState) (h : IsStateOf windows w s) where
+  -- ---- the end of a line
+
+  scrolls-is : s.settings.scrolling ≡ true → s.settings.cursor.0 ≡ s.settings.region.1 → scrolls (window_with s) ≡ true
+  scrolls-is on last = both s.settings.scrolling (s.settings.cursor.0 == s.settings.region.1) on (eq-eqb s.settings.cursor.0 s.settings.region.1 last)
+
+  pub scrolled : (now new : Windows) (place : Place) → s.settings.scrolling ≡ true → s.settings.cursor.0 ≡ s.settings.region.1
+      → now ≡ put windows w (lines_up windows.window w s.settings.region.0 s.settings.region.1 1 s.settings.background)
+      → new ≡ set now w (with_cursor (s.settings.cursor.0, 0)) → new ≡ to_next_line windows w (window_with s) place
+  scrolled now new place on last drawn moved =
+      moved ∙ ap (λ v. set v w (with_cursor (s.settings.cursor.0, 0))) drawn ∙ sym (if_true (scrolls (window_with s)) _ _ (scrolls-is on last))
+
+  pub scrolled_frame : (r : Frame) → s.settings.scrolling ≡ true → s.settings.cursor.0 ≡ s.settings.region.1
+      → r ≡ record { top = s.settings.region.0; left = 0; bottom = s.settings.region.1; right = s.columns - 1 } → Some r ≡ next_line_frame windows.window w (window_with s)
+  scrolled_frame r on last e =
+      ap Some e
+      ∙ sym (frame-lines_up (window_with s) s.settings.region.0 s.settings.region.1 h.within.region_order h.within.region_end h.has_column windows.window w 1 s.settings.background)
+      ∙ sym (if_true (scrolls (window_with s)) (frame_of (window_with s) (region_up windows.window w (window_with s))) None (scrolls-is on last))
+
+  -- ---- a printed character
+
+  module _ (character : ℕ) where
+    glyph : Glyph
+    glyph = written_glyph s.settings character
+
+    pub printed_inside : (now new : Windows) → s.settings.cursor.1 + 1 < s.columns → now ≡ put windows w (at_place s.settings.cursor (written_glyph s.settings character))
+        → new ≡ set now w (with_cursor (s.settings.cursor.0, s.settings.cursor.1 + 1)) → new ≡ printed windows w character (window_with s)
+    printed_inside now new inside drawn moved =
+        moved ∙ ap (λ v. set v w (with_cursor (s.settings.cursor.0, s.settings.cursor.1 + 1))) drawn
+        ∙ sym (if_true (nat_lt (s.settings.cursor.1 + 1) s.columns) _ _ (lt-ltb (s.settings.cursor.1 + 1) s.columns inside))
+
+    pub printed_at_end : (now new : Windows) → s.columns ≤ s.settings.cursor.1 + 1 → now ≡ put windows w (at_place s.settings.cursor (written_glyph s.settings character))
+        → new ≡ to_next_line now w (window_with s) s.settings.cursor → new ≡ printed windows w character (window_with s)
+    printed_at_end now new past drawn moved =
+        moved ∙ ap (λ v. to_next_line v w (window_with s) s.settings.cursor) drawn
+        ∙ sym (if_false (nat_lt (s.settings.cursor.1 + 1) s.columns) _ _ (grind (arith, nat_tests)))
+
+    one_place : (r : Frame) → r ≡ record { top = s.settings.cursor.0; left = s.settings.cursor.1; bottom = s.settings.cursor.0; right = s.settings.cursor.1 }
+        → Some r ≡ frame_of (window_with s) (at_place s.settings.cursor (written_glyph s.settings character))
+    one_place r e =
+        ap Some e ∙ sym (frame-at_place (window_with s) s.settings.cursor.0 s.settings.cursor.1 h.within.cursor_line h.within.cursor_column (written_glyph s.settings character))
+
+    pub printed_inside_frame : (r : Frame) → s.settings.cursor.1 + 1 < s.columns
+        → r ≡ record { top = s.settings.cursor.0; left = s.settings.cursor.1; bottom = s.settings.cursor.0; right = s.settings.cursor.1 }
+        → Some r ≡ printed_frame windows w character (window_with s)
+    printed_inside_frame r inside e =
+        one_place r e ∙ sym (if_true (nat_lt (s.settings.cursor.1 + 1) s.columns) _ _ (lt-ltb (s.settings.cursor.1 + 1) s.columns inside))
+
+    pub printed_at_end_frame : (now : Windows) (r : Frame) (below o : Option Frame) → s.columns ≤ s.settings.cursor.1 + 1
+        → now ≡ put windows w (at_place s.settings.cursor (written_glyph s.settings character))
+        → r ≡ record { top = s.settings.cursor.0; left = s.settings.cursor.1; bottom = s.settings.cursor.0; right = s.settings.cursor.1 }
+        → below ≡ next_line_frame now.window w (window_with s) → o ≡ joined (Some r) below → o ≡ printed_frame windows w character (window_with s)
+    printed_at_end_frame now r below o past drawn e next is =
+        is ∙ (λ i. joined (one_place r e i) (next i))
+        ∙ ap (λ (v : Windows). joined (frame_of (window_with s) (at_place s.settings.cursor (written_glyph s.settings character))) (next_line_frame v.window w (window_with s))) drawn
+        ∙ sym (if_false (nat_lt (s.settings.cursor.1 + 1) s.columns) _ _ (grind (arith, nat_tests)))
+
+  -- ---- a newline
+
+  pub ended : (now new : Windows) → now ≡ put windows w (to_end_of_line s.settings.cursor s.settings.background)
+      → new ≡ to_next_line now w (window_with s) (s.settings.cursor.0, 0) → new ≡ line_ended windows w (window_with s)
+  ended now new drawn moved = moved ∙ ap (λ v. to_next_line v w (window_with s) (s.settings.cursor.0, 0)) drawn
+
+  pub ended_frame : (now : Windows) (r : Frame) (below o : Option Frame) → now ≡ put windows w (to_end_of_line s.settings.cursor s.settings.background)
+      → r ≡ record { top = s.settings.cursor.0; left = s.settings.cursor.1; bottom = s.settings.cursor.0; right = s.columns - 1 }
+      → below ≡ next_line_frame now.window w (window_with s) → o ≡ joined (Some r) below → o ≡ line_ended_frame windows w (window_with s)
+  ended_frame now r below o drawn e next is =
+      let rest = to_end_of_line s.settings.cursor s.settings.background in
+      let here : Some r ≡ frame_of (window_with s) rest = ap Some e
+      ∙ sym (frame-to_end_of_line (window_with s) s.settings.cursor.0 s.settings.cursor.1 h.within.cursor_line h.within.cursor_column s.settings.background) in
+      is ∙ (λ i. joined (here i) (next i)) ∙ ap (λ (v : Windows). joined (frame_of (window_with s) rest) (next_line_frame v.window w (window_with s))) drawn
+
+  -- ---- any character
+
+  pub added : (new : Windows) (character : ℕ) → new ≡ typed_in windows w character (window_with s) → new ≡ after_addch windows w character
+  added new character e = e ∙ sym (call-is windows w s h (typed_in windows w character) refl)
+
+  pub added_frame : (o : Option Frame) (character : ℕ) → o ≡ typed_frame windows w character (window_with s) → o ≡ addch_frame windows w character
+  added_frame o character e = e ∙ sym (frame-is windows w s h (typed_frame windows w character) refl)
+
+-- ---- the cell of a character
+
+some-of : (t : Bool) (cell v : Glyph) → (let o : Option Glyph = if t then Some v else None in Some cell ≡ o) → cell ≡ v
+some-of true cell v e = cc
+some-of false cell v e = cc
+
+pub written-is : (settings : Settings) (character shown attributes : ℕ) (t : Bool) (cell : Glyph) → bits_of settings.attrs < 64 → settings.background.attributes < 64
+    → shown ≡ (if character == 32 then settings.background.character else character) → attributes ≡ bit_or (bits_of settings.attrs) settings.background.attributes
+    → (let o : Option Glyph = if t then Some (record { character = shown; attributes = known attributes }) else None in Some cell ≡ o)
+    → cell ≡ written_glyph settings character
+written-is settings character shown attributes t cell few small shown_is attributes_are e =
+    let together = ap known attributes_are ∙ known-either (bits_of settings.attrs) settings.background.attributes few small in
+    some-of t cell (record { character = shown; attributes = known attributes }) e ∙ (λ i. record { character = shown_is i; attributes = together i })

@@ -1,0 +1,8 @@
+use Rattle.grids.specs.Tables.{windows}
+use Rattle.windows.proofs.OptionLemmas.{scrolling_set}
+use Rattle.windows.proofs.table.Windows.scrollok.Goals as goal
+
+pub returns-clause-set : goal.returns-clause-set
+returns-clause-set c =
+    rw (← c.self.view_is) (scrolling_set (windows c.self.inside.grids) (windows c.set_settings.new.self) c.args.win.0 c.in_ok-state.state
+    c.in_ok-state.ensures.state c.args.flag c.set_settings.ensures.set)

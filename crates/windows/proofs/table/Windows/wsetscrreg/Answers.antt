@@ -1,0 +1,8 @@
+use Rattle.grids.specs.Tables.{windows}
+use Rattle.windows.proofs.OptionLemmas.{region_set}
+use Rattle.windows.proofs.table.Windows.wsetscrreg.Goals as goal
+
+pub returns-clause-set : goal.returns-clause-set
+returns-clause-set c =
+    rw (← c.self.view_is) (region_set (windows c.self.inside.grids) (windows c.set_settings.new.self) c.args.win.0 c.in_ok-state.state
+    c.in_ok-state.ensures.state c.args.top c.args.bot c.set_settings.ensures.set)
