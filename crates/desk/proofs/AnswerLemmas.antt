@@ -8,15 +8,33 @@ use Rattle.paint.specs.declared.sending.WriteFault.{WriteFault}
 use Rattle.desk.specs.Ends.{Answers, CallEnds, state_of}
 use Rattle.desk.specs.Words.{placeless}
 use Rattle.desk.specs.declared.call.Call.{Call}
-use Rattle.desk.specs.declared.call.Call.TheVariants.{Writing, Refresh}
-use Rattle.desk.specs.declared.call.Writing.TheVariants.{Addstr}
+use Rattle.desk.specs.declared.call.Call.TheVariants.{Making, Writing, Query, Refresh}
+use Rattle.desk.specs.declared.call.Writing.TheVariants.{Move, Addch, Addstr, Insch, Delch, Insertln, Deleteln, Erase, Clrtoeol, Clrtobot, Scrl, Setscrreg, Scrollok, Attrset, Attron, Attroff, Bkgdset}
 use Rattle.desk.specs.declared.call.Reply.{Reply}
 use Rattle.desk.specs.declared.screen.Fault.TheVariants.{Refused, Write}
 use Rattle.desk.specs.declared.screen.Screen.{Screen}
 
 module _ {W : Type 0} (seen : W → Seen) where
   placeless_answers : (old : Screen W) (call : Call) (r : Result (Result Reply Refusal) WriteFault) (new : Screen W) → Answers seen old call r new → Answers seen old (placeless call) r new
+  placeless_answers old (Making m) r new h = h
+  placeless_answers old (Query q) r new h = h
   placeless_answers old (Refresh q) r new h = h
+  placeless_answers old (Writing (Move win y x)) r new h = h
+  placeless_answers old (Writing (Addch win ch)) r new h = h
+  placeless_answers old (Writing (Insch win ch)) r new h = h
+  placeless_answers old (Writing (Delch win)) r new h = h
+  placeless_answers old (Writing (Insertln win)) r new h = h
+  placeless_answers old (Writing (Deleteln win)) r new h = h
+  placeless_answers old (Writing (Erase win)) r new h = h
+  placeless_answers old (Writing (Clrtoeol win)) r new h = h
+  placeless_answers old (Writing (Clrtobot win)) r new h = h
+  placeless_answers old (Writing (Scrl win n)) r new h = h
+  placeless_answers old (Writing (Setscrreg win top bottom)) r new h = h
+  placeless_answers old (Writing (Scrollok win flag)) r new h = h
+  placeless_answers old (Writing (Attrset win attrs)) r new h = h
+  placeless_answers old (Writing (Attron win attrs)) r new h = h
+  placeless_answers old (Writing (Attroff win attrs)) r new h = h
+  placeless_answers old (Writing (Bkgdset win attrs ch)) r new h = h
   placeless_answers old (Writing (Addstr win text)) (Ok (Ok reply)) new h = h
   placeless_answers old (Writing (Addstr win text)) (Ok (Err refusal)) new h = h
   placeless_answers old (Writing (Addstr win text)) (Err fault) new h = h

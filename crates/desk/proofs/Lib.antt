@@ -1,4 +1,8 @@
-pub mod TableLemmas
+pub mod TextLemmas
+pub mod Sizes
+pub mod Composing
+pub mod WordLemmas
+pub mod DeskLemmas
 pub mod RunLemmas
 pub mod ShowingLemmas
 pub mod NumberLemmas

@@ -9,7 +9,7 @@ use Rattle.desk.specs.Script.{said_by_line}
 use Rattle.desk.specs.Log.{log_line}
 use Rattle.desk.specs.ScriptEnds.{LineEnds}
 use Rattle.desk.specs.declared.call.Call.{Call}
-use Rattle.desk.specs.declared.call.Call.TheVariants.{Writing, Refresh}
+use Rattle.desk.specs.declared.call.Call.TheVariants.{Making, Writing, Query, Refresh}
 use Rattle.desk.specs.declared.call.Refresh.TheVariants.{UpdatePanels, Doupdate}
 use Rattle.desk.specs.declared.call.Reply.{Reply}
 use Rattle.cell.specs.declared.refusal.Refusal.{Refusal}
@@ -19,7 +19,9 @@ use Rattle.desk.specs.declared.script.fault.TextFault.{TextFault}
 use Rattle.desk.specs.declared.script.fault.ScriptFault.TheVariants.{Text, Write, Log}
 
 the_doupdate : (call : Call) → is_doupdate call ≡ true → call ≡ Refresh Doupdate
+the_doupdate (Making m) h = cc
 the_doupdate (Writing w) h = cc
+the_doupdate (Query q) h = cc
 the_doupdate (Refresh UpdatePanels) h = cc
 the_doupdate (Refresh Doupdate) h = refl
 

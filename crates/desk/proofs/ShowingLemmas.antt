@@ -1,12 +1,9 @@
 -- What a terminal shows after a run of calls.
-use Rattle.std.proofs.Common.{◌≡◌, ℕ, List, [], ◌∷◌, ◌++◌, take, Option, Some, None, Result, Ok, Err, refl, sym, ap, ◌∙◌, subst, append_assoc, append-nil, fold}
+use Rattle.std.proofs.Common.{◌≡◌, ℕ, List, [], ◌∷◌, ◌++◌, take, Option, Some, None, Result, Ok, Err, true, false, inl, inr, refl, sym, ap, ◌∙◌, subst, append_assoc, append-nil}
 use Rattle.std.proofs.KnownBytes.{Appends-trans}
-use Rattle.std.specs.Option.{option_map_or}
 use Rattle.std.specs.Prelude.{⊤, MatchOption}
 use Rattle.cell.specs.Pictures.{HasSize}
-use Rattle.cell.specs.Windows.{Window, Windows}
 use Rattle.cell.specs.World.{World, picture}
-use Rattle.cell.specs.Writing.{written, written_in}
 use Rattle.cell.specs.Refresh.{after_update_panels, after_doupdate, composed_windows}
 use Rattle.cell.specs.declared.refusal.Refusal.{Refusal}
 use Rattle.cell.proofs.PictureLemmas.{HasSize-picture_of, shown_at-picture_of}
@@ -20,35 +17,21 @@ use Rattle.paint.specs.Sinks.{Seen}
 use Rattle.paint.specs.Updates.{Agrees, PainterState}
 use Rattle.paint.specs.declared.sending.WriteFault.{WriteFault}
 use Rattle.paint.proofs.Repair.{Agrees-update, Agrees-fault}
-use Rattle.desk.specs.Calls.{State, wanted}
-use Rattle.desk.specs.Runs.{Outcome, MayAnswer, Run, all_sent, state_after, state_at_end}
+use Rattle.desk.specs.Calls.{State, after, wanted}
+use Rattle.desk.specs.Runs.{Outcome, MayAnswer, MayRefuse, Run, all_sent, state_after, state_at_end}
+use Rattle.desk.proofs.Sizes.{size-call}
 use Rattle.desk.specs.Tables.{world}
 use Rattle.desk.specs.Ends.{IsCut, Makes, RunEnds, Stops, state_of}
 use Rattle.desk.specs.Showing.{EndsInUpdate, ShowsWorld, RunShows}
 use Rattle.desk.specs.declared.call.Call.{Call}
 use Rattle.desk.specs.declared.call.Call.TheVariants as calls
-use Rattle.desk.specs.declared.call.Writing.TheVariants.{Addstr}
+use Rattle.desk.specs.declared.call.Refresh.{Refresh}
 use Rattle.desk.specs.declared.call.Refresh.TheVariants.{UpdatePanels, Doupdate}
 use Rattle.desk.specs.declared.call.Reply.{Reply}
 use Rattle.desk.specs.declared.screen.RunEnd.{RunEnd}
 use Rattle.desk.specs.declared.screen.Screen.{Screen}
 
 -- ---- sizes
-
-record SameSize (one other : Windows) : Type 0 where
-  lines : one.lines ≡ other.lines
-  columns : one.columns ≡ other.columns
-
-written-size : (w : ℕ) (windows : Windows) (character : ℕ) (o : Option Window) → SameSize (option_map_or (λ a. written_in a windows w character) o windows) windows
-written-size w windows character None = record { lines = refl; columns = refl }
-written-size w windows character (Some a) = record { lines = refl; columns = refl }
-
-text-size : (w : ℕ) (text : List ℕ) (windows : Windows) → SameSize (fold (written w) windows text) windows
-text-size w [] windows = record { lines = refl; columns = refl }
-text-size w (character ∷ text) windows =
-    let rest = text-size w text (written w windows character) in
-    let first = written-size w windows character (windows.window w) in
-    record { lines = rest.lines ∙ first.lines; columns = rest.columns ∙ first.columns }
 
 -- the screen and its painter have this size
 pub record HasScreenSize (lines columns : ℕ) (s : State) : Type 0 where
@@ -57,15 +40,24 @@ pub record HasScreenSize (lines columns : ℕ) (s : State) : Type 0 where
   pub painter_lines : s.painter.lines ≡ lines
   pub painter_columns : s.painter.columns ≡ columns
 
+size-painter : (s : State) (call : Call) → ((after s call).painter.lines ≡ s.painter.lines) × ((after s call).painter.columns ≡ s.painter.columns)
+size-painter s (calls.Making making) = (refl, refl)
+size-painter s (calls.Writing writing) = (refl, refl)
+size-painter s (calls.Query query) = (refl, refl)
+size-painter s (calls.Refresh UpdatePanels) = (refl, refl)
+size-painter s (calls.Refresh Doupdate) = (refl, refl)
+
 size-after : (lines columns : ℕ) (s : State) (call : Call) (answer : Result Reply Refusal) → HasScreenSize lines columns s → HasScreenSize lines columns (state_after s call answer)
 size-after lines columns s call (Err e) h = h
-size-after lines columns s (calls.Writing (Addstr win text)) (Ok r) h =
-    let same = text-size win.0 text.now s.world.windows in
-    record { lines_of = same.lines ∙ h.lines_of; columns_of = same.columns ∙ h.columns_of; painter_lines = h.painter_lines; painter_columns = h.painter_columns }
-size-after lines columns s (calls.Refresh UpdatePanels) (Ok r) h =
-    record { lines_of = h.lines_of; columns_of = h.columns_of; painter_lines = h.painter_lines; painter_columns = h.painter_columns }
-size-after lines columns s (calls.Refresh Doupdate) (Ok r) h =
-    record { lines_of = h.lines_of; columns_of = h.columns_of; painter_lines = h.painter_lines; painter_columns = h.painter_columns }
+size-after lines columns s call (Ok r) h =
+    let windows = size-call s.world call in
+    let painter = size-painter s call in
+    record {
+      lines_of = windows.lines ∙ h.lines_of;
+      columns_of = windows.columns ∙ h.columns_of;
+      painter_lines = painter.0 ∙ h.painter_lines;
+      painter_columns = painter.1 ∙ h.painter_columns;
+    }
 
 pub size-at_end : (lines columns : ℕ) (s : State) (cs : List Call) (outcomes : List Outcome) → HasScreenSize lines columns s → HasScreenSize lines columns (state_at_end s cs outcomes)
 size-at_end lines columns s [] outcomes h = h
@@ -80,7 +72,9 @@ nothing-sent painter stream sent t e h = rw (e, append-nil) h
 agrees-call : (lines columns : ℕ) (s : State) (call : Call) (answer : Result Reply Refusal) (sent stream : List ℕ) (t : Terminal) → HasScreenSize lines columns s → HasSize lines columns t.picture
     → MayAnswer s.world call answer sent → Agrees s.painter stream t → Agrees (state_after s call answer).painter (stream ++ sent) t
 agrees-call lines columns s call (Err e) sent stream t size fits may h = nothing-sent s.painter stream sent t may.1 h
-agrees-call lines columns s (calls.Writing (Addstr win text)) (Ok r) sent stream t size fits may h = nothing-sent s.painter stream sent t may.1.0 h
+agrees-call lines columns s (calls.Making making) (Ok r) sent stream t size fits may h = nothing-sent s.painter stream sent t may.1.0 h
+agrees-call lines columns s (calls.Writing writing) (Ok r) sent stream t size fits may h = nothing-sent s.painter stream sent t may.1.0 h
+agrees-call lines columns s (calls.Query query) (Ok r) sent stream t size fits may h = nothing-sent s.painter stream sent t may.1.0 h
 agrees-call lines columns s (calls.Refresh UpdatePanels) (Ok r) sent stream t size fits may h = nothing-sent s.painter stream sent t may.1.0 h
 agrees-call lines columns s (calls.Refresh Doupdate) (Ok r) sent stream t size fits may h =
     Agrees-update s.painter (wanted s.world) stream sent t (rw (size.painter_lines, size.painter_columns) fits) h
@@ -114,7 +108,9 @@ leads-nothing lines columns painter sent t e fits known = record { last = t; lea
 leads-call : (lines columns : ℕ) (s : State) (call : Call) (answer : Result Reply Refusal) (sent : List ℕ) (t : Terminal) → HasScreenSize lines columns s → HasSize lines columns t.picture
     → MayAnswer s.world call answer sent → IsKnown s.painter t → LeadsOn lines columns (state_after s call answer).painter sent t
 leads-call lines columns s call (Err e) sent t size fits may h = leads-nothing lines columns s.painter sent t may.1 fits h
-leads-call lines columns s (calls.Writing (Addstr win text)) (Ok r) sent t size fits may h = leads-nothing lines columns s.painter sent t may.1.0 fits h
+leads-call lines columns s (calls.Making making) (Ok r) sent t size fits may h = leads-nothing lines columns s.painter sent t may.1.0 fits h
+leads-call lines columns s (calls.Writing writing) (Ok r) sent t size fits may h = leads-nothing lines columns s.painter sent t may.1.0 fits h
+leads-call lines columns s (calls.Query query) (Ok r) sent t size fits may h = leads-nothing lines columns s.painter sent t may.1.0 fits h
 leads-call lines columns s (calls.Refresh UpdatePanels) (Ok r) sent t size fits may h = leads-nothing lines columns s.painter sent t may.1.0 fits h
 leads-call lines columns s (calls.Refresh Doupdate) (Ok r) sent t size fits may h =
     let leads = may.1.0.shows t (rw (size.lines_of, size.columns_of) fits) in
@@ -143,12 +139,17 @@ pub record EndsShown (s : State) : Type 0 where
   pub world_is : s.world ≡ after_doupdate (after_update_panels before)
   pub last_is : s.painter.last ≡ Some (wanted (after_update_panels before))
 
+-- a call that refreshes is never refused
+never-refused : (w : World) (refresh : Refresh) (e : Refusal) → MayRefuse w (calls.Refresh refresh) e → ⊥
+never-refused w refresh e (inl h) = let no : ◌≡◌ {A = Option Refusal} None (Some e) = h in cc
+never-refused w refresh e (inr h) = let no : false ≡ true = h.1 in cc
+
 two-calls : (s : State) (one other : Result Reply Refusal) (sent more : List ℕ) → MayAnswer s.world (calls.Refresh UpdatePanels) one sent
     → MayAnswer (state_after s (calls.Refresh UpdatePanels) one).world (calls.Refresh Doupdate) other more
     → EndsShown (state_after (state_after s (calls.Refresh UpdatePanels) one) (calls.Refresh Doupdate) other)
 two-calls s (Ok r) (Ok q) sent more h k = record { before = s.world; world_is = refl; last_is = refl }
-two-calls s (Ok r) (Err e) sent more h k = let never : ◌≡◌ {A = Option Refusal} None (Some e) = k.0 in cc
-two-calls s (Err e) other sent more h k = let never : ◌≡◌ {A = Option Refusal} None (Some e) = h.0 in cc
+two-calls s (Ok r) (Err e) sent more h k = absurd (never-refused (after_update_panels s.world) Doupdate e k.0)
+two-calls s (Err e) other sent more h k = absurd (never-refused s.world UpdatePanels e h.0)
 
 pub ends-shown : (s : State) (others : List Call) (outcomes : List Outcome) → Run s (others ++ calls.Refresh UpdatePanels ∷ calls.Refresh Doupdate ∷ []) outcomes
     → EndsShown (state_at_end s (others ++ calls.Refresh UpdatePanels ∷ calls.Refresh Doupdate ∷ []) outcomes)

@@ -6,8 +6,8 @@ use Rattle.paint.specs.Sinks.{Seen}
 use Rattle.paint.specs.Updates.{IsClearingText}
 use Rattle.paint.specs.declared.sending.WriteFault.{WriteFault}
 use Rattle.desk.specs.Tables.{world}
-use Rattle.desk.specs.Calls.{State, after, is_doupdate, refusal, wanted}
-use Rattle.desk.specs.Runs.{Outcome, MayAnswer, Run, all_sent, cells_read, is_accepted, is_refused, state_after, state_at_end}
+use Rattle.desk.specs.Calls.{State, after, is_doupdate, wanted}
+use Rattle.desk.specs.Runs.{Outcome, MayAnswer, MayRefuse, Run, all_sent, cells_read, is_accepted, is_refused, state_after, state_at_end}
 use Rattle.desk.specs.declared.call.Call.{Call}
 use Rattle.desk.specs.declared.call.Reply.{Reply}
 use Rattle.desk.specs.declared.screen.Fault.{Fault}
@@ -50,7 +50,7 @@ module _ {W : Type 0} (seen : W → Seen) where
   abbrev pub CallEnds : Screen W → Call → Result Reply Fault → Screen W → Type 0
   CallEnds old call (Ok reply) new = (state_of new ≡ after (state_of old) call)
       × ((sent : List ℕ) × MayAnswer (world old.desk) call (Ok reply) sent × Sends old new sent)
-  CallEnds old call (Err (Refused e)) new = (refusal (world old.desk) call ≡ Some e) × (new ≡ old)
+  CallEnds old call (Err (Refused e)) new = MayRefuse (world old.desk) call e × (new ≡ old)
   CallEnds old call (Err (Write fault)) new = (is_doupdate call ≡ true) × IsCut old new fault
 
   -- These calls were made one after another, and had these outcomes.

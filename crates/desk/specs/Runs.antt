@@ -1,10 +1,12 @@
 -- A run of calls: one outcome after another.
-use Rattle.std.specs.Prelude.{◌≡◌, ℕ, List, [], ◌∷◌, Bool, length, Some, None, Result, Ok, Err, ⊤, is_ok, not}
+use Rattle.std.specs.Prelude.{◌≡◌, ◌⊎◌, ℕ, List, [], ◌∷◌, Bool, true, length, Some, None, Result, Ok, Err, ⊤, is_ok, not}
 use Rattle.std.specs.List.{flat_map}
 use Rattle.cell.specs.World.{World}
 use Rattle.cell.specs.declared.refusal.Refusal.{Refusal}
+use Rattle.cell.specs.declared.refusal.Refusal.TheVariants.{NoMemory}
 use Rattle.paint.specs.Updates.{IsClearingText}
-use Rattle.desk.specs.Calls.{State, after, refusal, reply_of, wanted}
+use Rattle.desk.specs.Tables.{Table, world}
+use Rattle.desk.specs.Calls.{State, after, refusal, reply_of, takes_memory, wanted, world_after}
 use Rattle.desk.specs.declared.call.Call.{Call}
 use Rattle.desk.specs.declared.call.Call.TheVariants as calls
 use Rattle.desk.specs.declared.call.Refresh.TheVariants.{Doupdate}
@@ -22,10 +24,19 @@ MayReply world (calls.Refresh Doupdate) reply sent =
     IsClearingText world.windows.lines world.windows.columns (wanted world) sent × (reply ≡ Sent (record { bytes = length sent }))
 MayReply world call reply sent = (sent ≡ []) × (reply ≡ reply_of world call)
 
+-- The call may be refused so: as its tests have it, or, where none of them holds, for want of the memory that it takes.
+abbrev pub MayRefuse : World → Call → Refusal → Type 0
+MayRefuse world call e = (refusal world call ≡ Some e) ⊎ ((refusal world call ≡ None) × (takes_memory call ≡ true) × (e ≡ NoMemory))
+
 -- The call may answer this and send these bytes, while writes and flushes succeed. A refused call sends nothing.
 abbrev pub MayAnswer : World → Call → Result Reply Refusal → List ℕ → Type 0
-MayAnswer world call (Err e) sent = (refusal world call ≡ Some e) × (sent ≡ [])
+MayAnswer world call (Err e) sent = MayRefuse world call e × (sent ≡ [])
 MayAnswer world call (Ok reply) sent = (refusal world call ≡ None) × MayReply world call reply sent
+
+-- The call, which sends nothing, was made on a desk. A refused one changed nothing.
+abbrev pub Called : Table → Call → Result Reply Refusal → Table → Type 0
+Called old call (Ok reply) new = (refusal (world old) call ≡ None) × (reply ≡ reply_of (world old) call) × (world new ≡ world_after (world old) call)
+Called old call (Err e) new = MayRefuse (world old) call e × (new ≡ old)
 
 abbrev pub MayCome : World → Call → Outcome → Type 0
 MayCome world call outcome = MayAnswer world call outcome.answer outcome.sent

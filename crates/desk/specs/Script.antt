@@ -1,13 +1,12 @@
 -- What a script says: its calls with the numbers of their lines, up to the first fault.
-use Rattle.std.specs.Prelude.{◌+◌, ◌-◌, ◌^◌, ◌==◌, ◌&&◌, ℕ, Bool, true, false, not, List, [], ◌∷◌, length, min, Option, Some, None, Result, Ok, Err, nat_lt, if◌then◌else◌}
+use Rattle.std.specs.Prelude.{◌+◌, ◌-◌, ◌^◌, ◌==◌, ◌&&◌, ◌||◌, ℕ, Bool, true, false, not, List, [], ◌∷◌, length, min, Option, Some, None, Result, Ok, Err, nat_lt, if◌then◌else◌}
 use Rattle.std.specs.List.{join_with_byte, list_any, slice_split}
 use Rattle.std.specs.Option.{option_map_or}
-use Rattle.cell.specs.Writing.{is_bad_character}
 use Rattle.desk.specs.Words.{Entry, entry_of, nothing_said, word_of}
 use Rattle.desk.specs.Texts.{all_said}
 use Rattle.desk.specs.declared.call.Call.{Call}
 use Rattle.desk.specs.declared.script.words.Form.{Form}
-use Rattle.desk.specs.declared.script.words.Form.TheVariants.{Number, Text}
+use Rattle.desk.specs.declared.script.words.Form.TheVariants.{Number, Signed, Attributes, Flag, Character, Text}
 use Rattle.desk.specs.declared.script.fault.ScriptFault.{ScriptFault}
 use Rattle.desk.specs.declared.script.fault.ScriptFault.TheVariants.{Text as Text_fault, Reading as Reading_fault}
 use Rattle.desk.specs.declared.script.fault.TextFault.{TextFault}
@@ -19,10 +18,18 @@ is_space b = b == 32
 abbrev pub is_newline : ℕ → Bool
 is_newline b = b == 10
 
+-- a byte that no line may have: other than the space to the tilde
+abbrev pub is_bad_byte : ℕ → Bool
+is_bad_byte b = nat_lt b 32 || nat_lt 126 b
+
 -- an argument that is everything to the end of the line
 abbrev pub is_text : Form → Bool
-is_text Text = true
 is_text Number = false
+is_text Signed = false
+is_text Attributes = false
+is_text Flag = false
+is_text Character = true
+is_text Text = true
 
 -- The arguments as they stand behind the word. A text takes all pieces that are left, joined again.
 abbrev pub arguments : List Form → List (List ℕ) → List (List ℕ)
@@ -45,7 +52,7 @@ said_by_pieces (word ∷ pieces) = option_map_or (λ w. said_by_entry (entry_of 
 -- no byte, or a comment
 abbrev pub is_skipped : List ℕ → Bool
 is_skipped [] = true
-is_skipped (b ∷ bs) = b == 35 && not (list_any is_bad_character bs)
+is_skipped (b ∷ bs) = b == 35 && not (list_any is_bad_byte bs)
 
 abbrev pub some_call : Result Call TextFault → Result (Option Call) TextFault
 some_call (Ok call) = Ok (Some call)
@@ -55,7 +62,7 @@ some_call (Err fault) = Err fault
 abbrev pub said_by_line : List ℕ → Result (Option Call) TextFault
 said_by_line line = if nat_lt 512 (length line) then Err LineTooLong
     else (if is_skipped line then Ok None
-    else (if list_any is_bad_character line then Err BadByte
+    else (if list_any is_bad_byte line then Err BadByte
     else some_call (said_by_pieces (slice_split is_space line))))
 
 -- What a script says: its calls with the numbers of their lines, and the fault that ends it, if there is one.

@@ -1,231 +1,179 @@
-//! The standard screen, and the virtual screen that the next doupdate shows.
+//! The windows under a virtual screen.
 
-ghost use Rattle.std.specs.Prelude.{◌≡◌, ◌⊎◌, ◌↔◌, ◌<◌, ◌≤◌, ◌||◌, IfOk, IfErr, IsErrOf, IsTrue, MatchResult, None, Some, replicate, slice_index_or, slice_set, vec_len};
-ghost use Rattle.std.specs.List.{list_any};
-ghost use Rattle.cell.specs.Pictures.{line_of};
+ghost use Rattle.std.specs.Prelude.{◌≡◌, ◌<◌, Ok, IfOk};
+ghost use Rattle.cell.specs.Pictures.{AreCells, HasSize, line_of, picture_of};
+ghost use Rattle.cell.specs.Windows.{cell_at};
 ghost use Rattle.cell.specs.Panels.{standard_screen};
-ghost use Rattle.cell.specs.Windows.{widened};
-ghost use Rattle.cell.specs.World.{is_no_size};
-ghost use Rattle.cell.specs.Writing.{addstr_refusal, after_addch, after_addstr, cursor_behind, is_bad_character};
-ghost use Rattle.cell.specs.Refresh.{after_update_panels, cells_composed};
-ghost use Rattle.desk.specs.Tables.{IsTable, first_table, standard_window, world};
+ghost use Rattle.cell.specs.World.{first_world};
+ghost use Rattle.cell.specs.Sound.{AreSoundWindows, IsSound};
+ghost use Rattle.cell.specs.Placing.{new_refusal};
+ghost use Rattle.cell.specs.Refusals.{RefusedBy};
+ghost use Rattle.cell.specs.Refresh.{after_doupdate, after_update_panels, cells_composed};
+ghost use Rattle.grids.specs.Tables.{windows as windows_of};
+ghost use Rattle.desk.specs.declared.call.Call.{Call};
+ghost use Rattle.desk.specs.declared.call.Refresh.{Refresh};
+ghost use Rattle.desk.specs.Tables.{window_table, world};
+ghost use Rattle.desk.specs.Runs.{Called};
 
-use crate::call::Composed;
-use cell::{Attr, Cell, Grid, Refusal, Run, WinId};
-use std::alloc::{AllocError, Global};
+use crate::call::{Composed, Making, Query, Reply, Writing};
+use crate::dispatch::{make, query, write};
+use cell::{Cell, Grid, Refusal, WinId};
+use std::alloc::Global;
 use std::marker::Model;
+use windows::Windows;
 
-/// A screen's windows, of which there is the standard screen, and its virtual screen.
+/// The number of the standard screen.
+const STANDARD: WinId = WinId(0);
+
+/// A screen's windows and pads, and its virtual screen: a picture, where the cursor is wanted, and whether the terminal is
+/// to be cleared first.
 #[derive(Drop)]
 pub struct Desk {
-    lines: u16,
-    columns: u16,
-    cells: Grid,
-    cursor: (u16, u16),
-    runs: Vec<Option<Run>>,
+    windows: Windows,
     picture: Grid,
-    wanted: (u16, u16),
+    cursor: (u16, u16),
+    clear: bool,
 }
 
 impl Model for Desk {
-    ghost use Rattle.desk.specs.Tables.{Table, IsTable};
+    ghost use Rattle.cell.specs.Sound.{IsSound};
+    ghost use Rattle.desk.specs.Tables.{Table, world};
 
     ghost Value = { Table };
 
     ghost view = { λ d. record {
-      lines = d.lines;
-      columns = d.columns;
-      cells = d.cells;
-      cursor = d.cursor;
-      runs = d.runs.items;
-      virtual = d.picture;
-      wanted = d.wanted;
+      lines = d.windows.lines;
+      columns = d.windows.columns;
+      slots = d.windows.slots;
+      virtual = record { picture = d.picture; cursor = d.cursor; clear = d.clear };
     } };
 
-    ghost invariant = { λ d. IsTable (record {
-      lines = d.lines;
-      columns = d.columns;
-      cells = d.cells;
-      cursor = d.cursor;
-      runs = d.runs.items;
-      virtual = d.picture;
-      wanted = d.wanted;
-    }) };
+    ghost invariant = { λ d. IsSound (world (record {
+      lines = d.windows.lines;
+      columns = d.windows.columns;
+      slots = d.windows.slots;
+      virtual = record { picture = d.picture; cursor = d.cursor; clear = d.clear };
+    })) };
 }
 
 impl Desk {
     /// The blank standard screen of 1 to 255 lines and columns, under a blank virtual screen.
+    ///
+    /// # Errors
+    /// `BadSize` for a size out of these limits, `NoMemory`.
     pub fn new(alloc: Global, lines: u16, cols: u16) -> Result<Desk, Refusal>
-        ensures ok { IfOk result (λ desk. desk ≡ first_table lines cols) }
-        ensures size { IsErrOf result Refusal.BadSize ↔ IsTrue (is_no_size lines || is_no_size cols) }
-        ensures memory { IfErr result (λ refusal. (refusal ≡ Refusal.BadSize) ⊎ (refusal ≡ Refusal.NoMemory)) }
+        ensures world { IfOk result (λ desk. world desk ≡ first_world lines cols) }
+        ensures refused { RefusedBy (new_refusal lines cols) result }
     {
-        if !matches!(lines, 1..=255) || !matches!(cols, 1..=255) {
-            return Err(Refusal::BadSize);
-        }
-        match blank(alloc, lines, cols) {
-            Ok(desk) => Ok(desk),
+        let windows = Windows::new(alloc, lines, cols)?;
+        match Grid::new(alloc, lines, cols) {
+            Ok(picture) => Ok(Desk {
+                windows,
+                picture,
+                cursor: (0, 0),
+                clear: false,
+            }),
             Err(_) => Err(Refusal::NoMemory),
         }
     }
 
-    /// Writes the characters of a text at the window's cursor, which goes on behind each. A refused text writes nothing.
-    pub fn waddstr(&mut self, win: WinId, text: &[u8]) -> Result<(), Refusal>
-        ensures refusal { MatchResult result
-            (λ _. addstr_refusal (world self.old) win.0 text.now ≡ None)
-            (λ refusal. addstr_refusal (world self.old) win.0 text.now ≡ Some refusal) }
-        ensures world { MatchResult result
-            (λ _. world self.new ≡ after_addstr (world self.old) win.0 text.now)
-            (λ _. self.new ≡ self.old) }
-        ensures lines { self.new.lines ≡ self.old.lines }
-        ensures columns { self.new.columns ≡ self.old.columns }
+    /// The windows and pads.
+    pub fn windows(&self) -> &Windows
+        ensures { result.now ≡ window_table self.now }
     {
-        if win.0 != 0 {
-            return Err(Refusal::NoSuchWindow);
-        }
-        if has_bad_character(text) {
-            return Err(Refusal::BadCharacter);
-        }
-        for &character in text {
-            self.write(character);
-        }
-        Ok(())
+        &self.windows
+    }
+
+    /// Makes a call of the table of making and placing.
+    pub fn make(&mut self, making: Making) -> Result<Reply, Refusal>
+        ensures { Called self.old (Call.Making making) result self.new }
+    {
+        make(&mut self.windows, making)
+    }
+
+    /// Makes a call of the table of writing.
+    pub fn write(&mut self, writing: Writing<'_>) -> Result<Reply, Refusal>
+        ensures { Called self.old (Call.Writing writing.entry) result self.new }
+    {
+        write(&mut self.windows, writing)
+    }
+
+    /// Makes a call of the table of queries.
+    pub fn query(&self, asked: Query) -> Result<Reply, Refusal>
+        ensures { Called self.now (Call.Query asked) result self.now }
+    {
+        query(&self.windows, asked)
     }
 
     /// Takes the picture of the standard screen, and its cursor, into the virtual screen. It tells how many cells it read.
     pub fn update_panels(&mut self) -> Composed
-        ensures world { world self.new ≡ after_update_panels (world self.old) }
-        ensures cells { result.cells ≡ cells_composed (world self.old) }
+        ensures { Called self.old (Call.Refresh Refresh.UpdatePanels) (Ok (Reply.Composed result)) self.new }
     {
-        self.picture.copy_from(&self.cells);
-        self.wanted = self.cursor;
-        untouch(&mut self.runs);
+        let (lines, columns) = size_of_screen(&self.windows);
+        show_standard(&self.windows, lines, &mut self.picture);
+        let settings = self.windows.settings(STANDARD);
+        self.cursor = settings.cursor;
+        self.clear |= settings.clear;
+        self.windows.refresh(STANDARD);
         Composed {
-            cells: u32::from(self.lines) * u32::from(self.columns),
+            cells: u32::from(lines) * u32::from(columns),
         }
     }
 
     /// The cells of a line of the virtual screen.
     pub fn virtual_row(&self, y: u16) -> &[Cell]
         requires { y < self.now.lines }
-        ensures { result.now ≡ line_of self.now.virtual y }
+        ensures { result.now ≡ line_of self.now.virtual.picture y }
     {
         self.picture.row(usize::from(y))
     }
 
     /// Where the cursor is wanted: its line and its column.
     pub fn wanted_cursor(&self) -> (u16, u16)
-        ensures place { result ≡ self.now.wanted }
-        ensures sound { IsTable self.now }
+        ensures place { result ≡ self.now.virtual.cursor }
+        ensures sound { IsSound (world self.now) }
     {
-        self.wanted
+        self.cursor
     }
 
     /// All of the virtual screen.
     pub(crate) fn virtual_screen(&self) -> &Grid
-        ensures picture { result.now ≡ self.now.virtual }
-        ensures sound { IsTable self.now }
+        ensures picture { result.now ≡ self.now.virtual.picture }
+        ensures sound { IsSound (world self.now) }
     {
         &self.picture
     }
 
-    /// Writes a character at the cursor, which goes on.
-    fn write(&mut self, character: u8)
-        requires low { 32 ≤ character }
-        requires high { character ≤ 126 }
-        ensures world { world self.new ≡ after_addch (world self.old) standard_screen character }
-        ensures lines { self.new.lines ≡ self.old.lines }
-        ensures columns { self.new.columns ≡ self.old.columns }
+    /// The terminal needn't be cleared any more.
+    pub fn clear_done(&mut self)
+        ensures { world self.new ≡ after_doupdate (world self.old) }
     {
-        let Some(cell) = Cell::new(character, Attr::NONE) else {
-            unreachable!()
-        };
-        let next = self.cursor_behind();
-        let (y, x) = self.cursor;
-        self.cells.set(usize::from(y), usize::from(x), cell);
-        touch(&mut self.runs, usize::from(y), x);
-        self.cursor = next;
-    }
-
-    /// Where the cursor goes after a character: one column right, from the last column to the next line, and at the end of the last line nowhere.
-    fn cursor_behind(&self) -> (u16, u16)
-        ensures { result ≡ cursor_behind (standard_window self.now) }
-    {
-        let (y, x) = self.cursor;
-        if x + 1 < self.columns {
-            (y, x + 1)
-        } else if y + 1 == self.lines {
-            (y, x)
-        } else {
-            (y + 1, 0)
-        }
+        self.clear = false;
     }
 }
 
-/// A blank desk of a size in the limits.
-fn blank(alloc: Global, lines: u16, columns: u16) -> Result<Desk, AllocError>
-    requires has_line { 0 < lines }
-    requires has_column { 0 < columns }
-    requires few_lines { lines ≤ 255 }
-    requires few_columns { columns ≤ 255 }
-    ensures { IfOk result (λ desk. desk ≡ first_table lines columns) }
+/// How many lines and columns the standard screen has.
+fn size_of_screen(windows: &Windows) -> (u16, u16)
+    requires { AreSoundWindows (windows_of windows.now) }
+    ensures { result ≡ (windows.now.lines, windows.now.columns) }
 {
-    Ok(Desk {
-        lines,
-        columns,
-        cells: Grid::new(alloc, lines, columns)?,
-        cursor: (0, 0),
-        runs: no_runs(alloc, usize::from(lines))?,
-        picture: Grid::new(alloc, lines, columns)?,
-        wanted: (0, 0),
-    })
-}
-
-/// No touched place in each of n lines.
-fn no_runs(alloc: Global, n: usize) -> Result<Vec<Option<Run>>, AllocError>
-    ensures { IfOk result (λ runs. runs.items ≡ replicate n None) }
-{
-    let mut runs = Vec::with_capacity(alloc, n)?;
-    for i in 0..n {
-        runs.push(None)?;
-    }
-    Ok(runs)
-}
-
-/// Touches a column of a line.
-fn touch(runs: &mut Vec<Option<Run>>, y: usize, x: u16)
-    requires { y < vec_len runs.old }
-    ensures { runs.new.items ≡ slice_set runs.old.items y (widened (slice_index_or runs.old.items y None) x) }
-{
-    let run = runs[y];
-    runs[y] = widened(run, x);
-}
-
-/// Takes all touched places away.
-fn untouch(runs: &mut Vec<Option<Run>>)
-    ensures { runs.new.items ≡ replicate (vec_len runs.old) None }
-{
-    for run in runs.iter_mut() {
-        *run = None;
+    match windows.getmaxyx(STANDARD) {
+        Ok(size) => size,
+        Err(_) => unreachable!(),
     }
 }
 
-/// Whether a text has a character that can't be written.
-fn has_bad_character(text: &[u8]) -> bool
-    ensures { result ≡ list_any is_bad_character text.now }
+/// Puts the picture of the standard screen, of so many lines, into a grid of its size.
+fn show_standard(windows: &Windows, lines: u16, picture: &mut Grid)
+    requires windows { AreSoundWindows (windows_of windows.now) }
+    requires lines { lines ≡ windows.now.lines }
+    requires size { HasSize windows.now.lines windows.now.columns picture.old }
+    ensures shown { picture.new ≡ picture_of windows.now.lines windows.now.columns (cell_at (windows_of windows.now).window standard_screen) }
+    ensures cells { AreCells picture.new }
 {
-    text.iter().any(|character| !matches!(character, 32..=126))
-}
-
-/// The least run that holds a run and a column.
-fn widened(run: Option<Run>, x: u16) -> Option<Run>
-    ensures { result ≡ widened run x }
-{
-    match run {
-        None => Some(Run { first: x, last: x }),
-        Some(run) => Some(Run {
-            first: run.first.min(x),
-            last: run.last.max(x),
-        }),
+    for y in 0..lines {
+        picture.put_cells(usize::from(y), 0, windows.row(STANDARD, y));
     }
+    // Reading a line tells the proof that each cell can be printed.
+    prove!(!picture.row(0).is_empty());
 }

@@ -1,14 +1,16 @@
 //! A screen over a writer, and runs of calls on it.
 
-ghost use Rattle.std.specs.Prelude.{◌≡◌, ◌↔◌, ◌⊎◌, ◌||◌, IfErr, IfOk, IsErrOf, IsTrue, false, is_some, if◌then◌else◌};
-ghost use Rattle.cell.specs.World.{first_world, is_no_size};
+ghost use Rattle.std.specs.Prelude.{◌≡◌, IfOk, is_some, if◌then◌else◌};
+ghost use Rattle.cell.specs.Placing.{new_refusal};
+ghost use Rattle.cell.specs.Refusals.{RefusedBy};
+ghost use Rattle.cell.specs.World.{first_world};
 ghost use Rattle.paint.specs.Sinks.{next_count};
 ghost use Rattle.paint.specs.Updates.{first_painter};
 ghost use Rattle.desk.specs.Tables.{world};
 ghost use Rattle.desk.specs.Runs.{cells_of_reply};
 ghost use Rattle.desk.specs.declared.screen.Fault.TheVariants.{Refused};
 
-use crate::call::{Call, Refresh, Reply, Writing};
+use crate::call::{Call, Refresh, Reply};
 use crate::desk::Desk;
 use cell::Refusal;
 use paint::{Painter, Sink, WriteFault};
@@ -58,8 +60,7 @@ impl<W: Sink + Drop> Screen<W> {
         ensures world { IfOk result (λ screen. world screen.desk ≡ first_world lines cols) }
         ensures painter { IfOk result (λ screen. screen.painter ≡ first_painter lines cols) }
         ensures writer { IfOk result (λ screen. screen.writer ≡ writer) }
-        ensures size { IsErrOf result Refusal.BadSize ↔ IsTrue (is_no_size lines || is_no_size cols) }
-        ensures memory { IfErr result (λ refusal. (refusal ≡ Refusal.BadSize) ⊎ (refusal ≡ Refusal.NoMemory)) }
+        ensures refused { RefusedBy (new_refusal lines cols) result }
     {
         let desk = Desk::new(alloc, lines, cols)?;
         let painter = Painter::new(alloc, lines, cols)?;
@@ -96,22 +97,12 @@ impl<W: Sink> Screen<W> {
             ≡ (if is_write_fault result then next_count (W.seen self.old.writer).failures else (W.seen self.old.writer).failures) }
     {
         match *call {
-            Call::Writing(writing) => self.write(writing),
+            Call::Making(making) => Ok(self.desk.make(making)?),
+            Call::Writing(writing) => Ok(self.desk.write(writing)?),
+            Call::Query(query) => Ok(self.desk.query(query)?),
             Call::Refresh(Refresh::UpdatePanels) => Ok(Reply::Composed(self.desk.update_panels())),
             Call::Refresh(Refresh::Doupdate) => self.doupdate(),
         }
-    }
-
-    /// Makes a call of the table of writing.
-    fn write(&mut self, writing: Writing<'_>) -> Result<Reply, Fault>
-        ensures call { CallEnds W.seen self.old (Call.Writing writing.entry) result self.new }
-        ensures writer { self.new.writer ≡ self.old.writer }
-        ensures fault { is_write_fault result ≡ false }
-    {
-        match writing {
-            Writing::Addstr(win, text) => self.desk.waddstr(win, text)?,
-        }
-        Ok(Reply::Nothing)
     }
 
     /// Shows the virtual screen.
@@ -125,7 +116,10 @@ impl<W: Sink> Screen<W> {
             .painter
             .doupdate(self.desk.virtual_screen(), cursor, &mut self.writer)
         {
-            Ok(sent) => Ok(Reply::Sent(sent)),
+            Ok(sent) => {
+                self.desk.clear_done();
+                Ok(Reply::Sent(sent))
+            }
             Err(fault) => Err(Fault::Write(fault)),
         }
     }

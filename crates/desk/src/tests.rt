@@ -1,7 +1,8 @@
 use crate::{
-    Call, Composed, Counted, Fault, Refresh, Refusal, Reply, RunEnd, Screen, Sent, WinId,
-    WriteFault, Writing,
+    Attr, Call, Cell, Composed, Counted, CountedReader, Fault, Making, Query, Refresh, Refusal,
+    Reply, RunEnd, Screen, ScriptEnd, ScriptFault, Sent, TextFault, WinId, WriteFault, Writing,
 };
+use bitflags::Flags;
 use std::alloc::Global;
 use std::io;
 use std::io::{ErrorKind, Write};
@@ -151,5 +152,136 @@ fn sizes_past_the_limits_are_refused(rt: HostRuntime) -> Result<(), Fail> {
         }
     }
     assert!(rt; screen(rt.alloc(), 255, 255).is_ok());
+    Ok(())
+}
+
+/// What a script on a screen of 4 by 10 logs, and how it ended.
+fn logged(alloc: Global, script: &[u8]) -> Result<(Vec<u8>, ScriptEnd), Fail> {
+    let mut screen = screen(alloc, 4, 10)?;
+    let mut input = CountedReader::new(script);
+    let mut log = Counted::new(Vec::new(alloc));
+    let end = screen.run_script(&mut input, &mut log);
+    let mut bytes = Vec::new(alloc);
+    bytes.extend_from_slice(log.get_ref().as_slice())?;
+    Ok((bytes, end))
+}
+
+#[test]
+fn windows_are_numbered_and_a_freed_number_is_given_again(rt: HostRuntime) -> Result<(), Fail> {
+    let mut screen = screen(rt.alloc(), 4, 10)?;
+    let newwin = Call::Making(Making::Newwin(2, 5, 1, 2));
+    let subwin = Call::Making(Making::Subwin(WinId(1), 1, 2, 1, 4));
+    assert_eq!(rt; screen.call(&newwin), Ok(Reply::Number(WinId(1))));
+    assert_eq!(rt; screen.call(&subwin), Ok(Reply::Number(WinId(2))));
+    assert_eq!(rt;
+        screen.call(&Call::Making(Making::Delwin(WinId(1)))),
+        Err(Fault::Refused(Refusal::HasDerived))
+    );
+    assert_eq!(rt;
+        screen.call(&Call::Making(Making::Delwin(WinId(2)))),
+        Ok(Reply::Nothing)
+    );
+    assert_eq!(rt; screen.call(&subwin), Ok(Reply::Number(WinId(2))));
+    assert_eq!(rt; screen.desk().windows().getparyx(WinId(2)), Ok((0, 2)));
+    Ok(())
+}
+
+#[test]
+fn attributes_and_background_are_written(rt: HostRuntime) -> Result<(), Fail> {
+    let mut screen = screen(rt.alloc(), 1, 6)?;
+    let win = WinId(0);
+    let calls = [
+        Call::Writing(Writing::Attrset(win, Attr::BOLD)),
+        Call::Writing(Writing::Bkgdset(win, Attr::UNDERLINE, b'.')),
+        addstr(0, b"a b"),
+        Call::Writing(Writing::Clrtoeol(win)),
+        UPDATE[0],
+        Call::Writing(Writing::Move(win, 0, 1)),
+    ];
+    let end = screen.run(&calls);
+    assert_eq!(rt; end.done, 6);
+    let row = screen.desk().virtual_row(0);
+    let text = [
+        row[0].ch(),
+        row[1].ch(),
+        row[2].ch(),
+        row[3].ch(),
+        row[5].ch(),
+    ];
+    assert_eq!(rt; text, [b'a', b'.', b'b', b'.', b'.']);
+    assert_eq!(rt; [row[0].attr().bits(), row[3].attr().bits()], [0x05, 0x04]);
+    let dot = Cell::new(b'.', Attr::BOLD | Attr::UNDERLINE).ok_or("no cell")?;
+    assert_eq!(rt;
+        screen.call(&Call::Query(Query::Inch(win))),
+        Ok(Reply::Cell(dot))
+    );
+    assert_eq!(rt;
+        screen.call(&Call::Query(Query::Getyx(win))),
+        Ok(Reply::Pair(0, 1))
+    );
+    assert_eq!(rt;
+        screen.call(&Call::Query(Query::Getmaxyx(win))),
+        Ok(Reply::Pair(1, 6))
+    );
+    Ok(())
+}
+
+#[test]
+fn answers_and_refusals_are_logged(rt: HostRuntime) -> Result<(), Fail> {
+    let script = b"newwin 3 6 0 2\nderwin 1 2 4 1 1\nderwin 2 1 2 1 1\ngetbegyx 3\nmvwin 1 1 3
+subwin 1 1 1 0 3\nmvderwin 1 0 0\nmove 1 2 3\nattrset 1 2a\naddch 1 Q\nmvderwin 2 1 2\ninch 3\nscrl 0 -2\n";
+    let (log, end) = logged(rt.alloc(), script)?;
+    assert_eq!(rt;
+        log.as_slice(),
+        b"line 1: 1\nline 2: 2\nline 3: 3\nline 4: 2 4\nline 6: E4 OutsideParent
+line 7: E10 NotDerived\nline 12: 81 2a\nline 13: E16 ScrollingOff\n"
+            .as_slice()
+    );
+    assert_eq!(rt;
+        end,
+        ScriptEnd {
+            refused: true,
+            fault: None
+        }
+    );
+    Ok(())
+}
+
+#[test]
+fn escapes_and_flags_are_read(rt: HostRuntime) -> Result<(), Fail> {
+    let script =
+        b"scrollok 0 on\nsetscrreg 0 0 1\naddstr 0 a\\nb\\rc\\bd\\\\\\x41\ngetyx 0\ninch 0\nmove 0 1 2
+inch 0\naddch 0 \\x07\naddch 0  \ninch 0\n";
+    let (log, end) = logged(rt.alloc(), script)?;
+    assert_eq!(rt;
+        log.as_slice(),
+        b"line 4: 1 3\nline 5: 32 00\nline 7: 65 00\nline 8: E13 BadCharacter\nline 10: 32 00\n".as_slice()
+    );
+    assert_eq!(rt; end.fault, None);
+    Ok(())
+}
+
+#[test]
+fn arguments_that_lack_their_form_are_told(rt: HostRuntime) -> Result<(), Fail> {
+    let scripts: [&[u8]; 12] = [
+        b"scrl 0 -0",
+        b"scrl 0 32768",
+        b"scrl 0 -32768",
+        b"attron 0 40",
+        b"attroff 0 1",
+        b"attrset 0 0A",
+        b"scrollok 0 yes",
+        b"addch 0 ab",
+        b"addstr 0 a\\",
+        b"addstr 0 \\q",
+        b"insch 0 \\x4",
+        b"bkgdset 0 00 \\xAB",
+    ];
+    for script in scripts {
+        let (log, end) = logged(rt.alloc(), script)?;
+        let fault = TextFault::BadArgument;
+        assert_eq!(rt; end.fault, Some(ScriptFault::Text { line: 1, fault }));
+        assert_eq!(rt; log.len(), 0);
+    }
     Ok(())
 }

@@ -1,20 +1,25 @@
 //! The arguments of a call, as a script has them.
 
-ghost use Rattle.std.specs.Prelude.{◌≡◌, ◌≤◌, ◌<◌, ◌+◌, length, slice_index, Some, None, false};
+ghost use Rattle.std.specs.Prelude.{◌≡◌, ◌≤◌, ◌<◌, ◌+◌, length, Some, None, false};
 ghost use Rattle.std.specs.Bool.{OnTrue};
-ghost use Rattle.desk.specs.Words.{nothing_said};
+ghost use Rattle.desk.specs.Words.{attributes, character, nothing_said, number};
 ghost use Rattle.desk.specs.Texts.{said};
 
-use crate::script::numbers::number_of;
+use crate::script::numbers::{attributes_of, flag_of, number_up_to, signed_number};
 use crate::script::text::read_text;
 use crate::script::words::Form;
 use arrayvec::ArrayVec;
+use bitflags::Flags;
+use cell::Attr;
 use std::marker::Model;
 
 /// What the arguments of a call say. Its numbers stand in their order.
 #[derive(Drop)]
 pub struct Arguments {
     numbers: ArrayVec<u16, 8>,
+    signed: i16,
+    attributes: u8,
+    flag: bool,
     text: ArrayVec<u8, 512>,
 }
 
@@ -23,7 +28,13 @@ impl Model for Arguments {
 
     ghost Value = { Said };
 
-    ghost view = { λ a. record { numbers = a.numbers.items; text = a.text.items } };
+    ghost view = { λ a. record {
+      numbers = a.numbers.items;
+      signed = a.signed;
+      attributes = a.attributes;
+      flag = a.flag;
+      text = a.text.items;
+    } };
 }
 
 impl Arguments {
@@ -32,13 +43,16 @@ impl Arguments {
     {
         Arguments {
             numbers: ArrayVec::new(),
+            signed: 0,
+            attributes: 0,
+            flag: false,
             text: ArrayVec::new(),
         }
     }
 
     /// The number at a place, and 0 where there is none.
     pub fn number(&self, place: usize) -> u16
-        ensures { result ≡ slice_index self.now.numbers place }
+        ensures { result ≡ number self.now place }
     {
         match self.numbers.as_slice().get(place) {
             Some(number) => *number,
@@ -46,10 +60,38 @@ impl Arguments {
         }
     }
 
+    pub fn signed(&self) -> i16
+        ensures { result ≡ self.now.signed }
+    {
+        self.signed
+    }
+
+    pub fn attributes(&self) -> Attr
+        ensures { result ≡ attributes self.now }
+    {
+        Attr::from_bits_retain(self.attributes)
+    }
+
+    pub fn flag(&self) -> bool
+        ensures { result ≡ self.now.flag }
+    {
+        self.flag
+    }
+
     pub fn text(&self) -> &[u8]
         ensures { result.now ≡ self.now.text }
     {
         self.text.as_slice()
+    }
+
+    /// The first character of the text, and 0 where there is none.
+    pub fn character(&self) -> u8
+        ensures { result ≡ character self.now }
+    {
+        match self.text.as_slice().get(0) {
+            Some(character) => *character,
+            None => 0,
+        }
     }
 
     /// Takes what an argument of a form says, and answers whether it has its form.
@@ -61,13 +103,35 @@ impl Arguments {
         ensures count { length self.new.numbers ≤ length self.old.numbers + 1 }
     {
         match form {
-            Form::Number => match number_of(piece) {
+            Form::Number => match number_up_to(65535, piece) {
                 Some(number) => {
                     self.numbers.push(number);
                     true
                 }
                 None => false,
             },
+            Form::Signed => match signed_number(piece) {
+                Some(signed) => {
+                    self.signed = signed;
+                    true
+                }
+                None => false,
+            },
+            Form::Attributes => match attributes_of(piece) {
+                Some(attributes) => {
+                    self.attributes = attributes;
+                    true
+                }
+                None => false,
+            },
+            Form::Flag => match flag_of(piece) {
+                Some(flag) => {
+                    self.flag = flag;
+                    true
+                }
+                None => false,
+            },
+            Form::Character => read_text(piece, &mut self.text) && self.text.len() == 1,
             Form::Text => read_text(piece, &mut self.text),
         }
     }

@@ -4,10 +4,9 @@ ghost use Rattle.std.specs.Prelude.{◌≡◌, ◌≤◌, ◌∷◌, ◌≢◌, 
 ghost use Rattle.std.specs.List.{list_any, slice_split};
 ghost use Rattle.std.specs.Bool.{OnTrue};
 ghost use Rattle.desk.specs.declared.script.words.Form.{Form};
-ghost use Rattle.cell.specs.Writing.{is_bad_character};
 ghost use Rattle.desk.specs.Words.{nothing_said};
 ghost use Rattle.desk.specs.Texts.{all_said};
-ghost use Rattle.desk.specs.Script.{arguments, is_skipped, is_space, is_text, said_by_line};
+ghost use Rattle.desk.specs.Script.{arguments, is_bad_byte, is_skipped, is_space, is_text, said_by_line};
 ghost use Rattle.desk.specs.Reads.{Reads, pieces_of};
 
 use crate::script::arguments::Arguments;
@@ -16,7 +15,7 @@ use crate::script::words::{Form, Word};
 
 /// Whether a piece has a byte outside 32 to 126.
 fn has_bad(piece: &[u8]) -> bool
-    ensures { result ≡ list_any is_bad_character piece.now }
+    ensures { result ≡ list_any is_bad_byte piece.now }
 {
     piece.iter().any(|b| !matches!(b, 32..=126))
 }
@@ -35,7 +34,7 @@ fn is_skipped(line: &[u8]) -> bool
 fn is_text(form: Form) -> bool
     ensures { result ≡ is_text form }
 {
-    matches!(form, Form::Text)
+    matches!(form, Form::Character | Form::Text)
 }
 
 /// Where the first space is.

@@ -1,8 +1,22 @@
-use Rattle.std.proofs.Common.{◌∙◌, ap, replicate, None, rules}
-use Rattle.desk.proofs.TableLemmas.{world-composed}
+use Rattle.std.proofs.Common.{ap, refl, ◌∙◌}
+use Rattle.desk.proofs.Composing.{IsSound-composed, world-composed}
 use Rattle.desk.proofs.desk.Desk.update_panels.Goals as goal
 
-pub returns-clause-world : goal.returns-clause-world
-returns-clause-world c =
-    rw (← c.self.view_is) (world-composed _ c.untouch.new.runs.items c.copy_from.new.self c.self.invariant
-    (c.untouch.ensures ∙ ap (λ n. replicate n None) (search (rules, c.self.invariant.run_each))) c.copy_from.ensures)
+pub returns : goal.returns
+returns c =
+    let d = c.self.inside in
+    let settings = c.settings-settings.result in
+    rw (← c.self.view_is) (
+      refl,
+      rw (c.from.ensures ∙ ap (λ size. size.0) c.size_of_screen-lines.ensures, c.from-2.ensures ∙ ap (λ size. size.1) c.size_of_screen-lines.ensures) refl,
+      world-composed d.windows c.refresh.new.self (record { picture = d.picture; cursor = d.cursor; clear = d.clear }) c.show_standard.new.picture settings _
+          c.self.invariant.windows c.refresh.ensures.refreshed c.show_standard.ensures.shown c.settings-settings.ensures.value refl,
+    )
+
+pub invariant_of-self : goal.invariant_of-self
+invariant_of-self c =
+    let d = c.self.inside in
+    let settings = c.settings-settings.result in
+    IsSound-composed d.windows c.refresh.new.self (record { picture = d.picture; cursor = d.cursor; clear = d.clear }) c.show_standard.new.picture settings _
+    c.self.invariant.windows c.refresh.ensures.refreshed c.show_standard.ensures.shown c.settings-settings.ensures.value refl
+    c.self.invariant c.refresh.ensures.sound c.show_standard.ensures.cells

@@ -1,0 +1,196 @@
+-- The picture of the standard screen goes into the virtual screen line by line.
+use Rattle.std.proofs.Common.{◌≡◌, ℕ, ◌+◌, ◌-◌, ◌<◌, ◌≤◌, Bool, true, false, ◌==◌, ◌||◌, ◌&&◌, nat_le, nat_lt, if◌then◌else◌, Option, Some, None, List, [], ◌∷◌, length, map, get_or, inl, inr, refl, sym, ap, ◌∙◌, subst, arith, zero-add}
+use Rattle.std.specs.Prelude.{IsSomeAnd, MatchOption, ⊤, unwrap_or}
+use Rattle.std.specs.List.{AllByRecursion, range_with_len}
+use Rattle.std.specs.Option.{option_map, option_map_or}
+use mathlib.Core.Path.{fun_ext}
+use Rattle.std.proofs.lemmas.Bool.{cases_eq, eq-eqb, ne_eqb, le-leb, lt-ltb}
+use Rattle.std.proofs.lemmas.List.Elements.{recursion_from_All}
+use Rattle.std.proofs.lemmas.List.FromFn.{length-map-range_with_len, get_or-map-range_with_len}
+use Rattle.cell.specs.Glyphs.{Glyph, IsCell, blank}
+use Rattle.cell.specs.Pictures.{Picture, HasSize, AreCells, origin, picture_of, shown_at}
+use Rattle.cell.specs.Windows.{Window, WindowMap, Windows, HasPlace, cell_at, cell_in_grid, cell_of, changed}
+use Rattle.cell.specs.Panels.{no_panels, standard_screen, place_of, screen_place, cursor_from}
+use Rattle.cell.specs.World.{World, VirtualScreen, picture, topmost_cursor}
+use Rattle.cell.specs.Sound.{AreSoundWindows, HasCells, IsSound, IsSoundWindow, IsStandardScreen}
+use Rattle.cell.specs.Rows.{line_shown}
+use Rattle.cell.specs.Refresh.{refreshed, with_refreshed, asks_for_clear, after_update_panels}
+use Rattle.cell.specs.declared.window.Settings.{Settings}
+use Rattle.grids.specs.Tables.{Table as WindowTable, windows}
+use Rattle.desk.specs.Tables.{world}
+use Rattle.desk.proofs.DeskLemmas.{desk_of}
+use Rattle.cell.proofs.OneCell.{own-own_grid}
+use Rattle.cell.proofs.PictureLemmas.{HasSize-picture_of, same_pictures, shown_at-picture_of}
+
+-- ---- the standard screen
+
+standard-line : (windows : Windows) (o : Option Window) (shown : ℕ → Glyph) → IsSomeAnd o (IsStandardScreen windows)
+    → option_map_or (λ a. map shown (range_with_len 0 a.columns)) o [] ≡ map shown (range_with_len 0 windows.columns)
+standard-line windows None shown h = elim h [ ]
+standard-line windows (Some a) shown h = ap (λ n. map shown (range_with_len 0 n)) h.columns
+
+pub standard-shown : (windows : Windows) (y : ℕ) → AreSoundWindows windows → line_shown windows.window standard_screen y ≡ map (cell_at windows.window standard_screen y) (range_with_len 0 windows.columns)
+standard-shown windows y h = standard-line windows (windows.window standard_screen) (cell_at windows.window standard_screen y) h.standard
+
+has-line : (windows : Windows) (o : Option Window) (y : ℕ) → IsSomeAnd o (IsStandardScreen windows) → y < windows.lines → 0 < windows.columns
+    → IsSomeAnd o (λ a. (y < a.lines) × (0 < a.columns))
+has-line windows None y h below wide = elim h [ ]
+has-line windows (Some a) y h below wide = (rw h.lines below, rw h.columns wide)
+
+pub standard-has : (windows : Windows) (y : ℕ) → AreSoundWindows windows → y < windows.lines → HasPlace windows.window standard_screen y 0
+standard-has windows y h below = has-line windows (windows.window standard_screen) y h.standard below h.has_column
+
+-- ---- its cells
+
+standard-cell : (windows : Windows) (o : Option Window) → windows.window standard_screen ≡ o → IsSomeAnd o (IsStandardScreen windows) → MatchOption o ⊤ (IsSoundWindow windows standard_screen)
+    → (y x : ℕ) → y < windows.lines → x < windows.columns → IsCell (cell_at windows.window standard_screen y x)
+standard-cell windows None is standard sound y x below left = elim standard [ ]
+standard-cell windows (Some a) is standard sound y x below left =
+    let leads = own-own_grid windows.window standard_screen a standard.cells y x is standard.grid in
+    let cells = subst (HasCells windows.window a) standard.grid sound.cells in
+    let glyph : cell_at windows.window standard_screen y x ≡ standard.cells y x =
+    ap (cell_in_grid windows.window) leads ∙ ap (λ o. option_map_or (λ b. cell_of b.source y x) o blank) is ∙ ap (λ source. cell_of source y x) standard.grid in
+    subst IsCell (sym glyph) (cells y x (rw standard.lines below) (rw standard.columns left))
+
+pub length-shown : (windows : Windows) (y : ℕ) → AreSoundWindows windows → length (line_shown windows.window standard_screen y) ≡ windows.columns
+length-shown windows y h = ap length (standard-shown windows y h) ∙ length-map-range_with_len (cell_at windows.window standard_screen y) 0 windows.columns
+
+shown-column : (windows : Windows) (y x : ℕ) (d : Glyph) → AreSoundWindows windows → x < windows.columns → get_or (line_shown windows.window standard_screen y) x d ≡ cell_at windows.window standard_screen y x
+shown-column windows y x d h left =
+    ap (λ row. get_or row x d) (standard-shown windows y h) ∙ get_or-map-range_with_len (cell_at windows.window standard_screen y) 0 windows.columns x x d left (zero-add x)
+
+pub cells-shown : (windows : Windows) (y : ℕ) → AreSoundWindows windows → y < windows.lines → AllByRecursion IsCell (line_shown windows.window standard_screen y)
+cells-shown windows y h below =
+    let wide = length-shown windows y h in
+    recursion_from_All IsCell (line_shown windows.window standard_screen y) (λ x d inside.
+    let left : x < windows.columns = omega arith in
+    subst IsCell (sym (shown-column windows y x d h left)) (standard-cell windows (windows.window standard_screen) refl h.standard (h.each standard_screen) y x below left))
+
+-- ---- line by line
+
+-- the lines before y are the standard screen's
+pub record ShownAbove (windows : Windows) (y : ℕ) (picture : Picture) : Type 0 where
+  pub size : HasSize windows.lines windows.columns picture
+  pub shown : (v u : ℕ) → v < y → u < windows.columns → shown_at picture (v, u) ≡ cell_at windows.window standard_screen v u
+
+inside-piece : (line left right : Bool) (one other : Glyph) → line ≡ true → left ≡ true → right ≡ true → (if line && (left && right) then one else other) ≡ one
+inside-piece line left right one other l c r = rw (l, c, r) refl
+
+outside-line : (line rest : Bool) (one other : Glyph) → line ≡ false → (if line && rest then one else other) ≡ other
+outside-line line rest one other l = rw l refl
+
+pub shown-next : (windows : Windows) (y : ℕ) (picture now : Picture) (row : List Glyph) → AreSoundWindows windows → ShownAbove windows y picture → row ≡ line_shown windows.window standard_screen y
+    → ((v u : ℕ) → shown_at now (v, u) ≡ (if (v == y) && (nat_le 0 u && nat_lt u (0 + length row)) then get_or row (u - 0) blank else shown_at picture (v, u)))
+    → ((lines columns : ℕ) → HasSize lines columns picture → HasSize lines columns now) → ShownAbove windows (y + 1) now
+shown-next windows y picture now row h so_far row_is shown size = record {
+  size = size windows.lines windows.columns so_far.size;
+  shown = λ v u before left. elim (cases_eq v y) [
+    | inl same ↦
+        let wide : length row ≡ windows.columns = ap length row_is ∙ length-shown windows y h in
+        let within : u < 0 + length row = omega arith in
+        let from : 0 ≤ u = omega arith in
+        let at : u - 0 ≡ u = omega arith in
+        shown v u ∙ inside-piece (v == y) (nat_le 0 u) (nat_lt u (0 + length row)) (get_or row (u - 0) blank) (shown_at picture (v, u)) (eq-eqb v y same) (le-leb 0 u from) (lt-ltb u (0 + length row) within)
+        ∙ ap (λ k. get_or row k blank) at ∙ ap (λ r. get_or r u blank) row_is ∙ shown-column windows y u blank h left ∙ ap (λ k. cell_at windows.window standard_screen k u) (sym same)
+    | inr other ↦
+        shown v u ∙ outside-line (v == y) (nat_le 0 u && nat_lt u (0 + length row)) (get_or row (u - 0) blank) (shown_at picture (v, u)) (ne_eqb v y other)
+        ∙ so_far.shown v u (omega arith) left
+  ];
+}
+
+pub shown-all : (windows : Windows) (y : ℕ) (picture : Picture) → AreSoundWindows windows → windows.lines ≤ y → ShownAbove windows y picture
+    → picture ≡ picture_of windows.lines windows.columns (cell_at windows.window standard_screen)
+shown-all windows y picture h all so_far =
+    same_pictures so_far.size (HasSize-picture_of windows.lines windows.columns (cell_at windows.window standard_screen)) (λ v u below left.
+    so_far.shown v u (omega arith) left ∙ sym (shown_at-picture_of windows.lines windows.columns (cell_at windows.window standard_screen) v u below left))
+
+-- ---- update_panels
+
+standard-place : (windows : Windows) (o : Option Window) → IsSomeAnd o (IsStandardScreen windows) → option_map_or screen_place o origin ≡ origin
+standard-place windows None h = elim h [ ]
+standard-place windows (Some a) h = ap (λ p. unwrap_or p origin) h.place
+
+place-standard : (windows : Windows) → AreSoundWindows windows → place_of windows.window standard_screen ≡ origin
+place-standard windows h = standard-place windows (windows.window standard_screen) h.standard
+
+-- without panels the picture is the standard screen's
+pub picture-standard : (world : World) → AreSoundWindows world.windows → world.panels ≡ no_panels → (y x : ℕ) → picture world y x ≡ cell_at world.windows.window standard_screen y x
+picture-standard world h none y x =
+    let v : y - 0 ≡ y = omega arith in
+    let u : x - 0 ≡ x = omega arith in
+    rw (none, place-standard world.windows h, v, u) refl
+
+or_nothing : (b : Bool) → (b || false) ≡ b
+or_nothing true = refl
+or_nothing false = refl
+
+refreshed-standard : (window : WindowMap) (u : ℕ) → changed window standard_screen refreshed u ≡ with_refreshed window (standard_screen ∷ []) u
+refreshed-standard window u = elim (cases_eq u 0) [
+  | inl same ↦ subst (λ k. changed window standard_screen refreshed k ≡ with_refreshed window (standard_screen ∷ []) k) (sym same) refl
+  | inr other ↦ let e = ne_eqb u 0 other in let f = ne_eqb 0 u (λ same. other (sym same)) in rw (e, f) refl
+]
+
+cursor-there : (o : Option Window) (settings : Settings) → option_map (λ a. a.settings) o ≡ Some settings → option_map_or (cursor_from origin) o origin ≡ settings.cursor
+cursor-there None settings h = cc
+cursor-there (Some a) settings h =
+    let same : a.settings ≡ settings = cc in
+    (λ i. (zero-add a.settings.cursor.0 i, zero-add a.settings.cursor.1 i)) ∙ ap (λ s. s.cursor) same
+
+clear-there : (o : Option Window) (settings : Settings) → option_map (λ a. a.settings) o ≡ Some settings → (option_map_or (λ a. a.settings.clear) o false || false) ≡ settings.clear
+clear-there None settings h = cc
+clear-there (Some a) settings h = let same : a.settings ≡ settings = cc in or_nothing a.settings.clear ∙ ap (λ s. s.clear) same
+
+module _ (old new : WindowTable) (virtual : VirtualScreen) (shown : Picture) (settings : Settings) (clear : Bool)
+    (h : AreSoundWindows (windows old))
+    (windows_are : windows new ≡ record (windows old) { window = changed (windows old).window standard_screen refreshed })
+    (shown_is : shown ≡ picture_of old.lines old.columns (cell_at (windows old).window standard_screen))
+    (settings_are : option_map (λ a. a.settings) ((windows old).window standard_screen) ≡ Some settings)
+    (clear_is : clear ≡ (virtual.clear || settings.clear)) where
+  before : World
+  before = world (desk_of old virtual)
+
+  picture-is : shown ≡ picture_of old.lines old.columns (picture before)
+  unfolding before
+  picture-is = shown_is ∙ ap (picture_of old.lines old.columns) (sym (fun_ext (λ y. fun_ext (λ x. picture-standard (world (desk_of old virtual)) h refl y x))))
+
+  cursor-is : settings.cursor ≡ topmost_cursor before
+  unfolding before
+  cursor-is =
+      sym (ap (λ p. option_map_or (cursor_from p) ((windows old).window standard_screen) origin) (place-standard (windows old) h)
+      ∙ cursor-there ((windows old).window standard_screen) settings settings_are)
+
+  clear-is : clear ≡ (virtual.clear || (asks_for_clear (windows old).window standard_screen || false))
+  clear-is = clear_is ∙ ap (λ b. virtual.clear || b) (sym (clear-there ((windows old).window standard_screen) settings settings_are))
+
+  pub world-composed : world (desk_of new (record { picture = shown; cursor = settings.cursor; clear = clear })) ≡ after_update_panels (world (desk_of old virtual))
+  unfolding before
+  world-composed =
+      (λ i. record { windows = windows_are i; panels = no_panels; virtual = record { picture = picture-is i; cursor = cursor-is i; clear = clear-is i } })
+      ∙ (λ i. record (after_update_panels (world (desk_of old virtual))) {
+        windows = record (windows old) { window = fun_ext (refreshed-standard (windows old).window) i };
+      })
+
+  settings-within : (o : Option Window) → o ≡ (windows old).window standard_screen → option_map (λ a. a.settings) o ≡ Some settings → IsSomeAnd o (IsStandardScreen (windows old))
+      → MatchOption o ⊤ (IsSoundWindow (windows old) standard_screen) → (settings.cursor.0 < old.lines) × (settings.cursor.1 < old.columns)
+  settings-within None is e standard each = cc
+  settings-within (Some a) is e standard each =
+      let same : a.settings ≡ settings = cc in
+      let line : a.settings.cursor.0 < a.lines = each.settings.cursor_line in
+      let column : a.settings.cursor.1 < a.columns = each.settings.cursor_column in
+      (rw (← same, ← standard.lines) line, rw (← same, ← standard.columns) column)
+
+  pub IsSound-composed : IsSound (world (desk_of old virtual)) → AreSoundWindows (windows new) → AreCells shown → IsSound (world (desk_of new (record { picture = shown; cursor = settings.cursor; clear = clear })))
+  IsSound-composed sound sound_new cells =
+      let cursor = settings-within ((windows old).window standard_screen) refl settings_are h.standard (h.each standard_screen) in
+      let lines : new.lines ≡ old.lines = ap (λ w. w.lines) windows_are in
+      let columns : new.columns ≡ old.columns = ap (λ w. w.columns) windows_are in
+      record {
+        windows = sound_new;
+        panels = record { once = sound.panels.once; visible = sound.panels.visible; each = λ p. tt };
+        virtual = record {
+          size = rw (lines, columns, shown_is) (HasSize-picture_of old.lines old.columns (cell_at (windows old).window standard_screen));
+          cells = cells;
+          line = rw lines cursor.0;
+          column = rw columns cursor.1;
+        };
+      }

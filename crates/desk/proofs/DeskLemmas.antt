@@ -1,0 +1,70 @@
+-- What a desk keeps, and the world that it stands for, call by call.
+use Rattle.std.proofs.Common.{◌≡◌, Bool, true, false, ◌⊎◌, Some, None, Result, Ok, Err, inl, inr, refl, sym, ap, ◌∙◌}
+use Rattle.std.specs.Prelude.{IfOk, OnErr, OnOk}
+use Rattle.std.specs.Result.{result_err}
+use Rattle.cell.specs.Refusals.{RefusedBy}
+use Rattle.cell.specs.Panels.{no_panels}
+use Rattle.cell.specs.World.{VirtualScreen}
+use Rattle.cell.specs.Sound.{AreSoundWindows, IsSound}
+use Rattle.cell.specs.declared.refusal.Refusal.{Refusal}
+use Rattle.cell.specs.declared.refusal.Refusal.TheVariants.{NoMemory}
+use Rattle.grids.specs.Tables.{Table as WindowTable, windows}
+use Rattle.desk.specs.Tables.{Table, world}
+use Rattle.desk.specs.Calls.{after_making, after_writing, makes_window, making_refusal, making_reply}
+use Rattle.desk.specs.Runs.{Called, MayRefuse}
+use Rattle.desk.specs.declared.call.Call.{Call}
+use Rattle.desk.specs.declared.call.Call.TheVariants as calls
+use Rattle.desk.specs.declared.call.Making.{Making}
+use Rattle.desk.specs.declared.call.Writing.{Writing}
+use Rattle.desk.specs.declared.call.Reply.{Reply}
+use Rattle.desk.proofs.Sizes.{SameSize, size-call, size-making, size-writing}
+
+-- a desk of these windows and this virtual screen
+abbrev pub desk_of : WindowTable → VirtualScreen → Table
+desk_of w virtual = record { lines = w.lines; columns = w.columns; slots = w.slots; virtual = virtual }
+
+module _ (old new : WindowTable) (virtual : VirtualScreen) where
+  pub IsSound-desk : IsSound (world (desk_of old virtual)) → AreSoundWindows (windows new) → SameSize (windows new) (windows old) → IsSound (world (desk_of new virtual))
+  IsSound-desk h sound size = record {
+    windows = sound;
+    panels = record { once = h.panels.once; visible = h.panels.visible; each = λ p. tt };
+    virtual = rw (size.lines, size.columns) h.virtual;
+  }
+
+  -- ---- making
+
+  pub size-made : (making : Making) (r : Result Reply Refusal) → OnOk r (windows new ≡ after_making (windows old) making) → OnErr r (new ≡ old) → SameSize (windows new) (windows old)
+  size-made making (Ok reply) made unchanged =
+      let size = size-making (windows old) making in
+      record { lines = ap (λ ws. ws.lines) made ∙ size.lines; columns = ap (λ ws. ws.columns) made ∙ size.columns }
+  size-made making (Err e) made unchanged = record { lines = ap (λ u. u.lines) unchanged; columns = ap (λ u. u.columns) unchanged }
+
+  may-refuse : (making : Making) (e : Refusal) (takes : Bool) → takes ≡ makes_window making
+      → (making_refusal (windows old) making ≡ Some e) ⊎ ((making_refusal (windows old) making ≡ None) × (e ≡ NoMemory))
+      → (takes ≡ false → Some e ≡ making_refusal (windows old) making) → MayRefuse (world (desk_of old virtual)) (calls.Making making) e
+  may-refuse making e true is (inl h) exact = inl h
+  may-refuse making e true is (inr h) exact = inr (h.0, sym is, h.1)
+  may-refuse making e false is h exact = inl (sym (exact refl))
+
+  pub made-called : (making : Making) (r : Result Reply Refusal) → RefusedBy (making_refusal (windows old) making) r
+      → (makes_window making ≡ false → result_err r ≡ making_refusal (windows old) making) → IfOk r (λ reply. reply ≡ making_reply (windows old) making)
+      → OnOk r (windows new ≡ after_making (windows old) making) → OnErr r (new ≡ old) → Called (desk_of old virtual) (calls.Making making) r (desk_of new virtual)
+  made-called making (Ok reply) refused exact answers made unchanged =
+      (refused, answers, λ i. record { windows = made i; panels = no_panels; virtual = virtual })
+  made-called making (Err e) refused exact answers made unchanged =
+      (may-refuse making e (makes_window making) refl refused exact, ap (λ w. desk_of w virtual) unchanged)
+
+  -- ---- writing
+
+  pub size-written : (writing : Writing) (r : Result Reply Refusal) → OnOk r (windows new ≡ after_writing (windows old) writing) → OnErr r (new ≡ old) → SameSize (windows new) (windows old)
+  size-written writing (Ok reply) written unchanged =
+      let size = size-writing (windows old) writing in
+      record { lines = ap (λ ws. ws.lines) written ∙ size.lines; columns = ap (λ ws. ws.columns) written ∙ size.columns }
+  size-written writing (Err e) written unchanged = record { lines = ap (λ u. u.lines) unchanged; columns = ap (λ u. u.columns) unchanged }
+
+-- no call changes the size of a desk
+pub size-called : (old new : Table) (call : Call) (r : Result Reply Refusal) → Called old call r new → (new.lines ≡ old.lines) × (new.columns ≡ old.columns)
+size-called old new call (Ok reply) h =
+    let size = size-call (world old) call in
+    (ap (λ w. w.windows.lines) h.2 ∙ size.lines, ap (λ w. w.windows.columns) h.2 ∙ size.columns)
+size-called old new call (Err e) h = (ap (λ t. t.lines) h.1, ap (λ t. t.columns) h.1)
