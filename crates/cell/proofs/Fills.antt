@@ -7,7 +7,7 @@ use Rattle.std.proofs.lemmas.List.{get_or_past}
 use Rattle.std.proofs.lemmas.Bool.{cases_lt}
 use Rattle.cell.specs.Glyphs.{Glyph}
 use Rattle.cell.specs.Pictures.{Picture, line_of, shown_at, with_shown}
-use Rattle.cell.proofs.OneCell.{shown-here, shown-elsewhere}
+use Rattle.cell.proofs.PictureLemmas.{shown-here, shown-elsewhere}
 
 taken : (v u y start x : ℕ) → v ≡ y → u ≡ x → start ≤ x → ((v == y) && (nat_le start u && nat_lt u (x + 1))) ≡ true
 taken v u y start x line column ordered = grind (arith, nat_tests)

@@ -1,7 +1,8 @@
 -- Pictures of a known size: what each line has, what a change of one cell keeps, and when two are equal.
-use Rattle.std.proofs.Common.{◌≡◌, ℕ, ◌<◌, ◌∙◌, List, [], ◌∷◌, length, map, replicate, get_or, set, sym, ap, refl, zero, suc, arith, zero-add, lit≤, lit<}
+use Rattle.std.proofs.Common.{◌≡◌, ℕ, ◌<◌, ◌∙◌, List, [], ◌∷◌, length, map, replicate, get_or, set, sym, ap, refl, zero, suc, arith, zero-add, lit≤, lit<, inl, inr, subst}
 use Rattle.std.specs.List.{AllByRecursion, range_with_len}
-use Rattle.std.proofs.lemmas.List.{length-set, length-replicate, ext_get_or}
+use Rattle.std.proofs.lemmas.Bool.{cases_eq}
+use Rattle.std.proofs.lemmas.List.{length-set, length-replicate, ext_get_or, get_or-set_same, get_or-set_other}
 use Rattle.std.proofs.lemmas.List.Elements.{All-from_recursion, recursion_from_All, All-get_or, All-map, All-replicate, All-set}
 use Rattle.std.proofs.lemmas.List.FromFn.{length-map-range_with_len, get_or-map-range_with_len}
 use Rattle.cell.specs.Glyphs.{IsCell}
@@ -101,3 +102,20 @@ same_size {lines} {columns} {one} {other} size other_size =
     let height = size.height ∙ sym other_size.height in
     let width = first_width lines columns one other size other_size in
     λ i. (height i, width i)
+
+-- one other cell
+
+module _ (picture : Picture) (y x : ℕ) (glyph : Shown) (in_lines : y < length picture) (in_columns : x < length (line_of picture y)) where
+  line_now : line_of (with_shown picture (y, x) glyph) y ≡ set (line_of picture y) x glyph
+  line_now = get_or-set_same picture y (set (line_of picture y) x glyph) [] in_lines
+
+  pub shown-here : shown_at (with_shown picture (y, x) glyph) (y, x) ≡ glyph
+  shown-here = ap (λ (l : List Shown). get_or l x shown_blank) line_now ∙ get_or-set_same (line_of picture y) x glyph shown_blank in_columns
+
+  pub shown-elsewhere : (v u : ℕ) → ((v ≡ y) → (u ≡ x) → ⊥) → shown_at (with_shown picture (y, x) glyph) (v, u) ≡ shown_at picture (v, u)
+  shown-elsewhere v u h = elim (cases_eq v y) [
+    | inl same ↦
+        subst (λ k. shown_at (with_shown picture (y, x) glyph) (k, u) ≡ shown_at picture (k, u)) (sym same)
+        (ap (λ (l : List Shown). get_or l u shown_blank) line_now ∙ get_or-set_other (line_of picture y) x u glyph shown_blank (h same))
+    | inr other ↦ ap (λ (l : List Shown). get_or l u shown_blank) (get_or-set_other picture y v (set (line_of picture y) x glyph) [] other)
+  ]

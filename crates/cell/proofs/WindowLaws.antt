@@ -297,3 +297,14 @@ module _ (window : WindowMap) (w : ℕ) (f : Drawing) (u v z : ℕ)
 
   pub put-keeps : cell_at (put_windows window w f) u v z ≡ cell_at window u v z
   put-keeps = ap (cell_in_grid (put_windows window w f)) (own-put window w f u v z) ∙ kept-from (window w) (own window w 0 0) (own window u v z) refl refl refl
+
+-- the places of a window with a grid of its own lead to the grid's
+own_within-own_grid : (limit : ℕ) → 0 < limit → (window : WindowMap) (w : ℕ) (a : Window) (cells : ℕ → ℕ → Glyph) (y x : ℕ) → window w ≡ Some a → a.source ≡ own_grid cells
+    → own_within limit window w y x ≡ Some (record { grid = w; line = y; column = x })
+own_within-own_grid zero h window w a cells y x e is = absurd (omega arith)
+own_within-own_grid (suc n) h window w a cells y x e is = rw (e, is) refl
+
+pub own-own_grid : (window : WindowMap) (w : ℕ) (a : Window) (cells : ℕ → ℕ → Glyph) (y x : ℕ) → window w ≡ Some a → a.source ≡ own_grid cells
+    → own window w y x ≡ Some (record { grid = w; line = y; column = x })
+unfolding window_limit
+own-own_grid window w a cells y x e is = own_within-own_grid window_limit (omega arith) window w a cells y x e is

@@ -19,7 +19,7 @@ use Rattle.cell.specs.declared.window.Settings.{Settings}
 use Rattle.grids.specs.Tables.{Table as WindowTable, windows}
 use Rattle.desk.specs.Tables.{world}
 use Rattle.desk.proofs.DeskLemmas.{desk_of}
-use Rattle.cell.proofs.OneCell.{own-own_grid}
+use Rattle.cell.proofs.WindowLaws.{own-own_grid}
 use Rattle.cell.proofs.PictureLemmas.{HasSize-picture_of, same_pictures, shown_at-picture_of}
 
 -- ---- the standard screen
