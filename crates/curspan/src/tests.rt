@@ -169,7 +169,7 @@ fn goes_on_after_a_refused_call(rt: HostRuntime) -> Result<(), Fail> {
 
 #[test]
 fn names_the_first_fault_of_a_text(rt: HostRuntime) -> Result<(), Fail> {
-    let cases: [(&[u8], &[u8]); 20] = [
+    let cases: [(&[u8], &[u8]); 23] = [
         (b"fly 0", b"line 1: unknown call\n"),
         (b" doupdate", b"line 1: unknown call\n"),
         (b"Doupdate\n", b"line 1: unknown call\n"),
@@ -185,7 +185,10 @@ fn names_the_first_fault_of_a_text(rt: HostRuntime) -> Result<(), Fail> {
         (b"addstr 000000 a", b"line 1: bad argument\n"),
         (b"addstr -1 a", b"line 1: bad argument\n"),
         (b"addstr x a", b"line 1: bad argument\n"),
-        (b"addstr 0 a\\n", b"line 1: bad argument\n"),
+        (b"addstr 0 a\\t", b"line 1: bad argument\n"),
+        (b"addch 0", b"line 1: wrong number of arguments\n"),
+        (b"addch 0 ab", b"line 1: bad argument\n"),
+        (b"move 0 07 0", b"line 1: bad argument\n"),
         (b"\n\naddstr 0 a\r\n", b"line 3: bad byte\n"),
         (b"# a\tb\n", b"line 1: bad byte\n"),
         (b"#\x7f\n", b"line 1: bad byte\n"),

@@ -196,33 +196,21 @@ fn attributes_and_background_are_written(rt: HostRuntime) -> Result<(), Fail> {
         addstr(0, b"a b"),
         Call::Writing(Writing::Clrtoeol(win)),
         UPDATE[0],
+        UPDATE[1],
         Call::Writing(Writing::Move(win, 0, 1)),
     ];
-    let end = screen.run(&calls);
-    assert_eq!(rt; end.done, 6);
-    let row = screen.desk().virtual_row(0);
-    let text = [
-        row[0].ch(),
-        row[1].ch(),
-        row[2].ch(),
-        row[3].ch(),
-        row[5].ch(),
-    ];
-    assert_eq!(rt; text, [b'a', b'.', b'b', b'.', b'.']);
-    assert_eq!(rt; [row[0].attr().bits(), row[3].attr().bits()], [0x05, 0x04]);
+    assert_eq!(rt; screen.run(&calls).done, 7);
+    assert_eq!(rt;
+        screen.writer().get_ref().as_slice(),
+        b"\x1b[0m\x1b[2J\x1b[1;1H\x1b[1;1H\x1b[0;1;4ma.b\x1b[0;4m...\x1b[0m\x1b[1;4H".as_slice()
+    );
     let dot = Cell::new(b'.', Attr::BOLD | Attr::UNDERLINE).ok_or("no cell")?;
-    assert_eq!(rt;
-        screen.call(&Call::Query(Query::Inch(win))),
-        Ok(Reply::Cell(dot))
-    );
-    assert_eq!(rt;
-        screen.call(&Call::Query(Query::Getyx(win))),
-        Ok(Reply::Pair(0, 1))
-    );
-    assert_eq!(rt;
-        screen.call(&Call::Query(Query::Getmaxyx(win))),
-        Ok(Reply::Pair(1, 6))
-    );
+    let inch = Call::Query(Query::Inch(win));
+    assert_eq!(rt; screen.call(&inch), Ok(Reply::Cell(dot)));
+    let getyx = Call::Query(Query::Getyx(win));
+    assert_eq!(rt; screen.call(&getyx), Ok(Reply::Pair(0, 1)));
+    let getmaxyx = Call::Query(Query::Getmaxyx(win));
+    assert_eq!(rt; screen.call(&getmaxyx), Ok(Reply::Pair(1, 6)));
     Ok(())
 }
 
