@@ -1,7 +1,7 @@
 //! Does what the command line asks for, over any reader and writers.
 
-ghost use Rattle.std.specs.Prelude.{◌≡◌, ◌<◌, ◌≤◌, true, if◌then◌else◌};
-ghost use Rattle.std.specs.Io.KnownBytes.{Appends};
+ghost use Rattle.std.specs.Prelude.{◌≡◌, ◌≢◌, ◌<◌, ◌≤◌, true, if◌then◌else◌};
+ghost use Rattle.std.specs.Io.KnownBytes.{Appends, IsAtEnd};
 ghost use Rattle.paint.specs.Sinks.{next_count};
 ghost use Rattle.curspan.specs.Statuses.{status_of};
 
@@ -54,6 +54,7 @@ pub fn no_memory<L: Sink>(log: &mut L) -> u8
 /// Prints help on the output and a usage fault on the log, and answers the status.
 fn usage<O: Sink, L: Sink>(alloc: Global, error: &Error, out: &mut O, log: &mut L) -> u8
     ensures status { result ≤ 4 }
+    ensures no_call { result ≢ 1 }
     ensures log { result < 2 → log.new ≡ log.old }
 {
     if error.kind() == ErrorKind::OutOfMemory {
@@ -112,6 +113,7 @@ fn run<R: Source, O: Sink, L: Sink>(
     log: &mut L,
 ) -> u8
     ensures status { result ≤ 4 }
+    ensures end { result < 2 → IsAtEnd (R.seen input.new).left }
     ensures reads { result < 3 → (R.seen input.new).failures ≡ (R.seen input.old).failures }
     ensures log { result < 2 → (L.seen log.new).failures ≡ (L.seen log.old).failures }
 {
@@ -130,7 +132,7 @@ fn run<R: Source, O: Sink, L: Sink>(
 }
 
 /// Does what the words ask for, and answers the status. The first word is the program's name. A status below 3 tells
-/// that no read failed, one below 2 that no write or flush of the log did.
+/// that no read failed, one below 2 that no write or flush of the log did, and 1 that the script was read to its end.
 pub fn serve<S: AsStr, R: Source, O: Sink, L: Sink>(
     alloc: Global,
     words: &[S],
@@ -139,6 +141,7 @@ pub fn serve<S: AsStr, R: Source, O: Sink, L: Sink>(
     log: &mut L,
 ) -> u8
     ensures status { result ≤ 4 }
+    ensures end { result ≡ 1 → IsAtEnd (R.seen input.new).left }
     ensures reads { result < 3 → (R.seen input.new).failures ≡ (R.seen input.old).failures }
     ensures log { result < 2 → (L.seen log.new).failures ≡ (L.seen log.old).failures }
 {
