@@ -7,3 +7,4 @@ pub mod Typing
 pub mod Texts
 pub mod OptionLemmas
 pub mod Scrolls
+pub mod Examples
