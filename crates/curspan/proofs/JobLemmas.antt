@@ -1,34 +1,35 @@
--- What clap's matches say of a subcommand.
-use Rattle.std.proofs.Common.{◌≡◌, ℕ, List, Option, None, Some, Ok, Err, Result, option_map, true, refl, sym, subst, ap₂, ◌∙◌}
-use Rattle.std.specs.Prelude.{Box, MatchOption}
+-- What clap says of this program's command line, and of the number of an option.
+use Rattle.std.proofs.Common.{◌≡◌, ℕ, List, [], Option, None, Some, Ok, Err, Result, true, refl, sym, ap, subst, ◌∙◌}
+use Rattle.std.specs.Prelude.{MatchOption}
 use Rattle.std.specs.Str.Parse.{ParsesUnsigned}
-use Rattle.std.specs.Box.{box_value}
-use Rattle.clap.specs.Words.{Row, Text, is_simple, one_of, one_text, rows_of, subcommand_name_of, subcommand_rows_of}
+use Rattle.clap.specs.Words.{App, HasKind, HasMatchesOf, Row, Text, fault_of, is_simple, is_simple_and_free, one_of, one_text, rows_of, subcommand_of, subcommand_rows_of}
 use Rattle.clap.specs.Matches.{ReadsOne}
-use Rattle.clap.specs.declared.parser.matches.Found.{Found}
-use Rattle.clap.proofs.WalkLemmas.{one_text-rows}
-use Rattle.clap.specs.Simple.{subcommand_rows}
+use Rattle.clap.specs.declared.error.Error.{Error}
 use Rattle.clap.specs.declared.parser.matches.ArgMatches.{ArgMatches}
-use Rattle.clap.specs.declared.parser.matches.SubCommand.{SubCommand}
-use Rattle.clap.specs.declared.parser.matches.ArgMatches.TheViews.{out-ArgMatches, out-SubCommand}
+use Rattle.clap.specs.declared.parser.matches.Found.{Found}
 use Rattle.clap.proofs.OnLiterals.{clap_on_literals}
+use Rattle.clap.proofs.WalkLemmas.{one_text-rows}
 use Rattle.curspan.specs.CommandLine.{IsNumber, ReadsNone, ReadsNumber, curspan}
 
-pub curspan_is_simple : is_simple curspan ≡ true
+curspan_is_simple : is_simple curspan ≡ true
 unfolding clap_on_literals
 curspan_is_simple = refl
 
-pair_of : (p : Text × List Row) (n : Text) (r : List Row) → Some p.0 ≡ Some n → Some p.1 ≡ Some r → Some p ≡ Some (n, r)
-pair_of p n r h k = let a : p.0 ≡ n = cc in let b : p.1 ≡ r = cc in ap₂ (λ (x : Text) (y : List Row). let z : Option (Text × List Row) = Some (x, y) in z) a b
+curspan_is_free : is_simple_and_free curspan ≡ true
+unfolding clap_on_literals
+curspan_is_free = refl
 
-rows_by_name : {Z : Type 0} (o : Option (Box SubCommand Z)) (n : Text) (r : List Row) → option_map (λ b. (out-SubCommand (box_value b)).name.now) o ≡ Some n
-    → option_map (λ p. p.1) (subcommand_rows o) ≡ Some r → subcommand_rows o ≡ Some (n, r)
-rows_by_name None n r h k = cc
-rows_by_name (Some b) n r h k = pair_of _ n r h k
+-- what clap says of its errors, of this program's command line
+pub kinds_of_curspan : (a : App) (words : List Text) (e : Error) → a ≡ curspan → (is_simple_and_free a ≡ true → HasKind (fault_of a words) e)
+    → HasKind (fault_of curspan words) e
+kinds_of_curspan a words e is kinds = subst (λ b. HasKind (fault_of b words) e) is (kinds (ap is_simple_and_free is ∙ curspan_is_free))
 
-pub named_rows : (m : ArgMatches) (n : Text) (r : List Row) → subcommand_name_of m ≡ Some n → option_map (λ p. p.1) (subcommand_rows (out-ArgMatches m).subcommand) ≡ Some r
-    → subcommand_rows_of m ≡ Some (n, r)
-named_rows m n r h k = rows_by_name (out-ArgMatches m).subcommand n r h k
+pub no_fault_of_curspan : (a : App) (words : List Text) → a ≡ curspan → (is_simple_and_free a ≡ true → fault_of a words ≡ []) → fault_of curspan words ≡ []
+no_fault_of_curspan a words is none = subst (λ b. fault_of b words ≡ []) is (none (ap is_simple_and_free is ∙ curspan_is_free))
+
+-- the subcommand of its matches
+pub subcommand_of_curspan : (a : App) (words : List Text) (m : ArgMatches) → a ≡ curspan → HasMatchesOf a words m → subcommand_rows_of m ≡ subcommand_of curspan words
+subcommand_of_curspan a words m is has = (has (ap is_simple is ∙ curspan_is_simple)).1 ∙ ap (λ b. subcommand_of b words) is
 
 module _ {E : Type 0} (gives : List ℕ → Result ℕ E → Type 0) (reads : (t : List ℕ) (r : Result ℕ E) → gives t r → ParsesUnsigned {E = E} 16 10 t r) where
   -- what was read of an option

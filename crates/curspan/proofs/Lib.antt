@@ -1,2 +1,5 @@
 pub mod JobLemmas
+pub mod KeptRows
 pub mod PutLemmas
+pub mod RunIsNamed
+pub mod TakenLemmas

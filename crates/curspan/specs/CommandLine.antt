@@ -1,7 +1,7 @@
 -- The command line, in the words of clap's definition of a simple command.
-use Rattle.std.specs.Prelude.{◌≡◌, ◌<◌, ◌^◌, ℕ, List, true, pos, codes, Some}
+use Rattle.std.specs.Prelude.{◌≡◌, ◌<◌, ◌≤◌, ◌^◌, ℕ, List, [], true, pos, codes, Option, Some}
 use Rattle.std.specs.Str.Parse.{IsNumeral, digits_value, without_leading_plus}
-use Rattle.clap.specs.Words.{App, Row, Rule, Text, new_app, new_rule, one_of, subcommand_of, with_rule, with_subcommand}
+use Rattle.clap.specs.Words.{App, Row, Rule, Text, fault_of, new_app, new_rule, one_of, subcommand_of, with_rule, with_subcommand}
 use Rattle.clap.specs.declared.builder.action.ArgAction.TheVariants.{Set}
 use Rattle.clap.specs.declared.builder.value_parser.ValueParser.TheVariants as parsers
 use Rattle.curspan.specs.declared.asked.Job.{Job}
@@ -38,6 +38,10 @@ kind_text Run = codes "run"
 abbrev pub IsNumber : Text → Type 0
 IsNumber text = IsNumeral 10 (without_leading_plus text) × (digits_value 10 (without_leading_plus text) < 2 ^ 16)
 
+-- a number of lines or columns that a screen may have
+abbrev pub IsSize : ℕ → Type 0
+IsSize n = (1 ≤ n) × (n ≤ 255)
+
 -- the number that `u16` reads from the text of an option
 pub record ReadsNumber (option : Text) (rows : List Row) (n : ℕ) : Type 0 where
   pub text : Text
@@ -49,9 +53,20 @@ pub record ReadsNumber (option : Text) (rows : List Row) (n : ℕ) : Type 0 wher
 abbrev pub ReadsNone : Text → List Row → Type 0
 ReadsNone option rows = (text : Text) → one_of option rows ≡ Some text → IsNumber text → ⊥
 
--- The words ask for this job: its kind is their subcommand's, and its numbers are those of that subcommand's options.
-pub record Asks (words : List Text) (job : Job) : Type 0 where
+-- A subcommand's name and rows ask for this job: its kind is the one of that name, and its numbers are those of its options.
+pub record AsksIn (subcommand : Option (Text × List Row)) (job : Job) : Type 0 where
   pub rows : List Row
-  pub subcommand : subcommand_of curspan words ≡ Some (kind_text job.kind, rows)
+  pub named : subcommand ≡ Some (kind_text job.kind, rows)
   pub lines : ReadsNumber (codes "lines") rows job.lines
   pub cols : ReadsNumber (codes "cols") rows job.cols
+
+-- clap finds no fault in the words
+abbrev pub IsTaken : List Text → Type 0
+IsTaken words = fault_of curspan words ≡ []
+
+-- The words ask for this job: they have no fault, their subcommand asks for it, and its numbers are from 1 to 255.
+pub record Asks (words : List Text) (job : Job) : Type 0 where
+  pub taken : IsTaken words
+  pub asked : AsksIn (subcommand_of curspan words) job
+  pub lines : IsSize job.lines
+  pub cols : IsSize job.cols

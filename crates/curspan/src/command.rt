@@ -1,10 +1,11 @@
 //! Reads the command line.
 
 ghost use Rattle.std.specs.Prelude.{◌≡◌, IfOk, MatchOption, false, map};
-ghost use Rattle.clap.specs.Words.{app_of, found_of, rows_of, rule_of};
+ghost use Rattle.clap.specs.Words.{FailsBy, app_of, fault_of, found_of, rows_of, rule_of, subcommand_rows_of};
 ghost use Rattle.clap.specs.declared.builder.command.Command.TheViews.{out-Command};
+ghost use Rattle.curspan.specs.declared.asked.Job.{Job};
 ghost use Rattle.curspan.specs.declared.asked.Kind.{Kind};
-ghost use Rattle.curspan.specs.CommandLine.{Asks, ReadsNone, ReadsNumber, curspan, kind_text, mode, size_rule};
+ghost use Rattle.curspan.specs.CommandLine.{Asks, AsksIn, ReadsNone, ReadsNumber, curspan, kind_text, mode, size_rule};
 
 use crate::asked::{Job, Kind};
 use clap::error::ErrorKind;
@@ -56,19 +57,29 @@ fn number(found: &ArgMatches<'_>, option: &str) -> Option<u16>
     found.get_one::<u16>(option)
 }
 
-/// What the words ask for. The first word is the program's name. An error is a usage fault, a demand for help, or want
-/// of memory.
+/// What the matches ask for, if they name a subcommand and give both numbers.
+fn job_of(matches: &ArgMatches<'_>) -> Option<Job>
+    ensures { MatchOption result ((job : Job) → AsksIn (subcommand_rows_of matches.now) job → ⊥) (λ job. AsksIn (subcommand_rows_of matches.now) job) }
+{
+    let (name, found) = matches.subcommand()?;
+    Some(Job {
+        kind: kind_of(name)?,
+        lines: number(found, "lines")?,
+        cols: number(found, "cols")?,
+    })
+}
+
+/// What the words ask for. The first word is the program's name. An error is want of memory, or has one of the kinds that
+/// clap's definition gives for the words, a usage fault or a demand for help; where it gives none, want of memory is the
+/// only error.
 pub fn job<S: AsStr>(alloc: Global, words: &[S]) -> Result<Job, Error>
-    ensures { IfOk result (λ job. Asks (map S.text words.now) job) }
+    ensures job { IfOk result (λ job. Asks (map S.text words.now) job) }
+    ensures faults { FailsBy (fault_of curspan (map S.text words.now)) result }
 {
     let mut command = command(alloc)?;
     let matches = command.try_get_matches_from_mut(words)?;
-    if let Some((name, found)) = matches.subcommand() {
-        let lines = number(found, "lines");
-        let cols = number(found, "cols");
-        if let (Some(kind), Some(lines), Some(cols)) = (kind_of(name), lines, cols) {
-            return Ok(Job { kind, lines, cols });
-        }
+    match job_of(&matches) {
+        Some(job) => Ok(job),
+        None => Err(command.error(ErrorKind::MissingSubcommand, "no subcommand")?),
     }
-    Err(command.error(ErrorKind::MissingSubcommand, "no subcommand")?)
 }

@@ -1,8 +1,11 @@
 //! Does what the command line asks for, over any reader and writers.
 
-ghost use Rattle.std.specs.Prelude.{◌≡◌, ◌≢◌, ◌<◌, ◌≤◌, true, if◌then◌else◌};
+ghost use Rattle.std.specs.Prelude.{◌≡◌, ◌≢◌, ◌<◌, ◌≤◌, true, map, if◌then◌else◌};
 ghost use Rattle.std.specs.Io.KnownBytes.{Appends, IsAtEnd};
 ghost use Rattle.paint.specs.Sinks.{next_count};
+ghost use Rattle.clap.specs.Words.{kind_of};
+ghost use Rattle.curspan.specs.CommandLine.{IsSize};
+ghost use Rattle.curspan.specs.Serving.{IsStatusOfKind, RunsJob, Serves};
 ghost use Rattle.curspan.specs.Statuses.{status_of};
 
 use crate::asked::{Job, Kind};
@@ -10,7 +13,7 @@ use crate::command::job;
 use arrayvec::ArrayString;
 use clap::Error;
 use clap::error::ErrorKind;
-use desk::{Refusal, Screen, ScriptEnd, ScriptFault, Sink, Source};
+use desk::{Screen, ScriptEnd, ScriptFault, Sink, Source};
 use paint::send;
 use std::alloc::Global;
 use std::convert::AsStr;
@@ -53,9 +56,10 @@ pub fn no_memory<L: Sink>(log: &mut L) -> u8
 
 /// Prints help on the output and a usage fault on the log, and answers the status.
 fn usage<O: Sink, L: Sink>(alloc: Global, error: &Error, out: &mut O, log: &mut L) -> u8
-    ensures status { result ≤ 4 }
-    ensures no_call { result ≢ 1 }
-    ensures log { result < 2 → log.new ≡ log.old }
+    ensures status { IsStatusOfKind (kind_of error.now) result }
+    ensures quiet { result ≡ 2 → out.new ≡ out.old }
+    ensures shown { result ≡ 0 → ((O.seen out.new).flushed ≡ true) × ((O.seen out.new).failures ≡ (O.seen out.old).failures) }
+    ensures log { result ≡ 0 → log.new ≡ log.old }
 {
     if error.kind() == ErrorKind::OutOfMemory {
         return no_memory(log);
@@ -105,21 +109,18 @@ fn status_of(end: ScriptEnd) -> u8
 }
 
 /// Runs a script and answers the status.
-fn run<R: Source, O: Sink, L: Sink>(
+fn run<'a, R: Source, O: Sink, L: Sink>(
     alloc: Global,
     job: Job,
     input: &mut R,
-    out: &mut O,
+    out: &'a mut O,
     log: &mut L,
 ) -> u8
-    ensures status { result ≤ 4 }
-    ensures end { result < 2 → IsAtEnd (R.seen input.new).left }
-    ensures reads { result < 3 → (R.seen input.new).failures ≡ (R.seen input.old).failures }
-    ensures log { result < 2 → (L.seen log.new).failures ≡ (L.seen log.old).failures }
+    requires { IsSize job.lines × IsSize job.cols }
+    ensures { RunsJob ⟦<&'a mut O as Sink>⟧.seen job (R.seen input.old) (R.seen input.new) (O.seen out.old) (L.seen log.old) (L.seen log.new) result }
 {
     let mut screen = match Screen::new(alloc, job.lines, job.cols, out) {
         Ok(screen) => screen,
-        Err(Refusal::BadSize) => return BAD_TEXT,
         Err(_) => return no_memory(log),
     };
     let end = screen.run_script(input, log);
@@ -131,19 +132,16 @@ fn run<R: Source, O: Sink, L: Sink>(
     status_of(end)
 }
 
-/// Does what the words ask for, and answers the status. The first word is the program's name. A status below 3 tells
-/// that no read failed, one below 2 that no write or flush of the log did, and 1 that the script was read to its end.
-pub fn serve<S: AsStr, R: Source, O: Sink, L: Sink>(
+/// Does what the words ask for, and answers the status: where clap refuses the words, that of its error's kind, and nothing is
+/// read; else that of how the script ended, or 4 where there is no memory. The first word is the program's name.
+pub fn serve<'a, S: AsStr, R: Source, O: Sink, L: Sink>(
     alloc: Global,
     words: &[S],
     input: &mut R,
-    out: &mut O,
+    out: &'a mut O,
     log: &mut L,
 ) -> u8
-    ensures status { result ≤ 4 }
-    ensures end { result ≡ 1 → IsAtEnd (R.seen input.new).left }
-    ensures reads { result < 3 → (R.seen input.new).failures ≡ (R.seen input.old).failures }
-    ensures log { result < 2 → (L.seen log.new).failures ≡ (L.seen log.old).failures }
+    ensures { Serves ⟦<&'a mut O as Sink>⟧.seen (map S.text words.now) (R.seen input.old) (R.seen input.new) (O.seen out.old) (L.seen log.old) (L.seen log.new) result }
 {
     match job(alloc, words) {
         Ok(job) => match job.kind {

@@ -1,21 +1,31 @@
-use Rattle.std.proofs.Common.{◌≡◌, sym, ap, ◌∙◌, Some, Option, List, map}
-use Rattle.clap.specs.Words.{Row, Text, found_of, is_simple, rows_of, subcommand_of, subcommand_rows_of}
-use Rattle.curspan.specs.CommandLine.{curspan, kind_text}
-use Rattle.curspan.proofs.JobLemmas.{curspan_is_simple, named_rows}
+use Rattle.std.proofs.Common.{map, subst, sym}
+use Rattle.clap.proofs.FaultLemmas.{failed_up}
+use Rattle.clap.specs.Words.{fault_of}
+use Rattle.curspan.specs.CommandLine.{AsksIn, curspan}
+use Rattle.curspan.proofs.JobLemmas.{kinds_of_curspan, no_fault_of_curspan, subcommand_of_curspan}
+use Rattle.curspan.proofs.TakenLemmas.{asked_sizes, is_asked}
 use Rattle.curspan.proofs.command.job.Goals as goal
 
-pub returns-in-Some-Some-Some : goal.returns-in-Some-Some-Some
-returns-in-Some-Some-Some g c =
+pub returns-in_err-matches-clause-faults : goal.returns-in_err-matches-clause-faults
+returns-in_err-matches-clause-faults g c =
+    let words = map g.S.AsStr.text c.args.words.now in
+    failed_up c.from_residual-in_err-matches.result c.in_err-matches.field-0.0 _ (fault_of curspan words) c.from_residual-in_err-matches.ensures.1
+    (kinds_of_curspan _ words c.in_err-matches.field-0.0 c.in_ok-command.ensures c.in_err-matches.ensures.kinds)
+
+pub returns-in-Some-clause-faults : goal.returns-in-Some-clause-faults
+returns-in-Some-clause-faults g c = no_fault_of_curspan _ (map g.S.AsStr.text c.args.words.now) c.in_ok-command.ensures c.in_ok-matches.ensures.kinds
+
+pub returns-in-Some-clause-job : goal.returns-in-Some-clause-job
+returns-in-Some-clause-job g c =
+    let words = map g.S.AsStr.text c.args.words.now in
     let app = c.in_ok-command.ensures in
-    let same : subcommand_rows_of c.in_ok-matches.matches ≡ subcommand_of curspan (map g.S.AsStr.text c.args.words.now) =
-    (c.in_ok-matches.ensures.ok.2 (ap is_simple app ∙ curspan_is_simple)).1 ∙ ap (λ a. subcommand_of a (map g.S.AsStr.text c.args.words.now)) app in
-    let rows = rows_of (found_of c.in-Some.found.now) in
-    let kind : c.in-Some.name.now ≡ kind_text c.in-Some-Some-Some.kind = rw c.in-Some-Some-Some.is-0 at c.kind_of.ensures in
-    record {
-      rows = rows;
-      subcommand =
-          sym same ∙ named_rows c.in_ok-matches.matches c.in-Some.name.now rows (sym c.in-Some.ensures.name) (sym c.in-Some.ensures.rows)
-          ∙ ap (λ (n : Text). let z : Option (Text × List Row) = Some (n, rows) in z) kind;
-      lines = rw c.in-Some-Some-Some.is-1 at c.number-lines.ensures;
-      cols = rw c.in-Some-Some-Some.is-2 at c.number-cols.ensures;
-    }
+    let same = subcommand_of_curspan _ words c.in_ok-matches.matches app c.in_ok-matches.ensures.ok.2 in
+    asked_sizes words c.in-Some.job (no_fault_of_curspan _ words app c.in_ok-matches.ensures.kinds) (subst (λ s. AsksIn s c.in-Some.job) same c.in-Some.ensures)
+
+pub returns-clause-faults : goal.returns-clause-faults
+returns-clause-faults g c =
+    let words = map g.S.AsStr.text c.args.words.now in
+    let app = c.in_ok-command.ensures in
+    let same = subcommand_of_curspan _ words c.in_ok-matches.matches app c.in_ok-matches.ensures.ok.2 in
+    let asked = is_asked words (no_fault_of_curspan _ words app c.in_ok-matches.ensures.kinds) in
+    absurd (c.in-None.ensures asked.0 (subst (λ s. AsksIn s asked.0) (sym same) asked.1))

@@ -1,0 +1,144 @@
+-- Where clap refuses nothing of the words, they name `run` and give both numbers.
+use Rattle.std.proofs.Common.{◌≡◌, ◌∷◌, ◌||◌, ◌==◌, ℕ, ℤ, Bool, true, false, cond, not, List, [], Option, Some, None, refl, sym, ap, subst, arith, codes, drop, is_some, unwrap_or, ◌∙◌, inl, inr}
+use Rattle.std.specs.Prelude.{◌≤ℤ◌, IfSome, find, neg_ℤ, option_and_then, pos}
+use Rattle.std.specs.List.{All}
+use Rattle.std.specs.Option.{option_map_or}
+use Rattle.std.specs.Str.{bytes_eq}
+use Rattle.std.specs.Str.Parse.{IsNumeral, digits_value, without_leading_plus}
+use Rattle.std.proofs.lemmas.Int.{ints}
+use Rattle.std.proofs.lemmas.List.Elements.{All-from_recursion}
+use Rattle.clap.specs.Facts.{explicit_source}
+use Rattle.clap.specs.Faults.{check_fault, entered_fault, level_fault}
+use Rattle.clap.specs.Lexer.{without_minus}
+use Rattle.clap.specs.Simple.{App, Shape, built, built_leaf, entered, inherited, marked_built, with_leaf_noted}
+use Rattle.clap.specs.Takes.{is_given}
+use Rattle.clap.specs.ValueTests.{accepts}
+use Rattle.clap.specs.Walk.{Row, Text, finished, nothing_held, one_of, row_text, rows_after, walk, walk_from}
+use Rattle.clap.specs.Words.{subcommand_of}
+use Rattle.clap.specs.declared.error.kind.ErrorKind.TheVariants as kind
+use Rattle.clap.proofs.ValueTestLemmas.{accepts-Accepts}
+use Rattle.curspan.specs.CommandLine.{Asks, AsksIn, IsNumber, IsSize, IsTaken, ReadsNumber, curspan, mode}
+use Rattle.curspan.specs.declared.asked.Job.{Job}
+use Rattle.curspan.specs.declared.asked.Kind.TheVariants.{Run}
+use Rattle.curspan.proofs.KeptRows.{HasSizes, IsKnownRule, IsSizeRow, found, level_keeps, level_passes, size_parser}
+use Rattle.curspan.proofs.RunIsNamed.{StopsAtRun, program_names, walk_stops}
+
+-- ---- a number
+
+-- of a text whose first byte is a minus or not: its digits, its number, and what follows the minus
+abbrev digits_of : Bool → ℕ → Text → Text
+digits_of b x xs = cond b xs (without_leading_plus (x ∷ xs))
+
+abbrev signed_by : Bool → ℕ → ℤ
+signed_by b n = cond b (neg_ℤ (pos n)) (pos n)
+
+abbrev rest_of : Bool → ℕ → Text → Text
+rest_of b x xs = unwrap_or (cond b (Some xs) None) (x ∷ xs)
+
+number_of_size : (text : Text) → accepts false size_parser text ≡ true
+    → IsNumber (without_minus text) × IsSize (digits_value 10 (without_leading_plus (without_minus text)))
+number_of_size [] e =
+    let passed = accepts-Accepts false size_parser [] e in
+    absurd (omega (arith, passed.0.0))
+number_of_size (x ∷ xs) e =
+    let passed = accepts-Accepts false size_parser (x ∷ xs) e in
+    go (x == 45) passed.0 passed.2 passed.3
+  where
+    go : (b : Bool) → IsNumeral 10 (digits_of b x xs) → pos 1 ≤ℤ signed_by b (digits_value 10 (digits_of b x xs))
+        → signed_by b (digits_value 10 (digits_of b x xs)) ≤ℤ pos 255
+        → IsNumber (rest_of b x xs) × IsSize (digits_value 10 (without_leading_plus (rest_of b x xs)))
+    go true numeral low high = absurd (omega (arith, ints))
+    go false numeral low high = ((numeral, omega (arith, ints)), (omega (arith, ints), omega (arith, ints)))
+
+-- the text of an option for a size
+pub record KeepsSize (option : Text) (rows : List Row) : Type 0 where
+  pub text : Text
+  pub is_text : one_of option rows ≡ Some text
+  pub is_number : IsNumber text
+  pub is_size : IsSize (digits_value 10 (without_leading_plus text))
+
+given_size : (id : Text) (rows : List Row) → HasSizes rows → is_given id rows ≡ true → KeepsSize id rows
+given_size id rows sizes given = go (find (λ r. bytes_eq r.id id) rows) refl (found IsSizeRow rows sizes (λ r. bytes_eq r.id id)) given
+  where
+    go : (o : Option Row) → find (λ r. bytes_eq r.id id) rows ≡ o → IfSome o IsSizeRow → option_map_or (λ r. explicit_source r.source) o false ≡ true → KeepsSize id rows
+    go None e size given = cc
+    go (Some r) e size given =
+        let number = number_of_size size.first size.passes in
+        let row : row_text r ≡ Some (without_minus size.first) = rw (size.values, size.reading) refl in
+        record { text = without_minus size.first; is_text = ap (option_and_then row_text) e ∙ row; is_number = number.0; is_size = number.1 }
+
+-- ---- the two levels
+
+abbrev program : App
+program = built curspan
+
+abbrev run : Shape
+run = built_leaf (inherited (with_leaf_noted (marked_built curspan.top)) (mode (codes "run")).top)
+
+run_rules : All IsKnownRule run.rules
+run_rules = All-from_recursion IsKnownRule run.rules ((inl (record { action = refl; parser = refl; least = refl }), refl), ((inl (record { action = refl; parser = refl; least = refl }), refl), ((inr refl, refl), tt)))
+
+-- The words are a subcommand's, with both numbers.
+pub record NamesRun (words : List Text) : Type 0 where
+  pub rows : List Row
+  pub subcommand : subcommand_of curspan words ≡ Some (codes "run", rows)
+  pub lines : KeepsSize (codes "lines") rows
+  pub cols : KeepsSize (codes "cols") rows
+
+both_given : (a b : Bool) → cond (not a || (not b || false)) (kind.MissingRequiredArgument ∷ []) [] ≡ [] → (a ≡ true) × (b ≡ true)
+both_given true true e = (refl, refl)
+both_given true false e = cc
+both_given false b e = cc
+
+run_taken : (words rest : List Text) → subcommand_of curspan words ≡ Some (codes "run", rows_after run.rules [] rest) → level_fault run [] nothing_held rest false [] ≡ [] → NamesRun words
+run_taken words rest is none =
+    let rows = rows_after run.rules [] rest in
+    let passes = level_passes run [] rest false [] none in
+    let sizes : HasSizes rows = level_keeps run run_rules [] rest false [] passes in
+    let given = both_given (is_given (codes "lines") rows) (is_given (codes "cols") rows) passes.checks in
+    record { rows = rows; subcommand = is; lines = given_size (codes "lines") rows sizes given.0; cols = given_size (codes "cols") rows sizes given.1 }
+
+-- the subcommand at which the walk over the words stops
+abbrev stop_at : List Text → Option (Text × List Text)
+stop_at words = (walk program.top.rules program_names nothing_held (drop 1 words)).stopped
+
+taken : (words : List Text) → IsTaken words → NamesRun words
+taken words none =
+    let passes = level_passes program.top program_names (drop 1 words) (is_some (entered program (stop_at words))) (entered_fault program (stop_at words)) none in
+    go (stop_at words) refl (walk_stops program.top refl (drop 1 words) (walk_from nothing_held) passes.walks tt) passes.below_passes passes.checks
+  where
+    go : (stop : Option (Text × List Text)) → subcommand_of curspan words ≡ entered program stop → StopsAtRun stop → entered_fault program stop ≡ []
+        → check_fault program.top (finished program.top.rules (walk program.top.rules program_names nothing_held (drop 1 words)).held) (is_some (entered program stop)) ≡ [] → NamesRun words
+    go None is stops below check = cc
+    go (Some p) is stops below check =
+        run_taken words p.1 (is ∙ ap (λ n. entered program (Some (n, p.1))) stops) (subst (λ n. entered_fault program (Some (n, p.1)) ≡ []) stops below)
+
+-- what was read of an option for a size is the text that clap kept, and so a size
+size_read : (option : Text) (rows : List Row) (n : ℕ) → KeepsSize option rows → ReadsNumber option rows n → IsSize n
+size_read option rows n kept read =
+    let same : Some kept.text ≡ Some read.text = sym kept.is_text ∙ read.is_text in
+    let texts : kept.text ≡ read.text = ap (λ (o : Option Text). unwrap_or o []) same in
+    rw (read.value, sym texts) kept.is_size
+
+-- what the subcommand asks for has sizes
+pub asked_sizes : (words : List Text) (job : Job) → IsTaken words → AsksIn (subcommand_of curspan words) job → Asks words job
+asked_sizes words job none asked =
+    let t = taken words none in
+    let rows : t.rows ≡ asked.rows = ap (λ (o : Option (Text × List Row)). option_map_or (λ p. p.1) o []) (sym t.subcommand ∙ asked.named) in
+    record {
+      taken = none;
+      asked = asked;
+      lines = size_read (codes "lines") asked.rows job.lines (rw rows at t.lines) asked.lines;
+      cols = size_read (codes "cols") asked.rows job.cols (rw rows at t.cols) asked.cols;
+    }
+
+read_size : (option : Text) (rows : List Row) (kept : KeepsSize option rows) → ReadsNumber option rows (digits_value 10 (without_leading_plus kept.text))
+read_size option rows kept = record { text = kept.text; is_text = kept.is_text; is_number = kept.is_number; value = refl }
+
+-- such words ask for a job
+pub is_asked : (words : List Text) → IsTaken words → (job : Job) × AsksIn (subcommand_of curspan words) job
+is_asked words none =
+    let t = taken words none in (
+      record { kind = Run; lines = digits_value 10 (without_leading_plus t.lines.text); cols = digits_value 10 (without_leading_plus t.cols.text) },
+      record { rows = t.rows; named = t.subcommand; lines = read_size (codes "lines") t.rows t.lines; cols = read_size (codes "cols") t.rows t.cols },
+    )
