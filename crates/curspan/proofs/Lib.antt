@@ -1,3 +1,4 @@
+pub mod Examples
 pub mod JobLemmas
 pub mod KeptRows
 pub mod PutLemmas

@@ -7,7 +7,7 @@ use Rattle.cell.specs.Pictures.{origin}
 use Rattle.cell.specs.Windows.{Window, WindowMap, Windows, no_windows, own_grid, put, replaced, window_limit}
 use Rattle.cell.specs.World.{first_settings}
 use Rattle.cell.specs.Rows.{line_shown}
-use Rattle.cell.specs.Drawings.{at_place, character_inserted, lines_down, lines_up, to_bottom, to_end_of_line}
+use Rattle.cell.specs.Drawings.{at_place, character_deleted, character_inserted, everywhere, lines_down, lines_up, to_bottom, to_end_of_line}
 use Rattle.cell.specs.Editing.{after_scrl}
 
 letter : ℕ → Glyph
@@ -90,6 +90,16 @@ cell_inserted_in_column_0 = refl
 cell_inserted_turned : texts (put small 1 (character_inserted small.window 1 (1, 2) star)) ≡ (codes "abcdefghi", codes "ABCDE*GHI")
 unfolding texts text small lettered letter star window_limit
 cell_inserted_turned = refl
+
+-- ---- the cell at line 2 and column 1 deleted, and all cells
+
+cell_deleted : texts (put small 1 (character_deleted small.window 1 (2, 1) 2 star)) ≡ (codes "abcdefghi", codes "ABCDEFGI*")
+unfolding texts text small lettered letter star window_limit
+cell_deleted = refl
+
+all_cleared : texts (put small 1 (everywhere star)) ≡ (codes "abcdefghi", codes "*********")
+unfolding texts text small lettered letter star window_limit
+all_cleared = refl
 
 -- ---- from line 2 and column 1 to the end of the line
 
