@@ -80,6 +80,7 @@ pub fn job<S: AsStr>(alloc: Global, words: &[S]) -> Result<Job, Error>
     let matches = command.try_get_matches_from_mut(words)?;
     match job_of(&matches) {
         Some(job) => Ok(job),
+        // What clap takes always asks for a job, so this is never met.
         None => Err(command.error(ErrorKind::MissingSubcommand, "no subcommand")?),
     }
 }

@@ -1,7 +1,7 @@
 //! Does what the command line asks for, over any reader and writers.
 
-ghost use Rattle.std.specs.Prelude.{◌≡◌, ◌≢◌, ◌<◌, ◌≤◌, true, map, if◌then◌else◌};
-ghost use Rattle.std.specs.Io.KnownBytes.{Appends, IsAtEnd};
+ghost use Rattle.std.specs.Prelude.{◌≡◌, ◌<◌, true, map, if◌then◌else◌};
+ghost use Rattle.std.specs.Io.KnownBytes.{Appends};
 ghost use Rattle.paint.specs.Sinks.{next_count};
 ghost use Rattle.clap.specs.Words.{kind_of};
 ghost use Rattle.curspan.specs.CommandLine.{IsSize};
@@ -59,7 +59,7 @@ fn usage<O: Sink, L: Sink>(alloc: Global, error: &Error, out: &mut O, log: &mut 
     ensures status { IsStatusOfKind (kind_of error.now) result }
     ensures quiet { result ≡ 2 → out.new ≡ out.old }
     ensures shown { result ≡ 0 → ((O.seen out.new).flushed ≡ true) × ((O.seen out.new).failures ≡ (O.seen out.old).failures) }
-    ensures log { result ≡ 0 → log.new ≡ log.old }
+    ensures log { result < 2 → log.new ≡ log.old }
 {
     if error.kind() == ErrorKind::OutOfMemory {
         return no_memory(log);
@@ -108,7 +108,7 @@ fn status_of(end: ScriptEnd) -> u8
     }
 }
 
-/// Runs a script and answers the status.
+/// Runs a script on a screen of the job's size, and answers the status.
 fn run<'a, R: Source, O: Sink, L: Sink>(
     alloc: Global,
     job: Job,
@@ -117,7 +117,8 @@ fn run<'a, R: Source, O: Sink, L: Sink>(
     log: &mut L,
 ) -> u8
     requires { IsSize job.lines × IsSize job.cols }
-    ensures { RunsJob ⟦<&'a mut O as Sink>⟧.seen job (R.seen input.old) (R.seen input.new) (O.seen out.old) (L.seen log.old) (L.seen log.new) result }
+    ensures ran { RunsJob ⟦<&'a mut O as Sink>⟧.seen job (R.seen input.old) (R.seen input.new) (O.seen out.old) (L.seen log.old) (L.seen log.new) result }
+    ensures log { result < 2 → (L.seen log.new).failures ≡ (L.seen log.old).failures }
 {
     let mut screen = match Screen::new(alloc, job.lines, job.cols, out) {
         Ok(screen) => screen,
@@ -133,7 +134,8 @@ fn run<'a, R: Source, O: Sink, L: Sink>(
 }
 
 /// Does what the words ask for, and answers the status: where clap refuses the words, that of its error's kind, and nothing is
-/// read; else that of how the script ended, or 4 where there is no memory. The first word is the program's name.
+/// read; else that of how the script ended, or 4 where there is no memory. The first word is the program's name. A status
+/// below 2 tells that no write or flush of the log failed.
 pub fn serve<'a, S: AsStr, R: Source, O: Sink, L: Sink>(
     alloc: Global,
     words: &[S],
@@ -141,7 +143,8 @@ pub fn serve<'a, S: AsStr, R: Source, O: Sink, L: Sink>(
     out: &'a mut O,
     log: &mut L,
 ) -> u8
-    ensures { Serves ⟦<&'a mut O as Sink>⟧.seen (map S.text words.now) (R.seen input.old) (R.seen input.new) (O.seen out.old) (L.seen log.old) (L.seen log.new) result }
+    ensures served { Serves ⟦<&'a mut O as Sink>⟧.seen (map S.text words.now) (R.seen input.old) (R.seen input.new) (O.seen out.old) (L.seen log.old) (L.seen log.new) result }
+    ensures log { result < 2 → (L.seen log.new).failures ≡ (L.seen log.old).failures }
 {
     match job(alloc, words) {
         Ok(job) => match job.kind {

@@ -2,11 +2,11 @@ use Rattle.std.proofs.Common.{◌≡◌, ◌∙◌, None, Some, ap, inl, inr, re
 use Rattle.curspan.proofs.serve.run.Goals as goal
 use Rattle.curspan.proofs.serve.run.Goals.{in-Some, in_default}
 
-pub returns-in-Err : goal.returns-in-Err
-returns-in-Err g c = inl (c.no_memory.ensures, refl)
+pub returns-in-Err-clause-ran : goal.returns-in-Err-clause-ran
+returns-in-Err-clause-ran g c = inl (c.no_memory.ensures, refl)
 
-pub returns : goal.returns
-returns g c =
+pub returns-clause-ran : goal.returns-clause-ran
+returns-clause-ran g c =
     inr (record {
       first = c.in-Ok.screen;
       last = c.run_script-end.new.self;
