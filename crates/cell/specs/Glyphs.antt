@@ -1,6 +1,7 @@
 -- What a cell holds: a character that is printed, and attributes.
 -- X/Open Curses Issue 7, "Characters": a `chtype` without a colour pair, and of the characters those of ASCII.
-use Rattle.std.specs.Prelude.{ℕ, ◌≤◌, ◌<◌}
+use Rattle.std.specs.Prelude.{ℕ, Bool, ◌&&◌, ◌≤◌, ◌<◌, nat_le}
+use Rattle.cell.specs.declared.limits.TheConstants.{FIRST_CHARACTER, LAST_CHARACTER}
 
 pub record Glyph : Type 0 where
   pub character : ℕ
@@ -10,8 +11,12 @@ pub record Glyph : Type 0 where
 abbrev pub blank : Glyph
 blank = record { character = 32; attributes = 0 }
 
+-- from the space to the tilde
+abbrev pub is_printable : ℕ → Bool
+is_printable character = nat_le FIRST_CHARACTER character && nat_le character LAST_CHARACTER
+
 -- a character from the space to the tilde, and attributes of the six
 pub record IsCell (glyph : Glyph) : Type 0 where
-  pub from_space : 32 ≤ glyph.character
-  pub to_tilde : glyph.character ≤ 126
+  pub from_space : FIRST_CHARACTER ≤ glyph.character
+  pub to_tilde : glyph.character ≤ LAST_CHARACTER
   pub of_the_six : glyph.attributes < 64

@@ -1,4 +1,5 @@
--- What a screen or a terminal shows: lines of shown cells. Lines and columns count from 0.
+-- What a screen or a terminal shows: lines of shown cells. Lines and columns count from 0, as in X/Open Curses Issue 7 ("Screens,
+-- Windows and Terminals").
 use Rattle.std.specs.Prelude.{◌≡◌, ℕ, nat_lt, Bool, List, [], length, map, replicate, slice_index_or, slice_set}
 use Rattle.std.specs.List.{AllByRecursion, range_with_len}
 use Rattle.cell.specs.Glyphs.{Glyph, blank, IsCell}

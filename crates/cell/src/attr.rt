@@ -1,7 +1,7 @@
 //! Sets of attributes.
 
 ghost use Rattle.std.specs.Prelude.{⊤, ◌≡◌, ◌<◌, [], ◌∷◌, codes};
-ghost use Rattle.cell.specs.Attributes.{bits_of, known};
+ghost use Rattle.cell.specs.Attributes.{bits_of, hex_digit, hex_digits, known};
 
 use bitflags::{Flag, Flags, bitflag_items};
 
@@ -55,4 +55,19 @@ impl Attr {
     {
         Attr(self.0 & 0x3f)
     }
+
+    /// The bits as two hexadecimal digits in lower case.
+    pub fn hex_digits(self) -> [u8; 2]
+        ensures { result ≡ hex_digits (bits_of self) }
+    {
+        [hex_digit(self.0 / 16), hex_digit(self.0 % 16)]
+    }
+}
+
+/// The hexadecimal digit of a number below 16.
+fn hex_digit(n: u8) -> u8
+    requires { n < 16 }
+    ensures { result ≡ hex_digit n }
+{
+    if n < 10 { b'0' + n } else { b'a' + (n - 10) }
 }

@@ -1,10 +1,11 @@
 //! A cell: a character with attributes.
 
-ghost use Rattle.std.specs.Prelude.{◌≡◌, ◌&&◌, ◌+◌, ◌*◌, ◌<◌, nat_le, if◌then◌else◌};
+ghost use Rattle.std.specs.Prelude.{◌≡◌, ◌+◌, ◌*◌, ◌<◌, if◌then◌else◌};
 ghost use Rattle.cell.specs.Attributes.{bits_of, known};
-ghost use Rattle.cell.specs.Glyphs.{IsCell};
+ghost use Rattle.cell.specs.Glyphs.{IsCell, is_printable};
 
 use crate::attr::Attr;
+use crate::limits::{FIRST_CHARACTER, LAST_CHARACTER};
 use bitflags::Flags;
 use std::marker::Model;
 
@@ -36,10 +37,10 @@ impl Cell {
 
     /// The cell of a character from 32 to 126, and none for another.
     pub fn new(ch: u8, attr: Attr) -> Option<Cell>
-        ensures { result ≡ (if nat_le 32 ch && nat_le ch 126
+        ensures { result ≡ (if is_printable ch
             then Some (record { character = ch; attributes = known (bits_of attr) }) else None) }
     {
-        if (32..=126).contains(&ch) {
+        if is_printable(ch) {
             Some(Cell {
                 ch,
                 attr: attr.known(),
@@ -71,4 +72,11 @@ impl Cell {
     {
         u16::from(self.attr.bits()) * 256 + u16::from(self.ch)
     }
+}
+
+/// Whether a cell can hold a character: the space to the tilde.
+pub fn is_printable(ch: u8) -> bool
+    ensures { result ≡ is_printable ch }
+{
+    (FIRST_CHARACTER..=LAST_CHARACTER).contains(&ch)
 }

@@ -6,6 +6,7 @@ ghost use Rattle.cell.specs.Glyphs.{blank, IsCell};
 ghost use Rattle.cell.specs.Pictures.{AreCells, HasSize, blank_picture, line_of, shown_at, size_of, with_shown};
 
 use crate::cell::Cell;
+use crate::limits::LARGEST_PAD;
 use std::alloc::{AllocError, Global};
 use std::marker::Model;
 
@@ -29,11 +30,11 @@ impl Model for Grid {
 }
 
 impl Grid {
-    /// A grid of blanks, in one allocation. It has at most 1000 lines and 1000 columns, and fails only for want of
-    /// memory.
+    /// A grid of blanks, in one allocation. It has at most `LARGEST_PAD` lines and columns, and fails only for want
+    /// of memory.
     pub fn new(alloc: Global, lines: u16, columns: u16) -> Result<Grid, AllocError>
-        requires lines { lines ≤ 1000 }
-        requires columns { columns ≤ 1000 }
+        requires lines { lines ≤ LARGEST_PAD }
+        requires columns { columns ≤ LARGEST_PAD }
         ensures { IfOk result (λ grid. grid ≡ blank_picture lines columns) }
     {
         let lines = usize::from(lines);

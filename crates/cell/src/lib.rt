@@ -1,19 +1,23 @@
 //! What every layer of Curspan speaks of: characters with attributes, grids and pictures of them, windows by number, and
-//! refusals. The definitions of a screen and of each call on it stand in `specs/`.
+//! refusals.
 #![tactic(auto)]
 
 mod attr;
 mod cell;
 mod grid;
-pub mod laws;
+mod limits;
 mod refusal;
 mod window;
 
 pub use attr::Attr;
-pub use cell::Cell;
+pub use cell::{Cell, is_printable};
 pub use grid::Grid;
+pub use limits::{
+    FIRST_CHARACTER, LARGEST_PAD, LARGEST_SCREEN, LAST_CHARACTER, MOST_PANELS, MOST_WINDOWS,
+    is_no_size,
+};
 pub use refusal::Refusal;
-pub use window::{Frame, Run, Settings, WinId};
+pub use window::{Frame, WinId};
 
 #[cfg(test)]
 mod tests;

@@ -1,5 +1,6 @@
-use crate::{Attr, Cell, Grid, Refusal};
+use crate::{Attr, Cell, Grid, LARGEST_PAD, LARGEST_SCREEN, Refusal, is_no_size, is_printable};
 use bitflags::Flags;
+use std::alloc::AllocError;
 use std::test::Fail;
 
 const BLANK: Cell = Cell::BLANK;
@@ -58,7 +59,26 @@ fn bits_beyond_the_six_are_dropped(rt: HostRuntime) -> Result<(), Fail> {
 }
 
 #[test]
+fn characters_are_those_from_the_space_to_the_tilde(rt: HostRuntime) {
+    assert!(rt; is_printable(b' '));
+    assert!(rt; is_printable(b'~'));
+    assert!(rt; !is_printable(31));
+    assert!(rt; !is_printable(127));
+}
+
+#[test]
+fn sizes_are_from_1_to_the_largest(rt: HostRuntime) {
+    assert!(rt; is_no_size(LARGEST_SCREEN, 0));
+    assert!(rt; !is_no_size(LARGEST_SCREEN, 1));
+    assert!(rt; !is_no_size(LARGEST_SCREEN, 255));
+    assert!(rt; is_no_size(LARGEST_SCREEN, 256));
+    assert!(rt; !is_no_size(LARGEST_PAD, 1000));
+    assert!(rt; is_no_size(LARGEST_PAD, 1001));
+}
+
+#[test]
 fn refusals_have_number_and_name(rt: HostRuntime) {
+    assert_eq!(rt; Refusal::from(AllocError).text(), "E18 NoMemory");
     assert_eq!(rt; Refusal::NoSuchWindow.text(), "E1 NoSuchWindow");
     assert_eq!(rt; Refusal::ScrollingOff.text(), "E16 ScrollingOff");
     assert_eq!(rt; Refusal::BadRectangle.text(), "E19 BadRectangle");

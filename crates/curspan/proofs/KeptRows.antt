@@ -1,10 +1,11 @@
--- Where clap refuses nothing of the words, each row that a subcommand's options leave holds a number from 1 to 255.
+-- Where clap refuses nothing of the words, each row that a subcommand's options leave holds a size of a screen.
 use Rattle.std.proofs.Common.{◌≡◌, ◌⊎◌, ◌++◌, ◌&&◌, ℕ, zero, suc, Bool, true, false, cond, List, [], ◌∷◌, drop, length, Option, Some, None, is_some, refl, sym, ap, subst, inl, inr}
 use Rattle.std.specs.Prelude.{IfSome, encode_utf8, find, fold, pos, slice_get}
 use Rattle.std.specs.List.{All}
 use Rattle.std.specs.Option.{option_map_or}
 use Rattle.std.specs.Str.{bytes_eq, chars}
 use Rattle.std.proofs.lemmas.List.Elements.{All-append, All-cons, All-head, All-nil, All-tail}
+use Rattle.cell.specs.declared.limits.TheConstants.{LARGEST_SCREEN}
 use Rattle.clap.specs.Faults.{action_fault, bundle_fault, bundle_step_fault, check_fault, flag_word_fault, flags_fault, level_fault, long_fault, option_fault, other_fault, positional_fault, react_fault, set_fault, settle_fault, short_fault, step_fault, stray_fault, turn_fault, use_fault, walk_fault, word_fault}
 use Rattle.clap.specs.Kinds.{Kinds, or_else, range_kinds, value_kinds}
 use Rattle.clap.specs.Lexer.{long_of, short_of}
@@ -22,9 +23,9 @@ use Rattle.clap.specs.declared.error.kind.ErrorKind.TheVariants as kind
 use Rattle.clap.specs.declared.parser.matches.ValueSource.TheVariants.{CommandLine}
 
 abbrev pub size_parser : ValueParser
-size_parser = parsers.Signed (pos 1) (pos 255)
+size_parser = parsers.Signed (pos 1) (pos LARGEST_SCREEN)
 
--- the row of an option whose first value is a number from 1 to 255
+-- the row of an option whose first value is a size of a screen
 pub record IsSizeRow (r : Row) : Type 0 where
   pub first : Text
   pub others : List Text

@@ -2,5 +2,6 @@ pub mod Examples
 pub mod JobLemmas
 pub mod KeptRows
 pub mod PutLemmas
-pub mod RunIsNamed
+pub mod KindIsNamed
 pub mod TakenLemmas
+pub mod PrintLemmas

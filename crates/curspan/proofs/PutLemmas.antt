@@ -2,8 +2,8 @@
 use Rattle.std.proofs.Common.{◌≡◌, ℕ, List, [], ◌++◌, take, drop, Ok, refl, sym, ap, ap₂, ◌∙◌, subst, append_assoc, append-nil, take-append-drop}
 use Rattle.std.proofs.KnownBytes.{Appends-nil, Appends-trans}
 use Rattle.std.specs.Io.KnownBytes.{Appends}
-use Rattle.paint.specs.Sinks.{Seen}
-use Rattle.paint.specs.Sending.{Sends}
+use Rattle.streams.specs.Sinks.{Seen}
+use Rattle.streams.specs.Sending.{Sends}
 
 -- a front of a text was written, and the rest wasn't yet
 pub record IsPartlyPut (old new : Seen) (text rest : List ℕ) : Type 0 where

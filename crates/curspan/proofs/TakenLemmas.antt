@@ -1,5 +1,5 @@
--- Where clap refuses nothing of the words, they name `run` and give both numbers.
-use Rattle.std.proofs.Common.{◌≡◌, ◌∷◌, ◌||◌, ◌==◌, ℕ, ℤ, Bool, true, false, cond, not, List, [], Option, Some, None, refl, sym, ap, subst, arith, codes, drop, is_some, unwrap_or, ◌∙◌, inl, inr}
+-- Where clap refuses nothing of the words, they name a subcommand and give both numbers.
+use Rattle.std.proofs.Common.{◌≡◌, ◌≤◌, ◌∷◌, ◌||◌, ◌==◌, ℕ, ℤ, Bool, true, false, cond, not, List, [], Option, Some, None, refl, sym, ap, subst, arith, codes, drop, is_some, unwrap_or, ◌∙◌, inl, inr}
 use Rattle.std.specs.Prelude.{◌≤ℤ◌, IfSome, find, neg_ℤ, option_and_then, pos}
 use Rattle.std.specs.List.{All}
 use Rattle.std.specs.Option.{option_map_or}
@@ -7,6 +7,8 @@ use Rattle.std.specs.Str.{bytes_eq}
 use Rattle.std.specs.Str.Parse.{IsNumeral, digits_value, without_leading_plus}
 use Rattle.std.proofs.lemmas.Int.{ints}
 use Rattle.std.proofs.lemmas.List.Elements.{All-from_recursion}
+use Rattle.std.proofs.lemmas.Bool.Decides.{nat_tests}
+use Rattle.cell.specs.declared.limits.TheConstants.{LARGEST_SCREEN}
 use Rattle.clap.specs.Facts.{explicit_source}
 use Rattle.clap.specs.Faults.{check_fault, entered_fault, level_fault}
 use Rattle.clap.specs.Lexer.{without_minus}
@@ -17,13 +19,17 @@ use Rattle.clap.specs.Walk.{Row, Text, finished, nothing_held, one_of, row_text,
 use Rattle.clap.specs.Words.{subcommand_of}
 use Rattle.clap.specs.declared.error.kind.ErrorKind.TheVariants as kind
 use Rattle.clap.proofs.ValueTestLemmas.{accepts-Accepts}
-use Rattle.curspan.specs.CommandLine.{Asks, AsksIn, IsNumber, IsSize, IsTaken, ReadsNumber, curspan, mode}
+use Rattle.curspan.specs.CommandLine.{Asks, AsksIn, IsNumber, IsSize, IsTaken, ReadsNumber, curspan, kind_text, mode}
 use Rattle.curspan.specs.declared.asked.Job.{Job}
-use Rattle.curspan.specs.declared.asked.Kind.TheVariants.{Run}
+use Rattle.curspan.specs.declared.asked.Kind.{Kind}
+use Rattle.curspan.specs.declared.asked.Kind.TheVariants.{Run, Paint}
 use Rattle.curspan.proofs.KeptRows.{HasSizes, IsKnownRule, IsSizeRow, found, level_keeps, level_passes, size_parser}
-use Rattle.curspan.proofs.RunIsNamed.{StopsAtRun, program_names, walk_stops}
+use Rattle.curspan.proofs.KindIsNamed.{IsKindsName, StopsAtKind, program_names, walk_stops}
 
 -- ---- a number
+
+is_size : (n : ℕ) → 1 ≤ n → n ≤ LARGEST_SCREEN → IsSize n
+is_size n low high = grind (arith, nat_tests)
 
 -- of a text whose first byte is a minus or not: its digits, its number, and what follows the minus
 abbrev digits_of : Bool → ℕ → Text → Text
@@ -45,10 +51,10 @@ number_of_size (x ∷ xs) e =
     go (x == 45) passed.0 passed.2 passed.3
   where
     go : (b : Bool) → IsNumeral 10 (digits_of b x xs) → pos 1 ≤ℤ signed_by b (digits_value 10 (digits_of b x xs))
-        → signed_by b (digits_value 10 (digits_of b x xs)) ≤ℤ pos 255
+        → signed_by b (digits_value 10 (digits_of b x xs)) ≤ℤ pos LARGEST_SCREEN
         → IsNumber (rest_of b x xs) × IsSize (digits_value 10 (without_leading_plus (rest_of b x xs)))
     go true numeral low high = absurd (omega (arith, ints))
-    go false numeral low high = ((numeral, omega (arith, ints)), (omega (arith, ints), omega (arith, ints)))
+    go false numeral low high = ((numeral, omega (arith, ints)), is_size (digits_value 10 (without_leading_plus (x ∷ xs))) (omega (arith, ints)) (omega (arith, ints)))
 
 -- the text of an option for a size
 pub record KeepsSize (option : Text) (rows : List Row) : Type 0 where
@@ -72,16 +78,17 @@ given_size id rows sizes given = go (find (λ r. bytes_eq r.id id) rows) refl (f
 abbrev program : App
 program = built curspan
 
-abbrev run : Shape
-run = built_leaf (inherited (with_leaf_noted (marked_built curspan.top)) (mode (codes "run")).top)
+abbrev leaf : Kind → Shape
+leaf kind = built_leaf (inherited (with_leaf_noted (marked_built curspan.top)) (mode (kind_text kind)).top)
 
-run_rules : All IsKnownRule run.rules
-run_rules = All-from_recursion IsKnownRule run.rules ((inl (record { action = refl; parser = refl; least = refl }), refl), ((inl (record { action = refl; parser = refl; least = refl }), refl), ((inr refl, refl), tt)))
+leaf_rules : (kind : Kind) → All IsKnownRule (leaf kind).rules
+leaf_rules kind = All-from_recursion IsKnownRule (leaf kind).rules ((inl (record { action = refl; parser = refl; least = refl }), refl), ((inl (record { action = refl; parser = refl; least = refl }), refl), ((inr refl, refl), tt)))
 
 -- The words are a subcommand's, with both numbers.
-pub record NamesRun (words : List Text) : Type 0 where
+pub record NamesKind (words : List Text) : Type 0 where
+  pub kind : Kind
   pub rows : List Row
-  pub subcommand : subcommand_of curspan words ≡ Some (codes "run", rows)
+  pub subcommand : subcommand_of curspan words ≡ Some (kind_text kind, rows)
   pub lines : KeepsSize (codes "lines") rows
   pub cols : KeepsSize (codes "cols") rows
 
@@ -90,28 +97,34 @@ both_given true true e = (refl, refl)
 both_given true false e = cc
 both_given false b e = cc
 
-run_taken : (words rest : List Text) → subcommand_of curspan words ≡ Some (codes "run", rows_after run.rules [] rest) → level_fault run [] nothing_held rest false [] ≡ [] → NamesRun words
-run_taken words rest is none =
-    let rows = rows_after run.rules [] rest in
-    let passes = level_passes run [] rest false [] none in
-    let sizes : HasSizes rows = level_keeps run run_rules [] rest false [] passes in
+kind_taken : (kind : Kind) (words rest : List Text) → subcommand_of curspan words ≡ Some (kind_text kind, rows_after (leaf kind).rules [] rest) → level_fault (leaf kind) [] nothing_held rest false [] ≡ []
+    → NamesKind words
+kind_taken kind words rest is none =
+    let rows = rows_after (leaf kind).rules [] rest in
+    let passes = level_passes (leaf kind) [] rest false [] none in
+    let sizes : HasSizes rows = level_keeps (leaf kind) (leaf_rules kind) [] rest false [] passes in
     let given = both_given (is_given (codes "lines") rows) (is_given (codes "cols") rows) passes.checks in
-    record { rows = rows; subcommand = is; lines = given_size (codes "lines") rows sizes given.0; cols = given_size (codes "cols") rows sizes given.1 }
+    record { kind = kind; rows = rows; subcommand = is; lines = given_size (codes "lines") rows sizes given.0; cols = given_size (codes "cols") rows sizes given.1 }
+
+-- the program enters the level of the subcommand that is named
+entered_taken : (kind : Kind) (words rest : List Text) → subcommand_of curspan words ≡ entered program (Some (kind_text kind, rest)) → entered_fault program (Some (kind_text kind, rest)) ≡ [] → NamesKind words
+entered_taken Run words rest is below = kind_taken Run words rest is below
+entered_taken Paint words rest is below = kind_taken Paint words rest is below
 
 -- the subcommand at which the walk over the words stops
 abbrev stop_at : List Text → Option (Text × List Text)
 stop_at words = (walk program.top.rules program_names nothing_held (drop 1 words)).stopped
 
-taken : (words : List Text) → IsTaken words → NamesRun words
+taken : (words : List Text) → IsTaken words → NamesKind words
 taken words none =
     let passes = level_passes program.top program_names (drop 1 words) (is_some (entered program (stop_at words))) (entered_fault program (stop_at words)) none in
     go (stop_at words) refl (walk_stops program.top refl (drop 1 words) (walk_from nothing_held) passes.walks tt) passes.below_passes passes.checks
   where
-    go : (stop : Option (Text × List Text)) → subcommand_of curspan words ≡ entered program stop → StopsAtRun stop → entered_fault program stop ≡ []
-        → check_fault program.top (finished program.top.rules (walk program.top.rules program_names nothing_held (drop 1 words)).held) (is_some (entered program stop)) ≡ [] → NamesRun words
+    go : (stop : Option (Text × List Text)) → subcommand_of curspan words ≡ entered program stop → StopsAtKind stop → entered_fault program stop ≡ []
+        → check_fault program.top (finished program.top.rules (walk program.top.rules program_names nothing_held (drop 1 words)).held) (is_some (entered program stop)) ≡ [] → NamesKind words
     go None is stops below check = cc
     go (Some p) is stops below check =
-        run_taken words p.1 (is ∙ ap (λ n. entered program (Some (n, p.1))) stops) (subst (λ n. entered_fault program (Some (n, p.1)) ≡ []) stops below)
+        entered_taken stops.0 words p.1 (is ∙ ap (λ n. entered program (Some (n, p.1))) stops.1) (subst (λ n. entered_fault program (Some (n, p.1)) ≡ []) stops.1 below)
 
 -- what was read of an option for a size is the text that clap kept, and so a size
 size_read : (option : Text) (rows : List Row) (n : ℕ) → KeepsSize option rows → ReadsNumber option rows n → IsSize n
@@ -139,6 +152,6 @@ read_size option rows kept = record { text = kept.text; is_text = kept.is_text; 
 pub is_asked : (words : List Text) → IsTaken words → (job : Job) × AsksIn (subcommand_of curspan words) job
 is_asked words none =
     let t = taken words none in (
-      record { kind = Run; lines = digits_value 10 (without_leading_plus t.lines.text); cols = digits_value 10 (without_leading_plus t.cols.text) },
+      record { kind = t.kind; lines = digits_value 10 (without_leading_plus t.lines.text); cols = digits_value 10 (without_leading_plus t.cols.text) },
       record { rows = t.rows; named = t.subcommand; lines = read_size (codes "lines") t.rows t.lines; cols = read_size (codes "cols") t.rows t.cols },
     )

@@ -1,20 +1,22 @@
 -- The command line, in the words of clap's definition of a simple command.
-use Rattle.std.specs.Prelude.{◌≡◌, ◌<◌, ◌≤◌, ◌^◌, ℕ, List, [], true, pos, codes, Option, Some}
+use Rattle.std.specs.Prelude.{◌≡◌, ◌∷◌, ◌<◌, ◌^◌, ℕ, List, [], true, false, fold, pos, codes, Option, Some}
 use Rattle.std.specs.Str.Parse.{IsNumeral, digits_value, without_leading_plus}
 use Rattle.clap.specs.Words.{App, Row, Rule, Text, fault_of, new_app, new_rule, one_of, subcommand_of, with_rule, with_subcommand}
 use Rattle.clap.specs.declared.builder.action.ArgAction.TheVariants.{Set}
 use Rattle.clap.specs.declared.builder.value_parser.ValueParser.TheVariants as parsers
+use Rattle.cell.specs.Limits.{is_no_size}
+use Rattle.cell.specs.declared.limits.TheConstants.{LARGEST_SCREEN}
 use Rattle.curspan.specs.declared.asked.Job.{Job}
 use Rattle.curspan.specs.declared.asked.Kind.{Kind}
-use Rattle.curspan.specs.declared.asked.Kind.TheVariants.{Run}
+use Rattle.curspan.specs.declared.asked.Kind.TheVariants.{Run, Paint}
 
--- a required option for a number from 1 to 255
+-- a required option for a number of lines or columns that a screen may have
 abbrev pub size_rule : Text → Rule
 size_rule name = record (new_rule name) {
   long = Some name;
   required = true;
   action = Some Set;
-  parser = Some (parsers.Signed (pos 1) (pos 255));
+  parser = Some (parsers.Signed (pos 1) (pos LARGEST_SCREEN));
 }
 
 -- a subcommand with the number of lines and of columns
@@ -28,11 +30,16 @@ demanding a = record { top = record a.top { subcommand_required = true }; subs =
 abbrev pub bare : App
 bare = demanding (new_app (codes "curspan"))
 
-abbrev pub curspan : App
-curspan = with_subcommand bare (mode (codes "run")).top
+-- the subcommands, and their names
+abbrev pub kinds : List Kind
+kinds = Run ∷ Paint ∷ []
 
 abbrev pub kind_text : Kind → Text
 kind_text Run = codes "run"
+kind_text Paint = codes "paint"
+
+abbrev pub curspan : App
+curspan = fold (λ app kind. with_subcommand app (mode (kind_text kind)).top) bare kinds
 
 -- `u16` reads a number from the text
 abbrev pub IsNumber : Text → Type 0
@@ -40,7 +47,7 @@ IsNumber text = IsNumeral 10 (without_leading_plus text) × (digits_value 10 (wi
 
 -- a number of lines or columns that a screen may have
 abbrev pub IsSize : ℕ → Type 0
-IsSize n = (1 ≤ n) × (n ≤ 255)
+IsSize n = is_no_size LARGEST_SCREEN n ≡ false
 
 -- the number that `u16` reads from the text of an option
 pub record ReadsNumber (option : Text) (rows : List Row) (n : ℕ) : Type 0 where
@@ -64,7 +71,7 @@ pub record AsksIn (subcommand : Option (Text × List Row)) (job : Job) : Type 0 
 abbrev pub IsTaken : List Text → Type 0
 IsTaken words = fault_of curspan words ≡ []
 
--- The words ask for this job: they have no fault, their subcommand asks for it, and its numbers are from 1 to 255.
+-- The words ask for this job: they have no fault, their subcommand asks for it, and its numbers are sizes of a screen.
 pub record Asks (words : List Text) (job : Job) : Type 0 where
   pub taken : IsTaken words
   pub asked : AsksIn (subcommand_of curspan words) job

@@ -1,3 +1,4 @@
 pub mod CommandLine
-pub mod Serving
+pub mod Printing
 pub mod Statuses
+pub mod Serving

@@ -1,19 +1,25 @@
 -- What the program does for its words, by the status that it answers.
-use Rattle.std.specs.Prelude.{◌≡◌, ◌⊎◌, ℕ, List, None, is_some}
+use Rattle.std.specs.Prelude.{◌≡◌, ◌⊎◌, ℕ, List, Some, None, true, false, is_some, MatchOption}
+use Rattle.std.specs.Io.KnownBytes.{Appends}
 use Rattle.clap.specs.Words.{IsAmong, Text, fault_of}
 use Rattle.clap.specs.declared.error.kind.ErrorKind.{ErrorKind}
 use Rattle.clap.specs.declared.error.kind.ErrorKind.TheVariants.{DisplayHelp, DisplayVersion, OutOfMemory}
-use Rattle.cell.specs.World.{first_world}
-use Rattle.paint.specs.Sinks.{Seen}
+use Rattle.cell.specs.Pictures.{Picture, Place, no_rendition, picture_of}
+use Rattle.world.specs.World.{World, first_world, picture, topmost_cursor}
+use Rattle.streams.specs.Sinks.{Seen}
 use Rattle.paint.specs.Updates.{first_painter}
 use Rattle.desk.specs.ScriptEnds.{LogEnds, ScriptEnds, read_failed, write_fault}
-use Rattle.desk.specs.Sources.{SourceSeen, counted}
-use Rattle.desk.specs.Tables.{world}
-use Rattle.desk.specs.declared.screen.Screen.{Screen}
-use Rattle.desk.specs.declared.script.fault.ScriptEnd.{ScriptEnd}
+use Rattle.streams.specs.Sources.{SourceSeen}
+use Rattle.streams.specs.Counts.{counted, next_count}
+use Rattle.desk.specs.Desks.{world}
+use Rattle.desk.specs.States.{ScreenOver}
+use Rattle.script.specs.declared.fault.ScriptEnd.{ScriptEnd}
 use Rattle.curspan.specs.CommandLine.{Asks, curspan}
+use Rattle.curspan.specs.Printing.{printed_picture}
 use Rattle.curspan.specs.Statuses.{status_of}
 use Rattle.curspan.specs.declared.asked.Job.{Job}
+use Rattle.curspan.specs.declared.asked.Kind.{Kind}
+use Rattle.curspan.specs.declared.asked.Kind.TheVariants.{Run, Paint}
 
 -- The status after an error of that kind: 4 for want of memory, which may befall the error's text as well; 0 where help was
 -- shown, and 3 where writing it failed; 2 for a usage fault.
@@ -27,30 +33,77 @@ IsStatusOfKind kind status = (status ≡ 2) ⊎ (status ≡ 4)
 abbrev pub Refuses : List Text → ℕ → Type 0
 Refuses words status = (kind : ErrorKind) × ((kind ≡ OutOfMemory) ⊎ IsAmong kind (fault_of curspan words)) × IsStatusOfKind kind status
 
+-- The script that was read ran on a screen, and ended so. A failure was counted exactly where its end has such a fault. Only a fault is
+-- told behind the lines of the calls.
+pub record Tells {W : Type 0} (seen : W → Seen) (first last : ScreenOver W) (input rest : SourceSeen) (log told : Seen) (end : ScriptEnd) : Type 0 where
+  pub logged : Seen
+  pub script : ScriptEnds seen first last input rest log logged end
+  pub reads : rest.failures ≡ counted (read_failed end.fault) input.failures
+  pub writes : (seen last.writer).failures ≡ counted (is_some (write_fault end.fault)) (seen first.writer).failures
+  pub logs : LogEnds end.fault log logged
+  pub tells : end.fault ≡ None → told ≡ logged
+
+-- The screen was blank at first, and over a sink of which this had been seen.
+pub record RunsScript {W : Type 0} (seen : W → Seen) (job : Job) (input rest : SourceSeen) (sink log told : Seen) (last : ScreenOver W) (end : ScriptEnd) : Type 0 where
+  pub first : ScreenOver W
+  pub blank : world first.desk ≡ first_world job.lines job.cols
+  pub unpainted : first.painter ≡ first_painter job.lines job.cols
+  pub over : seen first.writer ≡ sink
+  pub runs : Tells seen first last input rest log told end
+
+-- ---- run: the terminal bytes go to the output
+
 module _ {W : Type 0} (seen : W → Seen) where
-  -- The script that was read ran on a screen that was blank at first, over a sink that had taken these bytes, and the status
-  -- says how it ended. A failure was counted exactly where the script's end has such a fault. Only a fault is told behind the
-  -- lines of the calls.
-  pub record RunsScript (job : Job) (input rest : SourceSeen) (sink log told : Seen) (status : ℕ) : Type 0 where
-    pub first : Screen W
-    pub last : Screen W
+  pub record Runs (job : Job) (input rest : SourceSeen) (out log told : Seen) (status : ℕ) : Type 0 where
+    pub last : ScreenOver W
     pub end : ScriptEnd
-    pub logged : Seen
-    pub blank : world first.desk ≡ first_world job.lines job.cols
-    pub unpainted : first.painter ≡ first_painter job.lines job.cols
-    pub over : seen first.writer ≡ sink
-    pub script : ScriptEnds seen first last input rest log logged end
-    pub reads : rest.failures ≡ counted (read_failed end.fault) input.failures
-    pub writes : (seen last.writer).failures ≡ counted (is_some (write_fault end.fault)) sink.failures
-    pub logs : LogEnds end.fault log logged
-    pub tells : end.fault ≡ None → told ≡ logged
+    pub script : RunsScript seen job input rest out log told last end
     pub status_is : status ≡ status_of end
 
-  -- There was no memory for the screen, and nothing was read, or the script ran.
-  abbrev pub RunsJob : Job → SourceSeen → SourceSeen → Seen → Seen → Seen → ℕ → Type 0
-  RunsJob job input rest sink log told status = ((status ≡ 4) × (rest ≡ input)) ⊎ RunsScript job input rest sink log told status
+-- ---- paint: the terminal bytes are thrown away, and the picture is printed
+
+-- The picture and the cursor went to the output, and a flush succeeded behind them.
+pub record IsPrinted (shown : Picture) (cursor : Place) (out after : Seen) : Type 0 where
+  pub taken : Appends out.taken after.taken (printed_picture shown (Some cursor) no_rendition)
+  pub no_failure : after.failures ≡ out.failures
+  pub flushed : after.flushed ≡ true
+
+-- the picture of a world, with the topmost's cursor
+abbrev pub PrintsWorld : World → Seen → Seen → Type 0
+PrintsWorld world = IsPrinted (picture_of world.windows.lines world.windows.columns (picture world)) (topmost_cursor world)
+
+-- A script that ends with a fault prints nothing. Behind another the picture is printed, or writing it failed, which alone is told on the
+-- log behind what the script told.
+abbrev pub Prints : ScriptEnd → World → Seen → Seen → Seen → Seen → ℕ → Type 0
+Prints end world out shown told after status = MatchOption end.fault
+    ((PrintsWorld world out shown × (after ≡ told) × (status ≡ status_of end)) ⊎ ((shown.failures ≡ next_count out.failures) × (status ≡ 3)))
+    (λ fault. (shown ≡ out) × (after ≡ told) × (status ≡ status_of end))
+
+-- of a sink that keeps nothing
+abbrev pub nothing_seen : Seen
+nothing_seen = record { taken = None; failures = 0; flushed = false }
+
+module _ {V : Type 0} (discarded : V → Seen) where
+  pub record Paints (job : Job) (input rest : SourceSeen) (out shown log after : Seen) (status : ℕ) : Type 0 where
+    pub last : ScreenOver V
+    pub end : ScriptEnd
+    pub told : Seen
+    pub script : RunsScript discarded job input rest nothing_seen log told last end
+    pub prints : Prints end (world last.desk) out shown told after status
+
+-- ---- the program
+
+module _ {W V : Type 0} (seen : W → Seen) (discarded : V → Seen) where
+  -- What was asked for was done, on the output and the log before and after.
+  abbrev pub Does : Kind → Job → SourceSeen → SourceSeen → Seen → Seen → Seen → Seen → ℕ → Type 0
+  Does Run job input rest out shown log told status = Runs seen job input rest out log told status
+  Does Paint job input rest out shown log told status = Paints discarded job input rest out shown log told status
+
+  -- There was no memory for the screen, and nothing was read, or it was done.
+  abbrev pub ServesJob : Job → SourceSeen → SourceSeen → Seen → Seen → Seen → Seen → ℕ → Type 0
+  ServesJob job input rest out shown log told status = ((status ≡ 4) × (rest ≡ input)) ⊎ Does job.kind job input rest out shown log told status
 
   -- The words are refused, and nothing is read, or they ask for a job, and it was done.
-  abbrev pub Serves : List Text → SourceSeen → SourceSeen → Seen → Seen → Seen → ℕ → Type 0
-  Serves words input rest sink log told status =
-      (Refuses words status × (rest ≡ input)) ⊎ ((job : Job) × Asks words job × RunsJob job input rest sink log told status)
+  abbrev pub Serves : List Text → SourceSeen → SourceSeen → Seen → Seen → Seen → Seen → ℕ → Type 0
+  Serves words input rest out shown log told status =
+      (Refuses words status × (rest ≡ input)) ⊎ ((job : Job) × Asks words job × ServesJob job input rest out shown log told status)

@@ -1,9 +1,9 @@
 -- The exit statuses of the program.
 use Rattle.std.specs.Prelude.{ℕ, if◌then◌else◌}
 use Rattle.std.specs.Option.{option_map_or}
-use Rattle.desk.specs.declared.script.fault.ScriptEnd.{ScriptEnd}
-use Rattle.desk.specs.declared.script.fault.ScriptFault.{ScriptFault}
-use Rattle.desk.specs.declared.script.fault.ScriptFault.TheVariants.{Text, Reading, Write, Log}
+use Rattle.script.specs.declared.fault.ScriptEnd.{ScriptEnd}
+use Rattle.script.specs.declared.fault.ScriptFault.{ScriptFault}
+use Rattle.script.specs.declared.fault.ScriptFault.TheVariants.{Text, Reading, Write, Log}
 
 -- 2 for a fault of the text, 3 where reading or writing failed
 abbrev pub status_of_fault : ScriptFault → ℕ

@@ -5,6 +5,8 @@
 pub enum Kind {
     /// Runs a script.
     Run,
+    /// Prints the picture that a script leaves.
+    Paint,
 }
 
 /// What is asked for, on a screen of that many lines and columns.

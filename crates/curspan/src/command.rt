@@ -8,6 +8,7 @@ ghost use Rattle.curspan.specs.declared.asked.Kind.{Kind};
 ghost use Rattle.curspan.specs.CommandLine.{Asks, AsksIn, ReadsNone, ReadsNumber, curspan, kind_text, mode, size_rule};
 
 use crate::asked::{Job, Kind};
+use cell::LARGEST_SCREEN;
 use clap::error::ErrorKind;
 use clap::{Arg, ArgAction, ArgMatches, Command, Error};
 use std::alloc::{AllocError, Global};
@@ -22,7 +23,7 @@ fn size(alloc: Global, name: &str) -> Arg<'_>
         .long(name)
         .required(true)
         .action(ArgAction::Set)
-        .value_parser(clap::value_parser!(u16).range(1..=255))
+        .value_parser(clap::value_parser!(u16).range(1..=i64::from(LARGEST_SCREEN)))
 }
 
 /// A subcommand that needs a size.
@@ -38,16 +39,23 @@ fn subcommand<'a>(alloc: Global, name: &'a str) -> Result<Command<'a>, AllocErro
 fn command<'a>(alloc: Global) -> Result<Command<'a>, AllocError>
     ensures { IfOk result (λ c. app_of c ≡ curspan) }
 {
+    let run = subcommand(alloc, "run")?;
+    let paint = subcommand(alloc, "paint")?;
     Command::new(alloc, "curspan")
         .subcommand_required(true)
-        .subcommand(subcommand(alloc, "run")?)
+        .subcommand(run)?
+        .subcommand(paint)
 }
 
 /// The subcommand of a name.
 fn kind_of(name: &str) -> Option<Kind>
     ensures { MatchOption result ((kind : Kind) → name.now ≡ kind_text kind → ⊥) (λ kind. name.now ≡ kind_text kind) }
 {
-    if name == "run" { Some(Kind::Run) } else { None }
+    match name {
+        "run" => Some(Kind::Run),
+        "paint" => Some(Kind::Paint),
+        _ => None,
+    }
 }
 
 /// The number of an option of the matches.

@@ -1,12 +1,15 @@
-//! Runs scripts of calls on a screen of windows.
+//! Runs scripts of calls on a screen of windows, and prints the pictures that they leave.
 #![tactic(auto)]
 
 mod asked;
 mod command;
+mod printing;
+mod put;
 mod serve;
 
 use desk::{Counted, CountedReader, Sink};
-use serve::{no_memory, put, serve};
+use put::put;
+use serve::{no_memory, serve};
 use std::io::{BufReader, BufWriter, ErrorKind};
 use std::process::ExitCode;
 use std::{env, io};

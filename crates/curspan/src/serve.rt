@@ -1,23 +1,28 @@
 //! Does what the command line asks for, over any reader and writers.
 
-ghost use Rattle.std.specs.Prelude.{◌≡◌, ◌<◌, true, map, if◌then◌else◌};
+ghost use Rattle.std.specs.Prelude.{◌≡◌, ◌<◌, ◌⊎◌, ℕ, Some, Err, true, false, is_some, map};
 ghost use Rattle.std.specs.Io.KnownBytes.{Appends};
-ghost use Rattle.paint.specs.Sinks.{next_count};
+ghost use Rattle.cell.specs.Pictures.{no_rendition};
+ghost use Rattle.streams.specs.Counts.{counted, next_count};
 ghost use Rattle.clap.specs.Words.{kind_of};
 ghost use Rattle.curspan.specs.CommandLine.{IsSize};
-ghost use Rattle.curspan.specs.Serving.{IsStatusOfKind, RunsJob, Serves};
+ghost use Rattle.curspan.specs.Serving.{IsPrinted, IsStatusOfKind, Paints, Runs, Serves, Tells};
+ghost use Rattle.desk.specs.States.{after, state_of};
+ghost use Rattle.std.specs.Bool.{OnTrue};
 ghost use Rattle.curspan.specs.Statuses.{status_of};
 
 use crate::asked::{Job, Kind};
 use crate::command::job;
+use crate::printing::put_picture;
+use crate::put::put;
 use arrayvec::ArrayString;
 use clap::Error;
 use clap::error::ErrorKind;
-use desk::{Screen, ScriptEnd, ScriptFault, Sink, Source};
-use paint::send;
+use desk::{Call, Desk, Refresh, Screen, ScriptEnd, ScriptFault, Sink, Source};
 use std::alloc::Global;
 use std::convert::AsStr;
 use std::fmt::Write;
+use streams::Discard;
 
 /// Every call was accepted, or help was asked for.
 const ACCEPTED: u8 = 0;
@@ -29,22 +34,6 @@ const BAD_TEXT: u8 = 2;
 const FAILED: u8 = 3;
 /// There is no memory for the screen.
 const NO_MEMORY: u8 = 4;
-
-/// Writes a text, and answers whether all of it went out.
-pub fn put<W: Sink>(sink: &mut W, text: &[u8]) -> bool
-    ensures taken { result ≡ true → Appends (W.seen sink.old).taken (W.seen sink.new).taken text.now }
-    ensures failures { (W.seen sink.new).failures ≡ (if result then (W.seen sink.old).failures else next_count (W.seen sink.old).failures) }
-{
-    let mut rest = text;
-    while !rest.is_empty() {
-        let (piece, after) = rest.split_at(rest.len().min(4096));
-        match send(sink, 0, piece) {
-            Ok(_) => rest = after,
-            Err(_) => return false,
-        }
-    }
-    true
-}
 
 /// Says on the log that there is no memory, and answers that status.
 pub fn no_memory<L: Sink>(log: &mut L) -> u8
@@ -108,7 +97,24 @@ fn status_of(end: ScriptEnd) -> u8
     }
 }
 
-/// Runs a script on a screen of the job's size, and answers the status.
+/// Runs a script on a screen, and tells on the log of the fault that ended it.
+fn run_told<W: Sink, R: Source, L: Sink>(
+    screen: &mut Screen<W>,
+    input: &mut R,
+    log: &mut L,
+) -> ScriptEnd
+    ensures ran { Tells W.seen screen.old screen.new (R.seen input.old) (R.seen input.new) (L.seen log.old) (L.seen log.new) result }
+{
+    let end = screen.run_script(input, log);
+    if let Some(fault) = end.fault {
+        let line = last_line(fault);
+        put(log, line.as_str().as_bytes());
+        let _ = log.flush();
+    }
+    end
+}
+
+/// Runs a script on a screen of the job's size over the output, and answers the status.
 fn run<'a, R: Source, O: Sink, L: Sink>(
     alloc: Global,
     job: Job,
@@ -117,24 +123,70 @@ fn run<'a, R: Source, O: Sink, L: Sink>(
     log: &mut L,
 ) -> u8
     requires { IsSize job.lines × IsSize job.cols }
-    ensures ran { RunsJob ⟦<&'a mut O as Sink>⟧.seen job (R.seen input.old) (R.seen input.new) (O.seen out.old) (L.seen log.old) (L.seen log.new) result }
+    ensures ran { ((result ≡ 4) × (R.seen input.new ≡ R.seen input.old))
+        ⊎ Runs ⟦<&'a mut O as Sink>⟧.seen job (R.seen input.old) (R.seen input.new) (O.seen out.old) (L.seen log.old) (L.seen log.new) result }
     ensures log { result < 2 → (L.seen log.new).failures ≡ (L.seen log.old).failures }
 {
     let mut screen = match Screen::new(alloc, job.lines, job.cols, out) {
         Ok(screen) => screen,
         Err(_) => return no_memory(log),
     };
-    let end = screen.run_script(input, log);
-    if let Some(fault) = end.fault {
-        let line = last_line(fault);
-        put(log, line.as_str().as_bytes());
-        let _ = log.flush();
+    status_of(run_told(&mut screen, input, log))
+}
+
+/// Takes the picture of a screen into its virtual screen.
+fn take_picture<W: Sink>(screen: &mut Screen<W>)
+    ensures { state_of screen.new ≡ after (state_of screen.old) (Call.Refresh Refresh.UpdatePanels) }
+{
+    match screen.call(&Call::Refresh(Refresh::UpdatePanels)) {
+        Ok(_) => {}
+        Err(_) => unreachable!(),
     }
-    status_of(end)
+}
+
+/// Prints the virtual screen of a desk and flushes, and answers whether all of it went out.
+fn print<O: Sink>(out: &mut O, desk: &Desk) -> bool
+    ensures printed { OnTrue result (IsPrinted desk.now.virtual.picture desk.now.virtual.cursor (O.seen out.old) (O.seen out.new)) }
+    ensures failed { result ≡ false → (O.seen out.new).failures ≡ next_count (O.seen out.old).failures }
+{
+    if !put_picture(out, desk) {
+        return false;
+    }
+    out.flush().is_ok()
+}
+
+/// Runs a script on a screen of the job's size, prints the picture that it leaves, and answers the status.
+fn paint<R: Source, O: Sink, L: Sink>(
+    alloc: Global,
+    job: Job,
+    input: &mut R,
+    out: &mut O,
+    log: &mut L,
+) -> u8
+    requires { IsSize job.lines × IsSize job.cols }
+    ensures painted { ((result ≡ 4) × (R.seen input.new ≡ R.seen input.old))
+        ⊎ Paints ⟦<Discard as Sink>⟧.seen job (R.seen input.old) (R.seen input.new) (O.seen out.old) (O.seen out.new) (L.seen log.old) (L.seen log.new) result }
+    ensures log { result < 2 → (L.seen log.new).failures ≡ (L.seen log.old).failures }
+{
+    let mut screen = match Screen::new(alloc, job.lines, job.cols, Discard::new()) {
+        Ok(screen) => screen,
+        Err(_) => return no_memory(log),
+    };
+    let end = run_told(&mut screen, input, log);
+    if end.fault.is_some() {
+        return status_of(end);
+    }
+    take_picture(&mut screen);
+    if print(out, screen.desk()) {
+        status_of(end)
+    } else {
+        put(log, b"writing failed\n");
+        FAILED
+    }
 }
 
 /// Does what the words ask for, and answers the status: where clap refuses the words, that of its error's kind, and nothing is
-/// read; else that of how the script ended, or 4 where there is no memory. The first word is the program's name. A status
+/// read; else that of how the script ended, 3 where its picture can't be written, or 4 where there is no memory. The first word is the program's name. A status
 /// below 2 tells that no write or flush of the log failed.
 pub fn serve<'a, S: AsStr, R: Source, O: Sink, L: Sink>(
     alloc: Global,
@@ -143,12 +195,13 @@ pub fn serve<'a, S: AsStr, R: Source, O: Sink, L: Sink>(
     out: &'a mut O,
     log: &mut L,
 ) -> u8
-    ensures served { Serves ⟦<&'a mut O as Sink>⟧.seen (map S.text words.now) (R.seen input.old) (R.seen input.new) (O.seen out.old) (L.seen log.old) (L.seen log.new) result }
+    ensures served { Serves ⟦<&'a mut O as Sink>⟧.seen ⟦<Discard as Sink>⟧.seen (map S.text words.now) (R.seen input.old) (R.seen input.new) (O.seen out.old) (O.seen out.new) (L.seen log.old) (L.seen log.new) result }
     ensures log { result < 2 → (L.seen log.new).failures ≡ (L.seen log.old).failures }
 {
     match job(alloc, words) {
         Ok(job) => match job.kind {
             Kind::Run => run(alloc, job, input, out, log),
+            Kind::Paint => paint(alloc, job, input, out, log),
         },
         Err(error) => usage(alloc, &error, out, log),
     }

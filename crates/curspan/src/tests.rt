@@ -89,6 +89,8 @@ fn served(alloc: Global, words: &[&str], script: Pieces<'_>) -> Ended {
 
 const FOUR_BY_TEN: [&str; 6] = ["curspan", "run", "--lines", "4", "--cols", "10"];
 
+const PAINT_FOUR_BY_TEN: [&str; 6] = ["curspan", "paint", "--lines", "4", "--cols", "10"];
+
 const TWO_BY_TWO: [&str; 6] = ["curspan", "run", "--lines", "2", "--cols", "2"];
 
 /// Runs a script on a screen of 4 by 10.
@@ -343,12 +345,149 @@ fn a_log_that_cannot_be_flushed_has_failed(rt: HostRuntime) -> Result<(), Fail> 
     Ok(())
 }
 
+/// Prints the picture that a script leaves on a screen of 4 by 10.
+fn painted(alloc: Global, bytes: &[u8]) -> Ended {
+    let (step, fails) = (512, false);
+    served(alloc, &PAINT_FOUR_BY_TEN, Pieces { bytes, step, fails })
+}
+
+const HELLO_PICTURE: &[u8] =
+    b"|hi        |\n|          |\n|          |\n|          |\ncursor 0 2\nrendition 00\n";
+
+#[test]
+fn paints_attributes_below_their_lines(rt: HostRuntime) -> Result<(), Fail> {
+    let script = Pieces {
+        bytes: b"addstr 0 ab\nattrset 0 2a\naddch 0 c\nattrset 0 00\naddstr 0 de\nattron 0 10\naddstr 0  f
+move 0 1 2\n",
+        step: 512,
+        fails: false,
+    };
+    let words = ["curspan", "paint", "--lines", "4", "--cols", "3"];
+    let end = served(rt.alloc(), &words, script);
+    assert_eq!(rt; end.status, 0);
+    assert_eq!(rt;
+        end.out.as_slice(),
+        b"|abc|\n:00002a\n|de |\n:000010\n|f  |\n:100000\n|   |\ncursor 1 2\nrendition 00\n".as_slice()
+    );
+    assert!(rt; end.log.is_empty());
+    Ok(())
+}
+
+#[test]
+fn paints_what_was_written_last_and_sends_no_terminal_bytes(rt: HostRuntime) -> Result<(), Fail> {
+    let scripts: [&[u8]; 3] = [
+        b"addstr 0 hi",
+        HELLO,
+        b"addstr 0 go\nupdate_panels\ndoupdate\nmove 0 0 0\naddstr 0 hi\n",
+    ];
+    for script in scripts {
+        let end = painted(rt.alloc(), script);
+        assert_eq!(rt; end.status, 0);
+        assert_eq!(rt; end.out.as_slice(), HELLO_PICTURE);
+        assert!(rt; end.log.is_empty());
+    }
+    Ok(())
+}
+
+#[test]
+fn paints_also_after_a_refused_call(rt: HostRuntime) -> Result<(), Fail> {
+    let end = painted(rt.alloc(), b"addstr 9 a\naddstr 0 hi\n");
+    assert_eq!(rt; end.status, 1);
+    assert_eq!(rt; end.out.as_slice(), HELLO_PICTURE);
+    assert_eq!(rt; end.log.as_slice(), b"line 1: E1 NoSuchWindow\n".as_slice());
+    Ok(())
+}
+
+#[test]
+fn paints_nothing_after_a_fault(rt: HostRuntime) -> Result<(), Fail> {
+    let cases: [(&[u8], bool, u8, &[u8]); 2] = [
+        (
+            b"addstr 9 a\naddstr 0 hi\nupdate_panels\nfly\n",
+            false,
+            2,
+            b"line 1: E1 NoSuchWindow\nline 4: unknown call\n",
+        ),
+        (
+            b"addstr 9 a\naddstr 0 hi\nupdate_panels\nf",
+            true,
+            3,
+            b"line 1: E1 NoSuchWindow\nreading failed\n",
+        ),
+    ];
+    for (bytes, fails, status, log) in cases {
+        let step = 7;
+        let script = Pieces { bytes, step, fails };
+        let end = served(rt.alloc(), &PAINT_FOUR_BY_TEN, script);
+        assert_eq!(rt; end.status, status);
+        assert!(rt; end.out.is_empty());
+        assert_eq!(rt; end.log.as_slice(), log);
+    }
+    Ok(())
+}
+
+#[test]
+fn a_picture_that_cannot_be_written_is_told(rt: HostRuntime) -> Result<(), Fail> {
+    let alloc = rt.alloc();
+    let cases: [(usize, usize, bool, &[u8]); 3] = [
+        (20, 1, true, b"|hi        |\n|      "),
+        (0, 1, true, b""),
+        (0, 0, false, HELLO_PICTURE),
+    ];
+    for (room, failures, flushes, taken) in cases {
+        let (bytes, step, fails) = (HELLO, 512, false);
+        let mut input = CountedReader::new(Pieces { bytes, step, fails });
+        let mut out = Counted::new(Narrow {
+            taken: Vec::new(alloc),
+            room,
+            failures,
+            flushes,
+        });
+        let mut log = taking(alloc, 0, 0);
+        let status = serve(alloc, &PAINT_FOUR_BY_TEN, &mut input, &mut out, &mut log);
+        assert_eq!(rt; status, 3);
+        assert_eq!(rt; out.into_inner().taken.as_slice(), taken);
+        assert_eq!(rt;
+            log.into_inner().taken.as_slice(),
+            b"writing failed\n".as_slice()
+        );
+    }
+    Ok(())
+}
+
+#[test]
+fn paints_nothing_where_the_log_fails(rt: HostRuntime) -> Result<(), Fail> {
+    let alloc = rt.alloc();
+    let bytes = b"addstr 1 x\naddstr 0 hi\n".as_slice();
+    let cases = [
+        (9, true, b"line 1".as_slice()),
+        (1, true, b"line 1writing failed\n"),
+        (0, false, b"line 1: E1 NoSuchWindow\nwriting failed\n"),
+    ];
+    for (failures, flushes, logged) in cases {
+        let (step, fails) = (512, false);
+        let mut input = CountedReader::new(Pieces { bytes, step, fails });
+        let mut out = taking(alloc, 0, 0);
+        let mut log = Counted::new(Narrow {
+            taken: Vec::new(alloc),
+            room: 6,
+            failures,
+            flushes,
+        });
+        let status = serve(alloc, &PAINT_FOUR_BY_TEN, &mut input, &mut out, &mut log);
+        assert_eq!(rt; status, 3);
+        assert!(rt; out.into_inner().taken.is_empty());
+        assert_eq!(rt; log.into_inner().taken.as_slice(), logged);
+    }
+    Ok(())
+}
+
 #[test]
 fn prints_help(rt: HostRuntime) -> Result<(), Fail> {
     let alloc = rt.alloc();
     for words in [
         ["curspan", "--help"].as_slice(),
         &["curspan", "run", "--help"],
+        &["curspan", "paint", "--help"],
     ] {
         let (bytes, step, fails) = (HELLO, 512, false);
         let end = served(alloc, words, Pieces { bytes, step, fails });
@@ -362,8 +501,9 @@ fn prints_help(rt: HostRuntime) -> Result<(), Fail> {
 #[test]
 fn refuses_other_command_lines(rt: HostRuntime) -> Result<(), Fail> {
     let alloc = rt.alloc();
-    let cases: [&[&str]; 9] = [
+    let cases: [&[&str]; 10] = [
         &["curspan"],
+        &["curspan", "paint", "--lines", "4"],
         &["curspan", "show", "--lines", "4", "--cols", "10"],
         &["curspan", "run"],
         &["curspan", "run", "--lines", "4"],

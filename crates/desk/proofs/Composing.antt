@@ -9,17 +9,17 @@ use Rattle.std.proofs.lemmas.List.Elements.{recursion_from_All}
 use Rattle.std.proofs.lemmas.List.FromFn.{length-map-range_with_len, get_or-map-range_with_len}
 use Rattle.cell.specs.Glyphs.{Glyph, IsCell, blank}
 use Rattle.cell.specs.Pictures.{Picture, HasSize, AreCells, origin, picture_of, shown_at}
-use Rattle.cell.specs.Windows.{Window, WindowMap, Windows, HasPlace, cell_at, cell_in_grid, cell_of, changed}
-use Rattle.cell.specs.Panels.{no_panels, standard_screen, place_of, screen_place, cursor_from}
-use Rattle.cell.specs.World.{World, VirtualScreen, picture, topmost_cursor}
-use Rattle.cell.specs.Sound.{AreSoundWindows, HasCells, IsSound, IsSoundWindow, IsStandardScreen}
-use Rattle.cell.specs.Rows.{line_shown}
-use Rattle.cell.specs.Refresh.{refreshed, with_refreshed, asks_for_clear, after_update_panels}
-use Rattle.cell.specs.declared.window.Settings.{Settings}
-use Rattle.grids.specs.Tables.{Table as WindowTable, windows}
-use Rattle.desk.specs.Tables.{world}
+use Rattle.world.specs.Windows.{Window, WindowMap, Windows, HasPlace, cell_at, cell_in_grid, cell_of, changed}
+use Rattle.world.specs.Panels.{no_panels, standard_screen, place_of, screen_place, cursor_from}
+use Rattle.world.specs.World.{World, VirtualScreen, picture, topmost_cursor}
+use Rattle.world.specs.Sound.{AreSoundWindows, HasCells, IsSound, IsSoundWindow, IsStandardScreen}
+use Rattle.world.specs.Rows.{line_shown}
+use Rattle.world.specs.calls.Refresh.{unmarked, with_unmarked, asks_for_clear, after_update_panels}
+use Rattle.world.specs.declared.settings.Settings.{Settings}
+use Rattle.grids.specs.Tables.{WindowTable, windows}
+use Rattle.desk.specs.Desks.{world}
 use Rattle.desk.proofs.DeskLemmas.{desk_of}
-use Rattle.cell.proofs.WindowLaws.{own-own_grid}
+use Rattle.world.proofs.WindowLaws.{own-own_grid}
 use Rattle.cell.proofs.PictureLemmas.{HasSize-picture_of, same_pictures, shown_at-picture_of}
 
 -- ---- the standard screen
@@ -49,7 +49,7 @@ standard-cell windows (Some a) is standard sound y x below left =
     let leads = own-own_grid windows.window standard_screen a standard.cells y x is standard.grid in
     let cells = subst (HasCells windows.window a) standard.grid sound.cells in
     let glyph : cell_at windows.window standard_screen y x ≡ standard.cells y x =
-    ap (cell_in_grid windows.window) leads ∙ ap (λ o. option_map_or (λ b. cell_of b.source y x) o blank) is ∙ ap (λ source. cell_of source y x) standard.grid in
+    ap (cell_in_grid windows.window) leads ∙ ap (λ o. option_map_or (λ b. cell_of b.backing y x) o blank) is ∙ ap (λ source. cell_of source y x) standard.grid in
     subst IsCell (sym glyph) (cells y x (rw standard.lines below) (rw standard.columns left))
 
 pub length-shown : (windows : Windows) (y : ℕ) → AreSoundWindows windows → length (line_shown windows.window standard_screen y) ≡ windows.columns
@@ -124,9 +124,9 @@ or_nothing : (b : Bool) → (b || false) ≡ b
 or_nothing true = refl
 or_nothing false = refl
 
-refreshed-standard : (window : WindowMap) (u : ℕ) → changed window standard_screen refreshed u ≡ with_refreshed window (standard_screen ∷ []) u
-refreshed-standard window u = elim (cases_eq u 0) [
-  | inl same ↦ subst (λ k. changed window standard_screen refreshed k ≡ with_refreshed window (standard_screen ∷ []) k) (sym same) refl
+unmarked-standard : (window : WindowMap) (u : ℕ) → changed window standard_screen unmarked u ≡ with_unmarked window (standard_screen ∷ []) u
+unmarked-standard window u = elim (cases_eq u 0) [
+  | inl same ↦ subst (λ k. changed window standard_screen unmarked k ≡ with_unmarked window (standard_screen ∷ []) k) (sym same) refl
   | inr other ↦ let e = ne_eqb u 0 other in let f = ne_eqb 0 u (λ same. other (sym same)) in rw (e, f) refl
 ]
 
@@ -142,7 +142,7 @@ clear-there (Some a) settings h = let same : a.settings ≡ settings = cc in or_
 
 module _ (old new : WindowTable) (virtual : VirtualScreen) (shown : Picture) (settings : Settings) (clear : Bool)
     (h : AreSoundWindows (windows old))
-    (windows_are : windows new ≡ record (windows old) { window = changed (windows old).window standard_screen refreshed })
+    (windows_are : windows new ≡ record (windows old) { window = changed (windows old).window standard_screen unmarked })
     (shown_is : shown ≡ picture_of old.lines old.columns (cell_at (windows old).window standard_screen))
     (settings_are : option_map (λ a. a.settings) ((windows old).window standard_screen) ≡ Some settings)
     (clear_is : clear ≡ (virtual.clear || settings.clear)) where
@@ -167,7 +167,7 @@ module _ (old new : WindowTable) (virtual : VirtualScreen) (shown : Picture) (se
   world-composed =
       (λ i. record { windows = windows_are i; panels = no_panels; virtual = record { picture = picture-is i; cursor = cursor-is i; clear = clear-is i } })
       ∙ (λ i. record (after_update_panels (world (desk_of old virtual))) {
-        windows = record (windows old) { window = fun_ext (refreshed-standard (windows old).window) i };
+        windows = record (windows old) { window = fun_ext (unmarked-standard (windows old).window) i };
       })
 
   settings-within : (o : Option Window) → o ≡ (windows old).window standard_screen → option_map (λ a. a.settings) o ≡ Some settings → IsSomeAnd o (IsStandardScreen (windows old))

@@ -3,25 +3,25 @@ use Rattle.std.proofs.Common.{◌≡◌, Bool, true, false, ◌⊎◌, Some, Non
 use Rattle.std.specs.Prelude.{IfOk, OnErr, OnOk}
 use Rattle.std.specs.Result.{result_err}
 use Rattle.cell.specs.Refusals.{RefusedBy}
-use Rattle.cell.specs.Panels.{no_panels}
-use Rattle.cell.specs.World.{VirtualScreen}
-use Rattle.cell.specs.Sound.{AreSoundWindows, IsSound}
+use Rattle.world.specs.Panels.{no_panels}
+use Rattle.world.specs.World.{VirtualScreen}
+use Rattle.world.specs.Sound.{AreSoundWindows, IsSound}
 use Rattle.cell.specs.declared.refusal.Refusal.{Refusal}
 use Rattle.cell.specs.declared.refusal.Refusal.TheVariants.{NoMemory}
-use Rattle.grids.specs.Tables.{Table as WindowTable, windows}
-use Rattle.desk.specs.Tables.{Table, world}
-use Rattle.desk.specs.Calls.{after_making, after_writing, makes_window, making_refusal, making_reply}
+use Rattle.grids.specs.Tables.{WindowTable, windows}
+use Rattle.desk.specs.Desks.{DeskTable, world}
+use Rattle.world.specs.calls.Dispatch.{after_making, after_writing, makes_window, making_refusal, making_reply}
 use Rattle.desk.specs.Runs.{Called, MayRefuse}
-use Rattle.desk.specs.declared.call.Call.{Call}
-use Rattle.desk.specs.declared.call.Call.TheVariants as calls
-use Rattle.desk.specs.declared.call.Making.{Making}
-use Rattle.desk.specs.declared.call.Writing.{Writing}
-use Rattle.desk.specs.declared.call.Reply.{Reply}
-use Rattle.desk.proofs.Sizes.{SameSize, size-call, size-making, size-writing}
+use Rattle.world.specs.declared.call.Call.{Call}
+use Rattle.world.specs.declared.call.Call.TheVariants as calls
+use Rattle.world.specs.declared.call.Making.{Making}
+use Rattle.world.specs.declared.call.Writing.{Writing}
+use Rattle.world.specs.declared.call.Reply.{Reply}
+use Rattle.world.proofs.Sizes.{SameSize, size-call, size-making, size-writing}
 
 -- a desk of these windows and this virtual screen
-abbrev pub desk_of : WindowTable → VirtualScreen → Table
-desk_of w virtual = record { lines = w.lines; columns = w.columns; slots = w.slots; virtual = virtual }
+abbrev pub desk_of : WindowTable → VirtualScreen → DeskTable
+desk_of w virtual = record { windows = w; virtual = virtual }
 
 module _ (old new : WindowTable) (virtual : VirtualScreen) where
   pub IsSound-desk : IsSound (world (desk_of old virtual)) → AreSoundWindows (windows new) → SameSize (windows new) (windows old) → IsSound (world (desk_of new virtual))
@@ -63,8 +63,8 @@ module _ (old new : WindowTable) (virtual : VirtualScreen) where
   size-written writing (Err e) written unchanged = record { lines = ap (λ u. u.lines) unchanged; columns = ap (λ u. u.columns) unchanged }
 
 -- no call changes the size of a desk
-pub size-called : (old new : Table) (call : Call) (r : Result Reply Refusal) → Called old call r new → (new.lines ≡ old.lines) × (new.columns ≡ old.columns)
+pub size-called : (old new : DeskTable) (call : Call) (r : Result Reply Refusal) → Called old call r new → (new.windows.lines ≡ old.windows.lines) × (new.windows.columns ≡ old.windows.columns)
 size-called old new call (Ok reply) h =
     let size = size-call (world old) call in
     (ap (λ w. w.windows.lines) h.2 ∙ size.lines, ap (λ w. w.windows.columns) h.2 ∙ size.columns)
-size-called old new call (Err e) h = (ap (λ t. t.lines) h.1, ap (λ t. t.columns) h.1)
+size-called old new call (Err e) h = (ap (λ t. t.windows.lines) h.1, ap (λ t. t.windows.columns) h.1)

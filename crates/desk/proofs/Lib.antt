@@ -1,14 +1,7 @@
-pub mod TextLemmas
-pub mod Sizes
 pub mod Composing
-pub mod WordLemmas
 pub mod DeskLemmas
 pub mod RunLemmas
 pub mod ShowingLemmas
-pub mod NumberLemmas
-pub mod LineLemmas
-pub mod ArgumentLemmas
-pub mod ByteLemmas
 pub mod AnswerLemmas
 pub mod LineEndLemmas
 pub mod ScriptLemmas

@@ -2,21 +2,24 @@
 use Rattle.std.proofs.Common.{◌≡◌, ℕ, List, [], ◌∷◌, Bool, true, false, take, None, Some, Ok, Err, Result, is_err, is_ok, not, refl, ap, subst, sym, ◌∙◌, append-nil, ◌||◌}
 use Rattle.std.proofs.KnownBytes.{Appends-nil}
 use Rattle.std.specs.Io.KnownBytes.{Appends}
-use Rattle.paint.specs.Sinks.{Seen}
-use Rattle.desk.specs.Calls.{is_doupdate}
-use Rattle.desk.specs.Ends.{Answers, Makes}
-use Rattle.desk.specs.Script.{said_by_line}
-use Rattle.desk.specs.Log.{log_line}
+use Rattle.streams.specs.Sinks.{Seen}
+use Rattle.world.specs.calls.Dispatch.{is_doupdate}
+use Rattle.desk.specs.Ends.{CallEnds, Makes}
+use Rattle.desk.specs.steps.Answers.{joined}
+use Rattle.desk.proofs.AnswerLemmas.{Answered, is_answered}
+use Rattle.script.specs.Readings.{said_by_line}
+use Rattle.script.specs.Log.{log_line}
 use Rattle.desk.specs.ScriptEnds.{LineEnds}
-use Rattle.desk.specs.declared.call.Call.{Call}
-use Rattle.desk.specs.declared.call.Call.TheVariants.{Making, Writing, Query, Refresh}
-use Rattle.desk.specs.declared.call.Refresh.TheVariants.{UpdatePanels, Doupdate}
-use Rattle.desk.specs.declared.call.Reply.{Reply}
+use Rattle.world.specs.declared.call.Call.{Call}
+use Rattle.world.specs.declared.call.Call.TheVariants.{Making, Writing, Query, Refresh}
+use Rattle.world.specs.declared.call.Refresh.TheVariants.{UpdatePanels, Doupdate}
+use Rattle.world.specs.declared.call.Reply.{Reply}
 use Rattle.cell.specs.declared.refusal.Refusal.{Refusal}
-use Rattle.paint.specs.declared.sending.WriteFault.{WriteFault}
-use Rattle.desk.specs.declared.screen.Screen.{Screen}
-use Rattle.desk.specs.declared.script.fault.TextFault.{TextFault}
-use Rattle.desk.specs.declared.script.fault.ScriptFault.TheVariants.{Text, Write, Log}
+use Rattle.streams.specs.declared.sending.WriteFault.{WriteFault}
+use Rattle.desk.specs.States.{ScreenOver}
+use Rattle.script.specs.declared.fault.TextFault.{TextFault}
+use Rattle.script.specs.declared.fault.ScriptFault.TheVariants.{Text, Write, Log}
+use Rattle.desk.specs.declared.screen.Fault.TheVariants.{Write as Cut}
 
 the_doupdate : (call : Call) → is_doupdate call ≡ true → call ≡ Refresh Doupdate
 the_doupdate (Making m) h = cc
@@ -34,10 +37,10 @@ refused_is (Ok reply) r e = e
 refused_is (Err refusal) r e = e
 
 module _ {W : Type 0} (seen : W → Seen) where
-  no_calls : (old : Screen W) → Makes seen old [] [] old
+  no_calls : (old : ScreenOver W) → Makes seen old [] [] old
   no_calls old = record { run = tt; state = refl; bytes = Appends-nil _ }
 
-  pub line_says_nothing : (old : Screen W) (n : ℕ) (line : List ℕ) (log : Seen) → said_by_line line ≡ Ok None
+  pub line_says_nothing : (old : ScreenOver W) (n : ℕ) (line : List ℕ) (log : Seen) → said_by_line line ≡ Ok None
       → LineEnds seen old old n line log log (record { refused = false; fault = None })
   line_says_nothing old n line log said = record {
     call = None;
@@ -49,7 +52,7 @@ module _ {W : Type 0} (seen : W → Seen) where
     refused = refl;
   }
 
-  pub line_has_fault : (old : Screen W) (n : ℕ) (line : List ℕ) (log : Seen) (fault : TextFault) → said_by_line line ≡ Err fault
+  pub line_has_fault : (old : ScreenOver W) (n : ℕ) (line : List ℕ) (log : Seen) (fault : TextFault) → said_by_line line ≡ Err fault
       → LineEnds seen old old n line log log (record { refused = false; fault = Some (Text n fault) })
   line_has_fault old n line log fault said = record {
     call = None;
@@ -61,7 +64,7 @@ module _ {W : Type 0} (seen : W → Seen) where
     refused = refl;
   }
 
-  one_call : (old new : Screen W) (call : Call) (answer : Result Reply Refusal) (a : Answers seen old call (Ok answer) new)
+  one_call : (old new : ScreenOver W) (call : Call) (answer : Result Reply Refusal) (a : Answered seen old call answer new)
       → Makes seen old (call ∷ []) (record { answer = answer; sent = a.1.0 } ∷ []) new
   one_call old new call answer a = record {
     run = (a.1.1, tt);
@@ -69,11 +72,11 @@ module _ {W : Type 0} (seen : W → Seen) where
     bytes = subst (Appends _ _) (sym (append-nil a.1.0)) a.1.2;
   }
 
-  pub line_is_run : (old new : Screen W) (n : ℕ) (line : List ℕ) (log written : Seen) (call : Call) (answer : Result Reply Refusal) (r : Bool)
-      → said_by_line line ≡ Ok (Some call) → Answers seen old call (Ok answer) new → r ≡ is_err answer
+  pub line_is_run : (old new : ScreenOver W) (n : ℕ) (line : List ℕ) (log written : Seen) (call : Call) (answer : Result Reply Refusal) (r : Bool)
+      → said_by_line line ≡ Ok (Some call) → CallEnds seen old call (joined (Ok answer)) new → r ≡ is_err answer
       → Appends log.taken written.taken (log_line n answer)
       → LineEnds seen old new n line log written (record { refused = r; fault = None })
-  line_is_run old new n line log written call answer r said a e logs = record {
+  line_is_run old new n line log written call answer r said h e logs = let a = is_answered seen old call answer new h in record {
     call = Some call;
     outcomes = record { answer = answer; sent = a.1.0 } ∷ [];
     at_stop = new;
@@ -83,11 +86,11 @@ module _ {W : Type 0} (seen : W → Seen) where
     refused = refused_is answer r e ∙ sym (or_nothing _);
   }
 
-  pub line_is_not_logged : (old new : Screen W) (n : ℕ) (line : List ℕ) (log written : Seen) (call : Call) (answer : Result Reply Refusal) (r : Bool) (sent : ℕ)
-      → said_by_line line ≡ Ok (Some call) → Answers seen old call (Ok answer) new → r ≡ is_err answer
+  pub line_is_not_logged : (old new : ScreenOver W) (n : ℕ) (line : List ℕ) (log written : Seen) (call : Call) (answer : Result Reply Refusal) (r : Bool) (sent : ℕ)
+      → said_by_line line ≡ Ok (Some call) → CallEnds seen old call (joined (Ok answer)) new → r ≡ is_err answer
       → Appends log.taken written.taken (take sent (log_line n answer))
       → LineEnds seen old new n line log written (record { refused = r; fault = Some Log })
-  line_is_not_logged old new n line log written call answer r sent said a e logs = record {
+  line_is_not_logged old new n line log written call answer r sent said h e logs = let a = is_answered seen old call answer new h in record {
     call = Some call;
     outcomes = record { answer = answer; sent = a.1.0 } ∷ [];
     at_stop = new;
@@ -97,8 +100,8 @@ module _ {W : Type 0} (seen : W → Seen) where
     refused = refused_is answer r e ∙ sym (or_nothing _);
   }
 
-  pub line_is_cut : (old new : Screen W) (n : ℕ) (line : List ℕ) (log : Seen) (call : Call) (fault : WriteFault)
-      → said_by_line line ≡ Ok (Some call) → Answers seen old call (Err fault) new
+  pub line_is_cut : (old new : ScreenOver W) (n : ℕ) (line : List ℕ) (log : Seen) (call : Call) (fault : WriteFault)
+      → said_by_line line ≡ Ok (Some call) → CallEnds seen old call (Err (Cut fault)) new
       → LineEnds seen old new n line log log (record { refused = false; fault = Some (Write n fault) })
   line_is_cut old new n line log call fault said a = record {
     call = None;

@@ -6,16 +6,17 @@ use Rattle.std.proofs.lemmas.Grind.{flat_map-append}
 use Rattle.std.proofs.lemmas.List.{drop_more, take_more}
 use Rattle.std.proofs.lemmas.List.Sums.{fold_push, sum_by_push}
 use Rattle.cell.specs.declared.refusal.Refusal.{Refusal}
-use Rattle.paint.specs.Sinks.{Seen}
-use Rattle.paint.specs.declared.sending.WriteFault.{WriteFault}
-use Rattle.desk.specs.Calls.{State}
+use Rattle.streams.specs.Sinks.{Seen}
+use Rattle.streams.specs.declared.sending.WriteFault.{WriteFault}
+use Rattle.desk.specs.States.{State}
 use Rattle.desk.specs.Runs.{Outcome, MayCome, Run, all_sent, cells_of_reply, cells_read, is_accepted, is_refused, state_after, state_at_end}
-use Rattle.desk.specs.Ends.{CallEnds, Makes, RunEnds, Stops, begins_with_doupdate, state_of}
-use Rattle.desk.specs.declared.call.Call.{Call}
-use Rattle.desk.specs.declared.call.Reply.{Reply}
+use Rattle.desk.specs.Ends.{CallEnds, Makes, RunEnds, Stops, begins_with_doupdate}
+use Rattle.desk.specs.States.{state_of}
+use Rattle.world.specs.declared.call.Call.{Call}
+use Rattle.world.specs.declared.call.Reply.{Reply}
 use Rattle.desk.specs.declared.screen.Fault.TheVariants.{Refused, Write}
 use Rattle.desk.specs.declared.screen.RunEnd.{RunEnd}
-use Rattle.desk.specs.declared.screen.Screen.{Screen}
+use Rattle.desk.specs.States.{ScreenOver}
 
 Run-push : (s : State) (calls : List Call) (outcomes : List Outcome) (call : Call) (outcome : Outcome) → Run s calls outcomes
     → MayCome (state_at_end s calls outcomes).world call outcome → Run s (calls ++ call ∷ []) (outcomes ++ outcome ∷ [])
@@ -36,14 +37,14 @@ count_by-push p xs x = fold_push _ 0 xs x
 
 module _ {W : Type 0} (seen : W → Seen) where
   -- a run, with what was counted of it
-  pub record SoFar (old : Screen W) (calls : List Call) (new : Screen W) (accepted refused cells : ℕ) : Type 0 where
+  pub record SoFar (old : ScreenOver W) (calls : List Call) (new : ScreenOver W) (accepted refused cells : ℕ) : Type 0 where
     pub outcomes : List Outcome
     pub makes : Makes seen old calls outcomes new
     pub is_done : accepted ≡ count_by is_accepted outcomes
     pub is_refused : refused ≡ count_by is_refused outcomes
     pub is_composed : cells ≡ sum_by cells_read outcomes
 
-  Makes-push : {old mid new : Screen W} {calls : List Call} {outcomes : List Outcome} (call : Call) (outcome : Outcome) → Makes seen old calls outcomes mid
+  Makes-push : {old mid new : ScreenOver W} {calls : List Call} {outcomes : List Outcome} (call : Call) (outcome : Outcome) → Makes seen old calls outcomes mid
       → MayCome (state_of mid).world call outcome → state_of new ≡ state_after (state_of mid) call outcome.answer → Appends (seen mid.writer).taken (seen new.writer).taken outcome.sent
       → Makes seen old (calls ++ call ∷ []) (outcomes ++ outcome ∷ []) new
   Makes-push {calls} {outcomes} call outcome makes may state bytes = record {
@@ -53,11 +54,11 @@ module _ {W : Type 0} (seen : W → Seen) where
         (Appends-trans _ _ _ _ _ makes.bytes bytes);
   }
 
-  same_bytes : {old new : Screen W} → new ≡ old → Appends (seen old.writer).taken (seen new.writer).taken []
+  same_bytes : {old new : ScreenOver W} → new ≡ old → Appends (seen old.writer).taken (seen new.writer).taken []
   same_bytes {old} e = subst (λ s. Appends (seen old.writer).taken (seen s.writer).taken []) (sym e) (Appends-nil _)
 
   -- no call yet
-  pub so_far_none : (old : Screen W) → SoFar old [] old 0 0 0
+  pub so_far_none : (old : ScreenOver W) → SoFar old [] old 0 0 0
   so_far_none old = record {
     outcomes = [];
     makes = record { run = tt; state = refl; bytes = Appends-nil _ };
@@ -67,7 +68,7 @@ module _ {W : Type 0} (seen : W → Seen) where
   }
 
   -- one more call was accepted
-  accepted-push : {old mid new : Screen W} {calls : List Call} {d r c : ℕ} (call : Call) (reply : Reply) → SoFar old calls mid d r c
+  accepted-push : {old mid new : ScreenOver W} {calls : List Call} {d r c : ℕ} (call : Call) (reply : Reply) → SoFar old calls mid d r c
       → CallEnds seen mid call (Ok reply) new → SoFar old (calls ++ call ∷ []) new (d + 1) r (c + cells_of_reply reply)
   accepted-push call reply so_far ends =
       let outcome : Outcome = record { answer = Ok reply; sent = ends.1.0 } in
@@ -80,7 +81,7 @@ module _ {W : Type 0} (seen : W → Seen) where
       }
 
   -- one more call was refused
-  refused-push : {old mid new : Screen W} {calls : List Call} {d r c : ℕ} (call : Call) (refusal : Refusal) → SoFar old calls mid d r c
+  refused-push : {old mid new : ScreenOver W} {calls : List Call} {d r c : ℕ} (call : Call) (refusal : Refusal) → SoFar old calls mid d r c
       → CallEnds seen mid call (Err (Refused refusal)) new → SoFar old (calls ++ call ∷ []) new d (r + 1) c
   refused-push call refusal so_far ends =
       let outcome : Outcome = record { answer = Err refusal; sent = [] } in
@@ -92,18 +93,18 @@ module _ {W : Type 0} (seen : W → Seen) where
         is_composed = so_far.is_composed ∙ sym (sum_by_push cells_read so_far.outcomes outcome ∙ add-zero _);
       }
 
-  pub accepted_next : (old mid new : Screen W) (calls : List Call) (d r c i : ℕ) (call : Call) (reply : Reply) → SoFar old (take i calls) mid d r c → i < length calls
+  pub accepted_next : (old mid new : ScreenOver W) (calls : List Call) (d r c i : ℕ) (call : Call) (reply : Reply) → SoFar old (take i calls) mid d r c → i < length calls
       → CallEnds seen mid (get_or calls i call) (Ok reply) new → SoFar old (take (i + 1) calls) new (d + 1) r (c + cells_of_reply reply)
   accepted_next old mid new calls d r c i call reply so_far h ends =
       subst (λ made. SoFar old made new (d + 1) r (c + cells_of_reply reply)) (sym (take_more calls i call h)) (accepted-push _ reply so_far ends)
 
-  pub refused_next : (old mid new : Screen W) (calls : List Call) (d r c i : ℕ) (call : Call) (refusal : Refusal) → SoFar old (take i calls) mid d r c → i < length calls
+  pub refused_next : (old mid new : ScreenOver W) (calls : List Call) (d r c i : ℕ) (call : Call) (refusal : Refusal) → SoFar old (take i calls) mid d r c → i < length calls
       → CallEnds seen mid (get_or calls i call) (Err (Refused refusal)) new → SoFar old (take (i + 1) calls) new d (r + 1) c
   refused_next old mid new calls d r c i call refusal so_far h ends =
       subst (λ made. SoFar old made new d (r + 1) c) (sym (take_more calls i call h)) (refused-push _ refusal so_far ends)
 
   -- every call was made
-  pub ends_whole : {old new : Screen W} {calls : List Call} {i : ℕ} {end : RunEnd} → SoFar old (take i calls) new end.done end.refused end.composed
+  pub ends_whole : {old new : ScreenOver W} {calls : List Call} {i : ℕ} {end : RunEnd} → SoFar old (take i calls) new end.done end.refused end.composed
       → end.fault ≡ None → length calls ≤ i → RunEnds seen old calls end new
   ends_whole {old} {new} {calls} {i} {end} so_far none h = record {
     made = take i calls;
@@ -119,7 +120,7 @@ module _ {W : Type 0} (seen : W → Seen) where
   }
 
   -- a doupdate was cut short
-  pub ends_cut : (old mid new : Screen W) (calls : List Call) (d r c i : ℕ) (call : Call) (fault : WriteFault) → SoFar old (take i calls) mid d r c → i < length calls
+  pub ends_cut : (old mid new : ScreenOver W) (calls : List Call) (d r c i : ℕ) (call : Call) (fault : WriteFault) → SoFar old (take i calls) mid d r c → i < length calls
       → CallEnds seen mid (get_or calls i call) (Err (Write fault)) new
       → RunEnds seen old calls (record { done = d; refused = r; composed = c; fault = Some fault }) new
   ends_cut old mid new calls d r c i call fault so_far h ends = record {

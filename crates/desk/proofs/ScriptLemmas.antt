@@ -2,11 +2,12 @@
 use Rattle.std.proofs.Common.{◌≡◌, ℕ, ◌≤◌, ◌<◌, List, [], ◌∷◌, ◌++◌, length, get_or, zero, suc, Bool, true, false, ◌||◌, take, Option, None, Some, Ok, Err, Result, refl, ap, subst, sym, ◌∙◌, append-nil, append_assoc, length-append, arith, nat_lt, is_some, not, ◌+◌, if◌then◌else◌}
 use Rattle.std.proofs.lemmas.Bool.Decides.{nat_tests}
 use Rattle.std.proofs.Math.Seq.{take-append-add, take-length}
-use Rattle.desk.specs.declared.call.Call.TheVariants.{Refresh}
-use Rattle.desk.specs.declared.call.Refresh.TheVariants.{Doupdate}
-use Rattle.desk.specs.declared.script.fault.ScriptFault.{ScriptFault}
-use Rattle.desk.specs.declared.script.fault.TextFault.TheVariants.{LineTooLong}
-use Rattle.desk.specs.declared.script.fault.ScriptFault.TheVariants.{Text, Reading as Reading_fault, Write, Log}
+use Rattle.world.specs.declared.call.Call.TheVariants.{Refresh}
+use Rattle.world.specs.declared.call.Refresh.TheVariants.{Doupdate}
+use Rattle.script.specs.declared.limits.TheConstants.{LONGEST_LINE}
+use Rattle.script.specs.declared.fault.ScriptFault.{ScriptFault}
+use Rattle.script.specs.declared.fault.TextFault.TheVariants.{LineTooLong}
+use Rattle.script.specs.declared.fault.ScriptFault.TheVariants.{Text, Reading as Reading_fault, Write, Log}
 use Rattle.std.proofs.lemmas.Grind.{flat_map-append}
 use Rattle.std.proofs.lemmas.List.{map-append}
 use Rattle.std.proofs.lemmas.List.Folds.{list_any-append}
@@ -14,22 +15,25 @@ use Rattle.std.specs.List.{All, list_any, onto_first, slice_split}
 use Rattle.std.specs.Io.KnownBytes.{Appends, Consumes, IsAtEnd, Keeps}
 use Rattle.std.proofs.KnownBytes.{Appends-nil, Appends-trans, Consumes-nil, Consumes-trans}
 use Rattle.std.proofs.lemmas.List.Splits.{length-slice_split, slice_split-cons_no, slice_split_at, slice_split_none}
-use Rattle.paint.specs.Sinks.{Seen}
-use Rattle.desk.specs.Calls.{State}
-use Rattle.desk.specs.Sources.{SourceSeen}
+use Rattle.streams.specs.Sinks.{Seen}
+use Rattle.desk.specs.States.{State}
+use Rattle.streams.specs.Sources.{SourceSeen}
 use Rattle.desk.specs.Runs.{Outcome, Run, is_refused, state_after, state_at_end}
-use Rattle.desk.specs.Ends.{Makes, state_of}
+use Rattle.desk.specs.Ends.{Makes}
+use Rattle.desk.specs.States.{state_of}
 use Rattle.desk.specs.Showing.{RunShows}
 use Rattle.desk.proofs.ShowingLemmas.{shows-broken, shows-unbroken}
-use Rattle.desk.specs.Script.{Reading, before_others, ends_with, is_newline, next_number, reading, reading_of, said_by_line}
-use Rattle.desk.specs.Bytes.{HasNoNewline, ReadsLine}
-use Rattle.desk.specs.Log.{log_line, log_of}
+use Rattle.script.specs.Readings.{Reading, before_others, ends_with, next_number, reading, reading_of, said_by_line}
+use Rattle.script.specs.Characters.{is_newline}
+use Rattle.script.specs.steps.Bytes.{HasNoNewline, ReadsLine}
+use Rattle.script.specs.Log.{log_line}
+use Rattle.desk.specs.ScriptEnds.{log_of}
 use Rattle.desk.specs.ScriptEnds.{LineEnds, LineStops, Logs, MayFollow, RunsLines, ScriptEnds, ScriptStops, calls_of, numbered, write_fault}
-use Rattle.desk.specs.declared.call.Call.{Call}
-use Rattle.desk.specs.declared.screen.Screen.{Screen}
-use Rattle.desk.specs.declared.script.fault.TextFault.{TextFault}
-use Rattle.desk.specs.declared.script.fault.ScriptEnd.{ScriptEnd}
-use Rattle.desk.specs.declared.script.bytes.LineRead.TheVariants.{Line, LastLine, TooLong, FailedRead}
+use Rattle.world.specs.declared.call.Call.{Call}
+use Rattle.desk.specs.States.{HasOneSize, ScreenOver}
+use Rattle.script.specs.declared.fault.TextFault.{TextFault}
+use Rattle.script.specs.declared.fault.ScriptEnd.{ScriptEnd}
+use Rattle.script.specs.declared.bytes.LineRead.TheVariants.{Line, LastLine, TooLong, FailedRead}
 
 -- calls in front of a reading
 abbrev pub prepend : List (ℕ × Call) → Reading → Reading
@@ -49,7 +53,7 @@ line_first failed n line [] some = absurd (omega arith)
 line_first true n line (p ∷ ps) some = refl
 line_first false n line (p ∷ ps) some = refl
 
-short_line : (line : List ℕ) → length line ≤ 512 → nat_lt 512 (length line) ≡ false
+short_line : (line : List ℕ) → length line ≤ LONGEST_LINE → nat_lt LONGEST_LINE (length line) ≡ false
 short_line line h = grind (arith, nat_tests)
 
 or_split : (a b : Bool) → (a || b) ≡ false → (a ≡ false) × (b ≡ false)
@@ -71,8 +75,8 @@ line_of_script failed n line left h =
     ap (reading_of failed n) (slice_split_at is_newline line 10 left (no_newlines line h) refl)
     ∙ line_first failed n line (slice_split is_newline left) (omega (arith, length-slice_split is_newline left))
 
-long_line : (line : List ℕ) → 512 < length line → said_by_line line ≡ Err LineTooLong
-long_line line h = let long : nat_lt 512 (length line) ≡ true = grind (arith, nat_tests) in rw long refl
+long_line : (line : List ℕ) → LONGEST_LINE < length line → said_by_line line ≡ Err LineTooLong
+long_line line h = let long : nat_lt LONGEST_LINE (length line) ≡ true = grind (arith, nat_tests) in rw long refl
 
 has_first : (pieces : List (List ℕ)) → 0 < length pieces → (head : List ℕ) × (tail : List (List ℕ)) × (pieces ≡ head ∷ tail)
 has_first [] h = absurd (omega arith)
@@ -85,13 +89,13 @@ first_piece (x ∷ xs) ys h =
     let rest = first_piece xs ys (or_split _ _ h).1 in
     (rest.0, rest.1, slice_split-cons_no is_newline x (xs ++ ys) (or_split _ _ h).0 ∙ ap (onto_first x) rest.2)
 
--- However it goes on, a line of more than 512 bytes is too long.
-too_long_says : (n : ℕ) (line more : List ℕ) (b : ℕ) → HasNoNewline line → is_newline b ≡ false → 512 ≤ length line
+-- However it goes on, a line of more than LONGEST_LINE bytes is too long.
+too_long_says : (n : ℕ) (line more : List ℕ) (b : ℕ) → HasNoNewline line → is_newline b ≡ false → LONGEST_LINE ≤ length line
     → reading_of false n (slice_split is_newline (line ++ b ∷ more)) ≡ ends_with (Some (Text n LineTooLong))
 too_long_says n line more b h e long =
     let front : HasNoNewline (line ++ b ∷ []) = rw (list_any-append is_newline line (b ∷ []), h, e) refl in
     let first = first_piece (line ++ b ∷ []) more front in
-    let length_is : 512 < length ((line ++ b ∷ []) ++ first.0) = simp (length-append, length-append) (omega arith) in
+    let length_is : LONGEST_LINE < length ((line ++ b ∷ []) ++ first.0) = simp (length-append, length-append) (omega arith) in
     ap (λ l. reading_of false n (slice_split is_newline l)) (sym (append_assoc line (b ∷ []) more)) ∙ ap (reading_of false n) first.2
     ∙ ap (λ t. before_others n t (reading_of false (next_number n) first.1)) (long_line ((line ++ b ∷ []) ++ first.0) length_is)
 
@@ -121,7 +125,7 @@ calls_of-append : (a b : List (ℕ × Call)) → calls_of (a ++ b) ≡ calls_of 
 calls_of-append a b = map-append _ a b
 
 module _ {W : Type 0} (seen : W → Seen) where
-  Makes-append : (old mid new : Screen W) (a b : List (ℕ × Call)) (outcomes others : List Outcome) → Makes seen old (calls_of a) outcomes mid
+  Makes-append : (old mid new : ScreenOver W) (a b : List (ℕ × Call)) (outcomes others : List Outcome) → Makes seen old (calls_of a) outcomes mid
       → Makes seen mid (calls_of b) others new → Makes seen old (calls_of (a ++ b)) (outcomes ++ others) new
   Makes-append old mid new a b outcomes others first second =
       subst (λ calls. Makes seen old calls (outcomes ++ others) new) (sym (calls_of-append a b)) (record {
@@ -131,7 +135,7 @@ module _ {W : Type 0} (seen : W → Seen) where
       })
 
   -- What was run of a script, and what is left of it.
-  pub record SoFar (old now : Screen W) (input rest : SourceSeen) (log written : Seen) (unused : List ℕ) (number : ℕ) (some_refused : Bool) : Type 0 where
+  pub record SoFar (old now : ScreenOver W) (input rest : SourceSeen) (log written : Seen) (unused : List ℕ) (number : ℕ) (some_refused : Bool) : Type 0 where
     pub text : List ℕ
     pub made : List (ℕ × Call)
     pub outcomes : List Outcome
@@ -141,7 +145,7 @@ module _ {W : Type 0} (seen : W → Seen) where
     pub is_refused : some_refused ≡ list_any is_refused outcomes
     pub says : (failed : Bool) (more : List ℕ) → reading failed (text ++ more) ≡ prepend made (reading_of failed number (slice_split is_newline (unused ++ more)))
 
-  pub so_far_none : (old : Screen W) (input : SourceSeen) (log : Seen) (unused : List ℕ) → unused ≡ [] → SoFar old old input input log log unused 1 false
+  pub so_far_none : (old : ScreenOver W) (input : SourceSeen) (log : Seen) (unused : List ℕ) → unused ≡ [] → SoFar old old input input log log unused 1 false
   so_far_none old input log unused e = record {
     text = [];
     made = [];
@@ -154,7 +158,7 @@ module _ {W : Type 0} (seen : W → Seen) where
   }
 
   -- What the script says up to a line that a newline ends.
-  line_says : {old mid : Screen W} {input r1 r2 : SourceSeen} {log l1 : Seen} {unused left line : List ℕ} {n : ℕ} {b : Bool}
+  line_says : {old mid : ScreenOver W} {input r1 r2 : SourceSeen} {log l1 : Seen} {unused left line : List ℕ} {n : ℕ} {b : Bool}
       (s : SoFar old mid input r1 log l1 unused n b) (r : ReadsLine r1 r2 unused left line Line) (failed : Bool) (more : List ℕ)
       → reading failed ((s.text ++ r.bytes) ++ more)
       ≡ prepend s.made (before_others n (said_by_line line) (reading_of failed (next_number n) (slice_split is_newline (left ++ more))))
@@ -171,7 +175,7 @@ module _ {W : Type 0} (seen : W → Seen) where
       ap (λ t. prepend made (before_others n t others)) e ∙ ap (prepend made) (prepend_numbered n call others) ∙ prepend_twice made (numbered n call) others
 
   -- one more line
-  pub so_far_next : (old mid now : Screen W) (input r1 r2 : SourceSeen) (log l1 l2 : Seen) (unused left line : List ℕ) (n : ℕ) (b : Bool) (end : ScriptEnd)
+  pub so_far_next : (old mid now : ScreenOver W) (input r1 r2 : SourceSeen) (log l1 l2 : Seen) (unused left line : List ℕ) (n : ℕ) (b : Bool) (end : ScriptEnd)
       → SoFar old mid input r1 log l1 unused n b → ReadsLine r1 r2 unused left line Line → LineEnds seen mid now n line l1 l2 end → end.fault ≡ None
       → SoFar old now input r2 log l2 left (next_number n) (b || end.refused)
   so_far_next old mid now input r1 r2 log l1 l2 unused left line n b end s r e none =
@@ -189,7 +193,7 @@ module _ {W : Type 0} (seen : W → Seen) where
       }
 
   -- How the script ends at a line, where z is what the script says behind the line.
-  stops : (made : List (ℕ × Call)) (n : ℕ) (said : Result (Option Call) TextFault) (call : Option Call) (at_stop now : Screen W) (ended : Bool) (text : List ℕ) (z : List ℕ → Reading)
+  stops : (made : List (ℕ × Call)) (n : ℕ) (said : Result (Option Call) TextFault) (call : Option Call) (at_stop now : ScreenOver W) (ended : Bool) (text : List ℕ) (z : List ℕ → Reading)
       (fault : Option ScriptFault) → LineStops seen n said call at_stop fault now
       → ((more : List ℕ) → MayFollow ended more → reading false (text ++ more) ≡ prepend made (before_others n said (z more)))
       → (fault ≡ None → (ended ≡ true) × (z [] ≡ ends_with None))
@@ -237,7 +241,7 @@ module _ {W : Type 0} (seen : W → Seen) where
   )
 
   -- The script ends at a line.
-  ends_at_line : (old mid now : Screen W) (input r1 r2 : SourceSeen) (log l1 l2 : Seen) (unused line bytes : List ℕ) (n : ℕ) (b : Bool) (end : ScriptEnd) (z : List ℕ → Reading)
+  ends_at_line : (old mid now : ScreenOver W) (input r1 r2 : SourceSeen) (log l1 l2 : Seen) (unused line bytes : List ℕ) (n : ℕ) (b : Bool) (end : ScriptEnd) (z : List ℕ → Reading)
       (s : SoFar old mid input r1 log l1 unused n b) → Consumes r1.left r2.left bytes → LineEnds seen mid now n line l1 l2 end
       → ((more : List ℕ) → MayFollow r2.met_end more → reading false ((s.text ++ bytes) ++ more) ≡ prepend s.made (before_others n (said_by_line line) (z more)))
       → (end.fault ≡ None → (r2.met_end ≡ true) × (z [] ≡ ends_with None))
@@ -257,7 +261,7 @@ module _ {W : Type 0} (seen : W → Seen) where
   }
 
   -- A line has a fault, and a newline ends it.
-  pub ends_in_line : (old mid now : Screen W) (input r1 r2 : SourceSeen) (log l1 l2 : Seen) (unused left line : List ℕ) (n : ℕ) (b : Bool) (end : ScriptEnd)
+  pub ends_in_line : (old mid now : ScreenOver W) (input r1 r2 : SourceSeen) (log l1 l2 : Seen) (unused left line : List ℕ) (n : ℕ) (b : Bool) (end : ScriptEnd)
       → SoFar old mid input r1 log l1 unused n b → ReadsLine r1 r2 unused left line Line → LineEnds seen mid now n line l1 l2 end
       → (end.fault ≡ None → ⊥)
       → RunsLines seen old now input r2 log l2 (record { refused = b || end.refused; fault = end.fault })
@@ -266,7 +270,7 @@ module _ {W : Type 0} (seen : W → Seen) where
       s r.read e (λ more h. line_says s r false more) (λ none. absurd (some none)) (λ none. absurd (some none))
 
   -- the last line
-  pub ends_in_last_line : (old mid now : Screen W) (input r1 r2 : SourceSeen) (log l1 l2 : Seen) (unused left line : List ℕ) (n : ℕ) (b : Bool) (end : ScriptEnd)
+  pub ends_in_last_line : (old mid now : ScreenOver W) (input r1 r2 : SourceSeen) (log l1 l2 : Seen) (unused left line : List ℕ) (n : ℕ) (b : Bool) (end : ScriptEnd)
       → SoFar old mid input r1 log l1 unused n b → ReadsLine r1 r2 unused left line LastLine → LineEnds seen mid now n line l1 l2 end → r2.met_end ≡ true
       → RunsLines seen old now input r2 log l2 (record { refused = b || end.refused; fault = end.fault })
   ends_in_last_line old mid now input r1 r2 log l1 l2 unused left line n b end s r e ended =
@@ -278,7 +282,7 @@ module _ {W : Type 0} (seen : W → Seen) where
       (λ none. (ended, refl)) (λ none. r.at_end refl)
 
   -- A read failed.
-  pub ends_in_failed_read : (old mid : Screen W) (input r1 r2 : SourceSeen) (log l1 : Seen) (unused left line : List ℕ) (n : ℕ) (b : Bool)
+  pub ends_in_failed_read : (old mid : ScreenOver W) (input r1 r2 : SourceSeen) (log l1 : Seen) (unused left line : List ℕ) (n : ℕ) (b : Bool)
       → SoFar old mid input r1 log l1 unused n b → ReadsLine r1 r2 unused left line FailedRead
       → RunsLines seen old mid input r2 log l1 (record { refused = b; fault = Some Reading_fault })
   ends_in_failed_read old mid input r1 r2 log l1 unused left line n b s r = record {
@@ -302,7 +306,7 @@ module _ {W : Type 0} (seen : W → Seen) where
   }
 
   -- A line is too long.
-  pub ends_too_long : (old mid : Screen W) (input r1 r2 : SourceSeen) (log l1 : Seen) (unused left line : List ℕ) (n : ℕ) (b : Bool)
+  pub ends_too_long : (old mid : ScreenOver W) (input r1 r2 : SourceSeen) (log l1 : Seen) (unused left line : List ℕ) (n : ℕ) (b : Bool)
       → SoFar old mid input r1 log l1 unused n b → ReadsLine r1 r2 unused left line TooLong
       → RunsLines seen old mid input r2 log l1 (record { refused = b; fault = Some (Text n LineTooLong) })
   ends_too_long old mid input r1 r2 log l1 unused left line n b s r =
@@ -349,23 +353,23 @@ module _ {W : Type 0} (seen : W → Seen) where
   logs_kept log l1 l2 lines (Some (Write line fault)) h k = appends_kept _ _ _ _ h k
   logs_kept log l1 l2 lines (Some Log) h k = (h.0, appends_kept _ _ _ _ h.1 k)
 
-  lines_show : (old at_stop new : Screen W) (calls : List Call) (outcomes : List Outcome) (made : List (ℕ × Call)) (met_end : Bool) (text : List ℕ) (fault : Option ScriptFault)
-      → Makes seen old calls outcomes at_stop → ScriptStops seen met_end text made at_stop fault new → RunShows seen old new calls (write_fault fault)
-  lines_show old at_stop new calls outcomes made met_end text None makes stop = shows-unbroken seen old at_stop new calls calls outcomes makes refl stop.2
-  lines_show old at_stop new calls outcomes made met_end text (Some (Text line fault)) makes stop = shows-unbroken seen old at_stop new calls calls outcomes makes refl stop.1
-  lines_show old at_stop new calls outcomes made met_end text (Some Reading_fault) makes stop = shows-unbroken seen old at_stop new calls calls outcomes makes refl stop.1
-  lines_show old at_stop new calls outcomes made met_end text (Some (Write line fault)) makes stop = shows-broken seen old at_stop new calls calls outcomes makes fault stop.1
-  lines_show old at_stop new calls outcomes made met_end text (Some Log) makes stop = shows-unbroken seen old at_stop new calls calls outcomes makes refl stop.1
+  lines_show : (old at_stop new : ScreenOver W) (calls : List Call) (outcomes : List Outcome) (made : List (ℕ × Call)) (met_end : Bool) (text : List ℕ) (fault : Option ScriptFault)
+      → Makes seen old calls outcomes at_stop → HasOneSize old.desk old.painter → ScriptStops seen met_end text made at_stop fault new → RunShows seen old new calls (write_fault fault)
+  lines_show old at_stop new calls outcomes made met_end text None makes one_size stop = shows-unbroken seen old at_stop new calls calls outcomes makes one_size refl stop.2
+  lines_show old at_stop new calls outcomes made met_end text (Some (Text line fault)) makes one_size stop = shows-unbroken seen old at_stop new calls calls outcomes makes one_size refl stop.1
+  lines_show old at_stop new calls outcomes made met_end text (Some Reading_fault) makes one_size stop = shows-unbroken seen old at_stop new calls calls outcomes makes one_size refl stop.1
+  lines_show old at_stop new calls outcomes made met_end text (Some (Write line fault)) makes one_size stop = shows-broken seen old at_stop new calls calls outcomes makes one_size fault stop.1
+  lines_show old at_stop new calls outcomes made met_end text (Some Log) makes one_size stop = shows-unbroken seen old at_stop new calls calls outcomes makes one_size refl stop.1
 
-  pub script_ends : {old now : Screen W} {input rest : SourceSeen} {log written : Seen} {end : ScriptEnd} → RunsLines seen old now input rest log written end
+  pub script_ends : {old now : ScreenOver W} {input rest : SourceSeen} {log written : Seen} {end : ScriptEnd} → HasOneSize old.desk old.painter → RunsLines seen old now input rest log written end
       → ScriptEnds seen old now input rest log written end
-  script_ends {old} {now} {rest} {end} s = record {
+  script_ends {old} {now} {rest} {end} one_size s = record {
     lines = s;
-    shown = lines_show old s.at_stop now (calls_of s.made) s.outcomes s.made rest.met_end s.text end.fault s.makes s.stop;
+    shown = lines_show old s.at_stop now (calls_of s.made) s.outcomes s.made rest.met_end s.text end.fault s.makes one_size s.stop;
   }
 
   -- The log was flushed.
-  pub ends_flushed : (old now : Screen W) (input rest : SourceSeen) (log l1 l2 : Seen) (end : ScriptEnd) → RunsLines seen old now input rest log l1 end
+  pub ends_flushed : (old now : ScreenOver W) (input rest : SourceSeen) (log l1 l2 : Seen) (end : ScriptEnd) → RunsLines seen old now input rest log l1 end
       → Keeps l1.taken l2.taken → RunsLines seen old now input rest log l2 end
   ends_flushed old now input rest log l1 l2 end s k = record {
     text = s.text;
@@ -381,7 +385,7 @@ module _ {W : Type 0} (seen : W → Seen) where
   }
 
   -- The log could not be flushed, and nothing else failed.
-  pub ends_unflushed : (old now : Screen W) (input rest : SourceSeen) (log l1 l2 : Seen) (end : ScriptEnd) → RunsLines seen old now input rest log l1 end
+  pub ends_unflushed : (old now : ScreenOver W) (input rest : SourceSeen) (log l1 l2 : Seen) (end : ScriptEnd) → RunsLines seen old now input rest log l1 end
       → end.fault ≡ None → Keeps l1.taken l2.taken
       → RunsLines seen old now input rest log l2 (record { refused = end.refused; fault = Some Log })
   ends_unflushed old now input rest log l1 l2 end s none k =

@@ -3,33 +3,34 @@ use Rattle.std.proofs.Common.{◌≡◌, ℕ, List, [], ◌∷◌, ◌++◌, tak
 use Rattle.std.proofs.KnownBytes.{Appends-trans}
 use Rattle.std.specs.Prelude.{⊤, MatchOption}
 use Rattle.cell.specs.Pictures.{HasSize}
-use Rattle.cell.specs.World.{World, picture}
-use Rattle.cell.specs.Refresh.{after_update_panels, after_doupdate, composed_windows}
+use Rattle.world.specs.World.{World, picture}
+use Rattle.world.specs.calls.Refresh.{after_update_panels, after_doupdate, composed_windows}
 use Rattle.cell.specs.declared.refusal.Refusal.{Refusal}
 use Rattle.cell.proofs.PictureLemmas.{HasSize-picture_of, shown_at-picture_of}
-use Rattle.cell.proofs.RefreshLaws.{found-refreshed, cursor-refreshed}
+use Rattle.world.proofs.RefreshLaws.{found-unmarked, cursor-unmarked}
 use Rattle.ecma.specs.Terminals.{Terminal}
 use Rattle.ecma.specs.Streams.{Leads, LeadsWithBreaks, showing}
 use Rattle.ecma.proofs.Joining.{Leads-append}
 use Rattle.ecma.proofs.Leading.{Leads-nothing}
 use Rattle.ecma.proofs.Sizes.{size-effects}
-use Rattle.paint.specs.Sinks.{Seen}
+use Rattle.streams.specs.Sinks.{Seen}
 use Rattle.paint.specs.Updates.{Agrees, PainterState}
-use Rattle.paint.specs.declared.sending.WriteFault.{WriteFault}
+use Rattle.streams.specs.declared.sending.WriteFault.{WriteFault}
 use Rattle.paint.proofs.Repair.{Agrees-update, Agrees-fault}
-use Rattle.desk.specs.Calls.{State, after, wanted}
+use Rattle.desk.specs.States.{State, after, wanted}
 use Rattle.desk.specs.Runs.{Outcome, MayAnswer, MayRefuse, Run, all_sent, state_after, state_at_end}
-use Rattle.desk.proofs.Sizes.{size-call}
-use Rattle.desk.specs.Tables.{world}
-use Rattle.desk.specs.Ends.{IsCut, Makes, RunEnds, Stops, state_of}
+use Rattle.world.proofs.Sizes.{size-call}
+use Rattle.desk.specs.Desks.{world}
+use Rattle.desk.specs.Ends.{IsCut, Makes, RunEnds, Stops}
+use Rattle.desk.specs.States.{state_of}
 use Rattle.desk.specs.Showing.{EndsInUpdate, ShowsWorld, RunShows}
-use Rattle.desk.specs.declared.call.Call.{Call}
-use Rattle.desk.specs.declared.call.Call.TheVariants as calls
-use Rattle.desk.specs.declared.call.Refresh.{Refresh}
-use Rattle.desk.specs.declared.call.Refresh.TheVariants.{UpdatePanels, Doupdate}
-use Rattle.desk.specs.declared.call.Reply.{Reply}
+use Rattle.world.specs.declared.call.Call.{Call}
+use Rattle.world.specs.declared.call.Call.TheVariants as calls
+use Rattle.world.specs.declared.call.Refresh.{Refresh}
+use Rattle.world.specs.declared.call.Refresh.TheVariants.{UpdatePanels, Doupdate}
+use Rattle.world.specs.declared.call.Reply.{Reply}
 use Rattle.desk.specs.declared.screen.RunEnd.{RunEnd}
-use Rattle.desk.specs.declared.screen.Screen.{Screen}
+use Rattle.desk.specs.States.{HasOneSize, ScreenOver}
 
 -- ---- sizes
 
@@ -166,24 +167,24 @@ shows-world w = record {
   size = HasSize-picture_of w.windows.lines w.windows.columns (picture w);
   cells = λ y x in_lines in_columns.
       shown_at-picture_of w.windows.lines w.windows.columns (picture w) y x in_lines in_columns
-      ∙ sym (found-refreshed w.windows.window (composed_windows w) w.panels y x);
-  cursor = λ i. Some (sym (cursor-refreshed w.windows.window (composed_windows w) w.panels) i);
+      ∙ sym (found-unmarked w.windows.window (composed_windows w) w.panels y x);
+  cursor = λ i. Some (sym (cursor-unmarked w.windows.window (composed_windows w) w.panels) i);
   rendition = refl;
 }
 
 -- ---- the theorem of the screen
 
-pub screen-size : {W : Type 0} (s : Screen W) → HasScreenSize s.desk.lines s.desk.columns (state_of s)
-screen-size s = record { lines_of = refl; columns_of = refl; painter_lines = s.same_lines; painter_columns = s.same_columns }
+pub screen-size : {W : Type 0} (s : ScreenOver W) → HasOneSize s.desk s.painter → HasScreenSize s.desk.windows.lines s.desk.windows.columns (state_of s)
+screen-size s h = record { lines_of = refl; columns_of = refl; painter_lines = h.lines; painter_columns = h.columns }
 
-module _ {W : Type 0} (seen : W → Seen) (old at_stop new : Screen W) (cs made : List Call) (outcomes : List Outcome) (makes : Makes seen old made outcomes at_stop) where
+module _ {W : Type 0} (seen : W → Seen) (old at_stop new : ScreenOver W) (cs made : List Call) (outcomes : List Outcome) (makes : Makes seen old made outcomes at_stop) (one_size : HasOneSize old.desk old.painter) where
   end : State
   end = state_at_end (state_of old) made outcomes
 
-  agrees-stop : (stream : List ℕ) (t : Terminal) → HasSize old.desk.lines old.desk.columns t.picture → Agrees old.painter stream t → Agrees at_stop.painter (stream ++ all_sent outcomes) t
+  agrees-stop : (stream : List ℕ) (t : Terminal) → HasSize old.desk.windows.lines old.desk.windows.columns t.picture → Agrees old.painter stream t → Agrees at_stop.painter (stream ++ all_sent outcomes) t
   agrees-stop stream t fits h =
       subst (λ p. Agrees p (stream ++ all_sent outcomes) t) (ap (λ (s : State). s.painter) (sym makes.state))
-      (agrees-run old.desk.lines old.desk.columns (state_of old) made outcomes stream t (screen-size old) fits makes.run h)
+      (agrees-run old.desk.windows.lines old.desk.windows.columns (state_of old) made outcomes stream t (screen-size old one_size) fits makes.run h)
 
   ended : EndsInUpdate made → EndsShown (state_of at_stop)
   ended ends = subst EndsShown (sym makes.state)
@@ -195,7 +196,7 @@ module _ {W : Type 0} (seen : W → Seen) (old at_stop new : Screen W) (cs made 
       subst (λ w. ShowsWorld w (showing (wanted (after_update_panels e.before)).picture (wanted (after_update_panels e.before)).cursor)) (sym e.world_is) (shows-world e.before)
 
   -- every call was made, and no write failed
-  shows-whole : EndsInUpdate made → (stream : List ℕ) (t : Terminal) → HasSize old.desk.lines old.desk.columns t.picture → Agrees old.painter stream t
+  shows-whole : EndsInUpdate made → (stream : List ℕ) (t : Terminal) → HasSize old.desk.windows.lines old.desk.windows.columns t.picture → Agrees old.painter stream t
       → (u : Terminal) × LeadsWithBreaks (stream ++ all_sent outcomes) t u × ShowsWorld (world at_stop.desk) u
   shows-whole ends stream t fits h =
       let e = ended ends in
@@ -205,12 +206,12 @@ module _ {W : Type 0} (seen : W → Seen) (old at_stop new : Screen W) (cs made 
         shows-after e,
       )
 
-  shows-whole_on_any : EndsInUpdate made → old.painter.last ≡ None → (t : Terminal) → HasSize old.desk.lines old.desk.columns t.picture
+  shows-whole_on_any : EndsInUpdate made → old.painter.last ≡ None → (t : Terminal) → HasSize old.desk.windows.lines old.desk.windows.columns t.picture
       → (u : Terminal) × Leads (all_sent outcomes) t u × ShowsWorld (world at_stop.desk) u
   shows-whole_on_any ends nothing t fits =
       let e = ended ends in
       let none : IsKnown old.painter t = subst (λ o. MatchOption o ⊤ (λ shown. t ≡ showing shown.picture shown.cursor)) (sym nothing) tt in
-      let r = leads-run old.desk.lines old.desk.columns (state_of old) made outcomes t (screen-size old) fits makes.run none in
+      let r = leads-run old.desk.windows.lines old.desk.windows.columns (state_of old) made outcomes t (screen-size old one_size) fits makes.run none in
       let known : IsKnown at_stop.painter r.last = subst (λ p. IsKnown p r.last) (ap (λ (s : State). s.painter) (sym makes.state)) r.known in
       let last : r.last ≡ showing (wanted (after_update_panels e.before)).picture (wanted (after_update_panels e.before)).cursor =
       subst (λ o. MatchOption o ⊤ (λ shown. r.last ≡ showing shown.picture shown.cursor)) e.last_is known in (
@@ -233,20 +234,20 @@ module _ {W : Type 0} (seen : W → Seen) (old at_stop new : Screen W) (cs made 
     bytes = all_sent outcomes ++ take fault.sent cut.text;
     taken = Appends-trans _ _ _ _ _ makes.bytes cut.bytes;
     agrees = λ stream t fits h.
-        let size = subst (HasScreenSize old.desk.lines old.desk.columns) (sym makes.state) (size-at_end old.desk.lines old.desk.columns (state_of old) made outcomes (screen-size old)) in
+        let size = subst (HasScreenSize old.desk.windows.lines old.desk.windows.columns) (sym makes.state) (size-at_end old.desk.windows.lines old.desk.windows.columns (state_of old) made outcomes (screen-size old one_size)) in
         subst (λ p. Agrees p (stream ++ (all_sent outcomes ++ take fault.sent cut.text)) t) (ap (λ (s : State). s.painter) (sym cut.state))
         (subst (λ bytes. Agrees (record at_stop.painter { last = None }) bytes t) (append_assoc stream (all_sent outcomes) (take fault.sent cut.text))
         (Agrees-fault at_stop.painter (wanted (world at_stop.desk)) (stream ++ all_sent outcomes) cut.text fault.sent t (rw (size.painter_lines, size.painter_columns) fits)
-        (agrees-stop stream t fits h) (rw (at_stop.same_lines, at_stop.same_columns) cut.clearing) cut.within));
+        (agrees-stop stream t fits h) (rw (size.painter_lines, size.painter_columns, ← size.lines_of, ← size.columns_of) cut.clearing) cut.within));
     shows = λ ends none. absurd (let never : Some fault ≡ None = none in cc);
     shows_on_any = λ ends none. absurd (let never : Some fault ≡ None = none in cc);
   }
 
-run-stops : {W : Type 0} (seen : W → Seen) (old at_stop new : Screen W) (cs made left : List Call) (outcomes : List Outcome) (fault : Option WriteFault) → Makes seen old made outcomes at_stop
-    → cs ≡ made ++ left → Stops seen at_stop left fault new → RunShows seen old new cs fault
-run-stops seen old at_stop new cs made left outcomes None makes parts stop =
-    shows-unbroken seen old at_stop new cs made outcomes makes (parts ∙ ap (λ l. made ++ l) stop.0 ∙ append-nil made) stop.1
-run-stops seen old at_stop new cs made left outcomes (Some fault) makes parts stop = shows-broken seen old at_stop new cs made outcomes makes fault stop.1
+run-stops : {W : Type 0} (seen : W → Seen) (old at_stop new : ScreenOver W) (cs made left : List Call) (outcomes : List Outcome) (fault : Option WriteFault) → Makes seen old made outcomes at_stop
+    → HasOneSize old.desk old.painter → cs ≡ made ++ left → Stops seen at_stop left fault new → RunShows seen old new cs fault
+run-stops seen old at_stop new cs made left outcomes None makes one_size parts stop =
+    shows-unbroken seen old at_stop new cs made outcomes makes one_size (parts ∙ ap (λ l. made ++ l) stop.0 ∙ append-nil made) stop.1
+run-stops seen old at_stop new cs made left outcomes (Some fault) makes one_size parts stop = shows-broken seen old at_stop new cs made outcomes makes one_size fault stop.1
 
-pub run-shows : {W : Type 0} (seen : W → Seen) (old new : Screen W) (cs : List Call) (end : RunEnd) → RunEnds seen old cs end new → RunShows seen old new cs end.fault
-run-shows seen old new cs end h = run-stops seen old h.at_stop new cs h.made h.left h.outcomes end.fault h.makes h.parts h.stop
+pub run-shows : {W : Type 0} (seen : W → Seen) (old new : ScreenOver W) (cs : List Call) (end : RunEnd) → HasOneSize old.desk old.painter → RunEnds seen old cs end new → RunShows seen old new cs end.fault
+run-shows seen old new cs end one_size h = run-stops seen old h.at_stop new cs h.made h.left h.outcomes end.fault h.makes one_size h.parts h.stop

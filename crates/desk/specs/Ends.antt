@@ -2,18 +2,18 @@
 use Rattle.std.specs.Prelude.{◌≡◌, ◌≤◌, ℕ, List, [], ◌∷◌, ◌++◌, Bool, true, false, length, take, Option, Some, None, Result, Ok, Err, count_by, sum_by}
 use Rattle.std.specs.Io.KnownBytes.{Appends}
 use Rattle.cell.specs.declared.refusal.Refusal.{Refusal}
-use Rattle.paint.specs.Sinks.{Seen}
+use Rattle.streams.specs.Sinks.{Seen}
 use Rattle.paint.specs.Updates.{IsClearingText}
-use Rattle.paint.specs.declared.sending.WriteFault.{WriteFault}
-use Rattle.desk.specs.Tables.{world}
-use Rattle.desk.specs.Calls.{State, after, is_doupdate, wanted}
+use Rattle.streams.specs.declared.sending.WriteFault.{WriteFault}
+use Rattle.desk.specs.Desks.{world}
+use Rattle.world.specs.calls.Dispatch.{is_doupdate}
+use Rattle.desk.specs.States.{ScreenOver, State, after, state_of, wanted}
 use Rattle.desk.specs.Runs.{Outcome, MayAnswer, MayRefuse, Run, all_sent, cells_read, is_accepted, is_refused, state_after, state_at_end}
-use Rattle.desk.specs.declared.call.Call.{Call}
-use Rattle.desk.specs.declared.call.Reply.{Reply}
+use Rattle.world.specs.declared.call.Call.{Call}
+use Rattle.world.specs.declared.call.Reply.{Reply}
 use Rattle.desk.specs.declared.screen.Fault.{Fault}
 use Rattle.desk.specs.declared.screen.Fault.TheVariants.{Refused, Write}
 use Rattle.desk.specs.declared.screen.RunEnd.{RunEnd}
-use Rattle.desk.specs.declared.screen.Screen.{Screen}
 
 abbrev pub is_write_fault : Result Reply Fault → Bool
 is_write_fault (Err (Write fault)) = true
@@ -23,53 +23,43 @@ abbrev pub begins_with_doupdate : List Call → Bool
 begins_with_doupdate [] = false
 begins_with_doupdate (call ∷ calls) = is_doupdate call
 
--- the state of a screen
-abbrev pub state_of : {W : Type 0} → Screen W → State
-state_of screen = record { world = world screen.desk; painter = screen.painter }
-
 module _ {W : Type 0} (seen : W → Seen) where
   -- the writer took these bytes between the two
-  abbrev pub Sends : Screen W → Screen W → List ℕ → Type 0
-  Sends old new bytes = Appends (seen old.writer).taken (seen new.writer).taken bytes
+  abbrev pub Took : ScreenOver W → ScreenOver W → List ℕ → Type 0
+  Took old new bytes = Appends (seen old.writer).taken (seen new.writer).taken bytes
 
   -- A doupdate sent a front of its text. What was shown last is unknown now, and nothing else changed.
-  pub record IsCut (old new : Screen W) (fault : WriteFault) : Type 0 where
+  pub record IsCut (old new : ScreenOver W) (fault : WriteFault) : Type 0 where
     pub state : state_of new ≡ record { world = world old.desk; painter = record old.painter { last = None } }
     pub text : List ℕ
-    pub clearing : IsClearingText old.desk.lines old.desk.columns (wanted (world old.desk)) text
+    pub clearing : IsClearingText old.desk.windows.lines old.desk.windows.columns (wanted (world old.desk)) text
     pub within : fault.sent ≤ length text
-    pub bytes : Sends old new (take fault.sent text)
-
-  -- One call answered so, or its text was cut short.
-  abbrev pub Answers : Screen W → Call → Result (Result Reply Refusal) WriteFault → Screen W → Type 0
-  Answers old call (Ok answer) new = (state_of new ≡ state_after (state_of old) call answer)
-      × ((sent : List ℕ) × MayAnswer (world old.desk) call answer sent × Sends old new sent)
-  Answers old call (Err fault) new = (is_doupdate call ≡ true) × IsCut old new fault
+    pub bytes : Took old new (take fault.sent text)
 
   -- One call ended so.
-  abbrev pub CallEnds : Screen W → Call → Result Reply Fault → Screen W → Type 0
+  abbrev pub CallEnds : ScreenOver W → Call → Result Reply Fault → ScreenOver W → Type 0
   CallEnds old call (Ok reply) new = (state_of new ≡ after (state_of old) call)
-      × ((sent : List ℕ) × MayAnswer (world old.desk) call (Ok reply) sent × Sends old new sent)
+      × ((sent : List ℕ) × MayAnswer (world old.desk) call (Ok reply) sent × Took old new sent)
   CallEnds old call (Err (Refused e)) new = MayRefuse (world old.desk) call e × (new ≡ old)
   CallEnds old call (Err (Write fault)) new = (is_doupdate call ≡ true) × IsCut old new fault
 
   -- These calls were made one after another, and had these outcomes.
-  pub record Makes (old : Screen W) (calls : List Call) (outcomes : List Outcome) (new : Screen W) : Type 0 where
+  pub record Makes (old : ScreenOver W) (calls : List Call) (outcomes : List Outcome) (new : ScreenOver W) : Type 0 where
     pub run : Run (state_of old) calls outcomes
     pub state : state_of new ≡ state_at_end (state_of old) calls outcomes
-    pub bytes : Sends old new (all_sent outcomes)
+    pub bytes : Took old new (all_sent outcomes)
 
   -- The calls that are left are none, or begin with a doupdate whose text was cut short.
-  abbrev pub Stops : Screen W → List Call → Option WriteFault → Screen W → Type 0
+  abbrev pub Stops : ScreenOver W → List Call → Option WriteFault → ScreenOver W → Type 0
   Stops old left None new = (left ≡ []) × (new ≡ old)
   Stops old left (Some fault) new = (begins_with_doupdate left ≡ true) × IsCut old new fault
 
   -- A run of calls ended so.
-  pub record RunEnds (old : Screen W) (calls : List Call) (end : RunEnd) (new : Screen W) : Type 0 where
+  pub record RunEnds (old : ScreenOver W) (calls : List Call) (end : RunEnd) (new : ScreenOver W) : Type 0 where
     pub made : List Call
     pub left : List Call
     pub outcomes : List Outcome
-    pub at_stop : Screen W
+    pub at_stop : ScreenOver W
     pub parts : calls ≡ made ++ left
     pub makes : Makes old made outcomes at_stop
     pub stop : Stops at_stop left end.fault new

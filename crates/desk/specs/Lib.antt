@@ -1,13 +1,7 @@
-pub mod Tables
-pub mod Calls
+pub mod Desks
+pub mod States
 pub mod Runs
 pub mod Ends
 pub mod Showing
-pub mod Sources
-pub mod Words
-pub mod Texts
-pub mod Script
-pub mod Reads
-pub mod Bytes
-pub mod Log
 pub mod ScriptEnds
+pub mod steps

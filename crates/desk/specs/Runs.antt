@@ -1,17 +1,18 @@
 -- A run of calls: one outcome after another.
 use Rattle.std.specs.Prelude.{◌≡◌, ◌⊎◌, ℕ, List, [], ◌∷◌, Bool, true, length, Some, None, Result, Ok, Err, ⊤, is_ok, not}
 use Rattle.std.specs.List.{flat_map}
-use Rattle.cell.specs.World.{World}
+use Rattle.world.specs.World.{World}
 use Rattle.cell.specs.declared.refusal.Refusal.{Refusal}
 use Rattle.cell.specs.declared.refusal.Refusal.TheVariants.{NoMemory}
 use Rattle.paint.specs.Updates.{IsClearingText}
-use Rattle.desk.specs.Tables.{Table, world}
-use Rattle.desk.specs.Calls.{State, after, refusal, reply_of, takes_memory, wanted, world_after}
-use Rattle.desk.specs.declared.call.Call.{Call}
-use Rattle.desk.specs.declared.call.Call.TheVariants as calls
-use Rattle.desk.specs.declared.call.Refresh.TheVariants.{Doupdate}
-use Rattle.desk.specs.declared.call.Reply.{Reply}
-use Rattle.desk.specs.declared.call.Reply.TheVariants.{Composed, Sent}
+use Rattle.desk.specs.Desks.{DeskTable, world}
+use Rattle.world.specs.calls.Dispatch.{refusal, reply_of, takes_memory, world_after}
+use Rattle.desk.specs.States.{State, after, wanted}
+use Rattle.world.specs.declared.call.Call.{Call}
+use Rattle.world.specs.declared.call.Call.TheVariants as calls
+use Rattle.world.specs.declared.call.Refresh.TheVariants.{Doupdate}
+use Rattle.world.specs.declared.call.Reply.{Reply}
+use Rattle.world.specs.declared.call.Reply.TheVariants.{Composed, Sent}
 
 -- what came of a call: its answer, and the bytes that were sent
 pub record Outcome : Type 0 where
@@ -34,7 +35,7 @@ MayAnswer world call (Err e) sent = MayRefuse world call e × (sent ≡ [])
 MayAnswer world call (Ok reply) sent = (refusal world call ≡ None) × MayReply world call reply sent
 
 -- The call, which sends nothing, was made on a desk. A refused one changed nothing.
-abbrev pub Called : Table → Call → Result Reply Refusal → Table → Type 0
+abbrev pub Called : DeskTable → Call → Result Reply Refusal → DeskTable → Type 0
 Called old call (Ok reply) new = (refusal (world old) call ≡ None) × (reply ≡ reply_of (world old) call) × (world new ≡ world_after (world old) call)
 Called old call (Err e) new = MayRefuse (world old) call e × (new ≡ old)
 

@@ -2,22 +2,23 @@
 use Rattle.std.specs.Prelude.{◌≡◌, ◌⊎◌, ◌∷◌, ◌++◌, ℕ, Bool, true, false, List, [], map, take, Option, Some, None, Result, Ok, Err}
 use Rattle.std.specs.List.{list_any}
 use Rattle.std.specs.Io.KnownBytes.{Appends, Consumes, IsAtEnd}
-use Rattle.paint.specs.Sinks.{Seen, next_count}
-use Rattle.paint.specs.declared.sending.WriteFault.{WriteFault}
+use Rattle.streams.specs.Sinks.{Seen}
+use Rattle.streams.specs.Counts.{next_count}
+use Rattle.streams.specs.declared.sending.WriteFault.{WriteFault}
 use Rattle.desk.specs.Runs.{Outcome, is_refused}
 use Rattle.desk.specs.Ends.{IsCut, Makes}
 use Rattle.desk.specs.Showing.{RunShows}
-use Rattle.desk.specs.Sources.{SourceSeen}
-use Rattle.desk.specs.Script.{Reading, reading, said_by_line}
-use Rattle.desk.specs.Log.{log_of}
-use Rattle.desk.specs.declared.call.Call.{Call}
-use Rattle.desk.specs.declared.call.Call.TheVariants.{Refresh}
-use Rattle.desk.specs.declared.call.Refresh.TheVariants.{Doupdate}
-use Rattle.desk.specs.declared.screen.Screen.{Screen}
-use Rattle.desk.specs.declared.script.fault.TextFault.{TextFault}
-use Rattle.desk.specs.declared.script.fault.ScriptEnd.{ScriptEnd}
-use Rattle.desk.specs.declared.script.fault.ScriptFault.{ScriptFault}
-use Rattle.desk.specs.declared.script.fault.ScriptFault.TheVariants.{Text, Reading as Reading_fault, Write, Log}
+use Rattle.streams.specs.Sources.{SourceSeen}
+use Rattle.script.specs.Readings.{Reading, reading, said_by_line}
+use Rattle.script.specs.Log.{log_line}
+use Rattle.world.specs.declared.call.Call.{Call}
+use Rattle.world.specs.declared.call.Call.TheVariants.{Refresh}
+use Rattle.world.specs.declared.call.Refresh.TheVariants.{Doupdate}
+use Rattle.desk.specs.States.{ScreenOver}
+use Rattle.script.specs.declared.fault.TextFault.{TextFault}
+use Rattle.script.specs.declared.fault.ScriptEnd.{ScriptEnd}
+use Rattle.script.specs.declared.fault.ScriptFault.{ScriptFault}
+use Rattle.script.specs.declared.fault.ScriptFault.TheVariants.{Text, Reading as Reading_fault, Write, Log}
 
 abbrev pub read_failed : Option ScriptFault → Bool
 read_failed (Some Reading_fault) = true
@@ -44,6 +45,11 @@ SaysHowever met_end text P = (more : List ℕ) → MayFollow met_end more → P 
 abbrev pub BeginsWith : List (ℕ × Call) → Reading → Type 0
 BeginsWith calls r = (others : List (ℕ × Call)) × (r.calls ≡ calls ++ others)
 
+-- the lines of the log for calls with these outcomes
+abbrev pub log_of : List (ℕ × Call) → List Outcome → List ℕ
+log_of (call ∷ calls) (outcome ∷ outcomes) = log_line call.0 outcome.answer ++ log_of calls outcomes
+log_of _ _ = []
+
 -- The log took the lines of the calls, or, after a fault in writing it, a beginning of them.
 abbrev pub Logs : Seen → Seen → List ℕ → Option ScriptFault → Type 0
 Logs old new lines (Some Log) = (n : ℕ) × Appends old.taken new.taken (take n lines)
@@ -69,7 +75,7 @@ calls_of = map (λ call. call.1)
 
 module _ {W : Type 0} (seen : W → Seen) where
   -- A line said its call, if it says one, and it was made, or there was a fault.
-  abbrev pub LineStops : ℕ → Result (Option Call) TextFault → Option Call → Screen W → Option ScriptFault → Screen W → Type 0
+  abbrev pub LineStops : ℕ → Result (Option Call) TextFault → Option Call → ScreenOver W → Option ScriptFault → ScreenOver W → Type 0
   LineStops number said call at_stop None new = (said ≡ Ok call) × (new ≡ at_stop)
   LineStops number said call at_stop (Some (Text line fault)) new = (line ≡ number) × (said ≡ Err fault) × (call ≡ None) × (new ≡ at_stop)
   LineStops number said call at_stop (Some Reading_fault) new = ⊥
@@ -78,17 +84,17 @@ module _ {W : Type 0} (seen : W → Seen) where
   LineStops number said call at_stop (Some Log) new = (said ≡ Ok call) × (new ≡ at_stop)
 
   -- A line was run and logged.
-  pub record LineEnds (old new : Screen W) (number : ℕ) (line : List ℕ) (log written : Seen) (end : ScriptEnd) : Type 0 where
+  pub record LineEnds (old new : ScreenOver W) (number : ℕ) (line : List ℕ) (log written : Seen) (end : ScriptEnd) : Type 0 where
     pub call : Option Call
     pub outcomes : List Outcome
-    pub at_stop : Screen W
+    pub at_stop : ScreenOver W
     pub makes : Makes seen old (calls_of (numbered number call)) outcomes at_stop
     pub stop : LineStops number (said_by_line line) call at_stop end.fault new
     pub logs : Logs log written (log_of (numbered number call) outcomes) end.fault
     pub refused : end.refused ≡ list_any is_refused outcomes
 
   -- A script ended so, after the calls that were made.
-  abbrev pub ScriptStops : Bool → List ℕ → List (ℕ × Call) → Screen W → Option ScriptFault → Screen W → Type 0
+  abbrev pub ScriptStops : Bool → List ℕ → List (ℕ × Call) → ScreenOver W → Option ScriptFault → ScreenOver W → Type 0
   -- The bytes are all of it, and each call was made.
   ScriptStops met_end text made at_stop None new = (met_end ≡ true) × (reading false text ≡ record { calls = made; fault = None }) × (new ≡ at_stop)
   -- It says these calls and then has this fault.
@@ -104,11 +110,11 @@ module _ {W : Type 0} (seen : W → Seen) where
   ScriptStops met_end text made at_stop (Some Log) new = SaysHowever met_end text (BeginsWith made) × (new ≡ at_stop)
 
   -- The lines of a script, read from a source, were run on a screen and logged.
-  pub record RunsLines (old new : Screen W) (input rest : SourceSeen) (log written : Seen) (end : ScriptEnd) : Type 0 where
+  pub record RunsLines (old new : ScreenOver W) (input rest : SourceSeen) (log written : Seen) (end : ScriptEnd) : Type 0 where
     pub text : List ℕ
     pub made : List (ℕ × Call)
     pub outcomes : List Outcome
-    pub at_stop : Screen W
+    pub at_stop : ScreenOver W
     pub read : Consumes input.left rest.left text
     pub makes : Makes seen old (calls_of made) outcomes at_stop
     pub stop : ScriptStops rest.met_end text made at_stop end.fault new
@@ -118,6 +124,6 @@ module _ {W : Type 0} (seen : W → Seen) where
     pub at_end : end.fault ≡ None → IsAtEnd rest.left
 
   -- A script ended so, and what the writer took shows the world that its calls left.
-  pub record ScriptEnds (old new : Screen W) (input rest : SourceSeen) (log written : Seen) (end : ScriptEnd) : Type 0 where
+  pub record ScriptEnds (old new : ScreenOver W) (input rest : SourceSeen) (log written : Seen) (end : ScriptEnd) : Type 0 where
     pub lines : RunsLines old new input rest log written end
     pub shown : RunShows seen old new (calls_of lines.made) (write_fault end.fault)

@@ -2,17 +2,17 @@
 use Rattle.std.specs.Prelude.{◌≡◌, ℕ, ◌<◌, List, [], ◌∷◌, ◌++◌, Option, Some, None}
 use Rattle.std.specs.Io.KnownBytes.{Appends}
 use Rattle.cell.specs.Pictures.{HasSize, shown_at, no_rendition}
-use Rattle.cell.specs.World.{World, picture, topmost_cursor}
+use Rattle.world.specs.World.{World, picture, topmost_cursor}
 use Rattle.ecma.specs.Terminals.{Terminal}
 use Rattle.ecma.specs.Streams.{Leads, LeadsWithBreaks}
-use Rattle.paint.specs.Sinks.{Seen}
+use Rattle.streams.specs.Sinks.{Seen}
 use Rattle.paint.specs.Updates.{Agrees}
-use Rattle.paint.specs.declared.sending.WriteFault.{WriteFault}
-use Rattle.desk.specs.Tables.{world}
-use Rattle.desk.specs.declared.call.Call.{Call}
-use Rattle.desk.specs.declared.call.Call.TheVariants.{Refresh}
-use Rattle.desk.specs.declared.call.Refresh.TheVariants.{UpdatePanels, Doupdate}
-use Rattle.desk.specs.declared.screen.Screen.{Screen}
+use Rattle.streams.specs.declared.sending.WriteFault.{WriteFault}
+use Rattle.desk.specs.Desks.{world}
+use Rattle.world.specs.declared.call.Call.{Call}
+use Rattle.world.specs.declared.call.Call.TheVariants.{Refresh}
+use Rattle.world.specs.declared.call.Refresh.TheVariants.{UpdatePanels, Doupdate}
+use Rattle.desk.specs.States.{ScreenOver}
 
 -- the calls end in update_panels and doupdate
 abbrev pub EndsInUpdate : List Call → Type 0
@@ -30,12 +30,12 @@ module _ {W : Type 0} (seen : W → Seen) where
   -- The writer took these bytes in a run of calls. All that was sent before, if it agreed with the painter, agrees with it again when the
   -- bytes follow, also where a write failed. Where the calls end in update_panels and doupdate, and no write failed, all of it shows the
   -- world after the run; and if the painter knew nothing, as that of a screen just made, then these bytes alone show it on any terminal.
-  pub record RunShows (old new : Screen W) (calls : List Call) (fault : Option WriteFault) : Type 0 where
+  pub record RunShows (old new : ScreenOver W) (calls : List Call) (fault : Option WriteFault) : Type 0 where
     pub bytes : List ℕ
     pub taken : Appends (seen old.writer).taken (seen new.writer).taken bytes
-    pub agrees : (stream : List ℕ) (t : Terminal) → HasSize old.desk.lines old.desk.columns t.picture
+    pub agrees : (stream : List ℕ) (t : Terminal) → HasSize old.desk.windows.lines old.desk.windows.columns t.picture
         → Agrees old.painter stream t → Agrees new.painter (stream ++ bytes) t
-    pub shows : EndsInUpdate calls → fault ≡ None → (stream : List ℕ) (t : Terminal) → HasSize old.desk.lines old.desk.columns t.picture
+    pub shows : EndsInUpdate calls → fault ≡ None → (stream : List ℕ) (t : Terminal) → HasSize old.desk.windows.lines old.desk.windows.columns t.picture
         → Agrees old.painter stream t → (u : Terminal) × LeadsWithBreaks (stream ++ bytes) t u × ShowsWorld (world new.desk) u
     pub shows_on_any : EndsInUpdate calls → fault ≡ None → old.painter.last ≡ None → (t : Terminal)
-        → HasSize old.desk.lines old.desk.columns t.picture → (u : Terminal) × Leads bytes t u × ShowsWorld (world new.desk) u
+        → HasSize old.desk.windows.lines old.desk.windows.columns t.picture → (u : Terminal) × Leads bytes t u × ShowsWorld (world new.desk) u

@@ -1,26 +1,28 @@
 //! The windows under a virtual screen.
 
-ghost use Rattle.std.specs.Prelude.{◌≡◌, ◌<◌, Ok, IfOk};
+ghost use Rattle.std.specs.Prelude.{◌≡◌, ◌<◌, Ok, IfOk, false};
 ghost use Rattle.cell.specs.Pictures.{AreCells, HasSize, line_of, picture_of};
-ghost use Rattle.cell.specs.Windows.{cell_at};
-ghost use Rattle.cell.specs.Panels.{standard_screen};
-ghost use Rattle.cell.specs.World.{first_world};
-ghost use Rattle.cell.specs.Sound.{AreSoundWindows, IsSound};
-ghost use Rattle.cell.specs.Placing.{new_refusal};
+ghost use Rattle.world.specs.Windows.{cell_at};
+ghost use Rattle.world.specs.Panels.{standard_screen};
+ghost use Rattle.world.specs.World.{first_world};
+ghost use Rattle.world.specs.Sound.{AreSoundWindows, IsSound};
+ghost use Rattle.world.specs.calls.Making.{new_refusal};
 ghost use Rattle.cell.specs.Refusals.{RefusedBy};
-ghost use Rattle.cell.specs.Refresh.{after_doupdate, after_update_panels, cells_composed};
+ghost use Rattle.world.specs.calls.Refresh.{after_doupdate, after_update_panels, cells_composed};
 ghost use Rattle.grids.specs.Tables.{windows as windows_of};
-ghost use Rattle.desk.specs.declared.call.Call.{Call};
-ghost use Rattle.desk.specs.declared.call.Refresh.{Refresh};
-ghost use Rattle.desk.specs.Tables.{window_table, world};
+ghost use Rattle.world.specs.declared.call.Call.{Call};
+ghost use Rattle.world.specs.declared.call.Refresh.{Refresh};
+ghost use Rattle.world.specs.calls.Dispatch.{is_doupdate};
+ghost use Rattle.desk.specs.Desks.{world};
 ghost use Rattle.desk.specs.Runs.{Called};
 
-use crate::call::{Composed, Making, Query, Reply, Writing};
 use crate::dispatch::{make, query, write};
 use cell::{Cell, Grid, Refusal, WinId};
+use grids::Grids;
 use std::alloc::Global;
 use std::marker::Model;
 use windows::Windows;
+use world::{Call, Composed, Refresh, Reply};
 
 /// The number of the standard screen.
 const STANDARD: WinId = WinId(0);
@@ -36,28 +38,24 @@ pub struct Desk {
 }
 
 impl Model for Desk {
-    ghost use Rattle.cell.specs.Sound.{IsSound};
-    ghost use Rattle.desk.specs.Tables.{Table, world};
+    ghost use Rattle.world.specs.Sound.{IsSound};
+    ghost use Rattle.desk.specs.Desks.{DeskTable, world};
 
-    ghost Value = { Table };
+    ghost Value = { DeskTable };
 
     ghost view = { λ d. record {
-      lines = d.windows.lines;
-      columns = d.windows.columns;
-      slots = d.windows.slots;
+      windows = d.windows.table;
       virtual = record { picture = d.picture; cursor = d.cursor; clear = d.clear };
     } };
 
     ghost invariant = { λ d. IsSound (world (record {
-      lines = d.windows.lines;
-      columns = d.windows.columns;
-      slots = d.windows.slots;
+      windows = d.windows.table;
       virtual = record { picture = d.picture; cursor = d.cursor; clear = d.clear };
     })) };
 }
 
 impl Desk {
-    /// The blank standard screen of 1 to 255 lines and columns, under a blank virtual screen.
+    /// The blank standard screen of 1 to `LARGEST_SCREEN` lines and columns, under a blank virtual screen.
     ///
     /// # Errors
     /// `BadSize` for a size out of these limits, `NoMemory`.
@@ -79,50 +77,51 @@ impl Desk {
 
     /// The windows and pads.
     pub fn windows(&self) -> &Windows
-        ensures { result.now ≡ window_table self.now }
+        ensures { result.now.table ≡ self.now.windows }
     {
         &self.windows
     }
 
-    /// Makes a call of the table of making and placing.
-    pub fn make(&mut self, making: Making) -> Result<Reply, Refusal>
-        ensures { Called self.old (Call.Making making) result self.new }
+    /// Makes a call that sends nothing, which is any but `doupdate`.
+    pub fn call(&mut self, call: &Call<'_>) -> Result<Reply, Refusal>
+        requires { is_doupdate call.now ≡ false }
+        ensures { Called self.old call.now result self.new }
     {
-        make(&mut self.windows, making)
-    }
-
-    /// Makes a call of the table of writing.
-    pub fn write(&mut self, writing: Writing<'_>) -> Result<Reply, Refusal>
-        ensures { Called self.old (Call.Writing writing.entry) result self.new }
-    {
-        write(&mut self.windows, writing)
-    }
-
-    /// Makes a call of the table of queries.
-    pub fn query(&self, asked: Query) -> Result<Reply, Refusal>
-        ensures { Called self.now (Call.Query asked) result self.now }
-    {
-        query(&self.windows, asked)
+        match *call {
+            Call::Making(making) => make(&mut self.windows.table, making),
+            Call::Writing(writing) => write(&mut self.windows, writing),
+            Call::Query(asked) => query(&self.windows, asked),
+            Call::Refresh(Refresh::UpdatePanels) => Ok(Reply::Composed(self.update_panels())),
+            Call::Refresh(Refresh::Doupdate) => unreachable!(),
+        }
     }
 
     /// Takes the picture of the standard screen, and its cursor, into the virtual screen. It tells how many cells it read.
     pub fn update_panels(&mut self) -> Composed
         ensures { Called self.old (Call.Refresh Refresh.UpdatePanels) (Ok (Reply.Composed result)) self.new }
     {
-        let (lines, columns) = size_of_screen(&self.windows);
-        show_standard(&self.windows, lines, &mut self.picture);
-        let settings = self.windows.settings(STANDARD);
+        let (lines, columns) = size_of_screen(&self.windows.table);
+        show_standard(&self.windows.table, lines, &mut self.picture);
+        let settings = self.windows.table.settings(STANDARD);
         self.cursor = settings.cursor;
         self.clear |= settings.clear;
-        self.windows.refresh(STANDARD);
+        self.windows.table.unmark(STANDARD);
         Composed {
             cells: u32::from(lines) * u32::from(columns),
         }
     }
 
+    /// How many lines and columns the screen has.
+    pub fn size(&self) -> (u16, u16)
+        ensures size { result ≡ (self.now.windows.lines, self.now.windows.columns) }
+        ensures sound { IsSound (world self.now) }
+    {
+        size_of_screen(&self.windows.table)
+    }
+
     /// The cells of a line of the virtual screen.
     pub fn virtual_row(&self, y: u16) -> &[Cell]
-        requires { y < self.now.lines }
+        requires { y < self.now.windows.lines }
         ensures { result.now ≡ line_of self.now.virtual.picture y }
     {
         self.picture.row(usize::from(y))
@@ -153,26 +152,26 @@ impl Desk {
 }
 
 /// How many lines and columns the standard screen has.
-fn size_of_screen(windows: &Windows) -> (u16, u16)
-    requires { AreSoundWindows (windows_of windows.now) }
-    ensures { result ≡ (windows.now.lines, windows.now.columns) }
+fn size_of_screen(table: &Grids) -> (u16, u16)
+    requires { AreSoundWindows (windows_of table.now) }
+    ensures { result ≡ (table.now.lines, table.now.columns) }
 {
-    match windows.getmaxyx(STANDARD) {
+    match table.getmaxyx(STANDARD) {
         Ok(size) => size,
         Err(_) => unreachable!(),
     }
 }
 
 /// Puts the picture of the standard screen, of so many lines, into a grid of its size.
-fn show_standard(windows: &Windows, lines: u16, picture: &mut Grid)
-    requires windows { AreSoundWindows (windows_of windows.now) }
-    requires lines { lines ≡ windows.now.lines }
-    requires size { HasSize windows.now.lines windows.now.columns picture.old }
-    ensures shown { picture.new ≡ picture_of windows.now.lines windows.now.columns (cell_at (windows_of windows.now).window standard_screen) }
+fn show_standard(table: &Grids, lines: u16, picture: &mut Grid)
+    requires windows { AreSoundWindows (windows_of table.now) }
+    requires lines { lines ≡ table.now.lines }
+    requires size { HasSize table.now.lines table.now.columns picture.old }
+    ensures shown { picture.new ≡ picture_of table.now.lines table.now.columns (cell_at (windows_of table.now).window standard_screen) }
     ensures cells { AreCells picture.new }
 {
     for y in 0..lines {
-        picture.put_cells(usize::from(y), 0, windows.row(STANDARD, y));
+        picture.put_cells(usize::from(y), 0, table.row(STANDARD, y));
     }
     // Reading a line tells the proof that each cell can be printed.
     prove!(!picture.row(0).is_empty());

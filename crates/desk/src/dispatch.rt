@@ -3,75 +3,77 @@
 ghost use Rattle.std.specs.Prelude.{◌≡◌, IfOk, OnErr, OnOk, false};
 ghost use Rattle.std.specs.Result.{result_err};
 ghost use Rattle.cell.specs.Refusals.{RefusedBy};
-ghost use Rattle.cell.specs.Sound.{AreSoundWindows};
+ghost use Rattle.world.specs.Sound.{AreSoundWindows};
 ghost use Rattle.grids.specs.Tables.{windows as windows_of};
-ghost use Rattle.desk.specs.Calls.{after_making, after_writing, makes_window, making_refusal, making_reply, query_refusal, query_reply, writing_refusal};
+ghost use Rattle.world.specs.calls.Dispatch.{after_making, after_writing, makes_window, making_refusal, making_reply, query_refusal, query_reply, writing_refusal};
 
-use crate::call::{Making, Query, Reply, Writing};
 use cell::{Refusal, WinId};
+use grids::Grids;
 use windows::Windows;
+use world::{Making, Query, Reply, Writing};
 
 /// Makes a call of the table of making and placing.
-pub fn make(windows: &mut Windows, making: Making) -> Result<Reply, Refusal>
-    ensures refused { RefusedBy (making_refusal (windows_of windows.old) making) result }
-    ensures exact { makes_window making ≡ false → result_err result ≡ making_refusal (windows_of windows.old) making }
-    ensures reply { IfOk result (λ reply. reply ≡ making_reply (windows_of windows.old) making) }
-    ensures made { OnOk result (windows_of windows.new ≡ after_making (windows_of windows.old) making) }
-    ensures unchanged { OnErr result (windows.new ≡ windows.old) }
-    ensures sound { AreSoundWindows (windows_of windows.new) }
+#[rattlefmt::skip]
+pub fn make(table: &mut Grids, making: Making) -> Result<Reply, Refusal>
+    ensures refused { RefusedBy (making_refusal (windows_of table.old) making) result }
+    ensures exact { makes_window making ≡ false → result_err result ≡ making_refusal (windows_of table.old) making }
+    ensures reply { IfOk result (λ reply. reply ≡ making_reply (windows_of table.old) making) }
+    ensures made { OnOk result (windows_of table.new ≡ after_making (windows_of table.old) making) }
+    ensures unchanged { OnErr result (table.new ≡ table.old) }
+    ensures sound { AreSoundWindows (windows_of table.new) }
 {
     match making {
-        Making::Newwin(lines, cols, y, x) => number(windows.newwin(lines, cols, y, x)?),
-        Making::Subwin(win, lines, cols, y, x) => number(windows.subwin(win, lines, cols, y, x)?),
-        Making::Derwin(win, lines, cols, y, x) => number(windows.derwin(win, lines, cols, y, x)?),
-        Making::Newpad(lines, cols) => number(windows.newpad(lines, cols)?),
-        Making::Subpad(pad, lines, cols, y, x) => number(windows.subpad(pad, lines, cols, y, x)?),
-        Making::Delwin(win) => nothing(windows.delwin(win)?),
-        Making::Mvwin(win, y, x) => nothing(windows.mvwin(win, y, x)?),
-        Making::Mvderwin(win, y, x) => nothing(windows.mvderwin(win, y, x)?),
+        Making::Newwin { lines, columns, y, x } => number(table.newwin(lines, columns, y, x)?),
+        Making::Subwin { win, lines, columns, y, x } => number(table.subwin(win, lines, columns, y, x)?),
+        Making::Derwin { win, lines, columns, y, x } => number(table.derwin(win, lines, columns, y, x)?),
+        Making::Newpad { lines, columns } => number(table.newpad(lines, columns)?),
+        Making::Subpad { pad, lines, columns, y, x } => number(table.subpad(pad, lines, columns, y, x)?),
+        Making::Delwin { win } => nothing(table.delwin(win)?),
+        Making::Mvwin { win, y, x } => nothing(table.mvwin(win, y, x)?),
+        Making::Mvderwin { win, y, x } => nothing(table.mvderwin(win, y, x)?),
     }
 }
 
 /// Makes a call of the table of writing.
 pub fn write(windows: &mut Windows, writing: Writing<'_>) -> Result<Reply, Refusal>
-    ensures refused { result_err result ≡ writing_refusal (windows_of windows.old) writing.entry }
+    ensures refused { result_err result ≡ writing_refusal (windows_of windows.old.table) writing.entry }
     ensures reply { IfOk result (λ reply. reply ≡ Reply.Nothing) }
-    ensures written { OnOk result (windows_of windows.new ≡ after_writing (windows_of windows.old) writing.entry) }
-    ensures unchanged { OnErr result (windows.new ≡ windows.old) }
-    ensures sound { AreSoundWindows (windows_of windows.new) }
+    ensures written { OnOk result (windows_of windows.new.table ≡ after_writing (windows_of windows.old.table) writing.entry) }
+    ensures unchanged { OnErr result (windows.new.table ≡ windows.old.table) }
+    ensures sound { AreSoundWindows (windows_of windows.new.table) }
 {
     match writing {
-        Writing::Move(win, y, x) => nothing(windows.wmove(win, y, x)?),
-        Writing::Addch(win, ch) => nothing(windows.waddch(win, ch)?),
-        Writing::Addstr(win, text) => nothing(windows.waddstr(win, text)?),
-        Writing::Insch(win, ch) => nothing(windows.winsch(win, ch)?),
-        Writing::Delch(win) => nothing(windows.wdelch(win)?),
-        Writing::Insertln(win) => nothing(windows.winsertln(win)?),
-        Writing::Deleteln(win) => nothing(windows.wdeleteln(win)?),
-        Writing::Erase(win) => nothing(windows.werase(win)?),
-        Writing::Clrtoeol(win) => nothing(windows.wclrtoeol(win)?),
-        Writing::Clrtobot(win) => nothing(windows.wclrtobot(win)?),
-        Writing::Scrl(win, n) => nothing(windows.wscrl(win, n)?),
-        Writing::Setscrreg(win, top, bottom) => nothing(windows.wsetscrreg(win, top, bottom)?),
-        Writing::Scrollok(win, flag) => nothing(windows.scrollok(win, flag)?),
-        Writing::Attrset(win, attrs) => nothing(windows.wattrset(win, attrs)?),
-        Writing::Attron(win, attrs) => nothing(windows.wattron(win, attrs)?),
-        Writing::Attroff(win, attrs) => nothing(windows.wattroff(win, attrs)?),
-        Writing::Bkgdset(win, attrs, ch) => nothing(windows.wbkgdset(win, attrs, ch)?),
+        Writing::Move { win, y, x } => nothing(windows.wmove(win, y, x)?),
+        Writing::Addch { win, ch } => nothing(windows.waddch(win, ch)?),
+        Writing::Addstr { win, text } => nothing(windows.waddstr(win, text)?),
+        Writing::Insch { win, ch } => nothing(windows.winsch(win, ch)?),
+        Writing::Delch { win } => nothing(windows.wdelch(win)?),
+        Writing::Insertln { win } => nothing(windows.winsertln(win)?),
+        Writing::Deleteln { win } => nothing(windows.wdeleteln(win)?),
+        Writing::Erase { win } => nothing(windows.werase(win)?),
+        Writing::Clrtoeol { win } => nothing(windows.wclrtoeol(win)?),
+        Writing::Clrtobot { win } => nothing(windows.wclrtobot(win)?),
+        Writing::Scrl { win, n } => nothing(windows.wscrl(win, n)?),
+        Writing::Setscrreg { win, top, bottom } => nothing(windows.wsetscrreg(win, top, bottom)?),
+        Writing::Scrollok { win, flag } => nothing(windows.scrollok(win, flag)?),
+        Writing::Attrset { win, attrs } => nothing(windows.wattrset(win, attrs)?),
+        Writing::Attron { win, attrs } => nothing(windows.wattron(win, attrs)?),
+        Writing::Attroff { win, attrs } => nothing(windows.wattroff(win, attrs)?),
+        Writing::Bkgdset { win, attrs, ch } => nothing(windows.wbkgdset(win, attrs, ch)?),
     }
 }
 
 /// Makes a call of the table of queries.
 pub fn query(windows: &Windows, query: Query) -> Result<Reply, Refusal>
-    ensures refused { result_err result ≡ query_refusal (windows_of windows.now) query }
-    ensures reply { IfOk result (λ reply. reply ≡ query_reply (windows_of windows.now) query) }
+    ensures refused { result_err result ≡ query_refusal (windows_of windows.now.table) query }
+    ensures reply { IfOk result (λ reply. reply ≡ query_reply (windows_of windows.now.table) query) }
 {
     match query {
-        Query::Getyx(win) => pair(windows.getyx(win)?),
-        Query::Getbegyx(win) => pair(windows.getbegyx(win)?),
-        Query::Getmaxyx(win) => pair(windows.getmaxyx(win)?),
-        Query::Getparyx(win) => pair(windows.getparyx(win)?),
-        Query::Inch(win) => Ok(Reply::Cell(windows.inch(win)?)),
+        Query::Getyx { win } => pair(windows.table.getyx(win)?),
+        Query::Getbegyx { win } => pair(windows.table.getbegyx(win)?),
+        Query::Getmaxyx { win } => pair(windows.table.getmaxyx(win)?),
+        Query::Getparyx { win } => pair(windows.table.getparyx(win)?),
+        Query::Inch { win } => Ok(Reply::Cell(windows.winch(win)?)),
     }
 }
 

@@ -1,20 +1,22 @@
 //! A screen over a writer, and runs of calls on it.
 
-ghost use Rattle.std.specs.Prelude.{◌≡◌, IfOk, is_some, if◌then◌else◌};
-ghost use Rattle.cell.specs.Placing.{new_refusal};
+ghost use Rattle.std.specs.Prelude.{◌≡◌, IfOk, is_some, true};
+ghost use Rattle.world.specs.calls.Making.{new_refusal};
 ghost use Rattle.cell.specs.Refusals.{RefusedBy};
-ghost use Rattle.cell.specs.World.{first_world};
-ghost use Rattle.paint.specs.Sinks.{next_count};
+ghost use Rattle.world.specs.World.{first_world};
+ghost use Rattle.streams.specs.Counts.{counted};
 ghost use Rattle.paint.specs.Updates.{first_painter};
-ghost use Rattle.desk.specs.Tables.{world};
+ghost use Rattle.desk.specs.Desks.{world};
 ghost use Rattle.desk.specs.Runs.{cells_of_reply};
 ghost use Rattle.desk.specs.declared.screen.Fault.TheVariants.{Refused};
 
-use crate::call::{Call, Refresh, Reply};
 use crate::desk::Desk;
 use cell::Refusal;
-use paint::{Painter, Sink, WriteFault};
+use paint::Painter;
 use std::alloc::Global;
+use std::marker::Model;
+use streams::{Sink, WriteFault};
+use world::{Call, Refresh, Reply};
 
 /// A desk, the painter that shows it, and the writer that the bytes go to.
 #[derive(Drop)]
@@ -22,8 +24,16 @@ pub struct Screen<W> {
     desk: Desk,
     painter: Painter,
     writer: W,
-    ghost same_lines: { painter.lines ≡ desk.lines },
-    ghost same_columns: { painter.columns ≡ desk.columns },
+}
+
+impl<W> Model for Screen<W> {
+    ghost use Rattle.desk.specs.States.{HasOneSize, ScreenOver};
+
+    ghost Value = { ScreenOver W };
+
+    ghost view = { λ s. record { desk = s.desk; painter = s.painter; writer = s.writer } };
+
+    ghost invariant = { λ s. HasOneSize s.desk s.painter };
 }
 
 /// Why a call did nothing, or not all.
@@ -55,7 +65,7 @@ pub struct RunEnd {
 }
 
 impl<W: Sink + Drop> Screen<W> {
-    /// A blank screen of 1 to 255 lines and columns. Where it is refused, the writer is dropped.
+    /// A blank screen of 1 to `LARGEST_SCREEN` lines and columns. Where it is refused, the writer is dropped.
     pub fn new(alloc: Global, lines: u16, cols: u16, writer: W) -> Result<Screen<W>, Refusal>
         ensures world { IfOk result (λ screen. world screen.desk ≡ first_world lines cols) }
         ensures painter { IfOk result (λ screen. screen.painter ≡ first_painter lines cols) }
@@ -73,6 +83,7 @@ impl<W: Sink + Drop> Screen<W> {
 }
 
 impl<W: Sink> Screen<W> {
+    ghost use Rattle.desk.specs.States.{HasOneSize};
     ghost use Rattle.desk.specs.Ends.{CallEnds, RunEnds, is_write_fault};
     ghost use Rattle.desk.specs.Showing.{RunShows};
 
@@ -93,23 +104,26 @@ impl<W: Sink> Screen<W> {
     /// Makes one call.
     pub fn call(&mut self, call: &Call<'_>) -> Result<Reply, Fault>
         ensures call { CallEnds W.seen self.old call.now result self.new }
-        ensures failures { (W.seen self.new.writer).failures
-            ≡ (if is_write_fault result then next_count (W.seen self.old.writer).failures else (W.seen self.old.writer).failures) }
+        ensures failures { (W.seen self.new.writer).failures ≡ counted (is_write_fault result) (W.seen self.old.writer).failures }
     {
         match *call {
-            Call::Making(making) => Ok(self.desk.make(making)?),
-            Call::Writing(writing) => Ok(self.desk.write(writing)?),
-            Call::Query(query) => Ok(self.desk.query(query)?),
-            Call::Refresh(Refresh::UpdatePanels) => Ok(Reply::Composed(self.desk.update_panels())),
             Call::Refresh(Refresh::Doupdate) => self.doupdate(),
+            _ => Ok(self.desk.call(call)?),
         }
+    }
+
+    /// Always true: what it ensures is what is known of each screen.
+    pub(crate) fn has_one_size(&self) -> bool
+        ensures yes { result ≡ true }
+        ensures size { HasOneSize self.now.desk self.now.painter }
+    {
+        self.desk.size().0 > 0
     }
 
     /// Shows the virtual screen.
     fn doupdate(&mut self) -> Result<Reply, Fault>
         ensures call { CallEnds W.seen self.old (Call.Refresh Refresh.Doupdate) result self.new }
-        ensures failures { (W.seen self.new.writer).failures
-            ≡ (if is_write_fault result then next_count (W.seen self.old.writer).failures else (W.seen self.old.writer).failures) }
+        ensures failures { (W.seen self.new.writer).failures ≡ counted (is_write_fault result) (W.seen self.old.writer).failures }
     {
         let cursor = self.desk.wanted_cursor();
         match self
@@ -128,16 +142,15 @@ impl<W: Sink> Screen<W> {
     pub fn run(&mut self, calls: &[Call<'_>]) -> RunEnd
         ensures run { RunEnds W.seen self.old calls.now result self.new }
         ensures shown { RunShows W.seen self.old self.new calls.now result.fault }
-        ensures failures { (W.seen self.new.writer).failures
-            ≡ (if is_some result.fault then next_count (W.seen self.old.writer).failures else (W.seen self.old.writer).failures) }
+        ensures failures { (W.seen self.new.writer).failures ≡ counted (is_some result.fault) (W.seen self.old.writer).failures }
     {
+        prove!(self.has_one_size());
         self.run_calls(calls)
     }
 
     fn run_calls(&mut self, calls: &[Call<'_>]) -> RunEnd
         ensures run { RunEnds W.seen self.old calls.now result self.new }
-        ensures failures { (W.seen self.new.writer).failures
-            ≡ (if is_some result.fault then next_count (W.seen self.old.writer).failures else (W.seen self.old.writer).failures) }
+        ensures failures { (W.seen self.new.writer).failures ≡ counted (is_some result.fault) (W.seen self.old.writer).failures }
     {
         let mut end = RunEnd {
             done: 0,

@@ -1,11 +1,12 @@
 use crate::{
-    Attr, Call, Cell, Composed, Counted, CountedReader, Fault, Making, Query, Refresh, Refusal,
-    Reply, RunEnd, Screen, ScriptEnd, ScriptFault, Sent, TextFault, WinId, WriteFault, Writing,
+    Attr, Call, Cell, Composed, Counted, CountedReader, Desk, Fault, Making, Query, Refresh,
+    Refusal, Reply, RunEnd, Screen, ScriptEnd, ScriptFault, Sent, TextFault, WinId, WriteFault,
+    Writing,
 };
 use bitflags::Flags;
 use std::alloc::Global;
 use std::io;
-use std::io::{ErrorKind, Write};
+use std::io::{ErrorKind, Read, Write};
 use std::test::Fail;
 
 /// A writer that takes `room` bytes, fails once, and then takes all.
@@ -36,6 +37,45 @@ impl Write for Breaking {
     }
 }
 
+fn breaking_after(alloc: Global, room: usize) -> Counted<Breaking> {
+    Counted::new(Breaking {
+        taken: Vec::new(alloc),
+        room,
+        broke: false,
+    })
+}
+
+/// A reader that gives a text, fails once, gives another, and is then at its end.
+#[derive(Drop)]
+struct Interrupted {
+    before: &'static [u8],
+    behind: &'static [u8],
+    failed: bool,
+}
+
+impl Read for Interrupted {
+    fn read(&mut self, buf: &mut [u8]) -> io::Result<usize> {
+        let text = if self.failed {
+            self.behind
+        } else {
+            self.before
+        };
+        if text.is_empty() && !self.failed {
+            self.failed = true;
+            return Err(io::Error::from(ErrorKind::Other));
+        }
+        let count = text.len().min(buf.len());
+        let (piece, left) = text.split_at(count);
+        buf[..count].copy_from_slice(piece);
+        if self.failed {
+            self.behind = left;
+        } else {
+            self.before = left;
+        }
+        Ok(count)
+    }
+}
+
 const UPDATE: [Call<'static>; 2] = [
     Call::Refresh(Refresh::UpdatePanels),
     Call::Refresh(Refresh::Doupdate),
@@ -49,7 +89,36 @@ fn screen(alloc: Global, lines: u16, cols: u16) -> Result<Screen<Counted<Vec<u8>
 }
 
 fn addstr(win: u16, text: &[u8]) -> Call<'_> {
-    Call::Writing(Writing::Addstr(WinId(win), text))
+    Call::Writing(Writing::Addstr {
+        win: WinId(win),
+        text,
+    })
+}
+
+#[test]
+fn a_desk_takes_the_picture_of_the_standard_screen(rt: HostRuntime) -> Result<(), Fail> {
+    let mut desk = Desk::new(rt.alloc(), 2, 3)?;
+    assert_eq!(rt; desk.size(), (2, 3));
+    let (win, text) = (WinId(0), b"abcd".as_slice());
+    let addstr = Call::Writing(Writing::Addstr { win, text });
+    assert_eq!(rt; desk.call(&addstr), Ok(Reply::Nothing));
+    assert_eq!(rt; desk.windows().table.getyx(WinId(0)), Ok((1, 1)));
+    assert_eq!(rt; desk.wanted_cursor(), (0, 0));
+    assert_eq!(rt; desk.update_panels(), Composed { cells: 6 });
+    assert_eq!(rt; desk.wanted_cursor(), (1, 1));
+    desk.clear_done();
+    let mut shown = Vec::new(rt.alloc());
+    for y in 0..desk.size().0 {
+        for cell in desk.virtual_row(y) {
+            shown.push(cell.ch())?;
+        }
+    }
+    assert_eq!(rt; shown.as_slice(), b"abcd  ".as_slice());
+    assert_eq!(rt;
+        desk.call(&Call::Query(Query::Getbegyx { win: WinId(1) })),
+        Err(Refusal::NoSuchWindow)
+    );
+    Ok(())
 }
 
 #[test]
@@ -115,12 +184,7 @@ fn a_run_counts_its_calls(rt: HostRuntime) -> Result<(), Fail> {
 
 #[test]
 fn a_run_stops_at_a_fault_and_the_next_one_repairs(rt: HostRuntime) -> Result<(), Fail> {
-    let writer = Breaking {
-        taken: Vec::new(rt.alloc()),
-        room: 5,
-        broke: false,
-    };
-    let mut screen = Screen::new(rt.alloc(), 1, 4, Counted::new(writer))?;
+    let mut screen = Screen::new(rt.alloc(), 1, 4, breaking_after(rt.alloc(), 5))?;
     let calls = [addstr(0, b"hi"), UPDATE[0], UPDATE[1], addstr(0, b"!")];
     assert_eq!(rt;
         screen.run(&calls),
@@ -155,34 +219,37 @@ fn sizes_past_the_limits_are_refused(rt: HostRuntime) -> Result<(), Fail> {
     Ok(())
 }
 
-/// What a script on a screen of 4 by 10 logs, and how it ended.
-fn logged(alloc: Global, script: &[u8]) -> Result<(Vec<u8>, ScriptEnd), Fail> {
-    let mut screen = screen(alloc, 4, 10)?;
-    let mut input = CountedReader::new(script);
-    let mut log = Counted::new(Vec::new(alloc));
-    let end = screen.run_script(&mut input, &mut log);
-    let mut bytes = Vec::new(alloc);
-    bytes.extend_from_slice(log.get_ref().as_slice())?;
-    Ok((bytes, end))
-}
-
 #[test]
 fn windows_are_numbered_and_a_freed_number_is_given_again(rt: HostRuntime) -> Result<(), Fail> {
     let mut screen = screen(rt.alloc(), 4, 10)?;
-    let newwin = Call::Making(Making::Newwin(2, 5, 1, 2));
-    let subwin = Call::Making(Making::Subwin(WinId(1), 1, 2, 1, 4));
+    let newwin = Call::Making(Making::Newwin {
+        lines: 2,
+        columns: 5,
+        y: 1,
+        x: 2,
+    });
+    let subwin = Call::Making(Making::Subwin {
+        win: WinId(1),
+        lines: 1,
+        columns: 2,
+        y: 1,
+        x: 4,
+    });
     assert_eq!(rt; screen.call(&newwin), Ok(Reply::Number(WinId(1))));
     assert_eq!(rt; screen.call(&subwin), Ok(Reply::Number(WinId(2))));
     assert_eq!(rt;
-        screen.call(&Call::Making(Making::Delwin(WinId(1)))),
+        screen.call(&Call::Making(Making::Delwin { win: WinId(1) })),
         Err(Fault::Refused(Refusal::HasDerived))
     );
     assert_eq!(rt;
-        screen.call(&Call::Making(Making::Delwin(WinId(2)))),
+        screen.call(&Call::Making(Making::Delwin { win: WinId(2) })),
         Ok(Reply::Nothing)
     );
     assert_eq!(rt; screen.call(&subwin), Ok(Reply::Number(WinId(2))));
-    assert_eq!(rt; screen.desk().windows().getparyx(WinId(2)), Ok((0, 2)));
+    assert_eq!(rt;
+        screen.desk().windows().table.getparyx(WinId(2)),
+        Ok((0, 2))
+    );
     Ok(())
 }
 
@@ -191,13 +258,20 @@ fn attributes_and_background_are_written(rt: HostRuntime) -> Result<(), Fail> {
     let mut screen = screen(rt.alloc(), 1, 6)?;
     let win = WinId(0);
     let calls = [
-        Call::Writing(Writing::Attrset(win, Attr::BOLD)),
-        Call::Writing(Writing::Bkgdset(win, Attr::UNDERLINE, b'.')),
+        Call::Writing(Writing::Attrset {
+            win,
+            attrs: Attr::BOLD,
+        }),
+        Call::Writing(Writing::Bkgdset {
+            win,
+            attrs: Attr::UNDERLINE,
+            ch: b'.',
+        }),
         addstr(0, b"a b"),
-        Call::Writing(Writing::Clrtoeol(win)),
+        Call::Writing(Writing::Clrtoeol { win }),
         UPDATE[0],
         UPDATE[1],
-        Call::Writing(Writing::Move(win, 0, 1)),
+        Call::Writing(Writing::Move { win, y: 0, x: 1 }),
     ];
     assert_eq!(rt; screen.run(&calls).done, 7);
     assert_eq!(rt;
@@ -205,71 +279,128 @@ fn attributes_and_background_are_written(rt: HostRuntime) -> Result<(), Fail> {
         b"\x1b[0m\x1b[2J\x1b[1;1H\x1b[1;1H\x1b[0;1;4ma.b\x1b[0;4m...\x1b[0m\x1b[1;4H".as_slice()
     );
     let dot = Cell::new(b'.', Attr::BOLD | Attr::UNDERLINE).ok_or("no cell")?;
-    let inch = Call::Query(Query::Inch(win));
+    let inch = Call::Query(Query::Inch { win });
     assert_eq!(rt; screen.call(&inch), Ok(Reply::Cell(dot)));
-    let getyx = Call::Query(Query::Getyx(win));
+    let getyx = Call::Query(Query::Getyx { win });
     assert_eq!(rt; screen.call(&getyx), Ok(Reply::Pair(0, 1)));
-    let getmaxyx = Call::Query(Query::Getmaxyx(win));
+    let getmaxyx = Call::Query(Query::Getmaxyx { win });
     assert_eq!(rt; screen.call(&getmaxyx), Ok(Reply::Pair(1, 6)));
     Ok(())
 }
 
 #[test]
-fn answers_and_refusals_are_logged(rt: HostRuntime) -> Result<(), Fail> {
-    let script = b"newwin 3 6 0 2\nderwin 1 2 4 1 1\nderwin 2 1 2 1 1\ngetbegyx 3\nmvwin 1 1 3
-subwin 1 1 1 0 3\nmvderwin 1 0 0\nmove 1 2 3\nattrset 1 2a\naddch 1 Q\nmvderwin 2 1 2\ninch 3\nscrl 0 -2\n";
-    let (log, end) = logged(rt.alloc(), script)?;
+fn a_script_logs_its_answers_and_refusals(rt: HostRuntime) -> Result<(), Fail> {
+    let script = b"newwin 3 6 0 2\n# two\nderwin 1 2 4 1 1\ngetbegyx 2\n\nmvwin 1 1 9\naddstr 0 hi
+update_panels\ndoupdate\ninch 2";
+    let mut screen = screen(rt.alloc(), 4, 10)?;
+    let mut input = CountedReader::new(script.as_slice());
+    let mut log = Counted::new(Vec::new(rt.alloc()));
     assert_eq!(rt;
-        log.as_slice(),
-        b"line 1: 1\nline 2: 2\nline 3: 3\nline 4: 2 4\nline 6: E4 OutsideParent
-line 7: E10 NotDerived\nline 12: 81 2a\nline 13: E16 ScrollingOff\n"
-            .as_slice()
-    );
-    assert_eq!(rt;
-        end,
+        screen.run_script(&mut input, &mut log),
         ScriptEnd {
             refused: true,
             fault: None
         }
     );
-    Ok(())
-}
-
-#[test]
-fn escapes_and_flags_are_read(rt: HostRuntime) -> Result<(), Fail> {
-    let script =
-        b"scrollok 0 on\nsetscrreg 0 0 1\naddstr 0 a\\nb\\rc\\bd\\\\\\x41\ngetyx 0\ninch 0\nmove 0 1 2
-inch 0\naddch 0 \\x07\naddch 0  \ninch 0\n";
-    let (log, end) = logged(rt.alloc(), script)?;
     assert_eq!(rt;
-        log.as_slice(),
-        b"line 4: 1 3\nline 5: 32 00\nline 7: 65 00\nline 8: E13 BadCharacter\nline 10: 32 00\n".as_slice()
+        log.get_ref().as_slice(),
+        b"line 1: 1\nline 3: 2\nline 4: 1 3\nline 6: E3 OffScreen\nline 10: 32 00\n".as_slice()
     );
-    assert_eq!(rt; end.fault, None);
+    let sent = screen.writer().get_ref().as_slice();
+    assert_eq!(rt; sent.len(), 84);
+    assert_eq!(rt; &sent[14..28], b"\x1b[1;1Hhi      ".as_slice());
     Ok(())
 }
 
 #[test]
-fn arguments_that_lack_their_form_are_told(rt: HostRuntime) -> Result<(), Fail> {
-    let scripts: [&[u8]; 12] = [
-        b"scrl 0 -0",
-        b"scrl 0 32768",
-        b"scrl 0 -32768",
-        b"attron 0 40",
-        b"attroff 0 1",
-        b"attrset 0 0A",
-        b"scrollok 0 yes",
-        b"addch 0 ab",
-        b"addstr 0 a\\",
-        b"addstr 0 \\q",
-        b"insch 0 \\x4",
-        b"bkgdset 0 00 \\xAB",
-    ];
-    for script in scripts {
-        let (log, end) = logged(rt.alloc(), script)?;
-        let fault = TextFault::BadArgument;
-        assert_eq!(rt; end.fault, Some(ScriptFault::Text { line: 1, fault }));
-        assert_eq!(rt; log.len(), 0);
-    }
+fn a_script_ends_at_the_fault_of_a_line(rt: HostRuntime) -> Result<(), Fail> {
+    let mut screen = screen(rt.alloc(), 1, 4)?;
+    let mut input = CountedReader::new(b"addstr 0 hi\n\nfly\naddstr 0 !\n".as_slice());
+    let mut log = Counted::new(Vec::new(rt.alloc()));
+    let fault = TextFault::UnknownCall;
+    assert_eq!(rt;
+        screen.run_script(&mut input, &mut log),
+        ScriptEnd {
+            refused: false,
+            fault: Some(ScriptFault::Text { line: 3, fault }),
+        }
+    );
+    assert_eq!(rt; log.get_ref().len(), 0);
+    assert_eq!(rt; screen.run(&UPDATE).done, 2);
+    assert_eq!(rt; screen.writer().get_ref().as_slice(), HI);
+    Ok(())
+}
+
+#[test]
+fn a_script_ends_at_a_failed_read_and_another_goes_on(rt: HostRuntime) -> Result<(), Fail> {
+    let mut screen = screen(rt.alloc(), 1, 4)?;
+    let mut input = CountedReader::new(Interrupted {
+        before: b"addstr 9 hi\naddstr 0 hi\naddstr 0 !",
+        behind: b"update_panels\ndoupdate\n",
+        failed: false,
+    });
+    let mut log = Counted::new(Vec::new(rt.alloc()));
+    assert_eq!(rt;
+        screen.run_script(&mut input, &mut log),
+        ScriptEnd {
+            refused: true,
+            fault: Some(ScriptFault::Reading),
+        }
+    );
+    assert_eq!(rt; screen.writer().get_ref().len(), 0);
+    assert_eq!(rt;
+        screen.run_script(&mut input, &mut log),
+        ScriptEnd {
+            refused: false,
+            fault: None,
+        }
+    );
+    assert_eq!(rt; screen.writer().get_ref().as_slice(), HI);
+    assert_eq!(rt;
+        log.get_ref().as_slice(),
+        b"line 1: E1 NoSuchWindow\n".as_slice()
+    );
+    Ok(())
+}
+
+#[test]
+fn a_script_ends_at_a_failed_write_and_another_repairs(rt: HostRuntime) -> Result<(), Fail> {
+    let mut screen = Screen::new(rt.alloc(), 1, 4, breaking_after(rt.alloc(), 29))?;
+    let mut log = Counted::new(Vec::new(rt.alloc()));
+    let script = b"addstr 0 hi\nupdate_panels\ndoupdate\naddstr 0 !\n".as_slice();
+    let fault = WriteFault { sent: 29 };
+    assert_eq!(rt;
+        screen.run_script(&mut CountedReader::new(script), &mut log),
+        ScriptEnd {
+            refused: false,
+            fault: Some(ScriptFault::Write { line: 3, fault }),
+        }
+    );
+    assert_eq!(rt; screen.writer().get_ref().taken.as_slice(), &HI[..29]);
+    let script = b"doupdate".as_slice();
+    let end = screen.run_script(&mut CountedReader::new(script), &mut log);
+    assert_eq!(rt; end.fault, None);
+    let taken = screen.writer().get_ref().taken.as_slice();
+    assert_eq!(rt; taken.len(), 59);
+    assert_eq!(rt; &taken[29..], HI);
+    assert_eq!(rt; log.get_ref().len(), 0);
+    Ok(())
+}
+
+#[test]
+fn a_script_ends_where_its_log_fails(rt: HostRuntime) -> Result<(), Fail> {
+    let mut screen = screen(rt.alloc(), 1, 4)?;
+    let mut log = breaking_after(rt.alloc(), 6);
+    let script = b"addstr 0 hi\ngetyx 0\naddstr 0 !\n".as_slice();
+    assert_eq!(rt;
+        screen.run_script(&mut CountedReader::new(script), &mut log),
+        ScriptEnd {
+            refused: false,
+            fault: Some(ScriptFault::Log),
+        }
+    );
+    assert_eq!(rt; log.get_ref().taken.as_slice(), b"line 2".as_slice());
+    assert_eq!(rt; screen.run(&UPDATE).done, 2);
+    assert_eq!(rt; screen.writer().get_ref().as_slice(), HI);
     Ok(())
 }

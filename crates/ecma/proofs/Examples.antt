@@ -3,7 +3,7 @@ use Rattle.std.proofs.Common.{◌≡◌, [], ◌∷◌, ◌++◌, replicate, Opt
 use Rattle.std.specs.Prelude.{codes}
 use Rattle.cell.specs.Pictures.{Place, Rendition, shown_blank, shown_with, no_rendition, blank_picture, origin}
 use Rattle.ecma.specs.Items.{Printable, Control, Unfinished, CUP, ED, EL, SGR, AreParameters, IsBeginning, escape}
-use Rattle.ecma.specs.Terminals.{Terminal, effect, effects, position, extent, select_all, select}
+use Rattle.ecma.specs.Terminals.{Terminal, effect, effects, position, erasure, select_all, select}
 use Rattle.ecma.specs.Streams.{IsInProfile}
 use Rattle.ecma.specs.Difference.{difference}
 use Rattle.ecma.specs.declared.token.Erase.TheVariants.{ToEnd}
@@ -48,7 +48,7 @@ restarted = record {
       refl,
       record { one = omega arith; most = omega arith; digits = (((omega arith, omega arith), tt), (((omega arith, omega arith), tt), tt)); short = (omega arith, (omega arith, tt)) },
       tt,
-      ([], refl, (omega arith, omega arith), tt, refl),
+      ([], refl, refl, tt, refl),
     ),
   );
   have_effect = refl;
@@ -119,14 +119,14 @@ unfolding blank_with
 line_at_unknown_cursor = refl
 
 -- E[00K is E[K; E[2;2J and E[3J erase nothing
-leading_zero : extent (codes "00" ∷ []) ≡ Some ToEnd
+leading_zero : erasure (codes "00" ∷ []) ≡ Some ToEnd
 leading_zero = refl
 
-two_extents : extent (codes "2" ∷ codes "2" ∷ []) ≡ None
-two_extents = refl
+two_erasures : erasure (codes "2" ∷ codes "2" ∷ []) ≡ None
+two_erasures = refl
 
-other_extent : extent (codes "3" ∷ []) ≡ None
-other_extent = refl
+other_erasure : erasure (codes "3" ∷ []) ≡ None
+other_erasure = refl
 
 -- ---- renditions
 

@@ -1,5 +1,6 @@
 pub mod Examples
 pub mod Numbers
+pub mod Printing
 pub mod Tokens
 pub mod Joining
 pub mod Codes

@@ -7,7 +7,7 @@ use Rattle.cell.specs.Pictures.{Picture, Place, Shown, shown_blank, shown_with, 
 use Rattle.ecma.specs.declared.token.Erase.{Erase}
 use Rattle.ecma.specs.declared.token.Erase.TheVariants.{ToEnd, FromStart, All}
 use Rattle.ecma.specs.Items.{Item, Printable, Control, Unfinished, CUP, ED, EL, SGR}
-use Rattle.ecma.specs.Terminals.{Terminal, blanked, erased_line, erased_at, erased_page, erase_line, erase_page, move_to, printed, effect, effects, position, extent, select_all, number_or}
+use Rattle.ecma.specs.Terminals.{Terminal, blanked, erased_line, erased_at, erased_page, erase_line, erase_page, move_to, printed, effect, effects, position, erasure, select_all, number_or}
 use Rattle.ecma.proofs.Joining.{effects_first}
 
 abbrev AreWide : ℕ → Picture → Type 0
@@ -104,8 +104,8 @@ size-effect lines columns (Printable byte) t h = keeps-map lines columns (printe
     (λ place. size-row lines columns t.picture place.0 (set (line_of t.picture place.0) place.1 (shown_with t.rendition byte)) h (length-set (line_of t.picture place.0) place.1 _))
 size-effect lines columns (Control CUP parameters) t h = keeps-then lines columns (λ place. move_to place t) (position parameters)
     (λ place. keeps-cond lines columns (is_place t.picture place) (Some (record t { cursor = Some place })) (keeps-some lines columns (record t { cursor = Some place }) h))
-size-effect lines columns (Control ED parameters) t h = keeps-then lines columns (λ how. erase_page how t) (extent parameters) (λ how. size-erase_page lines columns how t h)
-size-effect lines columns (Control EL parameters) t h = keeps-then lines columns (λ how. erase_line how t) (extent parameters)
+size-effect lines columns (Control ED parameters) t h = keeps-then lines columns (λ how. erase_page how t) (erasure parameters) (λ how. size-erase_page lines columns how t h)
+size-effect lines columns (Control EL parameters) t h = keeps-then lines columns (λ how. erase_line how t) (erasure parameters)
     (λ how. keeps-cond lines columns (eqb t.rendition 0) _ (keeps-map lines columns (λ place. record t { picture = erased_at how place t.picture }) t.cursor (λ place. size-erased_at lines columns how place t.picture h)))
 size-effect lines columns (Control SGR parameters) t h = keeps-map lines columns (λ rendition. record t { rendition = rendition }) (select_all (map (number_or 0) parameters) t.rendition) (λ rendition. h)
 size-effect lines columns (Unfinished begun) t h = keeps-some lines columns t h

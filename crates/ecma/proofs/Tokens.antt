@@ -13,8 +13,8 @@ use Rattle.ecma.specs.declared.token.Erase.TheVariants.{ToEnd, FromStart, All}
 use Rattle.ecma.specs.declared.token.Token.{Token}
 use Rattle.ecma.specs.declared.token.Token.TheVariants.{Print, Cup, Sgr, El, Ed}
 use Rattle.ecma.specs.Items.{Printable, Control, CUP, ED, EL, SGR, IsDigit, AreParameters}
-use Rattle.ecma.specs.Terminals.{number_or, select, extent_of, place_from_one}
-use Rattle.ecma.specs.Spelling.{codes_of, spelling, extent_spelling, IsToken, IsItemOf}
+use Rattle.ecma.specs.Terminals.{number_or, select, erasure_of, place_from_one}
+use Rattle.ecma.specs.Spelling.{codes_of, spelling, erasure_spelling, IsToken, IsItemOf}
 use Rattle.ecma.proofs.Numbers.{are_digits-decimal, number_or-decimal, select_all-codes_of, codes_small, codes_few}
 
 abbrev small : List ℕ → Bool
@@ -96,12 +96,12 @@ sgr attr =
       same_effect = λ t. rw (numbers-decimal (codes_of (bits_of attr)) fine, select-zero t.rendition, select_all-codes_of (bits_of attr)) refl;
     }
 
-extent_of-spelling : (how : Erase) → extent_of (number_or 0 (extent_spelling how)) ≡ Some how
-extent_of-spelling ToEnd = refl
-extent_of-spelling FromStart = refl
-extent_of-spelling All = refl
+erasure_of-spelling : (how : Erase) → erasure_of (number_or 0 (erasure_spelling how)) ≡ Some how
+erasure_of-spelling ToEnd = refl
+erasure_of-spelling FromStart = refl
+erasure_of-spelling All = refl
 
-erasing : (how : Erase) → AreParameters (extent_spelling how ∷ [])
+erasing : (how : Erase) → AreParameters (erasure_spelling how ∷ [])
 erasing ToEnd = record { one = omega arith; most = omega arith; digits = (tt, tt); short = (omega arith, tt) }
 erasing FromStart = record { one = omega arith; most = omega arith; digits = ((((omega arith), (omega arith)), tt), tt); short = (omega arith, tt) }
 erasing All = record { one = omega arith; most = omega arith; digits = ((((omega arith), (omega arith)), tt), tt); short = (omega arith, tt) }
@@ -111,8 +111,8 @@ unfolding spelling
 is_item_of (Print byte) h = record { item = Printable byte; well_formed = h; finished = tt; spelled = refl; same_effect = λ t. refl }
 is_item_of (Cup line column) h = cup line column h
 is_item_of (Sgr attr) h = sgr attr
-is_item_of (El how) h = record { item = Control EL (extent_spelling how ∷ []); well_formed = erasing how; finished = tt; spelled = refl; same_effect = λ t. rw (extent_of-spelling how) refl }
-is_item_of (Ed how) h = record { item = Control ED (extent_spelling how ∷ []); well_formed = erasing how; finished = tt; spelled = refl; same_effect = λ t. rw (extent_of-spelling how) refl }
+is_item_of (El how) h = record { item = Control EL (erasure_spelling how ∷ []); well_formed = erasing how; finished = tt; spelled = refl; same_effect = λ t. rw (erasure_of-spelling how) refl }
+is_item_of (Ed how) h = record { item = Control ED (erasure_spelling how ∷ []); well_formed = erasing how; finished = tt; spelled = refl; same_effect = λ t. rw (erasure_of-spelling how) refl }
 
 pub is_item_of_bytes : (token : Token) (bytes : List ℕ) → IsToken token → bytes ≡ spelling token → IsItemOf bytes token
 is_item_of_bytes token bytes h e = rw e (is_item_of token h)

@@ -2,6 +2,7 @@
 use Rattle.std.proofs.Common.{◌≡◌, ℕ, ◌<◌, ◌≤◌, List, [], ◌∷◌, ◌++◌, length, refl, sym, ap, ◌∙◌, subst, arith, append_assoc, length-append, inl, inr}
 use Rattle.std.specs.Prelude.{◌⊎◌}
 use Rattle.ecma.proofs.Joining.{Splits_some}
+use Rattle.ecma.proofs.Printing.{from_space}
 use Rattle.std.proofs.lemmas.List.{append-nil}
 use Rattle.std.specs.Prelude.{⊤}
 use Rattle.std.specs.List.{AllByRecursion, join_with_byte}
@@ -207,13 +208,13 @@ printable-unfinished byte begun f g h (inr a) e =
 
 pub same-first : (i j : Item) (f g : List ℕ) → IsItem i → IsItem j → MayPrecede i f → MayPrecede j g → bytes_of i ++ f ≡ bytes_of j ++ g → SameItem i j f g
 same-first (Printable a) (Printable b) f g h k p q e = record { item = cc; rest = cc }
-same-first (Printable a) (Control b qs) f g h k p q e = absurd (let same : a ≡ 27 = cc in omega (arith, h.0))
-same-first (Printable a) (Unfinished b) f g h k p q e = absurd (printable-unfinished a b f g h.0 (shape-of b k) e)
-same-first (Control a ps) (Printable b) f g h k p q e = absurd (let same : b ≡ 27 = cc in omega (arith, k.0))
+same-first (Printable a) (Control b qs) f g h k p q e = absurd (let same : a ≡ 27 = cc in omega (arith, from_space a h))
+same-first (Printable a) (Unfinished b) f g h k p q e = absurd (printable-unfinished a b f g (from_space a h) (shape-of b k) e)
+same-first (Control a ps) (Printable b) f g h k p q e = absurd (let same : b ≡ 27 = cc in omega (arith, from_space b k))
 same-first (Control a ps) (Control b qs) f g h k p q e =
     let tail : (join_with_byte 59 ps ++ final_byte a ∷ []) ++ f ≡ (join_with_byte 59 qs ++ final_byte b ∷ []) ++ g = cc in control-control a ps b qs f g h k tail
 same-first (Control a ps) (Unfinished b) f g h k p q e = absurd (control-unfinished a ps b f g h q (shape-of b k) e)
-same-first (Unfinished a) (Printable b) f g h k p q e = absurd (printable-unfinished b a g f k.0 (shape-of a h) (sym e))
+same-first (Unfinished a) (Printable b) f g h k p q e = absurd (printable-unfinished b a g f (from_space b k) (shape-of a h) (sym e))
 same-first (Unfinished a) (Control b qs) f g h k p q e = absurd (control-unfinished b qs a g f k p (shape-of a h) (sym e))
 same-first (Unfinished a) (Unfinished b) f g h k p q e = unfinished-unfinished a b f g p q (shape-of a h) (shape-of b k) e
 

@@ -1,4 +1,4 @@
--- In how many places two pictures of one size differ.
+-- In how many places two pictures of one size differ, a measure of our own.
 use Rattle.std.specs.Prelude.{ℕ, ◌+◌, ◌==◌, ◌&&◌, if◌then◌else◌, Bool, [], ◌∷◌, List}
 use Rattle.cell.specs.Pictures.{Picture, Shown}
 

@@ -3,8 +3,9 @@
 -- and the final bytes of 8.3.21 CUP, 8.3.39 ED, 8.3.41 EL and 8.3.117 SGR.
 -- The profile leaves out every other control function, the 8-bit form of CSI, intermediate bytes, private parameters (which begin
 -- with 03/12 to 03/15), the colon within a parameter, characters beyond 07/14, more than 16 parameters, and those of more than 3 digits.
-use Rattle.std.specs.Prelude.{◌≡◌, ℕ, ◌<◌, ◌≤◌, List, [], ◌∷◌, ◌++◌, length, ⊤}
+use Rattle.std.specs.Prelude.{◌≡◌, ℕ, ◌<◌, ◌≤◌, List, [], ◌∷◌, ◌++◌, length, codes, IsTrue, ⊤}
 use Rattle.std.specs.List.{join_with_byte, AllByRecursion}
+use Rattle.cell.specs.Glyphs.{is_printable}
 
 -- the control functions of the profile
 pub data Function : Type 0 where
@@ -33,9 +34,9 @@ pub data Item : Type 0 where
 abbrev pub escape : ℕ
 escape = 27
 
--- the escape and a left bracket
+-- a left bracket behind the escape
 abbrev pub introducer : List ℕ
-introducer = escape ∷ 91 ∷ []
+introducer = escape ∷ codes "["
 
 -- the semicolon between two parameters
 abbrev pub separator : ℕ
@@ -50,15 +51,22 @@ bytes_of (Printable byte) = byte ∷ []
 bytes_of (Control function parameters) = control_sequence function (join_with_byte separator parameters)
 bytes_of (Unfinished bytes) = bytes
 
+-- the most parameters of a control sequence, and the most digits of each
+abbrev pub most_parameters : ℕ
+most_parameters = 16
+
+abbrev pub most_digits : ℕ
+most_digits = 3
+
 abbrev pub IsDigit : ℕ → Type 0
 IsDigit byte = (48 ≤ byte) × (byte ≤ 57)
 
--- 1 to 16 parameters of 0 to 3 digits
+-- at least one parameter, which may have no digits
 pub record AreParameters (parameters : List (List ℕ)) : Type 0 where
   pub one : 1 ≤ length parameters
-  pub most : length parameters ≤ 16
+  pub most : length parameters ≤ most_parameters
   pub digits : AllByRecursion (AllByRecursion IsDigit) parameters
-  pub short : AllByRecursion (λ digits. length digits ≤ 3) parameters
+  pub short : AllByRecursion (λ digits. length digits ≤ most_digits) parameters
 
 -- a control sequence from its escape on, with at least its final byte missing
 pub record IsBeginning (bytes : List ℕ) : Type 0 where
@@ -70,9 +78,9 @@ pub record IsBeginning (bytes : List ℕ) : Type 0 where
   pub not_finished : 0 < length missing
   pub goes_on : bytes ++ missing ≡ bytes_of (Control function parameters)
 
--- from the space to the tilde, with such parameters, or such a beginning
+-- a byte that a cell can hold, such parameters, or such a beginning
 abbrev pub IsItem : Item → Type 0
-IsItem (Printable byte) = (32 ≤ byte) × (byte ≤ 126)
+IsItem (Printable byte) = IsTrue (is_printable byte)
 IsItem (Control function parameters) = AreParameters parameters
 IsItem (Unfinished bytes) = IsBeginning bytes
 

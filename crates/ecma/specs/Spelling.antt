@@ -1,9 +1,11 @@
 -- The one spelling of each token, and what a token does to a terminal.
 -- ECMA-48, 5th edition: 5.4, 8.3.21 CUP, 8.3.39 ED, 8.3.41 EL, 8.3.117 SGR.
-use Rattle.std.specs.Prelude.{◌≡◌, ◌==◌, ℕ, ◌+◌, ◌≤◌, ◌<◌, List, [], ◌∷◌, ◌++◌, if◌then◌else◌, decimal, Option, Some, ⊤}
+use Rattle.std.specs.Prelude.{◌≡◌, ◌==◌, ℕ, ◌+◌, ◌<◌, List, [], ◌∷◌, ◌++◌, if◌then◌else◌, decimal, Option, Some, IsTrue, ⊤}
 use Rattle.std.specs.List.{flat_map}
 use Rattle.std.specs.Int.RustNames.{bit_and}
 use Rattle.cell.specs.Attributes.{known, bits_of}
+use Rattle.cell.specs.Glyphs.{is_printable}
+use Rattle.cell.specs.declared.limits.TheConstants.{LARGEST_SCREEN}
 use Rattle.ecma.specs.Items.{CUP, ED, EL, SGR, separator, control_sequence, Item, IsItem, IsFinished, bytes_of}
 use Rattle.ecma.specs.Terminals.{Terminal, print, move_to, erase_line, erase_page, effect}
 use Rattle.ecma.specs.declared.token.Erase.{Erase}
@@ -24,18 +26,18 @@ abbrev pub selection : ℕ → List ℕ
 selection bits = flat_map (λ code. separator ∷ decimal code) (codes_of bits)
 
 -- nothing, 1 or 2
-abbrev pub extent_spelling : Erase → List ℕ
-extent_spelling ToEnd = []
-extent_spelling FromStart = 49 ∷ []
-extent_spelling All = 50 ∷ []
+abbrev pub erasure_spelling : Erase → List ℕ
+erasure_spelling ToEnd = []
+erasure_spelling FromStart = 49 ∷ []
+erasure_spelling All = 50 ∷ []
 
 -- a position counts from 1, and a selection begins with the 0 that ends all attributes
 unfoldable pub spelling : Token → List ℕ
 spelling (Print byte) = byte ∷ []
 spelling (Cup line column) = control_sequence CUP (decimal (line + 1) ++ separator ∷ decimal (column + 1))
 spelling (Sgr attr) = control_sequence SGR (48 ∷ selection (bits_of attr))
-spelling (El how) = control_sequence EL (extent_spelling how)
-spelling (Ed how) = control_sequence ED (extent_spelling how)
+spelling (El how) = control_sequence EL (erasure_spelling how)
+spelling (Ed how) = control_sequence ED (erasure_spelling how)
 
 -- the most bytes that the spelling has
 abbrev pub longest : Token → ℕ
@@ -53,10 +55,10 @@ token_effect (Sgr attr) t = Some (record t { rendition = known (bits_of attr) })
 token_effect (El how) t = erase_line how t
 token_effect (Ed how) t = erase_page how t
 
--- what can be spelled: a byte that is printed, a line and a column below 255, any attributes, any erasure
+-- what can be spelled: a byte that a cell can hold, a line and a column of the largest screen, any attributes, any erasure
 abbrev pub IsToken : Token → Type 0
-IsToken (Print byte) = (32 ≤ byte) × (byte ≤ 126)
-IsToken (Cup line column) = (line < 255) × (column < 255)
+IsToken (Print byte) = IsTrue (is_printable byte)
+IsToken (Cup line column) = (line < LARGEST_SCREEN) × (column < LARGEST_SCREEN)
 IsToken (Sgr attr) = ⊤
 IsToken (El how) = ⊤
 IsToken (Ed how) = ⊤

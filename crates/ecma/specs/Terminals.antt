@@ -5,8 +5,9 @@
 use Rattle.std.specs.Prelude.{◌==◌, ◌&&◌, nat_lt, if◌then◌else◌, ℕ, ◌+◌, ◌-◌, List, [], ◌∷◌, ◌++◌, length, map, take, drop, Option, Some, None}
 use Rattle.std.specs.Option.{option_map, option_and_then}
 use Rattle.std.specs.List.{slice_set}
-use Rattle.std.specs.Int.RustNames.{bit_and, bit_or}
+use Rattle.std.specs.Int.RustNames.{bit_or}
 use Rattle.std.specs.Str.Parse.{digits_value}
+use Rattle.cell.specs.Attributes.{without}
 use Rattle.cell.specs.Pictures.{Picture, Place, Shown, shown_blank, shown_with, Rendition, no_rendition, line_of, is_place, with_shown}
 use Rattle.ecma.specs.declared.token.Erase.{Erase}
 use Rattle.ecma.specs.declared.token.Erase.TheVariants.{ToEnd, FromStart, All}
@@ -74,12 +75,9 @@ erase_page All t = under_no_rendition t (Some (record t { picture = map blanked 
 
 -- ---- selecting a rendition
 
--- the rendition with these attributes on, or off
+-- the rendition with these attributes on
 abbrev pub with_on : ℕ → Rendition → Rendition
 with_on attributes rendition = bit_or rendition attributes
-
-abbrev pub with_off : ℕ → Rendition → Rendition
-with_off attributes rendition = bit_and rendition (0x3f - attributes)
 
 -- the rendition after a code: 0 ends all attributes, and 22 both bold and dim
 unfoldable pub select : ℕ → Rendition → Option Rendition
@@ -91,11 +89,11 @@ select code rendition =
     else if code == 5 then Some (with_on 0x08 rendition)
     else if code == 7 then Some (with_on 0x10 rendition)
     else if code == 8 then Some (with_on 0x20 rendition)
-    else if code == 22 then Some (with_off 0x03 rendition)
-    else if code == 24 then Some (with_off 0x04 rendition)
-    else if code == 25 then Some (with_off 0x08 rendition)
-    else if code == 27 then Some (with_off 0x10 rendition)
-    else if code == 28 then Some (with_off 0x20 rendition)
+    else if code == 22 then Some (without rendition 0x03)
+    else if code == 24 then Some (without rendition 0x04)
+    else if code == 25 then Some (without rendition 0x08)
+    else if code == 27 then Some (without rendition 0x10)
+    else if code == 28 then Some (without rendition 0x20)
     else None
 
 -- the rendition after the codes, in their order
@@ -121,14 +119,14 @@ position (line ∷ []) = place_from_one (number_or 1 line) 1
 position (line ∷ column ∷ []) = place_from_one (number_or 1 line) (number_or 1 column)
 position (line ∷ column ∷ more ∷ others) = None
 
-abbrev pub extent_of : ℕ → Option Erase
-extent_of n = if n == 0 then Some ToEnd else if n == 1 then Some FromStart else if n == 2 then Some All else None
+abbrev pub erasure_of : ℕ → Option Erase
+erasure_of n = if n == 0 then Some ToEnd else if n == 1 then Some FromStart else if n == 2 then Some All else None
 
 -- what ED and EL erase, by one parameter, 0 where it is empty
-abbrev pub extent : List (List ℕ) → Option Erase
-extent [] = None
-extent (how ∷ []) = extent_of (number_or 0 how)
-extent (how ∷ more ∷ others) = None
+abbrev pub erasure : List (List ℕ) → Option Erase
+erasure [] = None
+erasure (how ∷ []) = erasure_of (number_or 0 how)
+erasure (how ∷ more ∷ others) = None
 
 -- ---- the effect of an item
 
@@ -136,8 +134,8 @@ extent (how ∷ more ∷ others) = None
 abbrev pub effect : Item → Terminal → Option Terminal
 effect (Printable byte) t = print byte t
 effect (Control CUP parameters) t = option_and_then (λ place. move_to place t) (position parameters)
-effect (Control ED parameters) t = option_and_then (λ how. erase_page how t) (extent parameters)
-effect (Control EL parameters) t = option_and_then (λ how. erase_line how t) (extent parameters)
+effect (Control ED parameters) t = option_and_then (λ how. erase_page how t) (erasure parameters)
+effect (Control EL parameters) t = option_and_then (λ how. erase_line how t) (erasure parameters)
 effect (Control SGR parameters) t =
     option_map (λ rendition. record t { rendition = rendition }) (select_all (map (number_or 0) parameters) t.rendition)
 effect (Unfinished bytes) t = Some t

@@ -7,5 +7,5 @@ mod spelling;
 mod tests;
 mod token;
 
-pub use spelling::spell;
+pub use spelling::{LONGEST_SPELLING, spell};
 pub use token::{Erase, Token};

@@ -1,13 +1,16 @@
 //! The spelling of tokens.
 
-ghost use Rattle.std.specs.Prelude.{◌≡◌, ◌+◌, ◌≤◌, ◌<◌, ◌++◌, length, take};
+ghost use Rattle.std.specs.Prelude.{◌≡◌, ◌+◌, ◌≤◌, ◌++◌, length, take};
 ghost use Rattle.cell.specs.Attributes.{bits_of};
-ghost use Rattle.ecma.specs.Spelling.{spelling, selection, extent_spelling, longest, IsToken, IsItemOf};
+ghost use Rattle.ecma.specs.Spelling.{spelling, selection, erasure_spelling, longest, IsToken, IsItemOf};
 
 use crate::token::{Erase, Token};
 use bitflags::Flags;
 use cell::Attr;
 use itoa::Buffer;
+
+/// The most bytes that the spelling of a token has.
+pub const LONGEST_SPELLING: usize = 16;
 
 const INTRODUCER: &[u8] = b"\x1b[";
 
@@ -22,8 +25,8 @@ const CODES: [(Attr, u8); 6] = [
 ];
 
 /// Writes the piece at a place, and says where it ends.
-fn append(out: &mut [u8; 32], at: usize, piece: &[u8]) -> usize
-    requires { at + length piece.now ≤ 32 }
+fn append(out: &mut [u8; LONGEST_SPELLING], at: usize, piece: &[u8]) -> usize
+    requires { at + length piece.now ≤ LONGEST_SPELLING }
     ensures end { result ≡ at + length piece.now }
     ensures text { take result out.new ≡ take at out.old ++ piece.now }
 {
@@ -32,10 +35,9 @@ fn append(out: &mut [u8; 32], at: usize, piece: &[u8]) -> usize
     end
 }
 
-/// Writes the spelling of a token to the front of the buffer, and says how many bytes it has: at most 1 for a
-/// character, 10 for a position, 16 for attributes and 4 for an erasure.
+/// Writes the spelling of a token to the front of the buffer, and says how many bytes it has.
 #[tactic(auto, unfolding(crate::specs::Spelling::spelling))]
-pub fn spell(token: &Token, out: &mut [u8; 32]) -> usize
+pub fn spell(token: &Token, out: &mut [u8; LONGEST_SPELLING]) -> usize
     requires { IsToken token.now }
     ensures length { result ≡ length (spelling token.now) }
     ensures text { take result out.new ≡ spelling token.now }
@@ -57,21 +59,21 @@ pub fn spell(token: &Token, out: &mut [u8; 32]) -> usize
             let at = append_codes(out, at, attr);
             append(out, at, b"m")
         }
-        Token::El(extent) => {
+        Token::El(erasure) => {
             let at = append(out, 0, INTRODUCER);
-            let at = append(out, at, extent_text(extent));
+            let at = append(out, at, erasure_text(erasure));
             append(out, at, b"K")
         }
-        Token::Ed(extent) => {
+        Token::Ed(erasure) => {
             let at = append(out, 0, INTRODUCER);
-            let at = append(out, at, extent_text(extent));
+            let at = append(out, at, erasure_text(erasure));
             append(out, at, b"J")
         }
     }
 }
 
-fn append_codes(out: &mut [u8; 32], at: usize, attr: Attr) -> usize
-    requires { at + 12 ≤ 32 }
+fn append_codes(out: &mut [u8; LONGEST_SPELLING], at: usize, attr: Attr) -> usize
+    requires { at + 12 ≤ LONGEST_SPELLING }
     ensures end { result ≡ at + length (selection (bits_of attr)) }
     ensures room { result ≤ at + 12 }
     ensures text { take result out.new ≡ take at out.old ++ selection (bits_of attr) }
@@ -85,11 +87,11 @@ fn append_codes(out: &mut [u8; 32], at: usize, attr: Attr) -> usize
     end
 }
 
-fn extent_text(extent: Erase) -> &'static [u8]
-    ensures text { result.now ≡ extent_spelling extent }
+fn erasure_text(erasure: Erase) -> &'static [u8]
+    ensures text { result.now ≡ erasure_spelling erasure }
     ensures short { length result.now ≤ 1 }
 {
-    match extent {
+    match erasure {
         Erase::ToEnd => b"",
         Erase::FromStart => b"1",
         Erase::All => b"2",

@@ -2,14 +2,14 @@
 
 ghost use Rattle.ecma.specs.Spelling.{IsToken};
 
-use crate::{Erase, Token, spell};
+use crate::{Erase, LONGEST_SPELLING, Token, spell};
 use bitflags::Flags;
 use cell::Attr;
 
 fn is_spelled(token: Token, bytes: &[u8]) -> bool
     requires { IsToken token }
 {
-    let mut out = [0; 32];
+    let mut out = [0; LONGEST_SPELLING];
     let length = spell(&token, &mut out);
     &out[..length] == bytes
 }
@@ -48,7 +48,7 @@ fn drops_bits_beyond_the_six(rt: HostRuntime) {
 }
 
 #[test]
-fn erases_by_an_extent(rt: HostRuntime) {
+fn erases_each_part(rt: HostRuntime) {
     assert!(rt; is_spelled(Token::El(Erase::ToEnd), b"\x1b[K"));
     assert!(rt; is_spelled(Token::El(Erase::FromStart), b"\x1b[1K"));
     assert!(rt; is_spelled(Token::El(Erase::All), b"\x1b[2K"));
@@ -59,7 +59,7 @@ fn erases_by_an_extent(rt: HostRuntime) {
 
 #[test]
 fn counts_the_bytes(rt: HostRuntime) {
-    let mut out = [0; 32];
+    let mut out = [0; LONGEST_SPELLING];
     assert_eq!(rt; spell(&Token::Print(b'x'), &mut out), 1);
     assert_eq!(rt; spell(&Token::Cup(254, 254), &mut out), 10);
     assert_eq!(rt; spell(&Token::Sgr(Attr::all()), &mut out), 16);

@@ -16,9 +16,9 @@ pub enum Erase {
 /// One character or control function for a terminal.
 #[derive(Clone, Copy, PartialEq, Eq, Debug)]
 pub enum Token {
-    /// The character is printed at the cursor. It is one from 32 to 126.
+    /// The character is printed at the cursor. It is one that a cell can hold.
     Print(u8),
-    /// The cursor goes to a line and a column, each from 0 to 254.
+    /// The cursor goes to a line and a column of the largest screen, counted from 0.
     Cup(u8, u8),
     /// What is printed from now on has these attributes and no others. Bits beyond the six are dropped.
     Sgr(Attr),

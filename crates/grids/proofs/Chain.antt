@@ -1,12 +1,16 @@
 -- The chain of parents: it ends, and it is no longer than the number of windows.
 use Rattle.std.proofs.Common.{◌≡◌, ℕ, zero, suc, ◌+◌, ◌-◌, ◌<◌, ◌≤◌, ◌≢◌, Option, Some, None, MatchOption, IsSome, IsSomeAnd, List, [], ◌∷◌, length, slice_set, ap, arith, refl, sym, ◌∙◌, subst, inl, inr, ◌⊎◌, get_or-set_other}
 use Rattle.std.proofs.lemmas.Bool.{cases_eq}
-use Rattle.cell.specs.Windows.{GridPlace, own, own_within, window_limit, leads}
+use Rattle.cell.specs.Glyphs.{Glyph}
+use Rattle.cell.specs.Pictures.{shown_at}
+use Rattle.cell.specs.declared.limits.TheConstants.{MOST_WINDOWS}
+use Rattle.world.specs.Windows.{own_grid, GridPlace, own, own_within, window_limit, leads}
 use Rattle.grids.specs.declared.slot.Part.{Part}
 use Rattle.grids.specs.declared.slot.Cells.{Cells}
 use Rattle.grids.specs.declared.slot.Cells.TheVariants.{Own, Shared}
-use Rattle.grids.specs.Kept.{Kept, IsKept, part_in, source_of}
-use Rattle.grids.specs.Tables.{slot_at, depth_at, lines_at, columns_at, window_map, FitsIn, StandsIn, IsChained}
+use Rattle.grids.specs.Kept.{Kept, IsKept, backing_of}
+use Rattle.grids.specs.Tables.{slot_at, window_map, FitsIn, StandsIn, IsChained}
+use Rattle.grids.specs.steps.Slots.{part_in, depth_at, lines_at, columns_at}
 
 from_match : (o : Option Kept) (P : Kept → Type 0) → MatchOption o ⊥ P → (k : Kept) × (o ≡ Some k) × P k
 from_match None P h = absurd h
@@ -102,7 +106,7 @@ pub record Leads (slots : List (Option Kept)) (win grid line column : ℕ) : Typ
 own_step : (slots : List (Option Kept)) (w : ℕ) (k : Kept) (part : Part) → slot_at slots w ≡ Some k → k.cells ≡ Shared part → (n y x : ℕ) → own_within (suc n) (window_map slots) w y x ≡ own_within n (window_map slots) part.parent (y + part.line) (x + part.column)
 own_step slots w k part e is n y x = rw (e, is) refl
 
-end_of : (further : ℕ → ℕ → ℕ → Option GridPlace) (w y x : ℕ) (cells : Cells) → part_in cells ≡ None → leads further w y x (source_of cells) ≡ Some (record { grid = w; line = y; column = x })
+end_of : (further : ℕ → ℕ → ℕ → Option GridPlace) (w y x : ℕ) (cells : Cells) → part_in cells ≡ None → leads further w y x (backing_of cells) ≡ Some (record { grid = w; line = y; column = x })
 end_of further w y x (Own picture) is = refl
 end_of further w y x (Shared part) is = cc
 
@@ -113,7 +117,7 @@ pub shared_of : (cells : Cells) (part : Part) → part_in cells ≡ Some part �
 shared_of (Own picture) part is = cc
 shared_of (Shared p) part is = ap Shared (let e : p ≡ part = cc in e)
 
-pub limit-is : window_limit ≡ 1001
+pub limit-is : window_limit ≡ MOST_WINDOWS + 1
 unfolding window_limit
 limit-is = refl
 
@@ -133,17 +137,27 @@ Leads-step slots s win grid line column k part e in_part h =
       same = λ n.
           let deeper : depth_at slots grid + n ≡ suc (depth_at slots part.parent + n) = rw (e, p.1) (omega (arith, p.2.depth)) in
           h.same n ∙ rw deeper (own_step slots grid k part e is (suc (depth_at slots part.parent + n)) line column);
-      lines = rw p.1 (let old = rw e at h.lines in omega (arith, old, p.2.lines));
-      columns = rw p.1 (let old = rw e at h.columns in omega (arith, old, p.2.columns));
+      lines = rw p.1 (let old = rw e at h.lines in omega (arith, old, p.2.within.lines));
+      columns = rw p.1 (let old = rw e at h.columns in omega (arith, old, p.2.within.columns));
     }
 
 -- the end of the chain
-pub Leads-end : (slots : List (Option Kept)) → IsChained slots → length slots ≤ 1001 → (win grid line column : ℕ) (k : Kept) → IsSome (slot_at slots win) → slot_at slots grid ≡ Some k → part_in k.cells ≡ None →
+pub Leads-end : (slots : List (Option Kept)) → IsChained slots → length slots ≤ MOST_WINDOWS + 1 → (win grid line column : ℕ) (k : Kept) → IsSome (slot_at slots win) → slot_at slots grid ≡ Some k → part_in k.cells ≡ None →
     Leads slots win grid line column → own_within window_limit (window_map slots) win 0 0 ≡ Some (record { grid = grid; line = line; column = column })
 Leads-end slots s few win grid line column k taken e is h =
     let n = window_limit - suc (depth_at slots win) in
     let whole : window_limit ≡ suc (depth_at slots win + n) = omega (arith, limit-is, depth_at_below slots s win taken) in
     rw whole (h.same n ∙ own_end slots grid k e is (depth_at slots grid + n) line column)
+
+-- a grid of its own, and a part of another window
+
+pub own_source : (cells : Cells) → part_in cells ≡ None → (grid : ℕ → ℕ → Glyph) × (backing_of cells ≡ own_grid grid)
+own_source (Own picture) is = (λ y x. shown_at picture (y, x), refl)
+own_source (Shared part) is = cc
+
+pub own_alone : (cells : Cells) (grid : ℕ → ℕ → Glyph) → backing_of cells ≡ own_grid grid → part_in cells ≡ None
+own_alone (Own picture) grid is = refl
+own_alone (Shared part) grid is = cc
 
 -- each chain ends
 own_or_shared : (cells : Cells) → (part_in cells ≡ None) ⊎ ((part : Part) × (cells ≡ Shared part))
@@ -165,7 +179,7 @@ ends slots s (suc n) w k e is m y x = elim (own_or_shared k.cells) [
       rw step (ends slots s n part.parent p.0 p.1 (omega (arith, p.2.depth)) m (y + part.line) (x + part.column))
 ]
 
-pub chain_ends : (slots : List (Option Kept)) → IsChained slots → length slots ≤ 1001 → (w : ℕ) (k : Kept) → slot_at slots w ≡ Some k → IsSome (own (window_map slots) w 0 0)
+pub chain_ends : (slots : List (Option Kept)) → IsChained slots → length slots ≤ MOST_WINDOWS + 1 → (w : ℕ) (k : Kept) → slot_at slots w ≡ Some k → IsSome (own (window_map slots) w 0 0)
 chain_ends slots s few w k e =
     let n = window_limit - suc k.depth in
     let whole : window_limit ≡ suc (k.depth + n) = omega (arith, limit-is, depth_below slots s w k e) in

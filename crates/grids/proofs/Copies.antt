@@ -5,9 +5,9 @@ use mathlib.Core.Path.{fun_ext}
 use Rattle.std.proofs.lemmas.Bool.{cases_eq, cases_lt, cases_order}
 use Rattle.std.proofs.lemmas.Bool.Decides.{nat_tests}
 use Rattle.cell.specs.Glyphs.{Glyph}
-use Rattle.cell.specs.Windows.{Window, WindowMap, Windows, GridPlace, Drawing, own, onward, over, cell_at, within, moved, put_windows, put, HasPlace}
-use Rattle.cell.specs.Rows.{filled, overlaid, copied}
-use Rattle.cell.proofs.WindowLaws.{own-onward, put-put, cell_at-kept, put-nothing, HasPlace-put}
+use Rattle.world.specs.Windows.{Window, WindowMap, Windows, GridPlace, Drawing, own, onward, over, cell_at, within, moved, put_windows, put, HasPlace}
+use Rattle.world.specs.Rows.{filled, overlaid, copied}
+use Rattle.world.proofs.WindowLaws.{own-onward, put-put, cell_at-kept, put-nothing, HasPlace-put}
 
 by_space : (t : Bool) (c : Glyph) → is_some (if t then None else Some c) ≡ true → (if t then None else Some c) ≡ Some c
 by_space true c h = cc

@@ -1,18 +1,21 @@
 -- A window from which none derives is given up.
-use Rattle.std.proofs.Common.{◌≡◌, ℕ, zero, suc, ◌<◌, ◌≤◌, ◌≢◌, Bool, true, false, ◌||◌, Option, Some, None, IsSomeAnd, MatchOption, List, [], ◌∷◌, length, ap, arith, refl, sym, ◌∙◌, subst, inl, inr, eq-eqb}
+use Rattle.std.proofs.Common.{◌≡◌, ℕ, zero, suc, ◌+◌, ◌<◌, ◌≤◌, ◌≢◌, Bool, true, false, ◌||◌, Option, Some, None, IsSomeAnd, MatchOption, List, [], ◌∷◌, length, ap, arith, refl, sym, ◌∙◌, subst, inl, inr, eq-eqb}
 use Rattle.std.specs.Prelude.{⊤}
 use Rattle.std.specs.List.{list_any}
 use Rattle.std.proofs.lemmas.Bool.{cases_eq, or_parts, false≢true}
-use Rattle.cell.specs.Windows.{window_limit}
-use Rattle.cell.specs.Placing.{any_below, has_derived}
+use Rattle.cell.specs.declared.limits.TheConstants.{MOST_WINDOWS}
+use Rattle.world.specs.Windows.{window_limit}
+use Rattle.world.specs.Sound.{IsOnScreen}
+use Rattle.world.specs.calls.Making.{any_below, has_derived}
 use Rattle.grids.specs.declared.slot.Part.{Part}
 use Rattle.grids.specs.declared.slot.Cells.{Cells}
 use Rattle.grids.specs.declared.slot.Cells.TheVariants.{Own, Shared}
 use Rattle.grids.specs.Kept.{Kept, IsKept, window_of}
-use Rattle.grids.specs.Tables.{Table, IsTable, slot_at, window_map, names_parent, StandsIn, IsChained, IsPlaced, IsStandard}
-use Rattle.grids.specs.Changes.{SetAt}
+use Rattle.grids.specs.Tables.{WindowTable, IsWindowTable, slot_at, window_map, StandsIn, IsChained}
+use Rattle.grids.specs.steps.Slots.{names_parent}
+use Rattle.grids.specs.steps.Changes.{SetAt}
 use Rattle.grids.proofs.Chain.{limit-is}
-use Rattle.grids.proofs.Changes.{slot_below}
+use Rattle.grids.proofs.Changes.{slot_below, IsStandardOf, standard-still}
 
 stands_without : (old new : List (Option Kept)) (at : ℕ) → SetAt old new at None → (k : Kept) (cells : Cells) → ((part : Part) → cells ≡ Shared part → part.parent ≢ at) → StandsIn old k cells → StandsIn new k cells
 stands_without old new at set k (Own a) apart h = h
@@ -32,7 +35,7 @@ any_below-at (suc n) test k h lt =
       | inr less ↦ any_below-at n test k parts.1 (omega arith)
     ]
 
-none_derives : (slots : List (Option Kept)) (at : ℕ) → length slots ≤ 1001 → has_derived (window_map slots) at ≡ false → (w : ℕ) (k : Kept) (part : Part) → slot_at slots w ≡ Some k → k.cells ≡ Shared part → part.parent ≢ at
+none_derives : (slots : List (Option Kept)) (at : ℕ) → length slots ≤ MOST_WINDOWS + 1 → has_derived (window_map slots) at ≡ false → (w : ℕ) (k : Kept) (part : Part) → slot_at slots w ≡ Some k → k.cells ≡ Shared part → part.parent ≢ at
 none_derives slots at few h w k part e is same =
     let test : ℕ → Bool = λ u. names_parent at (slot_at slots u) in
     let bound : w < window_limit = omega (arith, limit-is, slot_below slots w k e) in
@@ -40,13 +43,13 @@ none_derives slots at few h w k part e is same =
     let yes : names_parent at (Some k) ≡ true = rw is (eq-eqb part.parent at same) in
     false≢true (sym no ∙ yes)
 
-placed_without : (t : Table) (new : List (Option Kept)) (at : ℕ) → SetAt t.slots new at None → IsTable t → (w : ℕ) → MatchOption (slot_at new w) ⊤ (λ k. IsPlaced t.lines t.columns (window_of k))
+placed_without : (t : WindowTable) (new : List (Option Kept)) (at : ℕ) → SetAt t.slots new at None → IsWindowTable t → (w : ℕ) → MatchOption (slot_at new w) ⊤ (λ k. IsOnScreen t.lines t.columns (window_of k))
 placed_without t new at set s w = elim (cases_eq w at) [
   | inl same ↦ let none : slot_at new w ≡ None = ap (slot_at new) same ∙ set.here in rw none tt
   | inr other ↦ let stays : slot_at new w ≡ slot_at t.slots w = set.others w other in rw stays (s.placed w)
 ]
 
-chained_without : (t : Table) (new : List (Option Kept)) (at : ℕ) → SetAt t.slots new at None → IsTable t → has_derived (window_map t.slots) at ≡ false → IsChained new
+chained_without : (t : WindowTable) (new : List (Option Kept)) (at : ℕ) → SetAt t.slots new at None → IsWindowTable t → has_derived (window_map t.slots) at ≡ false → IsChained new
 chained_without t new at set s h = record {
   each = λ w. elim (cases_eq w at) [
     | inl same ↦ let none : slot_at new w ≡ None = ap (slot_at new) same ∙ set.here in rw none tt
@@ -56,15 +59,15 @@ chained_without t new at set s h = record {
   ];
 }
 
-pub IsTable-without : (t : Table) (new : List (Option Kept)) (at : ℕ) → SetAt t.slots new at None → IsTable t → at ≢ 0 → has_derived (window_map t.slots) at ≡ false → IsTable (record t { slots = new })
-IsTable-without t new at set s other h = record {
+pub IsWindowTable-without : (t : WindowTable) (new : List (Option Kept)) (at : ℕ) → SetAt t.slots new at None → IsWindowTable t → at ≢ 0 → has_derived (window_map t.slots) at ≡ false → IsWindowTable (record t { slots = new })
+IsWindowTable-without t new at set s other h = record {
   some_slot = omega (arith, s.some_slot, set.more);
   few_slots = set.few;
   has_line = s.has_line;
   has_column = s.has_column;
   few_lines = s.few_lines;
   few_columns = s.few_columns;
-  standard = subst (λ o. IsSomeAnd o (IsStandard t.lines t.columns)) (sym (set.others 0 (λ e. other (sym e)))) s.standard;
+  standard = subst (λ o. IsSomeAnd o (IsStandardOf (record t { slots = new }))) (sym (set.others 0 (λ e. other (sym e)))) (standard-still t new (slot_at t.slots 0) s.standard);
   chained = chained_without t new at set s h;
   placed = placed_without t new at set s;
 }
@@ -86,5 +89,5 @@ any_below-list test none (o ∷ slots) zero h = absurd (omega arith)
 any_below-list test none (o ∷ slots) (suc n) h =
     any_below-first n (λ u. test (slot_at (o ∷ slots) u)) ∙ ap (λ b. test o || b) (any_below-list test none slots n (omega arith))
 
-pub has_derived-list : (slots : List (Option Kept)) (w : ℕ) → length slots ≤ 1001 → list_any (names_parent w) slots ≡ has_derived (window_map slots) w
+pub has_derived-list : (slots : List (Option Kept)) (w : ℕ) → length slots ≤ MOST_WINDOWS + 1 → list_any (names_parent w) slots ≡ has_derived (window_map slots) w
 has_derived-list slots w few = sym (any_below-list (names_parent w) refl slots window_limit (omega (arith, limit-is)))

@@ -1,4 +1,4 @@
--- The cells of a new slot, and the lines of a grid.
+-- The cells of a slot, and the lines of a grid.
 use Rattle.std.proofs.Common.{◌≡◌, ℕ, ◌+◌, ◌<◌, ◌≤◌, ◌∙◌, List, [], length, take, drop, replicate, get_or, map, Option, Some, None, sym, ap, arith, inl, inr, zero-add, lit≤, lit<}
 use Rattle.std.proofs.lemmas.Bool.{cases_lt}
 use Rattle.std.specs.List.{AllByRecursion, range_with_len}
@@ -8,15 +8,16 @@ use Rattle.std.proofs.lemmas.List.FromFn.{length-map-range_with_len, get_or-map-
 use mathlib.Core.Path.{fun_ext}
 use Rattle.cell.specs.Glyphs.{Glyph, blank, IsCell}
 use Rattle.cell.specs.Pictures.{Picture, Place, AreCells, line_of, shown_at, blank_picture}
-use Rattle.cell.specs.Windows.{own_grid}
-use Rattle.cell.specs.World.{first_settings, blank_grid}
-use Rattle.cell.specs.Placing.{new_window}
+use Rattle.cell.specs.declared.limits.TheConstants.{LARGEST_PAD}
+use Rattle.world.specs.Windows.{own_grid}
+use Rattle.world.specs.World.{first_settings, blank_grid}
+use Rattle.world.specs.World.{new_window}
 use Rattle.cell.proofs.PictureLemmas.{HasSize-blank, AreCells-blank}
 use Rattle.grids.specs.declared.slot.Cells.{Cells}
 use Rattle.grids.specs.declared.slot.Cells.TheVariants.{Own}
-use Rattle.grids.specs.Kept.{IsKept, IsGridOf, window_of}
-use Rattle.cell.specs.Sound.{IsRunWithin}
-use Rattle.cell.specs.declared.window.Run.{Run}
+use Rattle.grids.specs.Kept.{Kept, IsKept, IsGridOf, window_of}
+use Rattle.world.specs.Sound.{AreColumnsWithin}
+use Rattle.world.specs.declared.settings.Columns.{Columns}
 
 -- a piece of a line
 pub piece-of_line : (picture : Picture) (line left len : ℕ) → left + len ≤ length (line_of picture line)
@@ -57,10 +58,10 @@ pub grid-blank : (lines columns : ℕ) → own_grid (λ y x. shown_at (blank_pic
 grid-blank lines columns = ap own_grid (fun_ext (λ y. fun_ext (λ x. shown-blank lines columns y x)))
 
 -- no line is touched
-pub run-none : (n y : ℕ) → get_or (replicate n (let o : Option Run = None in o)) y None ≡ None
-run-none n y = elim (cases_lt y n) [
+pub touched-none : (n y : ℕ) → get_or (replicate n (let o : Option Columns = None in o)) y None ≡ None
+touched-none n y = elim (cases_lt y n) [
   | inl below ↦ get_or-replicate n y None None below
-  | inr past ↦ get_or_past (replicate n None) y None (omega (arith, length-replicate n (let o : Option Run = None in o)))
+  | inr past ↦ get_or_past (replicate n None) y None (omega (arith, length-replicate n (let o : Option Columns = None in o)))
 ]
 
 -- a new window with a grid
@@ -68,19 +69,19 @@ run-none n y = elim (cases_lt y n) [
 IsCell-blank : IsCell blank
 IsCell-blank = record { from_space = lit≤ tt; to_tilde = lit≤ tt; of_the_six = lit< tt }
 
-run_within : (columns : ℕ) (o : Option Run) → o ≡ None → IsRunWithin columns o
-run_within columns None e = tt
-run_within columns (Some r) e = cc
+none_within : (columns : ℕ) (o : Option Columns) → o ≡ None → AreColumnsWithin columns o
+none_within columns None e = tt
+none_within columns (Some r) e = cc
 
-pub IsKept-new : (lines columns depth : ℕ) (place : Option Place) (cells : Cells) → 0 < lines → 0 < columns → lines ≤ 1000 → columns ≤ 1000 → IsGridOf lines columns cells
-    → IsKept (record { lines = lines; columns = columns; place = place; settings = first_settings lines; runs = replicate lines None; depth = depth; cells = cells })
+pub IsKept-new : (lines columns depth : ℕ) (place : Option Place) (cells : Cells) → 0 < lines → 0 < columns → lines ≤ LARGEST_PAD → columns ≤ LARGEST_PAD → IsGridOf lines columns cells
+    → IsKept (record { lines = lines; columns = columns; place = place; settings = first_settings lines; touched = replicate lines None; depth = depth; cells = cells })
 IsKept-new lines columns depth place cells has_line has_column few_lines few_columns grid = record {
   has_line = has_line;
   has_column = has_column;
   few_lines = few_lines;
   few_columns = few_columns;
-  run_each = length-replicate lines None;
-  runs = λ y. run_within columns (get_or (replicate lines None) y None) (run-none lines y);
+  touched_each = length-replicate lines None;
+  touched = λ y. none_within columns (get_or (replicate lines None) y None) (touched-none lines y);
   settings = record { cursor_line = has_line; cursor_column = has_column; region_order = omega arith; region_end = omega arith; attributes = lit< tt; background = IsCell-blank };
   grid = grid;
 }
@@ -89,8 +90,22 @@ pub IsGridOf-blank : (lines columns : ℕ) → IsGridOf lines columns (Own (blan
 IsGridOf-blank lines columns = (HasSize-blank lines columns, AreCells-blank lines columns)
 
 pub window-blank : (lines columns depth : ℕ) (place : Option Place)
-    → window_of (record { lines = lines; columns = columns; place = place; settings = first_settings lines; runs = replicate lines None; depth = depth; cells = Own (blank_picture lines columns) })
+    → window_of (record { lines = lines; columns = columns; place = place; settings = first_settings lines; touched = replicate lines None; depth = depth; cells = Own (blank_picture lines columns) })
     ≡ new_window lines columns place blank_grid
 window-blank lines columns depth place =
-    let none : (λ y. get_or (replicate lines (let o : Option Run = None in o)) y None) ≡ (λ y. None) = fun_ext (λ y. run-none lines y) in
-    λ i. record (new_window lines columns place blank_grid) { run = none i; source = grid-blank lines columns i }
+    let none : (λ y. get_or (replicate lines (let o : Option Columns = None in o)) y None) ≡ (λ y. None) = fun_ext (λ y. touched-none lines y) in
+    λ i. record (new_window lines columns place blank_grid) { touched = none i; backing = grid-blank lines columns i }
+
+-- other cells of a slot
+
+pub IsKept-cells : (k : Kept) (cells : Cells) → IsKept k → IsGridOf k.lines k.columns cells → IsKept (record k { cells = cells })
+IsKept-cells k cells s grid = record {
+  has_line = s.has_line;
+  has_column = s.has_column;
+  few_lines = s.few_lines;
+  few_columns = s.few_columns;
+  touched_each = s.touched_each;
+  touched = s.touched;
+  settings = s.settings;
+  grid = grid;
+}

@@ -4,16 +4,19 @@ use Rattle.std.specs.Option.{option_map}
 use Rattle.std.specs.Prelude.{⊤}
 use Rattle.std.proofs.lemmas.Bool.{and_parts, leb-true, ltb-true}
 use Rattle.cell.specs.Pictures.{Place}
-use Rattle.cell.specs.Windows.{Source, part_of, Window, WindowMap}
-use Rattle.cell.specs.Placing.{is_inside, extent, new_window, derived_window, place_from, with_window}
+use Rattle.world.specs.Windows.{Backing, part_of, Window, WindowMap}
+use Rattle.world.specs.Sound.{IsOnScreen}
+use Rattle.world.specs.calls.Making.{is_inside, extent, derived_window, place_from, numbered}
+use Rattle.world.specs.World.{new_window}
 use Rattle.grids.specs.declared.slot.Part.{Part}
 use Rattle.grids.specs.declared.slot.Cells.{Cells}
 use Rattle.grids.specs.declared.slot.Cells.TheVariants.{Own, Shared}
-use Rattle.grids.specs.Kept.{Kept, IsKept, part_in, window_of}
-use Rattle.grids.specs.Tables.{Table, IsTable, slot_at, windows, FitsIn, StandsIn, IsPlaced}
-use Rattle.grids.specs.Changes.{SetAt, IsFree}
+use Rattle.grids.specs.Kept.{Kept, IsKept, window_of}
+use Rattle.grids.specs.Tables.{WindowTable, IsWindowTable, slot_at, windows, FitsIn, StandsIn}
+use Rattle.grids.specs.steps.Slots.{part_in}
+use Rattle.grids.specs.steps.Changes.{SetAt, IsFree}
 use Rattle.grids.proofs.Chain.{shared_of}
-use Rattle.grids.proofs.Changes.{windows-set, IsTable-filled}
+use Rattle.grids.proofs.Changes.{windows-set, IsWindowTable-filled}
 
 pub stands_alone : (slots : List (Option Kept)) (k : Kept) (cells : Cells) → part_in cells ≡ None → k.depth ≡ 0 → StandsIn slots k cells
 stands_alone slots k (Own picture) e h = h
@@ -37,21 +40,21 @@ extent-is n all at r h =
     record { given = given; some = rw given (ltb-true 0 (extent n all at) parts.0); inside = rw given (leb-true (at + extent n all at) all parts.1) }
 
 -- a new window lies on the screen
-pub placed_new : (lines columns n m y x : ℕ) (src : Source) (k : Kept) → window_of k ≡ new_window n m (Some (y, x)) src → y + n ≤ lines → x + m ≤ columns → IsPlaced lines columns (window_of k)
-placed_new lines columns n m y x src k e h1 h2 = subst (λ (a : Window). IsPlaced lines columns a) (sym e) (h1, h2)
+pub placed_new : (lines columns n m y x : ℕ) (src : Backing) (k : Kept) → window_of k ≡ new_window n m (Some (y, x)) src → y + n ≤ lines → x + m ≤ columns → IsOnScreen lines columns (window_of k)
+placed_new lines columns n m y x src k e h1 h2 = subst (λ (a : Window). IsOnScreen lines columns a) (sym e) (h1, h2)
 
 -- a pad lies nowhere
-pub placed_pad : (lines columns n m : ℕ) (src : Source) (k : Kept) → window_of k ≡ new_window n m None src → IsPlaced lines columns (window_of k)
-placed_pad lines columns n m src k e = subst (λ (a : Window). IsPlaced lines columns a) (sym e) tt
+pub placed_pad : (lines columns n m : ℕ) (src : Backing) (k : Kept) → window_of k ≡ new_window n m None src → IsOnScreen lines columns (window_of k)
+placed_pad lines columns n m src k e = subst (λ (a : Window). IsOnScreen lines columns a) (sym e) tt
 
 -- it is put under a free number
 
-module _ (t : Table) (new : List (Option Kept)) (m : ℕ) (k : Kept) (set : SetAt t.slots new m (Some k)) where
-  pub IsTable-added : IsTable t → IsFree t.slots m → IsKept k → StandsIn t.slots k k.cells → IsPlaced t.lines t.columns (window_of k) → IsTable (record t { slots = new })
-  IsTable-added s free kept stands placed = IsTable-filled t new m k s set free.free kept stands placed free.from_one
+module _ (t : WindowTable) (new : List (Option Kept)) (m : ℕ) (k : Kept) (set : SetAt t.slots new m (Some k)) where
+  pub IsWindowTable-added : IsWindowTable t → IsFree t.slots m → IsKept k → StandsIn t.slots k k.cells → IsOnScreen t.lines t.columns (window_of k) → IsWindowTable (record t { slots = new })
+  IsWindowTable-added s free kept stands placed = IsWindowTable-filled t new m k s set free.free kept stands placed free.from_one
 
-  pub windows-added : (a : Window) → window_of k ≡ a → windows (record t { slots = new }) ≡ with_window (windows t) m (Some a)
-  windows-added a e = windows-set t new m (Some k) set ∙ ap (λ (b : Window). with_window (windows t) m (Some b)) e
+  pub windows-added : (a : Window) → window_of k ≡ a → windows (record t { slots = new }) ≡ numbered (windows t) m (Some a)
+  windows-added a e = windows-set t new m (Some k) set ∙ ap (λ (b : Window). numbered (windows t) m (Some b)) e
 
 -- a new derived window stands in its parent
 
@@ -64,23 +67,25 @@ pub stands_derived : (slots : List (Option Kept)) (k p : Kept) (part : Part) (n 
 stands_derived slots k p part n m is e depth made lines columns =
     let fits : FitsIn k part p = record {
       depth = depth;
-      lines = omega (arith, lines, ap (λ (a : Window). a.lines) made);
-      columns = omega (arith, columns, ap (λ (a : Window). a.columns) made);
-      kind = ap (λ (a : Window). is_some a.place) made ∙ kind_from p.place part.line part.column;
+      within = record {
+        lines = omega (arith, lines, ap (λ (a : Window). a.lines) made);
+        columns = omega (arith, columns, ap (λ (a : Window). a.columns) made);
+        kind = ap (λ (a : Window). is_some a.place) made ∙ kind_from p.place part.line part.column;
+      };
     } in
     subst (λ c. StandsIn slots k c) (sym (shared_of k.cells part is)) (rw e fits)
 
 -- and on the screen, where its parent does
 
-placed_from : (lines columns n m y x h v : ℕ) (src : Source) (o : Option Place) → MatchOption o ⊤ (λ p. (p.0 + h ≤ lines) × (p.1 + v ≤ columns)) → y + n ≤ h → x + m ≤ v → IsPlaced lines columns (new_window n m (place_from o y x) src)
+placed_from : (lines columns n m y x h v : ℕ) (src : Backing) (o : Option Place) → MatchOption o ⊤ (λ p. (p.0 + h ≤ lines) × (p.1 + v ≤ columns)) → y + n ≤ h → x + m ≤ v → IsOnScreen lines columns (new_window n m (place_from o y x) src)
 placed_from lines columns n m y x h v src None on below left = tt
 placed_from lines columns n m y x h v src (Some p) on below left = (omega (arith, on.0), omega (arith, on.1))
 
-pub placed_derived : (t : Table) → IsTable t → (w : ℕ) (k p : Kept) (n m y x : ℕ) (src : Source) → slot_at t.slots w ≡ Some p → window_of k ≡ new_window n m (place_from p.place y x) src → y + n ≤ p.lines → x + m ≤ p.columns
-    → IsPlaced t.lines t.columns (window_of k)
+pub placed_derived : (t : WindowTable) → IsWindowTable t → (w : ℕ) (k p : Kept) (n m y x : ℕ) (src : Backing) → slot_at t.slots w ≡ Some p → window_of k ≡ new_window n m (place_from p.place y x) src → y + n ≤ p.lines → x + m ≤ p.columns
+    → IsOnScreen t.lines t.columns (window_of k)
 placed_derived t s w k p n m y x src e made lines columns =
-    let on : IsPlaced t.lines t.columns (window_of p) = rw e at (s.placed w) in
-    subst (IsPlaced t.lines t.columns) (sym made) (placed_from t.lines t.columns n m y x p.lines p.columns src p.place on lines columns)
+    let on : IsOnScreen t.lines t.columns (window_of p) = rw e at (s.placed w) in
+    subst (IsOnScreen t.lines t.columns) (sym made) (placed_from t.lines t.columns n m y x p.lines p.columns src p.place on lines columns)
 
 -- it is the window that the definition gives
 pub made_derived : (window : WindowMap) (p : Kept) (w nlines ncols y x n m : ℕ) → window w ≡ Some (window_of p) → n ≡ extent nlines p.lines y → m ≡ extent ncols p.columns x

@@ -5,19 +5,20 @@ use Rattle.std.specs.List.{range_with_len}
 use Rattle.std.proofs.lemmas.List.FromFn.{length-map-range_with_len, get_or-map-range_with_len}
 use mathlib.Core.Path.{fun_ext}
 use Rattle.cell.specs.Glyphs.{Glyph, blank}
-use Rattle.cell.specs.Windows.{GridPlace, Window, WindowMap, HasPlace, own, onward, cell_of, cell_in_grid, cell_at}
-use Rattle.cell.specs.Rows.{line_shown}
-use Rattle.cell.proofs.WindowLaws.{own-onward}
+use Rattle.world.specs.Windows.{GridPlace, Window, WindowMap, HasPlace, own, onward, cell_of, cell_in_grid, cell_at}
+use Rattle.world.specs.Rows.{line_shown}
+use Rattle.world.proofs.WindowLaws.{own-onward}
 use Rattle.grids.specs.Kept.{Kept, window_of}
-use Rattle.grids.specs.Tables.{slot_at, window_map, columns_at}
+use Rattle.grids.specs.Tables.{slot_at, window_map}
+use Rattle.grids.specs.steps.Slots.{columns_at}
 use Rattle.grids.proofs.Chain.{some_and}
 
 cell-read : (slots : List (Option Kept)) (w : ℕ) (g : Kept) (place : GridPlace) (y x : ℕ) → slot_at slots place.grid ≡ Some g → own (window_map slots) w 0 0 ≡ Some place
-    → cell_of (window_of g).source (place.line + y) (place.column + x) ≡ cell_at (window_map slots) w y x
+    → cell_of (window_of g).backing (place.line + y) (place.column + x) ≡ cell_at (window_map slots) w y x
 cell-read slots w g place y x there leads =
     let to : own (window_map slots) w y x ≡ Some (onward y x place) = own-onward (window_map slots) w y x ∙ ap (option_map (onward y x)) leads in
     sym (ap (cell_in_grid (window_map slots)) to
-    ∙ ap (λ o. option_map_or (λ (a : Window). cell_of a.source (place.line + y) (place.column + x)) (option_map window_of o) blank) there)
+    ∙ ap (λ o. option_map_or (λ (a : Window). cell_of a.backing (place.line + y) (place.column + x)) (option_map window_of o) blank) there)
 
 line_of_window : (window : WindowMap) (w y columns : ℕ) (o : Option Kept) → window w ≡ option_map window_of o → IsSome o → columns ≡ option_map_or (λ (k : Kept). k.columns) o 0
     → map (λ x. cell_at window w y x) (range_with_len 0 columns) ≡ line_shown window w y
@@ -31,10 +32,10 @@ is_taken None y h = absurd h
 is_taken (Some k) y h = refl
 
 pub row-read : (slots : List (Option Kept)) (w y columns : ℕ) (place : GridPlace) (cells : List Glyph) → HasPlace (window_map slots) w y 0 → columns ≡ columns_at slots w → own (window_map slots) w 0 0 ≡ Some place
-    → IsSomeAnd (slot_at slots place.grid) (λ g. cells ≡ map (λ x. cell_of (window_of g).source (place.line + y) (place.column + x)) (range_with_len 0 columns))
+    → IsSomeAnd (slot_at slots place.grid) (λ g. cells ≡ map (λ x. cell_of (window_of g).backing (place.line + y) (place.column + x)) (range_with_len 0 columns))
     → cells ≡ line_shown (window_map slots) w y
 row-read slots w y columns place cells there same leads read =
-    let g = some_and (slot_at slots place.grid) (λ g. cells ≡ map (λ x. cell_of (window_of g).source (place.line + y) (place.column + x)) (range_with_len 0 columns)) read in
+    let g = some_and (slot_at slots place.grid) (λ g. cells ≡ map (λ x. cell_of (window_of g).backing (place.line + y) (place.column + x)) (range_with_len 0 columns)) read in
     g.2
     ∙ ap (λ (f : ℕ → Glyph). map f (range_with_len 0 columns)) (fun_ext (λ x. cell-read slots w g.0 place y x g.1 leads))
     ∙ line_of_window (window_map slots) w y columns (slot_at slots w) refl (is_taken (slot_at slots w) y there) same
@@ -53,17 +54,17 @@ pub record IsPiece (window : WindowMap) (w y left len : ℕ) (cells : List Glyph
   pub each : (k : ℕ) → k < len → get_or cells k blank ≡ cell_at window w y (left + k)
 
 pub piece-read : (slots : List (Option Kept)) (w y left len : ℕ) (place : GridPlace) (cells : List Glyph) → own (window_map slots) w 0 0 ≡ Some place
-    → IsSomeAnd (slot_at slots place.grid) (λ g. cells ≡ map (λ x. cell_of (window_of g).source (place.line + y) (place.column + left + x)) (range_with_len 0 len))
+    → IsSomeAnd (slot_at slots place.grid) (λ g. cells ≡ map (λ x. cell_of (window_of g).backing (place.line + y) (place.column + left + x)) (range_with_len 0 len))
     → IsPiece (window_map slots) w y left len cells
 piece-read slots w y left len place cells leads read =
-    let g = some_and (slot_at slots place.grid) (λ g. cells ≡ map (λ x. cell_of (window_of g).source (place.line + y) (place.column + left + x)) (range_with_len 0 len)) read in
-    let shown : ℕ → Glyph = λ x. cell_of (window_of g.0).source (place.line + y) (place.column + left + x) in
+    let g = some_and (slot_at slots place.grid) (λ g. cells ≡ map (λ x. cell_of (window_of g).backing (place.line + y) (place.column + left + x)) (range_with_len 0 len)) read in
+    let shown : ℕ → Glyph = λ x. cell_of (window_of g.0).backing (place.line + y) (place.column + left + x) in
     record {
       all = ap (length {A = Glyph}) g.2 ∙ length-map-range_with_len shown 0 len;
       each = λ k below.
           ap (λ (c : List Glyph). get_or c k blank) g.2
           ∙ get_or-map-range_with_len shown 0 len k k blank below (zero-add k)
-          ∙ ap (λ x. cell_of (window_of g.0).source (place.line + y) x) (let e : place.column + left + k ≡ place.column + (left + k) = omega arith in e)
+          ∙ ap (λ x. cell_of (window_of g.0).backing (place.line + y) x) (let e : place.column + left + k ≡ place.column + (left + k) = omega arith in e)
           ∙ cell-read slots w g.0 place y (left + k) g.1 leads;
     }
 

@@ -4,18 +4,17 @@ use Rattle.std.specs.Option.{option_map}
 use Rattle.std.specs.Prelude.{⊤}
 use Rattle.std.specs.List.{AllByRecursion}
 use Rattle.std.proofs.lemmas.List.Elements.{All-from_recursion, All-get_or}
-use Rattle.cell.specs.Glyphs.{Glyph, IsCell, blank}
+use Rattle.cell.specs.Glyphs.{IsCell, blank}
 use Rattle.cell.specs.Pictures.{Picture, line_of, shown_at, AreCells, HasSize}
-use Rattle.cell.specs.Windows.{own_grid}
-use Rattle.cell.specs.Sound.{HasCells, IsPartOf, IsSoundWindow, IsStandardScreen, AreSoundWindows}
+use Rattle.world.specs.Sound.{HasCells, IsPartOf, IsSoundWindow, IsStandardScreen, AreSoundWindows}
 use Rattle.cell.proofs.PictureLemmas.{length-line}
 use Rattle.grids.specs.declared.slot.Part.{Part}
 use Rattle.grids.specs.declared.slot.Cells.{Cells}
 use Rattle.grids.specs.declared.slot.Cells.TheVariants.{Own, Shared}
-use Rattle.grids.specs.Kept.{Kept, IsGridOf, part_in, window_of, source_of}
-use Rattle.grids.specs.Tables.{Table, IsTable, slot_at, window_map, windows, FitsIn, StandsIn, IsStandard}
+use Rattle.grids.specs.Kept.{Kept, IsGridOf, window_of, backing_of}
+use Rattle.grids.specs.Tables.{WindowTable, IsWindowTable, slot_at, window_map, windows, FitsIn, StandsIn}
 use Rattle.grids.proofs.Chain.{each_at, chain_ends}
-use Rattle.grids.proofs.Changes.{slot_below}
+use Rattle.grids.proofs.Changes.{slot_below, IsStandardOf}
 
 cell_in : (picture : Picture) (lines columns y x : ℕ) → HasSize lines columns picture → AreCells picture → y < lines → x < columns → IsCell (shown_at picture (y, x))
 cell_in picture lines columns y x size cells below left =
@@ -25,13 +24,13 @@ cell_in picture lines columns y x size cells below left =
 
 parent_fits : (k : Kept) (part : Part) (o : Option Kept) → MatchOption o ⊥ (FitsIn k part) → IsSomeAnd (option_map window_of o) (IsPartOf part.line part.column (window_of k))
 parent_fits k part None h = absurd h
-parent_fits k part (Some p) h = record { lines = h.lines; columns = h.columns; kind = h.kind }
+parent_fits k part (Some p) h = h.within
 
-cells_of : (slots : List (Option Kept)) (k : Kept) (cells : Cells) → IsGridOf k.lines k.columns cells → StandsIn slots k cells → HasCells (window_map slots) (window_of k) (source_of cells)
+cells_of : (slots : List (Option Kept)) (k : Kept) (cells : Cells) → IsGridOf k.lines k.columns cells → StandsIn slots k cells → HasCells (window_map slots) (window_of k) (backing_of cells)
 cells_of slots k (Own picture) grid stands = λ y x below left. cell_in picture k.lines k.columns y x grid.0 grid.1 below left
 cells_of slots k (Shared part) grid stands = parent_fits k part (slot_at slots part.parent) stands
 
-sound_at : (t : Table) → IsTable t → (w : ℕ) (o : Option Kept) → slot_at t.slots w ≡ o → MatchOption (option_map window_of o) ⊤ (IsSoundWindow (windows t) w)
+sound_at : (t : WindowTable) → IsWindowTable t → (w : ℕ) (o : Option Kept) → slot_at t.slots w ≡ o → MatchOption (option_map window_of o) ⊤ (IsSoundWindow (windows t) w)
 sound_at t s w None e = tt
 sound_at t s w (Some k) e =
     let each = each_at t.slots s.chained w k e in
@@ -45,20 +44,14 @@ sound_at t s w (Some k) e =
       cells = cells_of t.slots k k.cells each.0.grid each.1;
       chain_ends = chain_ends t.slots s.chained s.few_slots w k e;
       settings = each.0.settings;
-      runs = each.0.runs;
+      touched = each.0.touched;
     }
 
-own_source : (cells : Cells) → part_in cells ≡ None → (grid : ℕ → ℕ → Glyph) × (source_of cells ≡ own_grid grid)
-own_source (Own picture) is = (λ y x. shown_at picture (y, x), refl)
-own_source (Shared part) is = cc
+standard_at : (t : WindowTable) (o : Option Kept) → IsSomeAnd o (IsStandardOf t) → IsSomeAnd (option_map window_of o) (IsStandardScreen (windows t))
+standard_at t None h = h
+standard_at t (Some k) h = h
 
-standard_at : (t : Table) (o : Option Kept) → IsSomeAnd o (IsStandard t.lines t.columns) → IsSomeAnd (option_map window_of o) (IsStandardScreen (windows t))
-standard_at t None h = absurd h
-standard_at t (Some k) h =
-    let own = own_source k.cells h.own in
-    record { lines = h.lines; columns = h.columns; place = h.place; cells = own.0; grid = own.1 }
-
-pub sound : (t : Table) → IsTable t → AreSoundWindows (windows t)
+pub sound : (t : WindowTable) → IsWindowTable t → AreSoundWindows (windows t)
 sound t s = record {
   has_line = s.has_line;
   has_column = s.has_column;

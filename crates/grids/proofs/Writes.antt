@@ -6,27 +6,27 @@ use Rattle.std.proofs.lemmas.Bool.{cases_eq, cases_lt, eqb-true, cond-true, cond
 use Rattle.std.proofs.lemmas.Iterator.Adapters.{option_map_id}
 use Rattle.std.proofs.lemmas.Bool.Decides.{nat_tests}
 use Rattle.cell.specs.Glyphs.{Glyph, blank}
-use Rattle.cell.specs.Windows.{GridPlace, Window, WindowMap, Drawing, within, moved, laid_over, widened, touched_below, touched_by, drawn, put_from, put_windows, put, HasPlace, own, cell_at}
-use Rattle.cell.specs.Rows.{filled, listed, copied}
-use Rattle.cell.specs.declared.window.Run.{Run}
-use Rattle.grids.specs.Kept.{Kept, window_of, spread}
-use Rattle.grids.specs.Tables.{Table, slot_at, window_map, windows}
-use Rattle.grids.specs.Changes.{Changed, with_run, with_drawing}
+use Rattle.world.specs.Windows.{GridPlace, Window, WindowMap, Drawing, within, moved, laid_over, widened, touched_below, touched_by, drawn, put_from, put_windows, put, HasPlace, own, cell_at}
+use Rattle.world.specs.Rows.{filled, listed, copied}
+use Rattle.world.specs.declared.settings.Columns.{Columns}
+use Rattle.grids.specs.Kept.{Kept, window_of}
+use Rattle.grids.specs.Tables.{WindowTable, slot_at, window_map, windows}
+use Rattle.grids.specs.steps.Changes.{spread, Changed, with_touched, with_drawing}
 use Rattle.grids.proofs.Changes.{slot_below}
 
 -- touching column after column
 
-touched-none : (n : ℕ) (test : ℕ → Bool) (r : Option Run) → ((x : ℕ) → x < n → test x ≡ false) → touched_below n test r ≡ r
+touched-none : (n : ℕ) (test : ℕ → Bool) (r : Option Columns) → ((x : ℕ) → x < n → test x ≡ false) → touched_below n test r ≡ r
 touched-none zero test r h = refl
 touched-none (suc n) test r h =
     let last : test n ≡ false = h n (omega arith) in
     rw last (touched-none n test r (λ x lt. h x (omega arith)))
 
-spread-one : (r : Option Run) (x : ℕ) → widened r x ≡ spread r x x
+spread-one : (r : Option Columns) (x : ℕ) → widened r x ≡ spread r x x
 spread-one None x = refl
 spread-one (Some r) x = refl
 
-spread-more : (r : Option Run) (left n : ℕ) → left ≤ n → widened (spread r left n) (suc n) ≡ spread r left (suc n)
+spread-more : (r : Option Columns) (left n : ℕ) → left ≤ n → widened (spread r left n) (suc n) ≡ spread r left (suc n)
 spread-more None left n h = let low : min left (suc n) ≡ left = omega arith in let high : max n (suc n) ≡ suc n = omega arith in cc
 spread-more (Some r) left n h =
     let low : min (min r.first left) (suc n) ≡ min r.first left = omega arith in
@@ -34,7 +34,7 @@ spread-more (Some r) left n h =
     cc
 
 -- the test holds from left to right
-touched-span : (left right : ℕ) (test : ℕ → Bool) (r : Option Run) → ((x : ℕ) → test x ≡ (nat_le left x && nat_le x right)) → (n : ℕ) → left ≤ n → n ≤ right → touched_below (suc n) test r ≡ spread r left n
+touched-span : (left right : ℕ) (test : ℕ → Bool) (r : Option Columns) → ((x : ℕ) → test x ≡ (nat_le left x && nat_le x right)) → (n : ℕ) → left ≤ n → n ≤ right → touched_below (suc n) test r ≡ spread r left n
 touched-span left right test r h zero l u =
     let here : test 0 ≡ true = grind (arith, nat_tests, h 0) in
     let e : left ≡ 0 = omega arith in
@@ -49,7 +49,7 @@ touched-span left right test r h (suc n) l u =
       | inr up ↦ rw (here, touched-span left right test r h n up (omega arith)) (spread-more r left n up)
     ]
 
-touched-past : (left right : ℕ) (test : ℕ → Bool) (r : Option Run) → ((x : ℕ) → test x ≡ (nat_le left x && nat_le x right)) → left ≤ right → (d : ℕ) → touched_below (suc right + d) test r ≡ spread r left right
+touched-past : (left right : ℕ) (test : ℕ → Bool) (r : Option Columns) → ((x : ℕ) → test x ≡ (nat_le left x && nat_le x right)) → left ≤ right → (d : ℕ) → touched_below (suc right + d) test r ≡ spread r left right
 touched-past left right test r h l zero = rw add-zero (touched-span left right test r h right l (omega arith))
 touched-past left right test r h l (suc d) =
     let past : test (suc right + d) ≡ false = grind (arith, nat_tests, h (suc right + d)) in
@@ -62,19 +62,19 @@ row_test_off : (a : Window) (y left right : ℕ) (c : Glyph) (z x : ℕ) → (z 
 row_test_off a y left right c z x other = grind (arith, nat_tests)
 
 -- a row that was written touches its columns
-touched-row : (a : Window) (y left right : ℕ) (c : Glyph) → y < a.lines → left ≤ right → right < a.columns → (z : ℕ) → touched_by (filled y left right c) a z ≡ (if z == y then spread (a.run z) left right else a.run z)
+touched-row : (a : Window) (y left right : ℕ) (c : Glyph) → y < a.lines → left ≤ right → right < a.columns → (z : ℕ) → touched_by (filled y left right c) a z ≡ (if z == y then spread (a.touched z) left right else a.touched z)
 touched-row a y left right c in_lines l in_cols z =
     let test : ℕ → Bool = λ x. is_some (within a (filled y left right c) z x) in
     elim (cases_eq z y) [
       | inl same ↦
           let on : (z == y) ≡ true = eq-eqb z y same in
           let all : a.columns ≡ suc right + (a.columns - suc right) = omega arith in
-          let e : touched_below a.columns test (a.run z) ≡ spread (a.run z) left right =
-          ap (λ n. touched_below n test (a.run z)) all ∙ touched-past left right test (a.run z) (λ x. row_test a y left right c in_lines in_cols z x same) l (a.columns - suc right) in
-          e ∙ sym (cond-true (z == y) (spread (a.run z) left right) (a.run z) on)
+          let e : touched_below a.columns test (a.touched z) ≡ spread (a.touched z) left right =
+          ap (λ n. touched_below n test (a.touched z)) all ∙ touched-past left right test (a.touched z) (λ x. row_test a y left right c in_lines in_cols z x same) l (a.columns - suc right) in
+          e ∙ sym (cond-true (z == y) (spread (a.touched z) left right) (a.touched z) on)
       | inr other ↦
           let off : (z == y) ≡ false = ne_eqb z y other in
-          touched-none a.columns test (a.run z) (λ x lt. row_test_off a y left right c z x other) ∙ sym (cond-false (z == y) (spread (a.run z) left right) (a.run z) off)
+          touched-none a.columns test (a.touched z) (λ x lt. row_test_off a y left right c z x other) ∙ sym (cond-false (z == y) (spread (a.touched z) left right) (a.touched z) off)
     ]
 
 moved_row_at : (place : GridPlace) (a : Window) (y left right : ℕ) (c : Glyph) → y < a.lines → right < a.columns → (z x : ℕ) → moved place (within a (filled y left right c)) z x ≡ filled (place.line + y) (place.column + left) (place.column + right) c z x
@@ -112,27 +112,27 @@ window_at : (slots : List (Option Kept)) (u w : ℕ) (b a : Window) → window_m
 window_at slots u w b a is here same = let moved_here = ap (window_map slots) same in cc
 
 -- the grid and the marks, by whether they are this window's
-merged_by : (p q : Bool) (b : Window) (f1 f2 : Drawing) (runs : ℕ → Option Run) (y left right : ℕ) → f2 ≡ f1 → (q ≡ true → runs ≡ (λ z. if z == y then spread (b.run z) left right else b.run z)) →
-    (if q then with_run y left right (if p then with_drawing f1 b else b) else (if p then with_drawing f1 b else b)) ≡ record b { source = (if p then laid_over f2 b.source else b.source); run = (if q then runs else b.run) }
-merged_by true true b f1 f2 runs y left right e h = let t = h refl in rw (e, t) refl
-merged_by true false b f1 f2 runs y left right e h = rw e refl
-merged_by false true b f1 f2 runs y left right e h = let t = h refl in rw t refl
-merged_by false false b f1 f2 runs y left right e h = refl
+merged_by : (p q : Bool) (b : Window) (f1 f2 : Drawing) (touched : ℕ → Option Columns) (y left right : ℕ) → f2 ≡ f1 → (q ≡ true → touched ≡ (λ z. if z == y then spread (b.touched z) left right else b.touched z)) →
+    (if q then with_touched y left right (if p then with_drawing f1 b else b) else (if p then with_drawing f1 b else b)) ≡ record b { backing = (if p then laid_over f2 b.backing else b.backing); touched = (if q then touched else b.touched) }
+merged_by true true b f1 f2 touched y left right e h = let t = h refl in rw (e, t) refl
+merged_by true false b f1 f2 touched y left right e h = rw e refl
+merged_by false true b f1 f2 touched y left right e h = let t = h refl in rw t refl
+merged_by false false b f1 f2 touched y left right e h = refl
 
 -- what is written in a line through a window, which touches its columns from left to right, is one put
 pub put-any : (a0 a1 a2 : List (Option Kept)) (win : ℕ) (place : GridPlace) (k : Kept) (f g : Drawing) (y left right : ℕ) →
     slot_at a0 win ≡ Some k → own (window_map a0) win 0 0 ≡ Some place → moved place (within (window_of k) f) ≡ g →
-    ((z : ℕ) → touched_by f (window_of k) z ≡ (if z == y then spread ((window_of k).run z) left right else (window_of k).run z)) →
-    Changed a0 a1 place.grid (with_drawing g) → Changed a1 a2 win (with_run y left right) → window_map a2 ≡ put_windows (window_map a0) win f
+    ((z : ℕ) → touched_by f (window_of k) z ≡ (if z == y then spread ((window_of k).touched z) left right else (window_of k).touched z)) →
+    Changed a0 a1 place.grid (with_drawing g) → Changed a1 a2 win (with_touched y left right) → window_map a2 ≡ put_windows (window_map a0) win f
 put-any a0 a1 a2 win place k f g y left right e leads moved_is touched h1 h2 =
     let a = window_of k in
     let here : window_map a0 win ≡ Some a = ap (option_map window_of) e in
     fun_ext (λ u.
-    let both : window_map a2 u ≡ option_map (changed_at win (with_run y left right) u) (option_map (changed_at place.grid (with_drawing g) u) (window_map a0 u)) =
-    map-changed a1 a2 win (with_run y left right) h2 u ∙ ap (option_map (changed_at win (with_run y left right) u)) (map-changed a0 a1 place.grid (with_drawing g) h1 u) in
+    let both : window_map a2 u ≡ option_map (changed_at win (with_touched y left right) u) (option_map (changed_at place.grid (with_drawing g) u) (window_map a0 u)) =
+    map-changed a1 a2 win (with_touched y left right) h2 u ∙ ap (option_map (changed_at win (with_touched y left right) u)) (map-changed a0 a1 place.grid (with_drawing g) h1 u) in
     let put_is : put_windows (window_map a0) win f u ≡ option_map (drawn win a place f u) (window_map a0 u) =
     ap (λ o. put_from (window_map a0) win o (own (window_map a0) win 0 0) f u) here ∙ ap (λ o. put_from (window_map a0) win (Some a) o f u) leads in
-    both ∙ option_map_both (window_map a0 u) (changed_at place.grid (with_drawing g) u) (changed_at win (with_run y left right) u) (drawn win a place f u)
+    both ∙ option_map_both (window_map a0 u) (changed_at place.grid (with_drawing g) u) (changed_at win (with_touched y left right) u) (drawn win a place f u)
     (λ b is. merged_by (u == place.grid) (u == win) b g (moved place (within a f)) (touched_by f b) y left right moved_is
     (λ on. let same : b ≡ a = window_at a0 u win b a is here (eqb-true u win on) in rw same (fun_ext touched)))
     ∙ sym put_is)
@@ -141,10 +141,10 @@ some_and : (o : Option Kept) (y x : ℕ) → IsSomeAnd (option_map window_of o) 
 some_and None y x h = absurd h
 some_and (Some k) y x h = (k, refl, h.0, h.1)
 
-pub windows-put_row : (t : Table) (a1 a2 : List (Option Kept)) (win : ℕ) (place : GridPlace) (y left right : ℕ) (c : Glyph) →
+pub windows-put_row : (t : WindowTable) (a1 a2 : List (Option Kept)) (win : ℕ) (place : GridPlace) (y left right : ℕ) (c : Glyph) →
     HasPlace (window_map t.slots) win y right → left ≤ right → own (window_map t.slots) win 0 0 ≡ Some place →
     Changed t.slots a1 place.grid (with_drawing (filled (place.line + y) (place.column + left) (place.column + right) c)) →
-    Changed a1 a2 win (with_run y left right) →
+    Changed a1 a2 win (with_touched y left right) →
     windows (record t { slots = a2 }) ≡ put (windows t) win (filled y left right c)
 windows-put_row t a1 a2 win place y left right c there l leads h1 h2 =
     let k = some_and (slot_at t.slots win) y right there in
@@ -161,9 +161,9 @@ copied_test a window src sy sx dy dx n z x some = grind (arith, nat_tests)
 
 -- they touch their columns
 touched-copied : (a : Window) (window : WindowMap) (src sy sx dy dx n : ℕ) → dy < a.lines → dx + n - 1 < a.columns → 0 < n → (z : ℕ) →
-    touched_by (copied window src sy sx dy dx n false) a z ≡ (if z == dy then spread (a.run z) dx (dx + n - 1) else a.run z)
+    touched_by (copied window src sy sx dy dx n false) a z ≡ (if z == dy then spread (a.touched z) dx (dx + n - 1) else a.touched z)
 touched-copied a window src sy sx dy dx n in_lines in_columns some z =
-    ap (λ (test : ℕ → Bool). touched_below a.columns test (a.run z)) (fun_ext (λ x. copied_test a window src sy sx dy dx n z x some))
+    ap (λ (test : ℕ → Bool). touched_below a.columns test (a.touched z)) (fun_ext (λ x. copied_test a window src sy sx dy dx n z x some))
     ∙ touched-row a dy dx (dx + n - 1) blank in_lines (omega arith) in_columns z
 
 copied_here : (place : GridPlace) (a : Window) (dy dx n z x : ℕ) (c1 c2 : Glyph) → dy < a.lines → dx + n ≤ a.columns → z ≡ place.line + dy → place.column + dx ≤ x → x < place.column + dx + n → c1 ≡ c2 →
@@ -202,11 +202,11 @@ moved-copied place a window src sy sx dy dx n cells in_lines in_columns all read
       ]
     ]))
 
-pub windows-copied : (t : Table) (a1 a2 : List (Option Kept)) (src dst : ℕ) (place : GridPlace) (sy sx dy dx n : ℕ) (cells : List Glyph) →
+pub windows-copied : (t : WindowTable) (a1 a2 : List (Option Kept)) (src dst : ℕ) (place : GridPlace) (sy sx dy dx n : ℕ) (cells : List Glyph) →
     HasPlace (window_map t.slots) dst dy (dx + n - 1) → 0 < n → own (window_map t.slots) dst 0 0 ≡ Some place → length cells ≡ n →
     ((k : ℕ) → k < n → get_or cells k blank ≡ cell_at (window_map t.slots) src sy (sx + k)) →
     Changed t.slots a1 place.grid (with_drawing (listed (place.line + dy) (place.column + dx) cells)) →
-    Changed a1 a2 dst (with_run dy dx (dx + n - 1)) →
+    Changed a1 a2 dst (with_touched dy dx (dx + n - 1)) →
     windows (record t { slots = a2 }) ≡ put (windows t) dst (copied (window_map t.slots) src sy sx dy dx n false)
 windows-copied t a1 a2 src dst place sy sx dy dx n cells there some leads all read h1 h2 =
     let k = some_and (slot_at t.slots dst) dy (dx + n - 1) there in

@@ -1,3 +1,3 @@
 pub mod Kept
 pub mod Tables
-pub mod Changes
+pub mod steps

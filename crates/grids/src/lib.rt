@@ -3,14 +3,17 @@
 #![tactic(auto)]
 
 mod line;
-mod placing;
+mod making;
+mod marks;
+mod queries;
 mod rows;
 mod slot;
 mod slots;
 mod table;
 
-pub use cell::{Attr, Cell, Frame, Refusal, Run, Settings, WinId};
+pub use cell::{Attr, Cell, Frame, Refusal, WinId};
 pub use table::Grids;
+pub use world::{Columns, Settings};
 
 #[cfg(test)]
 mod tests;

@@ -2,7 +2,7 @@
 
 ghost use Rattle.std.specs.Prelude.{◌≡◌, ◌≤◌, [], length, IfOk};
 
-use cell::Cell;
+use cell::{Cell, LARGEST_PAD};
 use std::alloc::{AllocError, Global};
 use std::marker::Model;
 
@@ -15,27 +15,28 @@ pub struct Line {
 impl Model for Line {
     ghost use Rattle.std.specs.Prelude.{List, ◌≤◌, vec_capacity};
     ghost use Rattle.cell.specs.Glyphs.{Glyph};
+    ghost use Rattle.cell.specs.declared.limits.TheConstants.{LARGEST_PAD};
 
     ghost Value = { List Glyph };
 
     ghost view = { λ line. line.cells.items };
 
-    ghost invariant = { λ line. 1000 ≤ vec_capacity line.cells };
+    ghost invariant = { λ line. LARGEST_PAD ≤ vec_capacity line.cells };
 }
 
 impl Line {
-    /// Room for 1000 cells, none of them held.
+    /// Room for the cells of the longest line, none of them held.
     pub fn new(alloc: Global) -> Result<Line, AllocError>
         ensures { IfOk result (λ line. line ≡ []) }
     {
         Ok(Line {
-            cells: Vec::with_capacity(alloc, 1000)?,
+            cells: Vec::with_capacity(alloc, usize::from(LARGEST_PAD))?,
         })
     }
 
     /// Holds these cells, and no others.
     pub fn hold(&mut self, row: &[Cell])
-        requires { length row.now ≤ 1000 }
+        requires { length row.now ≤ LARGEST_PAD }
         ensures { self.new ≡ row.now }
     {
         self.cells.clear();

@@ -3,14 +3,22 @@
 ghost use Rattle.std.specs.Prelude.{◌≡◌, ℕ, ◌<◌, ◌≤◌, ◌+◌, ◌-◌, is_some, true, false};
 ghost use Rattle.std.specs.List.{AllByRecursion};
 ghost use Rattle.cell.specs.Glyphs.{IsCell};
-ghost use Rattle.cell.specs.Windows.{HasPlace, cell_at, put};
-ghost use Rattle.cell.specs.Sound.{AreSoundWindows};
-ghost use Rattle.cell.specs.Rows.{filled, overlaid, copied, line_shown};
+ghost use Rattle.world.specs.Windows.{HasPlace, cell_at, put};
+ghost use Rattle.world.specs.Sound.{AreSoundWindows};
+ghost use Rattle.world.specs.Rows.{filled, overlaid, copied, line_shown};
 ghost use Rattle.grids.specs.Tables.{windows};
 
 use crate::slots::{columns_of, fill_row, origin_of, put_row, row_in, touch_row};
 use crate::table::Grids;
 use cell::{Cell, WinId};
+
+/// A line and a column of a window.
+#[derive(Clone, Copy)]
+struct Place {
+    win: WinId,
+    line: u16,
+    column: u16,
+}
 
 impl Grids {
     /// The cells of line `y` of a window, from left to right, without copying them. The line must be there.
@@ -80,63 +88,103 @@ impl Grids {
         ensures written { windows self.new ≡ put (windows self.old) dst.0 (copied (windows self.old).window src.0 sy sx dy dx n overlay) }
         ensures sound { AreSoundWindows (windows self.new) }
     {
+        let from = Place {
+            win: src,
+            line: sy,
+            column: sx,
+        };
+        let to = Place {
+            win: dst,
+            line: dy,
+            column: dx,
+        };
         if n > 0 && overlay {
-            self.overlay_cells(src, sy, sx, dst, dy, dx, n);
+            self.overlay_cells(from, to, n);
         } else if n > 0 {
-            self.copy_cells(src, sy, sx, dst, dy, dx, n);
+            self.copy_cells(from, to, n);
         }
         prove!(self.is_sound());
     }
 
     /// Copies all cells: it reads them into the spare line, and then writes that.
-    fn copy_cells(&mut self, src: WinId, sy: u16, sx: u16, dst: WinId, dy: u16, dx: u16, n: u16)
+    fn copy_cells(&mut self, from: Place, to: Place, n: u16)
         requires some { 0 < n }
-        requires from { HasPlace (windows self.old).window src.0 sy (sx + n - 1) }
-        requires to { HasPlace (windows self.old).window dst.0 dy (dx + n - 1) }
-        ensures { windows self.new ≡ put (windows self.old) dst.0 (copied (windows self.old).window src.0 sy sx dy dx n false) }
+        requires from { HasPlace (windows self.old).window from.win.0 from.line (from.column + n - 1) }
+        requires to { HasPlace (windows self.old).window to.win.0 to.line (to.column + n - 1) }
+        ensures { windows self.new ≡ put (windows self.old) to.win.0 (copied (windows self.old).window from.win.0 from.line from.column to.line to.column n false) }
     {
-        let from = origin_of(&self.slots, src.0);
-        let to = origin_of(&self.slots, dst.0);
-        self.line.hold(row_in(&self.slots, from.grid, from.line + sy, from.column + sx, n));
+        let source = origin_of(&self.slots, from.win.0);
+        let target = origin_of(&self.slots, to.win.0);
+        self.line.hold(row_in(
+            &self.slots,
+            source.grid,
+            source.line + from.line,
+            source.column + from.column,
+            n,
+        ));
         put_row(
             &mut self.slots,
-            to.grid,
-            to.line + dy,
-            to.column + dx,
+            target.grid,
+            target.line + to.line,
+            target.column + to.column,
             self.line.cells(),
         );
-        touch_row(&mut self.slots, dst.0, dy, dx, dx + n - 1);
+        touch_row(
+            &mut self.slots,
+            to.win.0,
+            to.line,
+            to.column,
+            to.column + n - 1,
+        );
     }
 
     /// Copies the cells that aren't spaces, from the end at which no cell is written before it is read.
-    fn overlay_cells(&mut self, src: WinId, sy: u16, sx: u16, dst: WinId, dy: u16, dx: u16, n: u16)
+    fn overlay_cells(&mut self, from: Place, to: Place, n: u16)
         requires some { 0 < n }
-        requires from { HasPlace (windows self.old).window src.0 sy (sx + n - 1) }
-        requires to { HasPlace (windows self.old).window dst.0 dy (dx + n - 1) }
-        ensures { windows self.new ≡ put (windows self.old) dst.0 (copied (windows self.old).window src.0 sy sx dy dx n true) }
+        requires from { HasPlace (windows self.old).window from.win.0 from.line (from.column + n - 1) }
+        requires to { HasPlace (windows self.old).window to.win.0 to.line (to.column + n - 1) }
+        ensures { windows self.new ≡ put (windows self.old) to.win.0 (copied (windows self.old).window from.win.0 from.line from.column to.line to.column n true) }
     {
-        let from = origin_of(&self.slots, src.0);
-        let to = origin_of(&self.slots, dst.0);
-        if to.column + dx <= from.column + sx {
+        let source = origin_of(&self.slots, from.win.0);
+        let target = origin_of(&self.slots, to.win.0);
+        if target.column + to.column <= source.column + from.column {
             'forward: for k in 0..n {
-                self.overlay_cell(src, sy, sx + k, dst, dy, dx + k);
+                self.overlay_cell(
+                    Place {
+                        column: from.column + k,
+                        ..from
+                    },
+                    Place {
+                        column: to.column + k,
+                        ..to
+                    },
+                );
             }
         } else {
             'backward: for k in (0..n).rev() {
-                self.overlay_cell(src, sy, sx + k, dst, dy, dx + k);
+                self.overlay_cell(
+                    Place {
+                        column: from.column + k,
+                        ..from
+                    },
+                    Place {
+                        column: to.column + k,
+                        ..to
+                    },
+                );
             }
         }
     }
 
     /// Copies one cell unless it is a space.
-    fn overlay_cell(&mut self, src: WinId, sy: u16, sx: u16, dst: WinId, dy: u16, dx: u16)
-        requires from { HasPlace (windows self.old).window src.0 sy sx }
-        requires to { HasPlace (windows self.old).window dst.0 dy dx }
-        ensures { windows self.new ≡ put (windows self.old) dst.0 (copied (windows self.old).window src.0 sy sx dy dx 1 true) }
+    fn overlay_cell(&mut self, from: Place, to: Place)
+        requires from { HasPlace (windows self.old).window from.win.0 from.line from.column }
+        requires to { HasPlace (windows self.old).window to.win.0 to.line to.column }
+        ensures { windows self.new ≡ put (windows self.old) to.win.0 (copied (windows self.old).window from.win.0 from.line from.column to.line to.column 1 true) }
     {
-        let cell = self.cell(src, sy, sx);
+        let cell = self.cell(from.win, from.line, from.column);
         if is_visible(cell) {
-            self.fill(dst, dy, dx, dx, cell);
+            self.fill(to.win, to.line, to.column, to.column, cell);
         }
     }
 }

@@ -4,19 +4,21 @@ ghost use Rattle.std.specs.Prelude.{◌≡◌, ℕ, ◌<◌, ◌≤◌, ◌+◌,
 ghost use Rattle.std.specs.List.{AllByRecursion, range_with_len};
 ghost use Rattle.cell.specs.Glyphs.{IsCell};
 ghost use Rattle.cell.specs.Pictures.{HasSize, AreCells};
-ghost use Rattle.cell.specs.Refresh.{refreshed};
-ghost use Rattle.cell.specs.Rows.{filled, listed};
-ghost use Rattle.cell.specs.Settings.{with_settings};
-ghost use Rattle.cell.specs.Placing.{new_window, with_place, with_part};
-ghost use Rattle.cell.specs.Windows.{laid_over, cell_of, part_of};
-ghost use Rattle.cell.specs.World.{first_settings, blank_grid};
-ghost use Rattle.grids.specs.Kept.{window_of, source_of, IsGridOf, IsKept, part_in, spread};
-ghost use Rattle.grids.specs.Tables.{names_parent};
-ghost use Rattle.grids.specs.Changes.{with_run, with_drawing, SameFrame, shifted};
+ghost use Rattle.world.specs.calls.Refresh.{unmarked};
+ghost use Rattle.world.specs.Rows.{filled, listed};
+ghost use Rattle.world.specs.Settings.{with_settings};
+ghost use Rattle.world.specs.calls.Making.{with_place, with_part};
+ghost use Rattle.world.specs.World.{new_window};
+ghost use Rattle.world.specs.Windows.{laid_over, cell_of, part_of};
+ghost use Rattle.world.specs.World.{first_settings, blank_grid};
+ghost use Rattle.grids.specs.Kept.{window_of, backing_of, IsGridOf, IsKept};
+ghost use Rattle.grids.specs.steps.Slots.{part_in, names_parent};
+ghost use Rattle.grids.specs.steps.Changes.{spread, with_touched, with_drawing, SameShape, shifted};
 
-use cell::{Attr, Cell, Grid, Run, Settings};
+use cell::{Attr, Cell, Grid, LARGEST_PAD};
 use std::alloc::{AllocError, Global};
 use std::marker::Model;
+use world::{Columns, Settings};
 
 /// The parent of a derived window, and the offset into it.
 #[derive(Clone, Copy, Debug, PartialEq, Eq)]
@@ -40,13 +42,13 @@ pub struct Slot {
     columns: u16,
     place: Option<(u16, u16)>,
     settings: Settings,
-    runs: Vec<Option<Run>>,
+    touched: Vec<Option<Columns>>,
     depth: u16,
     cells: Cells,
 }
 
 impl Model for Slot {
-    ghost use Rattle.grids.specs.Kept.{Kept, IsKept};
+    ghost use Rattle.grids.specs.Kept.{Kept, HasShape};
 
     ghost Value = { Kept };
 
@@ -55,20 +57,12 @@ impl Model for Slot {
       columns = a.columns;
       place = a.place;
       settings = a.settings;
-      runs = a.runs.items;
+      touched = a.touched.items;
       depth = a.depth;
       cells = a.cells;
     } };
 
-    ghost invariant = { λ a. IsKept (record {
-      lines = a.lines;
-      columns = a.columns;
-      place = a.place;
-      settings = a.settings;
-      runs = a.runs.items;
-      depth = a.depth;
-      cells = a.cells;
-    }) };
+    ghost invariant = { λ a. HasShape a.lines a.columns a.settings a.touched.items a.cells };
 }
 
 impl Slot {
@@ -81,8 +75,8 @@ impl Slot {
     ) -> Result<Slot, AllocError>
         requires has_line { 0 < lines }
         requires has_column { 0 < columns }
-        requires few_lines { lines ≤ 1000 }
-        requires few_columns { columns ≤ 1000 }
+        requires few_lines { lines ≤ LARGEST_PAD }
+        requires few_columns { columns ≤ LARGEST_PAD }
         ensures window { IfOk result (λ s. window_of s ≡ new_window lines columns place blank_grid) }
         ensures kept { IfOk result (λ s. IsKept s × (s.depth ≡ 0) × (part_in s.cells ≡ None)) }
     {
@@ -91,7 +85,7 @@ impl Slot {
             columns,
             place,
             settings: first_settings(lines),
-            runs: no_runs(alloc, lines)?,
+            touched: none_touched(alloc, lines)?,
             depth: 0,
             cells: Cells::Own(Grid::new(alloc, lines, columns)?),
         })
@@ -108,8 +102,8 @@ impl Slot {
     ) -> Result<Slot, AllocError>
         requires has_line { 0 < lines }
         requires has_column { 0 < columns }
-        requires few_lines { lines ≤ 1000 }
-        requires few_columns { columns ≤ 1000 }
+        requires few_lines { lines ≤ LARGEST_PAD }
+        requires few_columns { columns ≤ LARGEST_PAD }
         ensures window { IfOk result (λ s. window_of s ≡ new_window lines columns place (part_of part.parent part.line part.column)) }
         ensures kept { IfOk result (λ s. IsKept s × (s.depth ≡ depth) × (part_in s.cells ≡ Some part)) }
     {
@@ -118,7 +112,7 @@ impl Slot {
             columns,
             place,
             settings: first_settings(lines),
-            runs: no_runs(alloc, lines)?,
+            touched: none_touched(alloc, lines)?,
             depth,
             cells: Cells::Shared(part),
         })
@@ -152,12 +146,12 @@ impl Slot {
         self.settings
     }
 
-    /// The run of touched columns of a line.
-    pub fn run(&self, line: u16) -> Option<Run>
+    /// The touched columns of a line.
+    pub fn touched(&self, line: u16) -> Option<Columns>
         requires { line < self.now.lines }
-        ensures { result ≡ (window_of self.now).run line }
+        ensures { result ≡ (window_of self.now).touched line }
     {
-        self.runs[usize::from(line)]
+        self.touched[usize::from(line)]
     }
 
     /// How many ancestors the window has.
@@ -192,7 +186,7 @@ impl Slot {
         requires own { part_in self.now.cells ≡ None }
         requires line_in { line < self.now.lines }
         requires columns_in { left + len ≤ self.now.columns }
-        ensures row { result.now ≡ map (λ x. cell_of (window_of self.now).source line (left + x)) (range_with_len 0 len) }
+        ensures row { result.now ≡ map (λ x. cell_of (window_of self.now).backing line (left + x)) (range_with_len 0 len) }
         ensures cells { AllByRecursion IsCell result.now }
     {
         match &self.cells {
@@ -211,7 +205,7 @@ impl Slot {
         requires region_order { settings.region.0 ≤ settings.region.1 }
         requires region_end { settings.region.1 < self.old.lines }
         ensures window { window_of self.new ≡ with_settings settings (window_of self.old) }
-        ensures frame { SameFrame self.old self.new }
+        ensures shape { SameShape self.old self.new }
         ensures part { part_in self.new.cells ≡ part_in self.old.cells }
         ensures kept { IsKept self.new }
     {
@@ -226,7 +220,7 @@ impl Slot {
     pub fn set_place(&mut self, y: u16, x: u16)
         requires { IsSome self.old.place }
         ensures window { window_of self.new ≡ with_place y x (window_of self.old) }
-        ensures frame { SameFrame self.old self.new }
+        ensures shape { SameShape self.old self.new }
         ensures part { part_in self.new.cells ≡ part_in self.old.cells }
         ensures kept { IsKept self.new }
     {
@@ -236,11 +230,14 @@ impl Slot {
     /// Moves a derived window to another offset in its parent.
     pub fn shift(&mut self, y: u16, x: u16)
         ensures window { window_of self.new ≡ with_part y x (window_of self.old) }
-        ensures frame { SameFrame self.old self.new }
+        ensures shape { SameShape self.old self.new }
         ensures cells { self.new.cells ≡ shifted y x self.old.cells }
         ensures kept { IsKept self.new }
     {
-        shift_cells(&mut self.cells, y, x);
+        if let Cells::Shared(part) = &mut self.cells {
+            part.line = y;
+            part.column = x;
+        }
     }
 
     /// Sets the cells of a line of the grid from `left` to `right` to one cell.
@@ -249,29 +246,28 @@ impl Slot {
         requires ordered { left ≤ right }
         requires right_in { right < self.old.columns }
         ensures window { window_of self.new ≡ with_drawing (filled line left right cell) (window_of self.old) }
-        ensures frame { SameFrame self.old self.new }
+        ensures shape { SameShape self.old self.new }
         ensures part { part_in self.new.cells ≡ part_in self.old.cells }
         ensures kept { IsKept self.new }
     {
-        fill_cells(
-            &mut self.cells,
-            self.lines,
-            self.columns,
-            line,
-            left,
-            right,
-            cell,
-        );
+        if let Cells::Own(grid) = &mut self.cells {
+            grid.fill(
+                usize::from(line),
+                usize::from(left),
+                usize::from(right) + 1,
+                cell,
+            );
+        }
     }
 
     /// Takes all touches away, and asks for a clear screen no more.
-    pub fn refresh(&mut self)
-        ensures window { window_of self.new ≡ refreshed (window_of self.old) }
-        ensures frame { SameFrame self.old self.new }
+    pub fn unmark(&mut self)
+        ensures window { window_of self.new ≡ unmarked (window_of self.old) }
+        ensures shape { SameShape self.old self.new }
         ensures part { part_in self.new.cells ≡ part_in self.old.cells }
         ensures kept { IsKept self.new }
     {
-        self.runs.fill(None);
+        self.touched.fill(None);
         self.settings.clear = false;
     }
 
@@ -282,11 +278,13 @@ impl Slot {
         requires columns_in { left + length row.now ≤ self.old.columns }
         requires cells { AllByRecursion IsCell row.now }
         ensures window { window_of self.new ≡ with_drawing (listed line left row.now) (window_of self.old) }
-        ensures frame { SameFrame self.old self.new }
+        ensures shape { SameShape self.old self.new }
         ensures part { part_in self.new.cells ≡ part_in self.old.cells }
         ensures kept { IsKept self.new }
     {
-        put_cells(&mut self.cells, self.lines, self.columns, line, left, row);
+        if let Cells::Own(grid) = &mut self.cells {
+            grid.put_cells(usize::from(line), usize::from(left), row);
+        }
     }
 
     /// Touches the columns from `left` to `right` of a line.
@@ -294,19 +292,19 @@ impl Slot {
         requires line_in { line < self.old.lines }
         requires ordered { left ≤ right }
         requires right_in { right < self.old.columns }
-        ensures window { window_of self.new ≡ with_run line left right (window_of self.old) }
-        ensures frame { SameFrame self.old self.new }
+        ensures window { window_of self.new ≡ with_touched line left right (window_of self.old) }
+        ensures shape { SameShape self.old self.new }
         ensures part { part_in self.new.cells ≡ part_in self.old.cells }
         ensures kept { IsKept self.new }
     {
         let at = usize::from(line);
-        self.runs[at] = Some(spread_over(self.runs[at], left, right));
+        self.touched[at] = Some(spread_over(self.touched[at], left, right));
     }
 }
 
-/// The runs of lines that nothing touched.
-fn no_runs(alloc: Global, lines: u16) -> Result<Vec<Option<Run>>, AllocError>
-    ensures { IfOk result (λ runs. runs.items ≡ replicate lines None) }
+/// The touched columns of lines that nothing touched.
+fn none_touched(alloc: Global, lines: u16) -> Result<Vec<Option<Columns>>, AllocError>
+    ensures { IfOk result (λ lines_touched. lines_touched.items ≡ replicate lines None) }
 {
     vec![in alloc; None; usize::from(lines)]
 }
@@ -326,70 +324,16 @@ fn first_settings(lines: u16) -> Settings
     }
 }
 
-/// Sets the cells of a line from `left` to `right` to one cell, if they are a window's own.
-fn fill_cells(
-    cells: &mut Cells,
-    lines: u16,
-    columns: u16,
-    line: u16,
-    left: u16,
-    right: u16,
-    cell: Cell,
-)
-    requires few_columns { columns ≤ 1000 }
-    requires grid { IsGridOf lines columns cells.old }
-    requires line_in { line < lines }
-    requires ordered { left ≤ right }
-    requires right_in { right < columns }
-    ensures source { source_of cells.new ≡ laid_over (filled line left right cell) (source_of cells.old) }
-    ensures grid { IsGridOf lines columns cells.new }
-    ensures part { part_in cells.new ≡ part_in cells.old }
+/// The least columns that hold these and those from `left` to `right`.
+fn spread_over(touched: Option<Columns>, left: u16, right: u16) -> Columns
+    ensures { spread touched left right ≡ Some result }
 {
-    if let Cells::Own(grid) = cells {
-        grid.fill(
-            usize::from(line),
-            usize::from(left),
-            usize::from(right) + 1,
-            cell,
-        );
-    }
-}
-
-/// Puts cells into a line from column `left` on, if they are a window's own.
-fn put_cells(cells: &mut Cells, lines: u16, columns: u16, line: u16, left: u16, row: &[Cell])
-    requires grid { IsGridOf lines columns cells.old }
-    requires line_in { line < lines }
-    requires columns_in { left + length row.now ≤ columns }
-    requires cells { AllByRecursion IsCell row.now }
-    ensures source { source_of cells.new ≡ laid_over (listed line left row.now) (source_of cells.old) }
-    ensures grid { IsGridOf lines columns cells.new }
-    ensures part { part_in cells.new ≡ part_in cells.old }
-{
-    if let Cells::Own(grid) = cells {
-        grid.put_cells(usize::from(line), usize::from(left), row);
-    }
-}
-
-/// Moves a derived window's cells to another offset in the parent.
-fn shift_cells(cells: &mut Cells, y: u16, x: u16)
-    ensures { cells.new ≡ shifted y x cells.old }
-{
-    if let Cells::Shared(part) = cells {
-        part.line = y;
-        part.column = x;
-    }
-}
-
-/// The least run that holds a run and the columns from `left` to `right`.
-fn spread_over(run: Option<Run>, left: u16, right: u16) -> Run
-    ensures { spread run left right ≡ Some result }
-{
-    match run {
-        None => Run {
+    match touched {
+        None => Columns {
             first: left,
             last: right,
         },
-        Some(old) => Run {
+        Some(old) => Columns {
             first: old.first.min(left),
             last: old.last.max(right),
         },

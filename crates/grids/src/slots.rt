@@ -4,18 +4,20 @@ ghost use Rattle.std.specs.Prelude.{◌≡◌, ◌≢◌, ℕ, ◌<◌, ◌≤�
 ghost use Rattle.std.specs.List.{AllByRecursion, list_any, range_with_len};
 ghost use Rattle.cell.specs.Glyphs.{IsCell};
 ghost use Rattle.std.specs.Option.{is_none};
-ghost use Rattle.cell.specs.Windows.{own, cell_of};
-ghost use Rattle.cell.specs.Refresh.{refreshed};
-ghost use Rattle.cell.specs.Rows.{filled, listed};
-ghost use Rattle.cell.specs.Settings.{with_settings};
-ghost use Rattle.cell.specs.Placing.{has_derived, new_number, with_place};
-ghost use Rattle.grids.specs.Kept.{part_in, window_of};
-ghost use Rattle.grids.specs.Tables.{slot_at, window_map, lines_at, columns_at, names_parent, IsChained};
-ghost use Rattle.grids.specs.Changes.{Changed, Shifted, SetAt, IsFree, with_run, with_drawing};
+ghost use Rattle.world.specs.Windows.{own, cell_of};
+ghost use Rattle.world.specs.calls.Refresh.{unmarked};
+ghost use Rattle.world.specs.Rows.{filled, listed};
+ghost use Rattle.world.specs.Settings.{with_settings};
+ghost use Rattle.world.specs.calls.Making.{has_derived, new_number, with_place};
+ghost use Rattle.grids.specs.Kept.{window_of};
+ghost use Rattle.grids.specs.Tables.{slot_at, window_map, IsChained};
+ghost use Rattle.grids.specs.steps.Slots.{part_in, lines_at, columns_at, names_parent};
+ghost use Rattle.grids.specs.steps.Changes.{Changed, Shifted, SetAt, IsFree, with_touched, with_drawing};
 
 use crate::slot::{Part, Slot};
-use cell::{Cell, Settings};
+use cell::{Cell, LARGEST_PAD, MOST_WINDOWS};
 use std::alloc::AllocError;
+use world::Settings;
 
 /// Where the first place of a window stands in a grid.
 #[derive(Clone, Copy)]
@@ -28,12 +30,12 @@ pub struct Origin {
 /// Where the first place of a window stands: it goes through the chain of parents.
 pub fn origin_of(slots: &[Option<Slot>], win: u16) -> Origin
     requires chained { IsChained slots.now }
-    requires few { length slots.now ≤ 1001 }
+    requires few { length slots.now ≤ MOST_WINDOWS + 1 }
     requires taken { IsSome (slot_at slots.now win) }
     ensures lines { result.line + lines_at slots.now win ≤ lines_at slots.now result.grid }
     ensures columns { result.column + columns_at slots.now win ≤ columns_at slots.now result.grid }
-    ensures few_lines { lines_at slots.now result.grid ≤ 1000 }
-    ensures few_columns { columns_at slots.now result.grid ≤ 1000 }
+    ensures few_lines { lines_at slots.now result.grid ≤ LARGEST_PAD }
+    ensures few_columns { columns_at slots.now result.grid ≤ LARGEST_PAD }
     ensures grid { IsSomeAnd (slot_at slots.now result.grid) (λ k. part_in k.cells ≡ None) }
     ensures leads { own (window_map slots.now) win 0 0 ≡ Some (record { grid = result.grid; line = result.line; column = result.column }) }
 {
@@ -79,7 +81,7 @@ pub fn row_in(slots: &[Option<Slot>], at: u16, line: u16, left: u16, len: u16) -
     requires grid { IsSomeAnd (slot_at slots.now at) (λ k. part_in k.cells ≡ None) }
     requires line_in { line < lines_at slots.now at }
     requires columns_in { left + len ≤ columns_at slots.now at }
-    ensures row { IsSomeAnd (slot_at slots.now at) (λ k. result.now ≡ map (λ x. cell_of (window_of k).source line (left + x)) (range_with_len 0 len)) }
+    ensures row { IsSomeAnd (slot_at slots.now at) (λ k. result.now ≡ map (λ x. cell_of (window_of k).backing line (left + x)) (range_with_len 0 len)) }
     ensures cells { AllByRecursion IsCell result.now }
 {
     match &slots[usize::from(at)] {
@@ -90,7 +92,7 @@ pub fn row_in(slots: &[Option<Slot>], at: u16, line: u16, left: u16, len: u16) -
 
 /// Whether a window derives from this one.
 pub fn has_derived(slots: &[Option<Slot>], win: u16) -> bool
-    requires { length slots.now ≤ 1001 }
+    requires { length slots.now ≤ MOST_WINDOWS + 1 }
     ensures { result ≡ has_derived (window_map slots.now) win }
 {
     is_named(slots, win)
@@ -116,7 +118,7 @@ fn names_parent(slot: &Option<Slot>, win: u16) -> bool
 /// The least free number from 1 on: that of an empty slot, or the one behind the last slot.
 pub fn free_number(slots: &[Option<Slot>]) -> Option<u16>
     requires some { 0 < length slots.now }
-    requires few { length slots.now ≤ 1001 }
+    requires few { length slots.now ≤ MOST_WINDOWS + 1 }
     ensures number { result ≡ new_number (window_map slots.now) }
     ensures free { MatchOption result ⊤ (IsFree slots.now) }
 {
@@ -125,7 +127,7 @@ pub fn free_number(slots: &[Option<Slot>]) -> Option<u16>
             return Some(n as u16);
         }
     }
-    if slots.len() <= 1000 {
+    if slots.len() <= usize::from(MOST_WINDOWS) {
         Some(slots.len() as u16)
     } else {
         None
@@ -135,7 +137,7 @@ pub fn free_number(slots: &[Option<Slot>]) -> Option<u16>
 /// Puts a window into an empty slot, or into a new one behind the last.
 pub fn fill_slot_at(slots: &mut Vec<Option<Slot>>, at: u16, slot: Slot) -> Result<(), AllocError>
     requires free { IsFree slots.old.items at }
-    requires few { length slots.old.items ≤ 1001 }
+    requires few { length slots.old.items ≤ MOST_WINDOWS + 1 }
     ensures set { OnOk result (SetAt slots.old.items slots.new.items at (Some slot)) }
     ensures unchanged { OnErr result (slots.new.items ≡ slots.old.items) }
 {
@@ -150,7 +152,7 @@ pub fn fill_slot_at(slots: &mut Vec<Option<Slot>>, at: u16, slot: Slot) -> Resul
 
 /// Gives up a slot.
 pub fn free_slot(slots: &mut Vec<Option<Slot>>, at: u16)
-    requires few { length slots.old.items ≤ 1001 }
+    requires few { length slots.old.items ≤ MOST_WINDOWS + 1 }
     requires below { at < length slots.old.items }
     ensures { SetAt slots.old.items slots.new.items at None }
 {
@@ -196,7 +198,7 @@ pub fn touch_row(slots: &mut Vec<Option<Slot>>, at: u16, line: u16, left: u16, r
     requires taken { IsSome (slot_at slots.old.items at) }
     requires line_in { line < lines_at slots.old.items at }
     requires right_in { right < columns_at slots.old.items at }
-    ensures { Changed slots.old.items slots.new.items at (with_run line left right) }
+    ensures { Changed slots.old.items slots.new.items at (with_touched line left right) }
 {
     if let Some(slot) = &mut slots[usize::from(at)] {
         slot.touch(line, left, right);
@@ -218,12 +220,12 @@ pub fn set_slot(slots: &mut Vec<Option<Slot>>, at: u16, settings: Settings)
 }
 
 /// Takes all touches of a slot's window away, which asks for a clear screen no more.
-pub fn refresh_slot(slots: &mut Vec<Option<Slot>>, at: u16)
+pub fn unmark_slot(slots: &mut Vec<Option<Slot>>, at: u16)
     requires { IsSome (slot_at slots.old.items at) }
-    ensures { Changed slots.old.items slots.new.items at refreshed }
+    ensures { Changed slots.old.items slots.new.items at unmarked }
 {
     if let Some(slot) = &mut slots[usize::from(at)] {
-        slot.refresh();
+        slot.unmark();
     }
 }
 

@@ -23,6 +23,15 @@ fn put(grids: &mut Grids, win: WinId, y: u16, x: u16, cell: Cell) -> Result<(), 
     Ok(())
 }
 
+/// The cell at a place of a window.
+fn cell(grids: &Grids, win: WinId, y: u16, x: u16) -> Result<Cell, Fail> {
+    let (lines, columns) = grids.getmaxyx(win)?;
+    if lines <= y || columns <= x {
+        return Err("no such place".into());
+    }
+    Ok(grids.cell(win, y, x))
+}
+
 /// Copies some cells of a line of the standard screen to a place of it.
 fn copy(
     grids: &mut Grids,
@@ -195,6 +204,22 @@ fn table_holds_a_thousand_windows(rt: HostRuntime) -> Result<(), Fail> {
 }
 
 #[test]
+fn filled_columns_have_the_cell(rt: HostRuntime) -> Result<(), Fail> {
+    let mut grids = Grids::new(rt.alloc(), 4, 10)?;
+    let screen = WinId(0);
+    let star = Cell::new(b'*', Attr::BOLD).ok_or("no cell")?;
+    let (lines, columns) = grids.getmaxyx(screen)?;
+    if lines <= 2 || columns <= 3 {
+        return Err("no such place".into());
+    }
+    grids.fill(screen, 2, 1, 3, star);
+    assert!(rt; shows(&grids, screen, 2, " ***      ")?);
+    assert_eq!(rt; cell(&grids, screen, 2, 1)?, star);
+    assert_eq!(rt; cell(&grids, screen, 2, 4)?, Cell::BLANK);
+    Ok(())
+}
+
+#[test]
 fn overlapping_copy_reads_before_it_writes(rt: HostRuntime) -> Result<(), Fail> {
     let mut grids = Grids::new(rt.alloc(), 4, 10)?;
     write(&mut grids, WinId(0), 0, 0, "abcdef")?;
@@ -227,9 +252,8 @@ fn settings_are_kept(rt: HostRuntime) -> Result<(), Fail> {
         clear: true,
     };
     grids.set_settings(WinId(0), settings);
+    assert_eq!(rt; grids.settings(WinId(0)), settings);
     assert_eq!(rt; grids.getyx(WinId(0)), Ok((3, 9)));
-    assert_eq!(rt; grids.settings(WinId(0)).attrs, Attr::BOLD);
-    assert_eq!(rt; grids.settings(WinId(0)).background.ch(), b'.');
     Ok(())
 }
 
@@ -247,13 +271,22 @@ fn writing_touches_the_window_that_it_goes_through(rt: HostRuntime) -> Result<()
 }
 
 #[test]
-fn refresh_asks_for_a_clear_screen_no_more(rt: HostRuntime) -> Result<(), Fail> {
+fn unmarked_window_is_untouched_and_asks_for_no_clear_screen(rt: HostRuntime) -> Result<(), Fail> {
     let mut grids = Grids::new(rt.alloc(), 2, 3)?;
     let screen = WinId(0);
+    write(&mut grids, screen, 1, 0, "ab")?;
     if !grids.has_window(screen) {
         return Err("no standard screen".into());
     }
-    grids.refresh(screen);
+    let settings = Settings {
+        clear: true,
+        ..grids.settings(screen)
+    };
+    grids.set_settings(screen, settings);
+    assert_eq!(rt; touched(&grids, screen, 1)?, Some((0, 1)));
+    grids.unmark(screen);
+    assert_eq!(rt; touched(&grids, screen, 1)?, None);
     assert!(rt; !grids.settings(screen).clear);
+    assert!(rt; shows(&grids, screen, 1, "ab ")?);
     Ok(())
 }

@@ -3,7 +3,7 @@ use Rattle.std.proofs.Common.{◌≡◌, true, false, eqb, [], refl}
 use Rattle.cell.specs.Pictures.{Rendition}
 use Rattle.ecma.specs.declared.token.Token.TheVariants.{Sgr}
 use Rattle.ecma.specs.Spelling.{spelling}
-use Rattle.paint.specs.Plain.{change}
+use Rattle.paint.specs.steps.Plain.{change}
 
 pub change-same : (old new : Rendition) → true ≡ eqb new old → change old new ≡ []
 unfolding change

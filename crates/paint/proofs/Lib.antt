@@ -1,4 +1,3 @@
-pub mod Sends
 pub mod Changes
 pub mod Lines
 pub mod Lists

@@ -5,11 +5,11 @@ use Rattle.cell.specs.Attributes.{bits_of}
 use Rattle.ecma.specs.declared.token.Token.TheVariants.{Cup, Print}
 use Rattle.ecma.specs.Spelling.{spelling}
 use Rattle.paint.specs.declared.plain.Pen.{Pen}
-use Rattle.paint.specs.declared.sending.WriteFault.{WriteFault}
-use Rattle.paint.specs.Sinks.{Seen}
-use Rattle.paint.specs.Sending.{Sends}
-use Rattle.paint.specs.Plain.{change, line_text, rendition_behind, lines_text, rendition_at_end, Draws}
-use Rattle.paint.proofs.Sends.{IsPartlySent, IsPartlySent-none, IsPartlySent-then, IsPartlySent-fails, IsPartlySent-all}
+use Rattle.streams.specs.declared.sending.WriteFault.{WriteFault}
+use Rattle.streams.specs.Sinks.{Seen}
+use Rattle.streams.specs.Sending.{Sends}
+use Rattle.paint.specs.steps.Plain.{change, line_text, rendition_behind, lines_text, rendition_at_end, Draws}
+use Rattle.streams.proofs.Sends.{IsPartlySent, IsPartlySent-none, IsPartlySent-then, IsPartlySent-fails, IsPartlySent-all}
 
 -- these cells of a text are still to be drawn, and the last rendition is theirs
 pub record IsPartlyDrawn (old new : Seen) (start pen : Pen) (whole : List ℕ) (cells : List Shown) (final : Rendition) : Type 0 where

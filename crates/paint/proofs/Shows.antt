@@ -6,6 +6,7 @@ use Rattle.std.proofs.lemmas.List.{set_at, get_or_at, set-set, set-get_or, get_o
 use Rattle.std.proofs.lemmas.Bool.{cases_Bool, lt-ltb, eqb-true}
 use Rattle.std.proofs.lemmas.Nat.{and_mask}
 use Rattle.cell.specs.Attributes.{known}
+use Rattle.cell.specs.declared.limits.TheConstants.{LARGEST_SCREEN}
 use Rattle.cell.specs.Glyphs.{IsCell}
 use Rattle.cell.specs.Pictures.{Picture, Place, Shown, Rendition, no_rendition, rendition_of, shown_blank, line_of, with_shown, HasSize, AreCells}
 use Rattle.ecma.specs.declared.token.Erase.TheVariants.{All}
@@ -15,11 +16,12 @@ use Rattle.ecma.specs.Streams.{Leads, showing}
 use Rattle.ecma.specs.Spelling.{spelling, codes_of}
 use Rattle.ecma.proofs.Leading.{Leads-nothing, Leads-token}
 use Rattle.ecma.proofs.Joining.{Leads-append}
-use Rattle.paint.specs.declared.sending.WriteFault.{WriteFault}
-use Rattle.paint.specs.Sinks.{Seen}
-use Rattle.paint.specs.Sending.{Sends}
+use Rattle.ecma.proofs.Printing.{printable}
+use Rattle.streams.specs.declared.sending.WriteFault.{WriteFault}
+use Rattle.streams.specs.Sinks.{Seen}
+use Rattle.streams.specs.Sending.{Sends}
 use Rattle.paint.specs.Updates.{opening, IsClearingText}
-use Rattle.paint.specs.Plain.{change, line_text, rendition_behind, lines_text, rendition_at_end, ending, plain_text}
+use Rattle.paint.specs.steps.Plain.{change, line_text, rendition_behind, lines_text, rendition_at_end, ending, plain_text}
 use Rattle.paint.proofs.Changes.{change-same, change-other}
 
 abbrev at : Picture → Option Place → ℕ → Terminal
@@ -48,7 +50,7 @@ cell-leads picture line column rendition cell h =
     (at (with_shown picture (line, column) cell) (right_of picture (line, column)) (rendition_of cell))
     (change-leads picture (Some (line, column)) rendition (rendition_of cell) h.of_the_six)
     (Leads-token (Print cell.character) (at picture (Some (line, column)) (rendition_of cell))
-    (at (with_shown picture (line, column) cell) (right_of picture (line, column)) (rendition_of cell)) (h.from_space, h.to_tilde) refl)
+    (at (with_shown picture (line, column) cell) (right_of picture (line, column)) (rendition_of cell)) (printable cell.character h.from_space h.to_tilde) refl)
 
 -- where the cursor is after a line is of no account
 record LineLeads (text : List ℕ) (picture : Picture) (cursor : Option Place) (rendition : ℕ) (drawn : Picture) (last : ℕ) : Type 0 where
@@ -96,14 +98,14 @@ line-leads (cell ∷ cells) picture cursor rendition line column front (gone ∷
 abbrev AreWide : ℕ → Picture → Type 0
 AreWide columns lines = AllByRecursion (λ line. length line ≡ columns) lines
 
-cup-leads : (picture : Picture) (cursor : Option Place) (rendition line column : ℕ) → line < 255 → column < 255 → column < length (line_of picture line)
+cup-leads : (picture : Picture) (cursor : Option Place) (rendition line column : ℕ) → line < LARGEST_SCREEN → column < LARGEST_SCREEN → column < length (line_of picture line)
     → Leads (spelling (Cup line column)) (at picture cursor rendition) (at picture (Some (line, column)) rendition)
 cup-leads picture cursor rendition line column few_lines few_columns inside =
     Leads-token (Cup line column) (at picture cursor rendition) (at picture (Some (line, column)) rendition) (few_lines, few_columns)
     (rw (lt-ltb column (length (line_of picture line)) inside) refl)
 
 one-line-leads : (cells : List Shown) (front : Picture) (gone : List Shown) (old : Picture) (cursor : Option Place) (rendition line : ℕ)
-    → line < 255 → length front ≡ line → 0 < length gone → length gone ≡ length cells → AllByRecursion IsCell cells
+    → line < LARGEST_SCREEN → length front ≡ line → 0 < length gone → length gone ≡ length cells → AllByRecursion IsCell cells
     → LineLeads (spelling (Cup line 0) ++ line_text rendition cells) (front ++ gone ∷ old) cursor rendition (front ++ cells ∷ old) (rendition_behind rendition cells)
 one-line-leads cells front gone old cursor rendition line few place some same all =
     let picture = front ++ gone ∷ old in
@@ -118,7 +120,7 @@ one-line-leads cells front gone old cursor rendition line few place some same al
     }
 
 lines-leads : (lines : Picture) (columns line : ℕ) (front old : Picture) (cursor : Option Place) (rendition : ℕ)
-    → 0 < columns → line + length lines ≤ 255 → length front ≡ line → length old ≡ length lines → AreWide columns old → AreWide columns lines → AreCells lines
+    → 0 < columns → line + length lines ≤ LARGEST_SCREEN → length front ≡ line → length old ≡ length lines → AreWide columns old → AreWide columns lines → AreCells lines
     → LineLeads (lines_text line rendition lines) (front ++ old) cursor rendition (front ++ lines) (rendition_at_end rendition lines)
 lines-leads [] columns line front [] cursor rendition some few place same old_wide wide all = record { behind = cursor; leads = Leads-nothing (at (front ++ []) cursor rendition) }
 lines-leads [] columns line front (gone ∷ old) cursor rendition some few place same old_wide wide all = absurd (omega arith)
@@ -169,13 +171,13 @@ opening-leads columns t wide some lines =
     (Leads-token (Ed All) (at t.picture t.cursor 0) (at clear t.cursor 0) tt refl))
     (cup-leads clear t.cursor 0 0 0 (omega arith) (omega arith) column_inside))
 
-ending-leads : (picture : Picture) (cursor : Option Place) (rendition : Rendition) (place : Place) → place.0 < 255 → place.1 < 255 → place.1 < length (line_of picture place.0)
+ending-leads : (picture : Picture) (cursor : Option Place) (rendition : Rendition) (place : Place) → place.0 < LARGEST_SCREEN → place.1 < LARGEST_SCREEN → place.1 < length (line_of picture place.0)
     → Leads (ending rendition place) (at picture cursor rendition) (showing picture place)
 ending-leads picture cursor rendition place few_lines few_columns inside =
     Leads-append (change rendition no_rendition) (spelling (Cup place.0 place.1)) (at picture cursor rendition) (at picture cursor no_rendition) (showing picture place)
     (change-leads picture cursor rendition no_rendition (omega arith)) (cup-leads picture cursor no_rendition place.0 place.1 few_lines few_columns inside)
 
-plain-leads : (lines columns : ℕ) (picture : Picture) (place : Place) → lines ≤ 255 → columns ≤ 255 → HasSize lines columns picture → AreCells picture → place.0 < lines → place.1 < columns
+plain-leads : (lines columns : ℕ) (picture : Picture) (place : Place) → lines ≤ LARGEST_SCREEN → columns ≤ LARGEST_SCREEN → HasSize lines columns picture → AreCells picture → place.0 < lines → place.1 < columns
     → (t : Terminal) → HasSize lines columns t.picture → Leads (plain_text picture place) t (showing picture place)
 unfolding plain_text
 plain-leads lines columns picture place few_lines few_columns size all line_inside column_inside t t_size =
@@ -188,7 +190,7 @@ plain-leads lines columns picture place few_lines few_columns size all line_insi
     (opening-leads columns t t_size.width (omega arith) (omega (arith, t_size.height))) drawn.leads)
     (ending-leads picture drawn.behind last place (omega arith) (omega arith) (omega (arith, line-wide columns picture place.0 size.width (omega (arith, size.height)))))
 
-pub plain-clears : (lines columns : ℕ) (picture : Picture) (place : Place) → lines ≤ 255 → columns ≤ 255 → HasSize lines columns picture → AreCells picture → place.0 < lines → place.1 < columns
+pub plain-clears : (lines columns : ℕ) (picture : Picture) (place : Place) → lines ≤ LARGEST_SCREEN → columns ≤ LARGEST_SCREEN → HasSize lines columns picture → AreCells picture → place.0 < lines → place.1 < columns
     → IsClearingText lines columns (record { picture = picture; cursor = place }) (plain_text picture place)
 unfolding plain_text
 plain-clears lines columns picture place few_lines few_columns size all line_inside column_inside = record {

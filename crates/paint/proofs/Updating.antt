@@ -2,11 +2,12 @@
 use Rattle.std.proofs.Common.{◌≡◌, ℕ, true, List, Ok, Err, ap, ◌∙◌, arith}
 use Rattle.std.specs.Io.KnownBytes.{Keeps}
 use Rattle.std.proofs.lemmas.List.{take_all}
-use Rattle.paint.specs.declared.sending.WriteFault.{WriteFault}
-use Rattle.paint.specs.Sinks.{Seen, next_count}
-use Rattle.paint.specs.Sending.{Sends}
+use Rattle.streams.specs.declared.sending.WriteFault.{WriteFault}
+use Rattle.streams.specs.Counts.{next_count}
+use Rattle.streams.specs.Sinks.{Seen}
+use Rattle.streams.specs.Sending.{Sends}
 use Rattle.paint.specs.Updates.{PainterState, ShownPicture, IsClearingText, Updates, BreaksOff}
-use Rattle.paint.proofs.Sends.{Appends-keeps}
+use Rattle.streams.proofs.Sends.{Appends-keeps}
 
 module _ {painter : PainterState} {wanted : ShownPicture} {text : List ℕ} (clearing : IsClearingText painter.lines painter.columns wanted text) where
   pub updated : {old mid new : Seen} {total : ℕ} → Sends old mid 0 text (Ok total) → Keeps mid.taken new.taken → new.failures ≡ mid.failures → new.flushed ≡ true

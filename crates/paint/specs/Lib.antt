@@ -1,4 +1,2 @@
-pub mod Sinks
 pub mod Updates
-pub mod Sending
-pub mod Plain
+pub mod steps

@@ -3,9 +3,11 @@
 use Rattle.std.specs.Prelude.{◌≡◌, ℕ, ◌≤◌, List, ◌∷◌, ◌++◌, Bool, true, length, take, codes, Option, Some, None, ⊤, MatchOption, if◌then◌else◌}
 use Rattle.std.specs.Io.KnownBytes.{Appends}
 use Rattle.cell.specs.Pictures.{Picture, Place, HasSize, blank_picture, origin}
+use Rattle.ecma.specs.Items.{escape}
 use Rattle.ecma.specs.Terminals.{Terminal}
 use Rattle.ecma.specs.Streams.{IsInProfile, LeadsWithBreaks, Shows, showing}
-use Rattle.paint.specs.Sinks.{Seen, next_count}
+use Rattle.streams.specs.Counts.{next_count}
+use Rattle.streams.specs.Sinks.{Seen}
 
 -- a picture with a cursor
 pub record ShownPicture : Type 0 where
@@ -36,7 +38,7 @@ start_of_update painter clear = start (if clear then None else painter.last) whe
 
 -- no rendition, the page erased, the cursor at the origin
 abbrev pub opening : List ℕ
-opening = 27 ∷ codes "[0m" ++ 27 ∷ codes "[2J" ++ 27 ∷ codes "[1;1H"
+opening = escape ∷ codes "[0m" ++ escape ∷ codes "[2J" ++ escape ∷ codes "[1;1H"
 
 abbrev pub BeginsWithOpening : List ℕ → Type 0
 BeginsWithOpening text = (rest : List ℕ) × (text ≡ opening ++ rest)

@@ -4,12 +4,9 @@
 pub mod laws;
 mod painter;
 mod plain;
-mod sending;
-mod sink;
 
-pub use painter::{Painter, Sent};
-pub use sending::{WriteFault, send};
-pub use sink::{Counted, Sink};
+pub use painter::Painter;
+pub use streams::{Counted, Sent, Sink, WriteFault};
 
 #[cfg(test)]
 mod tests;

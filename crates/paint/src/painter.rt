@@ -2,21 +2,14 @@
 
 ghost use Rattle.std.specs.Prelude.{◌≡◌, ◌<◌, ◌↔◌, ◌⊎◌, ◌||◌, IfOk, IfErr, IsErrOf, IsTrue, MatchResult, Some, None, is_ok, if◌then◌else◌};
 ghost use Rattle.cell.specs.Pictures.{HasSize};
-ghost use Rattle.cell.specs.Placing.{is_no_size};
+ghost use Rattle.cell.specs.Limits.{is_no_size};
 ghost use Rattle.paint.specs.Updates.{first_painter, Updates, BreaksOff};
 
 use crate::plain::send_text;
-use crate::sending::WriteFault;
-use crate::sink::Sink;
-use cell::{Grid, Refusal};
+use cell::{Grid, LARGEST_SCREEN, Refusal, is_no_size};
 use std::alloc::Global;
 use std::marker::Model;
-
-/// How many bytes were sent.
-#[derive(Clone, Copy, PartialEq, Eq, Debug)]
-pub struct Sent {
-    pub bytes: u32,
-}
+use streams::{Sent, Sink, WriteFault};
 
 /// Sends pictures to terminals of one size, and knows which picture and cursor it showed there last.
 #[derive(Drop)]
@@ -41,14 +34,14 @@ impl Model for Painter {
 }
 
 impl Painter {
-    /// A painter that knows nothing of its terminals. They have 1 to 255 lines and columns; another size is refused
-    /// as `BadSize`, and the only other refusal is `NoMemory`.
+    /// A painter that knows nothing of its terminals. They have 1 to `LARGEST_SCREEN` lines and columns; another size
+    /// is refused as `BadSize`, and the only other refusal is `NoMemory`.
     pub fn new(alloc: Global, lines: u16, columns: u16) -> Result<Painter, Refusal>
         ensures ok { IfOk result (λ painter. painter ≡ first_painter lines columns) }
-        ensures size { IsErrOf result Refusal.BadSize ↔ IsTrue (is_no_size 255 lines || is_no_size 255 columns) }
+        ensures size { IsErrOf result Refusal.BadSize ↔ IsTrue (is_no_size LARGEST_SCREEN lines || is_no_size LARGEST_SCREEN columns) }
         ensures memory { IfErr result (λ refusal. (refusal ≡ Refusal.BadSize) ⊎ (refusal ≡ Refusal.NoMemory)) }
     {
-        if !matches!(lines, 1..=255) || !matches!(columns, 1..=255) {
+        if is_no_size(LARGEST_SCREEN, lines) || is_no_size(LARGEST_SCREEN, columns) {
             return Err(Refusal::BadSize);
         }
         match Grid::new(alloc, lines, columns) {

@@ -1,17 +1,16 @@
 //! The plain painter's text: the opening, each line's cells, and the ending.
 
-ghost use Rattle.std.specs.Prelude.{◌≡◌, ◌+◌, ◌*◌, ◌^◌, ◌<◌, ◌≤◌, ◌++◌, length, IfOk, All};
+ghost use Rattle.std.specs.Prelude.{◌≡◌, ◌+◌, ◌^◌, ◌<◌, ◌≤◌, ◌++◌, length, IfOk, All};
 ghost use Rattle.cell.specs.Attributes.{bits_of};
 ghost use Rattle.cell.specs.Pictures.{rendition_of};
-ghost use Rattle.ecma.specs.Spelling.{spelling};
+ghost use Rattle.ecma.specs.Spelling.{spelling, longest, IsToken};
 ghost use Rattle.paint.specs.Updates.{opening};
-ghost use Rattle.paint.specs.Plain.{change, line_text, rendition_behind, lines_text, rendition_at_end, ending, plain_text, Draws};
-ghost use Rattle.paint.specs.Sending.{Sends};
+ghost use Rattle.paint.specs.steps.Plain.{change, line_text, rendition_behind, lines_text, rendition_at_end, ending, plain_text, longest_change, longest_opening, longest_cell, longest_line, longest_lines, longest_ending, Draws};
+ghost use Rattle.streams.specs.Sending.{Sends};
 
-use crate::sending::{WriteFault, send_token};
-use crate::sink::Sink;
-use cell::{Attr, Cell, Grid};
-use ecma::{Erase, Token};
+use cell::{Attr, Cell, Grid, LARGEST_SCREEN};
+use ecma::{Erase, LONGEST_SPELLING, Token, spell};
+use streams::{Sink, WriteFault, send};
 
 /// How many bytes of the text went out, and the attributes under which the terminal prints behind them.
 #[derive(Clone, Copy)]
@@ -22,8 +21,8 @@ pub struct Pen {
 
 /// Changes the rendition, where it is another one.
 fn change<W: Sink>(sink: &mut W, pen: Pen, rendition: Attr) -> Result<u32, WriteFault>
-    requires { pen.sent + 16 < 2 ^ 32 }
-    ensures bound { IfOk result (λ sent. sent ≤ pen.sent + 16) }
+    requires { pen.sent + longest_change < 2 ^ 32 }
+    ensures bound { IfOk result (λ sent. sent ≤ pen.sent + longest_change) }
     ensures sends { Sends (W.seen sink.old) (W.seen sink.new) pen.sent (change (bits_of pen.rendition) (bits_of rendition)) result }
 {
     if rendition == pen.rendition {
@@ -34,8 +33,8 @@ fn change<W: Sink>(sink: &mut W, pen: Pen, rendition: Attr) -> Result<u32, Write
 
 /// Draws a cell at the cursor.
 fn draw_cell<W: Sink>(sink: &mut W, pen: Pen, cell: Cell) -> Result<Pen, WriteFault>
-    requires { pen.sent + 17 < 2 ^ 32 }
-    ensures bound { IfOk result (λ after. after.sent ≤ pen.sent + 17) }
+    requires { pen.sent + longest_cell < 2 ^ 32 }
+    ensures bound { IfOk result (λ after. after.sent ≤ pen.sent + longest_cell) }
     ensures draws { Draws (W.seen sink.old) (W.seen sink.new) pen
         (change (bits_of pen.rendition) (rendition_of cell) ++ spelling (Token.Print cell.character)) (rendition_of cell) result }
 {
@@ -47,10 +46,10 @@ fn draw_cell<W: Sink>(sink: &mut W, pen: Pen, cell: Cell) -> Result<Pen, WriteFa
 
 /// Draws all cells of a line.
 fn draw_line<W: Sink>(sink: &mut W, pen: Pen, line: u8, cells: &[Cell]) -> Result<Pen, WriteFault>
-    requires line { line < 255 }
-    requires columns { length cells.now ≤ 255 }
-    requires room { pen.sent + 10 + 17 * 255 < 2 ^ 32 }
-    ensures bound { IfOk result (λ after. after.sent ≤ pen.sent + 10 + 17 * 255) }
+    requires line { line < LARGEST_SCREEN }
+    requires columns { length cells.now ≤ LARGEST_SCREEN }
+    requires room { pen.sent + longest_line < 2 ^ 32 }
+    ensures bound { IfOk result (λ after. after.sent ≤ pen.sent + longest_line) }
     ensures draws { Draws (W.seen sink.old) (W.seen sink.new) pen
         (spelling (Token.Cup line 0) ++ line_text (bits_of pen.rendition) cells.now)
         (rendition_behind (bits_of pen.rendition) cells.now) result }
@@ -66,9 +65,9 @@ fn draw_line<W: Sink>(sink: &mut W, pen: Pen, line: u8, cells: &[Cell]) -> Resul
 /// Draws all lines of a picture, of which there are so many.
 fn draw_lines<W: Sink>(sink: &mut W, pen: Pen, picture: &Grid, lines: u8) -> Result<Pen, WriteFault>
     requires lines { length picture.now ≡ lines }
-    requires columns { All (λ line. length line ≤ 255) picture.now }
-    requires room { pen.sent + 255 * (10 + 17 * 255) < 2 ^ 32 }
-    ensures bound { IfOk result (λ after. after.sent ≤ pen.sent + 255 * (10 + 17 * 255)) }
+    requires columns { All (λ line. length line ≤ LARGEST_SCREEN) picture.now }
+    requires room { pen.sent + longest_lines < 2 ^ 32 }
+    ensures bound { IfOk result (λ after. after.sent ≤ pen.sent + longest_lines) }
     ensures draws { Draws (W.seen sink.old) (W.seen sink.new) pen
         (lines_text 0 (bits_of pen.rendition) picture.now) (rendition_at_end (bits_of pen.rendition) picture.now) result }
 {
@@ -80,7 +79,7 @@ fn draw_lines<W: Sink>(sink: &mut W, pen: Pen, picture: &Grid, lines: u8) -> Res
 }
 
 fn send_opening<W: Sink>(sink: &mut W) -> Result<u32, WriteFault>
-    ensures bound { IfOk result (λ sent. sent ≤ 30) }
+    ensures bound { IfOk result (λ sent. sent ≤ longest_opening) }
     ensures sends { Sends (W.seen sink.old) (W.seen sink.new) 0 opening result }
 {
     let sent = send_token(sink, 0, Token::Sgr(Attr::NONE))?;
@@ -89,9 +88,9 @@ fn send_opening<W: Sink>(sink: &mut W) -> Result<u32, WriteFault>
 }
 
 fn send_ending<W: Sink>(sink: &mut W, pen: Pen, cursor: (u8, u8)) -> Result<u32, WriteFault>
-    requires line { cursor.0 < 255 }
-    requires column { cursor.1 < 255 }
-    requires room { pen.sent + 26 < 2 ^ 32 }
+    requires line { cursor.0 < LARGEST_SCREEN }
+    requires column { cursor.1 < LARGEST_SCREEN }
+    requires room { pen.sent + longest_ending < 2 ^ 32 }
     ensures sends { Sends (W.seen sink.old) (W.seen sink.new) pen.sent (ending (bits_of pen.rendition) cursor) result }
 {
     let sent = change(sink, pen, Attr::NONE)?;
@@ -106,9 +105,9 @@ pub fn send_text<W: Sink>(
     cursor: (u8, u8),
 ) -> Result<u32, WriteFault>
     requires lines { length picture.now ≡ lines }
-    requires columns { All (λ line. length line ≤ 255) picture.now }
-    requires line { cursor.0 < 255 }
-    requires column { cursor.1 < 255 }
+    requires columns { All (λ line. length line ≤ LARGEST_SCREEN) picture.now }
+    requires line { cursor.0 < LARGEST_SCREEN }
+    requires column { cursor.1 < LARGEST_SCREEN }
     ensures sends { Sends (W.seen sink.old) (W.seen sink.new) 0 (plain_text picture.now cursor) result }
 {
     let sent = send_opening(sink)?;
@@ -118,4 +117,16 @@ pub fn send_text<W: Sink>(
     };
     let pen = draw_lines(sink, pen, picture, lines)?;
     send_ending(sink, pen, cursor)
+}
+
+/// Sends a token.
+fn send_token<W: Sink>(sink: &mut W, sent: u32, token: Token) -> Result<u32, WriteFault>
+    requires token { IsToken token }
+    requires room { sent + longest token < 2 ^ 32 }
+    ensures bound { IfOk result (λ total. total ≤ sent + longest token) }
+    ensures sends { Sends (W.seen sink.old) (W.seen sink.new) sent (spelling token) result }
+{
+    let mut text = [0; LONGEST_SPELLING];
+    let length = spell(&token, &mut text);
+    send(sink, sent, &text[..length])
 }

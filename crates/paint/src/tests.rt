@@ -1,35 +1,33 @@
 ghost use Rattle.std.specs.Prelude.{IfOk};
 ghost use Rattle.cell.specs.Pictures.{HasSize};
 
-use crate::{Counted, Painter, Sent, WriteFault, send};
+use crate::{Counted, Painter, Sent, WriteFault};
 use cell::{Attr, Cell, Grid, Refusal};
 use std::alloc::Global;
 use std::io;
 use std::io::{ErrorKind, Write};
 use std::test::Fail;
 
-/// A writer that takes at most `step` bytes a call. Once, where it has taken `stop` bytes, it fails or takes none.
+/// A writer that fails once where it has taken 5 bytes, or takes none there.
 #[derive(Drop)]
 struct Halting {
     taken: Vec<u8>,
-    step: usize,
-    stop: Option<usize>,
+    halted: bool,
     fails: bool,
 }
 
 impl Write for Halting {
     fn write(&mut self, buf: &[u8]) -> io::Result<usize> {
-        let mut count = self.step.min(buf.len());
-        if let Some(stop) = self.stop {
-            let room = stop.saturating_sub(self.taken.len());
-            if room == 0 {
-                self.stop = None;
+        let mut count = buf.len();
+        if !self.halted {
+            count = count.min(5usize.saturating_sub(self.taken.len()));
+            if count == 0 {
+                self.halted = true;
                 if self.fails {
                     return Err(io::Error::from(ErrorKind::Other));
                 }
                 return Ok(0);
             }
-            count = count.min(room);
         }
         self.taken.extend_from_slice(&buf[..count])?;
         Ok(count)
@@ -98,32 +96,13 @@ fn shows_a_bold_cell(rt: HostRuntime) -> Result<(), Fail> {
 }
 
 #[test]
-fn writes_on_after_each_byte(rt: HostRuntime) -> Result<(), Fail> {
-    let picture = greeting(rt.alloc())?;
-    let mut painter = Painter::new(rt.alloc(), 4, 10)?;
-    let mut sink = Counted::new(Halting {
-        taken: Vec::new(rt.alloc()),
-        step: 1,
-        stop: None,
-        fails: false,
-    });
-    assert_eq!(rt;
-        painter.doupdate(&picture, (0, 2), &mut sink)?,
-        Sent { bytes: 84 }
-    );
-    assert_eq!(rt; sink.get_ref().taken.as_slice(), GREETING);
-    Ok(())
-}
-
-#[test]
 fn shows_all_after_a_fault(rt: HostRuntime) -> Result<(), Fail> {
     for fails in [true, false] {
         let picture = greeting(rt.alloc())?;
         let mut painter = Painter::new(rt.alloc(), 4, 10)?;
         let mut sink = Counted::new(Halting {
             taken: Vec::new(rt.alloc()),
-            step: 100,
-            stop: Some(5),
+            halted: false,
             fails,
         });
         assert_eq!(rt;
@@ -164,13 +143,5 @@ fn refuses_other_sizes(rt: HostRuntime) -> Result<(), Fail> {
         );
     }
     let _ = Painter::new(rt.alloc(), 255, 255)?;
-    Ok(())
-}
-
-#[test]
-fn sends_a_piece(rt: HostRuntime) -> Result<(), Fail> {
-    let mut sink = Counted::new(Vec::new(rt.alloc()));
-    assert_eq!(rt; send(&mut sink, 7, b"abc"), Ok(10));
-    assert_eq!(rt; sink.get_ref().as_slice(), b"abc".as_slice());
     Ok(())
 }

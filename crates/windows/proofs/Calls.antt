@@ -3,14 +3,15 @@ use Rattle.std.proofs.Common.{◌≡◌, ℕ, ◌+◌, ◌-◌, ◌<◌, Option,
 use Rattle.std.specs.Prelude.{option_and_then}
 use Rattle.std.specs.Option.{option_map_or}
 use Rattle.cell.specs.Pictures.{origin}
-use Rattle.cell.specs.Windows.{Window, Windows, put}
-use Rattle.cell.specs.Settings.{set, with_cursor}
-use Rattle.cell.specs.Drawings.{written_glyph, everywhere, lines_up, lines_down}
-use Rattle.cell.specs.Frames.{frame_of}
-use Rattle.cell.specs.Writing.{with_window_of, frame_with, drawn_to, insch_drawing, insch_frame, delch_drawing, delch_frame}
-use Rattle.cell.specs.Editing.{erase_drawing, after_erase, erase_frame, clrtoeol_drawing, clrtoeol_frame, clrtobot_drawing, clrtobot_frame, insertln_drawing, after_insertln, insertln_frame, deleteln_drawing, after_deleteln, deleteln_frame}
+use Rattle.world.specs.Windows.{Window, Windows, put}
+use Rattle.world.specs.Settings.{set, with_cursor}
+use Rattle.world.specs.Drawings.{written_glyph, everywhere, lines_up, lines_down}
+use Rattle.world.specs.Frames.{frame_of}
+use Rattle.world.specs.calls.writing.Characters.{frame_if_there, drawn_to, insch_drawing, insch_frame, delch_drawing, delch_frame}
+use Rattle.world.specs.Windows.{if_there}
+use Rattle.world.specs.calls.writing.Editing.{erase_drawing, after_erase, erase_frame, clrtoeol_drawing, clrtoeol_frame, clrtobot_drawing, clrtobot_frame, insertln_drawing, after_insertln, insertln_frame, deleteln_drawing, after_deleteln, deleteln_frame}
 use Rattle.cell.specs.declared.window.Frame.{Frame}
-use Rattle.windows.specs.State.{IsStateOf, window_with}
+use Rattle.windows.specs.steps.State.{IsStateOf, window_in_state}
 use Rattle.windows.specs.declared.state.WindowState.{WindowState}
 use Rattle.windows.proofs.Rectangles.{frame-inserted, frame-deleted, frame-to_end_of_line, frame-to_bottom_last, frame-to_bottom_more, frame-lines_up, frame-lines_down, frame-everywhere}
 
@@ -19,13 +20,13 @@ abbrev pub with_state : WindowState → Window → Window
 with_state s a = record a { lines = s.lines; columns = s.columns; settings = s.settings }
 
 module _ (windows : Windows) (w : ℕ) (s : WindowState) (h : IsStateOf windows w s) where
-  pub call-is : (change : Window → Windows) → change (with_state s h.window) ≡ change (window_with s) → with_window_of windows w change ≡ change (window_with s)
+  pub call-is : (change : Window → Windows) → change (with_state s h.window) ≡ change (window_in_state s) → if_there windows w change ≡ change (window_in_state s)
   call-is change same =
       ap (λ o. option_map_or change o windows) h.there
       ∙ (λ i. change (record h.window { lines = h.lines i; columns = h.columns i; settings = h.settings i }))
       ∙ same
 
-  pub frame-is : (frame : Window → Option Frame) → frame (with_state s h.window) ≡ frame (window_with s) → frame_with windows w frame ≡ frame (window_with s)
+  pub frame-is : (frame : Window → Option Frame) → frame (with_state s h.window) ≡ frame (window_in_state s) → frame_if_there windows w frame ≡ frame (window_in_state s)
   frame-is frame same =
       ap (λ o. option_and_then frame o) h.there
       ∙ (λ i. frame (record h.window { lines = h.lines i; columns = h.columns i; settings = h.settings i }))
@@ -39,27 +40,27 @@ module _ (windows : Windows) (w : ℕ) (s : WindowState) (h : IsStateOf windows 
 
   pub erased_frame : (r : Frame) → r ≡ record { top = 0; left = 0; bottom = s.lines - 1; right = s.columns - 1 } → Some r ≡ erase_frame windows w
   erased_frame r e =
-      ap Some e ∙ sym (frame-everywhere (window_with s) s.settings.background h.has_line h.has_column)
+      ap Some e ∙ sym (frame-everywhere (window_in_state s) s.settings.background h.has_line h.has_column)
       ∙ sym (frame-is (λ a. frame_of a (erase_drawing a)) refl)
 
   pub clrtoeol_frame-is : (r : Frame) → r ≡ record { top = s.settings.cursor.0; left = s.settings.cursor.1; bottom = s.settings.cursor.0; right = s.columns - 1 }
       → Some r ≡ clrtoeol_frame windows w
   clrtoeol_frame-is r e =
-      ap Some e ∙ sym (frame-to_end_of_line (window_with s) s.settings.cursor.0 s.settings.cursor.1 h.within.cursor_line h.within.cursor_column s.settings.background)
+      ap Some e ∙ sym (frame-to_end_of_line (window_in_state s) s.settings.cursor.0 s.settings.cursor.1 h.within.cursor_line h.within.cursor_column s.settings.background)
       ∙ sym (frame-is (λ a. frame_of a (clrtoeol_drawing a)) refl)
 
   pub clrtobot_frame-last : (r : Frame) → s.settings.cursor.0 + 1 ≡ s.lines
       → r ≡ record { top = s.settings.cursor.0; left = s.settings.cursor.1; bottom = s.settings.cursor.0; right = s.columns - 1 } → Some r ≡ clrtobot_frame windows w
   clrtobot_frame-last r last e =
       ap Some e
-      ∙ sym (frame-to_bottom_last (window_with s) s.settings.cursor.0 s.settings.cursor.1 h.within.cursor_line h.within.cursor_column s.settings.background last)
+      ∙ sym (frame-to_bottom_last (window_in_state s) s.settings.cursor.0 s.settings.cursor.1 h.within.cursor_line h.within.cursor_column s.settings.background last)
       ∙ sym (frame-is (λ a. frame_of a (clrtobot_drawing a)) refl)
 
   pub clrtobot_frame-more : (r : Frame) → s.settings.cursor.0 + 1 < s.lines
       → r ≡ record { top = s.settings.cursor.0; left = 0; bottom = s.lines - 1; right = s.columns - 1 } → Some r ≡ clrtobot_frame windows w
   clrtobot_frame-more r more e =
       ap Some e
-      ∙ sym (frame-to_bottom_more (window_with s) s.settings.cursor.0 s.settings.cursor.1 h.within.cursor_line h.within.cursor_column s.settings.background more)
+      ∙ sym (frame-to_bottom_more (window_in_state s) s.settings.cursor.0 s.settings.cursor.1 h.within.cursor_line h.within.cursor_column s.settings.background more)
       ∙ sym (frame-is (λ a. frame_of a (clrtobot_drawing a)) refl)
 
   -- ---- lines
@@ -72,7 +73,7 @@ module _ (windows : Windows) (w : ℕ) (s : WindowState) (h : IsStateOf windows 
   line_inserted_frame r e =
       let line = h.within.cursor_line in let some = h.has_line in
       ap Some e
-      ∙ sym (frame-lines_down (window_with s) s.settings.cursor.0 (s.lines - 1) (omega arith) (omega arith) h.has_column windows.window w 1 s.settings.background)
+      ∙ sym (frame-lines_down (window_in_state s) s.settings.cursor.0 (s.lines - 1) (omega arith) (omega arith) h.has_column windows.window w 1 s.settings.background)
       ∙ sym (frame-is (λ a. frame_of a (insertln_drawing windows.window w a)) refl)
 
   pub line_deleted : (new : Windows) → new ≡ put windows w (lines_up windows.window w s.settings.cursor.0 (s.lines - 1) 1 s.settings.background)
@@ -83,7 +84,7 @@ module _ (windows : Windows) (w : ℕ) (s : WindowState) (h : IsStateOf windows 
   line_deleted_frame r e =
       let line = h.within.cursor_line in let some = h.has_line in
       ap Some e
-      ∙ sym (frame-lines_up (window_with s) s.settings.cursor.0 (s.lines - 1) (omega arith) (omega arith) h.has_column windows.window w 1 s.settings.background)
+      ∙ sym (frame-lines_up (window_in_state s) s.settings.cursor.0 (s.lines - 1) (omega arith) (omega arith) h.has_column windows.window w 1 s.settings.background)
       ∙ sym (frame-is (λ a. frame_of a (deleteln_drawing windows.window w a)) refl)
 
   -- ---- characters
@@ -92,12 +93,12 @@ module _ (windows : Windows) (w : ℕ) (s : WindowState) (h : IsStateOf windows 
       → r ≡ record { top = s.settings.cursor.0; left = s.settings.cursor.1; bottom = s.settings.cursor.0; right = s.columns - 1 } → Some r ≡ insch_frame windows w character
   character_inserted_frame r character e =
       ap Some e
-      ∙ sym (frame-inserted (window_with s) s.settings.cursor.0 s.settings.cursor.1 h.within.cursor_line h.within.cursor_column windows.window w (written_glyph s.settings character))
+      ∙ sym (frame-inserted (window_in_state s) s.settings.cursor.0 s.settings.cursor.1 h.within.cursor_line h.within.cursor_column windows.window w (written_glyph s.settings character))
       ∙ sym (frame-is (λ a. frame_of a (insch_drawing windows.window w character a)) refl)
 
   pub character_deleted_frame : (r : Frame)
       → r ≡ record { top = s.settings.cursor.0; left = s.settings.cursor.1; bottom = s.settings.cursor.0; right = s.columns - 1 } → Some r ≡ delch_frame windows w
   character_deleted_frame r e =
       ap Some e
-      ∙ sym (frame-deleted (window_with s) s.settings.cursor.0 s.settings.cursor.1 h.within.cursor_line h.within.cursor_column windows.window w (s.columns - 1) s.settings.background)
+      ∙ sym (frame-deleted (window_in_state s) s.settings.cursor.0 s.settings.cursor.1 h.within.cursor_line h.within.cursor_column windows.window w (s.columns - 1) s.settings.background)
       ∙ sym (frame-is (λ a. frame_of a (delch_drawing windows.window w a)) refl)

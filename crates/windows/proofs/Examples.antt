@@ -4,11 +4,11 @@ use Rattle.std.proofs.Common.{◌≡◌, ◌++◌, ◌+◌, ◌*◌, ℕ, List, 
 use Rattle.std.specs.Prelude.{is_some, negsuc, pos}
 use Rattle.cell.specs.Glyphs.{Glyph}
 use Rattle.cell.specs.Pictures.{origin}
-use Rattle.cell.specs.Windows.{Window, WindowMap, Windows, no_windows, own_grid, put, replaced, window_limit}
-use Rattle.cell.specs.World.{first_settings}
-use Rattle.cell.specs.Rows.{line_shown}
-use Rattle.cell.specs.Drawings.{at_place, character_deleted, character_inserted, everywhere, lines_down, lines_up, to_bottom, to_end_of_line}
-use Rattle.cell.specs.Editing.{after_scrl}
+use Rattle.world.specs.Windows.{Window, WindowMap, Windows, no_windows, own_grid, put, replaced, window_limit}
+use Rattle.world.specs.World.{first_settings}
+use Rattle.world.specs.Rows.{line_shown}
+use Rattle.world.specs.Drawings.{at_place, character_deleted, character_inserted, everywhere, lines_down, lines_up, to_bottom, to_end_of_line}
+use Rattle.world.specs.calls.writing.Editing.{after_scrl}
 
 letter : ℕ → Glyph
 letter character = record { character = character; attributes = 0 }
@@ -25,8 +25,8 @@ lettered first = record {
   columns = 3;
   place = Some origin;
   settings = first_settings 3;
-  run = λ y. None;
-  source = own_grid (λ y x. letter (first + (y * 3 + x)));
+  touched = λ y. None;
+  backing = own_grid (λ y x. letter (first + (y * 3 + x)));
 }
 
 small : Windows

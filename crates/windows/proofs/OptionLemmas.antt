@@ -1,15 +1,16 @@
 -- Settings of a window of a known state, changed.
-use Rattle.std.proofs.Common.{◌≡◌, ℕ, ◌-◌, ◌<◌, ◌≤◌, Bool, true, false, if◌then◌else◌, ◌&&◌, nat_le, Option, Some, None, ap, arith, refl, ◌∙◌}
+use Rattle.std.proofs.Common.{◌≡◌, ℕ, ◌-◌, ◌<◌, ◌≤◌, Bool, true, false, if◌then◌else◌, Option, Some, None, ap, arith, refl, ◌∙◌}
 use Rattle.std.specs.Int.RustNames.{bit_or}
 use Rattle.std.proofs.lemmas.Nat.{and_le_l}
 use Rattle.cell.specs.Attributes.{bits_of, known}
-use Rattle.cell.specs.Glyphs.{Glyph}
-use Rattle.cell.specs.Windows.{Windows}
-use Rattle.cell.specs.Settings.{after_set_settings, set}
-use Rattle.cell.specs.Options.{with_attributes, without, with_background, with_region, with_scrolling, after_attron, after_attroff, after_bkgdset, after_setscrreg, after_scrollok}
+use Rattle.cell.specs.Glyphs.{Glyph, is_printable}
+use Rattle.world.specs.Windows.{Windows}
+use Rattle.world.specs.Settings.{after_set_settings, set}
+use Rattle.world.specs.calls.writing.Options.{with_attributes, with_background, with_region, with_scrolling, after_attron, after_attroff, after_bkgdset, after_setscrreg, after_scrollok}
+use Rattle.cell.specs.Attributes.{without}
 use Rattle.cell.specs.declared.attr.Attr.{Attr}
-use Rattle.cell.specs.declared.window.Settings.{Settings}
-use Rattle.windows.specs.State.{IsStateOf}
+use Rattle.world.specs.declared.settings.Settings.{Settings}
+use Rattle.windows.specs.steps.State.{IsStateOf}
 use Rattle.windows.specs.declared.state.WindowState.{WindowState}
 use Rattle.windows.proofs.States.{known-small, set-is}
 use Rattle.windows.proofs.Typing.{known-either}
@@ -53,6 +54,6 @@ some-of true cell v e = cc
 some-of false cell v e = cc
 
 pub made-cell : (cell : Glyph) (character attributes : ℕ)
-    → (let o : Option Glyph = if nat_le 32 character && nat_le character 126 then Some (record { character = character; attributes = known attributes }) else None in Some cell ≡ o)
+    → (let o : Option Glyph = if is_printable character then Some (record { character = character; attributes = known attributes }) else None in Some cell ≡ o)
     → cell ≡ record { character = character; attributes = known attributes }
-made-cell cell character attributes e = some-of (nat_le 32 character && nat_le character 126) cell (record { character = character; attributes = known attributes }) e
+made-cell cell character attributes e = some-of (is_printable character) cell (record { character = character; attributes = known attributes }) e

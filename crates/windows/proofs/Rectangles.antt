@@ -3,11 +3,11 @@ use Rattle.std.proofs.Common.{◌≡◌, ℕ, ◌+◌, ◌-◌, ◌<◌, ◌≤�
 use Rattle.std.proofs.lemmas.Bool.{cases_eq, cases_lt, eq-eqb, ne_eqb, lt-ltb, le-leb}
 use Rattle.std.proofs.lemmas.Bool.Decides.{nat_tests}
 use Rattle.cell.specs.Glyphs.{Glyph}
-use Rattle.cell.specs.Windows.{Window, WindowMap, Drawing}
-use Rattle.cell.specs.Drawings.{at_place, character_inserted, character_deleted, to_end_of_line, to_bottom, everywhere, lines_up, lines_down}
-use Rattle.cell.specs.Frames.{frame_of}
-use Rattle.cell.specs.Frames.{Covers}
-use Rattle.cell.proofs.FrameLaws.{frame_of-only, frame_of-none}
+use Rattle.world.specs.Windows.{Window, WindowMap, Drawing}
+use Rattle.world.specs.Drawings.{at_place, character_inserted, character_deleted, to_end_of_line, to_bottom, everywhere, lines_up, lines_down}
+use Rattle.world.specs.Frames.{frame_of}
+use Rattle.world.specs.Frames.{Covers}
+use Rattle.world.proofs.FrameLaws.{frame_of-only, frame_of-none}
 
 some-if : (t : Bool) (c : Glyph) → (let o : Option Glyph = if t then Some c else None in is_some o) ≡ t
 some-if true c = refl

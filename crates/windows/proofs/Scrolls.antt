@@ -1,33 +1,33 @@
 -- The lines of a region, scrolled by a number of lines.
 use Rattle.std.proofs.Common.{◌≡◌, ℕ, zero, suc, ℤ, pos, negsuc, ◌-◌, Some, None, ap, refl, sym, ◌∙◌}
-use Rattle.cell.specs.Windows.{Windows, put}
-use Rattle.cell.specs.Frames.{frame_of}
-use Rattle.cell.specs.Editing.{scrl_drawing}
+use Rattle.world.specs.Windows.{Windows, put}
+use Rattle.world.specs.Frames.{frame_of}
+use Rattle.world.specs.calls.writing.Editing.{scrl_drawing}
 use Rattle.cell.specs.declared.window.Frame.{Frame}
-use Rattle.cell.proofs.WindowLaws.{put-nothing}
-use Rattle.windows.specs.State.{IsStateOf, window_with}
+use Rattle.world.proofs.WindowLaws.{put-nothing}
+use Rattle.windows.specs.steps.State.{IsStateOf, window_in_state}
 use Rattle.windows.specs.declared.state.WindowState.{WindowState}
 use Rattle.windows.proofs.Rectangles.{frame-lines_up, frame-lines_down, frame-nothing}
 
 module _ (windows : Windows) (w : ℕ) (s : WindowState) (n : ℤ) where
   -- by none
 
-  pub still : n ≡ pos 0 → windows ≡ put windows w (scrl_drawing windows.window w n (window_with s))
-  still e = sym (ap (λ n. put windows w (scrl_drawing windows.window w n (window_with s))) e
+  pub still : n ≡ pos 0 → windows ≡ put windows w (scrl_drawing windows.window w n (window_in_state s))
+  still e = sym (ap (λ n. put windows w (scrl_drawing windows.window w n (window_in_state s))) e
       ∙ (λ i. record windows { window = put-nothing windows.window w (λ y x. None) (λ y x. refl) i }))
 
-  pub still_frame : n ≡ pos 0 → None ≡ frame_of (window_with s) (scrl_drawing windows.window w n (window_with s))
-  still_frame e = sym (ap (λ n. frame_of (window_with s) (scrl_drawing windows.window w n (window_with s))) e ∙ frame-nothing (window_with s))
+  pub still_frame : n ≡ pos 0 → None ≡ frame_of (window_in_state s) (scrl_drawing windows.window w n (window_in_state s))
+  still_frame e = sym (ap (λ n. frame_of (window_in_state s) (scrl_drawing windows.window w n (window_in_state s))) e ∙ frame-nothing (window_in_state s))
 
 -- by some
 
 pub scrolled_lines : (windows : Windows) (w : ℕ) (s : WindowState) (n : ℤ) (r : Frame) → IsStateOf windows w s → (n ≡ pos 0 → ⊥)
     → r ≡ record { top = s.settings.region.0; left = 0; bottom = s.settings.region.1; right = s.columns - 1 }
-    → Some r ≡ frame_of (window_with s) (scrl_drawing windows.window w n (window_with s))
+    → Some r ≡ frame_of (window_in_state s) (scrl_drawing windows.window w n (window_in_state s))
 scrolled_lines windows w s (pos zero) r h some e = absurd (some refl)
 scrolled_lines windows w s (pos (suc n)) r h some e =
-    ap Some e ∙ sym (frame-lines_up (window_with s) s.settings.region.0 s.settings.region.1 h.within.region_order h.within.region_end h.has_column
+    ap Some e ∙ sym (frame-lines_up (window_in_state s) s.settings.region.0 s.settings.region.1 h.within.region_order h.within.region_end h.has_column
     windows.window w (suc n) s.settings.background)
 scrolled_lines windows w s (negsuc n) r h some e =
-    ap Some e ∙ sym (frame-lines_down (window_with s) s.settings.region.0 s.settings.region.1 h.within.region_order h.within.region_end h.has_column
+    ap Some e ∙ sym (frame-lines_down (window_in_state s) s.settings.region.0 s.settings.region.1 h.within.region_order h.within.region_end h.has_column
     windows.window w (suc n) s.settings.background)

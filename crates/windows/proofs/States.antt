@@ -6,12 +6,12 @@ use Rattle.std.proofs.lemmas.Bool.{eqb-true}
 use Rattle.std.proofs.lemmas.Nat.{and_mask}
 use Rattle.cell.specs.Attributes.{bits_of, known}
 use Rattle.cell.specs.Pictures.{Place}
-use Rattle.cell.specs.Windows.{Window, WindowMap, Windows, GridPlace, Drawing, own, drawn, put_from, put_windows, put, HasPlace}
-use Rattle.cell.specs.Settings.{with_settings, after_set_settings, set_in, set, with_cursor}
-use Rattle.cell.specs.Sound.{AreSoundWindows}
-use Rattle.cell.specs.declared.window.Settings.{Settings}
-use Rattle.cell.proofs.WindowLaws.{own-put}
-use Rattle.windows.specs.State.{IsStateOf}
+use Rattle.world.specs.Windows.{Window, WindowMap, Windows, GridPlace, Drawing, own, drawn, put_from, put_windows, put, HasPlace}
+use Rattle.world.specs.Settings.{with_settings, after_set_settings, set_in, set, with_cursor}
+use Rattle.world.specs.Sound.{AreSoundWindows}
+use Rattle.world.specs.declared.settings.Settings.{Settings}
+use Rattle.world.proofs.WindowLaws.{own-put}
+use Rattle.windows.specs.steps.State.{IsStateOf}
 use Rattle.windows.specs.declared.state.WindowState.{WindowState}
 
 -- ---- after a write

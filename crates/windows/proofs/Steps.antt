@@ -3,10 +3,10 @@ use Rattle.std.proofs.Common.{◌≡◌, ℕ, ◌+◌, ◌-◌, ◌<◌, ◌≤�
 use Rattle.std.proofs.lemmas.Bool.{cases_lt}
 use Rattle.std.proofs.lemmas.Bool.Decides.{nat_tests}
 use Rattle.cell.specs.Glyphs.{Glyph}
-use Rattle.cell.specs.Windows.{WindowMap, Windows, Drawing, cell_at, put}
-use Rattle.cell.specs.Rows.{filled, copied}
-use Rattle.cell.specs.Drawings.{at_place, character_inserted, character_deleted, to_end_of_line, to_bottom, everywhere, lines_up, lines_down}
-use Rattle.windows.specs.State.{IsStateOf}
+use Rattle.world.specs.Windows.{WindowMap, Windows, Drawing, cell_at, put}
+use Rattle.world.specs.Rows.{filled, copied}
+use Rattle.world.specs.Drawings.{at_place, character_inserted, character_deleted, to_end_of_line, to_bottom, everywhere, lines_up, lines_down}
+use Rattle.windows.specs.steps.State.{IsStateOf}
 use Rattle.windows.specs.declared.state.WindowState.{WindowState}
 use Rattle.windows.proofs.States.{spot-of}
 use Rattle.windows.proofs.Strokes.{above, from, put-none_above, put-all_above, put-none_from, put-all_from, put-line, put-line_before, put-line_up, put-line_down, filled-line, put-filled_rest, put-filled_place, put-inserted, put-deleted, to_bottom-first, to_bottom-above, up-copied, up-cleared, up-outside, down-copied, down-cleared, down-outside}

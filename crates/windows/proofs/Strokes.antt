@@ -3,11 +3,11 @@ use Rattle.std.proofs.Common.{◌≡◌, ℕ, ◌+◌, ◌-◌, ◌<◌, ◌≤�
 use Rattle.std.proofs.lemmas.Bool.{cases_eq, cases_lt, eq-eqb, ne_eqb, lt-ltb, le-leb}
 use Rattle.std.proofs.lemmas.Bool.Decides.{nat_tests}
 use Rattle.cell.specs.Glyphs.{Glyph}
-use Rattle.cell.specs.Windows.{Window, WindowMap, GridPlace, Drawing, own, cell_at, put_windows, over}
-use Rattle.cell.specs.Rows.{filled, copied}
-use Rattle.cell.specs.Drawings.{at_place, character_inserted, character_deleted, to_end_of_line, to_bottom, lines_up, lines_down}
-use Rattle.cell.proofs.WindowLaws.{put-nothing}
-use Rattle.cell.proofs.PutLaws.{AreSame, put-same, put-then, shown-put}
+use Rattle.world.specs.Windows.{Window, WindowMap, GridPlace, Drawing, own, cell_at, put_windows, over}
+use Rattle.world.specs.Rows.{filled, copied}
+use Rattle.world.specs.Drawings.{at_place, character_inserted, character_deleted, to_end_of_line, to_bottom, lines_up, lines_down}
+use Rattle.world.proofs.WindowLaws.{put-nothing}
+use Rattle.world.proofs.PutLaws.{AreSame, put-same, put-then, shown-put}
 
 -- ---- a drawing line by line
 

@@ -3,13 +3,13 @@ use Rattle.std.proofs.Common.{◌≡◌, ℕ, ◌+◌, ◌-◌, ◌<◌, min, ma
 use Rattle.std.specs.Option.{option_map}
 use Rattle.std.proofs.lemmas.List.{take_more}
 use Rattle.cell.specs.Pictures.{Place}
-use Rattle.cell.specs.Windows.{Window, WindowMap, Windows, GridPlace, Drawing, own, drawn, put_from, put}
-use Rattle.cell.specs.Settings.{set_in, set, with_cursor}
-use Rattle.cell.specs.Drawings.{written_glyph, at_place, to_end_of_line}
-use Rattle.cell.specs.Frames.{joined}
-use Rattle.cell.specs.Writing.{newline, carriage_return, backspace, drawn_to, region_up, scrolls, is_last_line, to_next_line, printed, line_ended, typed_in, after_addch, addch_frame, after_addstr, addstr_frame}
+use Rattle.world.specs.Windows.{Window, WindowMap, Windows, GridPlace, Drawing, own, drawn, put_from, put}
+use Rattle.world.specs.Settings.{set_in, set, with_cursor}
+use Rattle.world.specs.Drawings.{written_glyph, at_place, to_end_of_line}
+use Rattle.world.specs.Frames.{joined}
+use Rattle.world.specs.calls.writing.Characters.{newline, carriage_return, backspace, drawn_to, region_up, scrolls, is_last_line, to_next_line, character_printed, line_ended, typed_in, after_addch, addch_frame, after_addstr, addstr_frame}
 use Rattle.cell.specs.declared.window.Frame.{Frame}
-use Rattle.cell.specs.declared.window.Settings.{Settings}
+use Rattle.world.specs.declared.settings.Settings.{Settings}
 
 -- ---- no window comes or goes
 
@@ -46,7 +46,7 @@ same-next_line : (windows : Windows) (w : ℕ) (a : Window) (place : Place) → 
 same-next_line windows w a place = same-if (scrolls a) windows _ _ (same-drawn windows w (region_up windows.window w a) (a.settings.cursor.0, 0))
     (same-if (is_last_line a a.settings.cursor.0) windows _ _ (same-set windows w (with_cursor place)) (same-set windows w (with_cursor (a.settings.cursor.0 + 1, 0))))
 
-same-printed : (windows : Windows) (w character : ℕ) (a : Window) → HasSame windows (printed windows w character a)
+same-printed : (windows : Windows) (w character : ℕ) (a : Window) → HasSame windows (character_printed windows w character a)
 same-printed windows w character a =
     let glyph = at_place a.settings.cursor (written_glyph a.settings character) in
     same-if (nat_lt (a.settings.cursor.1 + 1) a.columns) windows _ _ (same-drawn windows w glyph (a.settings.cursor.0, a.settings.cursor.1 + 1))

@@ -7,14 +7,14 @@ use Rattle.std.proofs.lemmas.Nat.{and_mask, or_lt}
 use Rattle.cell.specs.Attributes.{bits_of, known}
 use Rattle.cell.specs.Glyphs.{Glyph}
 use Rattle.cell.specs.Pictures.{Place}
-use Rattle.cell.specs.Windows.{Windows, put}
-use Rattle.cell.specs.Settings.{set, with_cursor}
-use Rattle.cell.specs.Drawings.{written_glyph, at_place, to_end_of_line, lines_up}
-use Rattle.cell.specs.Frames.{joined, frame_of}
-use Rattle.cell.specs.Writing.{scrolls, region_up, to_next_line, next_line_frame, printed, printed_frame, line_ended, line_ended_frame, typed_in, typed_frame, after_addch, addch_frame}
+use Rattle.world.specs.Windows.{Windows, put}
+use Rattle.world.specs.Settings.{set, with_cursor}
+use Rattle.world.specs.Drawings.{written_glyph, at_place, to_end_of_line, lines_up}
+use Rattle.world.specs.Frames.{joined, frame_of}
+use Rattle.world.specs.calls.writing.Characters.{scrolls, region_up, to_next_line, next_line_frame, character_printed, character_frame, line_ended, line_ended_frame, typed_in, typed_frame, after_addch, addch_frame}
 use Rattle.cell.specs.declared.window.Frame.{Frame}
-use Rattle.cell.specs.declared.window.Settings.{Settings}
-use Rattle.windows.specs.State.{IsStateOf, window_with}
+use Rattle.world.specs.declared.settings.Settings.{Settings}
+use Rattle.windows.specs.steps.State.{IsStateOf, window_in_state}
 use Rattle.windows.specs.declared.state.WindowState.{WindowState}
 use Rattle.windows.proofs.Rectangles.{frame-at_place, frame-to_end_of_line, frame-lines_up}
 use Rattle.windows.proofs.Calls.{call-is, frame-is}
@@ -41,21 +41,21 @@ known-either a b h k =
 module _ (windows : Windows) (w : ℕ) (s : WindowState) (h : IsStateOf windows w s) where
   -- ---- the end of a line
 
-  scrolls-is : s.settings.scrolling ≡ true → s.settings.cursor.0 ≡ s.settings.region.1 → scrolls (window_with s) ≡ true
+  scrolls-is : s.settings.scrolling ≡ true → s.settings.cursor.0 ≡ s.settings.region.1 → scrolls (window_in_state s) ≡ true
   scrolls-is on last = both s.settings.scrolling (s.settings.cursor.0 == s.settings.region.1) on (eq-eqb s.settings.cursor.0 s.settings.region.1 last)
 
   pub scrolled : (now new : Windows) (place : Place) → s.settings.scrolling ≡ true → s.settings.cursor.0 ≡ s.settings.region.1
       → now ≡ put windows w (lines_up windows.window w s.settings.region.0 s.settings.region.1 1 s.settings.background)
-      → new ≡ set now w (with_cursor (s.settings.cursor.0, 0)) → new ≡ to_next_line windows w (window_with s) place
+      → new ≡ set now w (with_cursor (s.settings.cursor.0, 0)) → new ≡ to_next_line windows w (window_in_state s) place
   scrolled now new place on last drawn moved =
-      moved ∙ ap (λ v. set v w (with_cursor (s.settings.cursor.0, 0))) drawn ∙ sym (if_true (scrolls (window_with s)) _ _ (scrolls-is on last))
+      moved ∙ ap (λ v. set v w (with_cursor (s.settings.cursor.0, 0))) drawn ∙ sym (if_true (scrolls (window_in_state s)) _ _ (scrolls-is on last))
 
   pub scrolled_frame : (r : Frame) → s.settings.scrolling ≡ true → s.settings.cursor.0 ≡ s.settings.region.1
-      → r ≡ record { top = s.settings.region.0; left = 0; bottom = s.settings.region.1; right = s.columns - 1 } → Some r ≡ next_line_frame windows.window w (window_with s)
+      → r ≡ record { top = s.settings.region.0; left = 0; bottom = s.settings.region.1; right = s.columns - 1 } → Some r ≡ next_line_frame windows.window w (window_in_state s)
   scrolled_frame r on last e =
       ap Some e
-      ∙ sym (frame-lines_up (window_with s) s.settings.region.0 s.settings.region.1 h.within.region_order h.within.region_end h.has_column windows.window w 1 s.settings.background)
-      ∙ sym (if_true (scrolls (window_with s)) (frame_of (window_with s) (region_up windows.window w (window_with s))) None (scrolls-is on last))
+      ∙ sym (frame-lines_up (window_in_state s) s.settings.region.0 s.settings.region.1 h.within.region_order h.within.region_end h.has_column windows.window w 1 s.settings.background)
+      ∙ sym (if_true (scrolls (window_in_state s)) (frame_of (window_in_state s) (region_up windows.window w (window_in_state s))) None (scrolls-is on last))
 
   -- ---- a printed character
 
@@ -64,58 +64,58 @@ module _ (windows : Windows) (w : ℕ) (s : WindowState) (h : IsStateOf windows 
     glyph = written_glyph s.settings character
 
     pub printed_inside : (now new : Windows) → s.settings.cursor.1 + 1 < s.columns → now ≡ put windows w (at_place s.settings.cursor (written_glyph s.settings character))
-        → new ≡ set now w (with_cursor (s.settings.cursor.0, s.settings.cursor.1 + 1)) → new ≡ printed windows w character (window_with s)
+        → new ≡ set now w (with_cursor (s.settings.cursor.0, s.settings.cursor.1 + 1)) → new ≡ character_printed windows w character (window_in_state s)
     printed_inside now new inside drawn moved =
         moved ∙ ap (λ v. set v w (with_cursor (s.settings.cursor.0, s.settings.cursor.1 + 1))) drawn
         ∙ sym (if_true (nat_lt (s.settings.cursor.1 + 1) s.columns) _ _ (lt-ltb (s.settings.cursor.1 + 1) s.columns inside))
 
     pub printed_at_end : (now new : Windows) → s.columns ≤ s.settings.cursor.1 + 1 → now ≡ put windows w (at_place s.settings.cursor (written_glyph s.settings character))
-        → new ≡ to_next_line now w (window_with s) s.settings.cursor → new ≡ printed windows w character (window_with s)
+        → new ≡ to_next_line now w (window_in_state s) s.settings.cursor → new ≡ character_printed windows w character (window_in_state s)
     printed_at_end now new past drawn moved =
-        moved ∙ ap (λ v. to_next_line v w (window_with s) s.settings.cursor) drawn
+        moved ∙ ap (λ v. to_next_line v w (window_in_state s) s.settings.cursor) drawn
         ∙ sym (if_false (nat_lt (s.settings.cursor.1 + 1) s.columns) _ _ (grind (arith, nat_tests)))
 
     one_place : (r : Frame) → r ≡ record { top = s.settings.cursor.0; left = s.settings.cursor.1; bottom = s.settings.cursor.0; right = s.settings.cursor.1 }
-        → Some r ≡ frame_of (window_with s) (at_place s.settings.cursor (written_glyph s.settings character))
+        → Some r ≡ frame_of (window_in_state s) (at_place s.settings.cursor (written_glyph s.settings character))
     one_place r e =
-        ap Some e ∙ sym (frame-at_place (window_with s) s.settings.cursor.0 s.settings.cursor.1 h.within.cursor_line h.within.cursor_column (written_glyph s.settings character))
+        ap Some e ∙ sym (frame-at_place (window_in_state s) s.settings.cursor.0 s.settings.cursor.1 h.within.cursor_line h.within.cursor_column (written_glyph s.settings character))
 
     pub printed_inside_frame : (r : Frame) → s.settings.cursor.1 + 1 < s.columns
         → r ≡ record { top = s.settings.cursor.0; left = s.settings.cursor.1; bottom = s.settings.cursor.0; right = s.settings.cursor.1 }
-        → Some r ≡ printed_frame windows w character (window_with s)
+        → Some r ≡ character_frame windows w character (window_in_state s)
     printed_inside_frame r inside e =
         one_place r e ∙ sym (if_true (nat_lt (s.settings.cursor.1 + 1) s.columns) _ _ (lt-ltb (s.settings.cursor.1 + 1) s.columns inside))
 
     pub printed_at_end_frame : (now : Windows) (r : Frame) (below o : Option Frame) → s.columns ≤ s.settings.cursor.1 + 1
         → now ≡ put windows w (at_place s.settings.cursor (written_glyph s.settings character))
         → r ≡ record { top = s.settings.cursor.0; left = s.settings.cursor.1; bottom = s.settings.cursor.0; right = s.settings.cursor.1 }
-        → below ≡ next_line_frame now.window w (window_with s) → o ≡ joined (Some r) below → o ≡ printed_frame windows w character (window_with s)
+        → below ≡ next_line_frame now.window w (window_in_state s) → o ≡ joined (Some r) below → o ≡ character_frame windows w character (window_in_state s)
     printed_at_end_frame now r below o past drawn e next is =
         is ∙ (λ i. joined (one_place r e i) (next i))
-        ∙ ap (λ (v : Windows). joined (frame_of (window_with s) (at_place s.settings.cursor (written_glyph s.settings character))) (next_line_frame v.window w (window_with s))) drawn
+        ∙ ap (λ (v : Windows). joined (frame_of (window_in_state s) (at_place s.settings.cursor (written_glyph s.settings character))) (next_line_frame v.window w (window_in_state s))) drawn
         ∙ sym (if_false (nat_lt (s.settings.cursor.1 + 1) s.columns) _ _ (grind (arith, nat_tests)))
 
   -- ---- a newline
 
   pub ended : (now new : Windows) → now ≡ put windows w (to_end_of_line s.settings.cursor s.settings.background)
-      → new ≡ to_next_line now w (window_with s) (s.settings.cursor.0, 0) → new ≡ line_ended windows w (window_with s)
-  ended now new drawn moved = moved ∙ ap (λ v. to_next_line v w (window_with s) (s.settings.cursor.0, 0)) drawn
+      → new ≡ to_next_line now w (window_in_state s) (s.settings.cursor.0, 0) → new ≡ line_ended windows w (window_in_state s)
+  ended now new drawn moved = moved ∙ ap (λ v. to_next_line v w (window_in_state s) (s.settings.cursor.0, 0)) drawn
 
   pub ended_frame : (now : Windows) (r : Frame) (below o : Option Frame) → now ≡ put windows w (to_end_of_line s.settings.cursor s.settings.background)
       → r ≡ record { top = s.settings.cursor.0; left = s.settings.cursor.1; bottom = s.settings.cursor.0; right = s.columns - 1 }
-      → below ≡ next_line_frame now.window w (window_with s) → o ≡ joined (Some r) below → o ≡ line_ended_frame windows w (window_with s)
+      → below ≡ next_line_frame now.window w (window_in_state s) → o ≡ joined (Some r) below → o ≡ line_ended_frame windows w (window_in_state s)
   ended_frame now r below o drawn e next is =
       let rest = to_end_of_line s.settings.cursor s.settings.background in
-      let here : Some r ≡ frame_of (window_with s) rest = ap Some e
-      ∙ sym (frame-to_end_of_line (window_with s) s.settings.cursor.0 s.settings.cursor.1 h.within.cursor_line h.within.cursor_column s.settings.background) in
-      is ∙ (λ i. joined (here i) (next i)) ∙ ap (λ (v : Windows). joined (frame_of (window_with s) rest) (next_line_frame v.window w (window_with s))) drawn
+      let here : Some r ≡ frame_of (window_in_state s) rest = ap Some e
+      ∙ sym (frame-to_end_of_line (window_in_state s) s.settings.cursor.0 s.settings.cursor.1 h.within.cursor_line h.within.cursor_column s.settings.background) in
+      is ∙ (λ i. joined (here i) (next i)) ∙ ap (λ (v : Windows). joined (frame_of (window_in_state s) rest) (next_line_frame v.window w (window_in_state s))) drawn
 
   -- ---- any character
 
-  pub added : (new : Windows) (character : ℕ) → new ≡ typed_in windows w character (window_with s) → new ≡ after_addch windows w character
+  pub added : (new : Windows) (character : ℕ) → new ≡ typed_in windows w character (window_in_state s) → new ≡ after_addch windows w character
   added new character e = e ∙ sym (call-is windows w s h (typed_in windows w character) refl)
 
-  pub added_frame : (o : Option Frame) (character : ℕ) → o ≡ typed_frame windows w character (window_with s) → o ≡ addch_frame windows w character
+  pub added_frame : (o : Option Frame) (character : ℕ) → o ≡ typed_frame windows w character (window_in_state s) → o ≡ addch_frame windows w character
   added_frame o character e = e ∙ sym (frame-is windows w s h (typed_frame windows w character) refl)
 
 -- ---- the cell of a character

@@ -1,1 +1,1 @@
-pub mod State
+pub mod steps

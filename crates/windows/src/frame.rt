@@ -1,10 +1,10 @@
 //! Rectangles of a window.
 
 ghost use Rattle.std.specs.Prelude.{◌≡◌, ◌-◌, ◌<◌};
-ghost use Rattle.cell.specs.Frames.{joined};
+ghost use Rattle.world.specs.Frames.{joined};
 
 use crate::state::WindowState;
-use grids::Frame;
+use cell::Frame;
 
 /// The lines from `top` to `bottom`, both inclusive, from a column on.
 pub fn lines_from(state: &WindowState, top: u16, bottom: u16, left: u16) -> Frame

@@ -2,20 +2,17 @@
 //! smallest rectangle of the window that holds what it wrote.
 #![tactic(auto)]
 
-mod characters;
 mod drawing;
-mod editing;
 mod frame;
-mod options;
-mod placing;
 mod queries;
-mod refresh;
-mod scrolling;
 mod state;
 mod table;
+mod writing;
 
-pub use grids::{Attr, Cell, Frame, Refusal, Run, Settings, WinId};
+pub use cell::{Attr, Cell, Frame, Refusal, WinId};
+pub use grids::Grids;
 pub use table::Windows;
+pub use world::{Columns, Settings};
 
 #[cfg(test)]
 mod tests;

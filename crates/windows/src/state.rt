@@ -1,11 +1,14 @@
-//! What a call asks of its window first.
+//! What a call asks of its window first, and its cursor.
 
-ghost use Rattle.std.specs.Prelude.{◌≡◌, MatchResult, None};
-ghost use Rattle.cell.specs.Sound.{AreSoundWindows};
+ghost use Rattle.std.specs.Prelude.{◌≡◌, ◌<◌, MatchResult, None};
+ghost use Rattle.world.specs.Settings.{set, with_cursor};
+ghost use Rattle.world.specs.Sound.{AreSoundWindows};
 ghost use Rattle.grids.specs.Tables.{windows};
-ghost use Rattle.windows.specs.State.{IsStateOf};
+ghost use Rattle.windows.specs.steps.State.{IsStateOf};
 
-use grids::{Grids, Refusal, Settings, WinId};
+use cell::{Refusal, WinId};
+use grids::Grids;
+use world::Settings;
 
 /// The size of a window, and what it is set to.
 #[derive(Clone, Copy)]
@@ -16,16 +19,31 @@ pub struct WindowState {
 }
 
 /// The size of a window and what it is set to, or that there is no such window.
-pub fn state_of(grids: &Grids, win: WinId) -> Result<WindowState, Refusal>
+pub fn state_of(table: &Grids, win: WinId) -> Result<WindowState, Refusal>
     ensures state { MatchResult result
-        (λ state. IsStateOf (windows grids.now) win.0 state)
-        (λ refusal. ((windows grids.now).window win.0 ≡ None) × (refusal ≡ Refusal.NoSuchWindow)) }
-    ensures sound { AreSoundWindows (windows grids.now) }
+        (λ state. IsStateOf (windows table.now) win.0 state)
+        (λ refusal. ((windows table.now).window win.0 ≡ None) × (refusal ≡ Refusal.NoSuchWindow)) }
+    ensures sound { AreSoundWindows (windows table.now) }
 {
-    let (lines, columns) = grids.getmaxyx(win)?;
+    let (lines, columns) = table.getmaxyx(win)?;
     Ok(WindowState {
         lines,
         columns,
-        settings: grids.settings(win),
+        settings: table.settings(win),
     })
+}
+
+/// Moves the cursor. The window must be there, with the state handed over, and hold the place.
+pub fn set_cursor(table: &mut Grids, win: WinId, state: &WindowState, y: u16, x: u16)
+    requires state { IsStateOf (windows table.old) win.0 state.now }
+    requires line { y < state.now.lines }
+    requires column { x < state.now.columns }
+    ensures set { windows table.new ≡ set (windows table.old) win.0 (with_cursor (y, x)) }
+    ensures sound { AreSoundWindows (windows table.new) }
+{
+    let settings = Settings {
+        cursor: (y, x),
+        ..state.settings
+    };
+    table.set_settings(win, settings);
 }

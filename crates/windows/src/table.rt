@@ -2,28 +2,20 @@
 
 ghost use Rattle.std.specs.Prelude.{◌≡◌, IfOk};
 ghost use Rattle.cell.specs.Refusals.{RefusedBy};
-ghost use Rattle.cell.specs.World.{first_world};
-ghost use Rattle.cell.specs.Sound.{AreSoundWindows};
-ghost use Rattle.cell.specs.Placing.{new_refusal};
+ghost use Rattle.world.specs.Sound.{AreSoundWindows};
+ghost use Rattle.world.specs.World.{first_world};
+ghost use Rattle.world.specs.calls.Making.{new_refusal};
 ghost use Rattle.grids.specs.Tables.{windows};
 
-use grids::{Grids, Refusal};
+use cell::Refusal;
+use grids::Grids;
 use std::alloc::Global;
-use std::marker::Model;
 
-/// A screen's windows and pads by number. Window 0 is the standard screen: it covers the screen, and is always there.
-/// Lines and columns count from 0.
+/// A screen's windows and pads, with the calls that write in them.
 #[derive(Drop)]
 pub struct Windows {
-    pub(crate) grids: Grids,
-}
-
-impl Model for Windows {
-    ghost use Rattle.grids.specs.Tables.{Table};
-
-    ghost Value = { Table };
-
-    ghost view = { λ a. a.grids };
+    /// Which windows there are. The calls that make, place and delete them, and most that ask about them, are the table's.
+    pub table: Grids,
 }
 
 impl Windows {
@@ -33,11 +25,11 @@ impl Windows {
     /// `BadSize` for a size out of these limits, `NoMemory`.
     pub fn new(alloc: Global, lines: u16, cols: u16) -> Result<Windows, Refusal>
         ensures refused { RefusedBy (new_refusal lines cols) result }
-        ensures made { IfOk result (λ w. windows w ≡ (first_world lines cols).windows) }
-        ensures sound { IfOk result (λ w. AreSoundWindows (windows w)) }
+        ensures made { IfOk result (λ w. windows w.table ≡ (first_world lines cols).windows) }
+        ensures sound { IfOk result (λ w. AreSoundWindows (windows w.table)) }
     {
         Ok(Windows {
-            grids: Grids::new(alloc, lines, cols)?,
+            table: Grids::new(alloc, lines, cols)?,
         })
     }
 }

@@ -6,11 +6,11 @@ const SCREEN: WinId = WinId(0);
 
 /// Whether a line of a window is a text.
 fn shows(windows: &Windows, win: WinId, y: u16, text: &str) -> Result<bool, Fail> {
-    let (lines, _) = windows.getmaxyx(win)?;
+    let (lines, _) = windows.table.getmaxyx(win)?;
     if lines <= y {
         return Err("no such line".into());
     }
-    let row = windows.row(win, y);
+    let row = windows.table.row(win, y);
     Ok(
         row.iter()
             .zip(text.as_bytes())
@@ -47,7 +47,7 @@ fn region_scrolls_by_a_line(rt: HostRuntime) -> Result<(), Fail> {
     assert!(rt; shows(&windows, SCREEN, 1, "l2        ")?);
     assert!(rt; shows(&windows, SCREEN, 2, "          ")?);
     assert!(rt; shows(&windows, SCREEN, 3, "l3        ")?);
-    assert_eq!(rt; windows.getyx(SCREEN), Ok((3, 2)));
+    assert_eq!(rt; windows.table.getyx(SCREEN), Ok((3, 2)));
     assert_eq!(rt; windows.wscrl(SCREEN, 0), Ok(None));
     assert_eq!(rt; windows.wscrl(SCREEN, -1), Ok(lines(1, 2, 0, 9)));
     assert!(rt; shows(&windows, SCREEN, 1, "          ")?);
@@ -62,7 +62,7 @@ fn text_scrolls_a_window(rt: HostRuntime) -> Result<(), Fail> {
     assert_eq!(rt; write(&mut windows, "abcdefg"), Ok(lines(0, 1, 0, 2)));
     assert!(rt; shows(&windows, SCREEN, 0, "def")?);
     assert!(rt; shows(&windows, SCREEN, 1, "g  ")?);
-    assert_eq!(rt; windows.getyx(SCREEN), Ok((1, 1)));
+    assert_eq!(rt; windows.table.getyx(SCREEN), Ok((1, 1)));
     Ok(())
 }
 
@@ -74,16 +74,16 @@ fn background_is_written_for_spaces(rt: HostRuntime) -> Result<(), Fail> {
     assert_eq!(rt; write(&mut windows, "a b"), Ok(lines(0, 0, 0, 2)));
     assert_eq!(rt; windows.wclrtoeol(SCREEN), Ok(lines(0, 0, 3, 5)));
     assert!(rt; shows(&windows, SCREEN, 0, "a.b...")?);
-    let (height, _) = windows.getmaxyx(SCREEN)?;
+    let (height, _) = windows.table.getmaxyx(SCREEN)?;
     if height > 0 {
-        let row = windows.row(SCREEN, 0);
+        let row = windows.table.row(SCREEN, 0);
         assert!(rt;
             row.iter()
                 .zip([5u8, 5, 5, 4, 4, 4].as_slice())
                 .all(|(cell, bits)| cell.attr().bits() == *bits)
         );
     }
-    assert_eq!(rt; windows.getyx(SCREEN), Ok((0, 3)));
+    assert_eq!(rt; windows.table.getyx(SCREEN), Ok((0, 3)));
     assert_eq!(rt;
         windows.wbkgdset(SCREEN, Attr::NONE, 10),
         Err(Refusal::BadCharacter)
@@ -101,7 +101,7 @@ fn characters_are_inserted_and_deleted(rt: HostRuntime) -> Result<(), Fail> {
     assert_eq!(rt; windows.wmove(SCREEN, 0, 0), Ok(()));
     assert_eq!(rt; windows.wdelch(SCREEN), Ok(lines(0, 0, 0, 3)));
     assert!(rt; shows(&windows, SCREEN, 0, "Xbc ")?);
-    assert_eq!(rt; windows.getyx(SCREEN), Ok((0, 0)));
+    assert_eq!(rt; windows.table.getyx(SCREEN), Ok((0, 0)));
     assert_eq!(rt; windows.winsch(SCREEN, 8), Err(Refusal::BadCharacter));
     Ok(())
 }
@@ -110,8 +110,8 @@ fn characters_are_inserted_and_deleted(rt: HostRuntime) -> Result<(), Fail> {
 fn refused_text_writes_nothing(rt: HostRuntime) -> Result<(), Fail> {
     let mut windows = Windows::new(rt.alloc(), 4, 10)?;
     assert_eq!(rt; write(&mut windows, "ab\x07"), Err(Refusal::BadCharacter));
-    assert_eq!(rt; windows.inch(SCREEN)?.ch(), b' ');
-    assert_eq!(rt; windows.getyx(SCREEN), Ok((0, 0)));
+    assert_eq!(rt; windows.winch(SCREEN)?.ch(), b' ');
+    assert_eq!(rt; windows.table.getyx(SCREEN), Ok((0, 0)));
     assert_eq!(rt; windows.waddch(SCREEN, 127), Err(Refusal::BadCharacter));
     assert_eq!(rt;
         windows.waddstr(WinId(1), "a".as_bytes()),
@@ -129,11 +129,11 @@ fn text_scrolls_a_region_and_stays_at_the_end_of_the_window(rt: HostRuntime) -> 
     assert!(rt; shows(&windows, SCREEN, 0, "efgh")?);
     assert!(rt; shows(&windows, SCREEN, 1, "ij  ")?);
     assert!(rt; shows(&windows, SCREEN, 2, "    ")?);
-    assert_eq!(rt; windows.getyx(SCREEN), Ok((1, 2)));
+    assert_eq!(rt; windows.table.getyx(SCREEN), Ok((1, 2)));
     assert_eq!(rt; windows.wmove(SCREEN, 2, 0), Ok(()));
     assert_eq!(rt; write(&mut windows, "klmno"), Ok(lines(2, 2, 0, 3)));
     assert!(rt; shows(&windows, SCREEN, 2, "klmo")?);
-    assert_eq!(rt; windows.getyx(SCREEN), Ok((2, 3)));
+    assert_eq!(rt; windows.table.getyx(SCREEN), Ok((2, 3)));
     Ok(())
 }
 
@@ -152,10 +152,10 @@ fn lines_are_inserted_deleted_and_cleared(rt: HostRuntime) -> Result<(), Fail> {
     assert_eq!(rt; windows.wclrtobot(SCREEN), Ok(lines(1, 2, 0, 3)));
     assert!(rt; shows(&windows, SCREEN, 0, "ab  ")?);
     assert!(rt; shows(&windows, SCREEN, 1, "c   ")?);
-    assert_eq!(rt; windows.getyx(SCREEN), Ok((1, 1)));
+    assert_eq!(rt; windows.table.getyx(SCREEN), Ok((1, 1)));
     assert_eq!(rt; windows.werase(SCREEN), Ok(lines(0, 2, 0, 3)));
     assert!(rt; shows(&windows, SCREEN, 1, "    ")?);
-    assert_eq!(rt; windows.getyx(SCREEN), Ok((0, 0)));
+    assert_eq!(rt; windows.table.getyx(SCREEN), Ok((0, 0)));
     Ok(())
 }
 
@@ -168,9 +168,9 @@ fn cursor_is_moved_within_the_window(rt: HostRuntime) -> Result<(), Fail> {
     assert_eq!(rt; windows.wmove(SCREEN, 0, 10), Err(Refusal::OutsideWindow));
     assert_eq!(rt; write(&mut windows, "\x08X"), Ok(lines(0, 0, 0, 0)));
     assert_eq!(rt; write(&mut windows, "\x08"), Ok(None));
-    assert_eq!(rt; windows.inch(SCREEN)?.ch(), b'X');
+    assert_eq!(rt; windows.winch(SCREEN)?.ch(), b'X');
     assert_eq!(rt; write(&mut windows, "ab\r"), Ok(lines(0, 0, 0, 1)));
-    assert_eq!(rt; windows.getyx(SCREEN), Ok((0, 0)));
+    assert_eq!(rt; windows.table.getyx(SCREEN), Ok((0, 0)));
     Ok(())
 }
 
@@ -182,28 +182,8 @@ fn attributes_are_added_and_taken_away(rt: HostRuntime) -> Result<(), Fail> {
     assert_eq!(rt; windows.waddch(SCREEN, b'a'), Ok(lines(0, 0, 0, 0)));
     assert_eq!(rt; windows.wattroff(SCREEN, Attr::BOLD), Ok(()));
     assert_eq!(rt; windows.waddch(SCREEN, b'b'), Ok(lines(0, 0, 1, 1)));
-    assert_eq!(rt; windows.inch(SCREEN)?.bits(), 0x1062);
+    assert_eq!(rt; windows.winch(SCREEN)?.bits(), 0x1062);
     assert_eq!(rt; windows.wmove(SCREEN, 0, 0), Ok(()));
-    assert_eq!(rt; windows.inch(SCREEN)?.bits(), 0x1161);
-    Ok(())
-}
-
-#[test]
-fn table_of_windows_is_handed_on(rt: HostRuntime) -> Result<(), Fail> {
-    let mut windows = Windows::new(rt.alloc(), 4, 10)?;
-    assert_eq!(rt; windows.newwin(3, 6, 0, 2), Ok(WinId(1)));
-    assert_eq!(rt; windows.derwin(WinId(1), 2, 4, 1, 1), Ok(WinId(2)));
-    assert_eq!(rt; windows.subwin(WinId(1), 1, 1, 1, 3), Ok(WinId(3)));
-    assert_eq!(rt; windows.newpad(6, 20), Ok(WinId(4)));
-    assert_eq!(rt; windows.subpad(WinId(4), 2, 3, 4, 17), Ok(WinId(5)));
-    assert_eq!(rt; windows.mvwin(WinId(1), 1, 3), Ok(()));
-    assert_eq!(rt; windows.getbegyx(WinId(1)), Ok((1, 3)));
-    assert_eq!(rt; windows.mvderwin(WinId(2), 1, 2), Ok(()));
-    assert_eq!(rt; windows.getparyx(WinId(2)), Ok((1, 2)));
-    assert_eq!(rt; windows.wmove(WinId(1), 2, 3), Ok(()));
-    assert_eq!(rt; windows.waddch(WinId(1), b'Q'), Ok(lines(2, 2, 3, 3)));
-    assert!(rt; shows(&windows, WinId(2), 1, " Q  ")?);
-    assert_eq!(rt; windows.delwin(WinId(3)), Ok(()));
-    assert!(rt; !windows.has_window(WinId(3)));
+    assert_eq!(rt; windows.winch(SCREEN)?.bits(), 0x1161);
     Ok(())
 }

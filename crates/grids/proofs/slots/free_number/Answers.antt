@@ -22,11 +22,11 @@ loop-n-preserved c =
     let taken : is_none (slot_at slots n) ≡ false = rw (← read) (grind (arith, common_steps)) in
     sym (search-more slots n (omega arith) taken) ∙ c.loop-n.invariant
 
-pub returns-then-slots-le1000-clause-number : goal.returns-then-slots-le1000-clause-number
-returns-then-slots-le1000-clause-number c =
+pub returns-then-slots-from-clause-number : goal.returns-then-slots-from-clause-number
+returns-then-slots-from-clause-number c =
     let slots = c.args.slots.now in
     let last : c.loop-n.n ≡ length slots = omega arith in
     sym (search-behind slots (omega arith)) ∙ ap (search_from slots) (sym last) ∙ c.loop-n.invariant
 
-pub returns-else-slots-le1000-clause-number : goal.returns-else-slots-le1000-clause-number
-returns-else-slots-le1000-clause-number c = sym (search-end c.args.slots.now c.loop-n.n (omega arith)) ∙ c.loop-n.invariant
+pub returns-else-slots-from-clause-number : goal.returns-else-slots-from-clause-number
+returns-else-slots-from-clause-number c = sym (search-end c.args.slots.now c.loop-n.n (omega arith)) ∙ c.loop-n.invariant

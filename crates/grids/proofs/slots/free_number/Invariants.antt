@@ -1,5 +1,5 @@
 use Rattle.std.proofs.Common.{◌≡◌}
-use Rattle.cell.specs.Placing.{new_number}
+use Rattle.world.specs.calls.Making.{new_number}
 use Rattle.grids.specs.Tables.{window_map}
 use Rattle.grids.proofs.Numbers.{search_from}
 use Rattle.grids.proofs.slots.free_number.Given as goal

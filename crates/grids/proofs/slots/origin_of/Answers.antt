@@ -1,6 +1,6 @@
 use Rattle.std.proofs.Common.{◌≡◌, Some, None, sym}
-use Rattle.grids.specs.Kept.{part_in}
 use Rattle.grids.specs.Tables.{slot_at}
+use Rattle.grids.specs.steps.Slots.{part_in}
 use Rattle.grids.proofs.Chain.{some_and, Leads-step, Leads-end}
 use Rattle.grids.proofs.slots.origin_of.Goals as goal
 

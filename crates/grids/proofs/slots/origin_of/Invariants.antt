@@ -1,5 +1,5 @@
 use Rattle.grids.proofs.Chain.{Leads}
-use Rattle.grids.specs.Tables.{depth_at}
+use Rattle.grids.specs.steps.Slots.{depth_at}
 use Rattle.grids.proofs.slots.origin_of.Given as goal
 
 abbrev pub invariant-loop-part : goal.invariant-loop-part

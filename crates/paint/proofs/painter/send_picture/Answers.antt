@@ -1,6 +1,6 @@
 use Rattle.std.proofs.Common.{arith}
 use Rattle.std.proofs.lemmas.Result.{err_from_is_err_and}
-use Rattle.paint.specs.Plain.{plain_text}
+use Rattle.paint.specs.steps.Plain.{plain_text}
 use Rattle.paint.specs.Updates.{IsClearingText}
 use Rattle.paint.proofs.Shows.{plain-clears}
 use Rattle.paint.proofs.Updating.{updated, broken_flush, broken_text}

@@ -1,4 +1,4 @@
-use Rattle.paint.proofs.Sends.{Sends-nothing}
+use Rattle.streams.proofs.Sends.{Sends-nothing}
 use Rattle.paint.proofs.Changes.{change-same, change-other}
 use Rattle.paint.proofs.plain.change.Goals as goal
 

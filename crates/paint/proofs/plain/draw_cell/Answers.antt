@@ -1,5 +1,5 @@
 use Rattle.std.proofs.lemmas.Result.{err_from_is_err_and}
-use Rattle.paint.proofs.Sends.{Sends-then}
+use Rattle.streams.proofs.Sends.{Sends-then}
 use Rattle.paint.proofs.plain.draw_cell.Goals as goal
 
 pub returns-in_err-sent-2-clause-draws : goal.returns-in_err-sent-2-clause-draws

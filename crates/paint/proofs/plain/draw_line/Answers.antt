@@ -4,7 +4,7 @@ use Rattle.std.proofs.lemmas.Result.{err_from_is_err_and}
 use Rattle.cell.specs.Attributes.{bits_of}
 use Rattle.ecma.specs.declared.token.Token.TheVariants.{Cup}
 use Rattle.ecma.specs.Spelling.{spelling}
-use Rattle.paint.specs.Plain.{line_text, rendition_behind}
+use Rattle.paint.specs.steps.Plain.{line_text, rendition_behind}
 use Rattle.paint.proofs.Lists.{drop_item}
 use Rattle.paint.proofs.Lines.{IsPartlyDrawn, IsPartlyDrawn-none, IsPartlyDrawn-more, IsPartlyDrawn-fails, IsPartlyDrawn-all}
 use Rattle.paint.proofs.plain.draw_line.Goals as goal

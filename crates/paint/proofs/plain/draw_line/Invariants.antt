@@ -2,7 +2,7 @@ use Rattle.std.proofs.Common.{◌+◌, ◌*◌, ◌≤◌, ◌++◌, drop}
 use Rattle.cell.specs.Attributes.{bits_of}
 use Rattle.ecma.specs.declared.token.Token.TheVariants.{Cup}
 use Rattle.ecma.specs.Spelling.{spelling}
-use Rattle.paint.specs.Plain.{line_text, rendition_behind}
+use Rattle.paint.specs.steps.Plain.{line_text, rendition_behind, longest_move, longest_cell}
 use Rattle.paint.proofs.Lines.{IsPartlyDrawn}
 use Rattle.paint.proofs.plain.draw_line.Given as goal
 
@@ -11,5 +11,5 @@ invariant-loop-cell g l = record {
   drawn : IsPartlyDrawn (g.W.Sink.seen l.fn.sink) (g.W.Sink.seen l.sink) l.fn.pen l.pen
       (spelling (Cup l.line 0) ++ line_text (bits_of l.fn.pen.rendition) l.cells)
       (drop l.cell-index l.cells) (rendition_behind (bits_of l.fn.pen.rendition) l.cells);
-  room : l.pen.sent ≤ l.fn.pen.sent + 10 + 17 * l.cell-index;
+  room : l.pen.sent ≤ l.fn.pen.sent + longest_move + longest_cell * l.cell-index;
 }

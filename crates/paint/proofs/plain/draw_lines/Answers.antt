@@ -1,7 +1,7 @@
 use Rattle.std.proofs.Common.{◌+◌, ◌<◌, arith, length, [], ◌∷◌, drop}
 use Rattle.std.proofs.lemmas.Result.{err_from_is_err_and}
 use Rattle.cell.specs.Attributes.{bits_of}
-use Rattle.paint.specs.Plain.{lines_text, rendition_at_end}
+use Rattle.paint.specs.steps.Plain.{lines_text, rendition_at_end}
 use Rattle.paint.proofs.Lists.{drop_item}
 use Rattle.paint.proofs.Lines.{AreLinesLeft, AreLinesLeft-more, AreLinesLeft-fails}
 use Rattle.paint.proofs.plain.draw_lines.Goals as goal

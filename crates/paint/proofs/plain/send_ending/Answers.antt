@@ -1,4 +1,4 @@
-use Rattle.paint.proofs.Sends.{Sends-then}
+use Rattle.streams.proofs.Sends.{Sends-then}
 use Rattle.paint.proofs.plain.send_ending.Goals as goal
 
 pub returns : goal.returns

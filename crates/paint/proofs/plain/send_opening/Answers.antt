@@ -2,7 +2,7 @@ use Rattle.std.proofs.lemmas.Result.{err_from_is_err_and}
 use Rattle.ecma.specs.declared.token.Erase.TheVariants.{All}
 use Rattle.ecma.specs.declared.token.Token.TheVariants.{Cup, Ed}
 use Rattle.ecma.specs.Spelling.{spelling}
-use Rattle.paint.proofs.Sends.{Sends-then, Sends-front}
+use Rattle.streams.proofs.Sends.{Sends-then, Sends-front}
 use Rattle.paint.proofs.Shows.{Sends-opening}
 use Rattle.paint.proofs.plain.send_opening.Goals as goal
 

@@ -1,6 +1,6 @@
 use Rattle.std.proofs.lemmas.Result.{err_from_is_err_and}
-use Rattle.paint.specs.Plain.{lines_text, rendition_at_end, ending, plain_text}
-use Rattle.paint.proofs.Sends.{Sends-then, Sends-front}
+use Rattle.paint.specs.steps.Plain.{lines_text, rendition_at_end, ending, plain_text}
+use Rattle.streams.proofs.Sends.{Sends-then, Sends-front}
 use Rattle.paint.proofs.plain.send_text.Goals as goal
 
 pub returns-in_err-sent : goal.returns-in_err-sent

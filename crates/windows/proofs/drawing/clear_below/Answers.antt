@@ -1,6 +1,6 @@
 use Rattle.std.proofs.Common.{◌-◌, arith}
-use Rattle.cell.specs.Rows.{filled}
-use Rattle.cell.specs.Drawings.{to_bottom}
+use Rattle.world.specs.Rows.{filled}
+use Rattle.world.specs.Drawings.{to_bottom}
 use Rattle.grids.specs.Tables.{windows}
 use Rattle.windows.proofs.States.{state-written}
 use Rattle.windows.proofs.Strokes.{to_bottom-below}
@@ -9,24 +9,24 @@ use Rattle.windows.proofs.drawing.clear_below.Goals as goal
 
 pub loop-line-init : goal.loop-line-init
 loop-line-init c = record {
-  cleared = bottom_started (windows c.args.grids.now) c.args.win.0 c.args.state.now c.requires.state c.args.y c.args.left c.args.state.now.settings.background
+  cleared = bottom_started (windows c.args.table.now) c.args.win.0 c.args.state.now c.requires.state c.args.y c.args.left c.args.state.now.settings.background
       (windows c.fill.new.self) c.fill.ensures.written;
-  state = state-written (windows c.args.grids.now) (windows c.fill.new.self) c.args.win.0 c.args.state.now
+  state = state-written (windows c.args.table.now) (windows c.fill.new.self) c.args.win.0 c.args.state.now
       (filled c.args.y c.args.left (c.args.state.now.columns - 1) c.args.state.now.settings.background) c.requires.state c.fill.ensures.written c.fill.ensures.sound;
 }
 
 pub loop-line-preserved : goal.loop-line-preserved
 loop-line-preserved c = record {
-  cleared = line_cleared (windows c.args.grids.now) c.args.win.0 c.args.state.now c.requires.state (to_bottom (c.args.y, c.args.left) c.args.state.now.settings.background)
-      c.loop-line.line c.args.state.now.settings.background (windows c.loop-line.grids) (windows c.fill-in-loop-line.new.self)
+  cleared = line_cleared (windows c.args.table.now) c.args.win.0 c.args.state.now c.requires.state (to_bottom (c.args.y, c.args.left) c.args.state.now.settings.background)
+      c.loop-line.line c.args.state.now.settings.background (windows c.loop-line.table) (windows c.fill-in-loop-line.new.self)
       (λ x. to_bottom-below c.args.y c.args.left c.loop-line.line x c.args.state.now.settings.background (omega arith))
       c.loop-line.invariant.cleared c.fill-in-loop-line.ensures.written;
-  state = state-written (windows c.loop-line.grids) (windows c.fill-in-loop-line.new.self) c.args.win.0 c.args.state.now
+  state = state-written (windows c.loop-line.table) (windows c.fill-in-loop-line.new.self) c.args.win.0 c.args.state.now
       (filled c.loop-line.line 0 (c.args.state.now.columns - 1) c.args.state.now.settings.background) c.loop-line.invariant.state c.fill-in-loop-line.ensures.written
       c.fill-in-loop-line.ensures.sound;
 }
 
 pub returns-clause-written : goal.returns-clause-written
 returns-clause-written c =
-    bottom_cleared (windows c.args.grids.now) c.args.win.0 c.args.state.now c.requires.state c.args.y c.args.left c.args.state.now.settings.background
-    (windows c.loop-line.grids) c.loop-line.line (omega arith) c.loop-line.invariant.cleared
+    bottom_cleared (windows c.args.table.now) c.args.win.0 c.args.state.now c.requires.state c.args.y c.args.left c.args.state.now.settings.background
+    (windows c.loop-line.table) c.loop-line.line (omega arith) c.loop-line.invariant.cleared

@@ -1,14 +1,14 @@
 use Rattle.std.proofs.Common.{◌≡◌}
-use Rattle.cell.specs.Windows.{put}
-use Rattle.cell.specs.Drawings.{to_bottom}
+use Rattle.world.specs.Windows.{put}
+use Rattle.world.specs.Drawings.{to_bottom}
 use Rattle.grids.specs.Tables.{windows}
-use Rattle.windows.specs.State.{IsStateOf}
+use Rattle.windows.specs.steps.State.{IsStateOf}
 use Rattle.windows.proofs.Strokes.{above}
 use Rattle.windows.proofs.drawing.clear_below.Given as goal
 
 -- the lines above this one are cleared from the place on
 abbrev pub invariant-loop-line : goal.invariant-loop-line
 invariant-loop-line l = record {
-  cleared : windows l.grids ≡ put (windows l.fn.grids) l.win.0 (above l.line (to_bottom (l.y, l.left) l.state.settings.background));
-  state : IsStateOf (windows l.grids) l.win.0 l.state;
+  cleared : windows l.table ≡ put (windows l.fn.table) l.win.0 (above l.line (to_bottom (l.y, l.left) l.state.settings.background));
+  state : IsStateOf (windows l.table) l.win.0 l.state;
 }

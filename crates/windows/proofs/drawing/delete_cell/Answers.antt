@@ -1,5 +1,5 @@
 use Rattle.std.proofs.Common.{◌+◌, ◌-◌, false, arith}
-use Rattle.cell.specs.Rows.{copied}
+use Rattle.world.specs.Rows.{copied}
 use Rattle.grids.specs.Tables.{windows}
 use Rattle.windows.proofs.States.{state-written, has_place}
 use Rattle.windows.proofs.Steps.{deleted}
@@ -8,12 +8,12 @@ use Rattle.windows.proofs.drawing.delete_cell.Goals as goal
 pub fill-requires-clause-there : goal.fill-requires-clause-there
 fill-requires-clause-there c =
     has_place (windows c.copy_row.new.self) c.args.win.0 c.args.state.now c.args.y (c.args.state.now.columns - 1)
-    (state-written (windows c.args.grids.now) (windows c.copy_row.new.self) c.args.win.0 c.args.state.now
-    (copied (windows c.args.grids.now).window c.args.win.0 c.args.y (c.args.x + 1) c.args.y c.args.x (c.args.state.now.columns - 1 - c.args.x) false)
+    (state-written (windows c.args.table.now) (windows c.copy_row.new.self) c.args.win.0 c.args.state.now
+    (copied (windows c.args.table.now).window c.args.win.0 c.args.y (c.args.x + 1) c.args.y c.args.x (c.args.state.now.columns - 1 - c.args.x) false)
     c.requires.state c.copy_row.ensures.written c.copy_row.ensures.sound)
     c.requires.line (omega arith)
 
 pub returns-clause-written : goal.returns-clause-written
 returns-clause-written c =
-    deleted (windows c.args.grids.now) c.args.win.0 c.args.state.now c.requires.state (windows c.copy_row.new.self) (windows c.fill.new.self)
+    deleted (windows c.args.table.now) c.args.win.0 c.args.state.now c.requires.state (windows c.copy_row.new.self) (windows c.fill.new.self)
     c.args.y c.args.x c.args.state.now.settings.background c.requires.column c.copy_row.ensures.written c.fill.ensures.written

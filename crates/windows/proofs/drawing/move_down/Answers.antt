@@ -1,6 +1,6 @@
 use Rattle.std.proofs.Common.{◌≡◌, ◌+◌, ◌-◌, arith, subst}
-use Rattle.cell.specs.Windows.{put}
-use Rattle.cell.specs.Drawings.{lines_down}
+use Rattle.world.specs.Windows.{put}
+use Rattle.world.specs.Drawings.{lines_down}
 use Rattle.grids.specs.Tables.{windows}
 use Rattle.windows.proofs.Strokes.{from}
 use Rattle.windows.proofs.Steps.{down_started, down_more, down_ended}
@@ -8,7 +8,7 @@ use Rattle.windows.proofs.drawing.move_down.Goals as goal
 
 pub loop-moved-init : goal.loop-moved-init
 loop-moved-init c =
-    let before = windows c.args.grids.now in
+    let before = windows c.args.table.now in
     let last : c.args.bottom + 1 ≡ c.args.bottom + 1 - 0 = omega arith in
     record {
       moved = subst (λ k. before ≡ put before c.args.win.0 (from k (lines_down before.window c.args.win.0 c.args.top c.args.bottom c.args.n c.args.state.now.settings.background))) last
@@ -18,10 +18,10 @@ loop-moved-init c =
 
 pub loop-moved-preserved : goal.loop-moved-preserved
 loop-moved-preserved c =
-    let before = windows c.args.grids.now in
+    let before = windows c.args.table.now in
     let drawing = lines_down before.window c.args.win.0 c.args.top c.args.bottom c.args.n c.args.state.now.settings.background in
-    let now = windows c.loop-moved.grids in
-    let new = windows c.take_above.new.grids in
+    let now = windows c.loop-moved.table in
+    let new = windows c.take_above.new.table in
     let k = c.args.bottom - c.loop-moved.moved in
     let was : c.args.bottom + 1 - c.loop-moved.moved ≡ k + 1 = omega arith in
     let next : k ≡ c.args.bottom + 1 - (c.loop-moved.moved + 1) = omega arith in
@@ -36,5 +36,5 @@ loop-moved-preserved c =
 
 pub returns-clause-written : goal.returns-clause-written
 returns-clause-written c =
-    down_ended (windows c.args.grids.now) c.args.win.0 c.args.state.now c.requires.state c.args.top c.args.bottom c.args.n c.args.state.now.settings.background
-    c.requires.ordered c.requires.lines (c.args.bottom + 1 - c.loop-moved.moved) (windows c.loop-moved.grids) (omega arith) c.loop-moved.invariant.moved
+    down_ended (windows c.args.table.now) c.args.win.0 c.args.state.now c.requires.state c.args.top c.args.bottom c.args.n c.args.state.now.settings.background
+    c.requires.ordered c.requires.lines (c.args.bottom + 1 - c.loop-moved.moved) (windows c.loop-moved.table) (omega arith) c.loop-moved.invariant.moved

@@ -1,14 +1,14 @@
 use Rattle.std.proofs.Common.{◌≡◌, ◌+◌, ◌-◌}
-use Rattle.cell.specs.Windows.{put}
-use Rattle.cell.specs.Drawings.{lines_down}
+use Rattle.world.specs.Windows.{put}
+use Rattle.world.specs.Drawings.{lines_down}
 use Rattle.grids.specs.Tables.{windows}
-use Rattle.windows.specs.State.{IsStateOf}
+use Rattle.windows.specs.steps.State.{IsStateOf}
 use Rattle.windows.proofs.Strokes.{from}
 use Rattle.windows.proofs.drawing.move_down.Given as goal
 
 -- so many lines have moved, the last ones first
 abbrev pub invariant-loop-moved : goal.invariant-loop-moved
 invariant-loop-moved l = record {
-  moved : windows l.grids ≡ put (windows l.fn.grids) l.win.0 (from (l.bottom + 1 - l.moved) (lines_down (windows l.fn.grids).window l.win.0 l.top l.bottom l.n l.state.settings.background));
-  state : IsStateOf (windows l.grids) l.win.0 l.state;
+  moved : windows l.table ≡ put (windows l.fn.table) l.win.0 (from (l.bottom + 1 - l.moved) (lines_down (windows l.fn.table).window l.win.0 l.top l.bottom l.n l.state.settings.background));
+  state : IsStateOf (windows l.table) l.win.0 l.state;
 }

@@ -5,20 +5,20 @@ use Rattle.windows.proofs.drawing.move_up.Goals as goal
 
 pub loop-line-init : goal.loop-line-init
 loop-line-init c = record {
-  moved = up_started (windows c.args.grids.now) c.args.win.0 c.args.state.now c.requires.state c.args.top c.args.bottom c.args.n c.args.state.now.settings.background
+  moved = up_started (windows c.args.table.now) c.args.win.0 c.args.state.now c.requires.state c.args.top c.args.bottom c.args.n c.args.state.now.settings.background
       c.requires.ordered c.requires.lines;
   state = c.requires.state;
 }
 
 pub loop-line-preserved : goal.loop-line-preserved
 loop-line-preserved c = record {
-  moved = up_more (windows c.args.grids.now) c.args.win.0 c.args.state.now c.requires.state c.args.top c.args.bottom c.args.n c.args.state.now.settings.background
-      c.requires.ordered c.requires.lines c.loop-line.line (windows c.loop-line.grids) (windows c.take_below.new.grids) (omega arith) (omega arith)
+  moved = up_more (windows c.args.table.now) c.args.win.0 c.args.state.now c.requires.state c.args.top c.args.bottom c.args.n c.args.state.now.settings.background
+      c.requires.ordered c.requires.lines c.loop-line.line (windows c.loop-line.table) (windows c.take_below.new.table) (omega arith) (omega arith)
       c.loop-line.invariant.moved c.take_below.ensures.taken c.take_below.ensures.cleared;
   state = c.take_below.ensures.state;
 }
 
 pub returns-clause-written : goal.returns-clause-written
 returns-clause-written c =
-    up_ended (windows c.args.grids.now) c.args.win.0 c.args.state.now c.requires.state c.args.top c.args.bottom c.args.n c.args.state.now.settings.background
-    c.requires.ordered c.requires.lines c.loop-line.line (windows c.loop-line.grids) (omega arith) c.loop-line.invariant.moved
+    up_ended (windows c.args.table.now) c.args.win.0 c.args.state.now c.requires.state c.args.top c.args.bottom c.args.n c.args.state.now.settings.background
+    c.requires.ordered c.requires.lines c.loop-line.line (windows c.loop-line.table) (omega arith) c.loop-line.invariant.moved

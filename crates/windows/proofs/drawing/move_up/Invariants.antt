@@ -1,14 +1,14 @@
 use Rattle.std.proofs.Common.{◌≡◌}
-use Rattle.cell.specs.Windows.{put}
-use Rattle.cell.specs.Drawings.{lines_up}
+use Rattle.world.specs.Windows.{put}
+use Rattle.world.specs.Drawings.{lines_up}
 use Rattle.grids.specs.Tables.{windows}
-use Rattle.windows.specs.State.{IsStateOf}
+use Rattle.windows.specs.steps.State.{IsStateOf}
 use Rattle.windows.proofs.Strokes.{above}
 use Rattle.windows.proofs.drawing.move_up.Given as goal
 
 -- the lines above this one have moved
 abbrev pub invariant-loop-line : goal.invariant-loop-line
 invariant-loop-line l = record {
-  moved : windows l.grids ≡ put (windows l.fn.grids) l.win.0 (above l.line (lines_up (windows l.fn.grids).window l.win.0 l.top l.bottom l.n l.state.settings.background));
-  state : IsStateOf (windows l.grids) l.win.0 l.state;
+  moved : windows l.table ≡ put (windows l.fn.table) l.win.0 (above l.line (lines_up (windows l.fn.table).window l.win.0 l.top l.bottom l.n l.state.settings.background));
+  state : IsStateOf (windows l.table) l.win.0 l.state;
 }

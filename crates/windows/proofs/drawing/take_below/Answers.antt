@@ -1,16 +1,16 @@
 use Rattle.std.proofs.Common.{◌+◌, ◌-◌, false}
-use Rattle.cell.specs.Rows.{copied, filled}
+use Rattle.world.specs.Rows.{copied, filled}
 use Rattle.grids.specs.Tables.{windows}
 use Rattle.windows.proofs.States.{state-written}
 use Rattle.windows.proofs.drawing.take_below.Goals as goal
 
 pub returns-then-n-bottom-clause-state : goal.returns-then-n-bottom-clause-state
 returns-then-n-bottom-clause-state c =
-    state-written (windows c.args.grids.now) (windows c.copy_row.new.self) c.args.win.0 c.args.state.now
-    (copied (windows c.args.grids.now).window c.args.win.0 (c.args.line + c.args.n) 0 c.args.line 0 c.args.state.now.columns false)
+    state-written (windows c.args.table.now) (windows c.copy_row.new.self) c.args.win.0 c.args.state.now
+    (copied (windows c.args.table.now).window c.args.win.0 (c.args.line + c.args.n) 0 c.args.line 0 c.args.state.now.columns false)
     c.requires.state c.copy_row.ensures.written c.copy_row.ensures.sound
 
 pub returns-else-n-bottom-clause-state : goal.returns-else-n-bottom-clause-state
 returns-else-n-bottom-clause-state c =
-    state-written (windows c.args.grids.now) (windows c.fill.new.self) c.args.win.0 c.args.state.now
+    state-written (windows c.args.table.now) (windows c.fill.new.self) c.args.win.0 c.args.state.now
     (filled c.args.line 0 (c.args.state.now.columns - 1) c.args.state.now.settings.background) c.requires.state c.fill.ensures.written c.fill.ensures.sound

@@ -9,14 +9,14 @@ returns c =
     rw (← c.self.view_is) (
       refl,
       rw (c.from.ensures ∙ ap (λ size. size.0) c.size_of_screen-lines.ensures, c.from-2.ensures ∙ ap (λ size. size.1) c.size_of_screen-lines.ensures) refl,
-      world-composed d.windows c.refresh.new.self (record { picture = d.picture; cursor = d.cursor; clear = d.clear }) c.show_standard.new.picture settings _
-          c.self.invariant.windows c.refresh.ensures.refreshed c.show_standard.ensures.shown c.settings-settings.ensures.value refl,
+      world-composed d.windows.table c.unmark.new.self (record { picture = d.picture; cursor = d.cursor; clear = d.clear }) c.show_standard.new.picture settings _
+          c.self.invariant.windows c.unmark.ensures.unmarked c.show_standard.ensures.shown c.settings-settings.ensures.value refl,
     )
 
 pub invariant_of-self : goal.invariant_of-self
 invariant_of-self c =
     let d = c.self.inside in
     let settings = c.settings-settings.result in
-    IsSound-composed d.windows c.refresh.new.self (record { picture = d.picture; cursor = d.cursor; clear = d.clear }) c.show_standard.new.picture settings _
-    c.self.invariant.windows c.refresh.ensures.refreshed c.show_standard.ensures.shown c.settings-settings.ensures.value refl
-    c.self.invariant c.refresh.ensures.sound c.show_standard.ensures.cells
+    IsSound-composed d.windows.table c.unmark.new.self (record { picture = d.picture; cursor = d.cursor; clear = d.clear }) c.show_standard.new.picture settings _
+    c.self.invariant.windows c.unmark.ensures.unmarked c.show_standard.ensures.shown c.settings-settings.ensures.value refl
+    c.self.invariant c.unmark.ensures.sound c.show_standard.ensures.cells

@@ -1,9 +1,8 @@
-use Rattle.std.proofs.Common.{sym, ◌∙◌}
-use Rattle.desk.specs.declared.call.Call.TheVariants.{Writing}
+use Rattle.std.proofs.Common.{◌∙◌, sym}
 use Rattle.desk.proofs.DeskLemmas.{size-called}
 use Rattle.desk.proofs.screen.Screen.call.Goals as goal
 
-pub invariant_of-self-in-Writing : goal.invariant_of-self-in-Writing
-invariant_of-self-in-Writing g c =
-    let size = size-called c.args.self.now.desk c.write.new.self (Writing c.in-Writing.writing) c.write.result c.write.ensures in
-    record { same_lines = c.args.self.now.same_lines ∙ sym size.0; same_columns = c.args.self.now.same_columns ∙ sym size.1 }
+pub invariant_of-self-in_default : goal.invariant_of-self-in_default
+invariant_of-self-in_default g c =
+    let size = size-called c.self.inside.desk c.call.new.self c.args.call.now c.call.result c.call.ensures in
+    record { lines = c.self.invariant.lines ∙ sym size.0; columns = c.self.invariant.columns ∙ sym size.1 }

@@ -1,6 +1,6 @@
 use Rattle.std.proofs.Common.{refl, ap, is_some, ◌∙◌}
 use Rattle.desk.specs.ScriptEnds.{log_failed, write_fault}
-use Rattle.desk.specs.Sources.{counted}
+use Rattle.streams.specs.Counts.{counted}
 use Rattle.desk.proofs.ScriptLemmas.{ends_in_failed_read, ends_in_last_line, ends_in_line, ends_too_long, no_fault, some_fault, so_far_next, so_far_none}
 use Rattle.desk.proofs.screen.Screen.run_lines.Goals as goal
 

@@ -1,10 +1,10 @@
 use Rattle.std.proofs.Common.{◌≡◌, ◌+◌, ◌-◌, length, arith, refl, ap, ◌∙◌}
 use Rattle.cell.specs.Glyphs.{Glyph}
-use Rattle.cell.specs.Rows.{listed}
+use Rattle.world.specs.Rows.{listed}
 use Rattle.grids.specs.contracts.table.Grids.{the_view}
 use Rattle.grids.specs.Tables.{window_map}
-use Rattle.grids.specs.Changes.{with_run, with_drawing}
-use Rattle.grids.proofs.Changes.{IsTable-changed}
+use Rattle.grids.specs.steps.Changes.{with_touched, with_drawing}
+use Rattle.grids.proofs.Changes.{IsWindowTable-changed}
 use Rattle.grids.proofs.Showing.{IsPiece, piece-read, column_below}
 use Rattle.grids.proofs.Writes.{windows-copied}
 use Rattle.grids.proofs.table.Grids.copy_cells.Goals as goal
@@ -13,12 +13,12 @@ pub hold-requires : goal.hold-requires
 hold-requires c =
     let a = c.args in
     let t = the_view c.self.inside in
-    let o = c.origin_of-from in
+    let o = c.origin_of-source in
     let leads = rw c.deref.ensures.value at o.ensures.leads in
     let read = rw c.deref-3.ensures.value at c.row_in.ensures.row in
-    let piece = piece-read t.slots a.src.0 a.sy a.sx a.n (record { grid = o.result.grid; line = o.result.line; column = o.result.column }) c.row_in.result.now leads read in
+    let piece = piece-read t.slots a.from.win.0 a.from.line a.from.column a.n (record { grid = o.result.grid; line = o.result.line; column = o.result.column }) c.row_in.result.now leads read in
     let from = rw (← c.self.view_is) at c.requires.from in
-    let below = column_below t.slots a.src.0 a.sy (a.sx + a.n - 1) from in
+    let below = column_below t.slots a.from.win.0 a.from.line (a.from.column + a.n - 1) from in
     let columns = rw c.deref.ensures.value at o.ensures.columns in
     let few = rw c.deref.ensures.value at o.ensures.few_columns in
     omega (arith, piece.all, below, columns, few)
@@ -27,36 +27,36 @@ pub put_row-requires-clause-columns_in : goal.put_row-requires-clause-columns_in
 put_row-requires-clause-columns_in c =
     let a = c.args in
     let t = the_view c.self.inside in
-    let o = c.origin_of-from in
+    let o = c.origin_of-source in
     let leads = rw c.deref.ensures.value at o.ensures.leads in
     let read = rw c.deref-3.ensures.value at c.row_in.ensures.row in
-    let piece = piece-read t.slots a.src.0 a.sy a.sx a.n (record { grid = o.result.grid; line = o.result.line; column = o.result.column }) c.row_in.result.now leads read in
+    let piece = piece-read t.slots a.from.win.0 a.from.line a.from.column a.n (record { grid = o.result.grid; line = o.result.line; column = o.result.column }) c.row_in.result.now leads read in
     let all : length c.cells.result.now ≡ a.n = ap (length {A = Glyph}) (c.cells.ensures ∙ c.hold.ensures) ∙ piece.all in
     let to = rw (← c.self.view_is) at c.requires.to in
-    let below = column_below t.slots a.dst.0 a.dy (a.dx + a.n - 1) to in
-    let columns = rw c.deref-2.ensures.value at c.origin_of-to.ensures.columns in
+    let below = column_below t.slots a.to.win.0 a.to.line (a.to.column + a.n - 1) to in
+    let columns = rw c.deref-2.ensures.value at c.origin_of-target.ensures.columns in
     omega (arith, all, below, columns, c.requires.some)
 
 pub invariant_of-self : goal.invariant_of-self
 invariant_of-self c =
     let a = c.args in
-    let o = c.origin_of-to.result in
+    let o = c.origin_of-target.result in
     let t = the_view c.self.inside in
-    let s = IsTable-changed t c.put_row.new.slots.items o.grid (with_drawing (listed (o.line + a.dy) (o.column + a.dx) c.cells.result.now)) c.self.invariant c.put_row.ensures (λ b. refl) in
-    IsTable-changed (record t { slots = c.put_row.new.slots.items }) c.touch_row.new.slots.items a.dst.0 (with_run a.dy a.dx (a.dx + a.n - 1)) s c.touch_row.ensures (λ b. refl)
+    let s = IsWindowTable-changed t c.put_row.new.slots.items o.grid (with_drawing (listed (o.line + a.to.line) (o.column + a.to.column) c.cells.result.now)) c.self.invariant c.put_row.ensures (λ b. refl) in
+    IsWindowTable-changed (record t { slots = c.put_row.new.slots.items }) c.touch_row.new.slots.items a.to.win.0 (with_touched a.to.line a.to.column (a.to.column + a.n - 1)) s c.touch_row.ensures (λ b. refl)
 
 pub returns : goal.returns
 returns c =
     let a = c.args in
     let t = the_view c.self.inside in
-    let o = c.origin_of-from in
-    let d = c.origin_of-to in
+    let o = c.origin_of-source in
+    let d = c.origin_of-target in
     let leads_from = rw c.deref.ensures.value at o.ensures.leads in
     let leads_to = rw c.deref-2.ensures.value at d.ensures.leads in
     let read = rw c.deref-3.ensures.value at c.row_in.ensures.row in
-    let piece = piece-read t.slots a.src.0 a.sy a.sx a.n (record { grid = o.result.grid; line = o.result.line; column = o.result.column }) c.row_in.result.now leads_from read in
-    let held : IsPiece (window_map t.slots) a.src.0 a.sy a.sx a.n c.cells.result.now = rw (c.cells.ensures, c.hold.ensures) piece in
+    let piece = piece-read t.slots a.from.win.0 a.from.line a.from.column a.n (record { grid = o.result.grid; line = o.result.line; column = o.result.column }) c.row_in.result.now leads_from read in
+    let held : IsPiece (window_map t.slots) a.from.win.0 a.from.line a.from.column a.n c.cells.result.now = rw (c.cells.ensures, c.hold.ensures) piece in
     let to = rw (← c.self.view_is) at c.requires.to in
     rw (← c.self.view_is)
-    (windows-copied t c.put_row.new.slots.items c.touch_row.new.slots.items a.src.0 a.dst.0 (record { grid = d.result.grid; line = d.result.line; column = d.result.column }) a.sy a.sx a.dy a.dx a.n c.cells.result.now
+    (windows-copied t c.put_row.new.slots.items c.touch_row.new.slots.items a.from.win.0 a.to.win.0 (record { grid = d.result.grid; line = d.result.line; column = d.result.column }) a.from.line a.from.column a.to.line a.to.column a.n c.cells.result.now
     to c.requires.some leads_to held.all held.each c.put_row.ensures c.touch_row.ensures)

@@ -1,6 +1,6 @@
 use Rattle.std.proofs.Common.{◌≡◌, Bool, true, false, arith, ap, sym, ◌∙◌}
-use Rattle.cell.specs.Windows.{put}
-use Rattle.cell.specs.Rows.{copied}
+use Rattle.world.specs.Windows.{put}
+use Rattle.world.specs.Rows.{copied}
 use Rattle.grids.specs.declared.table.Grids.{Grids}
 use Rattle.grids.specs.Tables.{windows}
 use Rattle.grids.proofs.Copies.{start-copy}

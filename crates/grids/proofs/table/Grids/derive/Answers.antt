@@ -1,13 +1,14 @@
 use Rattle.std.proofs.Common.{◌≡◌, ◌+◌, Some, arith, ◌∙◌, ap, sym}
 use Rattle.std.specs.Option.{option_map}
 use Rattle.std.proofs.lemmas.Grind.{common_steps}
-use Rattle.cell.specs.Windows.{part_of}
-use Rattle.cell.specs.Placing.{new_window, place_from, with_window}
+use Rattle.world.specs.Windows.{part_of}
+use Rattle.world.specs.calls.Making.{place_from, numbered}
+use Rattle.world.specs.World.{new_window}
 use Rattle.grids.specs.contracts.table.Grids.{the_view}
 use Rattle.grids.specs.Kept.{window_of}
 use Rattle.grids.specs.Tables.{slot_at, windows, window_map}
 use Rattle.grids.proofs.Chain.{depth_below}
-use Rattle.grids.proofs.NewWindows.{IsTable-added, windows-added, extent-is, stands_derived, placed_derived, made_derived}
+use Rattle.grids.proofs.NewWindows.{IsWindowTable-added, windows-added, extent-is, stands_derived, placed_derived, made_derived}
 use Rattle.grids.proofs.table.Grids.derive.Goals as goal
 
 pub overflow_add-depth : goal.overflow_add-depth
@@ -26,10 +27,10 @@ invariant_of-self-2 c =
     let kept = c.in_ok-slot.ensures.kept in
     let e : slot_at t.slots a.win.0 ≡ Some p = grind (arith, common_steps) in
     let free = rw (c.deref.ensures.value, c.in_ok-number.ensures.ok_part) at c.free_number.ensures.free in
-    let lines = extent-is a.nlines p.lines a.y c.in_ok-lines.lines (rw (← c.lines.ensures) (sym c.extent.ensures ∙ c.in_ok-lines.ensures.ok_part)) in
-    let columns = extent-is a.ncols p.columns a.x c.in_ok-columns.columns (rw (← c.columns.ensures) (sym c.extent-2.ensures ∙ c.in_ok-columns.ensures.ok_part)) in
+    let lines = extent-is a.nlines p.lines a.y c.in_ok-lines.lines (rw (← c.lines.ensures) (sym c.extent_inside.ensures ∙ c.in_ok-lines.ensures.ok_part)) in
+    let columns = extent-is a.ncols p.columns a.x c.in_ok-columns.columns (rw (← c.columns.ensures) (sym c.extent_inside-2.ensures ∙ c.in_ok-columns.ensures.ok_part)) in
     let made = rw (c.place_from-place.ensures, c.place.ensures) at c.in_ok-slot.ensures.window in
-    IsTable-added t c.fill_slot_at.new.slots.items c.in_ok-number.number k c.in_ok-fill_slot_at.ensures.set c.self.invariant free kept.0
+    IsWindowTable-added t c.fill_slot_at.new.slots.items c.in_ok-number.number k c.in_ok-fill_slot_at.ensures.set c.self.invariant free kept.0
     (stands_derived t.slots k p (record { parent = a.win.0; line = a.y; column = a.x }) c.in_ok-lines.lines c.in_ok-columns.columns kept.2 e (kept.1 ∙ ap (λ d. d + 1) c.depth-depth.ensures)
     made lines.inside columns.inside)
     (placed_derived t c.self.invariant a.win.0 k p c.in_ok-lines.lines c.in_ok-columns.columns a.y a.x (part_of a.win.0 a.y a.x) e made lines.inside columns.inside)
@@ -41,10 +42,10 @@ returns-clause-made c =
     let n = c.in_ok-number.number in
     let p = c.in_ok-parent.parent.now in
     let e : slot_at t.slots a.win.0 ≡ Some p = grind (arith, common_steps) in
-    let lines = extent-is a.nlines p.lines a.y c.in_ok-lines.lines (rw (← c.lines.ensures) (sym c.extent.ensures ∙ c.in_ok-lines.ensures.ok_part)) in
-    let columns = extent-is a.ncols p.columns a.x c.in_ok-columns.columns (rw (← c.columns.ensures) (sym c.extent-2.ensures ∙ c.in_ok-columns.ensures.ok_part)) in
+    let lines = extent-is a.nlines p.lines a.y c.in_ok-lines.lines (rw (← c.lines.ensures) (sym c.extent_inside.ensures ∙ c.in_ok-lines.ensures.ok_part)) in
+    let columns = extent-is a.ncols p.columns a.x c.in_ok-columns.columns (rw (← c.columns.ensures) (sym c.extent_inside-2.ensures ∙ c.in_ok-columns.ensures.ok_part)) in
     let made = rw (c.place_from-place.ensures, c.place.ensures) at c.in_ok-slot.ensures.window in
     rw (← c.self.view_is)
     (windows-added t c.fill_slot_at.new.slots.items n c.in_ok-slot.slot c.in_ok-fill_slot_at.ensures.set
     (new_window c.in_ok-lines.lines c.in_ok-columns.columns (place_from p.place a.y a.x) (part_of a.win.0 a.y a.x)) made
-    ∙ ap (with_window (windows t) n) (made_derived (window_map t.slots) p a.win.0 a.nlines a.ncols a.y a.x c.in_ok-lines.lines c.in_ok-columns.columns (ap (option_map window_of) e) lines.given columns.given))
+    ∙ ap (numbered (windows t) n) (made_derived (window_map t.slots) p a.win.0 a.nlines a.ncols a.y a.x c.in_ok-lines.lines c.in_ok-columns.columns (ap (option_map window_of) e) lines.given columns.given))

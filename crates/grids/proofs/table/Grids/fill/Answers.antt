@@ -1,8 +1,8 @@
 use Rattle.std.proofs.Common.{◌+◌, refl}
-use Rattle.cell.specs.Rows.{filled}
+use Rattle.world.specs.Rows.{filled}
 use Rattle.grids.specs.contracts.table.Grids.{the_view}
-use Rattle.grids.specs.Changes.{with_run, with_drawing}
-use Rattle.grids.proofs.Changes.{IsTable-changed}
+use Rattle.grids.specs.steps.Changes.{with_touched, with_drawing}
+use Rattle.grids.proofs.Changes.{IsWindowTable-changed}
 use Rattle.grids.proofs.Writes.{windows-put_row}
 use Rattle.grids.proofs.table.Grids.fill.Goals as goal
 
@@ -11,8 +11,8 @@ invariant_of-self c =
     let a = c.args in
     let o = c.origin_of-origin.result in
     let t = the_view c.self.inside in
-    let s = IsTable-changed t c.fill_row.new.slots.items o.grid (with_drawing (filled (o.line + a.y) (o.column + a.left) (o.column + a.right) a.cell)) c.self.invariant c.fill_row.ensures (λ b. refl) in
-    IsTable-changed (record t { slots = c.fill_row.new.slots.items }) c.touch_row.new.slots.items a.win.0 (with_run a.y a.left a.right) s c.touch_row.ensures (λ b. refl)
+    let s = IsWindowTable-changed t c.fill_row.new.slots.items o.grid (with_drawing (filled (o.line + a.y) (o.column + a.left) (o.column + a.right) a.cell)) c.self.invariant c.fill_row.ensures (λ b. refl) in
+    IsWindowTable-changed (record t { slots = c.fill_row.new.slots.items }) c.touch_row.new.slots.items a.win.0 (with_touched a.y a.left a.right) s c.touch_row.ensures (λ b. refl)
 
 pub returns-clause-written : goal.returns-clause-written
 returns-clause-written c =

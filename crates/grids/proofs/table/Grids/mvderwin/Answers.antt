@@ -1,12 +1,12 @@
 use Rattle.std.proofs.Common.{arith}
 use Rattle.std.proofs.lemmas.Grind.{common_steps}
 use Rattle.grids.specs.contracts.table.Grids.{the_view}
-use Rattle.grids.proofs.Shifts.{IsTable-shifted, windows-shifted}
+use Rattle.grids.proofs.Shifts.{IsWindowTable-shifted, windows-shifted}
 use Rattle.grids.proofs.table.Grids.mvderwin.Goals as goal
 
 pub invariant_of-self : goal.invariant_of-self
 invariant_of-self c =
-    IsTable-shifted (the_view c.self.inside) c.shift_slot.new.slots.items c.args.win.0 c.args.par_y c.args.par_x c.self.invariant c.shift_slot.ensures
+    IsWindowTable-shifted (the_view c.self.inside) c.shift_slot.new.slots.items c.args.win.0 c.args.par_y c.args.par_x c.self.invariant c.shift_slot.ensures
     c.in_ok-slot.slot.now c.in_ok-parent.parent.now c.in_ok-part.part
     (grind (arith, common_steps)) (grind (arith, common_steps)) (grind (arith, common_steps)) (grind (arith, common_steps)) (grind (arith, common_steps))
 

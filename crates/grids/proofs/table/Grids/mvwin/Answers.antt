@@ -1,14 +1,14 @@
 use Rattle.std.proofs.Common.{arith}
 use Rattle.std.proofs.lemmas.Grind.{common_steps}
 use Rattle.std.proofs.lemmas.Bool.Decides.{nat_tests}
-use Rattle.cell.specs.Placing.{with_place}
+use Rattle.world.specs.calls.Making.{with_place}
 use Rattle.grids.specs.contracts.table.Grids.{the_view}
-use Rattle.grids.proofs.Changes.{IsTable-moved, windows-changed}
+use Rattle.grids.proofs.Changes.{IsWindowTable-moved, windows-changed}
 use Rattle.grids.proofs.table.Grids.mvwin.Goals as goal
 
 pub invariant_of-self : goal.invariant_of-self
 invariant_of-self c =
-    IsTable-moved (the_view c.self.inside) c.place_slot.new.slots.items c.args.win.0 (with_place c.args.y c.args.x) c.self.invariant c.place_slot.ensures
+    IsWindowTable-moved (the_view c.self.inside) c.place_slot.new.slots.items c.args.win.0 (with_place c.args.y c.args.x) c.self.invariant c.place_slot.ensures
     (grind (arith, common_steps, nat_tests), grind (arith, common_steps, nat_tests)) (λ e. grind (arith, common_steps, nat_tests))
 
 pub returns-clause-moved : goal.returns-clause-moved

@@ -1,8 +1,8 @@
-use Rattle.cell.specs.World.{blank_grid}
-use Rattle.cell.specs.Placing.{new_window}
+use Rattle.world.specs.World.{blank_grid}
+use Rattle.world.specs.World.{new_window}
 use Rattle.std.proofs.Common.{None}
 use Rattle.grids.specs.contracts.table.Grids.{the_view}
-use Rattle.grids.proofs.NewWindows.{IsTable-added, windows-added, stands_alone, placed_pad}
+use Rattle.grids.proofs.NewWindows.{IsWindowTable-added, windows-added, stands_alone, placed_pad}
 use Rattle.grids.proofs.table.Grids.newpad.Goals as goal
 
 pub invariant_of-self-2 : goal.invariant_of-self-2
@@ -11,7 +11,7 @@ invariant_of-self-2 c =
     let k = c.in_ok-slot.slot in
     let kept = c.in_ok-slot.ensures.kept in
     let free = rw (c.deref.ensures.value, c.in_ok-number.ensures.ok_part) at c.free_number.ensures.free in
-    IsTable-added t c.fill_slot_at.new.slots.items c.in_ok-number.number k c.in_ok-fill_slot_at.ensures.set c.self.invariant free kept.0 (stands_alone t.slots k k.cells kept.2 kept.1)
+    IsWindowTable-added t c.fill_slot_at.new.slots.items c.in_ok-number.number k c.in_ok-fill_slot_at.ensures.set c.self.invariant free kept.0 (stands_alone t.slots k k.cells kept.2 kept.1)
     (placed_pad t.lines t.columns c.args.nlines c.args.ncols blank_grid k c.in_ok-slot.ensures.window)
 
 pub returns-clause-made : goal.returns-clause-made

@@ -1,9 +1,10 @@
 use Rattle.std.proofs.Common.{◌≡◌, ℕ, Some, ◌∙◌, sym}
-use Rattle.cell.specs.Windows.{Window}
-use Rattle.cell.specs.World.{blank_grid}
-use Rattle.cell.specs.Placing.{new_window, extent}
+use Rattle.world.specs.Windows.{Window}
+use Rattle.world.specs.World.{blank_grid}
+use Rattle.world.specs.calls.Making.{extent}
+use Rattle.world.specs.World.{new_window}
 use Rattle.grids.specs.contracts.table.Grids.{the_view}
-use Rattle.grids.proofs.NewWindows.{IsTable-added, windows-added, stands_alone, extent-is, placed_new}
+use Rattle.grids.proofs.NewWindows.{IsWindowTable-added, windows-added, stands_alone, extent-is, placed_new}
 use Rattle.grids.proofs.table.Grids.newwin.Goals as goal
 
 pub invariant_of-self-2 : goal.invariant_of-self-2
@@ -13,9 +14,9 @@ invariant_of-self-2 c =
     let k = c.in_ok-slot.slot in
     let kept = c.in_ok-slot.ensures.kept in
     let free = rw (c.deref.ensures.value, c.in_ok-number.ensures.ok_part) at c.free_number.ensures.free in
-    let lines = extent-is a.nlines t.lines a.begin_y c.in_ok-lines.lines (sym c.extent.ensures ∙ c.in_ok-lines.ensures.ok_part) in
-    let columns = extent-is a.ncols t.columns a.begin_x c.in_ok-columns.columns (sym c.extent-2.ensures ∙ c.in_ok-columns.ensures.ok_part) in
-    IsTable-added t c.fill_slot_at.new.slots.items c.in_ok-number.number k c.in_ok-fill_slot_at.ensures.set c.self.invariant free kept.0 (stands_alone t.slots k k.cells kept.2 kept.1)
+    let lines = extent-is a.nlines t.lines a.begin_y c.in_ok-lines.lines (sym c.extent_inside.ensures ∙ c.in_ok-lines.ensures.ok_part) in
+    let columns = extent-is a.ncols t.columns a.begin_x c.in_ok-columns.columns (sym c.extent_inside-2.ensures ∙ c.in_ok-columns.ensures.ok_part) in
+    IsWindowTable-added t c.fill_slot_at.new.slots.items c.in_ok-number.number k c.in_ok-fill_slot_at.ensures.set c.self.invariant free kept.0 (stands_alone t.slots k k.cells kept.2 kept.1)
     (placed_new t.lines t.columns c.in_ok-lines.lines c.in_ok-columns.columns a.begin_y a.begin_x blank_grid k c.in_ok-slot.ensures.window lines.inside columns.inside)
 
 pub returns-clause-made : goal.returns-clause-made
@@ -23,8 +24,8 @@ returns-clause-made c =
     let a = c.args in
     let t = the_view c.self.inside in
     let n = c.in_ok-number.number in
-    let lines = extent-is a.nlines t.lines a.begin_y c.in_ok-lines.lines (sym c.extent.ensures ∙ c.in_ok-lines.ensures.ok_part) in
-    let columns = extent-is a.ncols t.columns a.begin_x c.in_ok-columns.columns (sym c.extent-2.ensures ∙ c.in_ok-columns.ensures.ok_part) in
+    let lines = extent-is a.nlines t.lines a.begin_y c.in_ok-lines.lines (sym c.extent_inside.ensures ∙ c.in_ok-lines.ensures.ok_part) in
+    let columns = extent-is a.ncols t.columns a.begin_x c.in_ok-columns.columns (sym c.extent_inside-2.ensures ∙ c.in_ok-columns.ensures.ok_part) in
     let made : ℕ → ℕ → Window = λ l m. new_window l m (Some (a.begin_y, a.begin_x)) blank_grid in
     let found : made c.in_ok-lines.lines c.in_ok-columns.columns ≡ made (extent a.nlines t.lines a.begin_y) (extent a.ncols t.columns a.begin_x) = λ i. made (lines.given i) (columns.given i) in
     rw (← c.self.view_is)

@@ -1,8 +1,8 @@
 use Rattle.std.proofs.Common.{◌≡◌, true, false, is_some, ap, sym, ◌∙◌}
-use Rattle.cell.proofs.WindowLaws.{put-nothing}
+use Rattle.world.proofs.WindowLaws.{put-nothing}
 use Rattle.cell.specs.Glyphs.{Glyph}
-use Rattle.cell.specs.Windows.{WindowMap, Drawing, put, cell_at}
-use Rattle.cell.specs.Rows.{filled, overlaid, copied}
+use Rattle.world.specs.Windows.{WindowMap, Drawing, put, cell_at}
+use Rattle.world.specs.Rows.{filled, overlaid, copied}
 use Rattle.grids.specs.Tables.{windows}
 use Rattle.grids.proofs.Copies.{one-shown, one-hidden}
 use Rattle.grids.proofs.table.Grids.overlay_cell.Goals as goal
@@ -11,14 +11,14 @@ pub returns-then-is_visible : goal.returns-then-is_visible
 returns-then-is_visible c =
     let a = c.args in
     let w = windows a.self.now in
-    let is : is_some (overlaid true (cell_at w.window a.src.0 a.sy a.sx)) ≡ true = rw (← c.cell-cell.ensures.cell) (sym c.is_visible.ensures ∙ c.if-is_visible.true) in
+    let is : is_some (overlaid true (cell_at w.window a.from.win.0 a.from.line a.from.column)) ≡ true = rw (← c.cell-cell.ensures.cell) (sym c.is_visible.ensures ∙ c.if-is_visible.true) in
     c.fill.ensures.written
-    ∙ ap (λ (g : Glyph). put w a.dst.0 (filled a.dy a.dx a.dx g)) c.cell-cell.ensures.cell
-    ∙ ap (λ (f : Drawing). put w a.dst.0 f) (one-shown w.window a.src.0 a.sy a.sx a.dy a.dx true is)
+    ∙ ap (λ (g : Glyph). put w a.to.win.0 (filled a.to.line a.to.column a.to.column g)) c.cell-cell.ensures.cell
+    ∙ ap (λ (f : Drawing). put w a.to.win.0 f) (one-shown w.window a.from.win.0 a.from.line a.from.column a.to.line a.to.column true is)
 
 pub returns-else-is_visible : goal.returns-else-is_visible
 returns-else-is_visible c =
     let a = c.args in
     let w = windows a.self.now in
-    let is : is_some (overlaid true (cell_at w.window a.src.0 a.sy a.sx)) ≡ false = rw (← c.cell-cell.ensures.cell) (sym c.is_visible.ensures ∙ c.if-is_visible.false) in
-    ap (λ (ws : WindowMap). record w { window = ws }) (sym (put-nothing w.window a.dst.0 (copied w.window a.src.0 a.sy a.sx a.dy a.dx 1 true) (one-hidden w.window a.src.0 a.sy a.sx a.dy a.dx true is)))
+    let is : is_some (overlaid true (cell_at w.window a.from.win.0 a.from.line a.from.column)) ≡ false = rw (← c.cell-cell.ensures.cell) (sym c.is_visible.ensures ∙ c.if-is_visible.false) in
+    ap (λ (ws : WindowMap). record w { window = ws }) (sym (put-nothing w.window a.to.win.0 (copied w.window a.from.win.0 a.from.line a.from.column a.to.line a.to.column 1 true) (one-hidden w.window a.from.win.0 a.from.line a.from.column a.to.line a.to.column true is)))

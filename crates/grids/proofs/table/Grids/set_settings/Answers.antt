@@ -1,12 +1,12 @@
 use Rattle.std.proofs.Common.{refl}
-use Rattle.cell.specs.Settings.{with_settings}
+use Rattle.world.specs.Settings.{with_settings}
 use Rattle.grids.specs.contracts.table.Grids.{the_view}
-use Rattle.grids.proofs.Changes.{IsTable-changed, windows-changed}
+use Rattle.grids.proofs.Changes.{IsWindowTable-changed, windows-changed}
 use Rattle.grids.proofs.table.Grids.set_settings.Goals as goal
 
 pub invariant_of-self : goal.invariant_of-self
 invariant_of-self c =
-    IsTable-changed (the_view c.self.inside) c.set_slot.new.slots.items c.args.win.0 (with_settings c.args.settings) c.self.invariant c.set_slot.ensures (λ a. refl)
+    IsWindowTable-changed (the_view c.self.inside) c.set_slot.new.slots.items c.args.win.0 (with_settings c.args.settings) c.self.invariant c.set_slot.ensures (λ a. refl)
 
 pub returns-clause-set : goal.returns-clause-set
 returns-clause-set c =

@@ -4,10 +4,10 @@ use Rattle.windows.proofs.table.Windows.waddch.Goals as goal
 
 pub returns-clause-written : goal.returns-clause-written
 returns-clause-written c =
-    rw (← c.self.view_is) (added (windows c.self.inside.grids) c.args.win.0 c.in_ok-state.state c.in_ok-state.ensures.state (windows c.type_character.new.grids) c.args.ch
-    c.type_character.ensures.written)
+    added (windows c.args.self.now.table) c.args.win.0 c.in_ok-state.state c.in_ok-state.ensures.state (windows c.type_character.new.table) c.args.ch
+    c.type_character.ensures.written
 
 pub returns-clause-frame : goal.returns-clause-frame
 returns-clause-frame c =
-    rw (← c.self.view_is) (added_frame (windows c.self.inside.grids) c.args.win.0 c.in_ok-state.state c.in_ok-state.ensures.state c.type_character.result c.args.ch
-    c.type_character.ensures.frame)
+    added_frame (windows c.args.self.now.table) c.args.win.0 c.in_ok-state.state c.in_ok-state.ensures.state c.type_character.result c.args.ch
+    c.type_character.ensures.frame

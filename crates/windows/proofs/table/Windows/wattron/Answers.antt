@@ -5,6 +5,6 @@ use Rattle.windows.proofs.table.Windows.wattron.Goals as goal
 
 pub returns-clause-set : goal.returns-clause-set
 returns-clause-set c =
-    rw (← c.self.view_is) (attributes_added (windows c.self.inside.grids) (windows c.set_settings.new.self) c.args.win.0 c.in_ok-state.state
+    attributes_added (windows c.args.self.now.table) (windows c.set_settings.new.self) c.args.win.0 c.in_ok-state.state
     c.in_ok-state.ensures.state c.union.result c.known.result (bits_of c.args.attrs) c.known.ensures.value c.known.ensures.of_the_six (c.union.ensures tt)
-    c.set_settings.ensures.set)
+    c.set_settings.ensures.set

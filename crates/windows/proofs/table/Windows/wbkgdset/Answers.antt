@@ -6,7 +6,7 @@ use Rattle.windows.proofs.table.Windows.wbkgdset.Goals as goal
 
 pub returns-clause-set : goal.returns-clause-set
 returns-clause-set c =
-    rw (← c.self.view_is) (background_set (windows c.self.inside.grids) (windows c.set_settings.new.self) c.args.win.0 c.in_ok-state.state
+    background_set (windows c.args.self.now.table) (windows c.set_settings.new.self) c.args.win.0 c.in_ok-state.state
     c.in_ok-state.ensures.state c.in_ok-background.background (bits_of c.args.attrs) c.args.ch
     (made-cell c.in_ok-background.background c.args.ch (bits_of c.args.attrs)
-    (sym c.in_ok-background.ensures.ok_part ∙ c.new.ensures)) c.set_settings.ensures.set)
+    (sym c.in_ok-background.ensures.ok_part ∙ c.new.ensures)) c.set_settings.ensures.set

@@ -4,5 +4,5 @@ use Rattle.windows.proofs.table.Windows.wdelch.Goals as goal
 
 pub returns-clause-frame : goal.returns-clause-frame
 returns-clause-frame c =
-    rw (← c.self.view_is) (character_deleted_frame (windows c.self.inside.grids) c.args.win.0 c.in_ok-state.state c.in_ok-state.ensures.state c.lines_from.result
-    c.lines_from.ensures)
+    character_deleted_frame (windows c.args.self.now.table) c.args.win.0 c.in_ok-state.state c.in_ok-state.ensures.state c.lines_from.result
+    c.lines_from.ensures

@@ -4,10 +4,10 @@ use Rattle.windows.proofs.table.Windows.wdeleteln.Goals as goal
 
 pub returns-clause-written : goal.returns-clause-written
 returns-clause-written c =
-    rw (← c.self.view_is) (line_deleted (windows c.self.inside.grids) c.args.win.0 c.in_ok-state.state c.in_ok-state.ensures.state (windows c.move_up.new.grids)
-    c.move_up.ensures.written)
+    line_deleted (windows c.args.self.now.table) c.args.win.0 c.in_ok-state.state c.in_ok-state.ensures.state (windows c.move_up.new.table)
+    c.move_up.ensures.written
 
 pub returns-clause-frame : goal.returns-clause-frame
 returns-clause-frame c =
-    rw (← c.self.view_is) (line_deleted_frame (windows c.self.inside.grids) c.args.win.0 c.in_ok-state.state c.in_ok-state.ensures.state c.lines_from.result
-    c.lines_from.ensures)
+    line_deleted_frame (windows c.args.self.now.table) c.args.win.0 c.in_ok-state.state c.in_ok-state.ensures.state c.lines_from.result
+    c.lines_from.ensures

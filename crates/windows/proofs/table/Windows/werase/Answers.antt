@@ -4,9 +4,9 @@ use Rattle.windows.proofs.table.Windows.werase.Goals as goal
 
 pub returns-clause-written : goal.returns-clause-written
 returns-clause-written c =
-    rw (← c.self.view_is) (erased (windows c.self.inside.grids) c.args.win.0 c.in_ok-state.state c.in_ok-state.ensures.state (windows c.clear_all.new.grids)
-    (windows c.set_cursor.new.grids) c.clear_all.ensures.written c.set_cursor.ensures.set)
+    erased (windows c.args.self.now.table) c.args.win.0 c.in_ok-state.state c.in_ok-state.ensures.state (windows c.clear_all.new.table)
+    (windows c.set_cursor.new.table) c.clear_all.ensures.written c.set_cursor.ensures.set
 
 pub returns-clause-frame : goal.returns-clause-frame
 returns-clause-frame c =
-    rw (← c.self.view_is) (erased_frame (windows c.self.inside.grids) c.args.win.0 c.in_ok-state.state c.in_ok-state.ensures.state c.lines_from.result c.lines_from.ensures)
+    erased_frame (windows c.args.self.now.table) c.args.win.0 c.in_ok-state.state c.in_ok-state.ensures.state c.lines_from.result c.lines_from.ensures

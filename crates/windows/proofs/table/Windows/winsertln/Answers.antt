@@ -4,10 +4,10 @@ use Rattle.windows.proofs.table.Windows.winsertln.Goals as goal
 
 pub returns-clause-written : goal.returns-clause-written
 returns-clause-written c =
-    rw (← c.self.view_is) (line_inserted (windows c.self.inside.grids) c.args.win.0 c.in_ok-state.state c.in_ok-state.ensures.state (windows c.move_down.new.grids)
-    c.move_down.ensures.written)
+    line_inserted (windows c.args.self.now.table) c.args.win.0 c.in_ok-state.state c.in_ok-state.ensures.state (windows c.move_down.new.table)
+    c.move_down.ensures.written
 
 pub returns-clause-frame : goal.returns-clause-frame
 returns-clause-frame c =
-    rw (← c.self.view_is) (line_inserted_frame (windows c.self.inside.grids) c.args.win.0 c.in_ok-state.state c.in_ok-state.ensures.state c.lines_from.result
-    c.lines_from.ensures)
+    line_inserted_frame (windows c.args.self.now.table) c.args.win.0 c.in_ok-state.state c.in_ok-state.ensures.state c.lines_from.result
+    c.lines_from.ensures

@@ -4,5 +4,5 @@ use Rattle.windows.proofs.table.Windows.wsetscrreg.Goals as goal
 
 pub returns-clause-set : goal.returns-clause-set
 returns-clause-set c =
-    rw (← c.self.view_is) (region_set (windows c.self.inside.grids) (windows c.set_settings.new.self) c.args.win.0 c.in_ok-state.state
-    c.in_ok-state.ensures.state c.args.top c.args.bot c.set_settings.ensures.set)
+    region_set (windows c.args.self.now.table) (windows c.set_settings.new.self) c.args.win.0 c.in_ok-state.state
+    c.in_ok-state.ensures.state c.args.top c.args.bot c.set_settings.ensures.set

@@ -1,0 +1,28 @@
+//! The limits of sizes and numbers.
+
+ghost use Rattle.std.specs.Prelude.{◌≡◌};
+ghost use Rattle.cell.specs.Limits.{is_no_size};
+
+/// The most lines, and the most columns, of a screen.
+pub const LARGEST_SCREEN: u16 = 255;
+
+/// The most lines, and the most columns, of a pad, and so of any window.
+pub const LARGEST_PAD: u16 = 1000;
+
+/// The most windows and pads besides the standard screen, whose number is 0.
+pub const MOST_WINDOWS: u16 = 1000;
+
+/// The most panels.
+pub const MOST_PANELS: u16 = 1000;
+
+/// The first and the last character that a cell can hold, the space and the tilde.
+pub const FIRST_CHARACTER: u8 = 32;
+
+pub const LAST_CHARACTER: u8 = 126;
+
+/// Whether a number of lines or columns is 0 or past the most of them.
+pub fn is_no_size(most: u16, n: u16) -> bool
+    ensures { result ≡ is_no_size most n }
+{
+    n == 0 || most < n
+}

@@ -1,0 +1,26 @@
+//! Writing a text of any length.
+
+ghost use Rattle.std.specs.Prelude.{◌≡◌, not, true};
+ghost use Rattle.std.specs.Io.KnownBytes.{Appends};
+ghost use Rattle.streams.specs.Counts.{counted};
+
+use streams::{Sink, send};
+
+/// How many bytes are sent at once.
+const PIECE: usize = 4096;
+
+/// Writes a text, and answers whether all of it went out.
+pub fn put<W: Sink>(sink: &mut W, text: &[u8]) -> bool
+    ensures taken { result ≡ true → Appends (W.seen sink.old).taken (W.seen sink.new).taken text.now }
+    ensures failures { (W.seen sink.new).failures ≡ counted (not result) (W.seen sink.old).failures }
+{
+    let mut rest = text;
+    while !rest.is_empty() {
+        let (piece, after) = rest.split_at(rest.len().min(PIECE));
+        match send(sink, 0, piece) {
+            Ok(_) => rest = after,
+            Err(_) => return false,
+        }
+    }
+    true
+}

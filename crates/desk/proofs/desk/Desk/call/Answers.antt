@@ -1,0 +1,11 @@
+use Rattle.world.specs.World.{VirtualScreen}
+use Rattle.desk.proofs.DeskLemmas.{IsSound-desk, size-written}
+use Rattle.desk.proofs.desk.Desk.call.Goals as goal
+
+pub invariant_of-self-in-Writing : goal.invariant_of-self-in-Writing
+invariant_of-self-in-Writing c =
+    let d = c.self-in-Writing.inside in
+    let virtual : VirtualScreen = record { picture = d.picture; cursor = d.cursor; clear = d.clear } in
+    let e = c.write.ensures in
+    IsSound-desk d.windows.table c.write.new.windows.table virtual c.self-in-Writing.invariant e.sound
+    (size-written d.windows.table c.write.new.windows.table virtual c.in-Writing.writing c.write.result e.written e.unchanged)

@@ -1,0 +1,40 @@
+-- A screen between two calls.
+-- X/Open Curses Issue 7: doupdate shows the virtual screen.
+use Rattle.std.specs.Prelude.{◌≡◌, Some, if◌then◌else◌}
+use Rattle.world.specs.World.{World}
+use Rattle.world.specs.calls.Dispatch.{is_doupdate, world_after}
+use Rattle.world.specs.declared.call.Call.{Call}
+use Rattle.paint.specs.Updates.{PainterState, ShownPicture}
+use Rattle.desk.specs.Desks.{DeskTable, world}
+
+-- its world, and what its painter knows
+pub record State : Type 0 where
+  pub world : World
+  pub painter : PainterState
+
+-- the picture and the cursor that a doupdate shows
+abbrev pub wanted : World → ShownPicture
+wanted world = record { picture = world.virtual.picture; cursor = world.virtual.cursor }
+
+-- The state after a call that was accepted. After a doupdate the painter knows what it showed.
+abbrev pub after : State → Call → State
+after s call = record {
+  world = world_after s.world call;
+  painter = (if is_doupdate call then record s.painter { last = Some (wanted s.world) } else s.painter);
+}
+
+-- ---- a screen over a writer
+
+-- its desk, what its painter knows, and its writer
+pub record ScreenOver (W : Type 0) : Type 0 where
+  pub desk : DeskTable
+  pub painter : PainterState
+  pub writer : W
+
+abbrev pub state_of : {W : Type 0} → ScreenOver W → State
+state_of screen = record { world = world screen.desk; painter = screen.painter }
+
+-- the painter's terminals have the size of the screen
+pub record HasOneSize (desk : DeskTable) (painter : PainterState) : Type 0 where
+  pub lines : painter.lines ≡ desk.windows.lines
+  pub columns : painter.columns ≡ desk.windows.columns

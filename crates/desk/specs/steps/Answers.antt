@@ -1,0 +1,12 @@
+-- A call's end as the log sees it: an answer, or a text that was cut short.
+use Rattle.std.specs.Prelude.{Result, Ok, Err}
+use Rattle.cell.specs.declared.refusal.Refusal.{Refusal}
+use Rattle.streams.specs.declared.sending.WriteFault.{WriteFault}
+use Rattle.world.specs.declared.call.Reply.{Reply}
+use Rattle.desk.specs.declared.screen.Fault.{Fault}
+use Rattle.desk.specs.declared.screen.Fault.TheVariants.{Refused, Write}
+
+abbrev pub joined : Result (Result Reply Refusal) WriteFault → Result Reply Fault
+joined (Ok (Ok reply)) = Ok reply
+joined (Ok (Err refusal)) = Err (Refused refusal)
+joined (Err fault) = Err (Write fault)

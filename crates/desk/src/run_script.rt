@@ -1,0 +1,136 @@
+//! Runs scripts.
+
+ghost use Rattle.std.specs.Prelude.{◌≡◌, ◌≤◌, ◌||◌, length, is_err, is_some, false};
+ghost use Rattle.script.specs.Words.{placeless};
+ghost use Rattle.desk.specs.Ends.{CallEnds};
+ghost use Rattle.desk.specs.steps.Answers.{joined};
+ghost use Rattle.streams.specs.Counts.{counted};
+ghost use Rattle.desk.specs.ScriptEnds.{LineEnds, LogEnds, RunsLines, ScriptEnds, log_failed, read_failed, write_fault};
+
+use crate::screen::{Fault, Screen};
+use arrayvec::ArrayVec;
+use cell::Refusal;
+use script::{
+    Arguments, Bytes, LONGEST_LINE, LineRead, ScriptEnd, ScriptFault, TextFault, log_answer,
+    read_line,
+};
+use streams::{Sink, Source, WriteFault};
+use world::{Call, Reply};
+
+impl<W: Sink> Screen<W> {
+    /// Makes a call, and answers what the log says of it.
+    fn answer(&mut self, call: &Call<'_>) -> Result<Result<Reply, Refusal>, WriteFault>
+        ensures answer { CallEnds W.seen self.old (placeless call.now) (joined result) self.new }
+        ensures failures { (W.seen self.new.writer).failures ≡ counted (is_err result) (W.seen self.old.writer).failures }
+    {
+        match self.call(call) {
+            Ok(reply) => Ok(Ok(reply)),
+            Err(Fault::Refused(refusal)) => Ok(Err(refusal)),
+            Err(Fault::Write(fault)) => Err(fault),
+        }
+    }
+
+    /// Makes the call of a line and logs it.
+    fn run_line<L: Sink>(
+        &mut self,
+        number: u64,
+        line: &[u8],
+        taken: &mut Arguments,
+        log: &mut L,
+    ) -> ScriptEnd
+        requires { length line.now ≤ LONGEST_LINE }
+        ensures line { LineEnds W.seen self.old self.new number line.now (L.seen log.old) (L.seen log.new) result }
+        ensures writer { (W.seen self.new.writer).failures ≡ counted (is_some (write_fault result.fault)) (W.seen self.old.writer).failures }
+        ensures log { (L.seen log.new).failures ≡ counted (log_failed result.fault) (L.seen log.old).failures }
+        ensures reads { read_failed result.fault ≡ false }
+    {
+        let word = match read_line(line, taken) {
+            Ok(Some(word)) => word,
+            Ok(None) => return ended(false, None),
+            Err(fault) => {
+                let line = number;
+                return ended(false, Some(ScriptFault::Text { line, fault }));
+            }
+        };
+        match self.answer(&word.call(taken)) {
+            Ok(answer) => {
+                let refused = answer.is_err();
+                match log_answer(log, number, answer) {
+                    Ok(()) => ended(refused, None),
+                    Err(_) => ended(refused, Some(ScriptFault::Log)),
+                }
+            }
+            Err(fault) => {
+                let line = number;
+                ended(false, Some(ScriptFault::Write { line, fault }))
+            }
+        }
+    }
+
+    /// Makes the calls of the script's lines in order.
+    fn run_lines<R: Source, L: Sink>(&mut self, input: &mut R, log: &mut L) -> ScriptEnd
+        ensures lines { RunsLines W.seen self.old self.new (R.seen input.old) (R.seen input.new) (L.seen log.old) (L.seen log.new) result }
+        ensures reading { (R.seen input.new).failures ≡ counted (read_failed result.fault) (R.seen input.old).failures }
+        ensures writer { (W.seen self.new.writer).failures ≡ counted (is_some (write_fault result.fault)) (W.seen self.old.writer).failures }
+        ensures log { (L.seen log.new).failures ≡ counted (log_failed result.fault) (L.seen log.old).failures }
+    {
+        let mut bytes = Bytes::new();
+        let mut line = ArrayVec::<u8, LONGEST_LINE>::new();
+        let mut taken = Arguments::new();
+        let mut number = 1u64;
+        let mut refused = false;
+        loop {
+            match bytes.next_line(input, &mut line) {
+                LineRead::Line => {
+                    let end = self.run_line(number, line.as_slice(), &mut taken, log);
+                    refused = either(refused, end.refused);
+                    if end.fault.is_some() {
+                        return ended(refused, end.fault);
+                    }
+                    number = number.saturating_add(1);
+                }
+                LineRead::LastLine => {
+                    let end = self.run_line(number, line.as_slice(), &mut taken, log);
+                    return ended(either(refused, end.refused), end.fault);
+                }
+                LineRead::TooLong => {
+                    let fault = TextFault::LineTooLong;
+                    let line = number;
+                    return ended(refused, Some(ScriptFault::Text { line, fault }));
+                }
+                LineRead::FailedRead => return ended(refused, Some(ScriptFault::Reading)),
+            }
+        }
+    }
+
+    /// Makes the calls of the script's lines in order, up to the first fault, and logs each that answers something or
+    /// is refused. It flushes the log once, unless it failed before.
+    pub fn run_script<R: Source, L: Sink>(&mut self, input: &mut R, log: &mut L) -> ScriptEnd
+        ensures script { ScriptEnds W.seen self.old self.new (R.seen input.old) (R.seen input.new) (L.seen log.old) (L.seen log.new) result }
+        ensures reading { (R.seen input.new).failures ≡ counted (read_failed result.fault) (R.seen input.old).failures }
+        ensures writer { (W.seen self.new.writer).failures ≡ counted (is_some (write_fault result.fault)) (W.seen self.old.writer).failures }
+        ensures log { LogEnds result.fault (L.seen log.old) (L.seen log.new) }
+    {
+        prove!(self.has_one_size());
+        let end = self.run_lines(input, log);
+        if end.fault == Some(ScriptFault::Log) {
+            return end;
+        }
+        match log.flush() {
+            Err(_) if end.fault.is_none() => ended(end.refused, Some(ScriptFault::Log)),
+            _ => end,
+        }
+    }
+}
+
+fn ended(refused: bool, fault: Option<ScriptFault>) -> ScriptEnd
+    ensures { result ≡ record { refused = refused; fault = fault } }
+{
+    ScriptEnd { refused, fault }
+}
+
+fn either(a: bool, b: bool) -> bool
+    ensures { result ≡ (a || b) }
+{
+    a || b
+}

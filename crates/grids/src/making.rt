@@ -1,0 +1,277 @@
+//! Making, moving and deleting windows and pads.
+
+ghost use Rattle.std.specs.Prelude.{◌≡◌, ℕ, ◌<◌, ◌≤◌, ◌+◌, ◌^◌, ◌||◌, Some, None, IsSome, IsSomeAnd, MatchOption, ⊤, IfOk, OnOk, OnErr, nat_le, if◌then◌else◌, true};
+ghost use Rattle.std.specs.Result.{result_err};
+ghost use Rattle.cell.specs.Refusals.{RefusedBy, first_of};
+ghost use Rattle.world.specs.Sound.{AreSoundWindows};
+ghost use Rattle.world.specs.calls.Making.{is_inside, extent, new_number, place_from, numbered, newwin_refusal, after_newwin, newpad_refusal, after_newpad, part_tests, derwin_refusal, after_derwin, subpad_refusal, after_subpad, subwin_refusal, after_subwin, mvwin_refusal, after_mvwin, mvderwin_refusal, after_mvderwin, delwin_refusal, after_delwin};
+ghost use Rattle.grids.specs.Tables.{windows};
+
+use crate::slot::{Part, Slot};
+use crate::slots::{fill_slot_at, free_number, free_slot, has_derived, place_slot, shift_slot};
+use crate::table::Grids;
+use cell::{LARGEST_PAD, Refusal, WinId, is_no_size};
+
+impl Grids {
+    /// Makes a window at a place of the screen, with a blank grid of its own. A size of 0 reaches to the edge of the screen.
+    ///
+    /// # Errors
+    /// `OffScreen`, `TooMany`, `NoMemory`.
+    pub fn newwin(
+        &mut self,
+        nlines: u16,
+        ncols: u16,
+        begin_y: u16,
+        begin_x: u16,
+    ) -> Result<WinId, Refusal>
+        ensures refused { RefusedBy (newwin_refusal (windows self.old) nlines ncols begin_y begin_x) result }
+        ensures number { IfOk result (λ win. new_number (windows self.old).window ≡ Some win.0) }
+        ensures made { IfOk result (λ win. windows self.new ≡ after_newwin (windows self.old) win.0 nlines ncols begin_y begin_x) }
+        ensures unchanged { OnErr result (self.new ≡ self.old) }
+        ensures sound { AreSoundWindows (windows self.new) }
+    {
+        prove!(self.is_sound());
+        let lines = extent_inside(nlines, self.lines, begin_y).ok_or(Refusal::OffScreen)?;
+        let columns = extent_inside(ncols, self.columns, begin_x).ok_or(Refusal::OffScreen)?;
+        let number = free_number(&self.slots).ok_or(Refusal::TooMany)?;
+        let slot = Slot::with_grid(self.alloc, lines, columns, Some((begin_y, begin_x)))?;
+        fill_slot_at(&mut self.slots, number, slot)?;
+        prove!(self.is_sound());
+        Ok(WinId(number))
+    }
+
+    /// Makes a pad of 1 to 1000 lines and columns, with a blank grid of its own.
+    ///
+    /// # Errors
+    /// `BadSize`, `TooMany`, `NoMemory`.
+    pub fn newpad(&mut self, nlines: u16, ncols: u16) -> Result<WinId, Refusal>
+        ensures refused { RefusedBy (newpad_refusal (windows self.old) nlines ncols) result }
+        ensures number { IfOk result (λ win. new_number (windows self.old).window ≡ Some win.0) }
+        ensures made { IfOk result (λ win. windows self.new ≡ after_newpad (windows self.old) win.0 nlines ncols) }
+        ensures unchanged { OnErr result (self.new ≡ self.old) }
+        ensures sound { AreSoundWindows (windows self.new) }
+    {
+        prove!(self.is_sound());
+        if is_no_size(LARGEST_PAD, nlines) || is_no_size(LARGEST_PAD, ncols) {
+            return Err(Refusal::BadSize);
+        }
+        let number = free_number(&self.slots).ok_or(Refusal::TooMany)?;
+        let slot = Slot::with_grid(self.alloc, nlines, ncols, None)?;
+        fill_slot_at(&mut self.slots, number, slot)?;
+        prove!(self.is_sound());
+        Ok(WinId(number))
+    }
+
+    /// Makes a window that shows the part of a window from a line and a column of it on. A size of 0 reaches to its edge.
+    ///
+    /// # Errors
+    /// `NoSuchWindow`, `IsPad`, `OutsideParent`, `TooMany`, `NoMemory`.
+    pub fn derwin(
+        &mut self,
+        win: WinId,
+        nlines: u16,
+        ncols: u16,
+        begin_y: u16,
+        begin_x: u16,
+    ) -> Result<WinId, Refusal>
+        ensures refused { RefusedBy (derwin_refusal (windows self.old) win.0 nlines ncols begin_y begin_x) result }
+        ensures number { IfOk result (λ new. new_number (windows self.old).window ≡ Some new.0) }
+        ensures made { IfOk result (λ new. windows self.new ≡ after_derwin (windows self.old) new.0 win.0 nlines ncols begin_y begin_x) }
+        ensures unchanged { OnErr result (self.new ≡ self.old) }
+        ensures sound { AreSoundWindows (windows self.new) }
+    {
+        prove!(self.is_sound());
+        if self.slot(win)?.place().is_none() {
+            return Err(Refusal::IsPad);
+        }
+        self.derive(win, nlines, ncols, begin_y, begin_x)
+    }
+
+    /// Makes a window that shows the part of a window from a place of the screen on. A size of 0 reaches to the window's edge.
+    ///
+    /// # Errors
+    /// `NoSuchWindow`, `IsPad`, `OutsideParent`, `TooMany`, `NoMemory`.
+    pub fn subwin(
+        &mut self,
+        win: WinId,
+        nlines: u16,
+        ncols: u16,
+        begin_y: u16,
+        begin_x: u16,
+    ) -> Result<WinId, Refusal>
+        ensures refused { RefusedBy (subwin_refusal (windows self.old) win.0 nlines ncols begin_y begin_x) result }
+        ensures number { IfOk result (λ new. new_number (windows self.old).window ≡ Some new.0) }
+        ensures made { IfOk result (λ new. windows self.new ≡ after_subwin (windows self.old) new.0 win.0 nlines ncols begin_y begin_x) }
+        ensures unchanged { OnErr result (self.new ≡ self.old) }
+        ensures sound { AreSoundWindows (windows self.new) }
+    {
+        prove!(self.is_sound());
+        let (top, left) = self.slot(win)?.place().ok_or(Refusal::IsPad)?;
+        if begin_y < top || begin_x < left {
+            return Err(Refusal::OutsideParent);
+        }
+        self.derive(win, nlines, ncols, begin_y - top, begin_x - left)
+    }
+
+    /// Makes a pad that shows the part of a pad from a line and a column of it on. A size of 0 reaches to its edge.
+    ///
+    /// # Errors
+    /// `NoSuchWindow`, `NotPad`, `OutsideParent`, `TooMany`, `NoMemory`.
+    pub fn subpad(
+        &mut self,
+        pad: WinId,
+        nlines: u16,
+        ncols: u16,
+        begin_y: u16,
+        begin_x: u16,
+    ) -> Result<WinId, Refusal>
+        ensures refused { RefusedBy (subpad_refusal (windows self.old) pad.0 nlines ncols begin_y begin_x) result }
+        ensures number { IfOk result (λ new. new_number (windows self.old).window ≡ Some new.0) }
+        ensures made { IfOk result (λ new. windows self.new ≡ after_subpad (windows self.old) new.0 pad.0 nlines ncols begin_y begin_x) }
+        ensures unchanged { OnErr result (self.new ≡ self.old) }
+        ensures sound { AreSoundWindows (windows self.new) }
+    {
+        prove!(self.is_sound());
+        if self.slot(pad)?.place().is_some() {
+            return Err(Refusal::NotPad);
+        }
+        self.derive(pad, nlines, ncols, begin_y, begin_x)
+    }
+
+    /// Makes a window or pad that shows the part of another from a line and a column of it on. The other must be there.
+    fn derive(
+        &mut self,
+        win: WinId,
+        nlines: u16,
+        ncols: u16,
+        y: u16,
+        x: u16,
+    ) -> Result<WinId, Refusal>
+        requires { IsSome ((windows self.old).window win.0) }
+        ensures refused { RefusedBy (first_of (part_tests (windows self.old) win.0 nlines ncols y x)) result }
+        ensures number { IfOk result (λ new. new_number (windows self.old).window ≡ Some new.0) }
+        ensures made { IfOk result (λ new. windows self.new ≡ after_derwin (windows self.old) new.0 win.0 nlines ncols y x) }
+        ensures unchanged { OnErr result (self.new ≡ self.old) }
+        ensures sound { AreSoundWindows (windows self.new) }
+    {
+        prove!(self.is_sound());
+        let parent = self.slot(win)?;
+        let lines = extent_inside(nlines, parent.lines(), y).ok_or(Refusal::OutsideParent)?;
+        let columns = extent_inside(ncols, parent.columns(), x).ok_or(Refusal::OutsideParent)?;
+        let place = place_from(parent.place(), y, x);
+        let depth = parent.depth() + 1;
+        let number = free_number(&self.slots).ok_or(Refusal::TooMany)?;
+        let part = Part {
+            parent: win.0,
+            line: y,
+            column: x,
+        };
+        let slot = Slot::with_parent(self.alloc, lines, columns, place, part, depth)?;
+        fill_slot_at(&mut self.slots, number, slot)?;
+        prove!(self.is_sound());
+        Ok(WinId(number))
+    }
+
+    /// Moves a window to a place of the screen. No other window moves, and each shows the cells that it showed.
+    ///
+    /// # Errors
+    /// `NoSuchWindow`, `StandardScreen`, `IsPad`, `OffScreen`.
+    pub fn mvwin(&mut self, win: WinId, y: u16, x: u16) -> Result<(), Refusal>
+        ensures refused { result_err result ≡ mvwin_refusal (windows self.old) win.0 y x }
+        ensures moved { OnOk result (windows self.new ≡ after_mvwin (windows self.old) win.0 y x) }
+        ensures unchanged { OnErr result (self.new ≡ self.old) }
+        ensures sound { AreSoundWindows (windows self.new) }
+    {
+        prove!(self.is_sound());
+        let slot = self.slot(win)?;
+        if win.0 == 0 {
+            return Err(Refusal::StandardScreen);
+        }
+        if slot.place().is_none() {
+            return Err(Refusal::IsPad);
+        }
+        if !(fits(slot.lines(), y, self.lines) && fits(slot.columns(), x, self.columns)) {
+            return Err(Refusal::OffScreen);
+        }
+        place_slot(&mut self.slots, win.0, y, x);
+        prove!(self.is_sound());
+        Ok(())
+    }
+
+    /// Lets a derived window or pad show the part of its parent from another line and column on. It stays where it is on
+    /// the screen, and what derives from it follows.
+    ///
+    /// # Errors
+    /// `NoSuchWindow`, `NotDerived`, `OutsideParent`.
+    pub fn mvderwin(&mut self, win: WinId, par_y: u16, par_x: u16) -> Result<(), Refusal>
+        ensures refused { result_err result ≡ mvderwin_refusal (windows self.old) win.0 par_y par_x }
+        ensures moved { OnOk result (windows self.new ≡ after_mvderwin (windows self.old) win.0 par_y par_x) }
+        ensures unchanged { OnErr result (self.new ≡ self.old) }
+        ensures sound { AreSoundWindows (windows self.new) }
+    {
+        prove!(self.is_sound());
+        let slot = self.slot(win)?;
+        let part = slot.part().ok_or(Refusal::NotDerived)?;
+        let parent = self.slot(WinId(part.parent))?;
+        if !(fits(slot.lines(), par_y, parent.lines())
+            && fits(slot.columns(), par_x, parent.columns()))
+        {
+            return Err(Refusal::OutsideParent);
+        }
+        shift_slot(&mut self.slots, win.0, par_y, par_x);
+        prove!(self.is_sound());
+        Ok(())
+    }
+
+    /// Deletes a window or pad from which none derives. Its number is free, and its memory given back.
+    ///
+    /// # Errors
+    /// `NoSuchWindow`, `StandardScreen`, `HasDerived`.
+    pub fn delwin(&mut self, win: WinId) -> Result<(), Refusal>
+        ensures refused { result_err result ≡ delwin_refusal (windows self.old) win.0 }
+        ensures deleted { OnOk result (windows self.new ≡ after_delwin (windows self.old) win.0) }
+        ensures unchanged { OnErr result (self.new ≡ self.old) }
+        ensures sound { AreSoundWindows (windows self.new) }
+    {
+        prove!(self.is_sound());
+        self.slot(win)?;
+        if win.0 == 0 {
+            return Err(Refusal::StandardScreen);
+        }
+        if has_derived(&self.slots, win.0) {
+            return Err(Refusal::HasDerived);
+        }
+        free_slot(&mut self.slots, win.0);
+        prove!(self.is_sound());
+        Ok(())
+    }
+}
+
+/// How many lines or columns from a place on are meant, where 0 reaches to the edge, if they end before the edge.
+fn extent_inside(n: u16, all: u16, at: u16) -> Option<u16>
+    ensures { result ≡ (if is_inside n all at then Some (extent n all at) else None) }
+{
+    if at >= all {
+        return None;
+    }
+    let size = if n == 0 { all - at } else { n };
+    if size <= all - at { Some(size) } else { None }
+}
+
+/// Whether n lines or columns from a line or column on end before the edge.
+fn fits(n: u16, at: u16, all: u16) -> bool
+    ensures { result ≡ nat_le (at + n) all }
+{
+    n <= all && at <= all - n
+}
+
+/// A place some lines and columns on.
+fn place_from(place: Option<(u16, u16)>, y: u16, x: u16) -> Option<(u16, u16)>
+    requires { MatchOption place ⊤ (λ p. (p.0 + y < 2 ^ 16) × (p.1 + x < 2 ^ 16)) }
+    ensures { result ≡ place_from place y x }
+{
+    match place {
+        Some((top, left)) => Some((top + y, left + x)),
+        None => None,
+    }
+}

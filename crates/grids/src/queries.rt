@@ -1,0 +1,79 @@
+//! What a window or pad is asked.
+
+ghost use Rattle.std.specs.Prelude.{◌≡◌, Some, is_some, IfOk};
+ghost use Rattle.std.specs.Result.{result_err};
+ghost use Rattle.world.specs.Sound.{AreSoundWindows};
+ghost use Rattle.world.specs.calls.Missing.{missing_refusal};
+ghost use Rattle.world.specs.calls.Queries.{cursor_of, getbegyx_refusal, place_on_screen, window_size, getparyx_refusal, offset_in_parent};
+ghost use Rattle.grids.specs.Tables.{windows};
+
+use crate::table::Grids;
+use cell::{Refusal, WinId};
+
+impl Grids {
+    /// Whether there is a window or pad of that number.
+    pub fn has_window(&self, win: WinId) -> bool
+        ensures value { result ≡ is_some ((windows self.now).window win.0) }
+        ensures sound { AreSoundWindows (windows self.now) }
+    {
+        prove!(self.is_sound());
+        self.slot(win).is_ok()
+    }
+
+    /// The line and the column of the cursor.
+    ///
+    /// # Errors
+    /// `NoSuchWindow`.
+    pub fn getyx(&self, win: WinId) -> Result<(u16, u16), Refusal>
+        ensures refused { result_err result ≡ missing_refusal (windows self.now).window win.0 }
+        ensures cursor { IfOk result (λ place. cursor_of (windows self.now).window win.0 ≡ Some place) }
+        ensures sound { AreSoundWindows (windows self.now) }
+    {
+        prove!(self.is_sound());
+        let slot = self.slot(win)?;
+        Ok(slot.settings().cursor)
+    }
+
+    /// The line and the column of the screen where the window begins.
+    ///
+    /// # Errors
+    /// `NoSuchWindow`, `IsPad`.
+    pub fn getbegyx(&self, win: WinId) -> Result<(u16, u16), Refusal>
+        ensures refused { result_err result ≡ getbegyx_refusal (windows self.now).window win.0 }
+        ensures place { IfOk result (λ place. place_on_screen (windows self.now).window win.0 ≡ Some place) }
+        ensures sound { AreSoundWindows (windows self.now) }
+    {
+        prove!(self.is_sound());
+        let slot = self.slot(win)?;
+        slot.place().ok_or(Refusal::IsPad)
+    }
+
+    /// The number of lines, and the number of columns.
+    ///
+    /// # Errors
+    /// `NoSuchWindow`.
+    pub fn getmaxyx(&self, win: WinId) -> Result<(u16, u16), Refusal>
+        ensures refused { result_err result ≡ missing_refusal (windows self.now).window win.0 }
+        ensures size { IfOk result (λ size. window_size (windows self.now).window win.0 ≡ Some size) }
+        ensures sound { AreSoundWindows (windows self.now) }
+    {
+        prove!(self.is_sound());
+        let slot = self.slot(win)?;
+        Ok((slot.lines(), slot.columns()))
+    }
+
+    /// The line and the column of the parent where a derived window begins.
+    ///
+    /// # Errors
+    /// `NoSuchWindow`, `NotDerived`.
+    pub fn getparyx(&self, win: WinId) -> Result<(u16, u16), Refusal>
+        ensures refused { result_err result ≡ getparyx_refusal (windows self.now).window win.0 }
+        ensures offset { IfOk result (λ place. offset_in_parent (windows self.now).window win.0 ≡ Some place) }
+        ensures sound { AreSoundWindows (windows self.now) }
+    {
+        prove!(self.is_sound());
+        let slot = self.slot(win)?;
+        let part = slot.part().ok_or(Refusal::NotDerived)?;
+        Ok((part.line, part.column))
+    }
+}

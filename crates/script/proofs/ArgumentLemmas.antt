@@ -1,0 +1,57 @@
+-- Lemmas on the arguments of a call, one after another.
+use Rattle.std.proofs.Common.{◌≡◌, ℕ, ◌+◌, ◌<◌, true, List, [], ◌∷◌, length, drop, refl, ap, ◌∙◌, arith, Option, Some, None}
+use Rattle.std.proofs.lemmas.List.{drop_all}
+use Rattle.std.specs.List.{slice_split, join_with_byte}
+use Rattle.std.specs.Borrow.{Bor}
+use Rattle.std.proofs.lemmas.List.Splits.{join_with_byte-slice_split, length-slice_split}
+use Rattle.script.specs.Characters.{is_space}
+use Rattle.script.specs.Readings.{arguments, is_text}
+use Rattle.script.specs.Texts.{all_said}
+use Rattle.script.specs.Words.{Arguments, nothing_said}
+use Rattle.script.specs.steps.Reads.{pieces_of}
+use Rattle.script.specs.declared.words.Form.{Form}
+
+pub arguments_none : (forms : List Form) → arguments forms [] ≡ []
+arguments_none [] = refl
+arguments_none (form ∷ forms) = refl
+
+text_of_pieces : (form : Form) (forms : List Form) (pieces : List (List ℕ)) (text : List ℕ) → 0 < length pieces → join_with_byte 32 pieces ≡ text
+    → is_text form ≡ true → arguments (form ∷ forms) pieces ≡ text ∷ arguments forms []
+text_of_pieces form forms [] text some e h = absurd (omega arith)
+text_of_pieces form forms (p ∷ ps) text some e h = rw (h, e, arguments_none forms) refl
+
+-- a text takes all that is left
+pub text_argument : (form : Form) (forms : List Form) (text : List ℕ) → is_text form ≡ true
+    → arguments (form ∷ forms) (slice_split is_space text) ≡ text ∷ arguments forms []
+text_argument form forms text h =
+    text_of_pieces form forms (slice_split is_space text) text (omega (arith, length-slice_split is_space text)) (join_with_byte-slice_split 32 text) h
+
+-- Of the arguments that stand in all pieces the first i are taken, and those of the other forms stand in the rest.
+pub record Counted (forms : List Form) (pieces : List (List ℕ)) (i : ℕ) (rest : List (List ℕ)) : Type 0 where
+  pub count : length (arguments forms pieces) ≡ i + length (arguments (drop i forms) rest)
+
+-- There are too few arguments.
+pub too_few : (forms : List Form) (pieces : List (List ℕ)) (i : ℕ) (rest : Option (Bor (List ℕ))) → Counted forms pieces i (pieces_of rest) → rest ≡ None
+    → i < length forms → length (arguments forms pieces) ≡ length forms → ⊥
+too_few forms pieces i rest counted none h same =
+    let left : length (arguments (drop i forms) (pieces_of rest)) ≡ 0 = ap (λ r. length (arguments (drop i forms) (pieces_of r))) none ∙ ap length (arguments_none (drop i forms)) in
+    omega (arith, counted.count)
+
+-- There are too many arguments.
+pub too_many : (forms : List Form) (pieces : List (List ℕ)) (i : ℕ) (text : Bor (List ℕ)) → Counted forms pieces i (pieces_of (Some text))
+    → i ≡ length forms → length (arguments forms pieces) ≡ length forms → ⊥
+too_many forms pieces i text counted all same =
+    let none : drop i forms ≡ [] = drop_all i forms (omega (arith, all)) in
+    let left : length (arguments (drop i forms) (pieces_of (Some text))) ≡ length (pieces_of (Some text)) = ap (λ fs. length (arguments fs (pieces_of (Some text)))) none in
+    omega (arith, counted.count, length-slice_split is_space text.now)
+
+-- There are as many arguments as forms.
+pub as_many : (forms : List Form) (pieces : List (List ℕ)) (i : ℕ) → Counted forms pieces i [] → i ≡ length forms
+    → length (arguments forms pieces) ≡ length forms
+as_many forms pieces i counted all =
+    let left : length (arguments (drop i forms) []) ≡ 0 = ap length (arguments_none (drop i forms)) in
+    omega (arith, counted.count)
+
+-- What all arguments say is what those say that are left, after those that were taken.
+pub record Taken (forms : List Form) (pieces : List (List ℕ)) (i : ℕ) (rest : List (List ℕ)) (a : Arguments) : Type 0 where
+  pub same : all_said forms (arguments forms pieces) nothing_said ≡ all_said (drop i forms) (arguments (drop i forms) rest) a

@@ -1,0 +1,18 @@
+use Rattle.std.proofs.Common.{◌≡◌, ◌≤◌, length}
+use Rattle.script.specs.declared.limits.TheConstants.{LONGEST_LINE}
+use Rattle.script.specs.steps.Bytes.{work_left}
+use Rattle.script.proofs.ByteLemmas.{Gathered}
+use Rattle.script.proofs.bytes.Bytes.next_line.Given as goal
+
+abbrev pub invariant-loop-byte : goal.invariant-loop-byte
+invariant-loop-byte g l =
+    let seen = g.R.Source.seen in
+    record {
+      gathered : Gathered (seen l.fn.source) (seen l.source) l.fn.self l.self l.line.items;
+      short : length l.line.items ≤ LONGEST_LINE;
+      failures : (seen l.source).failures ≡ (seen l.fn.source).failures;
+      progress : work_left (seen l.source) l.self ≤ work_left (seen l.fn.source) l.fn.self;
+    }
+
+abbrev pub decreases-loop-byte : goal.decreases-loop-byte
+decreases-loop-byte g l = work_left (g.R.Source.seen l.source) l.self

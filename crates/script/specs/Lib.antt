@@ -1,0 +1,6 @@
+pub mod Characters
+pub mod Words
+pub mod Texts
+pub mod Readings
+pub mod Log
+pub mod steps

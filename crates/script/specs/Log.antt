@@ -1,0 +1,28 @@
+-- The lines of a script's log. Their form is Curspan's own; docs/curspan.1 tells it under LOG.
+use Rattle.std.specs.Prelude.{ℕ, List, [], ◌∷◌, ◌++◌, codes, decimal, Option, Some, None, Result, Ok, Err}
+use Rattle.std.specs.Option.{option_map_or}
+use Rattle.script.specs.Characters.{newline, space}
+use Rattle.cell.specs.Attributes.{hex_digits}
+use Rattle.cell.specs.Refusals.{refusal_text}
+use Rattle.cell.specs.declared.refusal.Refusal.{Refusal}
+use Rattle.world.specs.declared.call.Reply.{Reply}
+use Rattle.world.specs.declared.call.Reply.TheVariants.{Nothing, Number, Pair, Cell, Composed, Sent}
+
+-- what the log says of a reply, if it says something: a number, two numbers, or the code of a character and its attributes in two
+-- hexadecimal digits
+abbrev pub reply_text : Reply → Option (List ℕ)
+reply_text Nothing = None
+reply_text (Number win) = Some (decimal win.0)
+reply_text (Pair y x) = Some (decimal y ++ space ∷ decimal x)
+reply_text (Cell shown) = Some (decimal shown.character ++ space ∷ hex_digits shown.attributes)
+reply_text (Composed composed) = None
+reply_text (Sent sent) = None
+
+-- what the log says of an answer, if it says something
+abbrev pub answer_text : Result Reply Refusal → Option (List ℕ)
+answer_text (Ok reply) = reply_text reply
+answer_text (Err refusal) = Some (refusal_text refusal)
+
+-- the line of the log for the call of a script's line, if it answers something or is refused
+abbrev pub log_line : ℕ → Result Reply Refusal → List ℕ
+log_line number answer = option_map_or (λ text. codes "line " ++ decimal number ++ codes ": " ++ text ++ newline ∷ []) (answer_text answer) []

@@ -1,0 +1,99 @@
+-- The calls by their script words, with the forms of their arguments: one line for each call. The words are the names of the calls in X/Open
+-- Curses Issue 7, and of `update_panels` in NetBSD's panel(3), without the `w` that stands in front of some; their arguments come in the order
+-- that they have there. That a window is named by its number, and a character with attributes by both, is Curspan's own (docs/curspan.1).
+use Rattle.std.specs.Prelude.{ℕ, ℤ, pos, Bool, false, List, [], ◌∷◌, codes, slice_index, Option, find}
+use Rattle.std.specs.Str.{bytes_eq}
+use Rattle.std.specs.Borrow.{Bor}
+use Rattle.cell.specs.declared.attr.Attr.{Attr}
+use Rattle.cell.specs.declared.window.WinId.{WinId}
+use Rattle.world.specs.declared.call.Call.{Call}
+use Rattle.world.specs.declared.call.Call.TheVariants.{Making, Writing, Query, Refresh}
+use Rattle.world.specs.declared.call.Making.TheVariants.{Newwin, Subwin, Derwin, Newpad, Subpad, Delwin, Mvwin, Mvderwin}
+use Rattle.world.specs.declared.call.Writing.TheVariants.{Move, Addch, Addstr, Insch, Delch, Insertln, Deleteln, Erase, Clrtoeol, Clrtobot, Scrl, Setscrreg, Scrollok, Attrset, Attron, Attroff, Bkgdset}
+use Rattle.world.specs.declared.call.Query.TheVariants.{Getyx, Getbegyx, Getmaxyx, Getparyx, Inch}
+use Rattle.world.specs.declared.call.Refresh.TheVariants.{UpdatePanels, Doupdate}
+use Rattle.script.specs.declared.words.TheConstants.{WORDS}
+use Rattle.script.specs.declared.words.Form.{Form}
+use Rattle.script.specs.declared.words.Form.TheVariants.{Number, Signed, Attributes, Flag, Character, Text}
+use Rattle.script.specs.declared.words.Word.{Word}
+use Rattle.script.specs.declared.words.Word.TheVariants as word
+
+-- What the arguments of a call say. Its numbers stand in their order.
+pub record Arguments : Type 0 where
+  pub numbers : List ℕ
+  pub signed : ℤ
+  pub attributes : ℕ
+  pub flag : Bool
+  pub text : List ℕ
+
+abbrev pub nothing_said : Arguments
+nothing_said = record { numbers = []; signed = pos 0; attributes = 0; flag = false; text = [] }
+
+abbrev pub number : Arguments → ℕ → ℕ
+number a place = slice_index a.numbers place
+
+abbrev pub window : Arguments → WinId
+window a = record { 0 = number a 0 }
+
+abbrev pub character : Arguments → ℕ
+character a = slice_index a.text 0
+
+abbrev pub attributes : Arguments → Attr
+attributes a = record { 0 = a.attributes }
+
+-- a text, wherever it lies in memory
+abbrev pub somewhere : List ℕ → Bor (List ℕ)
+somewhere text = record { now = text; ref_ptr = (0, 0) }
+
+-- a call, wherever its text lies in memory
+abbrev pub placeless : Call → Call
+placeless (Writing (Addstr win text)) = Writing (Addstr win (somewhere text.now))
+placeless call = call
+
+-- the word of a call in a script, the forms of its arguments, and the call that they make
+pub record Entry : Type 0 where
+  pub word : List ℕ
+  pub forms : List Form
+  pub call : Arguments → Call
+
+abbrev pub entry_of : Word → Entry
+-- making and placing
+entry_of word.Newwin = record { word = codes "newwin"; forms = Number ∷ Number ∷ Number ∷ Number ∷ []; call = λ a. Making (Newwin (number a 0) (number a 1) (number a 2) (number a 3)) }
+entry_of word.Subwin = record { word = codes "subwin"; forms = Number ∷ Number ∷ Number ∷ Number ∷ Number ∷ []; call = λ a. Making (Subwin (window a) (number a 1) (number a 2) (number a 3) (number a 4)) }
+entry_of word.Derwin = record { word = codes "derwin"; forms = Number ∷ Number ∷ Number ∷ Number ∷ Number ∷ []; call = λ a. Making (Derwin (window a) (number a 1) (number a 2) (number a 3) (number a 4)) }
+entry_of word.Newpad = record { word = codes "newpad"; forms = Number ∷ Number ∷ []; call = λ a. Making (Newpad (number a 0) (number a 1)) }
+entry_of word.Subpad = record { word = codes "subpad"; forms = Number ∷ Number ∷ Number ∷ Number ∷ Number ∷ []; call = λ a. Making (Subpad (window a) (number a 1) (number a 2) (number a 3) (number a 4)) }
+entry_of word.Delwin = record { word = codes "delwin"; forms = Number ∷ []; call = λ a. Making (Delwin (window a)) }
+entry_of word.Mvwin = record { word = codes "mvwin"; forms = Number ∷ Number ∷ Number ∷ []; call = λ a. Making (Mvwin (window a) (number a 1) (number a 2)) }
+entry_of word.Mvderwin = record { word = codes "mvderwin"; forms = Number ∷ Number ∷ Number ∷ []; call = λ a. Making (Mvderwin (window a) (number a 1) (number a 2)) }
+-- writing
+entry_of word.Move = record { word = codes "move"; forms = Number ∷ Number ∷ Number ∷ []; call = λ a. Writing (Move (window a) (number a 1) (number a 2)) }
+entry_of word.Addch = record { word = codes "addch"; forms = Number ∷ Character ∷ []; call = λ a. Writing (Addch (window a) (character a)) }
+entry_of word.Addstr = record { word = codes "addstr"; forms = Number ∷ Text ∷ []; call = λ a. Writing (Addstr (window a) (somewhere a.text)) }
+entry_of word.Insch = record { word = codes "insch"; forms = Number ∷ Character ∷ []; call = λ a. Writing (Insch (window a) (character a)) }
+entry_of word.Delch = record { word = codes "delch"; forms = Number ∷ []; call = λ a. Writing (Delch (window a)) }
+entry_of word.Insertln = record { word = codes "insertln"; forms = Number ∷ []; call = λ a. Writing (Insertln (window a)) }
+entry_of word.Deleteln = record { word = codes "deleteln"; forms = Number ∷ []; call = λ a. Writing (Deleteln (window a)) }
+entry_of word.Erase = record { word = codes "erase"; forms = Number ∷ []; call = λ a. Writing (Erase (window a)) }
+entry_of word.Clrtoeol = record { word = codes "clrtoeol"; forms = Number ∷ []; call = λ a. Writing (Clrtoeol (window a)) }
+entry_of word.Clrtobot = record { word = codes "clrtobot"; forms = Number ∷ []; call = λ a. Writing (Clrtobot (window a)) }
+entry_of word.Scrl = record { word = codes "scrl"; forms = Number ∷ Signed ∷ []; call = λ a. Writing (Scrl (window a) a.signed) }
+entry_of word.Setscrreg = record { word = codes "setscrreg"; forms = Number ∷ Number ∷ Number ∷ []; call = λ a. Writing (Setscrreg (window a) (number a 1) (number a 2)) }
+entry_of word.Scrollok = record { word = codes "scrollok"; forms = Number ∷ Flag ∷ []; call = λ a. Writing (Scrollok (window a) a.flag) }
+entry_of word.Attrset = record { word = codes "attrset"; forms = Number ∷ Attributes ∷ []; call = λ a. Writing (Attrset (window a) (attributes a)) }
+entry_of word.Attron = record { word = codes "attron"; forms = Number ∷ Attributes ∷ []; call = λ a. Writing (Attron (window a) (attributes a)) }
+entry_of word.Attroff = record { word = codes "attroff"; forms = Number ∷ Attributes ∷ []; call = λ a. Writing (Attroff (window a) (attributes a)) }
+entry_of word.Bkgdset = record { word = codes "bkgdset"; forms = Number ∷ Attributes ∷ Character ∷ []; call = λ a. Writing (Bkgdset (window a) (attributes a) (character a)) }
+-- queries
+entry_of word.Getyx = record { word = codes "getyx"; forms = Number ∷ []; call = λ a. Query (Getyx (window a)) }
+entry_of word.Getbegyx = record { word = codes "getbegyx"; forms = Number ∷ []; call = λ a. Query (Getbegyx (window a)) }
+entry_of word.Getmaxyx = record { word = codes "getmaxyx"; forms = Number ∷ []; call = λ a. Query (Getmaxyx (window a)) }
+entry_of word.Getparyx = record { word = codes "getparyx"; forms = Number ∷ []; call = λ a. Query (Getparyx (window a)) }
+entry_of word.Inch = record { word = codes "inch"; forms = Number ∷ []; call = λ a. Query (Inch (window a)) }
+-- refresh
+entry_of word.UpdatePanels = record { word = codes "update_panels"; forms = []; call = λ a. Refresh UpdatePanels }
+entry_of word.Doupdate = record { word = codes "doupdate"; forms = []; call = λ a. Refresh Doupdate }
+
+-- the call of a script word
+abbrev pub word_of : List ℕ → Option Word
+word_of text = find (λ w. bytes_eq text (entry_of w).word) WORDS

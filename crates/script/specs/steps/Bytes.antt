@@ -1,0 +1,65 @@
+-- What the functions that read a script tell of its bytes: words of their own contracts.
+use Rattle.std.specs.Prelude.{◌≡◌, ◌+◌, ◌*◌, ℕ, Bool, true, false, List, [], ◌∷◌, ◌++◌, ◌≤◌, length}
+use Rattle.std.specs.List.{list_any}
+use Rattle.std.specs.Io.KnownBytes.{Consumes, IsAtEnd}
+use Rattle.script.specs.Characters.{is_newline, newline}
+use Rattle.script.specs.declared.bytes.TheConstants.{LONGEST_PIECE}
+use Rattle.script.specs.declared.limits.TheConstants.{LONGEST_LINE}
+use Rattle.streams.specs.Sources.{SourceSeen}
+use Rattle.script.specs.declared.bytes.LineRead.{LineRead}
+use Rattle.script.specs.declared.bytes.LineRead.TheVariants.{Line, LastLine, TooLong, FailedRead}
+use Rattle.script.specs.declared.bytes.Next.{Next}
+use Rattle.script.specs.declared.bytes.Next.TheVariants.{Byte, End, Failed}
+
+abbrev pub is_byte : Next → Bool
+is_byte (Byte b) = true
+is_byte _ = false
+
+abbrev pub byte_ended : Next → Bool
+byte_ended End = true
+byte_ended _ = false
+
+abbrev pub byte_failed : Next → Bool
+byte_failed Failed = true
+byte_failed _ = false
+
+-- The source gave some bytes, behind those that were not used. The first of all is the next byte.
+abbrev pub ReadsByte : SourceSeen → SourceSeen → List ℕ → List ℕ → Next → Type 0
+ReadsByte old new unused left (Byte b) = (bytes : List ℕ) × Consumes old.left new.left bytes × (unused ++ bytes ≡ b ∷ left)
+ReadsByte old new unused left End = (unused ≡ []) × (left ≡ []) × Consumes old.left new.left [] × IsAtEnd new.left
+ReadsByte old new unused left Failed = (unused ≡ []) × (left ≡ []) × Consumes old.left new.left []
+
+-- What is left to be read, at most. A byte that is taken makes it less, and so does a read, which gives no more than a piece.
+abbrev pub work_left : SourceSeen → List ℕ → ℕ
+work_left seen unused = (LONGEST_PIECE + 1) * seen.reads_left + length unused
+
+-- No byte of a piece ends a line.
+abbrev pub HasNoNewline : List ℕ → Type 0
+HasNoNewline piece = list_any is_newline piece ≡ false
+
+abbrev pub is_line : LineRead → Bool
+is_line Line = true
+is_line _ = false
+
+abbrev pub line_ended : LineRead → Bool
+line_ended LastLine = true
+line_ended _ = false
+
+abbrev pub line_failed : LineRead → Bool
+line_failed FailedRead = true
+line_failed _ = false
+
+-- All bytes of a script that are known now are a line, its newline and what is not used, or a line that ends so.
+abbrev pub IsLine : LineRead → List ℕ → List ℕ → List ℕ → Type 0
+IsLine Line all line left = (all ≡ line ++ newline ∷ left) × (length line ≤ LONGEST_LINE)
+IsLine TooLong all line left = (byte : ℕ) × (all ≡ line ++ byte ∷ left) × (is_newline byte ≡ false) × (LONGEST_LINE ≤ length line)
+IsLine LastLine all line left = (all ≡ line) × (left ≡ []) × (length line ≤ LONGEST_LINE)
+IsLine FailedRead all line left = (all ≡ line) × (left ≡ []) × (length line ≤ LONGEST_LINE)
+
+-- The source gave some bytes. With those that were not used before they are a line.
+pub record ReadsLine (old new : SourceSeen) (unused left line : List ℕ) (result : LineRead) : Type 0 where
+  pub bytes : List ℕ
+  pub read : Consumes old.left new.left bytes
+  pub is_line : IsLine result (unused ++ bytes) line left
+  pub no_newline : HasNoNewline line
+  pub at_end : line_ended result ≡ true → IsAtEnd new.left

@@ -1,0 +1,140 @@
+//! The arguments of a call, as a script has them.
+
+ghost use Rattle.std.specs.Prelude.{◌≡◌, ◌≤◌, ◌<◌, ◌+◌, length, Some, None, false};
+ghost use Rattle.std.specs.Bool.{OnTrue};
+ghost use Rattle.script.specs.Words.{attributes, character, nothing_said, number};
+ghost use Rattle.script.specs.Texts.{said};
+
+use crate::limits::{GREATEST_NUMBER, LONGEST_LINE, MOST_ARGUMENTS};
+use crate::numbers::{attributes_of, flag_of, number_up_to, signed_number};
+use crate::text::read_text;
+use crate::words::Form;
+use arrayvec::ArrayVec;
+use bitflags::Flags;
+use cell::Attr;
+use std::marker::Model;
+
+/// What the arguments of a call say. Its numbers stand in their order.
+#[derive(Drop)]
+pub struct Arguments {
+    numbers: ArrayVec<u16, MOST_ARGUMENTS>,
+    signed: i16,
+    attributes: u8,
+    flag: bool,
+    text: ArrayVec<u8, LONGEST_LINE>,
+}
+
+impl Model for Arguments {
+    ghost use Rattle.script.specs.Words.{Arguments as Said};
+
+    ghost Value = { Said };
+
+    ghost view = { λ a. record {
+      numbers = a.numbers.items;
+      signed = a.signed;
+      attributes = a.attributes;
+      flag = a.flag;
+      text = a.text.items;
+    } };
+}
+
+impl Arguments {
+    /// No argument yet.
+    pub fn new() -> Arguments
+        ensures { result ≡ nothing_said }
+    {
+        Arguments {
+            numbers: ArrayVec::new(),
+            signed: 0,
+            attributes: 0,
+            flag: false,
+            text: ArrayVec::new(),
+        }
+    }
+
+    /// The number at a place, and 0 where there is none.
+    pub(crate) fn number(&self, place: usize) -> u16
+        ensures { result ≡ number self.now place }
+    {
+        match self.numbers.as_slice().get(place) {
+            Some(number) => *number,
+            None => 0,
+        }
+    }
+
+    pub(crate) fn signed(&self) -> i16
+        ensures { result ≡ self.now.signed }
+    {
+        self.signed
+    }
+
+    pub(crate) fn attributes(&self) -> Attr
+        ensures { result ≡ attributes self.now }
+    {
+        Attr::from_bits_retain(self.attributes)
+    }
+
+    pub(crate) fn flag(&self) -> bool
+        ensures { result ≡ self.now.flag }
+    {
+        self.flag
+    }
+
+    pub(crate) fn text(&self) -> &[u8]
+        ensures { result.now ≡ self.now.text }
+    {
+        self.text.as_slice()
+    }
+
+    /// The first character of the text, and 0 where there is none.
+    pub(crate) fn character(&self) -> u8
+        ensures { result ≡ character self.now }
+    {
+        match self.text.as_slice().get(0) {
+            Some(character) => *character,
+            None => 0,
+        }
+    }
+
+    /// Takes what an argument of a form says, and answers whether it has its form.
+    pub(crate) fn take(&mut self, form: Form, piece: &[u8]) -> bool
+        requires room { length self.old.numbers < MOST_ARGUMENTS }
+        requires short { length piece.now ≤ LONGEST_LINE }
+        ensures said { OnTrue result (said form piece.now self.old ≡ Some self.new) }
+        ensures wrong { result ≡ false → said form piece.now self.old ≡ None }
+        ensures count { length self.new.numbers ≤ length self.old.numbers + 1 }
+    {
+        match form {
+            Form::Number => match number_up_to(GREATEST_NUMBER, piece) {
+                Some(number) => {
+                    self.numbers.push(number);
+                    true
+                }
+                None => false,
+            },
+            Form::Signed => match signed_number(piece) {
+                Some(signed) => {
+                    self.signed = signed;
+                    true
+                }
+                None => false,
+            },
+            Form::Attributes => match attributes_of(piece) {
+                Some(attributes) => {
+                    self.attributes = attributes;
+                    true
+                }
+                None => false,
+            },
+            Form::Flag => match flag_of(piece) {
+                Some(flag) => {
+                    self.flag = flag;
+                    true
+                }
+                None => false,
+            },
+            Form::Character => read_text(piece, &mut self.text) && self.text.len() == 1,
+            Form::Text => read_text(piece, &mut self.text),
+        }
+    }
+}

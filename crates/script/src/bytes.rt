@@ -1,0 +1,127 @@
+//! The bytes of a script, one after another.
+
+ghost use Rattle.std.specs.Prelude.{◌≡◌, ◌≤◌, ◌<◌, ◌∷◌, [], length, true};
+ghost use Rattle.streams.specs.Counts.{counted};
+ghost use Rattle.script.specs.steps.Bytes.{ReadsByte, ReadsLine, byte_ended, byte_failed, is_byte, is_line, line_ended, line_failed, work_left};
+
+use crate::limits::LONGEST_LINE;
+use arrayvec::ArrayVec;
+use std::marker::Model;
+use streams::Source;
+
+/// How many bytes are read at once, at most.
+const LONGEST_PIECE: usize = 512;
+
+/// What comes next of a script.
+#[derive(Clone, Copy, Debug)]
+enum Next {
+    Byte(u8),
+    End,
+    Failed,
+}
+
+/// How a line was read.
+#[derive(Clone, Copy, Debug, PartialEq, Eq)]
+pub enum LineRead {
+    /// A newline ends it.
+    Line,
+    /// The script ends with it.
+    LastLine,
+    /// A byte more came than a line may have, and is the last of it that was read.
+    TooLong,
+    /// A read failed behind it.
+    FailedRead,
+}
+
+/// Bytes that were read and are not used.
+#[derive(Drop)]
+pub struct Bytes {
+    piece: [u8; LONGEST_PIECE],
+    from: usize,
+    to: usize,
+}
+
+impl Model for Bytes {
+    ghost use Rattle.std.specs.Prelude.{ℕ, List, ◌-◌, ◌≤◌, take, drop};
+    ghost use Rattle.script.specs.declared.bytes.TheConstants.{LONGEST_PIECE};
+
+    ghost Value = { List ℕ };
+
+    ghost view = { λ b. take (b.to - b.from) (drop b.from b.piece) };
+
+    ghost invariant = { λ b. (b.from ≤ b.to) × (b.to ≤ LONGEST_PIECE) };
+}
+
+impl Bytes {
+    /// No byte yet.
+    pub fn new() -> Bytes
+        ensures { result ≡ [] }
+    {
+        Bytes {
+            piece: [0; LONGEST_PIECE],
+            from: 0,
+            to: 0,
+        }
+    }
+
+    /// The first byte that is not used.
+    fn take(&mut self) -> u8
+        requires { 0 < length self.old }
+        ensures { self.old ≡ result ∷ self.new }
+    {
+        let byte = self.piece[self.from];
+        self.from += 1;
+        byte
+    }
+
+    /// The next byte. It reads where all bytes are used.
+    fn next<R: Source>(&mut self, source: &mut R) -> Next
+        ensures byte { ReadsByte (R.seen source.old) (R.seen source.new) self.old self.new result }
+        ensures ended { byte_ended result ≡ true → (R.seen source.new).met_end ≡ true }
+        ensures failures { (R.seen source.new).failures ≡ counted (byte_failed result) (R.seen source.old).failures }
+        ensures progress { is_byte result ≡ true → work_left (R.seen source.new) self.new < work_left (R.seen source.old) self.old }
+    {
+        if self.from < self.to {
+            return Next::Byte(self.take());
+        }
+        match source.read(&mut self.piece) {
+            Ok(0) => Next::End,
+            Ok(count) => {
+                self.from = 0;
+                self.to = count;
+                Next::Byte(self.take())
+            }
+            Err(_) => Next::Failed,
+        }
+    }
+
+    /// The bytes up to the next newline, in place of what was in `line`. Of a line that is too long it takes as many as
+    /// a line may have, and one more.
+    pub fn next_line<R: Source>(
+        &mut self,
+        source: &mut R,
+        line: &mut ArrayVec<u8, LONGEST_LINE>,
+    ) -> LineRead
+        ensures line { ReadsLine (R.seen source.old) (R.seen source.new) self.old self.new line.new.items result }
+        ensures ended { line_ended result ≡ true → (R.seen source.new).met_end ≡ true }
+        ensures failures { (R.seen source.new).failures ≡ counted (line_failed result) (R.seen source.old).failures }
+        ensures progress { is_line result ≡ true → work_left (R.seen source.new) self.new < work_left (R.seen source.old) self.old }
+    {
+        line.clear();
+        loop {
+            match self.next(source) {
+                Next::Byte(byte) => {
+                    if byte == b'\n' {
+                        return LineRead::Line;
+                    }
+                    if line.is_full() {
+                        return LineRead::TooLong;
+                    }
+                    line.push(byte);
+                }
+                Next::End => return LineRead::LastLine,
+                Next::Failed => return LineRead::FailedRead,
+            }
+        }
+    }
+}

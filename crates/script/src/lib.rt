@@ -1,0 +1,24 @@
+//! Scripts: a call a line. The reading of a script's text, and the lines of its log.
+#![tactic(auto)]
+
+mod arguments;
+mod bytes;
+mod fault;
+pub mod laws;
+mod limits;
+mod line;
+mod log;
+mod numbers;
+mod text;
+mod words;
+
+pub use arguments::Arguments;
+pub use bytes::{Bytes, LineRead};
+pub use fault::{ScriptEnd, ScriptFault, TextFault};
+pub use limits::LONGEST_LINE;
+pub use line::read_line;
+pub use log::log_answer;
+pub use words::Word;
+
+#[cfg(test)]
+mod tests;

@@ -1,0 +1,141 @@
+//! What a line of a script says.
+
+ghost use Rattle.std.specs.Prelude.{◌≡◌, ◌≤◌, ◌∷◌, ◌≢◌, List, length, position, IfSome, Some, None, false};
+ghost use Rattle.std.specs.List.{list_any, slice_split};
+ghost use Rattle.std.specs.Bool.{OnTrue};
+ghost use Rattle.script.specs.declared.words.Form.{Form};
+ghost use Rattle.script.specs.Words.{nothing_said};
+ghost use Rattle.script.specs.Texts.{all_said};
+ghost use Rattle.script.specs.Characters.{is_bad_byte, is_space};
+ghost use Rattle.script.specs.Readings.{arguments, is_skipped, is_text, said_by_line};
+ghost use Rattle.script.specs.steps.Reads.{Reads, pieces_of};
+
+use crate::arguments::Arguments;
+use crate::fault::TextFault;
+use crate::limits::{LONGEST_LINE, MOST_ARGUMENTS};
+use crate::words::{Form, Word};
+use cell::is_printable;
+
+/// Whether a piece has a byte that no line may have.
+fn has_bad(piece: &[u8]) -> bool
+    ensures { result ≡ list_any is_bad_byte piece.now }
+{
+    piece.iter().any(|b| !is_printable(*b))
+}
+
+/// Whether a line has no byte or is a comment.
+fn is_skipped(line: &[u8]) -> bool
+    ensures { result ≡ is_skipped line.now }
+{
+    match line.split_first() {
+        None => true,
+        Some((first, rest)) => *first == b'#' && !has_bad(rest),
+    }
+}
+
+/// Whether an argument takes all that is left of a line.
+fn is_text(form: Form) -> bool
+    ensures { result ≡ is_text form }
+{
+    matches!(form, Form::Character | Form::Text)
+}
+
+/// Where the first space is.
+fn first_space(text: &[u8]) -> Option<usize>
+    ensures { result ≡ position is_space text.now }
+{
+    text.iter().position(|b| *b == b' ')
+}
+
+/// What stands before the first space, and what stands behind it if there is one.
+fn split_at_space(text: &[u8]) -> (&[u8], Option<&[u8]>)
+    ensures pieces { slice_split is_space text.now ≡ result.0.now ∷ pieces_of result.1 }
+    ensures short { length result.0.now ≤ length text.now }
+    ensures rest { IfSome result.1 (λ rest. length rest.now ≤ length text.now) }
+{
+    match first_space(text) {
+        Some(at) => (&text[..at], Some(&text[at + 1..])),
+        None => (text, None),
+    }
+}
+
+/// An argument of a form as it stands at the front of a text, and what stands behind it.
+fn next_argument(form: Form, text: &[u8]) -> (&[u8], Option<&[u8]>)
+    ensures argument { (forms : List Form) → arguments (form ∷ forms) (slice_split is_space text.now)
+        ≡ result.0.now ∷ arguments forms (pieces_of result.1) }
+    ensures short { length result.0.now ≤ length text.now }
+    ensures rest { IfSome result.1 (λ rest. length rest.now ≤ length text.now) }
+{
+    if is_text(form) {
+        (text, None)
+    } else {
+        split_at_space(text)
+    }
+}
+
+/// Whether as many arguments stand behind a call's word as it has forms.
+#[tactic(auto, using(crate::proofs::ArgumentLemmas::too_few, crate::proofs::ArgumentLemmas::too_many, crate::proofs::ArgumentLemmas::as_many))]
+fn has_count(forms: &[Form], text: Option<&[u8]>) -> bool
+    ensures right { OnTrue result (length (arguments forms.now (pieces_of text.entry)) ≡ length forms.now) }
+    ensures wrong { result ≡ false → length (arguments forms.now (pieces_of text.entry)) ≢ length forms.now }
+{
+    let mut rest = text;
+    for form in forms {
+        match rest {
+            Some(text) => rest = next_argument(*form, text).1,
+            None => return false,
+        }
+    }
+    match rest {
+        Some(_) => false,
+        None => true,
+    }
+}
+
+/// Takes what the arguments say, and answers whether each has its form.
+fn take_all(forms: &[Form], text: Option<&[u8]>, taken: &mut Arguments) -> bool
+    requires forms { length forms.now ≤ MOST_ARGUMENTS }
+    requires count { length (arguments forms.now (pieces_of text)) ≡ length forms.now }
+    requires short { IfSome text (λ t. length t.now ≤ LONGEST_LINE) }
+    requires start { taken.old ≡ nothing_said }
+    ensures right { OnTrue result (all_said forms.now (arguments forms.now (pieces_of text.entry)) nothing_said ≡ Some taken.new) }
+    ensures wrong { result ≡ false → all_said forms.now (arguments forms.now (pieces_of text.entry)) nothing_said ≡ None }
+{
+    let mut rest = text;
+    for form in forms {
+        let Some(text) = rest else { unreachable!() };
+        let (piece, after) = next_argument(*form, text);
+        if !taken.take(*form, piece) {
+            return false;
+        }
+        rest = after;
+    }
+    true
+}
+
+/// What a line says: the word of a call, whose arguments are put in place of what was taken before, or nothing, or its
+/// first fault.
+pub fn read_line(line: &[u8], taken: &mut Arguments) -> Result<Option<Word>, TextFault>
+    requires { length line.now ≤ LONGEST_LINE }
+    ensures { Reads result taken.new (said_by_line line.now) }
+{
+    if is_skipped(line) {
+        return Ok(None);
+    }
+    if has_bad(line) {
+        return Err(TextFault::BadByte);
+    }
+    let (name, text) = split_at_space(line);
+    let Some(word) = Word::of(name) else {
+        return Err(TextFault::UnknownCall);
+    };
+    if !has_count(word.row().forms, text) {
+        return Err(TextFault::WrongNumberOfArguments);
+    }
+    *taken = Arguments::new();
+    if take_all(word.row().forms, text, taken) {
+        Ok(Some(word))
+    } else {
+        Err(TextFault::BadArgument)
+    }
+}

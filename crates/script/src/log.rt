@@ -1,0 +1,72 @@
+//! The lines of the log.
+
+ghost use Rattle.std.specs.Prelude.{◌≡◌, ◌≤◌, ◌+◌, ◌<◌, ◌++◌, length, take, Some, is_err, is_some, IfErr, OnOk};
+ghost use Rattle.std.specs.Option.{option_map_or};
+ghost use Rattle.std.specs.Io.KnownBytes.{Appends};
+ghost use Rattle.script.specs.Log.{log_line, reply_text};
+ghost use Rattle.streams.specs.Counts.{counted};
+
+use arrayvec::ArrayVec;
+use cell::Refusal;
+use streams::{MOST_DECIMAL_DIGITS, Sink, WriteFault, append, append_decimal, send};
+use world::Reply;
+
+/// Room for a line of the log.
+const LINE_ROOM: usize = 128;
+
+/// The most bytes that the log says of a reply: two numbers with a space between them.
+const LONGEST_REPLY: usize = 2 * MOST_DECIMAL_DIGITS + 1;
+
+/// Puts what the log says of a reply at the end, and answers whether it says something.
+fn append_reply(line: &mut ArrayVec<u8, LINE_ROOM>, reply: Reply) -> bool
+    requires { length line.old.items + LONGEST_REPLY ≤ LINE_ROOM }
+    ensures text { Some line.new.items ≡ option_map_or (λ text. Some (line.old.items ++ text)) (reply_text reply) (Some line.old.items) }
+    ensures has { result ≡ is_some (reply_text reply) }
+    ensures short { length line.new.items ≤ length line.old.items + LONGEST_REPLY }
+{
+    match reply {
+        Reply::Nothing | Reply::Composed(_) | Reply::Sent(_) => return false,
+        Reply::Number(win) => append_decimal(line, u64::from(win.0)),
+        Reply::Pair(y, x) => {
+            append_decimal(line, u64::from(y));
+            append(line, b" ");
+            append_decimal(line, u64::from(x));
+        }
+        Reply::Cell(cell) => {
+            append_decimal(line, u64::from(cell.ch()));
+            append(line, b" ");
+            append(line, &cell.attr().hex_digits());
+        }
+    }
+    true
+}
+
+/// Writes the line of a call that answers something or is refused, and nothing for another. An error leaves a front of the
+/// line.
+pub fn log_answer<L: Sink>(
+    log: &mut L,
+    number: u64,
+    answer: Result<Reply, Refusal>,
+) -> Result<(), WriteFault>
+    ensures ok { OnOk result (Appends (L.seen log.old).taken (L.seen log.new).taken (log_line number answer)) }
+    ensures err { IfErr result (λ fault. Appends (L.seen log.old).taken (L.seen log.new).taken (take fault.sent (log_line number answer))) }
+    ensures failures { (L.seen log.new).failures ≡ counted (is_err result) (L.seen log.old).failures }
+{
+    let mut line = ArrayVec::<u8, LINE_ROOM>::new();
+    append(&mut line, b"line ");
+    append_decimal(&mut line, number);
+    append(&mut line, b": ");
+    match answer {
+        Ok(reply) => {
+            if !append_reply(&mut line, reply) {
+                return Ok(());
+            }
+        }
+        Err(refusal) => append(&mut line, refusal.text().as_bytes()),
+    }
+    append(&mut line, b"\n");
+    match send(log, 0, line.as_slice()) {
+        Ok(_) => Ok(()),
+        Err(fault) => Err(fault),
+    }
+}

@@ -1,0 +1,124 @@
+//! Numbers, attributes and flags as a script has them.
+
+ghost use Rattle.std.specs.Prelude.{◌≡◌, ◌≤◌, length, true};
+ghost use Rattle.std.specs.Char.{is_ascii_digit};
+ghost use Rattle.std.specs.List.{list_all};
+ghost use Rattle.std.specs.Str.Parse.{digits_value};
+ghost use Rattle.script.specs.Texts.{attributes_of, flag_of, hex_byte, hex_value, is_plain_number, negative, number_up_to, signed_number};
+
+use crate::limits::{ALL_ATTRIBUTES, GREATEST_SIGNED, MOST_DIGITS};
+
+fn has_digits_alone(piece: &[u8]) -> bool
+    ensures { result ≡ list_all is_ascii_digit piece.now }
+{
+    piece.iter().all(|b| b.is_ascii_digit())
+}
+
+/// Whether a piece is digits, not too many, with no leading zero but `0` itself.
+fn is_plain_number(piece: &[u8]) -> bool
+    ensures { result ≡ is_plain_number piece.now }
+{
+    if piece.is_empty() || piece.len() > MOST_DIGITS {
+        return false;
+    }
+    if !has_digits_alone(piece) {
+        return false;
+    }
+    piece.len() == 1 || piece[0] != b'0'
+}
+
+/// The number that some digits write.
+fn digits_value(digits: &[u8]) -> u32
+    requires short { length digits.now ≤ MOST_DIGITS }
+    requires digits { list_all is_ascii_digit digits.now ≡ true }
+    ensures { result ≡ digits_value 10 digits.now }
+{
+    let mut value = 0;
+    for digit in digits {
+        value = value * 10 + u32::from(*digit - b'0');
+    }
+    value
+}
+
+/// A number from 0 to `most`.
+pub fn number_up_to(most: u16, piece: &[u8]) -> Option<u16>
+    ensures { result ≡ number_up_to most piece.now }
+{
+    if !is_plain_number(piece) {
+        return None;
+    }
+    let value = digits_value(piece);
+    if value > u32::from(most) {
+        return None;
+    }
+    Some(value as u16)
+}
+
+/// The number with a minus in front of it, which 0 has not.
+fn negative(n: u16) -> Option<i16>
+    requires { n ≤ GREATEST_SIGNED }
+    ensures { result ≡ negative n }
+{
+    if n == 0 { None } else { Some(-(n as i16)) }
+}
+
+/// A number up to the greatest signed one, or `-` and such a number other than 0.
+pub fn signed_number(piece: &[u8]) -> Option<i16>
+    ensures { result ≡ signed_number piece.now }
+{
+    let (first, digits) = piece.split_first()?;
+    if *first == b'-' {
+        let n = number_up_to(GREATEST_SIGNED, digits)?;
+        negative(n)
+    } else {
+        let n = number_up_to(GREATEST_SIGNED, piece)?;
+        Some(n as i16)
+    }
+}
+
+/// The value of a digit `0` to `9` or `a` to `f`.
+fn hex_value(b: u8) -> Option<u8>
+    ensures { result ≡ hex_value b }
+{
+    match b {
+        b'0'..=b'9' => Some(b - b'0'),
+        b'a'..=b'f' => Some(b - b'a' + 10),
+        _ => None,
+    }
+}
+
+/// The value of two such digits.
+pub fn hex_byte(high: u8, low: u8) -> Option<u8>
+    ensures { result ≡ hex_byte high low }
+{
+    match (hex_value(high), hex_value(low)) {
+        (Some(high), Some(low)) => Some(16 * high + low),
+        _ => None,
+    }
+}
+
+/// A set of attributes.
+pub fn attributes_of(piece: &[u8]) -> Option<u8>
+    ensures { result ≡ attributes_of piece.now }
+{
+    match piece {
+        [high, low] => match hex_byte(*high, *low) {
+            Some(attributes) if attributes <= ALL_ATTRIBUTES => Some(attributes),
+            _ => None,
+        },
+        _ => None,
+    }
+}
+
+/// `on` or `off`.
+pub fn flag_of(piece: &[u8]) -> Option<bool>
+    ensures { result ≡ flag_of piece.now }
+{
+    if piece == b"on".as_slice() {
+        Some(true)
+    } else if piece == b"off".as_slice() {
+        Some(false)
+    } else {
+        None
+    }
+}

@@ -1,0 +1,266 @@
+use crate::{Arguments, Bytes, LONGEST_LINE, LineRead, log_answer, read_line};
+use arrayvec::ArrayVec;
+use cell::{Attr, Cell, Refusal, WinId};
+use std::alloc::Global;
+use std::io;
+use std::io::{ErrorKind, Read, Write};
+use std::test::Fail;
+use streams::{Counted, CountedReader, Sent, WriteFault};
+use world::{Composed, Reply};
+
+/// A reader that gives at most so many bytes at once, and behind the last one fails or is at its end.
+#[derive(Drop)]
+struct Pieces {
+    left: &'static [u8],
+    most: usize,
+    fails: bool,
+}
+
+impl Read for Pieces {
+    fn read(&mut self, buf: &mut [u8]) -> io::Result<usize> {
+        if self.left.is_empty() && self.fails {
+            return Err(io::Error::from(ErrorKind::Other));
+        }
+        let count = self.most.min(buf.len()).min(self.left.len());
+        let (piece, left) = self.left.split_at(count);
+        buf[..count].copy_from_slice(piece);
+        self.left = left;
+        Ok(count)
+    }
+}
+
+/// A writer that takes so many bytes, and then fails.
+#[derive(Drop)]
+struct Full {
+    taken: Vec<u8>,
+    room: usize,
+}
+
+impl Write for Full {
+    fn write(&mut self, buf: &[u8]) -> io::Result<usize> {
+        let count = buf.len().min(self.room);
+        if count == 0 {
+            return Err(io::Error::from(ErrorKind::Other));
+        }
+        self.room -= count;
+        self.taken.extend_from_slice(&buf[..count])?;
+        Ok(count)
+    }
+
+    fn flush(&mut self) -> io::Result<()> {
+        Ok(())
+    }
+}
+
+/// What a line says: its call, its fault, or nothing.
+fn said(alloc: Global, line: &[u8]) -> Result<String, Fail> {
+    if line.len() > LONGEST_LINE {
+        return Err(Fail::new("the test's line is too long"));
+    }
+    let mut arguments = Arguments::new();
+    let text = match read_line(line, &mut arguments) {
+        Ok(Some(word)) => format!(in alloc; "{:?}", word.call(&arguments))?,
+        Ok(None) => format!(in alloc; "nothing")?,
+        Err(fault) => format!(in alloc; "{fault}")?,
+    };
+    Ok(text)
+}
+
+/// Lines with their calls.
+#[rattlefmt::skip]
+const CALLS: [(&str, &str); 32] = [
+    ("newwin 3 6 0 2", "Making(Newwin { lines: 3, columns: 6, y: 0, x: 2 })"),
+    ("subwin 1 2 3 4 5", "Making(Subwin { win: WinId(1), lines: 2, columns: 3, y: 4, x: 5 })"),
+    ("derwin 1 2 3 4 5", "Making(Derwin { win: WinId(1), lines: 2, columns: 3, y: 4, x: 5 })"),
+    ("newpad 1000 999", "Making(Newpad { lines: 1000, columns: 999 })"),
+    ("subpad 5 4 3 2 1", "Making(Subpad { pad: WinId(5), lines: 4, columns: 3, y: 2, x: 1 })"),
+    ("delwin 65535", "Making(Delwin { win: WinId(65535) })"),
+    ("mvwin 2 3 4", "Making(Mvwin { win: WinId(2), y: 3, x: 4 })"),
+    ("mvderwin 2 3 4", "Making(Mvderwin { win: WinId(2), y: 3, x: 4 })"),
+    ("move 0 7 9", "Writing(Move { win: WinId(0), y: 7, x: 9 })"),
+    ("addch 0 #", "Writing(Addch { win: WinId(0), ch: 35 })"),
+    ("addstr 0 a  b", "Writing(Addstr { win: WinId(0), text: [97, 32, 32, 98] })"),
+    ("insch 0  ", "Writing(Insch { win: WinId(0), ch: 32 })"),
+    ("delch 10", "Writing(Delch { win: WinId(10) })"),
+    ("insertln 10", "Writing(Insertln { win: WinId(10) })"),
+    ("deleteln 10", "Writing(Deleteln { win: WinId(10) })"),
+    ("erase 10", "Writing(Erase { win: WinId(10) })"),
+    ("clrtoeol 10", "Writing(Clrtoeol { win: WinId(10) })"),
+    ("clrtobot 10", "Writing(Clrtobot { win: WinId(10) })"),
+    ("scrl 0 -32767", "Writing(Scrl { win: WinId(0), n: -32767 })"),
+    ("setscrreg 0 1 2", "Writing(Setscrreg { win: WinId(0), top: 1, bottom: 2 })"),
+    ("scrollok 0 on", "Writing(Scrollok { win: WinId(0), flag: true })"),
+    ("attrset 0 00", "Writing(Attrset { win: WinId(0), attrs: Attr(0) })"),
+    ("attron 0 2a", "Writing(Attron { win: WinId(0), attrs: Attr(42) })"),
+    ("attroff 0 3f", "Writing(Attroff { win: WinId(0), attrs: Attr(63) })"),
+    ("bkgdset 0 10 .", "Writing(Bkgdset { win: WinId(0), attrs: Attr(16), ch: 46 })"),
+    ("getyx 1", "Query(Getyx { win: WinId(1) })"),
+    ("getbegyx 1", "Query(Getbegyx { win: WinId(1) })"),
+    ("getmaxyx 1", "Query(Getmaxyx { win: WinId(1) })"),
+    ("getparyx 1", "Query(Getparyx { win: WinId(1) })"),
+    ("inch 1", "Query(Inch { win: WinId(1) })"),
+    ("update_panels", "Refresh(UpdatePanels)"),
+    ("doupdate", "Refresh(Doupdate)"),
+];
+
+/// Lines each with an argument that lacks its form.
+#[rattlefmt::skip]
+const BAD_ARGUMENTS: [&str; 25] = [
+    "getyx 65536", "getyx 00", "getyx 01", "getyx -1", "getyx 123456", "getyx 1a",
+    "scrl 0 32768", "scrl 0 -0", "scrl 0 -32768", "scrl 0 --1", "scrl 0 -",
+    "attron 0 40", "attroff 0 1", "attrset 0 0A", "attrset 0 001",
+    "scrollok 0 yes", "scrollok 0 ON", "addch 0 ab", "insch 0 ", "bkgdset 0 00 \\xAB",
+    "addstr 0 a\\", "addstr 0 \\q", "addstr 0 \\N", "addstr 0 \\x4", "addstr 0 \\x4g",
+];
+
+#[test]
+fn words_make_their_calls(rt: HostRuntime) -> Result<(), Fail> {
+    for (line, call) in CALLS {
+        let answer = said(rt.alloc(), line.as_bytes())?;
+        assert_eq!(rt; answer.as_str(), call, "at {line}");
+    }
+    Ok(())
+}
+
+#[test]
+fn arguments_have_their_forms(rt: HostRuntime) -> Result<(), Fail> {
+    let texts = [
+        ("addstr 0 ", ""),
+        (
+            "addstr 0 a\\nb\\rc\\bd\\\\",
+            "97, 10, 98, 13, 99, 8, 100, 92",
+        ),
+        ("addstr 0 \\x41\\xff", "65, 255"),
+        ("addstr 0 # ~", "35, 32, 126"),
+    ];
+    for (line, text) in texts {
+        let call = format!(in rt.alloc(); "Writing(Addstr {{ win: WinId(0), text: [{text}] }})")?;
+        let answer = said(rt.alloc(), line.as_bytes())?;
+        assert_eq!(rt; answer.as_str(), call.as_str(), "at {line}");
+    }
+    for line in BAD_ARGUMENTS {
+        let answer = said(rt.alloc(), line.as_bytes())?;
+        assert_eq!(rt; answer.as_str(), "bad argument", "at {line}");
+    }
+    Ok(())
+}
+
+#[test]
+fn faults_are_told_in_their_order(rt: HostRuntime) -> Result<(), Fail> {
+    let lines: [(&[u8], &str); 15] = [
+        (b"", "nothing"),
+        (b"#", "nothing"),
+        (b"# a comment ~", "nothing"),
+        (b"# a\ttab", "bad byte"),
+        (b"erase 0\r", "bad byte"),
+        (b"nothing\x7f", "bad byte"),
+        (b"caf\xc3\xa9", "bad byte"),
+        (b" ", "unknown call"),
+        (b" erase 0", "unknown call"),
+        (b"Erase 0", "unknown call"),
+        (b"erase", "wrong number of arguments"),
+        (b"erase 0 ", "wrong number of arguments"),
+        (b"erase  0", "wrong number of arguments"),
+        (b"addstr x", "wrong number of arguments"),
+        (b"doupdate 0", "wrong number of arguments"),
+    ];
+    for (line, answer) in lines {
+        assert_eq!(rt; said(rt.alloc(), line)?.as_str(), answer);
+    }
+    Ok(())
+}
+
+#[test]
+fn lines_come_whole_from_pieces(rt: HostRuntime) {
+    let lines: [(&[u8], LineRead); 4] = [
+        (b"newwin 1 1 0 0", LineRead::Line),
+        (b"", LineRead::Line),
+        (b"last", LineRead::LastLine),
+        (b"", LineRead::LastLine),
+    ];
+    for most in [1, 3, 600] {
+        let left = b"newwin 1 1 0 0\n\nlast".as_slice();
+        let mut source = CountedReader::new(Pieces {
+            left,
+            most,
+            fails: false,
+        });
+        let mut bytes = Bytes::new();
+        let mut line = ArrayVec::new();
+        for (text, read) in lines {
+            assert_eq!(rt; bytes.next_line(&mut source, &mut line), read);
+            assert_eq!(rt; line.as_slice(), text);
+        }
+    }
+}
+
+#[test]
+fn a_failed_read_leaves_what_came_before(rt: HostRuntime) {
+    let left = b"erase 0\nera".as_slice();
+    let mut source = CountedReader::new(Pieces {
+        left,
+        most: 3,
+        fails: true,
+    });
+    let mut bytes = Bytes::new();
+    let mut line = ArrayVec::new();
+    assert_eq!(rt; bytes.next_line(&mut source, &mut line), LineRead::Line);
+    assert_eq!(rt;
+        bytes.next_line(&mut source, &mut line),
+        LineRead::FailedRead
+    );
+    assert_eq!(rt; line.as_slice(), b"era".as_slice());
+}
+
+static LONG: [u8; 513] = [b'x'; 513];
+
+#[test]
+fn a_line_has_at_most_512_bytes(rt: HostRuntime) {
+    for (length, read) in [(512, LineRead::LastLine), (513, LineRead::TooLong)] {
+        let left = &LONG[..length];
+        let mut source = CountedReader::new(Pieces {
+            left,
+            most: 600,
+            fails: false,
+        });
+        let mut line = ArrayVec::new();
+        assert_eq!(rt; Bytes::new().next_line(&mut source, &mut line), read);
+        assert_eq!(rt; line.as_slice(), &LONG[..512]);
+    }
+}
+
+#[test]
+fn answers_have_their_lines(rt: HostRuntime) -> Result<(), Fail> {
+    let cell = Cell::new(b'A', Attr::REVERSE).ok_or("no cell")?;
+    let answers = [
+        (1, Ok(Reply::Number(WinId(2))), "line 1: 2\n"),
+        (12, Ok(Reply::Pair(3, 0)), "line 12: 3 0\n"),
+        (7, Ok(Reply::Cell(cell)), "line 7: 65 10\n"),
+        (9, Err(Refusal::NoSuchWindow), "line 9: E1 NoSuchWindow\n"),
+        (
+            u64::MAX,
+            Err(Refusal::BadCharacter),
+            "line 18446744073709551615: E13 BadCharacter\n",
+        ),
+        (2, Ok(Reply::Nothing), ""),
+        (3, Ok(Reply::Composed(Composed { cells: 4 })), ""),
+        (4, Ok(Reply::Sent(Sent { bytes: 30 })), ""),
+    ];
+    for (number, answer, line) in answers {
+        let mut log = Counted::new(Vec::new(rt.alloc()));
+        assert_eq!(rt; log_answer(&mut log, number, answer), Ok(()));
+        assert_eq!(rt; log.get_ref().as_slice(), line.as_bytes());
+    }
+    Ok(())
+}
+
+#[test]
+fn a_full_log_is_told(rt: HostRuntime) {
+    let mut log = Counted::new(Full {
+        taken: Vec::new(rt.alloc()),
+        room: 6,
+    });
+    let answer = log_answer(&mut log, 4, Err(Refusal::HasDerived));
+    assert_eq!(rt; answer, Err(WriteFault { sent: 6 }));
+    assert_eq!(rt; log.get_ref().taken.as_slice(), b"line 4".as_slice());
+}

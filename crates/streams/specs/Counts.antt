@@ -1,0 +1,14 @@
+-- How the failures of a sink or a source are counted. No standard says it; the answers are those of Rust's std::io.
+use Rattle.std.specs.Prelude.{ℕ, ◌+◌, ◌%◌, ◌^◌, ◌==◌, ◌&&◌, nat_lt, if◌then◌else◌, Bool, List, length}
+
+-- a count that goes on from the greatest u64 to 0
+abbrev pub next_count : ℕ → ℕ
+next_count n = (n + 1) % 2 ^ 64
+
+-- a count of failures after a call that failed or didn't
+abbrev pub counted : Bool → ℕ → ℕ
+counted failed failures = if failed then next_count failures else failures
+
+-- no byte was taken of a piece that isn't empty, or none given to a buffer that has room
+abbrev pub moved_nothing : ℕ → List ℕ → Bool
+moved_nothing moved bytes = moved == 0 && nat_lt 0 (length bytes)

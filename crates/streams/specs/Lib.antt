@@ -1,0 +1,4 @@
+pub mod Counts
+pub mod Sinks
+pub mod Sending
+pub mod Sources

@@ -1,0 +1,25 @@
+-- Sinks. A sink takes a stream of bytes, piece by piece, and counts its failures. This says what has been seen of it so far.
+-- No standard says it; the answers are those of Rust's std::io::Write.
+use Rattle.std.specs.Prelude.{if◌then◌else◌, ◌==◌, ℕ, List, Option, Result, Ok, Err, Bool, true, false}
+use Rattle.streams.specs.Counts.{moved_nothing}
+
+-- The bytes that it took so far, where they are known, how many failures it counted, and whether a flush succeeded
+-- after the last byte.
+pub record Seen : Type 0 where
+  pub taken : Option (List ℕ)
+  pub failures : ℕ
+  pub flushed : Bool
+
+-- An error is a failure of a write, and so is an answer of 0 for a piece that isn't empty.
+abbrev pub write_fails : {E : Type 0} → List ℕ → Result ℕ E → Bool
+write_fails piece (Err e) = true
+write_fails piece (Ok taken) = moved_nothing taken piece
+
+-- A flush doesn't last over a byte that is taken.
+abbrev pub flushed_after_write : {E : Type 0} → Bool → Result ℕ E → Bool
+flushed_after_write flushed (Err e) = flushed
+flushed_after_write flushed (Ok taken) = if taken == 0 then flushed else false
+
+abbrev pub flushed_after_flush : {T E : Type 0} → Bool → Result T E → Bool
+flushed_after_flush flushed (Err e) = flushed
+flushed_after_flush flushed (Ok x) = true

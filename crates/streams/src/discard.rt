@@ -1,0 +1,37 @@
+//! A sink that keeps nothing.
+
+ghost use Rattle.std.specs.Prelude.{◌≡◌, None, false};
+
+use crate::sink::Sink;
+use std::io;
+
+/// Takes every byte, and keeps none. It never fails.
+#[derive(Drop)]
+pub struct Discard {
+    flushed: bool,
+}
+
+impl Discard {
+    /// A sink to which nothing was written.
+    pub fn new() -> Discard
+        ensures { ⟦<Discard as Sink>⟧.seen result ≡ record { taken = None; failures = 0; flushed = false } }
+    {
+        Discard { flushed: false }
+    }
+}
+
+impl Sink for Discard {
+    ghost seen = { λ s. record { taken = None; failures = 0; flushed = s.flushed } };
+
+    fn write(&mut self, piece: &[u8]) -> io::Result<usize> {
+        if !piece.is_empty() {
+            self.flushed = false;
+        }
+        Ok(piece.len())
+    }
+
+    fn flush(&mut self) -> io::Result<()> {
+        self.flushed = true;
+        Ok(())
+    }
+}

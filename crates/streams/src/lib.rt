@@ -1,0 +1,17 @@
+//! Streams of bytes: what takes them and what gives them, with a count of their failures.
+#![tactic(auto)]
+
+mod discard;
+mod gather;
+mod sending;
+mod sink;
+mod source;
+
+pub use discard::Discard;
+pub use gather::{MOST_DECIMAL_DIGITS, append, append_decimal};
+pub use sending::{Sent, WriteFault, send};
+pub use sink::{Counted, Sink};
+pub use source::{CountedReader, Source};
+
+#[cfg(test)]
+mod tests;

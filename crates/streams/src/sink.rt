@@ -1,0 +1,105 @@
+//! What takes the bytes of a text.
+
+ghost use Rattle.std.specs.Prelude.{◌≡◌, false, is_err};
+ghost use Rattle.std.specs.Io.{WritesAtMost};
+ghost use Rattle.std.specs.Io.KnownBytes.{WriteAppends, Keeps};
+ghost use Rattle.streams.specs.Counts.{counted};
+ghost use Rattle.streams.specs.Sinks.{Seen, write_fails, flushed_after_write, flushed_after_flush};
+
+use std::io;
+use std::io::Write;
+
+/// What takes bytes, and counts its failures: an error, an answer of 0 for a piece that isn't empty, or a flush that
+/// fails.
+pub trait Sink {
+    // What it took, how often it failed, and whether it was flushed.
+    ghost seen: { Self → Seen };
+
+    /// Takes a front of the piece, and says how long it is.
+    fn write(&mut self, piece: &[u8]) -> io::Result<usize>
+        ensures bound { WritesAtMost result piece.now }
+        ensures bytes { WriteAppends (seen self.old).taken (seen self.new).taken result piece.now }
+        ensures failures { (seen self.new).failures ≡ counted (write_fails piece.now result) (seen self.old).failures }
+        ensures flushed { (seen self.new).flushed ≡ flushed_after_write (seen self.old).flushed result };
+
+    /// Hands on all that was taken.
+    fn flush(&mut self) -> io::Result<()>
+        ensures bytes { Keeps (seen self.old).taken (seen self.new).taken }
+        ensures failures { (seen self.new).failures ≡ counted (is_err result) (seen self.old).failures }
+        ensures flushed { (seen self.new).flushed ≡ flushed_after_flush (seen self.old).flushed result };
+}
+
+impl<S: Sink> Sink for &mut S {
+    ghost seen = { λ s. S.seen s.now };
+
+    fn write(&mut self, piece: &[u8]) -> io::Result<usize> {
+        Sink::write(&mut **self, piece)
+    }
+
+    fn flush(&mut self) -> io::Result<()> {
+        Sink::flush(&mut **self)
+    }
+}
+
+/// Makes a sink of any writer.
+#[derive(Drop)]
+pub struct Counted<W> {
+    writer: W,
+    failures: u64,
+    flushed: bool,
+}
+
+impl<W: Write> Counted<W> {
+    /// A sink that took what the writer has taken, with no failure yet.
+    pub fn new(writer: W) -> Counted<W>
+        ensures { ⟦<Counted<W> as Sink>⟧.seen result ≡ record { taken = W.contents writer; failures = 0; flushed = false } }
+    {
+        Counted {
+            writer,
+            failures: 0,
+            flushed: false,
+        }
+    }
+
+    /// The writer.
+    pub fn get_ref(&self) -> &W
+        ensures { W.contents result.now ≡ (⟦<Counted<W> as Sink>⟧.seen self.now).taken }
+    {
+        &self.writer
+    }
+
+    /// The writer again.
+    pub fn into_inner(self) -> W
+        ensures { W.contents result ≡ (⟦<Counted<W> as Sink>⟧.seen self).taken }
+    {
+        let Counted {
+            writer,
+            failures: _,
+            flushed: _,
+        } = self;
+        writer
+    }
+}
+
+impl<W: Write> Sink for Counted<W> {
+    ghost seen = { λ s. record { taken = W.contents s.writer; failures = s.failures; flushed = s.flushed } };
+
+    fn write(&mut self, piece: &[u8]) -> io::Result<usize> {
+        let outcome = self.writer.write(piece);
+        match outcome {
+            Ok(0) if piece.is_empty() => {}
+            Ok(0) | Err(_) => self.failures = self.failures.wrapping_add(1),
+            Ok(_) => self.flushed = false,
+        }
+        outcome
+    }
+
+    fn flush(&mut self) -> io::Result<()> {
+        let outcome = self.writer.flush();
+        match outcome {
+            Ok(()) => self.flushed = true,
+            Err(_) => self.failures = self.failures.wrapping_add(1),
+        }
+        outcome
+    }
+}

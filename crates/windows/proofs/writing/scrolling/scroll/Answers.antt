@@ -1,0 +1,20 @@
+use Rattle.std.proofs.Common.{ap, sym, ◌∙◌}
+use Rattle.std.proofs.lemmas.Int.{to_z-of_z}
+use mir.Val.{of_z, to_z}
+use mir.Syntax.{w16}
+use Rattle.grids.specs.Tables.{windows}
+use Rattle.windows.proofs.Scrolls.{still, still_frame, scrolled_lines}
+use Rattle.windows.proofs.writing.scrolling.scroll.Goals as goal
+
+pub returns-then-n-eq0-clause-written : goal.returns-then-n-eq0-clause-written
+returns-then-n-eq0-clause-written c =
+    still (windows c.args.table.now) c.args.win.0 c.args.state.now c.args.n (sym (to_z-of_z w16 c.args.n c.ranges.n) ∙ ap (to_z w16) c.if-n-eq0.true)
+
+pub returns-then-n-eq0-clause-frame : goal.returns-then-n-eq0-clause-frame
+returns-then-n-eq0-clause-frame c =
+    still_frame (windows c.args.table.now) c.args.win.0 c.args.state.now c.args.n (sym (to_z-of_z w16 c.args.n c.ranges.n) ∙ ap (to_z w16) c.if-n-eq0.true)
+
+pub returns-clause-frame : goal.returns-clause-frame
+returns-clause-frame c =
+    scrolled_lines (windows c.args.table.now) c.args.win.0 c.args.state.now c.args.n c.lines_from.result c.requires.state
+    (λ e. c.if-n-eq0.false (ap (of_z w16) e)) c.lines_from.ensures

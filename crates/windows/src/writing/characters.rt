@@ -1,0 +1,245 @@
+//! The calls that write characters.
+
+ghost use Rattle.std.specs.Prelude.{◌≡◌, ◌<◌, IsSome, IfOk, OnOk, OnErr, false, true};
+ghost use Rattle.std.specs.List.{list_any};
+ghost use Rattle.std.specs.Result.{result_err};
+ghost use Rattle.cell.specs.Attributes.{bits_of};
+ghost use Rattle.world.specs.Drawings.{written_glyph};
+ghost use Rattle.world.specs.Sound.{AreSoundWindows};
+ghost use Rattle.world.specs.calls.writing.Characters.{is_bad_character, to_next_line, next_line_frame, character_printed, character_frame, line_ended, line_ended_frame, typed_in, typed_frame, addch_refusal, after_addch, addch_frame, addstr_refusal, after_addstr, addstr_frame, insch_refusal, after_insch, insch_frame, after_delch, delch_frame};
+ghost use Rattle.cell.specs.Glyphs.{is_printable};
+ghost use Rattle.world.specs.calls.Missing.{missing_refusal};
+ghost use Rattle.grids.specs.Tables.{windows};
+ghost use Rattle.windows.specs.steps.State.{IsStateOf, window_in_state};
+
+use crate::drawing::{clear_rest, delete_cell, insert_cell, move_up, set_cell};
+use crate::frame::{joined, lines_from, place};
+use crate::state::{WindowState, set_cursor, state_of};
+use crate::table::Windows;
+use bitflags::Flags;
+use cell::{Cell, Frame, Refusal, WinId, is_printable};
+use grids::Grids;
+use world::Settings;
+
+const BACKSPACE: u8 = 8;
+
+const NEWLINE: u8 = 10;
+
+const CARRIAGE_RETURN: u8 = 13;
+
+impl Windows {
+    /// Writes a character at the cursor, which goes on; a newline (10), carriage return (13) or backspace (8) moves it.
+    ///
+    /// # Errors
+    /// `NoSuchWindow`; `BadCharacter` for another character outside 32 to 126.
+    pub fn waddch(&mut self, win: WinId, ch: u8) -> Result<Option<Frame>, Refusal>
+        ensures refused { result_err result ≡ addch_refusal (windows self.old.table) win.0 ch }
+        ensures written { OnOk result (windows self.new.table ≡ after_addch (windows self.old.table) win.0 ch) }
+        ensures frame { IfOk result (λ frame. frame ≡ addch_frame (windows self.old.table) win.0 ch) }
+        ensures unchanged { OnErr result (self.new ≡ self.old) }
+        ensures sound { AreSoundWindows (windows self.new.table) }
+    {
+        let state = state_of(&self.table, win)?;
+        if is_bad_character(ch) {
+            return Err(Refusal::BadCharacter);
+        }
+        Ok(type_character(&mut self.table, win, &state, ch))
+    }
+
+    /// Writes the characters of a text in order, each as `waddch` does. No character of a refused text is written.
+    ///
+    /// # Errors
+    /// `NoSuchWindow`; `BadCharacter` for a character other than 8, 10, 13 and 32 to 126.
+    pub fn waddstr(&mut self, win: WinId, text: &[u8]) -> Result<Option<Frame>, Refusal>
+        ensures refused { result_err result ≡ addstr_refusal (windows self.old.table) win.0 text.now }
+        ensures written { OnOk result (windows self.new.table ≡ after_addstr (windows self.old.table) win.0 text.now) }
+        ensures frame { IfOk result (λ frame. frame ≡ addstr_frame (windows self.old.table) win.0 text.now) }
+        ensures unchanged { OnErr result (self.new ≡ self.old) }
+        ensures sound { AreSoundWindows (windows self.new.table) }
+    {
+        state_of(&self.table, win)?;
+        if has_bad_character(text) {
+            return Err(Refusal::BadCharacter);
+        }
+        Ok(type_text(&mut self.table, win, text))
+    }
+
+    /// Inserts a character at the cursor, which stays: the cells from there on go one column right, and the last is lost.
+    ///
+    /// # Errors
+    /// `NoSuchWindow`; `BadCharacter` for a character outside 32 to 126.
+    pub fn winsch(&mut self, win: WinId, ch: u8) -> Result<Option<Frame>, Refusal>
+        ensures refused { result_err result ≡ insch_refusal (windows self.old.table) win.0 ch }
+        ensures written { OnOk result (windows self.new.table ≡ after_insch (windows self.old.table) win.0 ch) }
+        ensures frame { IfOk result (λ frame. frame ≡ insch_frame (windows self.old.table) win.0 ch) }
+        ensures unchanged { OnErr result (self.new ≡ self.old) }
+        ensures sound { AreSoundWindows (windows self.new.table) }
+    {
+        let state = state_of(&self.table, win)?;
+        if !is_printable(ch) {
+            return Err(Refusal::BadCharacter);
+        }
+        let (y, x) = state.settings.cursor;
+        let cell = written_cell(&state.settings, ch);
+        insert_cell(&mut self.table, win, &state, y, x, cell);
+        Ok(Some(lines_from(&state, y, y, x)))
+    }
+
+    /// Deletes the character at the cursor, which stays: the cells behind it go one column left, and the last is set to the
+    /// background.
+    ///
+    /// # Errors
+    /// `NoSuchWindow`.
+    pub fn wdelch(&mut self, win: WinId) -> Result<Option<Frame>, Refusal>
+        ensures refused { result_err result ≡ missing_refusal (windows self.old.table).window win.0 }
+        ensures written { OnOk result (windows self.new.table ≡ after_delch (windows self.old.table) win.0) }
+        ensures frame { IfOk result (λ frame. frame ≡ delch_frame (windows self.old.table) win.0) }
+        ensures unchanged { OnErr result (self.new ≡ self.old) }
+        ensures sound { AreSoundWindows (windows self.new.table) }
+    {
+        let state = state_of(&self.table, win)?;
+        let (y, x) = state.settings.cursor;
+        delete_cell(&mut self.table, win, &state, y, x);
+        Ok(Some(lines_from(&state, y, y, x)))
+    }
+}
+
+/// Whether a text has a character that isn't accepted.
+fn has_bad_character(text: &[u8]) -> bool
+    ensures { result ≡ list_any is_bad_character text.now }
+{
+    text.iter().any(|ch| is_bad_character(*ch))
+}
+
+/// Writes an accepted text in a window that is there.
+fn type_text(table: &mut Grids, win: WinId, text: &[u8]) -> Option<Frame>
+    requires there { IsSome ((windows table.old).window win.0) }
+    requires accepted { list_any is_bad_character text.now ≡ false }
+    requires sound { AreSoundWindows (windows table.old) }
+    ensures written { windows table.new ≡ after_addstr (windows table.old) win.0 text.now }
+    ensures frame { result ≡ addstr_frame (windows table.old) win.0 text.now }
+    ensures sound { AreSoundWindows (windows table.new) }
+{
+    let mut frame = None;
+    for &ch in text {
+        frame = joined(frame, type_next(table, win, ch));
+    }
+    frame
+}
+
+/// Writes an accepted character in a window that is there.
+fn type_next(table: &mut Grids, win: WinId, ch: u8) -> Option<Frame>
+    requires there { IsSome ((windows table.old).window win.0) }
+    requires accepted { is_bad_character ch ≡ false }
+    ensures written { windows table.new ≡ after_addch (windows table.old) win.0 ch }
+    ensures frame { result ≡ addch_frame (windows table.old) win.0 ch }
+    ensures there { IsSome ((windows table.new).window win.0) }
+    ensures sound { AreSoundWindows (windows table.new) }
+{
+    match state_of(table, win) {
+        Ok(state) => type_character(table, win, &state, ch),
+        Err(_) => unreachable!(),
+    }
+}
+
+/// Whether a character is neither printed nor moves the cursor.
+fn is_bad_character(ch: u8) -> bool
+    ensures { result ≡ is_bad_character ch }
+{
+    !(is_printable(ch) || ch == BACKSPACE || ch == NEWLINE || ch == CARRIAGE_RETURN)
+}
+
+/// Writes an accepted character. The window must be there, with the state handed over.
+fn type_character(table: &mut Grids, win: WinId, state: &WindowState, ch: u8) -> Option<Frame>
+    requires state { IsStateOf (windows table.old) win.0 state.now }
+    requires accepted { is_bad_character ch ≡ false }
+    ensures written { windows table.new ≡ typed_in (windows table.old) win.0 ch (window_in_state state.now) }
+    ensures frame { result ≡ typed_frame (windows table.old) win.0 ch (window_in_state state.now) }
+    ensures sound { AreSoundWindows (windows table.new) }
+{
+    let (y, x) = state.settings.cursor;
+    if ch == NEWLINE {
+        return end_line(table, win, state);
+    }
+    if ch == CARRIAGE_RETURN {
+        set_cursor(table, win, state, y, 0);
+        return None;
+    }
+    if ch == BACKSPACE {
+        set_cursor(table, win, state, y, x.saturating_sub(1));
+        return None;
+    }
+    print(table, win, state, ch)
+}
+
+/// Prints a character at the cursor.
+fn print(table: &mut Grids, win: WinId, state: &WindowState, ch: u8) -> Option<Frame>
+    requires state { IsStateOf (windows table.old) win.0 state.now }
+    requires printable { is_printable ch ≡ true }
+    ensures written { windows table.new ≡ character_printed (windows table.old) win.0 ch (window_in_state state.now) }
+    ensures frame { result ≡ character_frame (windows table.old) win.0 ch (window_in_state state.now) }
+    ensures sound { AreSoundWindows (windows table.new) }
+{
+    let (y, x) = state.settings.cursor;
+    set_cell(table, win, state, y, x, written_cell(&state.settings, ch));
+    let one = Some(place(y, x));
+    if x + 1 < state.columns {
+        set_cursor(table, win, state, y, x + 1);
+        return one;
+    }
+    joined(one, to_next_line(table, win, state, y, x))
+}
+
+/// Clears the rest of the cursor's line and goes to the next.
+fn end_line(table: &mut Grids, win: WinId, state: &WindowState) -> Option<Frame>
+    requires state { IsStateOf (windows table.old) win.0 state.now }
+    ensures written { windows table.new ≡ line_ended (windows table.old) win.0 (window_in_state state.now) }
+    ensures frame { result ≡ line_ended_frame (windows table.old) win.0 (window_in_state state.now) }
+    ensures sound { AreSoundWindows (windows table.new) }
+{
+    let (y, x) = state.settings.cursor;
+    clear_rest(table, win, state, y, x);
+    let rest = Some(lines_from(state, y, y, x));
+    joined(rest, to_next_line(table, win, state, y, 0))
+}
+
+/// Goes to the next line, or scrolls the region; at the end of a last line the cursor goes to the place (y, x) instead.
+fn to_next_line(table: &mut Grids, win: WinId, state: &WindowState, y: u16, x: u16) -> Option<Frame>
+    requires state { IsStateOf (windows table.old) win.0 state.now }
+    requires line { y < state.now.lines }
+    requires column { x < state.now.columns }
+    ensures written { windows table.new ≡ to_next_line (windows table.old) win.0 (window_in_state state.now) (y, x) }
+    ensures frame { result ≡ next_line_frame (windows table.old).window win.0 (window_in_state state.now) }
+    ensures sound { AreSoundWindows (windows table.new) }
+{
+    let line = state.settings.cursor.0;
+    let (top, bottom) = state.settings.region;
+    if state.settings.scrolling && line == bottom {
+        move_up(table, win, state, top, bottom, 1);
+        set_cursor(table, win, state, line, 0);
+        return Some(lines_from(state, top, bottom, 0));
+    }
+    if line == bottom || line + 1 == state.lines {
+        set_cursor(table, win, state, y, x);
+        return None;
+    }
+    set_cursor(table, win, state, line + 1, 0);
+    None
+}
+
+/// The cell that a printed character becomes.
+fn written_cell(settings: &Settings, ch: u8) -> Cell
+    requires printable { is_printable ch ≡ true }
+    requires attributes { bits_of settings.now.attrs < 64 }
+    ensures { result ≡ written_glyph settings.now ch }
+{
+    let shown = if ch == b' ' {
+        settings.background.ch()
+    } else {
+        ch
+    };
+    match Cell::new(shown, settings.attrs.union(settings.background.attr())) {
+        Some(cell) => cell,
+        None => unreachable!(),
+    }
+}

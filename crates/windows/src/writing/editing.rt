@@ -1,0 +1,108 @@
+//! The calls that clear a window or a part of it, and that insert and delete lines.
+
+ghost use Rattle.std.specs.Prelude.{◌≡◌, IfOk, OnOk, OnErr};
+ghost use Rattle.std.specs.Result.{result_err};
+ghost use Rattle.world.specs.calls.writing.Editing.{after_erase, erase_frame, after_clrtoeol, clrtoeol_frame, after_clrtobot, clrtobot_frame, after_insertln, insertln_frame, after_deleteln, deleteln_frame};
+ghost use Rattle.world.specs.calls.Missing.{missing_refusal};
+ghost use Rattle.world.specs.Sound.{AreSoundWindows};
+ghost use Rattle.grids.specs.Tables.{windows};
+
+use crate::drawing::{clear_all, clear_below, clear_rest, move_down, move_up};
+use crate::frame::lines_from;
+use crate::state::{set_cursor, state_of};
+use crate::table::Windows;
+use cell::{Frame, Refusal, WinId};
+
+impl Windows {
+    /// Sets all cells of a window to its background, and its cursor to line 0 and column 0.
+    ///
+    /// # Errors
+    /// `NoSuchWindow`.
+    pub fn werase(&mut self, win: WinId) -> Result<Option<Frame>, Refusal>
+        ensures refused { result_err result ≡ missing_refusal (windows self.old.table).window win.0 }
+        ensures written { OnOk result (windows self.new.table ≡ after_erase (windows self.old.table) win.0) }
+        ensures frame { IfOk result (λ frame. frame ≡ erase_frame (windows self.old.table) win.0) }
+        ensures unchanged { OnErr result (self.new ≡ self.old) }
+        ensures sound { AreSoundWindows (windows self.new.table) }
+    {
+        let state = state_of(&self.table, win)?;
+        clear_all(&mut self.table, win, &state);
+        set_cursor(&mut self.table, win, &state, 0, 0);
+        Ok(Some(lines_from(&state, 0, state.lines - 1, 0)))
+    }
+
+    /// Sets the cells from the cursor to the end of its line to the background.
+    ///
+    /// # Errors
+    /// `NoSuchWindow`.
+    pub fn wclrtoeol(&mut self, win: WinId) -> Result<Option<Frame>, Refusal>
+        ensures refused { result_err result ≡ missing_refusal (windows self.old.table).window win.0 }
+        ensures written { OnOk result (windows self.new.table ≡ after_clrtoeol (windows self.old.table) win.0) }
+        ensures frame { IfOk result (λ frame. frame ≡ clrtoeol_frame (windows self.old.table) win.0) }
+        ensures unchanged { OnErr result (self.new ≡ self.old) }
+        ensures sound { AreSoundWindows (windows self.new.table) }
+    {
+        let state = state_of(&self.table, win)?;
+        let (y, x) = state.settings.cursor;
+        clear_rest(&mut self.table, win, &state, y, x);
+        Ok(Some(lines_from(&state, y, y, x)))
+    }
+
+    /// Sets the cells from the cursor to the end of its line, and all lines below, to the background.
+    ///
+    /// # Errors
+    /// `NoSuchWindow`.
+    pub fn wclrtobot(&mut self, win: WinId) -> Result<Option<Frame>, Refusal>
+        ensures refused { result_err result ≡ missing_refusal (windows self.old.table).window win.0 }
+        ensures written { OnOk result (windows self.new.table ≡ after_clrtobot (windows self.old.table) win.0) }
+        ensures frame { IfOk result (λ frame. frame ≡ clrtobot_frame (windows self.old.table) win.0) }
+        ensures unchanged { OnErr result (self.new ≡ self.old) }
+        ensures sound { AreSoundWindows (windows self.new.table) }
+    {
+        let state = state_of(&self.table, win)?;
+        let (y, x) = state.settings.cursor;
+        clear_below(&mut self.table, win, &state, y, x);
+        if y + 1 == state.lines {
+            Ok(Some(lines_from(&state, y, y, x)))
+        } else {
+            Ok(Some(lines_from(&state, y, state.lines - 1, 0)))
+        }
+    }
+
+    /// Moves the cursor's line and those below down by one, to the bottom of the window, and sets the cursor's line to the
+    /// background.
+    ///
+    /// # Errors
+    /// `NoSuchWindow`.
+    pub fn winsertln(&mut self, win: WinId) -> Result<Option<Frame>, Refusal>
+        ensures refused { result_err result ≡ missing_refusal (windows self.old.table).window win.0 }
+        ensures written { OnOk result (windows self.new.table ≡ after_insertln (windows self.old.table) win.0) }
+        ensures frame { IfOk result (λ frame. frame ≡ insertln_frame (windows self.old.table) win.0) }
+        ensures unchanged { OnErr result (self.new ≡ self.old) }
+        ensures sound { AreSoundWindows (windows self.new.table) }
+    {
+        let state = state_of(&self.table, win)?;
+        let top = state.settings.cursor.0;
+        let bottom = state.lines - 1;
+        move_down(&mut self.table, win, &state, top, bottom, 1);
+        Ok(Some(lines_from(&state, top, bottom, 0)))
+    }
+
+    /// Moves the lines below the cursor's up by one, and sets the window's last line to the background.
+    ///
+    /// # Errors
+    /// `NoSuchWindow`.
+    pub fn wdeleteln(&mut self, win: WinId) -> Result<Option<Frame>, Refusal>
+        ensures refused { result_err result ≡ missing_refusal (windows self.old.table).window win.0 }
+        ensures written { OnOk result (windows self.new.table ≡ after_deleteln (windows self.old.table) win.0) }
+        ensures frame { IfOk result (λ frame. frame ≡ deleteln_frame (windows self.old.table) win.0) }
+        ensures unchanged { OnErr result (self.new ≡ self.old) }
+        ensures sound { AreSoundWindows (windows self.new.table) }
+    {
+        let state = state_of(&self.table, win)?;
+        let top = state.settings.cursor.0;
+        let bottom = state.lines - 1;
+        move_up(&mut self.table, win, &state, top, bottom, 1);
+        Ok(Some(lines_from(&state, top, bottom, 0)))
+    }
+}

@@ -1,0 +1,102 @@
+//! The scroll region of a window.
+
+ghost use Rattle.std.specs.Prelude.{◌≡◌, IfOk, OnOk, OnErr};
+ghost use Rattle.std.specs.Result.{result_err};
+ghost use Rattle.world.specs.Frames.{frame_of};
+ghost use Rattle.world.specs.calls.writing.Editing.{scrl_refusal, scrl_drawing, after_scrl, scrl_frame};
+ghost use Rattle.world.specs.calls.writing.Options.{setscrreg_refusal, after_setscrreg, after_scrollok};
+ghost use Rattle.world.specs.calls.Missing.{missing_refusal};
+ghost use Rattle.world.specs.Sound.{AreSoundWindows};
+ghost use Rattle.world.specs.Windows.{put};
+ghost use Rattle.grids.specs.Tables.{windows};
+ghost use Rattle.windows.specs.steps.State.{IsStateOf, window_in_state};
+
+use crate::drawing::{move_down, move_up};
+use crate::frame::lines_from;
+use crate::state::{WindowState, state_of};
+use crate::table::Windows;
+use cell::{Frame, Refusal, WinId};
+use grids::Grids;
+use world::Settings;
+
+impl Windows {
+    /// Moves the lines of the scroll region up by `n`, or down by `-n` for a negative one. Lines that come from outside the
+    /// region are set to the background, and the cursor stays.
+    ///
+    /// # Errors
+    /// `NoSuchWindow`; `ScrollingOff` for a window that doesn't scroll.
+    pub fn wscrl(&mut self, win: WinId, n: i16) -> Result<Option<Frame>, Refusal>
+        ensures refused { result_err result ≡ scrl_refusal (windows self.old.table) win.0 }
+        ensures written { OnOk result (windows self.new.table ≡ after_scrl (windows self.old.table) win.0 n) }
+        ensures frame { IfOk result (λ frame. frame ≡ scrl_frame (windows self.old.table) win.0 n) }
+        ensures unchanged { OnErr result (self.new ≡ self.old) }
+        ensures sound { AreSoundWindows (windows self.new.table) }
+    {
+        let state = state_of(&self.table, win)?;
+        if !state.settings.scrolling {
+            return Err(Refusal::ScrollingOff);
+        }
+        Ok(scroll(&mut self.table, win, &state, n))
+    }
+
+    /// Sets the scroll region to the lines from `top` to `bot`, both inclusive.
+    ///
+    /// # Errors
+    /// `NoSuchWindow`; `BadRegion` if `top` is after `bot` or `bot` outside the window.
+    pub fn wsetscrreg(&mut self, win: WinId, top: u16, bot: u16) -> Result<(), Refusal>
+        ensures refused { result_err result ≡ setscrreg_refusal (windows self.old.table) win.0 top bot }
+        ensures set { OnOk result (windows self.new.table ≡ after_setscrreg (windows self.old.table) win.0 top bot) }
+        ensures unchanged { OnErr result (self.new ≡ self.old) }
+        ensures sound { AreSoundWindows (windows self.new.table) }
+    {
+        let state = state_of(&self.table, win)?;
+        if bot < top || state.lines <= bot {
+            return Err(Refusal::BadRegion);
+        }
+        let settings = Settings {
+            region: (top, bot),
+            ..state.settings
+        };
+        self.table.set_settings(win, settings);
+        Ok(())
+    }
+
+    /// Sets whether the window scrolls where the cursor leaves the last line of its region.
+    ///
+    /// # Errors
+    /// `NoSuchWindow`.
+    pub fn scrollok(&mut self, win: WinId, flag: bool) -> Result<(), Refusal>
+        ensures refused { result_err result ≡ missing_refusal (windows self.old.table).window win.0 }
+        ensures set { OnOk result (windows self.new.table ≡ after_scrollok (windows self.old.table) win.0 flag) }
+        ensures unchanged { OnErr result (self.new ≡ self.old) }
+        ensures sound { AreSoundWindows (windows self.new.table) }
+    {
+        let state = state_of(&self.table, win)?;
+        let settings = Settings {
+            scrolling: flag,
+            ..state.settings
+        };
+        self.table.set_settings(win, settings);
+        Ok(())
+    }
+}
+
+/// Moves the lines of the scroll region up by `n`, or down by `-n`. The window must be there, with the state handed over.
+fn scroll(table: &mut Grids, win: WinId, state: &WindowState, n: i16) -> Option<Frame>
+    requires state { IsStateOf (windows table.old) win.0 state.now }
+    ensures written { windows table.new ≡ put (windows table.old) win.0 (scrl_drawing (windows table.old).window win.0 n (window_in_state state.now)) }
+    ensures frame { result ≡ frame_of (window_in_state state.now) (scrl_drawing (windows table.old).window win.0 n (window_in_state state.now)) }
+    ensures sound { AreSoundWindows (windows table.new) }
+{
+    if n == 0 {
+        return None;
+    }
+    let (top, bottom) = state.settings.region;
+    let count = n.unsigned_abs();
+    if n > 0 {
+        move_up(table, win, state, top, bottom, count);
+    } else {
+        move_down(table, win, state, top, bottom, count);
+    }
+    Some(lines_from(state, top, bottom, 0))
+}

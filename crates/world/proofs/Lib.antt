@@ -1,0 +1,5 @@
+pub mod WindowLaws
+pub mod PutLaws
+pub mod FrameLaws
+pub mod RefreshLaws
+pub mod Sizes

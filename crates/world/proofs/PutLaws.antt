@@ -1,0 +1,94 @@
+-- Writes through one window: what it shows after one, and when several are one.
+use Rattle.std.proofs.Common.{◌≡◌, ℕ, ◌+◌, ◌-◌, ◌<◌, Bool, true, false, if◌then◌else◌, ◌==◌, ◌&&◌, nat_lt, Option, Some, None, is_some, unwrap_or, ap, arith, refl, sym, ◌∙◌, inl, inr}
+use Rattle.std.specs.Option.{option_map}
+use mathlib.Core.Path.{fun_ext}
+use Rattle.std.proofs.lemmas.Bool.{cases_eq, ne_eqb}
+use Rattle.std.proofs.lemmas.Bool.Decides.{nat_tests}
+use Rattle.cell.specs.Glyphs.{Glyph}
+use Rattle.world.specs.Windows.{Window, WindowMap, GridPlace, Drawing, own, cell_at, within, moved, laid_over, touched_below, touched_by, drawn, put_from, put_windows, onward, over}
+use Rattle.world.proofs.WindowLaws.{own-onward, put-put, put-takes, cell_at-kept}
+
+-- ---- only what is in the window is drawn
+
+if-same : (t : Bool) (o p : Option Glyph) → (t ≡ true → o ≡ p) → (if t then o else None) ≡ (if t then p else None)
+if-same true o p h = h refl
+if-same false o p h = refl
+
+both-true : (s t : Bool) → (s && t) ≡ true → (s ≡ true) × (t ≡ true)
+both-true true true h = (refl, refl)
+both-true true false h = cc
+both-true false t h = cc
+
+-- two drawings that agree in the window
+abbrev pub AreSame : Window → Drawing → Drawing → Type 0
+AreSame a f g = (y x : ℕ) → y < a.lines → x < a.columns → f y x ≡ g y x
+
+within-same : (a : Window) (f g : Drawing) → AreSame a f g → within a f ≡ within a g
+within-same a f g same = fun_ext (λ y. fun_ext (λ x. if-same (nat_lt y a.lines && nat_lt x a.columns) (f y x) (g y x)
+    (λ h. let both = both-true (nat_lt y a.lines) (nat_lt x a.columns) h in same y x (grind (arith, nat_tests)) (grind (arith, nat_tests)))))
+
+-- ---- equal drawings are one write
+
+drawn_as : (w : ℕ) (a : Window) (p : GridPlace) (u : ℕ) → Drawing → Window
+drawn_as w a p u d = record a {
+  backing = (if u == p.grid then laid_over (moved p d) a.backing else a.backing);
+  touched = (if u == w then (λ y. touched_below a.columns (λ x. is_some (d y x)) (a.touched y)) else a.touched);
+}
+
+drawn-itself : (w : ℕ) (a : Window) (p : GridPlace) (f g : Drawing) (u : ℕ) → within a f ≡ within a g → drawn w a p f u a ≡ drawn w a p g u a
+unfolding drawn_as
+drawn-itself w a p f g u e = ap (drawn_as w a p u) e
+
+drawn-other : (t q : Bool) (a b : Window) (p : GridPlace) (f g : Drawing) → q ≡ false → within a f ≡ within a g
+    → record b { backing = (if t then laid_over (moved p (within a f)) b.backing else b.backing); touched = (if q then touched_by f b else b.touched) }
+    ≡ record b { backing = (if t then laid_over (moved p (within a g)) b.backing else b.backing); touched = (if q then touched_by g b else b.touched) }
+drawn-other t true a b p f g apart e = cc
+drawn-other t false a b p f g apart e = ap (λ (d : Drawing). record b { backing = (if t then laid_over (moved p d) b.backing else b.backing) }) e
+
+option-other : (w : ℕ) (a : Window) (p : GridPlace) (f g : Drawing) (u : ℕ) (o : Option Window) → (u == w) ≡ false → within a f ≡ within a g
+    → option_map (drawn w a p f u) o ≡ option_map (drawn w a p g u) o
+option-other w a p f g u None apart e = refl
+option-other w a p f g u (Some b) apart e = ap Some (drawn-other (u == p.grid) (u == w) a b p f g apart e)
+
+same-at : (window : WindowMap) (w : ℕ) (a : Window) (p : GridPlace) (f g : Drawing) → window w ≡ Some a → within a f ≡ within a g
+    → (u : ℕ) → option_map (drawn w a p f u) (window u) ≡ option_map (drawn w a p g u) (window u)
+same-at window w a p f g there e u = elim (cases_eq u w) [
+  | inl same ↦
+      let here : window u ≡ Some a = ap window same ∙ there in
+      ap (option_map (drawn w a p f u)) here ∙ ap Some (drawn-itself w a p f g u e) ∙ sym (ap (option_map (drawn w a p g u)) here)
+  | inr other ↦ option-other w a p f g u (window u) (ne_eqb u w other) e
+]
+
+same-from : (window : WindowMap) (w : ℕ) (a : Window) (s : Option GridPlace) (f g : Drawing) → window w ≡ Some a → within a f ≡ within a g
+    → put_from window w (Some a) s f ≡ put_from window w (Some a) s g
+same-from window w a None f g there e = refl
+same-from window w a (Some p) f g there e = fun_ext (same-at window w a p f g there e)
+
+pub put-same : (window : WindowMap) (w : ℕ) (a : Window) (f g : Drawing) → window w ≡ Some a → AreSame a f g → put_windows window w f ≡ put_windows window w g
+put-same window w a f g there same =
+    ap (λ o. put_from window w o (own window w 0 0) f) there
+    ∙ same-from window w a (own window w 0 0) f g there (within-same a f g same)
+    ∙ sym (ap (λ o. put_from window w o (own window w 0 0) g) there)
+
+-- a write and then another are one write of a drawing that has both
+pub put-then : (window : WindowMap) (w : ℕ) (a : Window) (f g h : Drawing) → window w ≡ Some a → AreSame a (over g f) h
+    → put_windows (put_windows window w f) w g ≡ put_windows window w h
+put-then window w a f g h there same = put-put window w f g ∙ put-same window w a (over g f) h there same
+
+-- ---- what the window shows after a write
+
+drawn-nothing : (spot : GridPlace) (a : Window) (f : Drawing) (y x : ℕ) → f y x ≡ None → moved spot (within a f) (spot.line + y) (spot.column + x) ≡ None
+drawn-nothing spot a f y x h =
+    let lines : spot.line + y - spot.line ≡ y = omega arith in
+    let columns : spot.column + x - spot.column ≡ x = omega arith in
+    rw (lines, columns, h) (grind (arith, nat_tests))
+
+shown-by : (window : WindowMap) (w : ℕ) (a : Window) (spot : GridPlace) (f : Drawing) (y x : ℕ) (o : Option Glyph) → window w ≡ Some a → own window w 0 0 ≡ Some spot
+    → y < a.lines → x < a.columns → f y x ≡ o → cell_at (put_windows window w f) w y x ≡ unwrap_or o (cell_at window w y x)
+shown-by window w a spot f y x (Some c) there leads below left is = put-takes window w a spot f y x c w y x there leads below left is refl
+shown-by window w a spot f y x None there leads below left is =
+    cell_at-kept window w a spot f w y x (onward y x spot) there leads (own-onward window w y x ∙ ap (option_map (onward y x)) leads) (drawn-nothing spot a f y x is)
+
+pub shown-put : (window : WindowMap) (w : ℕ) (a : Window) (spot : GridPlace) (f : Drawing) (y x : ℕ) → window w ≡ Some a → own window w 0 0 ≡ Some spot
+    → y < a.lines → x < a.columns → cell_at (put_windows window w f) w y x ≡ unwrap_or (f y x) (cell_at window w y x)
+shown-put window w a spot f y x there leads below left = shown-by window w a spot f y x (f y x) there leads below left refl

@@ -1,0 +1,9 @@
+pub mod Settings
+pub mod Windows
+pub mod Panels
+pub mod World
+pub mod Sound
+pub mod Rows
+pub mod Drawings
+pub mod Frames
+pub mod calls

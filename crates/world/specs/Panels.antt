@@ -1,0 +1,71 @@
+-- The panels, and the picture that they make of the windows.
+-- NetBSD panel(3): panels are windows with an order of depth, above the standard screen; hidden ones stand outside it.
+use Rattle.std.specs.Prelude.{unwrap_or, ℕ, ◌+◌, ◌-◌, Bool, false, if◌then◌else◌, ◌&&◌, nat_lt, nat_le, Option, None, List, [], ◌∷◌, reverse}
+use Rattle.std.specs.List.{filter_map}
+use Rattle.std.specs.Option.{option_map_or}
+use Rattle.cell.specs.Pictures.{Place, Shown, origin}
+use Rattle.world.specs.Windows.{Window, WindowMap, cell_at}
+
+-- the visible panels from bottom to top, and the window of each panel, which is hidden where the list lacks it
+pub record Panels : Type 0 where
+  pub visible : List ℕ
+  pub window : ℕ → Option ℕ
+
+abbrev pub no_panels : Panels
+no_panels = record { visible = []; window = λ p. None }
+
+-- the number of the standard screen
+abbrev pub standard_screen : ℕ
+standard_screen = 0
+
+-- the windows of the visible panels, the topmost first
+abbrev pub windows_from_top : Panels → List ℕ
+windows_from_top panels = filter_map panels.window (reverse panels.visible)
+
+-- the first of these windows, or else the standard screen
+abbrev pub first_or_standard : List ℕ → ℕ
+first_or_standard [] = standard_screen
+first_or_standard (w ∷ ws) = w
+
+-- ---- the picture
+
+-- whether the window's rectangle holds the place (y, x) of the screen; a pad's holds none
+abbrev pub holds_place : ℕ → ℕ → Window → Bool
+holds_place y x a = option_map_or (λ p. (nat_le p.0 y && nat_lt y (p.0 + a.lines)) && (nat_le p.1 x && nat_lt x (p.1 + a.columns))) a.place false
+
+abbrev pub holds : WindowMap → ℕ → ℕ → ℕ → Bool
+holds window w y x = option_map_or (holds_place y x) (window w) false
+
+-- the first of these windows that holds the place, or else the standard screen
+abbrev pub owner_among : WindowMap → List ℕ → ℕ → ℕ → ℕ
+owner_among window [] y x = standard_screen
+owner_among window (w ∷ ws) y x = if holds window w y x then w else owner_among window ws y x
+
+-- the window's place on the screen; a pad has none
+abbrev pub screen_place : Window → Place
+screen_place a = unwrap_or a.place origin
+
+abbrev pub place_of : WindowMap → ℕ → Place
+place_of window w = option_map_or screen_place (window w) origin
+
+-- the cell that window w shows at the place (y, x) of the screen
+abbrev pub cell_on_screen : WindowMap → ℕ → ℕ → ℕ → Shown
+cell_on_screen window w y x = cell_at window w (y - (place_of window w).0) (x - (place_of window w).1)
+
+-- What a search from the top visible panel down to the standard screen finds at (y, x): the cell of the first window whose
+-- rectangle holds the place.
+abbrev pub found_from_top : WindowMap → Panels → ℕ → ℕ → Shown
+found_from_top window panels y x = cell_on_screen window (owner_among window (windows_from_top panels) y x) y x
+
+-- ---- the cursor
+
+-- where the window's cursor stands on the screen
+abbrev pub cursor_from : Place → Window → Place
+cursor_from place a = (place.0 + a.settings.cursor.0, place.1 + a.settings.cursor.1)
+
+abbrev pub cursor_on_screen : WindowMap → ℕ → Place
+cursor_on_screen window w = option_map_or (cursor_from (place_of window w)) (window w) origin
+
+-- the cursor of the top visible panel's window, or the standard screen's if no panel is visible
+abbrev pub cursor_of_topmost : WindowMap → Panels → Place
+cursor_of_topmost window panels = cursor_on_screen window (first_or_standard (windows_from_top panels))

@@ -1,0 +1,28 @@
+-- The cells of one line of a window: what is read, and the two writes of which each call's write is made.
+-- X/Open Curses Issue 7: "Characters"; copywin, overlay.
+use Rattle.std.specs.Prelude.{ℕ, ◌+◌, ◌-◌, Bool, if◌then◌else◌, ◌==◌, nat_lt, nat_le, ◌&&◌, Option, Some, None, List, [], length, slice_index_or, map}
+use Rattle.std.specs.List.{range_with_len}
+use Rattle.std.specs.Option.{option_map_or}
+use Rattle.cell.specs.Glyphs.{Glyph, blank}
+use Rattle.world.specs.Windows.{WindowMap, Drawing, cell_at}
+
+-- the cells that window w shows on line y
+abbrev pub line_shown : WindowMap → ℕ → ℕ → List Glyph
+line_shown window w y = option_map_or (λ a. map (λ x. cell_at window w y x) (range_with_len 0 a.columns)) (window w) []
+
+-- one cell in the columns from left to right of a line, both ends inclusive
+abbrev pub filled : ℕ → ℕ → ℕ → Glyph → Drawing
+filled line left right glyph y x = if (y == line) && (nat_le left x && nat_le x right) then Some glyph else None
+
+-- the cells of a list, in a line from column left on
+abbrev pub listed : ℕ → ℕ → List Glyph → Drawing
+listed line left cells y x = if (y == line) && (nat_le left x && nat_lt x (left + length cells)) then Some (slice_index_or cells (x - left) blank) else None
+
+-- the cell, unless it is a space and spaces are left out
+abbrev pub overlaid : Bool → Glyph → Option Glyph
+overlaid overlay glyph = if overlay && (glyph.character == 32) then None else Some glyph
+
+-- n cells of line sy of window src from column sx on, for line dy from column dx on
+abbrev pub copied : WindowMap → ℕ → ℕ → ℕ → ℕ → ℕ → ℕ → Bool → Drawing
+copied window src sy sx dy dx n overlay y x =
+    if (y == dy) && (nat_le dx x && nat_lt x (dx + n)) then overlaid overlay (cell_at window src sy (sx + (x - dx))) else None

@@ -1,0 +1,158 @@
+-- Windows and pads: what they are, which cells they share, and what it is to write in one.
+-- X/Open Curses Issue 7: newwin, subwin and derwin (a derived window shares the cells of its parent), newpad, touchwin.
+-- Lines and columns count from 0; a place is named by its line y and its column x.
+use Rattle.std.specs.Prelude.{ℕ, zero, suc, ◌+◌, ◌-◌, ◌<◌, min, max, Bool, if◌then◌else◌, ◌==◌, nat_lt, nat_le, ◌&&◌, Option, Some, None, is_some, is_none, unwrap_or, option_and_then, IsSomeAnd}
+use Rattle.std.specs.Option.{option_map, option_map_or}
+use Rattle.cell.specs.Glyphs.{Glyph, blank}
+use Rattle.cell.specs.Pictures.{Place}
+use Rattle.cell.specs.declared.limits.TheConstants.{MOST_WINDOWS}
+use Rattle.world.specs.declared.settings.Columns.{Columns}
+use Rattle.world.specs.declared.settings.Settings.{Settings}
+
+-- where the cells of a window stand: in a grid of its own, or in its parent, from an offset of lines and columns on
+pub data Backing : Type 0 where
+  own_grid : (ℕ → ℕ → Glyph) → Backing
+  part_of : ℕ → ℕ → ℕ → Backing
+
+-- A window, or a pad, which has no place on the screen. Of each line the columns from the first to the last touched one are kept.
+pub record Window : Type 0 where
+  pub lines : ℕ
+  pub columns : ℕ
+  pub place : Option Place
+  pub settings : Settings
+  pub touched : ℕ → Option Columns
+  pub backing : Backing
+
+-- the windows and pads by number
+abbrev pub WindowMap : Type 0
+WindowMap = ℕ → Option Window
+
+-- a screen of this size and its windows
+pub record Windows : Type 0 where
+  pub lines : ℕ
+  pub columns : ℕ
+  pub window : WindowMap
+
+-- ---- shared cells
+
+-- a place of the grid that a window has of its own
+pub record GridPlace : Type 0 where
+  pub grid : ℕ
+  pub line : ℕ
+  pub column : ℕ
+
+-- the most windows and pads that there can be, the standard screen among them
+unfoldable pub window_limit : ℕ
+window_limit = MOST_WINDOWS + 1
+
+-- where the place (y, x) of window w leads: to its own grid, or further on
+abbrev pub leads : (ℕ → ℕ → ℕ → Option GridPlace) → ℕ → ℕ → ℕ → Backing → Option GridPlace
+leads further w y x (own_grid cells) = Some (record { grid = w; line = y; column = x })
+leads further w y x (part_of parent line column) = further parent (y + line) (x + column)
+
+-- where it leads through less than n parents
+abbrev pub own_within : ℕ → WindowMap → ℕ → ℕ → ℕ → Option GridPlace
+own_within zero window w y x = None
+own_within (suc n) window w y x = option_and_then (λ a. leads (own_within n window) w y x a.backing) (window w)
+
+-- where the place (y, x) of window w leads, through the chain of its parents
+abbrev pub own : WindowMap → ℕ → ℕ → ℕ → Option GridPlace
+own window w y x = own_within window_limit window w y x
+
+-- the place of a grid some lines and columns on
+abbrev pub onward : ℕ → ℕ → GridPlace → GridPlace
+onward y x p = record { grid = p.grid; line = p.line + y; column = p.column + x }
+
+-- the cell of a grid
+abbrev pub cell_of : Backing → ℕ → ℕ → Glyph
+cell_of (own_grid cells) y x = cells y x
+cell_of (part_of parent line column) y x = blank
+
+abbrev pub cell_in_grid : WindowMap → Option GridPlace → Glyph
+cell_in_grid window None = blank
+cell_in_grid window (Some p) = option_map_or (λ a. cell_of a.backing p.line p.column) (window p.grid) blank
+
+-- the cell that window w shows at (y, x)
+abbrev pub cell_at : WindowMap → ℕ → ℕ → ℕ → Glyph
+cell_at window w y x = cell_in_grid window (own window w y x)
+
+-- ---- writing
+
+-- cells for some places of a window
+abbrev pub Drawing : Type 0
+Drawing = ℕ → ℕ → Option Glyph
+
+-- the part of a drawing that is in the window
+abbrev pub within : Window → Drawing → Drawing
+within a f y x = if nat_lt y a.lines && nat_lt x a.columns then f y x else None
+
+-- the drawing as a grid has it, where the drawing's (0, 0) leads to this place
+abbrev pub moved : GridPlace → Drawing → Drawing
+moved p f y x = if nat_le p.line y && nat_le p.column x then f (y - p.line) (x - p.column) else None
+
+-- a grid with a drawing laid over it
+abbrev pub laid_over : Drawing → Backing → Backing
+laid_over f (own_grid cells) = own_grid (λ y x. unwrap_or (f y x) (cells y x))
+laid_over f (part_of parent line column) = part_of parent line column
+
+-- the least columns that hold these and one more
+abbrev pub widened : Option Columns → ℕ → Option Columns
+widened None x = Some (record { first = x; last = x })
+widened (Some r) x = Some (record { first = min r.first x; last = max r.last x })
+
+-- the touched columns after each one below n that passes the test was touched
+abbrev pub touched_below : ℕ → (ℕ → Bool) → Option Columns → Option Columns
+touched_below zero test r = r
+touched_below (suc n) test r = if test n then widened (touched_below n test r) n else touched_below n test r
+
+-- the touched columns of a window's lines after a drawing was written through it
+abbrev pub touched_by : Drawing → Window → ℕ → Option Columns
+touched_by f a y = touched_below a.columns (λ x. is_some (within a f y x)) (a.touched y)
+
+-- window u, which is b, after the drawing f was written through window w, which is a and begins at this place
+abbrev pub drawn : ℕ → Window → GridPlace → Drawing → ℕ → Window → Window
+drawn w a p f u b = record b {
+  backing = (if u == p.grid then laid_over (moved p (within a f)) b.backing else b.backing);
+  touched = (if u == w then touched_by f b else b.touched);
+}
+
+abbrev pub put_from : WindowMap → ℕ → Option Window → Option GridPlace → Drawing → WindowMap
+put_from window w (Some a) (Some p) f u = option_map (drawn w a p f u) (window u)
+put_from window w (Some a) None f u = window u
+put_from window w None p f u = window u
+
+-- The drawing f was written through window w: each place of f took its cell in the grid that it leads to, so every window
+-- that shows that place shows the cell, and the places of f were touched in w, and in no other window.
+abbrev pub put_windows : WindowMap → ℕ → Drawing → WindowMap
+put_windows window w f = put_from window w (window w) (own window w 0 0) f
+
+abbrev pub put : Windows → ℕ → Drawing → Windows
+put windows w f = record windows { window = put_windows windows.window w f }
+
+-- one drawing laid over another
+abbrev pub over : Drawing → Drawing → Drawing
+over g f y x = if is_some (g y x) then g y x else f y x
+
+-- ---- windows by number
+
+-- window w is there and has the place (y, x)
+abbrev pub HasPlace : WindowMap → ℕ → ℕ → ℕ → Type 0
+HasPlace window w y x = IsSomeAnd (window w) (λ a. (y < a.lines) × (x < a.columns))
+
+-- one window changed
+abbrev pub changed : WindowMap → ℕ → (Window → Window) → WindowMap
+changed window w change u = if u == w then option_map change (window u) else window u
+
+-- another window, or none, under a number
+abbrev pub replaced : WindowMap → ℕ → Option Window → WindowMap
+replaced window w a u = if u == w then a else window u
+
+abbrev pub no_windows : WindowMap
+no_windows w = None
+
+abbrev pub is_missing : WindowMap → ℕ → Bool
+is_missing window w = is_none (window w)
+
+-- what becomes of a window that is there
+abbrev pub if_there : Windows → ℕ → (Window → Windows) → Windows
+if_there windows w change = option_map_or change (windows.window w) windows

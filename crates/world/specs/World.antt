@@ -1,0 +1,48 @@
+-- The world that calls change: the windows, the panels, and the virtual screen, which is what the next doupdate shows.
+-- X/Open Curses Issue 7: wnoutrefresh and doupdate ("virtual screen"); NetBSD panel(3): update_panels.
+use Rattle.std.specs.Prelude.{ℕ, ◌-◌, Bool, false, Option, Some, None}
+use Rattle.cell.specs.Glyphs.{blank}
+use Rattle.cell.specs.Pictures.{Picture, Place, Shown, origin, blank_picture}
+use Rattle.world.specs.Windows.{Backing, own_grid, Window, Windows, no_windows, replaced}
+use Rattle.world.specs.Panels.{Panels, no_panels, standard_screen, found_from_top, cursor_of_topmost}
+use Rattle.world.specs.declared.settings.Settings.{Settings}
+
+-- a picture, where the cursor is wanted, and whether the terminal is to be cleared first
+pub record VirtualScreen : Type 0 where
+  pub picture : Picture
+  pub cursor : Place
+  pub clear : Bool
+
+pub record World : Type 0 where
+  pub windows : Windows
+  pub panels : Panels
+  pub virtual : VirtualScreen
+
+-- the picture of the world: what the search from the top finds at (y, x)
+abbrev pub picture : World → ℕ → ℕ → Shown
+picture world y x = found_from_top world.windows.window world.panels y x
+
+-- the topmost's cursor
+abbrev pub topmost_cursor : World → Place
+topmost_cursor world = cursor_of_topmost world.windows.window world.panels
+
+-- ---- a new screen
+
+-- what a new window is set to
+abbrev pub first_settings : ℕ → Settings
+first_settings lines = record { cursor = origin; region = (0, lines - 1); attrs = record { 0 = 0 }; background = blank; scrolling = false; clear = false }
+
+abbrev pub blank_grid : Backing
+blank_grid = own_grid (λ y x. blank)
+
+-- a window or pad as it is at first
+abbrev pub new_window : ℕ → ℕ → Option Place → Backing → Window
+new_window lines columns place backing = record { lines = lines; columns = columns; place = place; settings = first_settings lines; touched = λ y. None; backing = backing }
+
+-- the standard screen alone, under a blank virtual screen
+abbrev pub first_world : ℕ → ℕ → World
+first_world lines columns = record {
+  windows = record { lines = lines; columns = columns; window = replaced no_windows standard_screen (Some (new_window lines columns (Some origin) blank_grid)) };
+  panels = no_panels;
+  virtual = record { picture = blank_picture lines columns; cursor = origin; clear = false };
+}

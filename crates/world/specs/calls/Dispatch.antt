@@ -1,0 +1,157 @@
+-- Each call: when it is refused, what it answers, and what it changes. A line for each.
+-- X/Open Curses Issue 7: newwin to mvderwin, addch to bkgdset, getyx to inch, doupdate. NetBSD panel(3): update_panels.
+use Rattle.std.specs.Prelude.{ℕ, Option, None, Bool, true, false, unwrap_or, if◌then◌else◌}
+use Rattle.std.specs.Option.{option_map_or}
+use Rattle.cell.specs.Attributes.{bits_of}
+use Rattle.cell.specs.Pictures.{Place}
+use Rattle.world.specs.Windows.{Windows}
+use Rattle.world.specs.Panels.{standard_screen}
+use Rattle.world.specs.World.{World}
+use Rattle.world.specs.calls.Making.{new_number, newwin_refusal, after_newwin, subwin_refusal, after_subwin, derwin_refusal, after_derwin, newpad_refusal, after_newpad, subpad_refusal, after_subpad, delwin_refusal, after_delwin, mvwin_refusal, after_mvwin, mvderwin_refusal, after_mvderwin}
+use Rattle.world.specs.calls.writing.Characters.{addch_refusal, after_addch, addstr_refusal, after_addstr, insch_refusal, after_insch, after_delch}
+use Rattle.world.specs.calls.Missing.{missing_refusal}
+use Rattle.world.specs.calls.writing.Editing.{after_insertln, after_deleteln, after_erase, after_clrtoeol, after_clrtobot, scrl_refusal, after_scrl}
+use Rattle.world.specs.calls.writing.Options.{move_refusal, after_move, setscrreg_refusal, after_setscrreg, after_scrollok, after_attrset, after_attron, after_attroff, bkgdset_refusal, after_bkgdset}
+use Rattle.world.specs.calls.Queries.{cell_at_cursor}
+use Rattle.world.specs.calls.Queries.{cursor_of, getbegyx_refusal, place_on_screen, window_size, getparyx_refusal, offset_in_parent}
+use Rattle.world.specs.calls.Refresh.{after_update_panels, after_doupdate, cells_composed}
+use Rattle.cell.specs.declared.refusal.Refusal.{Refusal}
+use Rattle.world.specs.declared.call.Call.{Call}
+use Rattle.world.specs.declared.call.Call.TheVariants as calls
+use Rattle.world.specs.declared.call.Making.{Making}
+use Rattle.world.specs.declared.call.Making.TheVariants.{Newwin, Subwin, Derwin, Newpad, Subpad, Delwin, Mvwin, Mvderwin}
+use Rattle.world.specs.declared.call.Writing.{Writing}
+use Rattle.world.specs.declared.call.Writing.TheVariants.{Move, Addch, Addstr, Insch, Delch, Insertln, Deleteln, Erase, Clrtoeol, Clrtobot, Scrl, Setscrreg, Scrollok, Attrset, Attron, Attroff, Bkgdset}
+use Rattle.world.specs.declared.call.Query.{Query}
+use Rattle.world.specs.declared.call.Query.TheVariants.{Getyx, Getbegyx, Getmaxyx, Getparyx, Inch}
+use Rattle.world.specs.declared.call.Refresh.TheVariants.{UpdatePanels, Doupdate}
+use Rattle.world.specs.declared.call.Reply.{Reply}
+use Rattle.world.specs.declared.call.Reply.TheVariants.{Nothing, Number, Pair, Cell, Composed}
+
+-- ---- refusals: the first of a call's tests that holds
+
+abbrev pub making_refusal : Windows → Making → Option Refusal
+making_refusal windows (Newwin nlines ncols y x) = newwin_refusal windows nlines ncols y x
+making_refusal windows (Subwin win nlines ncols y x) = subwin_refusal windows win.0 nlines ncols y x
+making_refusal windows (Derwin win nlines ncols y x) = derwin_refusal windows win.0 nlines ncols y x
+making_refusal windows (Newpad nlines ncols) = newpad_refusal windows nlines ncols
+making_refusal windows (Subpad pad nlines ncols y x) = subpad_refusal windows pad.0 nlines ncols y x
+making_refusal windows (Delwin win) = delwin_refusal windows win.0
+making_refusal windows (Mvwin win y x) = mvwin_refusal windows win.0 y x
+making_refusal windows (Mvderwin win y x) = mvderwin_refusal windows win.0 y x
+
+abbrev pub writing_refusal : Windows → Writing → Option Refusal
+writing_refusal windows (Move win y x) = move_refusal windows win.0 y x
+writing_refusal windows (Addch win character) = addch_refusal windows win.0 character
+writing_refusal windows (Addstr win text) = addstr_refusal windows win.0 text.now
+writing_refusal windows (Insch win character) = insch_refusal windows win.0 character
+writing_refusal windows (Delch win) = missing_refusal windows.window win.0
+writing_refusal windows (Insertln win) = missing_refusal windows.window win.0
+writing_refusal windows (Deleteln win) = missing_refusal windows.window win.0
+writing_refusal windows (Erase win) = missing_refusal windows.window win.0
+writing_refusal windows (Clrtoeol win) = missing_refusal windows.window win.0
+writing_refusal windows (Clrtobot win) = missing_refusal windows.window win.0
+writing_refusal windows (Scrl win n) = scrl_refusal windows win.0
+writing_refusal windows (Setscrreg win top bottom) = setscrreg_refusal windows win.0 top bottom
+writing_refusal windows (Scrollok win flag) = missing_refusal windows.window win.0
+writing_refusal windows (Attrset win attributes) = missing_refusal windows.window win.0
+writing_refusal windows (Attron win attributes) = missing_refusal windows.window win.0
+writing_refusal windows (Attroff win attributes) = missing_refusal windows.window win.0
+writing_refusal windows (Bkgdset win attributes character) = bkgdset_refusal windows win.0 character
+
+abbrev pub query_refusal : Windows → Query → Option Refusal
+query_refusal windows (Getyx win) = missing_refusal windows.window win.0
+query_refusal windows (Getbegyx win) = getbegyx_refusal windows.window win.0
+query_refusal windows (Getmaxyx win) = missing_refusal windows.window win.0
+query_refusal windows (Getparyx win) = getparyx_refusal windows.window win.0
+query_refusal windows (Inch win) = missing_refusal windows.window win.0
+
+abbrev pub refusal : World → Call → Option Refusal
+refusal world (calls.Making making) = making_refusal world.windows making
+refusal world (calls.Writing writing) = writing_refusal world.windows writing
+refusal world (calls.Query query) = query_refusal world.windows query
+refusal world (calls.Refresh refresh) = None
+
+-- The calls that make a window or pad take memory. Where there is none of it, they are refused for that.
+abbrev pub makes_window : Making → Bool
+makes_window (Delwin win) = false
+makes_window (Mvwin win y x) = false
+makes_window (Mvderwin win y x) = false
+makes_window _ = true
+
+abbrev pub takes_memory : Call → Bool
+takes_memory (calls.Making making) = makes_window making
+takes_memory _ = false
+
+-- ---- changes
+
+-- the number of the next window or pad
+abbrev pub next_window : Windows → ℕ
+next_window windows = unwrap_or (new_number windows.window) standard_screen
+
+abbrev pub after_making : Windows → Making → Windows
+after_making windows (Newwin nlines ncols y x) = after_newwin windows (next_window windows) nlines ncols y x
+after_making windows (Subwin win nlines ncols y x) = after_subwin windows (next_window windows) win.0 nlines ncols y x
+after_making windows (Derwin win nlines ncols y x) = after_derwin windows (next_window windows) win.0 nlines ncols y x
+after_making windows (Newpad nlines ncols) = after_newpad windows (next_window windows) nlines ncols
+after_making windows (Subpad pad nlines ncols y x) = after_subpad windows (next_window windows) pad.0 nlines ncols y x
+after_making windows (Delwin win) = after_delwin windows win.0
+after_making windows (Mvwin win y x) = after_mvwin windows win.0 y x
+after_making windows (Mvderwin win y x) = after_mvderwin windows win.0 y x
+
+abbrev pub after_writing : Windows → Writing → Windows
+after_writing windows (Move win y x) = after_move windows win.0 y x
+after_writing windows (Addch win character) = after_addch windows win.0 character
+after_writing windows (Addstr win text) = after_addstr windows win.0 text.now
+after_writing windows (Insch win character) = after_insch windows win.0 character
+after_writing windows (Delch win) = after_delch windows win.0
+after_writing windows (Insertln win) = after_insertln windows win.0
+after_writing windows (Deleteln win) = after_deleteln windows win.0
+after_writing windows (Erase win) = after_erase windows win.0
+after_writing windows (Clrtoeol win) = after_clrtoeol windows win.0
+after_writing windows (Clrtobot win) = after_clrtobot windows win.0
+after_writing windows (Scrl win n) = after_scrl windows win.0 n
+after_writing windows (Setscrreg win top bottom) = after_setscrreg windows win.0 top bottom
+after_writing windows (Scrollok win flag) = after_scrollok windows win.0 flag
+after_writing windows (Attrset win attributes) = after_attrset windows win.0 (bits_of attributes)
+after_writing windows (Attron win attributes) = after_attron windows win.0 (bits_of attributes)
+after_writing windows (Attroff win attributes) = after_attroff windows win.0 (bits_of attributes)
+after_writing windows (Bkgdset win attributes character) = after_bkgdset windows win.0 (bits_of attributes) character
+
+-- the world after a call that was accepted
+abbrev pub world_after : World → Call → World
+world_after world (calls.Making making) = record world { windows = after_making world.windows making }
+world_after world (calls.Writing writing) = record world { windows = after_writing world.windows writing }
+world_after world (calls.Query query) = world
+world_after world (calls.Refresh UpdatePanels) = after_update_panels world
+world_after world (calls.Refresh Doupdate) = after_doupdate world
+
+-- ---- answers
+
+abbrev pub pair : Option Place → Reply
+pair place = option_map_or (λ p. Pair p.0 p.1) place Nothing
+
+abbrev pub query_reply : Windows → Query → Reply
+query_reply windows (Getyx win) = pair (cursor_of windows.window win.0)
+query_reply windows (Getbegyx win) = pair (place_on_screen windows.window win.0)
+query_reply windows (Getmaxyx win) = pair (window_size windows.window win.0)
+query_reply windows (Getparyx win) = pair (offset_in_parent windows.window win.0)
+query_reply windows (Inch win) = option_map_or (λ shown. Cell shown) (cell_at_cursor windows.window win.0) Nothing
+
+-- a new window answers its number
+abbrev pub making_reply : Windows → Making → Reply
+making_reply windows making = if makes_window making then Number (record { 0 = next_window windows }) else Nothing
+
+-- what a call answers that is neither refused nor doupdate
+abbrev pub reply_of : World → Call → Reply
+reply_of world (calls.Making making) = making_reply world.windows making
+reply_of world (calls.Writing writing) = Nothing
+reply_of world (calls.Query query) = query_reply world.windows query
+reply_of world (calls.Refresh UpdatePanels) = Composed (record { cells = cells_composed world })
+reply_of world (calls.Refresh Doupdate) = Nothing
+
+-- ---- kinds of calls
+
+abbrev pub is_doupdate : Call → Bool
+is_doupdate (calls.Refresh Doupdate) = true
+is_doupdate _ = false

@@ -1,0 +1,152 @@
+//! The calls and what they answer.
+
+use cell::{Attr, Cell, WinId};
+use streams::Sent;
+
+/// A call, by the table that it stands in. Lines and columns count from 0.
+#[derive(Clone, Copy, Debug)]
+pub enum Call<'a> {
+    Making(Making),
+    Writing(Writing<'a>),
+    Query(Query),
+    Refresh(Refresh),
+}
+
+/// The calls that make windows and pads, delete them, and place them.
+#[derive(Clone, Copy, Debug)]
+pub enum Making {
+    /// Makes a window of so many lines and columns at a line and a column of the screen.
+    Newwin {
+        lines: u16,
+        columns: u16,
+        y: u16,
+        x: u16,
+    },
+    /// Makes a window that shows a part of another, from a line and a column of the screen on.
+    Subwin {
+        win: WinId,
+        lines: u16,
+        columns: u16,
+        y: u16,
+        x: u16,
+    },
+    /// Makes a window that shows a part of another, from a line and a column of it on.
+    Derwin {
+        win: WinId,
+        lines: u16,
+        columns: u16,
+        y: u16,
+        x: u16,
+    },
+    /// Makes a pad of so many lines and columns.
+    Newpad {
+        lines: u16,
+        columns: u16,
+    },
+    /// Makes a pad that shows a part of another, from a line and a column of it on.
+    Subpad {
+        pad: WinId,
+        lines: u16,
+        columns: u16,
+        y: u16,
+        x: u16,
+    },
+    /// Deletes a window or pad.
+    Delwin {
+        win: WinId,
+    },
+    /// Moves a window to a line and a column of the screen.
+    Mvwin {
+        win: WinId,
+        y: u16,
+        x: u16,
+    },
+    /// Lets a derived window or pad show its parent from another line and column on.
+    Mvderwin {
+        win: WinId,
+        y: u16,
+        x: u16,
+    },
+}
+
+/// The calls that write in a window or pad, or set how it is written in.
+#[derive(Clone, Copy, Debug)]
+pub enum Writing<'a> {
+    /// Moves the cursor to a line and a column.
+    Move { win: WinId, y: u16, x: u16 },
+    /// Writes a character at the cursor.
+    Addch { win: WinId, ch: u8 },
+    /// Writes the characters of a text at the cursor.
+    Addstr { win: WinId, text: &'a [u8] },
+    /// Inserts a character at the cursor.
+    Insch { win: WinId, ch: u8 },
+    /// Deletes the character at the cursor.
+    Delch { win: WinId },
+    /// Inserts a line at the cursor's.
+    Insertln { win: WinId },
+    /// Deletes the cursor's line.
+    Deleteln { win: WinId },
+    /// Clears the window, and moves the cursor to its first place.
+    Erase { win: WinId },
+    /// Clears from the cursor to the end of the line.
+    Clrtoeol { win: WinId },
+    /// Clears from the cursor to the end of the window.
+    Clrtobot { win: WinId },
+    /// Scrolls the region up by a number of lines, or down by a negative one.
+    Scrl { win: WinId, n: i16 },
+    /// Sets the region that scrolls, from a first line to a last.
+    Setscrreg { win: WinId, top: u16, bottom: u16 },
+    /// Sets whether the window scrolls.
+    Scrollok { win: WinId, flag: bool },
+    /// Sets the attributes.
+    Attrset { win: WinId, attrs: Attr },
+    /// Adds attributes.
+    Attron { win: WinId, attrs: Attr },
+    /// Takes attributes away.
+    Attroff { win: WinId, attrs: Attr },
+    /// Sets the background to a character with attributes.
+    Bkgdset { win: WinId, attrs: Attr, ch: u8 },
+}
+
+/// The calls that ask about a window or pad.
+#[derive(Clone, Copy, Debug)]
+pub enum Query {
+    /// The line and the column of the cursor.
+    Getyx { win: WinId },
+    /// The line and the column of the screen where the window begins.
+    Getbegyx { win: WinId },
+    /// The number of lines and of columns.
+    Getmaxyx { win: WinId },
+    /// The line and the column of its parent where a derived window begins.
+    Getparyx { win: WinId },
+    /// The cell at the cursor.
+    Inch { win: WinId },
+}
+
+/// The calls that refresh.
+#[derive(Clone, Copy, Debug)]
+pub enum Refresh {
+    /// Takes the picture of the windows and panels into the virtual screen.
+    UpdatePanels,
+    /// Shows the virtual screen on the terminal.
+    Doupdate,
+}
+
+/// How many cells of windows an `update_panels` read.
+#[derive(Clone, Copy, PartialEq, Eq, Debug)]
+pub struct Composed {
+    pub cells: u32,
+}
+
+/// What a call answers that isn't refused.
+#[derive(Clone, Copy, PartialEq, Eq, Debug)]
+pub enum Reply {
+    Nothing,
+    /// The number of a new window or pad.
+    Number(WinId),
+    /// A line and a column, or a number of lines and one of columns.
+    Pair(u16, u16),
+    Cell(Cell),
+    Composed(Composed),
+    Sent(Sent),
+}

@@ -1,0 +1,12 @@
+//! The world that calls change: windows, panels and the virtual screen, and each call as data. Its definitions stand in
+//! `specs/`: when a call is refused, what it changes and what it answers.
+#![tactic(auto)]
+
+mod call;
+pub mod laws;
+mod settings;
+
+pub use call::{Call, Composed, Making, Query, Refresh, Reply, Writing};
+pub use cell::{Attr, Cell, Frame, Refusal, WinId};
+pub use settings::{Columns, Settings};
+pub use streams::Sent;
