@@ -11,7 +11,7 @@ use Rattle.cell.specs.Glyphs.{Glyph, IsCell, blank}
 use Rattle.cell.specs.Pictures.{Picture, HasSize, AreCells, origin, picture_of, shown_at}
 use Rattle.world.specs.Windows.{Window, WindowMap, Windows, HasPlace, cell_at, cell_in_grid, cell_of, changed}
 use Rattle.world.specs.Panels.{no_panels, standard_screen, place_of, screen_place, cursor_from}
-use Rattle.world.specs.World.{World, VirtualScreen, picture, topmost_cursor}
+use Rattle.world.specs.World.{World, VirtualScreen, picture, topmost_cursor, without_panels}
 use Rattle.world.specs.Sound.{AreSoundWindows, HasCells, IsSound, IsSoundWindow, IsStandardScreen}
 use Rattle.world.specs.Rows.{line_shown}
 use Rattle.world.specs.calls.Refresh.{unmarked, with_unmarked, asks_for_clear, after_update_panels}
@@ -165,7 +165,7 @@ module _ (old new : WindowTable) (virtual : VirtualScreen) (shown : Picture) (se
   pub world-composed : world (desk_of new (record { picture = shown; cursor = settings.cursor; clear = clear })) ≡ after_update_panels (world (desk_of old virtual))
   unfolding before
   world-composed =
-      (λ i. record { windows = windows_are i; panels = no_panels; virtual = record { picture = picture-is i; cursor = cursor-is i; clear = clear-is i } })
+      (λ i. without_panels (windows_are i) (record { picture = picture-is i; cursor = cursor-is i; clear = clear-is i }))
       ∙ (λ i. record (after_update_panels (world (desk_of old virtual))) {
         windows = record (windows old) { window = fun_ext (unmarked-standard (windows old).window) i };
       })

@@ -1,10 +1,10 @@
 -- What a desk keeps, and the world that it stands for, call by call.
-use Rattle.std.proofs.Common.{◌≡◌, Bool, true, false, ◌⊎◌, Some, None, Result, Ok, Err, inl, inr, refl, sym, ap, ◌∙◌}
+use Rattle.std.proofs.Common.{◌≡◌, ℕ, Bool, true, false, ◌⊎◌, Some, None, Result, Ok, Err, inl, inr, refl, sym, ap, ◌∙◌}
 use Rattle.std.specs.Prelude.{IfOk, OnErr, OnOk}
 use Rattle.std.specs.Result.{result_err}
 use Rattle.cell.specs.Refusals.{RefusedBy}
-use Rattle.world.specs.Panels.{no_panels}
-use Rattle.world.specs.World.{VirtualScreen}
+use Rattle.world.specs.Panels.{in_no_panel, is_in_panel, no_panels}
+use Rattle.world.specs.World.{VirtualScreen, without_panels}
 use Rattle.world.specs.Sound.{AreSoundWindows, IsSound}
 use Rattle.cell.specs.declared.refusal.Refusal.{Refusal}
 use Rattle.cell.specs.declared.refusal.Refusal.TheVariants.{NoMemory}
@@ -17,6 +17,7 @@ use Rattle.world.specs.declared.call.Call.TheVariants as calls
 use Rattle.world.specs.declared.call.Making.{Making}
 use Rattle.world.specs.declared.call.Writing.{Writing}
 use Rattle.world.specs.declared.call.Reply.{Reply}
+use Rattle.world.proofs.PanelLaws.{in_panel-none}
 use Rattle.world.proofs.Sizes.{SameSize, size-call, size-making, size-writing}
 
 -- a desk of these windows and this virtual screen
@@ -39,18 +40,22 @@ module _ (old new : WindowTable) (virtual : VirtualScreen) where
       record { lines = ap (λ ws. ws.lines) made ∙ size.lines; columns = ap (λ ws. ws.columns) made ∙ size.columns }
   size-made making (Err e) made unchanged = record { lines = ap (λ u. u.lines) unchanged; columns = ap (λ u. u.columns) unchanged }
 
-  may-refuse : (making : Making) (e : Refusal) (takes : Bool) → takes ≡ makes_window making
-      → (making_refusal (windows old) making ≡ Some e) ⊎ ((making_refusal (windows old) making ≡ None) × (e ≡ NoMemory))
-      → (takes ≡ false → Some e ≡ making_refusal (windows old) making) → MayRefuse (world (desk_of old virtual)) (calls.Making making) e
-  may-refuse making e true is (inl h) exact = inl h
-  may-refuse making e true is (inr h) exact = inr (h.0, sym is, h.1)
-  may-refuse making e false is h exact = inl (sym (exact refl))
+  -- a desk has no panels
+  refusal-is : (making : Making) → making_refusal (windows old) (is_in_panel no_panels) making ≡ making_refusal (windows old) in_no_panel making
+  refusal-is making = ap (λ (in_panel : ℕ → Bool). making_refusal (windows old) in_panel making) in_panel-none
 
-  pub made-called : (making : Making) (r : Result Reply Refusal) → RefusedBy (making_refusal (windows old) making) r
-      → (makes_window making ≡ false → result_err r ≡ making_refusal (windows old) making) → IfOk r (λ reply. reply ≡ making_reply (windows old) making)
+  may-refuse : (making : Making) (e : Refusal) (takes : Bool) → takes ≡ makes_window making
+      → (making_refusal (windows old) in_no_panel making ≡ Some e) ⊎ ((making_refusal (windows old) in_no_panel making ≡ None) × (e ≡ NoMemory))
+      → (takes ≡ false → Some e ≡ making_refusal (windows old) in_no_panel making) → MayRefuse (world (desk_of old virtual)) (calls.Making making) e
+  may-refuse making e true is (inl h) exact = inl (refusal-is making ∙ h)
+  may-refuse making e true is (inr h) exact = inr (refusal-is making ∙ h.0, sym is, h.1)
+  may-refuse making e false is h exact = inl (refusal-is making ∙ sym (exact refl))
+
+  pub made-called : (making : Making) (r : Result Reply Refusal) → RefusedBy (making_refusal (windows old) in_no_panel making) r
+      → (makes_window making ≡ false → result_err r ≡ making_refusal (windows old) in_no_panel making) → IfOk r (λ reply. reply ≡ making_reply (windows old) making)
       → OnOk r (windows new ≡ after_making (windows old) making) → OnErr r (new ≡ old) → Called (desk_of old virtual) (calls.Making making) r (desk_of new virtual)
   made-called making (Ok reply) refused exact answers made unchanged =
-      (refused, answers, λ i. record { windows = made i; panels = no_panels; virtual = virtual })
+      (refusal-is making ∙ refused, answers, ap (λ ws. without_panels ws virtual) made)
   made-called making (Err e) refused exact answers made unchanged =
       (may-refuse making e (makes_window making) refl refused exact, ap (λ w. desk_of w virtual) unchanged)
 

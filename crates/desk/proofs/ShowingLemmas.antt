@@ -4,6 +4,7 @@ use Rattle.std.proofs.KnownBytes.{Appends-trans}
 use Rattle.std.specs.Prelude.{⊤, MatchOption}
 use Rattle.cell.specs.Pictures.{HasSize}
 use Rattle.world.specs.World.{World, picture}
+use Rattle.world.specs.calls.Dispatch.{refresh_refusal}
 use Rattle.world.specs.calls.Refresh.{after_update_panels, after_doupdate, composed_windows}
 use Rattle.cell.specs.declared.refusal.Refusal.{Refusal}
 use Rattle.cell.proofs.PictureLemmas.{HasSize-picture_of, shown_at-picture_of}
@@ -140,17 +141,17 @@ pub record EndsShown (s : State) : Type 0 where
   pub world_is : s.world ≡ after_doupdate (after_update_panels before)
   pub last_is : s.painter.last ≡ Some (wanted (after_update_panels before))
 
--- a call that refreshes is never refused
-never-refused : (w : World) (refresh : Refresh) (e : Refusal) → MayRefuse w (calls.Refresh refresh) e → ⊥
-never-refused w refresh e (inl h) = let no : ◌≡◌ {A = Option Refusal} None (Some e) = h in cc
-never-refused w refresh e (inr h) = let no : false ≡ true = h.1 in cc
+-- update_panels and doupdate are never refused
+never-refused : (w : World) (refresh : Refresh) (e : Refusal) → refresh_refusal w.windows refresh ≡ None → MayRefuse w (calls.Refresh refresh) e → ⊥
+never-refused w refresh e none (inl h) = let never : ◌≡◌ {A = Option Refusal} None (Some e) = sym none ∙ h in cc
+never-refused w refresh e none (inr h) = let never : false ≡ true = h.1 in cc
 
 two-calls : (s : State) (one other : Result Reply Refusal) (sent more : List ℕ) → MayAnswer s.world (calls.Refresh UpdatePanels) one sent
     → MayAnswer (state_after s (calls.Refresh UpdatePanels) one).world (calls.Refresh Doupdate) other more
     → EndsShown (state_after (state_after s (calls.Refresh UpdatePanels) one) (calls.Refresh Doupdate) other)
 two-calls s (Ok r) (Ok q) sent more h k = record { before = s.world; world_is = refl; last_is = refl }
-two-calls s (Ok r) (Err e) sent more h k = absurd (never-refused (after_update_panels s.world) Doupdate e k.0)
-two-calls s (Err e) other sent more h k = absurd (never-refused s.world UpdatePanels e h.0)
+two-calls s (Ok r) (Err e) sent more h k = absurd (never-refused (after_update_panels s.world) Doupdate e refl k.0)
+two-calls s (Err e) other sent more h k = absurd (never-refused s.world UpdatePanels e refl h.0)
 
 pub ends-shown : (s : State) (others : List Call) (outcomes : List Outcome) → Run s (others ++ calls.Refresh UpdatePanels ∷ calls.Refresh Doupdate ∷ []) outcomes
     → EndsShown (state_at_end s (others ++ calls.Refresh UpdatePanels ∷ calls.Refresh Doupdate ∷ []) outcomes)

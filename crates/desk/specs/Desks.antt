@@ -1,6 +1,5 @@
 -- What a desk keeps, and the world that it stands for. It has no panels.
-use Rattle.world.specs.Panels.{no_panels}
-use Rattle.world.specs.World.{VirtualScreen, World}
+use Rattle.world.specs.World.{VirtualScreen, World, without_panels}
 use Rattle.grids.specs.Tables.{WindowTable, windows}
 
 -- the table of windows, and the virtual screen
@@ -9,4 +8,4 @@ pub record DeskTable : Type 0 where
   pub virtual : VirtualScreen
 
 abbrev pub world : DeskTable → World
-world t = record { windows = windows t.windows; panels = no_panels; virtual = t.virtual }
+world t = without_panels (windows t.windows) t.virtual

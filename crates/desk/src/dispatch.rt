@@ -3,6 +3,7 @@
 ghost use Rattle.std.specs.Prelude.{◌≡◌, IfOk, OnErr, OnOk, false};
 ghost use Rattle.std.specs.Result.{result_err};
 ghost use Rattle.cell.specs.Refusals.{RefusedBy};
+ghost use Rattle.world.specs.Panels.{in_no_panel};
 ghost use Rattle.world.specs.Sound.{AreSoundWindows};
 ghost use Rattle.grids.specs.Tables.{windows as windows_of};
 ghost use Rattle.world.specs.calls.Dispatch.{after_making, after_writing, makes_window, making_refusal, making_reply, query_refusal, query_reply, writing_refusal};
@@ -12,11 +13,11 @@ use grids::Grids;
 use windows::Windows;
 use world::{Making, Query, Reply, Writing};
 
-/// Makes a call of the table of making and placing.
+/// Makes a call of the table of making and placing, where no window is in a panel.
 #[rattlefmt::skip]
 pub fn make(table: &mut Grids, making: Making) -> Result<Reply, Refusal>
-    ensures refused { RefusedBy (making_refusal (windows_of table.old) making) result }
-    ensures exact { makes_window making ≡ false → result_err result ≡ making_refusal (windows_of table.old) making }
+    ensures refused { RefusedBy (making_refusal (windows_of table.old) in_no_panel making) result }
+    ensures exact { makes_window making ≡ false → result_err result ≡ making_refusal (windows_of table.old) in_no_panel making }
     ensures reply { IfOk result (λ reply. reply ≡ making_reply (windows_of table.old) making) }
     ensures made { OnOk result (windows_of table.new ≡ after_making (windows_of table.old) making) }
     ensures unchanged { OnErr result (table.new ≡ table.old) }

@@ -6,6 +6,7 @@ pub mod Joining
 pub mod Codes
 pub mod Leading
 pub mod Unique
+pub mod Failing
 pub mod Sizes
 pub mod Lengths
 pub mod Difference

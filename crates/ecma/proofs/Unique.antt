@@ -1,7 +1,7 @@
--- A stream has one row of items at most.
+-- A stream has one row of items at most, and so has each beginning of it.
 use Rattle.std.proofs.Common.{◌≡◌, ℕ, ◌<◌, ◌≤◌, List, [], ◌∷◌, ◌++◌, length, refl, sym, ap, ◌∙◌, subst, arith, append_assoc, length-append, inl, inr}
 use Rattle.std.specs.Prelude.{◌⊎◌}
-use Rattle.ecma.proofs.Joining.{Splits_some}
+use Rattle.ecma.proofs.Joining.{bytes_of_some}
 use Rattle.ecma.proofs.Printing.{from_space}
 use Rattle.std.proofs.lemmas.List.{append-nil}
 use Rattle.std.specs.Prelude.{⊤}
@@ -218,12 +218,36 @@ same-first (Unfinished a) (Printable b) f g h k p q e = absurd (printable-unfini
 same-first (Unfinished a) (Control b qs) f g h k p q e = absurd (control-unfinished b qs a g f k p (shape-of a h) (sym e))
 same-first (Unfinished a) (Unfinished b) f g h k p q e = unfinished-unfinished a b f g p q (shape-of a h) (shape-of b k) e
 
-pub Splits-unique : (bytes : List ℕ) (items others : List Item) → Splits bytes items [] → Splits bytes others [] → items ≡ others
-Splits-unique bytes [] [] h k = refl
-Splits-unique bytes [] (other ∷ others) h k = absurd (let some = Splits_some bytes other others [] k in let none : length bytes ≡ 0 = ap length h in omega arith)
-Splits-unique bytes (item ∷ items) [] h k = absurd (let some = Splits_some bytes item items [] h in let none : length bytes ≡ 0 = ap length k in omega arith)
-Splits-unique bytes (item ∷ items) (other ∷ others) h k =
+-- ---- the items of a beginning
+
+Splits-shorter : (bytes : List ℕ) (items : List Item) (rest : List ℕ) → Splits bytes items rest → length rest ≤ length bytes
+Splits-shorter bytes [] rest h = let same : length bytes ≡ length rest = ap length h in omega arith
+Splits-shorter bytes (item ∷ items) rest h = let later = Splits-shorter h.0 items rest h.4 in rw h.1 (omega (arith, length-append (bytes_of item) h.0))
+
+Splits-less : (bytes : List ℕ) (item : Item) (items : List Item) (rest : List ℕ) → Splits bytes (item ∷ items) rest → length rest < length bytes
+Splits-less bytes item items rest h = let later = Splits-shorter h.0 items rest h.4 in rw h.1 (omega (arith, bytes_of_some item h.2, length-append (bytes_of item) h.0))
+
+Splits-nothing : (bytes : List ℕ) (items : List Item) (rest : List ℕ) → Splits bytes items rest → length bytes ≤ length rest → items ≡ []
+Splits-nothing bytes [] rest h short = refl
+Splits-nothing bytes (item ∷ items) rest h short = absurd (let less = Splits-less bytes item items rest h in omega arith)
+
+-- of two rows of items the one that leaves less goes on from the other
+pub Splits-front : (bytes : List ℕ) (items others : List Item) (rest left : List ℕ) → Splits bytes items rest → Splits bytes others left → length left ≤ length rest
+    → (more : List Item) × (others ≡ items ++ more) × Splits rest more left
+Splits-front bytes [] others rest left h k less = (others, refl, subst (λ (front : List ℕ). Splits front others left) h k)
+Splits-front bytes (item ∷ items) [] rest left h k less = absurd (let shorter = Splits-less bytes item items rest h in let same : length bytes ≡ length left = ap length k in omega arith)
+Splits-front bytes (item ∷ items) (other ∷ others) rest left h k less =
     let first = same-first item other h.0 k.0 h.2 k.2 h.3 k.3 (sym h.1 ∙ k.1) in
-    let rest = Splits-unique k.0 items others (subst (λ (following : List ℕ). Splits following items []) first.rest h.4) k.4 in
+    let behind = Splits-front k.0 items others rest left (subst (λ (following : List ℕ). Splits following items rest) first.rest h.4) k.4 less in
     let here : item ≡ other = first.item in
-    cc
+    let those : others ≡ items ++ behind.0 = behind.1 in
+    (behind.0, cc, behind.2)
+
+pub Splits-same : (bytes : List ℕ) (items others : List Item) (rest left : List ℕ) → Splits bytes items rest → Splits bytes others left → length rest ≡ length left → items ≡ others
+Splits-same bytes items others rest left h k same =
+    let behind = Splits-front bytes items others rest left h k (omega arith) in
+    let nothing = Splits-nothing rest behind.0 left behind.2 (omega arith) in
+    sym (behind.1 ∙ ap (λ (more : List Item). items ++ more) nothing ∙ append-nil items)
+
+pub Splits-unique : (bytes : List ℕ) (items others : List Item) → Splits bytes items [] → Splits bytes others [] → items ≡ others
+Splits-unique bytes items others h k = Splits-same bytes items others [] [] h k refl

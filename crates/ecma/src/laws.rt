@@ -1,17 +1,34 @@
 //! What holds of streams and terminals by their definitions alone. Each function does nothing, and its contract is the law.
 
-ghost use Rattle.std.specs.Prelude.{◌≡◌, ◌↔◌, ℕ, ◌<◌, List, [], ◌++◌, length, take};
+ghost use Rattle.std.specs.Prelude.{◌≡◌, ◌↔◌, ℕ, ◌<◌, ◌≤◌, List, [], ◌++◌, length, take};
 ghost use Rattle.cell.specs.Pictures.{HasSize, Picture};
 ghost use Rattle.ecma.specs.Difference.{difference};
 ghost use Rattle.ecma.specs.Items.{EndsOrEscapes, Item, Splits};
 ghost use Rattle.ecma.specs.Terminals.{Terminal};
 ghost use Rattle.ecma.specs.Spelling.{spelling, IsToken, IsItemOf};
 ghost use Rattle.ecma.specs.declared.token.Token.{Token};
-ghost use Rattle.ecma.specs.Streams.{Leads, LeadsWithBreaks, IsInProfile, Reaches};
+ghost use Rattle.ecma.specs.Streams.{FailsAt, Leads, LeadsWithBreaks, IsInProfile, Reaches};
 
-/// A stream has one row of items at most.
+/// A stream has one row of items at most. Of two rows of items at its front, the one that leaves no more bytes than the other goes on
+/// from the other, also where items were never finished.
 pub fn one_row_of_items()
-    ensures { (stream : List ℕ) (items others : List Item) → Splits stream items [] → Splits stream others [] → items ≡ others }
+    ensures whole { (stream : List ℕ) (items others : List Item) → Splits stream items [] → Splits stream others [] → items ≡ others }
+    ensures front { (stream : List ℕ) (items others : List Item) (rest left : List ℕ) → Splits stream items rest → Splits stream others left
+        → length left ≤ length rest → (more : List Item) × (others ≡ items ++ more) × Splits rest more left }
+{}
+
+/// A stream reaches one terminal at most before an offset.
+pub fn one_terminal_reached()
+    ensures { (stream : List ℕ) (offset : ℕ) (t u v : Terminal) → Reaches stream t offset u → Reaches stream t offset v → u ≡ v }
+{}
+
+/// A stream fails at one offset at most, with one terminal, and then it isn't in the profile.
+pub fn one_failure()
+    ensures offset { (stream : List ℕ) (offset other : ℕ) (t u v : Terminal) → FailsAt stream t offset u → FailsAt stream t other v
+        → offset ≡ other }
+    ensures terminal { (stream : List ℕ) (offset other : ℕ) (t u v : Terminal) → FailsAt stream t offset u → FailsAt stream t other v
+        → u ≡ v }
+    ensures outside { (stream : List ℕ) (offset : ℕ) (t u v : Terminal) → FailsAt stream t offset u → IsInProfile stream t v → ⊥ }
 {}
 
 /// If a stream leads from t to u and another from u to v, then the one followed by the other leads from t to v.

@@ -4,9 +4,9 @@ use Rattle.std.specs.Prelude.{⊤}
 use Rattle.std.specs.List.{list_any}
 use Rattle.std.proofs.lemmas.Bool.{cases_eq, or_parts, false≢true}
 use Rattle.cell.specs.declared.limits.TheConstants.{MOST_WINDOWS}
-use Rattle.world.specs.Windows.{window_limit}
+use Rattle.world.specs.Windows.{any_below, window_limit}
 use Rattle.world.specs.Sound.{IsOnScreen}
-use Rattle.world.specs.calls.Making.{any_below, has_derived}
+use Rattle.world.specs.calls.Making.{has_derived}
 use Rattle.grids.specs.declared.slot.Part.{Part}
 use Rattle.grids.specs.declared.slot.Cells.{Cells}
 use Rattle.grids.specs.declared.slot.Cells.TheVariants.{Own, Shared}

@@ -4,7 +4,7 @@
 pub const LONGEST_LINE: usize = 512;
 
 /// The most arguments of a call.
-pub const MOST_ARGUMENTS: usize = 8;
+pub const MOST_ARGUMENTS: usize = 9;
 
 /// The most digits of a number.
 pub const MOST_DIGITS: usize = 5;

@@ -2,4 +2,11 @@ pub mod WindowLaws
 pub mod PutLaws
 pub mod FrameLaws
 pub mod RefreshLaws
+pub mod Below
+pub mod PanelLaws
+pub mod SharingLaws
+pub mod AncestorLaws
+pub mod PictureLaws
+pub mod MoveLaws
 pub mod Sizes
+pub mod Examples

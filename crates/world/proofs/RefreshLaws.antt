@@ -1,12 +1,13 @@
 -- Refreshing windows changes neither what the search from the top finds nor the topmost's cursor.
-use Rattle.std.proofs.Common.{◌≡◌, ℕ, zero, suc, ◌+◌, ◌-◌, Bool, true, false, if◌then◌else◌, ◌==◌, Option, Some, None, List, [], ◌∷◌, ap, refl, ◌∙◌}
-use Rattle.std.specs.Prelude.{option_and_then}
+use Rattle.std.proofs.Common.{◌≡◌, ℕ, zero, suc, ◌+◌, ◌-◌, Bool, true, false, if◌then◌else◌, ◌==◌, Option, Some, None, List, ap, refl, ◌∙◌}
+use Rattle.std.specs.Prelude.{option_and_then, find, reverse}
 use Rattle.std.specs.Option.{option_map, option_map_or}
 use Rattle.std.specs.List.{list_any}
+use mathlib.Core.Path.{fun_ext}
 use Rattle.cell.specs.Glyphs.{blank}
 use Rattle.cell.specs.Pictures.{Place, origin}
 use Rattle.world.specs.Windows.{Backing, own_grid, part_of, Window, WindowMap, GridPlace, leads, own_within, own, cell_of, cell_in_grid, cell_at, window_limit}
-use Rattle.world.specs.Panels.{Panels, holds, holds_place, owner_among, place_of, screen_place, cursor_from, cell_on_screen, found_from_top, windows_from_top, cursor_on_screen, cursor_of_topmost, first_or_standard}
+use Rattle.world.specs.Panels.{Panels, holds, holds_place, panel_holds, owner, topmost, place_of, screen_place, cursor_from, cell_on_screen, found_from_top, cursor_on_screen, cursor_of_topmost, window_or_standard}
 use Rattle.world.specs.calls.Refresh.{unmarked, with_unmarked}
 
 -- what doesn't look at marks and clear flags is the same of a unmarked window
@@ -70,9 +71,11 @@ module _ (window : WindowMap) (ws : List ℕ) where
   holds-unmarked : (w y x : ℕ) → holds (with_unmarked window ws) w y x ≡ holds window w y x
   holds-unmarked w y x = same (λ o. option_map_or (holds_place y x) o false) (unmarked-holds y x) w
 
-  owner-unmarked : (us : List ℕ) (y x : ℕ) → owner_among (with_unmarked window ws) us y x ≡ owner_among window us y x
-  owner-unmarked [] y x = refl
-  owner-unmarked (u ∷ us) y x = rw (holds-unmarked u y x, owner-unmarked us y x) refl
+  panel_holds-unmarked : (panels : Panels) (y x p : ℕ) → panel_holds (with_unmarked window ws) panels y x p ≡ panel_holds window panels y x p
+  panel_holds-unmarked panels y x p = ap (λ (test : ℕ → Bool). option_map_or test (panels.window p) false) (fun_ext (λ w. holds-unmarked w y x))
+
+  owner-unmarked : (panels : Panels) (y x : ℕ) → owner (with_unmarked window ws) panels y x ≡ owner window panels y x
+  owner-unmarked panels y x = ap (λ (test : ℕ → Bool). find test (reverse panels.visible)) (fun_ext (panel_holds-unmarked panels y x))
 
   unmarked-cursor : (place : Place) (o : Option Window) → option_map_or (cursor_from place) (option_map unmarked o) origin ≡ option_map_or (cursor_from place) o origin
   unmarked-cursor place None = refl
@@ -87,8 +90,8 @@ module _ (window : WindowMap) (ws : List ℕ) where
 
   pub found-unmarked : (panels : Panels) (y x : ℕ) → found_from_top (with_unmarked window ws) panels y x ≡ found_from_top window panels y x
   found-unmarked panels y x =
-      ap (λ w. cell_on_screen (with_unmarked window ws) w y x) (owner-unmarked (windows_from_top panels) y x)
-      ∙ cell_on_screen-unmarked (owner_among window (windows_from_top panels) y x) y x
+      ap (λ p. cell_on_screen (with_unmarked window ws) (window_or_standard panels p) y x) (owner-unmarked panels y x)
+      ∙ cell_on_screen-unmarked (window_or_standard panels (owner window panels y x)) y x
 
   cursor_on_screen-unmarked : (w : ℕ) → cursor_on_screen (with_unmarked window ws) w ≡ cursor_on_screen window w
   cursor_on_screen-unmarked w =
@@ -96,4 +99,4 @@ module _ (window : WindowMap) (ws : List ℕ) where
       ∙ same (λ o. option_map_or (cursor_from (place_of window w)) o origin) (unmarked-cursor (place_of window w)) w
 
   pub cursor-unmarked : (panels : Panels) → cursor_of_topmost (with_unmarked window ws) panels ≡ cursor_of_topmost window panels
-  cursor-unmarked panels = cursor_on_screen-unmarked (first_or_standard (windows_from_top panels))
+  cursor-unmarked panels = cursor_on_screen-unmarked (window_or_standard panels (topmost panels))

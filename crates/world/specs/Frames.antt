@@ -1,6 +1,6 @@
 -- The rectangle that a drawing covers in a window: the smallest that holds each place of the window for which the drawing has a cell.
 -- The writing calls answer it; X/Open Curses has no such answer.
-use Rattle.std.specs.Prelude.{◌≡◌, ℕ, zero, suc, ◌<◌, ◌≤◌, min, max, true, if◌then◌else◌, Option, Some, None, is_some}
+use Rattle.std.specs.Prelude.{◌≡◌, ℕ, zero, suc, ◌<◌, ◌≤◌, min, max, true, if◌then◌else◌, Option, Some, None, is_some, IsSomeAnd}
 use Rattle.world.specs.Windows.{Drawing, Window}
 use Rattle.cell.specs.declared.window.Frame.{Frame}
 
@@ -55,3 +55,7 @@ pub record IsSmallest (Has : ℕ → ℕ → Type 0) (r : Frame) : Type 0 where
 abbrev pub IsFrameOf : (ℕ → ℕ → Type 0) → Option Frame → Type 0
 IsFrameOf Has None = (y x : ℕ) → Has y x → ⊥
 IsFrameOf Has (Some r) = IsSmallest Has r
+
+-- the places are all those of a rectangle, or there are none
+abbrev pub AreRectangle : (ℕ → ℕ → Type 0) → Option Frame → Type 0
+AreRectangle Has o = IsFrameOf Has o × ((y x : ℕ) → IsSomeAnd o (λ r. IsIn r y x) → Has y x)

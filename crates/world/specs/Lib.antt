@@ -6,4 +6,5 @@ pub mod Sound
 pub mod Rows
 pub mod Drawings
 pub mod Frames
+pub mod Sharing
 pub mod calls

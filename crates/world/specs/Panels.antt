@@ -1,10 +1,11 @@
 -- The panels, and the picture that they make of the windows.
 -- NetBSD panel(3): panels are windows with an order of depth, above the standard screen; hidden ones stand outside it.
-use Rattle.std.specs.Prelude.{unwrap_or, ℕ, ◌+◌, ◌-◌, Bool, false, if◌then◌else◌, ◌&&◌, nat_lt, nat_le, Option, None, List, [], ◌∷◌, reverse}
-use Rattle.std.specs.List.{filter_map}
+use Rattle.std.specs.Prelude.{unwrap_or, ℕ, ◌+◌, ◌-◌, Bool, false, ◌==◌, ◌&&◌, nat_lt, nat_le, Option, Some, None, List, [], reverse, find}
+use Rattle.std.specs.List.{filter_map, last_or}
 use Rattle.std.specs.Option.{option_map_or}
 use Rattle.cell.specs.Pictures.{Place, Shown, origin}
-use Rattle.world.specs.Windows.{Window, WindowMap, cell_at}
+use Rattle.cell.specs.declared.limits.TheConstants.{MOST_PANELS}
+use Rattle.world.specs.Windows.{Window, WindowMap, any_below, cell_at}
 
 -- the visible panels from bottom to top, and the window of each panel, which is hidden where the list lacks it
 pub record Panels : Type 0 where
@@ -14,6 +15,18 @@ pub record Panels : Type 0 where
 abbrev pub no_panels : Panels
 no_panels = record { visible = []; window = λ p. None }
 
+-- more than the number of any panel
+unfoldable pub panel_limit : ℕ
+panel_limit = MOST_PANELS + 1
+
+-- window w is in a panel, visible or hidden
+abbrev pub is_in_panel : Panels → ℕ → Bool
+is_in_panel panels w = any_below panel_limit (λ p. option_map_or (λ u. u == w) (panels.window p) false)
+
+-- no window is in a panel
+abbrev pub in_no_panel : ℕ → Bool
+in_no_panel w = false
+
 -- the number of the standard screen
 abbrev pub standard_screen : ℕ
 standard_screen = 0
@@ -22,10 +35,10 @@ standard_screen = 0
 abbrev pub windows_from_top : Panels → List ℕ
 windows_from_top panels = filter_map panels.window (reverse panels.visible)
 
--- the first of these windows, or else the standard screen
-abbrev pub first_or_standard : List ℕ → ℕ
-first_or_standard [] = standard_screen
-first_or_standard (w ∷ ws) = w
+-- the window of a panel, or else the standard screen
+abbrev pub window_or_standard : Panels → Option ℕ → ℕ
+window_or_standard panels None = standard_screen
+window_or_standard panels (Some p) = unwrap_or (panels.window p) standard_screen
 
 -- ---- the picture
 
@@ -36,10 +49,13 @@ holds_place y x a = option_map_or (λ p. (nat_le p.0 y && nat_lt y (p.0 + a.line
 abbrev pub holds : WindowMap → ℕ → ℕ → ℕ → Bool
 holds window w y x = option_map_or (holds_place y x) (window w) false
 
--- the first of these windows that holds the place, or else the standard screen
-abbrev pub owner_among : WindowMap → List ℕ → ℕ → ℕ → ℕ
-owner_among window [] y x = standard_screen
-owner_among window (w ∷ ws) y x = if holds window w y x then w else owner_among window ws y x
+-- whether the rectangle of the panel's window does
+abbrev pub panel_holds : WindowMap → Panels → ℕ → ℕ → ℕ → Bool
+panel_holds window panels y x p = option_map_or (λ w. holds window w y x) (panels.window p) false
+
+-- The search from the top: the first visible panel whose window's rectangle holds the place.
+abbrev pub owner : WindowMap → Panels → ℕ → ℕ → Option ℕ
+owner window panels y x = find (panel_holds window panels y x) (reverse panels.visible)
 
 -- the window's place on the screen; a pad has none
 abbrev pub screen_place : Window → Place
@@ -52,12 +68,16 @@ place_of window w = option_map_or screen_place (window w) origin
 abbrev pub cell_on_screen : WindowMap → ℕ → ℕ → ℕ → Shown
 cell_on_screen window w y x = cell_at window w (y - (place_of window w).0) (x - (place_of window w).1)
 
--- What a search from the top visible panel down to the standard screen finds at (y, x): the cell of the first window whose
--- rectangle holds the place.
+-- What a search from the top visible panel down to the standard screen finds at (y, x): the cell of the owner's window, or of the
+-- standard screen where no panel owns the place.
 abbrev pub found_from_top : WindowMap → Panels → ℕ → ℕ → Shown
-found_from_top window panels y x = cell_on_screen window (owner_among window (windows_from_top panels) y x) y x
+found_from_top window panels y x = cell_on_screen window (window_or_standard panels (owner window panels y x)) y x
 
 -- ---- the cursor
+
+-- the top visible panel
+abbrev pub topmost : Panels → Option ℕ
+topmost panels = last_or None panels.visible
 
 -- where the window's cursor stands on the screen
 abbrev pub cursor_from : Place → Window → Place
@@ -68,4 +88,4 @@ cursor_on_screen window w = option_map_or (cursor_from (place_of window w)) (win
 
 -- the cursor of the top visible panel's window, or the standard screen's if no panel is visible
 abbrev pub cursor_of_topmost : WindowMap → Panels → Place
-cursor_of_topmost window panels = cursor_on_screen window (first_or_standard (windows_from_top panels))
+cursor_of_topmost window panels = cursor_on_screen window (window_or_standard panels (topmost panels))

@@ -1,7 +1,8 @@
 -- Windows and pads: what they are, which cells they share, and what it is to write in one.
 -- X/Open Curses Issue 7: newwin, subwin and derwin (a derived window shares the cells of its parent), newpad, touchwin.
 -- Lines and columns count from 0; a place is named by its line y and its column x.
-use Rattle.std.specs.Prelude.{ℕ, zero, suc, ◌+◌, ◌-◌, ◌<◌, min, max, Bool, if◌then◌else◌, ◌==◌, nat_lt, nat_le, ◌&&◌, Option, Some, None, is_some, is_none, unwrap_or, option_and_then, IsSomeAnd}
+use Rattle.std.specs.Prelude.{ℕ, zero, suc, ◌+◌, ◌-◌, ◌<◌, min, max, Bool, false, if◌then◌else◌, ◌==◌, nat_lt, nat_le, ◌&&◌, ◌||◌, Option, Some, None, is_some, is_none, unwrap_or, option_and_then, IsSomeAnd, List, [], ◌∷◌}
+use Rattle.std.specs.List.{list_any}
 use Rattle.std.specs.Option.{option_map, option_map_or}
 use Rattle.cell.specs.Glyphs.{Glyph, blank}
 use Rattle.cell.specs.Pictures.{Place}
@@ -76,6 +77,30 @@ cell_in_grid window (Some p) = option_map_or (λ a. cell_of a.backing p.line p.c
 abbrev pub cell_at : WindowMap → ℕ → ℕ → ℕ → Glyph
 cell_at window w y x = cell_in_grid window (own window w y x)
 
+-- ---- ancestors
+
+-- the number of the parent that a backing names
+abbrev pub parent_number : Backing → Option ℕ
+parent_number (own_grid cells) = None
+parent_number (part_of parent line column) = Some parent
+
+-- the parent of window u
+abbrev pub parent_of : WindowMap → ℕ → Option ℕ
+parent_of window u = option_and_then (λ a. parent_number a.backing) (window u)
+
+-- the first n ancestors of window u: its parent, the parent's parent, and so on
+abbrev pub ancestors_within : ℕ → WindowMap → ℕ → List ℕ
+ancestors_within zero window u = []
+ancestors_within (suc n) window u = option_map_or (λ parent. parent ∷ ancestors_within n window parent) (parent_of window u) []
+
+-- all of them
+abbrev pub ancestors : WindowMap → ℕ → List ℕ
+ancestors window u = ancestors_within window_limit window u
+
+-- window u derives from window w, at any depth
+abbrev pub derives : WindowMap → ℕ → ℕ → Bool
+derives window w u = list_any (λ v. v == w) (ancestors window u)
+
 -- ---- writing
 
 -- cells for some places of a window
@@ -134,6 +159,11 @@ abbrev pub over : Drawing → Drawing → Drawing
 over g f y x = if is_some (g y x) then g y x else f y x
 
 -- ---- windows by number
+
+-- some number below n passes the test
+abbrev pub any_below : ℕ → (ℕ → Bool) → Bool
+any_below zero test = false
+any_below (suc n) test = test n || any_below n test
 
 -- window w is there and has the place (y, x)
 abbrev pub HasPlace : WindowMap → ℕ → ℕ → ℕ → Type 0

@@ -18,6 +18,10 @@ pub record World : Type 0 where
   pub panels : Panels
   pub virtual : VirtualScreen
 
+-- windows under a virtual screen, without panels
+abbrev pub without_panels : Windows → VirtualScreen → World
+without_panels windows virtual = record { windows = windows; panels = no_panels; virtual = virtual }
+
 -- the picture of the world: what the search from the top finds at (y, x)
 abbrev pub picture : World → ℕ → ℕ → Shown
 picture world y x = found_from_top world.windows.window world.panels y x
@@ -41,8 +45,6 @@ new_window lines columns place backing = record { lines = lines; columns = colum
 
 -- the standard screen alone, under a blank virtual screen
 abbrev pub first_world : ℕ → ℕ → World
-first_world lines columns = record {
-  windows = record { lines = lines; columns = columns; window = replaced no_windows standard_screen (Some (new_window lines columns (Some origin) blank_grid)) };
-  panels = no_panels;
-  virtual = record { picture = blank_picture lines columns; cursor = origin; clear = false };
-}
+first_world lines columns = without_panels
+    (record { lines = lines; columns = columns; window = replaced no_windows standard_screen (Some (new_window lines columns (Some origin) blank_grid)) })
+    (record { picture = blank_picture lines columns; cursor = origin; clear = false })

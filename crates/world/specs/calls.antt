@@ -4,3 +4,4 @@ pub mod writing
 pub mod Queries
 pub mod Refresh
 pub mod Dispatch
+pub mod Affected

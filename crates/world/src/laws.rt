@@ -1,15 +1,26 @@
 //! What holds of the definitions alone. Each function does nothing, and its contract is the law.
 
-ghost use Rattle.std.specs.Prelude.{◌≡◌, ◌<◌, ℕ, List, Some, IsSome, option_map, ◌⊎◌};
-ghost use Rattle.world.specs.Frames.{Covers, IsFrameOf, frame_of, joined};
+ghost use Rattle.std.specs.Prelude.{◌≡◌, ◌<◌, ℕ, false, List, Option, Some, IsSome, option_map, ◌⊎◌};
+ghost use Rattle.cell.specs.declared.window.Frame.{Frame};
+ghost use Rattle.world.specs.Frames.{AreRectangle, Covers, IsFrameOf, frame_of, joined};
 ghost use Rattle.world.specs.Panels.{Panels, cursor_of_topmost, found_from_top};
+ghost use Rattle.world.specs.Sharing.{SharesPart};
+ghost use Rattle.world.specs.Sound.{AreSoundWindows};
+ghost use Rattle.world.specs.World.{World, picture};
+ghost use Rattle.world.specs.calls.Affected.{frame_affects, move_affects};
+ghost use Rattle.world.specs.calls.Making.{after_mvderwin, mvderwin_refusal};
 ghost use Rattle.world.specs.calls.Refresh.{with_unmarked};
 ghost use Rattle.cell.specs.Glyphs.{Glyph};
-ghost use Rattle.world.specs.Windows.{Drawing, GridPlace, HasPlace, Window, WindowMap, cell_at, onward, over, own, put_windows};
+ghost use Rattle.world.specs.Windows.{Drawing, GridPlace, HasPlace, Window, WindowMap, Windows, cell_at, derives, onward, over, own, put_windows};
 
 /// The places of a window lead to a rectangle of one grid: where one leads is where the first one leads, moved.
 pub fn own_is_moved()
     ensures { (window : WindowMap) (w y x : ℕ) → own window w y x ≡ option_map (onward y x) (own window w 0 0) }
+{}
+
+/// The places at which one window shows cells of a rectangle of another are a rectangle, or there are none.
+pub fn shared_rectangle()
+    ensures { (window : WindowMap) (w : ℕ) (r : Frame) (u : ℕ) → (o : Option Frame) × AreRectangle (SharesPart window w r u) o }
 {}
 
 /// A second write through a window is one write of its drawing laid over the first one's.
@@ -34,6 +45,23 @@ pub fn kept_cell()
     ensures { (window : WindowMap) (w : ℕ) (f : Drawing) (u v z : ℕ)
         → ((y x : ℕ) → HasPlace window w y x → IsSome (f y x) → own window w y x ≡ own window u v z → ⊥)
         → cell_at (put_windows window w f) u v z ≡ cell_at window u v z }
+{}
+
+/// A write through a window leaves the picture as it is on each line of the screen that its frame doesn't affect; and so does mvderwin
+/// on each line that it doesn't affect.
+pub fn kept_picture()
+    ensures written { (world : World) (w : ℕ) (a : Window) (f : Drawing) (y x : ℕ) → AreSoundWindows world.windows
+        → world.windows.window w ≡ Some a → y < world.windows.lines → x < world.windows.columns
+        → frame_affects world w (frame_of a f) y ≡ false
+        → found_from_top (put_windows world.windows.window w f) world.panels y x ≡ picture world y x }
+    ensures moved { (world : World) (w v z y x : ℕ) → AreSoundWindows world.windows → mvderwin_refusal world.windows w v z ≡ None
+        → move_affects world w y ≡ false → found_from_top (after_mvderwin world.windows w v z).window world.panels y x ≡ picture world y x }
+{}
+
+/// Where a derived window is moved in its parent, each window that neither is it nor derives from it shows the cells that it showed.
+pub fn kept_by_mvderwin()
+    ensures { (windows : Windows) (w y x u v z : ℕ) → (u ≡ w → ⊥) → derives windows.window w u ≡ false
+        → cell_at (after_mvderwin windows w y x).window u v z ≡ cell_at windows.window u v z }
 {}
 
 /// The rectangle of a drawing holds each place of the window that the drawing covers, and each of its sides has such a place; there is

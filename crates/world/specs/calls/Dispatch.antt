@@ -5,7 +5,7 @@ use Rattle.std.specs.Option.{option_map_or}
 use Rattle.cell.specs.Attributes.{bits_of}
 use Rattle.cell.specs.Pictures.{Place}
 use Rattle.world.specs.Windows.{Windows}
-use Rattle.world.specs.Panels.{standard_screen}
+use Rattle.world.specs.Panels.{is_in_panel, standard_screen}
 use Rattle.world.specs.World.{World}
 use Rattle.world.specs.calls.Making.{new_number, newwin_refusal, after_newwin, subwin_refusal, after_subwin, derwin_refusal, after_derwin, newpad_refusal, after_newpad, subpad_refusal, after_subpad, delwin_refusal, after_delwin, mvwin_refusal, after_mvwin, mvderwin_refusal, after_mvderwin}
 use Rattle.world.specs.calls.writing.Characters.{addch_refusal, after_addch, addstr_refusal, after_addstr, insch_refusal, after_insch, after_delch}
@@ -24,21 +24,23 @@ use Rattle.world.specs.declared.call.Writing.{Writing}
 use Rattle.world.specs.declared.call.Writing.TheVariants.{Move, Addch, Addstr, Insch, Delch, Insertln, Deleteln, Erase, Clrtoeol, Clrtobot, Scrl, Setscrreg, Scrollok, Attrset, Attron, Attroff, Bkgdset}
 use Rattle.world.specs.declared.call.Query.{Query}
 use Rattle.world.specs.declared.call.Query.TheVariants.{Getyx, Getbegyx, Getmaxyx, Getparyx, Inch}
+use Rattle.world.specs.declared.call.Refresh.{Refresh}
 use Rattle.world.specs.declared.call.Refresh.TheVariants.{UpdatePanels, Doupdate}
 use Rattle.world.specs.declared.call.Reply.{Reply}
 use Rattle.world.specs.declared.call.Reply.TheVariants.{Nothing, Number, Pair, Cell, Composed}
 
 -- ---- refusals: the first of a call's tests that holds
 
-abbrev pub making_refusal : Windows → Making → Option Refusal
-making_refusal windows (Newwin nlines ncols y x) = newwin_refusal windows nlines ncols y x
-making_refusal windows (Subwin win nlines ncols y x) = subwin_refusal windows win.0 nlines ncols y x
-making_refusal windows (Derwin win nlines ncols y x) = derwin_refusal windows win.0 nlines ncols y x
-making_refusal windows (Newpad nlines ncols) = newpad_refusal windows nlines ncols
-making_refusal windows (Subpad pad nlines ncols y x) = subpad_refusal windows pad.0 nlines ncols y x
-making_refusal windows (Delwin win) = delwin_refusal windows win.0
-making_refusal windows (Mvwin win y x) = mvwin_refusal windows win.0 y x
-making_refusal windows (Mvderwin win y x) = mvderwin_refusal windows win.0 y x
+-- in_panel says of each window whether it is in a panel
+abbrev pub making_refusal : Windows → (ℕ → Bool) → Making → Option Refusal
+making_refusal windows in_panel (Newwin nlines ncols y x) = newwin_refusal windows nlines ncols y x
+making_refusal windows in_panel (Subwin win nlines ncols y x) = subwin_refusal windows win.0 nlines ncols y x
+making_refusal windows in_panel (Derwin win nlines ncols y x) = derwin_refusal windows win.0 nlines ncols y x
+making_refusal windows in_panel (Newpad nlines ncols) = newpad_refusal windows nlines ncols
+making_refusal windows in_panel (Subpad pad nlines ncols y x) = subpad_refusal windows pad.0 nlines ncols y x
+making_refusal windows in_panel (Delwin win) = delwin_refusal windows (in_panel win.0) win.0
+making_refusal windows in_panel (Mvwin win y x) = mvwin_refusal windows (in_panel win.0) win.0 y x
+making_refusal windows in_panel (Mvderwin win y x) = mvderwin_refusal windows win.0 y x
 
 abbrev pub writing_refusal : Windows → Writing → Option Refusal
 writing_refusal windows (Move win y x) = move_refusal windows win.0 y x
@@ -66,22 +68,32 @@ query_refusal windows (Getmaxyx win) = missing_refusal windows.window win.0
 query_refusal windows (Getparyx win) = getparyx_refusal windows.window win.0
 query_refusal windows (Inch win) = missing_refusal windows.window win.0
 
+abbrev pub refresh_refusal : Windows → Refresh → Option Refusal
+refresh_refusal windows UpdatePanels = None
+refresh_refusal windows Doupdate = None
+
 abbrev pub refusal : World → Call → Option Refusal
-refusal world (calls.Making making) = making_refusal world.windows making
+refusal world (calls.Making making) = making_refusal world.windows (is_in_panel world.panels) making
 refusal world (calls.Writing writing) = writing_refusal world.windows writing
 refusal world (calls.Query query) = query_refusal world.windows query
-refusal world (calls.Refresh refresh) = None
+refusal world (calls.Refresh refresh) = refresh_refusal world.windows refresh
 
 -- The calls that make a window or pad take memory. Where there is none of it, they are refused for that.
 abbrev pub makes_window : Making → Bool
+makes_window (Newwin nlines ncols y x) = true
+makes_window (Subwin win nlines ncols y x) = true
+makes_window (Derwin win nlines ncols y x) = true
+makes_window (Newpad nlines ncols) = true
+makes_window (Subpad pad nlines ncols y x) = true
 makes_window (Delwin win) = false
 makes_window (Mvwin win y x) = false
 makes_window (Mvderwin win y x) = false
-makes_window _ = true
 
 abbrev pub takes_memory : Call → Bool
 takes_memory (calls.Making making) = makes_window making
-takes_memory _ = false
+takes_memory (calls.Writing writing) = false
+takes_memory (calls.Query query) = false
+takes_memory (calls.Refresh refresh) = false
 
 -- ---- changes
 
@@ -153,5 +165,15 @@ reply_of world (calls.Refresh Doupdate) = Nothing
 -- ---- kinds of calls
 
 abbrev pub is_doupdate : Call → Bool
+is_doupdate (calls.Making making) = false
+is_doupdate (calls.Writing writing) = false
+is_doupdate (calls.Query query) = false
+is_doupdate (calls.Refresh UpdatePanels) = false
 is_doupdate (calls.Refresh Doupdate) = true
-is_doupdate _ = false
+
+abbrev pub is_update_panels : Call → Bool
+is_update_panels (calls.Making making) = false
+is_update_panels (calls.Writing writing) = false
+is_update_panels (calls.Query query) = false
+is_update_panels (calls.Refresh UpdatePanels) = true
+is_update_panels (calls.Refresh Doupdate) = false

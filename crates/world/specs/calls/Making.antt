@@ -2,17 +2,17 @@
 -- X/Open Curses Issue 7: newwin, derwin, subwin, newpad, subpad, delwin, mvwin, mvderwin. That a size of 0 reaches to the edge of the
 -- parent too, the limits of size and of number, and the order of the tests are Curspan's own choice.
 use Rattle.std.specs.Prelude.{ℕ, zero, suc, ◌+◌, ◌-◌, Bool, true, false, not, if◌then◌else◌, ◌==◌, nat_lt, nat_le, ◌&&◌, ◌||◌, Option, Some, None, is_none, is_some, List, [], ◌∷◌}
-use Rattle.std.specs.Option.{option_map, option_map_or}
+use Rattle.std.specs.Option.{option_and_then, option_map, option_map_or}
 use Rattle.cell.specs.Pictures.{Place}
 use Rattle.cell.specs.Limits.{is_no_size}
 use Rattle.cell.specs.Refusals.{first_of}
 use Rattle.cell.specs.declared.limits.TheConstants.{LARGEST_PAD, LARGEST_SCREEN}
-use Rattle.world.specs.Windows.{Backing, own_grid, part_of, Window, WindowMap, Windows, window_limit, changed, replaced}
+use Rattle.world.specs.Windows.{Backing, own_grid, part_of, Window, WindowMap, Windows, any_below, parent_number, window_limit, changed, replaced}
 use Rattle.world.specs.Panels.{standard_screen, place_of}
 use Rattle.world.specs.World.{new_window, blank_grid}
 use Rattle.world.specs.Windows.{is_missing}
 use Rattle.cell.specs.declared.refusal.Refusal.{Refusal}
-use Rattle.cell.specs.declared.refusal.Refusal.TheVariants.{NoSuchWindow, OffScreen, OutsideParent, HasDerived, IsPad, NotPad, NotDerived, BadSize, StandardScreen, TooMany}
+use Rattle.cell.specs.declared.refusal.Refusal.TheVariants.{NoSuchWindow, OffScreen, OutsideParent, HasDerived, InPanel, IsPad, NotPad, NotDerived, BadSize, StandardScreen, TooMany}
 
 -- ---- what a window is
 
@@ -32,11 +32,6 @@ has_no_parent window w = option_map_or (λ a. is_own a.backing) (window w) false
 abbrev pub is_part_of : ℕ → Backing → Bool
 is_part_of w (own_grid cells) = false
 is_part_of w (part_of parent line column) = parent == w
-
--- some number below n passes the test
-abbrev pub any_below : ℕ → (ℕ → Bool) → Bool
-any_below zero test = false
-any_below (suc n) test = test n || any_below n test
 
 -- some window derives from window w
 abbrev pub has_derived : WindowMap → ℕ → Bool
@@ -160,11 +155,13 @@ abbrev pub is_off_screen : Windows → ℕ → ℕ → ℕ → Bool
 is_off_screen windows w y x =
     option_map_or (λ a. not (nat_le (y + a.lines) windows.lines && nat_le (x + a.columns) windows.columns)) (windows.window w) false
 
-abbrev pub mvwin_refusal : Windows → ℕ → ℕ → ℕ → Option Refusal
-mvwin_refusal windows w y x = first_of (
+-- in_panel says whether the window is in a panel: then only its panel moves it
+abbrev pub mvwin_refusal : Windows → Bool → ℕ → ℕ → ℕ → Option Refusal
+mvwin_refusal windows in_panel w y x = first_of (
     (is_missing windows.window w, NoSuchWindow)
     ∷ (w == standard_screen, StandardScreen)
     ∷ (is_pad windows.window w, IsPad)
+    ∷ (in_panel, InPanel)
     ∷ (is_off_screen windows w y x, OffScreen)
     ∷ [])
 
@@ -178,8 +175,7 @@ after_mvwin windows w y x = record windows { window = changed windows.window w (
 
 -- the window that a backing names as parent
 abbrev pub parent_in : WindowMap → Backing → Option Window
-parent_in window (own_grid cells) = None
-parent_in window (part_of parent line column) = window parent
+parent_in window backing = option_and_then window (parent_number backing)
 
 abbrev pub reaches_past : ℕ → ℕ → Window → Window → Bool
 reaches_past y x a parent = not (nat_le (y + a.lines) parent.lines && nat_le (x + a.columns) parent.columns)
@@ -206,10 +202,12 @@ after_mvderwin windows w y x = record windows { window = changed windows.window 
 
 -- ---- delwin
 
-abbrev pub delwin_refusal : Windows → ℕ → Option Refusal
-delwin_refusal windows w = first_of (
+-- in_panel says whether the window is in a panel
+abbrev pub delwin_refusal : Windows → Bool → ℕ → Option Refusal
+delwin_refusal windows in_panel w = first_of (
     (is_missing windows.window w, NoSuchWindow)
     ∷ (w == standard_screen, StandardScreen)
+    ∷ (in_panel, InPanel)
     ∷ (has_derived windows.window w, HasDerived)
     ∷ [])
 

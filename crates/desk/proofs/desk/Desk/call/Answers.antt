@@ -1,6 +1,14 @@
 use Rattle.world.specs.World.{VirtualScreen}
-use Rattle.desk.proofs.DeskLemmas.{IsSound-desk, size-written}
+use Rattle.desk.proofs.DeskLemmas.{IsSound-desk, made-called, size-written}
 use Rattle.desk.proofs.desk.Desk.call.Goals as goal
+
+pub returns-in-Making : goal.returns-in-Making
+returns-in-Making c =
+    let d = c.self.inside in
+    let virtual : VirtualScreen = record { picture = d.picture; cursor = d.cursor; clear = d.clear } in
+    let e = c.make.ensures in
+    rw (← c.self.view_is, c.in-Making.is)
+    (made-called d.windows.table c.make.new.table virtual c.in-Making.making c.make.result e.refused e.exact e.reply e.made e.unchanged)
 
 pub invariant_of-self-in-Writing : goal.invariant_of-self-in-Writing
 invariant_of-self-in-Writing c =

@@ -1,0 +1,32 @@
+-- What a stream reaches, and where it fails.
+use Rattle.std.proofs.Common.{◌≡◌, ℕ, List, [], length, Option, Some, ap, arith, refl, sym, ◌∙◌, subst}
+use Rattle.ecma.specs.Items.{Item}
+use Rattle.ecma.specs.Terminals.{Terminal, effects}
+use Rattle.ecma.specs.Streams.{FailsAt, IsInProfile, Reaches}
+use Rattle.ecma.proofs.Unique.{Splits-same}
+
+pub Reaches-unique : (stream : List ℕ) (offset : ℕ) (t u v : Terminal) → Reaches stream t offset u → Reaches stream t offset v → u ≡ v
+Reaches-unique stream offset t u v h k =
+    let one = h.at in
+    let other = k.at in
+    let same = Splits-same stream h.items k.items h.rest k.rest h.splits k.splits (omega arith) in
+    let both : ◌≡◌ {A = Option Terminal} (Some u) (Some v) = sym h.have_effect ∙ ap (λ (items : List Item). effects items t) same ∙ k.have_effect in
+    cc
+
+pub FailsAt-offset : (stream : List ℕ) (offset other : ℕ) (t u v : Terminal) → FailsAt stream t offset u → FailsAt stream t other v → offset ≡ other
+FailsAt-offset stream offset other t u v h k =
+    let least = k.greatest offset u h.reaches in
+    let most = h.greatest other v k.reaches in
+    omega arith
+
+pub FailsAt-terminal : (stream : List ℕ) (offset other : ℕ) (t u v : Terminal) → FailsAt stream t offset u → FailsAt stream t other v → u ≡ v
+FailsAt-terminal stream offset other t u v h k =
+    let same = FailsAt-offset stream offset other t u v h k in
+    Reaches-unique stream other t u v (subst (λ (at : ℕ). Reaches stream t at u) same h.reaches) k.reaches
+
+pub FailsAt-outside : (stream : List ℕ) (offset : ℕ) (t u v : Terminal) → FailsAt stream t offset u → IsInProfile stream t v → ⊥
+FailsAt-outside stream offset t u v h k =
+    let whole : Reaches stream t (length stream) v = record { items = k.items; rest = []; splits = k.splits; at = omega arith; have_effect = k.have_effect } in
+    let least = h.greatest (length stream) v whole in
+    let short = h.short in
+    omega arith

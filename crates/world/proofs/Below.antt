@@ -1,0 +1,63 @@
+-- Tests of the numbers below a number, and of the places of a rectangle.
+use Rattle.std.proofs.Common.{◌≡◌, ℕ, zero, suc, ◌+◌, ◌<◌, Bool, true, false, ◌&&◌, nat_le, subst, inl, inr, arith, refl}
+use Rattle.std.proofs.lemmas.Bool.{cases_eq, and_parts, and_from, or_cases, or_left, or_right, leb-true, le-leb}
+use Rattle.world.specs.Windows.{any_below}
+use Rattle.world.specs.Frames.{IsIn}
+use Rattle.world.specs.Sharing.{any_in}
+use Rattle.cell.specs.declared.window.Frame.{Frame}
+
+pub record FoundBelow (n : ℕ) (test : ℕ → Bool) : Type 0 where
+  pub number : ℕ
+  pub below : number < n
+  pub passes : test number ≡ true
+
+pub any_below-true : (n : ℕ) (test : ℕ → Bool) → any_below n test ≡ true → FoundBelow n test
+any_below-true zero test h = cc
+any_below-true (suc n) test h = elim (or_cases (test n) (any_below n test) h) [
+  | inl here ↦ record { number = n; below = omega arith; passes = here }
+  | inr before ↦
+      let found = any_below-true n test before in
+      let below = found.below in
+      record { number = found.number; below = omega arith; passes = found.passes }
+]
+
+pub any_below-some : (n : ℕ) (test : ℕ → Bool) (k : ℕ) → k < n → test k ≡ true → any_below n test ≡ true
+any_below-some zero test k h is = absurd (omega arith)
+any_below-some (suc n) test k h is = elim (cases_eq k n) [
+  | inl same ↦ or_left (test n) (any_below n test) (subst (λ (j : ℕ). test j ≡ true) same is)
+  | inr other ↦ or_right (test n) (any_below n test) (any_below-some n test k (omega arith) is)
+]
+
+pub record FoundIn (r : Frame) (test : ℕ → ℕ → Bool) : Type 0 where
+  pub line : ℕ
+  pub column : ℕ
+  pub inside : IsIn r line column
+  pub passes : test line column ≡ true
+
+pub any_in-true : (r : Frame) (test : ℕ → ℕ → Bool) → any_in r test ≡ true → FoundIn r test
+any_in-true r test h =
+    let line = any_below-true (r.bottom + 1) (λ y. nat_le r.top y && any_below (r.right + 1) (λ x. nat_le r.left x && test y x)) h in
+    let lines = and_parts (nat_le r.top line.number) (any_below (r.right + 1) (λ x. nat_le r.left x && test line.number x)) line.passes in
+    let column = any_below-true (r.right + 1) (λ x. nat_le r.left x && test line.number x) lines.1 in
+    let columns = and_parts (nat_le r.left column.number) (test line.number column.number) column.passes in
+    let bottom = line.below in
+    let right = column.below in
+    record {
+      line = line.number;
+      column = column.number;
+      inside = record { top = leb-true r.top line.number lines.0; bottom = omega arith; left = leb-true r.left column.number columns.0; right = omega arith };
+      passes = columns.1;
+    }
+
+pub any_in-some : (r : Frame) (test : ℕ → ℕ → Bool) (y x : ℕ) → IsIn r y x → test y x ≡ true → any_in r test ≡ true
+any_in-some r test y x inside is =
+    let bottom = inside.bottom in
+    let right = inside.right in
+    any_below-some (r.bottom + 1) (λ v. nat_le r.top v && any_below (r.right + 1) (λ z. nat_le r.left z && test v z)) y (omega arith)
+    (and_from (nat_le r.top y) (any_below (r.right + 1) (λ z. nat_le r.left z && test y z)) (le-leb r.top y inside.top)
+    (any_below-some (r.right + 1) (λ z. nat_le r.left z && test y z) x (omega arith)
+    (and_from (nat_le r.left x) (test y x) (le-leb r.left x inside.left) is)))
+
+pub none-below : (n : ℕ) → any_below n (λ k. false) ≡ false
+none-below zero = refl
+none-below (suc n) = none-below n

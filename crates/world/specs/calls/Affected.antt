@@ -1,0 +1,132 @@
+-- The screen lines on which a call can change the picture, and how many cells of windows an update_panels may read for them.
+-- X/Open Curses Issue 7 and NetBSD panel(3) say nothing of what a refresh reads: these bounds are Curspan's own.
+use Rattle.std.specs.Prelude.{ℕ, ◌+◌, ◌-◌, ◌*◌, Bool, false, if◌then◌else◌, ◌==◌, ◌&&◌, ◌||◌, nat_lt, nat_le, Option, None, is_none, List, [], ◌∷◌}
+use Rattle.std.specs.List.{count_by, list_any, range_with_len}
+use Rattle.std.specs.Option.{option_map_or}
+use Rattle.world.specs.Windows.{Window, WindowMap, Windows, any_below, derives}
+use Rattle.world.specs.Panels.{screen_place, windows_from_top}
+use Rattle.world.specs.World.{World}
+use Rattle.world.specs.Sharing.{shows_part_of}
+use Rattle.world.specs.calls.writing.Characters.{addch_frame, addstr_frame, delch_frame, insch_frame}
+use Rattle.world.specs.calls.writing.Editing.{clrtobot_frame, clrtoeol_frame, deleteln_frame, erase_frame, insertln_frame, scrl_frame}
+use Rattle.world.specs.calls.Refresh.{composed_windows}
+use Rattle.world.specs.calls.Dispatch.{is_update_panels, refusal, world_after}
+use Rattle.cell.specs.declared.window.Frame.{Frame}
+use Rattle.world.specs.declared.call.Call.{Call}
+use Rattle.world.specs.declared.call.Call.TheVariants as calls
+use Rattle.world.specs.declared.call.Making.{Making}
+use Rattle.world.specs.declared.call.Making.TheVariants.{Newwin, Subwin, Derwin, Newpad, Subpad, Delwin, Mvwin, Mvderwin}
+use Rattle.world.specs.declared.call.Writing.{Writing}
+use Rattle.world.specs.declared.call.Writing.TheVariants.{Move, Addch, Addstr, Insch, Delch, Insertln, Deleteln, Erase, Clrtoeol, Clrtobot, Scrl, Setscrreg, Scrollok, Attrset, Attron, Attroff, Bkgdset}
+
+-- ---- what a call writes: the window, and the frame in it
+
+abbrev pub written_window : Writing → ℕ
+written_window (Move win y x) = win.0
+written_window (Addch win character) = win.0
+written_window (Addstr win text) = win.0
+written_window (Insch win character) = win.0
+written_window (Delch win) = win.0
+written_window (Insertln win) = win.0
+written_window (Deleteln win) = win.0
+written_window (Erase win) = win.0
+written_window (Clrtoeol win) = win.0
+written_window (Clrtobot win) = win.0
+written_window (Scrl win n) = win.0
+written_window (Setscrreg win top bottom) = win.0
+written_window (Scrollok win flag) = win.0
+written_window (Attrset win attributes) = win.0
+written_window (Attron win attributes) = win.0
+written_window (Attroff win attributes) = win.0
+written_window (Bkgdset win attributes character) = win.0
+
+abbrev pub writing_frame : Windows → Writing → Option Frame
+writing_frame windows (Move win y x) = None
+writing_frame windows (Addch win character) = addch_frame windows win.0 character
+writing_frame windows (Addstr win text) = addstr_frame windows win.0 text.now
+writing_frame windows (Insch win character) = insch_frame windows win.0 character
+writing_frame windows (Delch win) = delch_frame windows win.0
+writing_frame windows (Insertln win) = insertln_frame windows win.0
+writing_frame windows (Deleteln win) = deleteln_frame windows win.0
+writing_frame windows (Erase win) = erase_frame windows win.0
+writing_frame windows (Clrtoeol win) = clrtoeol_frame windows win.0
+writing_frame windows (Clrtobot win) = clrtobot_frame windows win.0
+writing_frame windows (Scrl win n) = scrl_frame windows win.0 n
+writing_frame windows (Setscrreg win top bottom) = None
+writing_frame windows (Scrollok win flag) = None
+writing_frame windows (Attrset win attributes) = None
+writing_frame windows (Attron win attributes) = None
+writing_frame windows (Attroff win attributes) = None
+writing_frame windows (Bkgdset win attributes character) = None
+
+abbrev pub call_frame : World → Call → Option Frame
+call_frame world (calls.Making making) = None
+call_frame world (calls.Writing writing) = writing_frame world.windows writing
+call_frame world (calls.Query query) = None
+call_frame world (calls.Refresh refresh) = None
+
+-- ---- lines of the screen
+
+-- the line is one of the window's rectangle; a pad has none
+abbrev pub has_line : ℕ → Window → Bool
+has_line line a = option_map_or (λ p. nat_le p.0 line && nat_lt line (p.0 + a.lines)) a.place false
+
+-- on the line window u, covered or not, shows a cell that window w shows in a rectangle of it
+abbrev pub shows_on_line : WindowMap → ℕ → Frame → ℕ → ℕ → Bool
+shows_on_line window w r line u =
+    option_map_or (λ a. has_line line a && any_below a.columns (λ x. shows_part_of window w r u (line - (screen_place a).0) x)) (window u) false
+
+-- Of a write in a frame of window w: the lines on which the standard screen or a visible panel's window shows a cell of the frame.
+abbrev pub frame_affects : World → ℕ → Option Frame → ℕ → Bool
+frame_affects world w frame line = option_map_or (λ r. list_any (shows_on_line world.windows.window w r line) (composed_windows world)) frame false
+
+-- window u, which is window w or derives from it, has the line
+abbrev pub follows_on_line : WindowMap → ℕ → ℕ → ℕ → Bool
+follows_on_line window w line u = (u == w || derives window w u) && option_map_or (has_line line) (window u) false
+
+-- Of a window moved in its parent: the lines of the visible panels' windows that show other cells then.
+abbrev pub move_affects : World → ℕ → ℕ → Bool
+move_affects world w line = list_any (follows_on_line world.windows.window w line) (windows_from_top world.panels)
+
+abbrev pub making_affects : World → Making → ℕ → Bool
+making_affects world (Newwin nlines ncols y x) line = false
+making_affects world (Subwin win nlines ncols y x) line = false
+making_affects world (Derwin win nlines ncols y x) line = false
+making_affects world (Newpad nlines ncols) line = false
+making_affects world (Subpad pad nlines ncols y x) line = false
+making_affects world (Delwin win) line = false
+making_affects world (Mvwin win y x) line = false
+making_affects world (Mvderwin win y x) line = move_affects world win.0 line
+
+-- of an accepted call
+abbrev pub accepted_affects : World → Call → ℕ → Bool
+accepted_affects world (calls.Making making) line = making_affects world making line
+accepted_affects world (calls.Writing writing) line = frame_affects world (written_window writing) (writing_frame world.windows writing) line
+accepted_affects world (calls.Query query) line = false
+accepted_affects world (calls.Refresh refresh) line = false
+
+-- The lines that a call affects: none if it is refused.
+abbrev pub affected_lines : World → Call → ℕ → Bool
+affected_lines world call line = is_none (refusal world call) && accepted_affects world call line
+
+-- ---- what the update_panels of a run may read
+
+-- the lines affected since the last update_panels, after a call that was accepted
+abbrev pub affected_after : World → (ℕ → Bool) → Call → ℕ → Bool
+affected_after world affected call line = if is_update_panels call then false else affected line || affected_lines world call line
+
+-- an update_panels owes the columns of each of these lines
+abbrev pub owed : World → (ℕ → Bool) → Call → ℕ
+owed world affected call = if is_update_panels call then count_by affected (range_with_len 0 world.windows.lines) * world.windows.columns else 0
+
+-- The bound on reads: what all update_panels of a run owe, from a world with lines affected before it. A run's calls are listed with
+-- whether each was accepted.
+abbrev pub bound_on_reads : World → (ℕ → Bool) → List (Call × Bool) → ℕ
+bound_on_reads world affected [] = 0
+bound_on_reads world affected (call ∷ calls) =
+    if call.1 then owed world affected call.0 + bound_on_reads (world_after world call.0) (affected_after world affected call.0) calls
+    else bound_on_reads world affected calls
+
+-- as at the start of a run on a new screen
+abbrev pub no_lines : ℕ → Bool
+no_lines line = false
