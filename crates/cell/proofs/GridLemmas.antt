@@ -7,25 +7,24 @@ use Rattle.std.proofs.lemmas.List.{length-set, length-take-le, length-drop, leng
 use Rattle.std.proofs.lemmas.List.Elements.{All-from_recursion, recursion_from_All, All-take, All-drop}
 use Rattle.std.proofs.lemmas.List.FromFn.{length-map-range_with_len, get_or-map-range_with_len}
 use Rattle.std.proofs.lemmas.Nat.{mul-le, row_fits}
-use Rattle.cell.specs.Glyphs.{Glyph, IsCell}
-use Rattle.cell.specs.Pictures.{Picture, Shown, shown_blank, line_of, with_shown, AreCells, size_of, blank_picture}
+use Rattle.cell.specs.Pictures.{line_of, with_cell, EachCell, size_of, all_of}
 use Rattle.cell.specs.Grids.{rows, IsGrid}
 use Rattle.cell.proofs.PictureLemmas.{each-set, each-map}
 
-abbrev line_at : ℕ → List Glyph → ℕ → List Shown
+abbrev line_at : {A : Type 0} → ℕ → List A → ℕ → List A
 line_at columns cells y = take columns (drop (y * columns) cells)
 
-pub length-rows : (lines columns : ℕ) (cells : List Glyph) → length (rows lines columns cells) ≡ lines
+pub length-rows : {A : Type 0} (lines columns : ℕ) (cells : List A) → length (rows lines columns cells) ≡ lines
 length-rows lines columns cells = length-map-range_with_len (line_at columns cells) 0 lines
 
-pub line_of-rows : (lines columns : ℕ) (cells : List Glyph) (y : ℕ) → y < lines → line_of (rows lines columns cells) y ≡ take columns (drop (y * columns) cells)
+pub line_of-rows : {A : Type 0} (lines columns : ℕ) (cells : List A) (y : ℕ) → y < lines → line_of (rows lines columns cells) y ≡ take columns (drop (y * columns) cells)
 line_of-rows lines columns cells y below = get_or-map-range_with_len (line_at columns cells) 0 lines y y [] below (zero-add y)
 
 -- the cells of a line lie before the lines below it, and these among all cells
 pub line_end : (lines columns y : ℕ) → y < lines → y * columns + columns ≤ lines * columns
 line_end lines columns y below = row_fits y columns lines columns below (omega arith)
 
-pub length-line_of-rows : (lines columns : ℕ) (cells : List Glyph) (y : ℕ) → IsGrid lines columns cells → y < lines → length (line_of (rows lines columns cells) y) ≡ columns
+pub length-line_of-rows : {A : Type 0} {Is : A → Type 0} (lines columns : ℕ) (cells : List A) (y : ℕ) → IsGrid Is lines columns cells → y < lines → length (line_of (rows lines columns cells) y) ≡ columns
 length-line_of-rows lines columns cells y grid below =
     let end = line_end lines columns y below in
     ap length (line_of-rows lines columns cells y below)
@@ -33,7 +32,7 @@ length-line_of-rows lines columns cells y grid below =
 
 -- a change of one cell
 
-line_at-set : (columns : ℕ) (cells : List Glyph) (y x k : ℕ) (cell : Glyph) → x < columns → (k ≡ y → ⊥)
+line_at-set : {A : Type 0} (columns : ℕ) (cells : List A) (y x k : ℕ) (cell : A) → x < columns → (k ≡ y → ⊥)
     → line_at columns (set cells (y * columns + x) cell) k ≡ line_at columns cells k
 line_at-set columns cells y x k cell left other = elim (cases_lt k y) [
   | inl before ↦
@@ -47,13 +46,13 @@ line_at-set columns cells y x k cell left other = elim (cases_lt k y) [
       ap (take columns) (drop-set-lt (k * columns) cells (y * columns + x) cell (omega arith))
 ]
 
-line_at-set_same : (columns : ℕ) (cells : List Glyph) (y x : ℕ) (cell : Glyph) → x < columns
+line_at-set_same : {A : Type 0} (columns : ℕ) (cells : List A) (y x : ℕ) (cell : A) → x < columns
     → line_at columns (set cells (y * columns + x) cell) y ≡ set (line_at columns cells y) x cell
 line_at-set_same columns cells y x cell left =
     ap (take columns) (drop-set-add (y * columns) cells x cell) ∙ take-set-lt columns (drop (y * columns) cells) x cell left
 
-line-set_same : (lines columns : ℕ) (cells : List Glyph) (y x : ℕ) (cell : Glyph) → y < lines → x < columns
-    → line_of (rows lines columns (set cells (y * columns + x) cell)) y ≡ line_of (with_shown (rows lines columns cells) (y, x) cell) y
+line-set_same : {A : Type 0} (lines columns : ℕ) (cells : List A) (y x : ℕ) (cell : A) → y < lines → x < columns
+    → line_of (rows lines columns (set cells (y * columns + x) cell)) y ≡ line_of (with_cell (rows lines columns cells) (y, x) cell) y
 line-set_same lines columns cells y x cell below left =
     let old = rows lines columns cells in
     let height = length-rows lines columns cells in
@@ -62,64 +61,64 @@ line-set_same lines columns cells y x cell below left =
     ∙ ap (λ line. set line x cell) (sym (line_of-rows lines columns cells y below))
     ∙ sym (get_or-set_same old y (set (line_of old y) x cell) [] (rw height below))
 
-pub rows-set : (lines columns : ℕ) (cells : List Glyph) (y x : ℕ) (cell : Glyph) → y < lines → x < columns
-    → rows lines columns (set cells (y * columns + x) cell) ≡ with_shown (rows lines columns cells) (y, x) cell
+pub rows-set : {A : Type 0} (lines columns : ℕ) (cells : List A) (y x : ℕ) (cell : A) → y < lines → x < columns
+    → rows lines columns (set cells (y * columns + x) cell) ≡ with_cell (rows lines columns cells) (y, x) cell
 rows-set lines columns cells y x cell below left =
     let old = rows lines columns cells in
     let new = rows lines columns (set cells (y * columns + x) cell) in
     let height = length-rows lines columns (set cells (y * columns + x) cell) in
-    ext_get_or [] new (with_shown old (y, x) cell)
+    ext_get_or [] new (with_cell old (y, x) cell)
     (height ∙ sym (length-set old y (set (line_of old y) x cell) ∙ length-rows lines columns cells))
     (λ k within.
     let above : k < lines = omega arith in
     elim (cases_eq k y) [
-      | inl same ↦ ap (line_of new) same ∙ line-set_same lines columns cells y x cell below left ∙ ap (line_of (with_shown old (y, x) cell)) (sym same)
+      | inl same ↦ ap (line_of new) same ∙ line-set_same lines columns cells y x cell below left ∙ ap (line_of (with_cell old (y, x) cell)) (sym same)
       | inr other ↦ line_of-rows lines columns (set cells (y * columns + x) cell) k above
           ∙ line_at-set columns cells y x k cell left other
           ∙ sym (line_of-rows lines columns cells k above)
           ∙ sym (get_or-set_other old y k (set (line_of old y) x cell) [] other)
     ])
 
-pub IsGrid-set : (lines columns : ℕ) (cells : List Glyph) (i : ℕ) (cell : Glyph) → IsGrid lines columns cells → IsCell cell → IsGrid lines columns (set cells i cell)
-IsGrid-set lines columns cells i cell grid sound = record {
+pub IsGrid-set : {A : Type 0} {Is : A → Type 0} (lines columns : ℕ) (cells : List A) (i : ℕ) (cell : A) → IsGrid Is lines columns cells → Is cell → IsGrid Is lines columns (set cells i cell)
+IsGrid-set {Is = Is} lines columns cells i cell grid sound = record {
   few_lines = grid.few_lines;
   few_columns = grid.few_columns;
   whole = length-set cells i cell ∙ grid.whole;
-  each = each-set IsCell cells i cell sound grid.each;
+  each = each-set Is cells i cell sound grid.each;
 }
 
 -- cells
 
-pub AreCells-rows : (lines columns : ℕ) (cells : List Glyph) → IsGrid lines columns cells → AreCells (rows lines columns cells)
-AreCells-rows lines columns cells grid = each-map (AllByRecursion IsCell) (line_at columns cells)
-    (λ y. recursion_from_All IsCell (line_at columns cells y)
-    (All-take IsCell columns (drop (y * columns) cells) (All-drop IsCell (y * columns) cells (All-from_recursion IsCell cells grid.each))))
+pub EachCell-rows : {A : Type 0} {Is : A → Type 0} (lines columns : ℕ) (cells : List A) → IsGrid Is lines columns cells → EachCell Is (rows lines columns cells)
+EachCell-rows {Is = Is} lines columns cells grid = each-map (AllByRecursion Is) (line_at columns cells)
+    (λ y. recursion_from_All Is (line_at columns cells y)
+    (All-take Is columns (drop (y * columns) cells) (All-drop Is (y * columns) cells (All-from_recursion Is cells grid.each))))
     (range_with_len 0 lines)
 
 -- a blank grid
 
-pub rows-blank : (lines columns : ℕ) → rows lines columns (replicate (lines * columns) shown_blank) ≡ blank_picture lines columns
-rows-blank lines columns =
-    let cells = replicate (lines * columns) shown_blank in
+pub rows-all_of : {A : Type 0} (cell : A) (lines columns : ℕ) → rows lines columns (replicate (lines * columns) cell) ≡ all_of cell lines columns
+rows-all_of cell lines columns =
+    let cells = replicate (lines * columns) cell in
     let height = length-rows lines columns cells in
-    ext_get_or [] (rows lines columns cells) (blank_picture lines columns)
-    (height ∙ sym (length-replicate lines (replicate columns shown_blank)))
+    ext_get_or [] (rows lines columns cells) (all_of cell lines columns)
+    (height ∙ sym (length-replicate lines (replicate columns cell)))
     (λ y within.
     let below : y < lines = omega arith in
     line_of-rows lines columns cells y below
-    ∙ ap (take columns) (drop-replicate (y * columns) (lines * columns) shown_blank)
-    ∙ take-replicate columns (lines * columns - y * columns) shown_blank (omega (arith, line_end lines columns y below))
-    ∙ sym (get_or-replicate lines y (replicate columns shown_blank) [] below))
+    ∙ ap (take columns) (drop-replicate (y * columns) (lines * columns) cell)
+    ∙ take-replicate columns (lines * columns - y * columns) cell (omega (arith, line_end lines columns y below))
+    ∙ sym (get_or-replicate lines y (replicate columns cell) [] below))
 
 -- grids of one size
 
-no_lines : (lines columns : ℕ) (cells : List Glyph) → lines ≡ 0 → rows lines columns cells ≡ []
+no_lines : {A : Type 0} (lines columns : ℕ) (cells : List A) → lines ≡ 0 → rows lines columns cells ≡ []
 no_lines lines columns cells e = nil_from_length (rows lines columns cells) (length-rows lines columns cells ∙ e)
 
-no_cells : (lines columns : ℕ) (cells : List Glyph) → IsGrid lines columns cells → lines ≡ 0 → length cells ≡ 0
+no_cells : {A : Type 0} {Is : A → Type 0} (lines columns : ℕ) (cells : List A) → IsGrid Is lines columns cells → lines ≡ 0 → length cells ≡ 0
 no_cells lines columns cells grid e = grid.whole ∙ ap (λ n. n * columns) e ∙ omega arith
 
-pub same_grid_size : {lines columns lines' columns' : ℕ} {cells cells' : List Glyph} {picture picture' : Picture} → IsGrid lines columns cells → IsGrid lines' columns' cells'
+pub same_grid_size : {A : Type 0} {Is : A → Type 0} {lines columns lines' columns' : ℕ} {cells cells' : List A} {picture picture' : List (List A)} → IsGrid Is lines columns cells → IsGrid Is lines' columns' cells'
     → rows lines columns cells ≡ picture → rows lines' columns' cells' ≡ picture' → size_of picture ≡ size_of picture'
     → (length cells ≡ length cells') × (rows lines columns cells' ≡ picture')
 same_grid_size {lines} {columns} {lines'} {columns'} {cells} {cells'} grid other is other_is same =
@@ -140,12 +139,12 @@ same_grid_size {lines} {columns} {lines'} {columns'} {cells} {cells'} grid other
 
 -- a line of the picture is a line of the grid, and a column of it a column
 
-pub record HasLine (lines columns : ℕ) (cells : List Glyph) (y : ℕ) : Type 0 where
+pub record HasLine {A : Type 0} (lines columns : ℕ) (cells : List A) (y : ℕ) : Type 0 where
   pub below : y < lines
   pub end : y * columns + columns ≤ length cells
   pub few : length cells ≤ 1000000
 
-pub HasLine-from_length : {lines columns y : ℕ} {cells : List Glyph} {picture : Picture} → IsGrid lines columns cells → rows lines columns cells ≡ picture
+pub HasLine-from_length : {A : Type 0} {Is : A → Type 0} {lines columns y : ℕ} {cells : List A} {picture : List (List A)} → IsGrid Is lines columns cells → rows lines columns cells ≡ picture
     → y < length picture → HasLine lines columns cells y
 HasLine-from_length {lines} {columns} {y} {cells} grid is within =
     let height : length (rows lines columns cells) ≡ lines = length-rows lines columns cells in
@@ -156,7 +155,7 @@ HasLine-from_length {lines} {columns} {y} {cells} grid is within =
       few = omega (arith, grid.whole, mul-le lines columns 1000 1000 grid.few_lines grid.few_columns);
     }
 
-pub column_below : {lines columns y x : ℕ} {cells : List Glyph} {picture : Picture} → IsGrid lines columns cells → rows lines columns cells ≡ picture
+pub column_below : {A : Type 0} {Is : A → Type 0} {lines columns y x : ℕ} {cells : List A} {picture : List (List A)} → IsGrid Is lines columns cells → rows lines columns cells ≡ picture
     → y < length picture → x < length (line_of picture y) → x < columns
 column_below {lines} {columns} {y} {x} {cells} grid is within left =
     let line = HasLine-from_length grid is within in

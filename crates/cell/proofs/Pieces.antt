@@ -7,31 +7,30 @@ use Rattle.std.proofs.lemmas.Bool.{cases_lt, cases_eq, cases_order, cond-true, c
 use Rattle.std.proofs.lemmas.Bool.Decides.{nat_tests}
 use Rattle.std.proofs.lemmas.List.{get_or-take, get_or-drop, get_or_past, length-take-le, length-drop}
 use Rattle.std.proofs.lemmas.List.Elements.{All-from_recursion, recursion_from_All, All-take, All-drop, All-append}
-use Rattle.cell.specs.Glyphs.{Glyph, blank, IsCell}
-use Rattle.cell.specs.Pictures.{Picture, line_of, shown_at, HasSize}
+use Rattle.cell.specs.Pictures.{line_of, cell_or, HasSize}
 use Rattle.cell.specs.Grids.{rows, IsGrid}
 use Rattle.cell.proofs.GridLemmas.{HasLine-from_length, length-rows, length-line_of-rows, line_of-rows, line_end}
 
-module _ (old piece : List Glyph) (start : ℕ) (fits : start + length piece ≤ length old) where
+module _ {A : Type 0} (none : A) (old piece : List A) (start : ℕ) (fits : start + length piece ≤ length old) where
   front : length (take start old) ≡ start
   front = length-take-le start old (omega (arith, fits))
 
-  before : (n : ℕ) → n < start → get_or (splice old start (start + length piece) piece) n blank ≡ get_or old n blank
-  before n below = get_or-append (take start old) (piece ++ drop (start + length piece) old) blank n (omega (arith, front)) ∙ get_or-take start old n blank below
+  before : (n : ℕ) → n < start → get_or (splice old start (start + length piece) piece) n none ≡ get_or old n none
+  before n below = get_or-append (take start old) (piece ++ drop (start + length piece) old) none n (omega (arith, front)) ∙ get_or-take start old n none below
 
-  within : (n : ℕ) → start ≤ n → n < start + length piece → get_or (splice old start (start + length piece) piece) n blank ≡ get_or piece (n - start) blank
+  within : (n : ℕ) → start ≤ n → n < start + length piece → get_or (splice old start (start + length piece) piece) n none ≡ get_or piece (n - start) none
   within n from to =
-      get_or-append_right (take start old) (piece ++ drop (start + length piece) old) n blank (omega (arith, front))
-      ∙ ap (λ k. get_or (piece ++ drop (start + length piece) old) (n - k) blank) front
-      ∙ get_or-append piece (drop (start + length piece) old) blank (n - start) (omega arith)
+      get_or-append_right (take start old) (piece ++ drop (start + length piece) old) n none (omega (arith, front))
+      ∙ ap (λ k. get_or (piece ++ drop (start + length piece) old) (n - k) none) front
+      ∙ get_or-append piece (drop (start + length piece) old) none (n - start) (omega arith)
 
-  behind : (n : ℕ) → start + length piece ≤ n → get_or (splice old start (start + length piece) piece) n blank ≡ get_or old n blank
+  behind : (n : ℕ) → start + length piece ≤ n → get_or (splice old start (start + length piece) piece) n none ≡ get_or old n none
   behind n from =
-      get_or-append_right (take start old) (piece ++ drop (start + length piece) old) n blank (omega (arith, front))
-      ∙ ap (λ k. get_or (piece ++ drop (start + length piece) old) (n - k) blank) front
-      ∙ get_or-append_right piece (drop (start + length piece) old) (n - start) blank (omega arith)
-      ∙ get_or-drop (start + length piece) old (n - start - length piece) blank
-      ∙ ap (λ k. get_or old k blank) (let e : start + length piece + (n - start - length piece) ≡ n = omega arith in e)
+      get_or-append_right (take start old) (piece ++ drop (start + length piece) old) n none (omega (arith, front))
+      ∙ ap (λ k. get_or (piece ++ drop (start + length piece) old) (n - k) none) front
+      ∙ get_or-append_right piece (drop (start + length piece) old) (n - start) none (omega arith)
+      ∙ get_or-drop (start + length piece) old (n - start - length piece) none
+      ∙ ap (λ k. get_or old k none) (let e : start + length piece + (n - start - length piece) ≡ n = omega arith in e)
 
   pub length-splice : length (splice old start (start + length piece) piece) ≡ length old
   length-splice =
@@ -40,21 +39,21 @@ module _ (old piece : List Glyph) (start : ℕ) (fits : start + length piece ≤
 
 -- what a grid shows at a place
 
-shown-rows : (lines columns : ℕ) (cells : List Glyph) (v u : ℕ) → v < lines → u < columns → shown_at (rows lines columns cells) (v, u) ≡ get_or cells (v * columns + u) blank
-shown-rows lines columns cells v u below left =
-    ap (λ (line : List Glyph). get_or line u blank) (line_of-rows lines columns cells v below)
-    ∙ get_or-take columns (drop (v * columns) cells) u blank left
-    ∙ get_or-drop (v * columns) cells u blank
+shown-rows : {A : Type 0} (none : A) (lines columns : ℕ) (cells : List A) (v u : ℕ) → v < lines → u < columns → cell_or none (rows lines columns cells) (v, u) ≡ get_or cells (v * columns + u) none
+shown-rows {A = A} none lines columns cells v u below left =
+    ap (λ (line : List A). get_or line u none) (line_of-rows lines columns cells v below)
+    ∙ get_or-take columns (drop (v * columns) cells) u none left
+    ∙ get_or-drop (v * columns) cells u none
 
-shown-outside : (lines columns : ℕ) (cells : List Glyph) → IsGrid lines columns cells → (v u : ℕ) → (lines ≤ v) ⊎ (columns ≤ u) → shown_at (rows lines columns cells) (v, u) ≡ blank
-shown-outside lines columns cells grid v u (inl past) =
-    ap (λ (line : List Glyph). get_or line u blank) (get_or_past (rows lines columns cells) v [] (omega (arith, length-rows lines columns cells)))
-shown-outside lines columns cells grid v u (inr past) = elim (cases_lt v lines) [
-  | inl below ↦ get_or_past (line_of (rows lines columns cells) v) u blank (omega (arith, length-line_of-rows lines columns cells v grid below))
+shown-outside : {A : Type 0} (none : A) {Is : A → Type 0} (lines columns : ℕ) (cells : List A) → IsGrid Is lines columns cells → (v u : ℕ) → (lines ≤ v) ⊎ (columns ≤ u) → cell_or none (rows lines columns cells) (v, u) ≡ none
+shown-outside {A = A} none lines columns cells grid v u (inl past) =
+    ap (λ (line : List A). get_or line u none) (get_or_past (rows lines columns cells) v [] (omega (arith, length-rows lines columns cells)))
+shown-outside {A = A} none lines columns cells grid v u (inr past) = elim (cases_lt v lines) [
+  | inl below ↦ get_or_past (line_of (rows lines columns cells) v) u none (omega (arith, length-line_of-rows lines columns cells v grid below))
   | inr out ↦ shown-outside-line out
 ] where
-  shown-outside-line : lines ≤ v → shown_at (rows lines columns cells) (v, u) ≡ blank
-  shown-outside-line out = ap (λ (line : List Glyph). get_or line u blank) (get_or_past (rows lines columns cells) v [] (omega (arith, length-rows lines columns cells)))
+  shown-outside-line : lines ≤ v → cell_or none (rows lines columns cells) (v, u) ≡ none
+  shown-outside-line out = ap (λ (line : List A). get_or line u none) (get_or_past (rows lines columns cells) v [] (omega (arith, length-rows lines columns cells)))
 
 inside : (v u y x n : ℕ) → v ≡ y → x ≤ u → u < x + n → ((v == y) && (nat_le x u && nat_lt u (x + n))) ≡ true
 inside v u y x n line from to = grind (arith, nat_tests)
@@ -73,90 +72,91 @@ outside v u y x n other = elim (cases_eq v y) [
   | inr line ↦ let off = ne_eqb v y line in rw off refl
 ]
 
+pub piece_end : {A : Type 0} {Is : A → Type 0} (lines columns : ℕ) (cells piece : List A) (y x : ℕ) → IsGrid Is lines columns cells → y < lines → x + length piece ≤ columns
+    → y * columns + x + length piece ≤ length cells
+piece_end lines columns cells piece y x grid below fits = omega (arith, grid.whole, line_end lines columns y below, fits)
+
 -- a piece of line y from column x on
-module _ (lines columns : ℕ) (cells piece : List Glyph) (y x : ℕ) (grid : IsGrid lines columns cells) (below : y < lines) (fits : x + length piece ≤ columns) where
-  abbrev after : List Glyph
+module _ {A : Type 0} (none : A) {Is : A → Type 0} (lines columns : ℕ) (cells piece : List A) (y x : ℕ) (grid : IsGrid Is lines columns cells) (below : y < lines) (fits : x + length piece ≤ columns) where
+  abbrev after : List A
   after = splice cells (y * columns + x) (y * columns + x + length piece) piece
 
-  pub piece_end : y * columns + x + length piece ≤ length cells
-  piece_end = omega (arith, grid.whole, line_end lines columns y below, fits)
-
-  pub IsGrid-piece : AllByRecursion IsCell piece → IsGrid lines columns after
+  pub IsGrid-piece : AllByRecursion Is piece → IsGrid Is lines columns after
   IsGrid-piece sound = record {
     few_lines = grid.few_lines;
     few_columns = grid.few_columns;
-    whole = length-splice cells piece (y * columns + x) piece_end ∙ grid.whole;
-    each = recursion_from_All IsCell after
-        (All-append IsCell (take (y * columns + x) cells) (piece ++ drop (y * columns + x + length piece) cells) (All-take IsCell (y * columns + x) cells (All-from_recursion IsCell cells grid.each))
-        (All-append IsCell piece (drop (y * columns + x + length piece) cells) (All-from_recursion IsCell piece sound) (All-drop IsCell (y * columns + x + length piece) cells (All-from_recursion IsCell cells grid.each))));
+    whole = length-splice none cells piece (y * columns + x) (piece_end lines columns cells piece y x grid below fits) ∙ grid.whole;
+    each = recursion_from_All Is after
+        (All-append Is (take (y * columns + x) cells) (piece ++ drop (y * columns + x + length piece) cells) (All-take Is (y * columns + x) cells (All-from_recursion Is cells grid.each))
+        (All-append Is piece (drop (y * columns + x + length piece) cells) (All-from_recursion Is piece sound) (All-drop Is (y * columns + x + length piece) cells (All-from_recursion Is cells grid.each))));
   }
 
-  at_place : (v u : ℕ) → v < lines → u < columns → get_or after (v * columns + u) blank ≡ (if (v == y) && (nat_le x u && nat_lt u (x + length piece)) then get_or piece (u - x) blank else get_or cells (v * columns + u) blank)
+  at_place : (v u : ℕ) → v < lines → u < columns → get_or after (v * columns + u) none ≡ (if (v == y) && (nat_le x u && nat_lt u (x + length piece)) then get_or piece (u - x) none else get_or cells (v * columns + u) none)
   at_place v u above left =
-      let inner = get_or piece (u - x) blank in
-      let outer = get_or cells (v * columns + u) blank in
+      let inner = get_or piece (u - x) none in
+      let outer = get_or cells (v * columns + u) none in
       let test = (v == y) && (nat_le x u && nat_lt u (x + length piece)) in
       elim (cases_order v y) [
         | inl same ↦
             let line : v * columns ≡ y * columns = ap (λ k. k * columns) same in
             elim (cases_lt u x) [
-              | inl front ↦ before cells piece (y * columns + x) piece_end (v * columns + u) (omega (arith, line))
+              | inl front ↦ before none cells piece (y * columns + x) (piece_end lines columns cells piece y x grid below fits) (v * columns + u) (omega (arith, line))
                   ∙ sym (cond-false test inner outer (outside v u y x (length piece) (λ _ from to. omega arith)))
               | inr from ↦ elim (cases_lt u (x + length piece)) [
-                | inl to ↦ within cells piece (y * columns + x) piece_end (v * columns + u) (omega (arith, line)) (omega (arith, line))
-                    ∙ ap (λ k. get_or piece k blank) (let e : v * columns + u - (y * columns + x) ≡ u - x = omega (arith, line) in e)
+                | inl to ↦ within none cells piece (y * columns + x) (piece_end lines columns cells piece y x grid below fits) (v * columns + u) (omega (arith, line)) (omega (arith, line))
+                    ∙ ap (λ k. get_or piece k none) (let e : v * columns + u - (y * columns + x) ≡ u - x = omega (arith, line) in e)
                     ∙ sym (cond-true test inner outer (inside v u y x (length piece) same from to))
-                | inr past ↦ behind cells piece (y * columns + x) piece_end (v * columns + u) (omega (arith, line))
+                | inr past ↦ behind none cells piece (y * columns + x) (piece_end lines columns cells piece y x grid below fits) (v * columns + u) (omega (arith, line))
                     ∙ sym (cond-false test inner outer (outside v u y x (length piece) (λ _ from to. omega arith)))
               ]
             ]
         | inr apart ↦ elim apart [
-          | inl up ↦ before cells piece (y * columns + x) piece_end (v * columns + u) (omega (arith, line_end y columns v up))
+          | inl up ↦ before none cells piece (y * columns + x) (piece_end lines columns cells piece y x grid below fits) (v * columns + u) (omega (arith, line_end y columns v up))
               ∙ sym (cond-false test inner outer (outside v u y x (length piece) (λ e from to. omega arith)))
-          | inr down ↦ behind cells piece (y * columns + x) piece_end (v * columns + u) (omega (arith, line_end v columns y down, fits))
+          | inr down ↦ behind none cells piece (y * columns + x) (piece_end lines columns cells piece y x grid below fits) (v * columns + u) (omega (arith, line_end v columns y down, fits))
               ∙ sym (cond-false test inner outer (outside v u y x (length piece) (λ e from to. omega arith)))
         ]
       ]
 
-  pub shown-piece : AllByRecursion IsCell piece → (v u : ℕ)
-      → shown_at (rows lines columns after) (v, u) ≡ (if (v == y) && (nat_le x u && nat_lt u (x + length piece)) then get_or piece (u - x) blank else shown_at (rows lines columns cells) (v, u))
+  pub shown-piece : AllByRecursion Is piece → (v u : ℕ)
+      → cell_or none (rows lines columns after) (v, u) ≡ (if (v == y) && (nat_le x u && nat_lt u (x + length piece)) then get_or piece (u - x) none else cell_or none (rows lines columns cells) (v, u))
   shown-piece sound v u =
       let new = IsGrid-piece sound in
-      let inner = get_or piece (u - x) blank in
+      let inner = get_or piece (u - x) none in
       let test = (v == y) && (nat_le x u && nat_lt u (x + length piece)) in
       elim (cases_lt v lines) [
         | inl above ↦ elim (cases_lt u columns) [
           | inl left ↦
-              shown-rows lines columns after v u above left ∙ at_place v u above left
-              ∙ ap (λ (g : Glyph). if test then inner else g) (sym (shown-rows lines columns cells v u above left))
+              shown-rows none lines columns after v u above left ∙ at_place v u above left
+              ∙ ap (λ (g : A). if test then inner else g) (sym (shown-rows none lines columns cells v u above left))
           | inr right ↦
-              shown-outside lines columns after new v u (inr right) ∙ sym (shown-outside lines columns cells grid v u (inr right))
-              ∙ sym (cond-false test inner (shown_at (rows lines columns cells) (v, u)) (outside v u y x (length piece) (λ _ from to. omega (arith, fits))))
+              shown-outside none lines columns after new v u (inr right) ∙ sym (shown-outside none lines columns cells grid v u (inr right))
+              ∙ sym (cond-false test inner (cell_or none (rows lines columns cells) (v, u)) (outside v u y x (length piece) (λ _ from to. omega (arith, fits))))
         ]
         | inr low ↦
-            shown-outside lines columns after new v u (inl low) ∙ sym (shown-outside lines columns cells grid v u (inl low))
-            ∙ sym (cond-false test inner (shown_at (rows lines columns cells) (v, u)) (outside v u y x (length piece) (λ e from to. omega (arith, below))))
+            shown-outside none lines columns after new v u (inl low) ∙ sym (shown-outside none lines columns cells grid v u (inl low))
+            ∙ sym (cond-false test inner (cell_or none (rows lines columns cells) (v, u)) (outside v u y x (length piece) (λ e from to. omega (arith, below))))
       ]
 
 -- grids of one size
 
-widths : (width : ℕ) (one other : Picture) → length one ≡ length other → ((k : ℕ) → length (line_of one k) ≡ length (line_of other k))
-    → AllByRecursion (λ (line : List Glyph). length line ≡ width) one → AllByRecursion (λ (line : List Glyph). length line ≡ width) other
+widths : {A : Type 0} (width : ℕ) (one other : List (List A)) → length one ≡ length other → ((k : ℕ) → length (line_of one k) ≡ length (line_of other k))
+    → AllByRecursion (λ (line : List A). length line ≡ width) one → AllByRecursion (λ (line : List A). length line ≡ width) other
 widths width [] [] e same h = tt
 widths width [] (line ∷ lines) e same h = absurd (omega arith)
 widths width (line ∷ lines) [] e same h = absurd (omega arith)
 widths width (line ∷ lines) (other ∷ others) e same h = (sym (same 0) ∙ h.0, widths width lines others (omega arith) (λ k. same (suc k)) h.1)
 
-line_width : (lines columns : ℕ) (one other : List Glyph) → IsGrid lines columns one → IsGrid lines columns other → (k : ℕ)
+line_width : {A : Type 0} {Is : A → Type 0} (lines columns : ℕ) (one other : List A) → IsGrid Is lines columns one → IsGrid Is lines columns other → (k : ℕ)
     → length (line_of (rows lines columns one) k) ≡ length (line_of (rows lines columns other) k)
-line_width lines columns one other grid grid' k = elim (cases_lt k lines) [
+line_width {A = A} lines columns one other grid grid' k = elim (cases_lt k lines) [
   | inl below ↦ length-line_of-rows lines columns one k grid below ∙ sym (length-line_of-rows lines columns other k grid' below)
   | inr past ↦
-      ap (length {A = Glyph}) (get_or_past (rows lines columns one) k [] (omega (arith, length-rows lines columns one)))
-      ∙ ap (length {A = Glyph}) (sym (get_or_past (rows lines columns other) k [] (omega (arith, length-rows lines columns other))))
+      ap (length {A = A}) (get_or_past (rows lines columns one) k [] (omega (arith, length-rows lines columns one)))
+      ∙ ap (length {A = A}) (sym (get_or_past (rows lines columns other) k [] (omega (arith, length-rows lines columns other))))
 ]
 
-pub HasSize-same : {height width lines columns : ℕ} {one other : List Glyph} → IsGrid lines columns one → IsGrid lines columns other → HasSize height width (rows lines columns one) → HasSize height width (rows lines columns other)
+pub HasSize-same : {A : Type 0} {Is : A → Type 0} {height width lines columns : ℕ} {one other : List A} → IsGrid Is lines columns one → IsGrid Is lines columns other → HasSize height width (rows lines columns one) → HasSize height width (rows lines columns other)
 HasSize-same {height} {width} {lines} {columns} {one} {other} grid grid' size =
     let same = length-rows lines columns one ∙ sym (length-rows lines columns other) in
     record {
@@ -165,13 +165,13 @@ HasSize-same {height} {width} {lines} {columns} {one} {other} grid grid' size =
     }
 
 -- a piece that fits into a line of the picture fits into the line of the grid
-pub record PieceFits (lines columns : ℕ) (cells piece : List Glyph) (y x : ℕ) : Type 0 where
+pub record PieceFits {A : Type 0} (lines columns : ℕ) (cells piece : List A) (y x : ℕ) : Type 0 where
   pub below : y < lines
   pub fits : x + length piece ≤ columns
   pub end : y * columns + x + length piece ≤ length cells
   pub few : length cells ≤ 1000000
 
-pub PieceFits-from : {lines columns y x : ℕ} {cells piece : List Glyph} {picture : Picture} → IsGrid lines columns cells → rows lines columns cells ≡ picture
+pub PieceFits-from : {A : Type 0} {Is : A → Type 0} {lines columns y x : ℕ} {cells piece : List A} {picture : List (List A)} → IsGrid Is lines columns cells → rows lines columns cells ≡ picture
     → y < length picture → x + length piece ≤ length (line_of picture y) → PieceFits lines columns cells piece y x
 PieceFits-from {lines} {columns} {y} {x} {cells} {piece} grid is within fits =
     let line = HasLine-from_length grid is within in

@@ -1,6 +1,7 @@
 pub mod Limits
 pub mod Attributes
 pub mod Glyphs
+pub mod Shown
 pub mod Pictures
 pub mod Grids
 pub mod Refusals

@@ -1,29 +1,9 @@
--- What a screen or a terminal shows: lines of shown cells. Lines and columns count from 0, as in X/Open Curses Issue 7 ("Screens,
--- Windows and Terminals").
+-- Lines of cells: a sheet of what a window's grid holds, and a picture of what a screen or a terminal shows. Lines and columns count
+-- from 0, as in X/Open Curses Issue 7 ("Screens, Windows and Terminals").
 use Rattle.std.specs.Prelude.{◌≡◌, ℕ, nat_lt, Bool, List, [], length, map, replicate, slice_index_or, slice_set}
 use Rattle.std.specs.List.{AllByRecursion, range_with_len}
 use Rattle.cell.specs.Glyphs.{Glyph, blank, IsCell}
-
--- what is seen of a cell
-abbrev pub Shown : Type 0
-Shown = Glyph
-
-abbrev pub shown_blank : Shown
-shown_blank = blank
-
--- how characters are printed: with these attributes
-abbrev pub Rendition : Type 0
-Rendition = ℕ
-
-abbrev pub no_rendition : Rendition
-no_rendition = 0
-
-abbrev pub rendition_of : Shown → Rendition
-rendition_of shown = shown.attributes
-
--- a character that is printed with a rendition
-abbrev pub shown_with : Rendition → ℕ → Shown
-shown_with rendition character = record { character = character; attributes = rendition }
+use Rattle.cell.specs.Shown.{Shown, shown_blank, IsShown}
 
 -- a line and a column
 abbrev pub Place : Type 0
@@ -32,41 +12,80 @@ Place = ℕ × ℕ
 abbrev pub origin : Place
 origin = (0, 0)
 
--- lines, one below the other
+-- lines of glyphs, one below the other
+abbrev pub Sheet : Type 0
+Sheet = List (List Glyph)
+
+-- lines of shown cells, one below the other
 abbrev pub Picture : Type 0
 Picture = List (List Shown)
 
--- no cells where there is no such line
-abbrev pub line_of : Picture → ℕ → List Shown
-line_of picture line = slice_index_or picture line []
+-- ---- lines of any cells
 
-abbrev pub is_place : Picture → Place → Bool
-is_place picture place = nat_lt place.1 (length (line_of picture place.0))
+-- no cells where there is no such line
+abbrev pub line_of : {A : Type 0} → List (List A) → ℕ → List A
+line_of lines line = slice_index_or lines line []
+
+abbrev pub is_place : {A : Type 0} → List (List A) → Place → Bool
+is_place lines place = nat_lt place.1 (length (line_of lines place.0))
+
+-- the cell at a place, or a given one where there is no such place
+abbrev pub cell_or : {A : Type 0} → A → List (List A) → Place → A
+cell_or other lines place = slice_index_or (line_of lines place.0) place.1 other
+
+-- the lines with another cell at a place
+abbrev pub with_cell : {A : Type 0} → List (List A) → Place → A → List (List A)
+with_cell lines place cell = slice_set lines place.0 (slice_set (line_of lines place.0) place.1 cell)
+
+-- so many lines of so many columns
+pub record HasSize {A : Type 0} (lines columns : ℕ) (cells : List (List A)) : Type 0 where
+  pub height : length cells ≡ lines
+  pub width : AllByRecursion (λ line. length line ≡ columns) cells
+
+-- how many lines, and how many columns the first has
+abbrev pub size_of : {A : Type 0} → List (List A) → ℕ × ℕ
+size_of lines = (length lines, length (line_of lines 0))
+
+-- each cell is such a one
+abbrev pub EachCell : {A : Type 0} → (A → Type 0) → List (List A) → Type 0
+EachCell Is lines = AllByRecursion (AllByRecursion Is) lines
+
+-- one cell everywhere
+abbrev pub all_of : {A : Type 0} → A → ℕ → ℕ → List (List A)
+all_of cell lines columns = replicate lines (replicate columns cell)
+
+-- at each place the cell that a function says
+abbrev pub lines_from : {A : Type 0} → ℕ → ℕ → (ℕ → ℕ → A) → List (List A)
+lines_from lines columns cell = map (λ y. map (λ x. cell y x) (range_with_len 0 columns)) (range_with_len 0 lines)
+
+-- ---- sheets
+
+-- the glyph at a place, a blank where there is no such place
+abbrev pub glyph_at : Sheet → Place → Glyph
+glyph_at sheet place = cell_or blank sheet place
+
+abbrev pub AreCells : Sheet → Type 0
+AreCells sheet = EachCell IsCell sheet
+
+abbrev pub blank_sheet : ℕ → ℕ → Sheet
+blank_sheet lines columns = all_of blank lines columns
+
+-- ---- pictures
 
 -- what is shown at a place, a blank where there is no such place
 abbrev pub shown_at : Picture → Place → Shown
-shown_at picture place = slice_index_or (line_of picture place.0) place.1 shown_blank
+shown_at picture place = cell_or shown_blank picture place
 
 -- the picture with another cell at a place
 abbrev pub with_shown : Picture → Place → Shown → Picture
-with_shown picture place shown = slice_set picture place.0 (slice_set (line_of picture place.0) place.1 shown)
+with_shown picture place shown = with_cell picture place shown
 
--- a picture of that many lines and columns
-pub record HasSize (lines columns : ℕ) (picture : Picture) : Type 0 where
-  pub height : length picture ≡ lines
-  pub width : AllByRecursion (λ line. length line ≡ columns) picture
-
--- how many lines, and how many columns the first has
-abbrev pub size_of : Picture → ℕ × ℕ
-size_of picture = (length picture, length (line_of picture 0))
-
--- each of its glyphs is a cell's
-abbrev pub AreCells : Picture → Type 0
-AreCells picture = AllByRecursion (AllByRecursion IsCell) picture
+abbrev pub AreShown : Picture → Type 0
+AreShown picture = EachCell IsShown picture
 
 abbrev pub blank_picture : ℕ → ℕ → Picture
-blank_picture lines columns = replicate lines (replicate columns shown_blank)
+blank_picture lines columns = all_of shown_blank lines columns
 
 -- the picture of that size which shows at each place what a function says of it
 abbrev pub picture_of : ℕ → ℕ → (ℕ → ℕ → Shown) → Picture
-picture_of lines columns shown = map (λ y. map (λ x. shown y x) (range_with_len 0 columns)) (range_with_len 0 lines)
+picture_of lines columns shown = lines_from lines columns shown

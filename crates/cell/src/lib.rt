@@ -4,19 +4,23 @@
 
 mod attr;
 mod cell;
+mod colour;
 mod grid;
 mod limits;
 mod refusal;
+mod shown;
 mod window;
 
 pub use attr::Attr;
 pub use cell::{Cell, is_printable};
-pub use grid::Grid;
+pub use colour::{Colour, ColourPair, PairId, Pairs};
+pub use grid::{Element, Grid};
 pub use limits::{
-    FIRST_CHARACTER, LARGEST_PAD, LARGEST_SCREEN, LAST_CHARACTER, MOST_PANELS, MOST_WINDOWS,
-    is_no_size,
+    FIRST_CHARACTER, LARGEST_PAD, LARGEST_SCREEN, LAST_CHARACTER, LAST_COLOUR, LAST_PAIR,
+    MOST_PANELS, MOST_WINDOWS, is_no_size,
 };
 pub use refusal::Refusal;
+pub use shown::{Rendition, Shown};
 pub use window::{Frame, WinId};
 
 #[cfg(test)]

@@ -4,7 +4,7 @@ ghost use Rattle.std.specs.Prelude.{◌≡◌};
 ghost use Rattle.cell.specs.Limits.{is_no_size};
 
 /// The most lines, and the most columns, of a screen.
-pub const LARGEST_SCREEN: u16 = 255;
+pub const LARGEST_SCREEN: u16 = 999;
 
 /// The most lines, and the most columns, of a pad, and so of any window.
 pub const LARGEST_PAD: u16 = 1000;
@@ -19,6 +19,12 @@ pub const MOST_PANELS: u16 = 1000;
 pub const FIRST_CHARACTER: u8 = 32;
 
 pub const LAST_CHARACTER: u8 = 126;
+
+/// The last colour, of those from 0.
+pub const LAST_COLOUR: u8 = 7;
+
+/// The last colour pair, of those from 0. Pair 0 always has the default colours.
+pub const LAST_PAIR: u8 = 63;
 
 /// Whether a number of lines or columns is 0 or past the most of them.
 pub fn is_no_size(most: u16, n: u16) -> bool

@@ -45,6 +45,8 @@ pub enum Refusal {
     NoMemory,
     /// A rectangle's first line or column is after its last.
     BadRectangle,
+    /// There is no such colour pair, it can't be set, or there is no such colour.
+    BadPair,
 }
 
 impl From<AllocError> for Refusal {
@@ -85,6 +87,7 @@ impl Refusal {
             Refusal::TooMany => "E17 TooMany",
             Refusal::NoMemory => "E18 NoMemory",
             Refusal::BadRectangle => "E19 BadRectangle",
+            Refusal::BadPair => "E20 BadPair",
         }
     }
 }

@@ -27,7 +27,7 @@ four_by_ten_is_asked : asked four_by_ten ≡ Some (codes "run", Some (codes "4")
 unfolding clap_on_literals four_by_ten
 four_by_ten_is_asked = refl
 
-with_equals_signs : asked (codes "run" ∷ codes "--cols=255" ∷ codes "--lines=1" ∷ []) ≡ Some (codes "run", Some (codes "1"), Some (codes "255"))
+with_equals_signs : asked (codes "run" ∷ codes "--cols=999" ∷ codes "--lines=1" ∷ []) ≡ Some (codes "run", Some (codes "1"), Some (codes "999"))
 unfolding clap_on_literals
 with_equals_signs = refl
 
@@ -43,9 +43,9 @@ size_of_0 : faults (codes "run" ∷ codes "--lines" ∷ codes "0" ∷ codes "--c
 unfolding clap_on_literals
 size_of_0 = refl
 
-size_of_256 : faults (codes "run" ∷ codes "--lines" ∷ codes "4" ∷ codes "--cols" ∷ codes "256" ∷ []) ≡ kind.ValueValidation ∷ []
+size_of_1000 : faults (codes "run" ∷ codes "--lines" ∷ codes "4" ∷ codes "--cols" ∷ codes "1000" ∷ []) ≡ kind.ValueValidation ∷ []
 unfolding clap_on_literals
-size_of_256 = refl
+size_of_1000 = refl
 
 size_in_letters : faults (codes "run" ∷ codes "--lines" ∷ codes "four" ∷ codes "--cols" ∷ codes "10" ∷ []) ≡ kind.ValueValidation ∷ []
 unfolding clap_on_literals

@@ -5,3 +5,4 @@ pub mod PutLemmas
 pub mod KindIsNamed
 pub mod TakenLemmas
 pub mod PrintLemmas
+pub mod PictureLemmas

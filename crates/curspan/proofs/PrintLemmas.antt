@@ -1,6 +1,5 @@
 -- The ending of a printed picture, put together piece by piece.
 use Rattle.std.proofs.Common.{◌≡◌, ℕ, List, [], ◌∷◌, ◌++◌, ap, sym, ◌∙◌, append_assoc, codes}
-use Rattle.cell.specs.Attributes.{hex_digits}
 
 split_behind : (front back more : List ℕ) (b : ℕ) → (front ++ b ∷ back) ++ more ≡ (front ++ b ∷ []) ++ (back ++ more)
 split_behind front back more b = append_assoc front (b ∷ back) more ∙ sym (append_assoc front (b ∷ []) (back ++ more))

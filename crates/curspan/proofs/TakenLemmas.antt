@@ -24,7 +24,7 @@ use Rattle.curspan.specs.declared.asked.Job.{Job}
 use Rattle.curspan.specs.declared.asked.Kind.{Kind}
 use Rattle.curspan.specs.declared.asked.Kind.TheVariants.{Run, Paint}
 use Rattle.curspan.proofs.KeptRows.{HasSizes, IsKnownRule, IsSizeRow, found, level_keeps, level_passes, size_parser}
-use Rattle.curspan.proofs.KindIsNamed.{IsKindsName, StopsAtKind, program_names, walk_stops}
+use Rattle.curspan.proofs.KindIsNamed.{StopsAtKind, program_names, walk_stops}
 
 -- ---- a number
 

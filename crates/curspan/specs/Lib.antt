@@ -1,4 +1,5 @@
 pub mod CommandLine
 pub mod Printing
+pub mod Written
 pub mod Statuses
 pub mod Serving

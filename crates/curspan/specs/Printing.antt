@@ -1,11 +1,25 @@
 -- How the program prints a picture. The form is Curspan's own.
-use Rattle.std.specs.Prelude.{ℕ, Bool, not, ◌==◌, if◌then◌else◌, List, [], ◌∷◌, ◌++◌, Option, Some, None, codes, decimal, map}
+use Rattle.std.specs.Prelude.{ℕ, ◌+◌, Bool, not, ◌&&◌, is_none, ◌==◌, if◌then◌else◌, List, [], ◌∷◌, ◌++◌, Option, Some, None, codes, decimal, map}
 use Rattle.std.specs.List.{flat_map, list_any}
 use Rattle.cell.specs.Attributes.{hex_digits}
-use Rattle.cell.specs.Pictures.{Picture, Place, Rendition, Shown}
+use Rattle.std.specs.Option.{option_map_or}
+use Rattle.cell.specs.Shown.{Rendition, Shown}
+use Rattle.cell.specs.Pictures.{Picture, Place}
 
 abbrev pub has_attributes : Shown → Bool
-has_attributes cell = not (cell.attributes == 0)
+has_attributes cell = not (cell.rendition.attributes == 0)
+
+-- a foreground or a background other than the default
+abbrev pub has_colour : Rendition → Bool
+has_colour rendition = not (is_none rendition.foreground && is_none rendition.background)
+
+-- the digit of a colour, or a minus for the default
+abbrev pub sign : Option ℕ → ℕ
+sign colour = option_map_or (λ number. 48 + number) colour 45
+
+-- the foreground's and the background's
+abbrev pub signs : Rendition → List ℕ
+signs rendition = sign rendition.foreground ∷ sign rendition.background ∷ []
 
 -- the characters of a line between bars
 abbrev pub characters_text : List Shown → List ℕ
@@ -13,19 +27,24 @@ characters_text cells = 124 ∷ map (λ cell. cell.character) cells ++ 124 ∷ 1
 
 -- below it, if some cell of the line has attributes, a colon and the two digits of each cell's
 abbrev pub attributes_text : List Shown → List ℕ
-attributes_text cells = if list_any has_attributes cells then 58 ∷ flat_map (λ cell. hex_digits cell.attributes) cells ++ 10 ∷ [] else []
+attributes_text cells = if list_any has_attributes cells then 58 ∷ flat_map (λ cell. hex_digits cell.rendition.attributes) cells ++ 10 ∷ [] else []
+
+-- below them, if some cell of the line has a colour, a percent sign and the two signs of each cell's
+abbrev pub colours_text : List Shown → List ℕ
+colours_text cells = if list_any (λ cell. has_colour cell.rendition) cells then 37 ∷ flat_map (λ cell. signs cell.rendition) cells ++ 10 ∷ [] else []
 
 abbrev pub line_text : List Shown → List ℕ
-line_text cells = characters_text cells ++ attributes_text cells
+line_text cells = characters_text cells ++ attributes_text cells ++ colours_text cells
 
 -- where the cursor stands, if that is known
 abbrev pub cursor_text : Option Place → List ℕ
 cursor_text None = codes "cursor unknown" ++ 10 ∷ []
 cursor_text (Some place) = codes "cursor " ++ decimal place.0 ++ 32 ∷ decimal place.1 ++ 10 ∷ []
 
--- how the next character would be printed
+-- how the next character would be printed: the attributes, and the signs of its colours if it has one
 abbrev pub rendition_text : Rendition → List ℕ
-rendition_text rendition = codes "rendition " ++ hex_digits rendition ++ 10 ∷ []
+rendition_text rendition =
+    codes "rendition " ++ hex_digits rendition.attributes ++ (if has_colour rendition then 32 ∷ signs rendition else []) ++ 10 ∷ []
 
 abbrev pub printed_picture : Picture → Option Place → Rendition → List ℕ
 printed_picture picture cursor rendition = flat_map line_text picture ++ (cursor_text cursor ++ rendition_text rendition)

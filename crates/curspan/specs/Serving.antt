@@ -1,14 +1,14 @@
 -- What the program does for its words, by the status that it answers.
-use Rattle.std.specs.Prelude.{◌≡◌, ◌⊎◌, ℕ, List, Some, None, true, false, is_some, MatchOption}
-use Rattle.std.specs.Io.KnownBytes.{Appends}
+use Rattle.std.specs.Prelude.{◌≡◌, ◌⊎◌, ℕ, List, Some, None, false, is_some, MatchOption}
 use Rattle.clap.specs.Words.{IsAmong, Text, fault_of}
 use Rattle.clap.specs.declared.error.kind.ErrorKind.{ErrorKind}
 use Rattle.clap.specs.declared.error.kind.ErrorKind.TheVariants.{DisplayHelp, DisplayVersion, OutOfMemory}
-use Rattle.cell.specs.Pictures.{Picture, Place, no_rendition, picture_of}
+use Rattle.cell.specs.Shown.{no_rendition}
+use Rattle.cell.specs.Pictures.{Picture, Place, picture_of}
 use Rattle.world.specs.World.{World, first_world, picture, topmost_cursor}
 use Rattle.streams.specs.Sinks.{Seen}
 use Rattle.paint.specs.Updates.{first_painter}
-use Rattle.desk.specs.ScriptEnds.{LogEnds, ScriptEnds, read_failed, write_fault}
+use Rattle.desk.specs.ScriptEnds.{ScriptEnds, read_failed, write_fault}
 use Rattle.streams.specs.Sources.{SourceSeen}
 use Rattle.streams.specs.Counts.{counted, next_count}
 use Rattle.desk.specs.Desks.{world}
@@ -17,6 +17,7 @@ use Rattle.script.specs.declared.fault.ScriptEnd.{ScriptEnd}
 use Rattle.curspan.specs.CommandLine.{Asks, curspan}
 use Rattle.curspan.specs.Printing.{printed_picture}
 use Rattle.curspan.specs.Statuses.{status_of}
+use Rattle.curspan.specs.Written.{IsWritten}
 use Rattle.curspan.specs.declared.asked.Job.{Job}
 use Rattle.curspan.specs.declared.asked.Kind.{Kind}
 use Rattle.curspan.specs.declared.asked.Kind.TheVariants.{Run, Paint}
@@ -40,7 +41,6 @@ pub record Tells {W : Type 0} (seen : W → Seen) (first last : ScreenOver W) (i
   pub script : ScriptEnds seen first last input rest log logged end
   pub reads : rest.failures ≡ counted (read_failed end.fault) input.failures
   pub writes : (seen last.writer).failures ≡ counted (is_some (write_fault end.fault)) (seen first.writer).failures
-  pub logs : LogEnds end.fault log logged
   pub tells : end.fault ≡ None → told ≡ logged
 
 -- The screen was blank at first, and over a sink of which this had been seen.
@@ -62,11 +62,9 @@ module _ {W : Type 0} (seen : W → Seen) where
 
 -- ---- paint: the terminal bytes are thrown away, and the picture is printed
 
--- The picture and the cursor went to the output, and a flush succeeded behind them.
-pub record IsPrinted (shown : Picture) (cursor : Place) (out after : Seen) : Type 0 where
-  pub taken : Appends out.taken after.taken (printed_picture shown (Some cursor) no_rendition)
-  pub no_failure : after.failures ≡ out.failures
-  pub flushed : after.flushed ≡ true
+-- The picture and the cursor went to the output, and were flushed.
+abbrev pub IsPrinted : Picture → Place → Seen → Seen → Type 0
+IsPrinted shown cursor out after = IsWritten out after (printed_picture shown (Some cursor) no_rendition)
 
 -- the picture of a world, with the topmost's cursor
 abbrev pub PrintsWorld : World → Seen → Seen → Type 0
@@ -81,7 +79,7 @@ Prints end world out shown told after status = MatchOption end.fault
 
 -- of a sink that keeps nothing
 abbrev pub nothing_seen : Seen
-nothing_seen = record { taken = None; failures = 0; flushed = false }
+nothing_seen = record { taken = None; failures = 0; flushes = 0; flushed = false }
 
 module _ {V : Type 0} (discarded : V → Seen) where
   pub record Paints (job : Job) (input rest : SourceSeen) (out shown log after : Seen) (status : ℕ) : Type 0 where

@@ -3,19 +3,19 @@
 ghost use Rattle.std.specs.Prelude.{◌≡◌, ◌≤◌, ◌+◌, ◌*◌, ◌++◌, [], Some, length, not, true};
 ghost use Rattle.std.specs.List.{flat_map, list_any};
 ghost use Rattle.std.specs.Io.KnownBytes.{Appends};
-ghost use Rattle.cell.specs.Pictures.{no_rendition};
+ghost use Rattle.cell.specs.Shown.{no_rendition};
 ghost use Rattle.streams.specs.Counts.{counted};
-ghost use Rattle.curspan.specs.Printing.{attributes_text, characters_text, cursor_text, has_attributes, line_text, printed_picture, rendition_text};
+ghost use Rattle.curspan.specs.Printing.{attributes_text, characters_text, colours_text, cursor_text, has_attributes, has_colour, line_text, printed_picture, rendition_text, sign, signs};
 
 use crate::put::put;
 use arrayvec::ArrayVec;
 use bitflags::Flags;
-use cell::{Attr, Cell, LARGEST_SCREEN};
+use cell::{Attr, Colour, LARGEST_SCREEN, Rendition, Shown};
 use desk::Desk;
 use streams::{Sink, append, append_decimal};
 
-/// Room for a line of a picture, with its attributes: 3 bytes for each cell, and 5 more.
-const ROOM: usize = 1024;
+/// Room for a line of a picture, with its attributes and colours: 5 bytes for each cell, and 7 more.
+const ROOM: usize = 5120;
 
 /// Room for what stands behind the lines: two numbers, and 26 bytes more.
 const ENDING_ROOM: usize = 128;
@@ -24,14 +24,14 @@ const ENDING_ROOM: usize = 128;
 type LineText = ArrayVec<u8, ROOM>;
 
 /// Whether some cell of a line has attributes.
-fn has_attributes(row: &[Cell]) -> bool
+fn has_attributes(row: &[Shown]) -> bool
     ensures { result ≡ list_any has_attributes row.now }
 {
-    row.iter().any(|cell| cell.attr().bits() != 0)
+    row.iter().any(|cell| cell.rendition().attrs().bits() != 0)
 }
 
 /// Puts the characters of a line, between bars, at the end.
-fn append_characters(text: &mut LineText, row: &[Cell])
+fn append_characters(text: &mut LineText, row: &[Shown])
     requires { length text.old.items + length row.now + 3 ≤ ROOM }
     ensures { text.new.items ≡ text.old.items ++ characters_text row.now }
 {
@@ -43,28 +43,71 @@ fn append_characters(text: &mut LineText, row: &[Cell])
 }
 
 /// Puts the attributes of a line's cells at the end, if some cell has one.
-fn append_attributes(text: &mut LineText, row: &[Cell])
+fn append_attributes(text: &mut LineText, row: &[Shown])
     requires { length text.old.items + 2 * length row.now + 2 ≤ ROOM }
-    ensures { text.new.items ≡ text.old.items ++ attributes_text row.now }
+    ensures text { text.new.items ≡ text.old.items ++ attributes_text row.now }
+    ensures short { length text.new.items ≤ length text.old.items + 2 * length row.now + 2 }
 {
     if !has_attributes(row) {
         return;
     }
     append(text, b":");
     for cell in row {
-        append(text, &cell.attr().hex_digits());
+        append(text, &cell.rendition().attrs().hex_digits());
+    }
+    append(text, b"\n");
+}
+
+/// Whether some cell of a line has a colour.
+fn has_colours(row: &[Shown]) -> bool
+    ensures { result ≡ list_any (λ cell. has_colour cell.rendition) row.now }
+{
+    row.iter()
+        .any(|cell| !cell.rendition().colours().is_default())
+}
+
+/// The digit of a colour, or a minus for the default.
+fn sign(colour: Option<Colour>) -> u8
+    ensures { result ≡ sign colour }
+{
+    match colour {
+        Some(colour) => b'0' + colour.number(),
+        None => b'-',
+    }
+}
+
+/// The signs of the foreground and of the background.
+fn signs(rendition: Rendition) -> [u8; 2]
+    ensures { result ≡ signs rendition }
+{
+    let pair = rendition.colours();
+    [sign(pair.foreground), sign(pair.background)]
+}
+
+/// Puts the colours of a line's cells at the end, if some cell has one.
+fn append_colours(text: &mut LineText, row: &[Shown])
+    requires { length text.old.items + 2 * length row.now + 2 ≤ ROOM }
+    ensures { text.new.items ≡ text.old.items ++ colours_text row.now }
+{
+    if !has_colours(row) {
+        return;
+    }
+    append(text, b"%");
+    for cell in row {
+        append(text, &signs(cell.rendition()));
     }
     append(text, b"\n");
 }
 
 /// The text of a line.
-fn line_text(row: &[Cell]) -> LineText
+fn line_text(row: &[Shown]) -> LineText
     requires { length row.now ≤ LARGEST_SCREEN }
     ensures { result.items ≡ line_text row.now }
 {
     let mut text = LineText::new();
     append_characters(&mut text, row);
     append_attributes(&mut text, row);
+    append_colours(&mut text, row);
     text
 }
 
@@ -86,6 +129,7 @@ fn ending(cursor: (u16, u16)) -> ArrayVec<u8, ENDING_ROOM>
 /// Prints the lines of a desk's virtual screen, and answers whether all went out.
 fn put_lines<O: Sink>(out: &mut O, desk: &Desk) -> bool
     ensures taken { result ≡ true → Appends (O.seen out.old).taken (O.seen out.new).taken (flat_map line_text desk.now.virtual.picture) }
+    ensures flushes { (O.seen out.new).flushes ≡ (O.seen out.old).flushes }
     ensures failures { (O.seen out.new).failures ≡ counted (not result) (O.seen out.old).failures }
 {
     let (lines, _) = desk.size();
@@ -101,6 +145,7 @@ fn put_lines<O: Sink>(out: &mut O, desk: &Desk) -> bool
 pub fn put_picture<O: Sink>(out: &mut O, desk: &Desk) -> bool
     ensures taken { result ≡ true → Appends (O.seen out.old).taken (O.seen out.new).taken
         (printed_picture desk.now.virtual.picture (Some desk.now.virtual.cursor) no_rendition) }
+    ensures flushes { (O.seen out.new).flushes ≡ (O.seen out.old).flushes }
     ensures failures { (O.seen out.new).failures ≡ counted (not result) (O.seen out.old).failures }
 {
     if !put_lines(out, desk) {

@@ -1,17 +1,20 @@
 //! Writing a text of any length.
 
-ghost use Rattle.std.specs.Prelude.{◌≡◌, not, true};
+ghost use Rattle.std.specs.Prelude.{◌≡◌, false, not, true};
 ghost use Rattle.std.specs.Io.KnownBytes.{Appends};
 ghost use Rattle.streams.specs.Counts.{counted};
+ghost use Rattle.curspan.specs.Written.{TakesFront};
 
 use streams::{Sink, send};
 
 /// How many bytes are sent at once.
 const PIECE: usize = 4096;
 
-/// Writes a text, and answers whether all of it went out.
+/// Writes a text, and answers whether all of it went out. If not, a front of it did. It flushes nothing.
 pub fn put<W: Sink>(sink: &mut W, text: &[u8]) -> bool
     ensures taken { result ≡ true → Appends (W.seen sink.old).taken (W.seen sink.new).taken text.now }
+    ensures cut { result ≡ false → TakesFront (W.seen sink.old) (W.seen sink.new) text.now }
+    ensures flushes { (W.seen sink.new).flushes ≡ (W.seen sink.old).flushes }
     ensures failures { (W.seen sink.new).failures ≡ counted (not result) (W.seen sink.old).failures }
 {
     let mut rest = text;

@@ -1,8 +1,8 @@
 //! Does what the command line asks for, over any reader and writers.
 
-ghost use Rattle.std.specs.Prelude.{◌≡◌, ◌<◌, ◌⊎◌, ℕ, Some, Err, true, false, is_some, map};
+ghost use Rattle.std.specs.Prelude.{◌≡◌, ◌<◌, ◌⊎◌, ℕ, None, Some, Err, true, false, is_some, map};
 ghost use Rattle.std.specs.Io.KnownBytes.{Appends};
-ghost use Rattle.cell.specs.Pictures.{no_rendition};
+ghost use Rattle.cell.specs.Shown.{no_rendition};
 ghost use Rattle.streams.specs.Counts.{counted, next_count};
 ghost use Rattle.clap.specs.Words.{kind_of};
 ghost use Rattle.curspan.specs.CommandLine.{IsSize};
@@ -87,7 +87,8 @@ fn last_line(fault: ScriptFault) -> ArrayString<80> {
 
 /// The status of a script that ended so.
 fn status_of(end: ScriptEnd) -> u8
-    ensures { result ≡ status_of end }
+    ensures status { result ≡ status_of end }
+    ensures well { result < 2 → end.fault ≡ None }
 {
     match end.fault {
         Some(ScriptFault::Text { .. }) => BAD_TEXT,
@@ -104,6 +105,7 @@ fn run_told<W: Sink, R: Source, L: Sink>(
     log: &mut L,
 ) -> ScriptEnd
     ensures ran { Tells W.seen screen.old screen.new (R.seen input.old) (R.seen input.new) (L.seen log.old) (L.seen log.new) result }
+    ensures log { result.fault ≡ None → (L.seen log.new).failures ≡ (L.seen log.old).failures }
 {
     let end = screen.run_script(input, log);
     if let Some(fault) = end.fault {

@@ -508,7 +508,7 @@ fn refuses_other_command_lines(rt: HostRuntime) -> Result<(), Fail> {
         &["curspan", "run"],
         &["curspan", "run", "--lines", "4"],
         &["curspan", "run", "--lines", "0", "--cols", "10"],
-        &["curspan", "run", "--lines", "4", "--cols", "256"],
+        &["curspan", "run", "--lines", "4", "--cols", "1000"],
         &["curspan", "run", "--lines", "four", "--cols", "10"],
         &["curspan", "run", "--lines", "4", "--cols", "10", "x"],
         &[
@@ -522,5 +522,95 @@ fn refuses_other_command_lines(rt: HostRuntime) -> Result<(), Fail> {
         assert!(rt; end.out.is_empty());
         assert!(rt; !end.log.is_empty());
     }
+    Ok(())
+}
+
+/// A writer that takes all, and counts its flushes.
+#[derive(Drop)]
+struct Flushing {
+    taken: Vec<u8>,
+    flushes: usize,
+}
+
+impl Write for Flushing {
+    fn write(&mut self, buf: &[u8]) -> io::Result<usize> {
+        self.taken.extend_from_slice(buf)?;
+        Ok(buf.len())
+    }
+
+    fn flush(&mut self) -> io::Result<()> {
+        self.flushes = self.flushes.wrapping_add(1);
+        Ok(())
+    }
+}
+
+fn counting_flushes(alloc: Global) -> Counted<Flushing> {
+    Counted::new(Flushing {
+        taken: Vec::new(alloc),
+        flushes: 0,
+    })
+}
+
+#[test]
+fn each_doupdate_is_flushed_once_and_the_log_once(rt: HostRuntime) -> Result<(), Fail> {
+    let alloc = rt.alloc();
+    let cases: [(&[u8], usize, usize); 4] = [
+        (b"", 0, 1),
+        (HELLO, 1, 1),
+        (b"getyx 0\ndoupdate\ngetyx 0\ndoupdate\nmove 0 9 9\n", 2, 1),
+        (b"doupdate\nfly\n", 1, 2),
+    ];
+    for (bytes, updates, logs) in cases {
+        let (step, fails) = (512, false);
+        let mut input = CountedReader::new(Pieces { bytes, step, fails });
+        let mut out = counting_flushes(alloc);
+        let mut log = counting_flushes(alloc);
+        serve(alloc, &FOUR_BY_TEN, &mut input, &mut out, &mut log);
+        assert_eq!(rt; out.into_inner().flushes, updates);
+        assert_eq!(rt; log.into_inner().flushes, logs);
+    }
+    Ok(())
+}
+
+/// A reader that gives a text, is at its end once, and then gives another, as a terminal may.
+#[derive(Drop)]
+struct Terminal {
+    before: &'static [u8],
+    behind: &'static [u8],
+    ended: bool,
+}
+
+impl Read for Terminal {
+    fn read(&mut self, buf: &mut [u8]) -> io::Result<usize> {
+        let text = if self.ended { self.behind } else { self.before };
+        if text.is_empty() {
+            self.ended = true;
+        }
+        let count = text.len().min(buf.len());
+        let (piece, left) = text.split_at(count);
+        buf[..count].copy_from_slice(piece);
+        if self.ended {
+            self.behind = left;
+        } else {
+            self.before = left;
+        }
+        Ok(count)
+    }
+}
+
+#[test]
+fn a_script_ends_at_the_first_end_of_file(rt: HostRuntime) -> Result<(), Fail> {
+    let alloc = rt.alloc();
+    let mut input = CountedReader::new(Terminal {
+        before: b"addstr 0 hi\nupdate_panels",
+        behind: b"\ndoupdate\nfly\n",
+        ended: false,
+    });
+    let mut out = taking(alloc, 0, 0);
+    let mut log = taking(alloc, 0, 0);
+    let status = serve(alloc, &FOUR_BY_TEN, &mut input, &mut out, &mut log);
+    assert_eq!(rt; status, 0);
+    assert!(rt; out.into_inner().taken.is_empty());
+    assert!(rt; log.into_inner().taken.is_empty());
     Ok(())
 }

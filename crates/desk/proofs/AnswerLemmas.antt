@@ -1,21 +1,18 @@
 -- A call of a script is the call that its line says, wherever its text lies, and what it answered.
-use Rattle.std.proofs.Common.{◌≡◌, ℕ, List, [], Ok, Err, Result, refl, ap, subst, sym}
-use Rattle.std.proofs.KnownBytes.{Appends-nil}
-use Rattle.std.specs.Io.KnownBytes.{Appends}
+use Rattle.std.proofs.Common.{◌≡◌, ℕ, List, [], ◌∷◌, Ok, Err, Result, refl, ap, subst, sym}
 use Rattle.cell.specs.declared.refusal.Refusal.{Refusal}
 use Rattle.streams.specs.Sinks.{Seen}
-use Rattle.streams.specs.declared.sending.WriteFault.{WriteFault}
-use Rattle.desk.specs.Ends.{CallEnds, Took}
+use Rattle.desk.specs.Ends.{CallEnds, Writes}
+use Rattle.desk.proofs.WriterLemmas.{Writes-refused}
 use Rattle.desk.specs.States.{state_of}
 use Rattle.script.specs.Words.{placeless}
 use Rattle.world.specs.declared.call.Call.{Call}
 use Rattle.world.specs.declared.call.Call.TheVariants.{Making, Writing, Query, Refresh}
-use Rattle.world.specs.declared.call.Writing.TheVariants.{Move, Addch, Addstr, Insch, Delch, Insertln, Deleteln, Erase, Clrtoeol, Clrtobot, Scrl, Setscrreg, Scrollok, Attrset, Attron, Attroff, Bkgdset}
+use Rattle.world.specs.declared.call.Writing.TheVariants.{Move, Addch, Addstr, Insch, Delch, Insertln, Deleteln, Erase, Clrtoeol, Clrtobot, Scrl, Setscrreg, Scrollok, Attrset, Attron, Attroff, Bkgdset, ColorSet, Bkgdpair}
 use Rattle.world.specs.declared.call.Reply.{Reply}
 use Rattle.desk.specs.declared.screen.Fault.TheVariants.{Refused, Write}
 use Rattle.desk.specs.States.{ScreenOver}
 use Rattle.desk.specs.declared.screen.Fault.{Fault}
-use Rattle.desk.specs.Desks.{world}
 use Rattle.desk.specs.Runs.{MayAnswer, state_after}
 use Rattle.desk.specs.steps.Answers.{joined}
 
@@ -40,16 +37,19 @@ module _ {W : Type 0} (seen : W → Seen) where
   placeless_ends old (Writing (Attron win attrs)) r new h = h
   placeless_ends old (Writing (Attroff win attrs)) r new h = h
   placeless_ends old (Writing (Bkgdset win attrs ch)) r new h = h
-  placeless_ends old (Writing (Addstr win text)) (Ok reply) new h = h
+  placeless_ends old (Writing (ColorSet win pair)) r new h = h
+  placeless_ends old (Writing (Bkgdpair win pair)) r new h = h
+  placeless_ends old (Writing (Addstr win text)) (Ok reply) new h =
+      (h.0, (h.1.0, h.1.1, record { taken = h.1.2.taken; flushes = h.1.2.flushes; flushed = h.1.2.flushed }))
   placeless_ends old (Writing (Addstr win text)) (Err (Refused refusal)) new h = h
   placeless_ends old (Writing (Addstr win text)) (Err (Write fault)) new h = h
 
   -- the state and the bytes after a call that wasn't cut short, whether it was accepted or refused
   abbrev pub Answered : ScreenOver W → Call → Result Reply Refusal → ScreenOver W → Type 0
   Answered old call answer new = (state_of new ≡ state_after (state_of old) call answer)
-      × ((sent : List ℕ) × MayAnswer (world old.desk) call answer sent × Took seen old new sent)
+      × ((sent : List ℕ) × MayAnswer (state_of old) call answer sent × Writes seen old new (call ∷ []) sent)
 
   pub is_answered : (old : ScreenOver W) (call : Call) (answer : Result Reply Refusal) (new : ScreenOver W) → CallEnds seen old call (joined (Ok answer)) new → Answered old call answer new
   is_answered old call (Ok reply) new h = h
   is_answered old call (Err refusal) new h =
-      (ap state_of h.1, ([], (h.0, refl), subst (λ s. Appends (seen old.writer).taken (seen s.writer).taken []) (sym h.1) (Appends-nil _)))
+      (ap state_of h.1, ([], (h.0, refl), subst (λ s. Writes seen old s (call ∷ []) []) (sym h.1) (Writes-refused seen old call refusal h.0)))

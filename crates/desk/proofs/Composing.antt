@@ -8,7 +8,8 @@ use Rattle.std.proofs.lemmas.Bool.{cases_eq, eq-eqb, ne_eqb, le-leb, lt-ltb}
 use Rattle.std.proofs.lemmas.List.Elements.{recursion_from_All}
 use Rattle.std.proofs.lemmas.List.FromFn.{length-map-range_with_len, get_or-map-range_with_len}
 use Rattle.cell.specs.Glyphs.{Glyph, IsCell, blank}
-use Rattle.cell.specs.Pictures.{Picture, HasSize, AreCells, origin, picture_of, shown_at}
+use Rattle.cell.specs.Shown.{Pairs, Shown, shown, shown_blank}
+use Rattle.cell.specs.Pictures.{Picture, HasSize, AreShown, origin, picture_of, line_of, shown_at, with_cell}
 use Rattle.world.specs.Windows.{Window, WindowMap, Windows, HasPlace, cell_at, cell_in_grid, cell_of, changed}
 use Rattle.world.specs.Panels.{no_panels, standard_screen, place_of, screen_place, cursor_from}
 use Rattle.world.specs.World.{World, VirtualScreen, picture, topmost_cursor, without_panels}
@@ -20,7 +21,9 @@ use Rattle.grids.specs.Tables.{WindowTable, windows}
 use Rattle.desk.specs.Desks.{world}
 use Rattle.desk.proofs.DeskLemmas.{desk_of}
 use Rattle.world.proofs.WindowLaws.{own-own_grid}
-use Rattle.cell.proofs.PictureLemmas.{HasSize-picture_of, same_pictures, shown_at-picture_of}
+use Rattle.cell.proofs.PictureLemmas.{HasSize-lines_from, HasSize-with_cell, same_pictures, cell_or-lines_from}
+use Rattle.cell.proofs.Fills.{filled-more, width-with_cell}
+use Rattle.std.proofs.lemmas.List.{length-set}
 
 -- ---- the standard screen
 
@@ -68,41 +71,68 @@ cells-shown windows y h below =
 
 -- ---- line by line
 
--- the lines before y are the standard screen's
-pub record ShownAbove (windows : Windows) (y : ℕ) (picture : Picture) : Type 0 where
-  pub size : HasSize windows.lines windows.columns picture
-  pub shown : (v u : ℕ) → v < y → u < windows.columns → shown_at picture (v, u) ≡ cell_at windows.window standard_screen v u
+-- how the standard screen's cell at (y, x) is shown
+abbrev pub standard_shown : Windows → Pairs → ℕ → ℕ → Shown
+standard_shown windows pairs y x = shown pairs (cell_at windows.window standard_screen y x)
 
-inside-piece : (line left right : Bool) (one other : Glyph) → line ≡ true → left ≡ true → right ≡ true → (if line && (left && right) then one else other) ≡ one
+-- the lines before y are the standard screen's
+pub record ShownAbove (windows : Windows) (pairs : Pairs) (y : ℕ) (picture : Picture) : Type 0 where
+  pub size : HasSize windows.lines windows.columns picture
+  pub shown : (v u : ℕ) → v < y → u < windows.columns → shown_at picture (v, u) ≡ standard_shown windows pairs v u
+
+-- the columns before x of line y are those of a row
+pub record LineShown (pairs : Pairs) (row : List Glyph) (y x : ℕ) (old picture : Picture) : Type 0 where
+  pub shown : (v u : ℕ) → shown_at picture (v, u) ≡ (if (v == y) && (nat_le 0 u && nat_lt u x) then shown pairs (get_or row u blank) else shown_at old (v, u))
+  pub size : (lines columns : ℕ) → HasSize lines columns old → HasSize lines columns picture
+  pub height : length picture ≡ length old
+  pub width : (v : ℕ) → length (line_of picture v) ≡ length (line_of old v)
+
+inside-piece : (line left right : Bool) (one other : Shown) → line ≡ true → left ≡ true → right ≡ true → (if line && (left && right) then one else other) ≡ one
 inside-piece line left right one other l c r = rw (l, c, r) refl
 
-outside-line : (line rest : Bool) (one other : Glyph) → line ≡ false → (if line && rest then one else other) ≡ other
+outside-line : (line rest : Bool) (one other : Shown) → line ≡ false → (if line && rest then one else other) ≡ other
 outside-line line rest one other l = rw l refl
 
-pub shown-next : (windows : Windows) (y : ℕ) (picture now : Picture) (row : List Glyph) → AreSoundWindows windows → ShownAbove windows y picture → row ≡ line_shown windows.window standard_screen y
-    → ((v u : ℕ) → shown_at now (v, u) ≡ (if (v == y) && (nat_le 0 u && nat_lt u (0 + length row)) then get_or row (u - 0) blank else shown_at picture (v, u)))
-    → ((lines columns : ℕ) → HasSize lines columns picture → HasSize lines columns now) → ShownAbove windows (y + 1) now
-shown-next windows y picture now row h so_far row_is shown size = record {
+pub shown-next : (windows : Windows) (pairs : Pairs) (y : ℕ) (picture now : Picture) (row : List Glyph) → AreSoundWindows windows → ShownAbove windows pairs y picture → row ≡ line_shown windows.window standard_screen y
+    → ((v u : ℕ) → shown_at now (v, u) ≡ (if (v == y) && (nat_le 0 u && nat_lt u (length row)) then shown pairs (get_or row u blank) else shown_at picture (v, u)))
+    → ((lines columns : ℕ) → HasSize lines columns picture → HasSize lines columns now) → ShownAbove windows pairs (y + 1) now
+shown-next windows pairs y picture now row h so_far row_is line size = record {
   size = size windows.lines windows.columns so_far.size;
   shown = λ v u before left. elim (cases_eq v y) [
     | inl same ↦
         let wide : length row ≡ windows.columns = ap length row_is ∙ length-shown windows y h in
-        let within : u < 0 + length row = omega arith in
+        let within : u < length row = omega arith in
         let from : 0 ≤ u = omega arith in
-        let at : u - 0 ≡ u = omega arith in
-        shown v u ∙ inside-piece (v == y) (nat_le 0 u) (nat_lt u (0 + length row)) (get_or row (u - 0) blank) (shown_at picture (v, u)) (eq-eqb v y same) (le-leb 0 u from) (lt-ltb u (0 + length row) within)
-        ∙ ap (λ k. get_or row k blank) at ∙ ap (λ r. get_or r u blank) row_is ∙ shown-column windows y u blank h left ∙ ap (λ k. cell_at windows.window standard_screen k u) (sym same)
+        line v u ∙ inside-piece (v == y) (nat_le 0 u) (nat_lt u (length row)) (shown pairs (get_or row u blank)) (shown_at picture (v, u)) (eq-eqb v y same) (le-leb 0 u from) (lt-ltb u (length row) within)
+        ∙ ap (λ (r : List Glyph). shown pairs (get_or r u blank)) row_is ∙ ap (shown pairs) (shown-column windows y u blank h left) ∙ ap (λ k. standard_shown windows pairs k u) (sym same)
     | inr other ↦
-        shown v u ∙ outside-line (v == y) (nat_le 0 u && nat_lt u (0 + length row)) (get_or row (u - 0) blank) (shown_at picture (v, u)) (ne_eqb v y other)
+        line v u ∙ outside-line (v == y) (nat_le 0 u && nat_lt u (length row)) (shown pairs (get_or row u blank)) (shown_at picture (v, u)) (ne_eqb v y other)
         ∙ so_far.shown v u (omega arith) left
   ];
 }
 
-pub shown-all : (windows : Windows) (y : ℕ) (picture : Picture) → AreSoundWindows windows → windows.lines ≤ y → ShownAbove windows y picture
-    → picture ≡ picture_of windows.lines windows.columns (cell_at windows.window standard_screen)
-shown-all windows y picture h all so_far =
-    same_pictures so_far.size (HasSize-picture_of windows.lines windows.columns (cell_at windows.window standard_screen)) (λ v u below left.
-    so_far.shown v u (omega arith) left ∙ sym (shown_at-picture_of windows.lines windows.columns (cell_at windows.window standard_screen) v u below left))
+pub shown-all : (windows : Windows) (pairs : Pairs) (y : ℕ) (picture : Picture) → AreSoundWindows windows → windows.lines ≤ y → ShownAbove windows pairs y picture
+    → picture ≡ picture_of windows.lines windows.columns (standard_shown windows pairs)
+shown-all windows pairs y picture h all so_far =
+    same_pictures shown_blank so_far.size (HasSize-lines_from windows.lines windows.columns (standard_shown windows pairs)) (λ v u below left.
+    so_far.shown v u (omega arith) left ∙ sym (cell_or-lines_from shown_blank windows.lines windows.columns (standard_shown windows pairs) v u below left))
+
+-- the next column is in the line
+pub line_inside : (pairs : Pairs) (row : List Glyph) (y x : ℕ) (old now : Picture) → LineShown pairs row y x old now → y < length old → length row ≤ length (line_of old y) → x < length row
+    → (y < length now) × (x < length (line_of now y))
+line_inside pairs row y x old now so_far below fits left = (omega (arith, so_far.height), omega (arith, so_far.width y))
+
+-- one column more
+pub LineShown-more : (pairs : Pairs) (row : List Glyph) (y x : ℕ) (old now : Picture) → LineShown pairs row y x old now → y < length now → x < length (line_of now y)
+    → LineShown pairs row y (x + 1) old (with_cell now (y, x) (shown pairs (get_or row x blank)))
+LineShown-more pairs row y x old now so_far below left =
+    let f : ℕ → Shown = λ u. shown pairs (get_or row u blank) in
+    record {
+      shown = filled-more shown_blank now old y 0 x f below left (omega arith) so_far.shown;
+      size = λ lines columns size. HasSize-with_cell (y, x) (f x) (so_far.size lines columns size);
+      height = length-set now y _ ∙ so_far.height;
+      width = λ v. width-with_cell now y x v (f x) ∙ so_far.width v;
+    }
 
 -- ---- update_panels
 
@@ -114,7 +144,7 @@ place-standard : (windows : Windows) → AreSoundWindows windows → place_of wi
 place-standard windows h = standard-place windows (windows.window standard_screen) h.standard
 
 -- without panels the picture is the standard screen's
-pub picture-standard : (world : World) → AreSoundWindows world.windows → world.panels ≡ no_panels → (y x : ℕ) → picture world y x ≡ cell_at world.windows.window standard_screen y x
+pub picture-standard : (world : World) → AreSoundWindows world.windows → world.panels ≡ no_panels → (y x : ℕ) → picture world y x ≡ standard_shown world.windows world.pairs y x
 picture-standard world h none y x =
     let v : y - 0 ≡ y = omega arith in
     let u : x - 0 ≡ x = omega arith in
@@ -140,18 +170,18 @@ clear-there : (o : Option Window) (settings : Settings) → option_map (λ a. a.
 clear-there None settings h = cc
 clear-there (Some a) settings h = let same : a.settings ≡ settings = cc in or_nothing a.settings.clear ∙ ap (λ s. s.clear) same
 
-module _ (old new : WindowTable) (virtual : VirtualScreen) (shown : Picture) (settings : Settings) (clear : Bool)
+module _ (old new : WindowTable) (pairs : Pairs) (virtual : VirtualScreen) (picture_shown : Picture) (settings : Settings) (clear : Bool)
     (h : AreSoundWindows (windows old))
     (windows_are : windows new ≡ record (windows old) { window = changed (windows old).window standard_screen unmarked })
-    (shown_is : shown ≡ picture_of old.lines old.columns (cell_at (windows old).window standard_screen))
+    (shown_is : picture_shown ≡ picture_of old.lines old.columns (standard_shown (windows old) pairs))
     (settings_are : option_map (λ a. a.settings) ((windows old).window standard_screen) ≡ Some settings)
     (clear_is : clear ≡ (virtual.clear || settings.clear)) where
   before : World
-  before = world (desk_of old virtual)
+  before = world (desk_of old pairs virtual)
 
-  picture-is : shown ≡ picture_of old.lines old.columns (picture before)
+  picture-is : picture_shown ≡ picture_of old.lines old.columns (picture before)
   unfolding before
-  picture-is = shown_is ∙ ap (picture_of old.lines old.columns) (sym (fun_ext (λ y. fun_ext (λ x. picture-standard (world (desk_of old virtual)) h refl y x))))
+  picture-is = shown_is ∙ ap (picture_of old.lines old.columns) (sym (fun_ext (λ y. fun_ext (λ x. picture-standard (world (desk_of old pairs virtual)) h refl y x))))
 
   cursor-is : settings.cursor ≡ topmost_cursor before
   unfolding before
@@ -162,11 +192,11 @@ module _ (old new : WindowTable) (virtual : VirtualScreen) (shown : Picture) (se
   clear-is : clear ≡ (virtual.clear || (asks_for_clear (windows old).window standard_screen || false))
   clear-is = clear_is ∙ ap (λ b. virtual.clear || b) (sym (clear-there ((windows old).window standard_screen) settings settings_are))
 
-  pub world-composed : world (desk_of new (record { picture = shown; cursor = settings.cursor; clear = clear })) ≡ after_update_panels (world (desk_of old virtual))
+  pub world-composed : world (desk_of new pairs (record { picture = picture_shown; cursor = settings.cursor; clear = clear })) ≡ after_update_panels (world (desk_of old pairs virtual))
   unfolding before
   world-composed =
-      (λ i. without_panels (windows_are i) (record { picture = picture-is i; cursor = cursor-is i; clear = clear-is i }))
-      ∙ (λ i. record (after_update_panels (world (desk_of old virtual))) {
+      (λ i. without_panels (windows_are i) pairs (record { picture = picture-is i; cursor = cursor-is i; clear = clear-is i }))
+      ∙ (λ i. record (after_update_panels (world (desk_of old pairs virtual))) {
         windows = record (windows old) { window = fun_ext (unmarked-standard (windows old).window) i };
       })
 
@@ -179,7 +209,7 @@ module _ (old new : WindowTable) (virtual : VirtualScreen) (shown : Picture) (se
       let column : a.settings.cursor.1 < a.columns = each.settings.cursor_column in
       (rw (← same, ← standard.lines) line, rw (← same, ← standard.columns) column)
 
-  pub IsSound-composed : IsSound (world (desk_of old virtual)) → AreSoundWindows (windows new) → AreCells shown → IsSound (world (desk_of new (record { picture = shown; cursor = settings.cursor; clear = clear })))
+  pub IsSound-composed : IsSound (world (desk_of old pairs virtual)) → AreSoundWindows (windows new) → AreShown picture_shown → IsSound (world (desk_of new pairs (record { picture = picture_shown; cursor = settings.cursor; clear = clear })))
   IsSound-composed sound sound_new cells =
       let cursor = settings-within ((windows old).window standard_screen) refl settings_are h.standard (h.each standard_screen) in
       let lines : new.lines ≡ old.lines = ap (λ w. w.lines) windows_are in
@@ -187,8 +217,9 @@ module _ (old new : WindowTable) (virtual : VirtualScreen) (shown : Picture) (se
       record {
         windows = sound_new;
         panels = record { once = sound.panels.once; visible = sound.panels.visible; each = λ p. tt };
+        pairs = sound.pairs;
         virtual = record {
-          size = rw (lines, columns, shown_is) (HasSize-picture_of old.lines old.columns (cell_at (windows old).window standard_screen));
+          size = rw (lines, columns, shown_is) (HasSize-lines_from old.lines old.columns (standard_shown (windows old) pairs));
           cells = cells;
           line = rw lines cursor.0;
           column = rw columns cursor.1;

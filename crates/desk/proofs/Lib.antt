@@ -1,5 +1,6 @@
 pub mod Composing
 pub mod DeskLemmas
+pub mod WriterLemmas
 pub mod RunLemmas
 pub mod ShowingLemmas
 pub mod AnswerLemmas

@@ -1,10 +1,12 @@
 -- How a line of a script ends.
-use Rattle.std.proofs.Common.{◌≡◌, ℕ, List, [], ◌∷◌, Bool, true, false, take, None, Some, Ok, Err, Result, is_err, is_ok, not, refl, ap, subst, sym, ◌∙◌, append-nil, ◌||◌}
+use Rattle.std.proofs.Common.{◌≡◌, ◌<◌, ℕ, List, [], ◌∷◌, length, Bool, true, false, take, None, Some, Ok, Err, Result, is_err, is_ok, not, refl, ap, subst, sym, ◌∙◌, append-nil, ◌||◌}
 use Rattle.std.proofs.KnownBytes.{Appends-nil}
 use Rattle.std.specs.Io.KnownBytes.{Appends}
+use Rattle.streams.specs.Counts.{next_count}
 use Rattle.streams.specs.Sinks.{Seen}
 use Rattle.world.specs.calls.Dispatch.{is_doupdate}
-use Rattle.desk.specs.Ends.{CallEnds, Makes}
+use Rattle.desk.specs.Ends.{CallEnds, Makes, Writes}
+use Rattle.desk.proofs.WriterLemmas.{Writes-nothing}
 use Rattle.desk.specs.steps.Answers.{joined}
 use Rattle.desk.proofs.AnswerLemmas.{Answered, is_answered}
 use Rattle.script.specs.Readings.{said_by_line}
@@ -12,7 +14,7 @@ use Rattle.script.specs.Log.{log_line}
 use Rattle.desk.specs.ScriptEnds.{LineEnds}
 use Rattle.world.specs.declared.call.Call.{Call}
 use Rattle.world.specs.declared.call.Call.TheVariants.{Making, Writing, Query, Refresh}
-use Rattle.world.specs.declared.call.Refresh.TheVariants.{UpdatePanels, Doupdate}
+use Rattle.world.specs.declared.call.Refresh.TheVariants.{UpdatePanels, Doupdate, InitPair}
 use Rattle.world.specs.declared.call.Reply.{Reply}
 use Rattle.cell.specs.declared.refusal.Refusal.{Refusal}
 use Rattle.streams.specs.declared.sending.WriteFault.{WriteFault}
@@ -26,6 +28,7 @@ the_doupdate (Making m) h = cc
 the_doupdate (Writing w) h = cc
 the_doupdate (Query q) h = cc
 the_doupdate (Refresh UpdatePanels) h = cc
+the_doupdate (Refresh (InitPair pair foreground background)) h = cc
 the_doupdate (Refresh Doupdate) h = refl
 
 or_nothing : (b : Bool) → (b || false) ≡ b
@@ -38,7 +41,7 @@ refused_is (Err refusal) r e = e
 
 module _ {W : Type 0} (seen : W → Seen) where
   no_calls : (old : ScreenOver W) → Makes seen old [] [] old
-  no_calls old = record { run = tt; state = refl; bytes = Appends-nil _ }
+  no_calls old = record { run = tt; state = refl; writes = Writes-nothing seen old }
 
   pub line_says_nothing : (old : ScreenOver W) (n : ℕ) (line : List ℕ) (log : Seen) → said_by_line line ≡ Ok None
       → LineEnds seen old old n line log log (record { refused = false; fault = None })
@@ -49,6 +52,8 @@ module _ {W : Type 0} (seen : W → Seen) where
     makes = no_calls old;
     stop = (said, refl);
     logs = Appends-nil _;
+    failures = refl;
+    flushes = refl;
     refused = refl;
   }
 
@@ -61,6 +66,8 @@ module _ {W : Type 0} (seen : W → Seen) where
     makes = no_calls old;
     stop = (refl, said, refl, refl);
     logs = Appends-nil _;
+    failures = refl;
+    flushes = refl;
     refused = refl;
   }
 
@@ -69,34 +76,39 @@ module _ {W : Type 0} (seen : W → Seen) where
   one_call old new call answer a = record {
     run = (a.1.1, tt);
     state = a.0;
-    bytes = subst (Appends _ _) (sym (append-nil a.1.0)) a.1.2;
+    writes = subst (Writes seen old new (call ∷ [])) (sym (append-nil a.1.0)) a.1.2;
   }
 
   pub line_is_run : (old new : ScreenOver W) (n : ℕ) (line : List ℕ) (log written : Seen) (call : Call) (answer : Result Reply Refusal) (r : Bool)
       → said_by_line line ≡ Ok (Some call) → CallEnds seen old call (joined (Ok answer)) new → r ≡ is_err answer
-      → Appends log.taken written.taken (log_line n answer)
+      → Appends log.taken written.taken (log_line n answer) → written.failures ≡ log.failures → written.flushes ≡ log.flushes
       → LineEnds seen old new n line log written (record { refused = r; fault = None })
-  line_is_run old new n line log written call answer r said h e logs = let a = is_answered seen old call answer new h in record {
+  line_is_run old new n line log written call answer r said h e logs failures flushes = let a = is_answered seen old call answer new h in record {
     call = Some call;
     outcomes = record { answer = answer; sent = a.1.0 } ∷ [];
     at_stop = new;
     makes = one_call old new call answer a;
     stop = (said, refl);
     logs = subst (Appends _ _) (sym (append-nil (log_line n answer))) logs;
+    failures = failures;
+    flushes = flushes;
     refused = refused_is answer r e ∙ sym (or_nothing _);
   }
 
   pub line_is_not_logged : (old new : ScreenOver W) (n : ℕ) (line : List ℕ) (log written : Seen) (call : Call) (answer : Result Reply Refusal) (r : Bool) (sent : ℕ)
       → said_by_line line ≡ Ok (Some call) → CallEnds seen old call (joined (Ok answer)) new → r ≡ is_err answer
-      → Appends log.taken written.taken (take sent (log_line n answer))
+      → sent < length (log_line n answer) → Appends log.taken written.taken (take sent (log_line n answer))
+      → written.failures ≡ next_count log.failures → written.flushes ≡ log.flushes
       → LineEnds seen old new n line log written (record { refused = r; fault = Some Log })
-  line_is_not_logged old new n line log written call answer r sent said h e logs = let a = is_answered seen old call answer new h in record {
+  line_is_not_logged old new n line log written call answer r sent said h e within logs failures flushes = let a = is_answered seen old call answer new h in record {
     call = Some call;
     outcomes = record { answer = answer; sent = a.1.0 } ∷ [];
     at_stop = new;
     makes = one_call old new call answer a;
     stop = (said, refl);
-    logs = (sent, subst (λ l. Appends log.taken written.taken (take sent l)) (sym (append-nil (log_line n answer))) logs);
+    logs = record { whole = []; last = log_line n answer; parts = refl; sent = sent; within = within; taken = logs };
+    failures = failures;
+    flushes = flushes;
     refused = refused_is answer r e ∙ sym (or_nothing _);
   }
 
@@ -110,5 +122,7 @@ module _ {W : Type 0} (seen : W → Seen) where
     makes = no_calls old;
     stop = (refl, said ∙ ap (λ c. Ok (Some c)) (the_doupdate call a.0), refl, a.1);
     logs = Appends-nil _;
+    failures = refl;
+    flushes = refl;
     refused = refl;
   }

@@ -1,7 +1,5 @@
 -- A run goes on by one call.
 use Rattle.std.proofs.Common.{◌≡◌, ℕ, ◌+◌, ◌≤◌, ◌++◌, List, [], ◌∷◌, length, take, drop, get_or, None, Some, ◌<◌, Ok, Err, refl, sym, ap, ◌∙◌, subst, count_by, sum_by, Bool, cond, add-zero, append-nil, take-append-drop, take_all}
-use Rattle.std.proofs.KnownBytes.{Appends-trans, Appends-nil}
-use Rattle.std.specs.Io.KnownBytes.{Appends}
 use Rattle.std.proofs.lemmas.Grind.{flat_map-append}
 use Rattle.std.proofs.lemmas.List.{drop_more, take_more}
 use Rattle.std.proofs.lemmas.List.Sums.{fold_push, sum_by_push}
@@ -10,7 +8,8 @@ use Rattle.streams.specs.Sinks.{Seen}
 use Rattle.streams.specs.declared.sending.WriteFault.{WriteFault}
 use Rattle.desk.specs.States.{State}
 use Rattle.desk.specs.Runs.{Outcome, MayCome, Run, all_sent, cells_of_reply, cells_read, is_accepted, is_refused, state_after, state_at_end}
-use Rattle.desk.specs.Ends.{CallEnds, Makes, RunEnds, Stops, begins_with_doupdate}
+use Rattle.desk.proofs.WriterLemmas.{Writes-nothing, Writes-refused, Writes-trans}
+use Rattle.desk.specs.Ends.{CallEnds, Makes, RunEnds, Stops, Writes, begins_with_doupdate}
 use Rattle.desk.specs.States.{state_of}
 use Rattle.world.specs.declared.call.Call.{Call}
 use Rattle.world.specs.declared.call.Reply.{Reply}
@@ -19,7 +18,7 @@ use Rattle.desk.specs.declared.screen.RunEnd.{RunEnd}
 use Rattle.desk.specs.States.{ScreenOver}
 
 Run-push : (s : State) (calls : List Call) (outcomes : List Outcome) (call : Call) (outcome : Outcome) → Run s calls outcomes
-    → MayCome (state_at_end s calls outcomes).world call outcome → Run s (calls ++ call ∷ []) (outcomes ++ outcome ∷ [])
+    → MayCome (state_at_end s calls outcomes) call outcome → Run s (calls ++ call ∷ []) (outcomes ++ outcome ∷ [])
 Run-push s [] [] call outcome run next = (next, tt)
 Run-push s [] (o ∷ os) call outcome run next = absurd run
 Run-push s (c ∷ cs) [] call outcome run next = absurd run
@@ -45,23 +44,20 @@ module _ {W : Type 0} (seen : W → Seen) where
     pub is_composed : cells ≡ sum_by cells_read outcomes
 
   Makes-push : {old mid new : ScreenOver W} {calls : List Call} {outcomes : List Outcome} (call : Call) (outcome : Outcome) → Makes seen old calls outcomes mid
-      → MayCome (state_of mid).world call outcome → state_of new ≡ state_after (state_of mid) call outcome.answer → Appends (seen mid.writer).taken (seen new.writer).taken outcome.sent
+      → MayCome (state_of mid) call outcome → state_of new ≡ state_after (state_of mid) call outcome.answer → Writes seen mid new (call ∷ []) outcome.sent
       → Makes seen old (calls ++ call ∷ []) (outcomes ++ outcome ∷ []) new
-  Makes-push {calls} {outcomes} call outcome makes may state bytes = record {
-    run = Run-push _ calls outcomes call outcome makes.run (subst (λ (s : State). MayCome s.world call outcome) makes.state may);
+  Makes-push {old} {mid} {new} {calls} {outcomes} call outcome makes may state writes = record {
+    run = Run-push _ calls outcomes call outcome makes.run (subst (λ (s : State). MayCome s call outcome) makes.state may);
     state = state ∙ ap (λ s. state_after s call outcome.answer) makes.state ∙ sym (state_at_end-push _ calls outcomes call outcome makes.run);
-    bytes = subst (Appends _ _) (sym (flat_map-append _ outcomes (outcome ∷ []) ∙ ap (λ l. all_sent outcomes ++ l) (append-nil outcome.sent)))
-        (Appends-trans _ _ _ _ _ makes.bytes bytes);
+    writes = subst (Writes seen old new (calls ++ call ∷ [])) (sym (flat_map-append _ outcomes (outcome ∷ []) ∙ ap (λ l. all_sent outcomes ++ l) (append-nil outcome.sent)))
+        (Writes-trans seen old mid new calls (call ∷ []) (all_sent outcomes) outcome.sent makes.writes writes);
   }
-
-  same_bytes : {old new : ScreenOver W} → new ≡ old → Appends (seen old.writer).taken (seen new.writer).taken []
-  same_bytes {old} e = subst (λ s. Appends (seen old.writer).taken (seen s.writer).taken []) (sym e) (Appends-nil _)
 
   -- no call yet
   pub so_far_none : (old : ScreenOver W) → SoFar old [] old 0 0 0
   so_far_none old = record {
     outcomes = [];
-    makes = record { run = tt; state = refl; bytes = Appends-nil _ };
+    makes = record { run = tt; state = refl; writes = Writes-nothing seen old };
     is_done = refl;
     is_refused = refl;
     is_composed = refl;
@@ -83,11 +79,12 @@ module _ {W : Type 0} (seen : W → Seen) where
   -- one more call was refused
   refused-push : {old mid new : ScreenOver W} {calls : List Call} {d r c : ℕ} (call : Call) (refusal : Refusal) → SoFar old calls mid d r c
       → CallEnds seen mid call (Err (Refused refusal)) new → SoFar old (calls ++ call ∷ []) new d (r + 1) c
-  refused-push call refusal so_far ends =
+  refused-push {mid} call refusal so_far ends =
       let outcome : Outcome = record { answer = Err refusal; sent = [] } in
       record {
         outcomes = so_far.outcomes ++ outcome ∷ [];
-        makes = Makes-push call outcome so_far.makes (ends.0, refl) (ap (λ s. state_of s) ends.1) (same_bytes ends.1);
+        makes = Makes-push call outcome so_far.makes (ends.0, refl) (ap (λ s. state_of s) ends.1)
+            (subst (λ s. Writes seen mid s (call ∷ []) []) (sym ends.1) (Writes-refused seen mid call refusal ends.0));
         is_done = so_far.is_done ∙ sym (count_by-push is_accepted so_far.outcomes outcome ∙ add-zero _);
         is_refused = ap (λ n. n + 1) so_far.is_refused ∙ sym (count_by-push is_refused so_far.outcomes outcome);
         is_composed = so_far.is_composed ∙ sym (sum_by_push cells_read so_far.outcomes outcome ∙ add-zero _);

@@ -1,7 +1,6 @@
 -- A script is run a line at a time.
-use Rattle.std.proofs.Common.{◌≡◌, ℕ, ◌≤◌, ◌<◌, List, [], ◌∷◌, ◌++◌, length, get_or, zero, suc, Bool, true, false, ◌||◌, take, Option, None, Some, Ok, Err, Result, refl, ap, subst, sym, ◌∙◌, append-nil, append_assoc, length-append, arith, nat_lt, is_some, not, ◌+◌, if◌then◌else◌}
+use Rattle.std.proofs.Common.{◌≡◌, ℕ, ◌≤◌, ◌<◌, List, [], ◌∷◌, ◌++◌, length, get_or, zero, suc, Bool, true, false, ◌||◌, take, Option, None, Some, Ok, Err, Result, refl, ap, subst, sym, ◌∙◌, append-nil, append_assoc, length-append, arith, nat_lt, is_some, not, if◌then◌else◌, inl, inr}
 use Rattle.std.proofs.lemmas.Bool.Decides.{nat_tests}
-use Rattle.std.proofs.Math.Seq.{take-append-add, take-length}
 use Rattle.world.specs.declared.call.Call.TheVariants.{Refresh}
 use Rattle.world.specs.declared.call.Refresh.TheVariants.{Doupdate}
 use Rattle.script.specs.declared.limits.TheConstants.{LONGEST_LINE}
@@ -12,25 +11,26 @@ use Rattle.std.proofs.lemmas.Grind.{flat_map-append}
 use Rattle.std.proofs.lemmas.List.{map-append}
 use Rattle.std.proofs.lemmas.List.Folds.{list_any-append}
 use Rattle.std.specs.List.{All, list_any, onto_first, slice_split}
-use Rattle.std.specs.Io.KnownBytes.{Appends, Consumes, IsAtEnd, Keeps}
+use Rattle.std.specs.Io.KnownBytes.{Appends, Consumes, IsAtEnd}
 use Rattle.std.proofs.KnownBytes.{Appends-nil, Appends-trans, Consumes-nil, Consumes-trans}
 use Rattle.std.proofs.lemmas.List.Splits.{length-slice_split, slice_split-cons_no, slice_split_at, slice_split_none}
 use Rattle.streams.specs.Sinks.{Seen}
 use Rattle.desk.specs.States.{State}
 use Rattle.streams.specs.Sources.{SourceSeen}
-use Rattle.desk.specs.Runs.{Outcome, Run, is_refused, state_after, state_at_end}
-use Rattle.desk.specs.Ends.{Makes}
+use Rattle.desk.specs.Runs.{Outcome, Run, all_sent, is_refused, state_after, state_at_end}
+use Rattle.desk.specs.Ends.{Makes, Writes}
+use Rattle.desk.proofs.WriterLemmas.{Writes-nothing, Writes-trans}
+use Rattle.streams.specs.Counts.{counted}
 use Rattle.desk.specs.States.{state_of}
 use Rattle.desk.specs.Showing.{RunShows}
-use Rattle.desk.proofs.ShowingLemmas.{shows-broken, shows-unbroken}
+use Rattle.desk.proofs.ShowingLemmas.{cut-keeps_size, makes-keep_size, shows-broken, shows-unbroken, then-keeps_size}
 use Rattle.script.specs.Readings.{Reading, before_others, ends_with, next_number, reading, reading_of, said_by_line}
 use Rattle.script.specs.Characters.{is_newline}
 use Rattle.script.specs.steps.Bytes.{HasNoNewline, ReadsLine}
 use Rattle.script.specs.Log.{log_line}
-use Rattle.desk.specs.ScriptEnds.{log_of}
-use Rattle.desk.specs.ScriptEnds.{LineEnds, LineStops, Logs, MayFollow, RunsLines, ScriptEnds, ScriptStops, calls_of, numbered, write_fault}
+use Rattle.desk.specs.ScriptEnds.{FlushFails, FlushSucceeds, LineEnds, LineStops, LogCloses, Logs, MayFollow, RunsLines, ScriptEnds, ScriptStops, calls_of, log_failed, log_lines, log_text, numbered, write_fault}
 use Rattle.world.specs.declared.call.Call.{Call}
-use Rattle.desk.specs.States.{HasOneSize, ScreenOver}
+use Rattle.desk.specs.States.{HasOneSize, KeepsSize, ScreenOver}
 use Rattle.script.specs.declared.fault.TextFault.{TextFault}
 use Rattle.script.specs.declared.fault.ScriptEnd.{ScriptEnd}
 use Rattle.script.specs.declared.bytes.LineRead.TheVariants.{Line, LastLine, TooLong, FailedRead}
@@ -113,13 +113,17 @@ state_at_end-append state [] more (o ∷ os) others run = absurd run
 state_at_end-append state (c ∷ cs) more [] others run = absurd run
 state_at_end-append state (c ∷ cs) more (o ∷ os) others run = state_at_end-append (state_after state c o.answer) cs more os others run.1
 
-log_of-append : (state : State) (calls more : List (ℕ × Call)) (outcomes others : List Outcome) → Run state (calls_of calls) outcomes
-    → log_of (calls ++ more) (outcomes ++ others) ≡ log_of calls outcomes ++ log_of more others
-log_of-append state [] more [] others run = refl
-log_of-append state [] more (o ∷ os) others run = absurd run
-log_of-append state (c ∷ cs) more [] others run = absurd run
-log_of-append state (c ∷ cs) more (o ∷ os) others run =
-    ap (λ l. log_line c.0 o.answer ++ l) (log_of-append (state_after state c.1 o.answer) cs more os others run.1) ∙ sym (append_assoc (log_line c.0 o.answer) _ _)
+log_lines-append : (state : State) (calls more : List (ℕ × Call)) (outcomes others : List Outcome) → Run state (calls_of calls) outcomes
+    → log_lines (calls ++ more) (outcomes ++ others) ≡ log_lines calls outcomes ++ log_lines more others
+log_lines-append state [] more [] others run = refl
+log_lines-append state [] more (o ∷ os) others run = absurd run
+log_lines-append state (c ∷ cs) more [] others run = absurd run
+log_lines-append state (c ∷ cs) more (o ∷ os) others run = ap (λ l. log_line c.0 o.answer ∷ l) (log_lines-append (state_after state c.1 o.answer) cs more os others run.1)
+
+-- the text of the lines of both
+log_text-append : (state : State) (calls more : List (ℕ × Call)) (outcomes others : List Outcome) → Run state (calls_of calls) outcomes
+    → log_text (log_lines (calls ++ more) (outcomes ++ others)) ≡ log_text (log_lines calls outcomes) ++ log_text (log_lines more others)
+log_text-append state calls more outcomes others run = ap log_text (log_lines-append state calls more outcomes others run) ∙ flat_map-append _ (log_lines calls outcomes) (log_lines more others)
 
 calls_of-append : (a b : List (ℕ × Call)) → calls_of (a ++ b) ≡ calls_of a ++ calls_of b
 calls_of-append a b = map-append _ a b
@@ -131,7 +135,8 @@ module _ {W : Type 0} (seen : W → Seen) where
       subst (λ calls. Makes seen old calls (outcomes ++ others) new) (sym (calls_of-append a b)) (record {
         run = Run-append (state_of old) (calls_of a) (calls_of b) outcomes others first.run (subst (λ w. Run w (calls_of b) others) first.state second.run);
         state = second.state ∙ ap (λ w. state_at_end w (calls_of b) others) first.state ∙ sym (state_at_end-append (state_of old) (calls_of a) (calls_of b) outcomes others first.run);
-        bytes = subst (Appends (seen old.writer).taken (seen new.writer).taken) (sym (flat_map-append _ outcomes others)) (Appends-trans _ _ _ _ _ first.bytes second.bytes);
+        writes = subst (Writes seen old new (calls_of a ++ calls_of b)) (sym (flat_map-append _ outcomes others))
+            (Writes-trans seen old mid new (calls_of a) (calls_of b) (all_sent outcomes) (all_sent others) first.writes second.writes);
       })
 
   -- What was run of a script, and what is left of it.
@@ -141,7 +146,11 @@ module _ {W : Type 0} (seen : W → Seen) where
     pub outcomes : List Outcome
     pub read : Consumes input.left rest.left text
     pub makes : Makes seen old (calls_of made) outcomes now
-    pub logs : Appends log.taken written.taken (log_of made outcomes)
+    pub logs : Appends log.taken written.taken (log_text (log_lines made outcomes))
+    pub failures : written.failures ≡ log.failures
+    pub flushes : written.flushes ≡ log.flushes
+    pub met : rest.met_end ≡ input.met_end
+    pub read_once : input.met_end ≡ false → rest.read_past_end ≡ input.read_past_end
     pub is_refused : some_refused ≡ list_any is_refused outcomes
     pub says : (failed : Bool) (more : List ℕ) → reading failed (text ++ more) ≡ prepend made (reading_of failed number (slice_split is_newline (unused ++ more)))
 
@@ -151,11 +160,22 @@ module _ {W : Type 0} (seen : W → Seen) where
     made = [];
     outcomes = [];
     read = Consumes-nil _;
-    makes = record { run = tt; state = refl; bytes = Appends-nil _ };
+    makes = record { run = tt; state = refl; writes = Writes-nothing seen old };
     logs = Appends-nil _;
+    failures = refl;
+    flushes = refl;
+    met = refl;
+    read_once = λ unmet. refl;
     is_refused = refl;
     says = λ failed more. rw e refl;
   }
+
+  -- A line was read, and nothing behind the end of the source.
+  abbrev pub ReadsOnce : SourceSeen → SourceSeen → Type 0
+  ReadsOnce old new = old.met_end ≡ false → new.read_past_end ≡ old.read_past_end
+
+  still_once : (input r1 r2 : SourceSeen) → r1.met_end ≡ input.met_end → ReadsOnce input r1 → ReadsOnce r1 r2 → ReadsOnce input r2
+  still_once input r1 r2 met h k = λ unmet. k (met ∙ unmet) ∙ h unmet
 
   -- What the script says up to a line that a newline ends.
   line_says : {old mid : ScreenOver W} {input r1 r2 : SourceSeen} {log l1 : Seen} {unused left line : List ℕ} {n : ℕ} {b : Bool}
@@ -176,18 +196,22 @@ module _ {W : Type 0} (seen : W → Seen) where
 
   -- one more line
   pub so_far_next : (old mid now : ScreenOver W) (input r1 r2 : SourceSeen) (log l1 l2 : Seen) (unused left line : List ℕ) (n : ℕ) (b : Bool) (end : ScriptEnd)
-      → SoFar old mid input r1 log l1 unused n b → ReadsLine r1 r2 unused left line Line → LineEnds seen mid now n line l1 l2 end → end.fault ≡ None
-      → SoFar old now input r2 log l2 left (next_number n) (b || end.refused)
-  so_far_next old mid now input r1 r2 log l1 l2 unused left line n b end s r e none =
+      → SoFar old mid input r1 log l1 unused n b → ReadsLine r1 r2 unused left line Line → r2.met_end ≡ r1.met_end → ReadsOnce r1 r2
+      → LineEnds seen mid now n line l1 l2 end → end.fault ≡ None → SoFar old now input r2 log l2 left (next_number n) (b || end.refused)
+  so_far_next old mid now input r1 r2 log l1 l2 unused left line n b end s r met once e none =
       let stop : (said_by_line line ≡ Ok e.call) × (now ≡ e.at_stop) = subst (λ f. LineStops seen n (said_by_line line) e.call e.at_stop f now) none e.stop in
-      let logs : Appends l1.taken l2.taken (log_of (numbered n e.call) e.outcomes) = subst (Logs l1 l2 (log_of (numbered n e.call) e.outcomes)) none e.logs in
+      let logs : Appends l1.taken l2.taken (log_text (log_lines (numbered n e.call) e.outcomes)) = subst (Logs l1 l2 (log_lines (numbered n e.call) e.outcomes)) none e.logs in
       record {
         text = s.text ++ r.bytes;
         made = s.made ++ numbered n e.call;
         outcomes = s.outcomes ++ e.outcomes;
         read = Consumes-trans _ _ _ _ _ s.read r.read;
         makes = Makes-append old mid now s.made (numbered n e.call) s.outcomes e.outcomes s.makes (subst (Makes seen mid _ e.outcomes) (sym stop.1) e.makes);
-        logs = subst (Appends _ _) (sym (log_of-append (state_of old) s.made (numbered n e.call) s.outcomes e.outcomes s.makes.run)) (Appends-trans _ _ _ _ _ s.logs logs);
+        logs = subst (Appends _ _) (sym (log_text-append (state_of old) s.made (numbered n e.call) s.outcomes e.outcomes s.makes.run)) (Appends-trans _ _ _ _ _ s.logs logs);
+        failures = e.failures ∙ ap (λ f. counted (log_failed f) l1.failures) none ∙ s.failures;
+        flushes = e.flushes ∙ s.flushes;
+        met = met ∙ s.met;
+        read_once = still_once input r1 r2 s.met s.read_once once;
         is_refused = ap (λ x. x || end.refused) s.is_refused ∙ ap (λ x. list_any is_refused s.outcomes || x) e.refused ∙ sym (list_any-append is_refused s.outcomes e.outcomes);
         says = λ failed more. line_says s r failed more ∙ says_call s.made n (said_by_line line) e.call _ stop.0;
       }
@@ -223,31 +247,37 @@ module _ {W : Type 0} (seen : W → Seen) where
   stops made n said call at_stop now ended text z (Some Log) ls says last =
       (λ more h. ((z more).calls, ap (λ (r : Reading). r.calls) (says more h ∙ says_call made n said call (z more) ls.0)), ls.1)
 
+  all_logged : (old : State) (a b : List (ℕ × Call)) (xs ys : List Outcome) (log l1 l2 : Seen) → Run old (calls_of a) xs → Appends log.taken l1.taken (log_text (log_lines a xs))
+      → Appends l1.taken l2.taken (log_text (log_lines b ys)) → Appends log.taken l2.taken (log_text (log_lines (a ++ b) (xs ++ ys)))
+  all_logged old a b xs ys log l1 l2 run first second =
+      subst (Appends log.taken l2.taken) (sym (log_text-append old a b xs ys run)) (Appends-trans _ _ _ _ _ first second)
+
   logs_after : (old : State) (a b : List (ℕ × Call)) (xs ys : List Outcome) (log l1 l2 : Seen) (fault : Option ScriptFault) → Run old (calls_of a) xs
-      → Appends log.taken l1.taken (log_of a xs) → Logs l1 l2 (log_of b ys) fault → Logs log l2 (log_of (a ++ b) (xs ++ ys)) fault
-  logs_after old a b xs ys log l1 l2 None run first second =
-      subst (Appends log.taken l2.taken) (sym (log_of-append old a b xs ys run)) (Appends-trans _ _ _ _ _ first second)
-  logs_after old a b xs ys log l1 l2 (Some (Text line fault)) run first second =
-      subst (Appends log.taken l2.taken) (sym (log_of-append old a b xs ys run)) (Appends-trans _ _ _ _ _ first second)
-  logs_after old a b xs ys log l1 l2 (Some Reading_fault) run first second =
-      subst (Appends log.taken l2.taken) (sym (log_of-append old a b xs ys run)) (Appends-trans _ _ _ _ _ first second)
-  logs_after old a b xs ys log l1 l2 (Some (Write line fault)) run first second =
-      subst (Appends log.taken l2.taken) (sym (log_of-append old a b xs ys run)) (Appends-trans _ _ _ _ _ first second)
-  logs_after old a b xs ys log l1 l2 (Some Log) run first second = (
-    length (log_of a xs) + second.0,
-    subst (Appends log.taken l2.taken)
-        (sym (ap (take (length (log_of a xs) + second.0)) (log_of-append old a b xs ys run) ∙ take-append-add (log_of a xs) (log_of b ys) second.0))
-        (Appends-trans _ _ _ _ _ first second.1),
-  )
+      → Appends log.taken l1.taken (log_text (log_lines a xs)) → Logs l1 l2 (log_lines b ys) fault → Logs log l2 (log_lines (a ++ b) (xs ++ ys)) fault
+  logs_after old a b xs ys log l1 l2 None run first second = all_logged old a b xs ys log l1 l2 run first second
+  logs_after old a b xs ys log l1 l2 (Some (Text line fault)) run first second = all_logged old a b xs ys log l1 l2 run first second
+  logs_after old a b xs ys log l1 l2 (Some Reading_fault) run first second = all_logged old a b xs ys log l1 l2 run first second
+  logs_after old a b xs ys log l1 l2 (Some (Write line fault)) run first second = all_logged old a b xs ys log l1 l2 run first second
+  logs_after old a b xs ys log l1 l2 (Some Log) run first second = record {
+    whole = log_lines a xs ++ second.whole;
+    last = second.last;
+    parts = log_lines-append old a b xs ys run ∙ ap (λ l. log_lines a xs ++ l) second.parts ∙ sym (append_assoc (log_lines a xs) second.whole (second.last ∷ []));
+    sent = second.sent;
+    within = second.within;
+    taken = subst (Appends log.taken l2.taken)
+        (sym (ap (λ l. l ++ take second.sent second.last) (flat_map-append _ (log_lines a xs) second.whole)
+        ∙ append_assoc (log_text (log_lines a xs)) (log_text second.whole) (take second.sent second.last)))
+        (Appends-trans _ _ _ _ _ first second.taken);
+  }
 
   -- The script ends at a line.
   ends_at_line : (old mid now : ScreenOver W) (input r1 r2 : SourceSeen) (log l1 l2 : Seen) (unused line bytes : List ℕ) (n : ℕ) (b : Bool) (end : ScriptEnd) (z : List ℕ → Reading)
-      (s : SoFar old mid input r1 log l1 unused n b) → Consumes r1.left r2.left bytes → LineEnds seen mid now n line l1 l2 end
+      (s : SoFar old mid input r1 log l1 unused n b) → Consumes r1.left r2.left bytes → ReadsOnce r1 r2 → LineEnds seen mid now n line l1 l2 end
       → ((more : List ℕ) → MayFollow r2.met_end more → reading false ((s.text ++ bytes) ++ more) ≡ prepend s.made (before_others n (said_by_line line) (z more)))
       → (end.fault ≡ None → (r2.met_end ≡ true) × (z [] ≡ ends_with None))
       → (end.fault ≡ None → IsAtEnd r2.left)
       → RunsLines seen old now input r2 log l2 (record { refused = b || end.refused; fault = end.fault })
-  ends_at_line old mid now input r1 r2 log l1 l2 unused line bytes n b end z s read e says last over = record {
+  ends_at_line old mid now input r1 r2 log l1 l2 unused line bytes n b end z s read once e says last over = record {
     text = s.text ++ bytes;
     made = s.made ++ numbered n e.call;
     outcomes = s.outcomes ++ e.outcomes;
@@ -256,25 +286,28 @@ module _ {W : Type 0} (seen : W → Seen) where
     makes = Makes-append old mid e.at_stop s.made (numbered n e.call) s.outcomes e.outcomes s.makes e.makes;
     stop = stops s.made n (said_by_line line) e.call e.at_stop now r2.met_end (s.text ++ bytes) z end.fault e.stop says last;
     logs = logs_after (state_of old) s.made (numbered n e.call) s.outcomes e.outcomes log l1 l2 end.fault s.makes.run s.logs e.logs;
+    failures = e.failures ∙ ap (counted (log_failed end.fault)) s.failures;
+    flushes = e.flushes ∙ s.flushes;
     refused = ap (λ x. x || end.refused) s.is_refused ∙ ap (λ x. list_any is_refused s.outcomes || x) e.refused ∙ sym (list_any-append is_refused s.outcomes e.outcomes);
     at_end = over;
+    read_once = still_once input r1 r2 s.met s.read_once once;
   }
 
   -- A line has a fault, and a newline ends it.
   pub ends_in_line : (old mid now : ScreenOver W) (input r1 r2 : SourceSeen) (log l1 l2 : Seen) (unused left line : List ℕ) (n : ℕ) (b : Bool) (end : ScriptEnd)
-      → SoFar old mid input r1 log l1 unused n b → ReadsLine r1 r2 unused left line Line → LineEnds seen mid now n line l1 l2 end
+      → SoFar old mid input r1 log l1 unused n b → ReadsLine r1 r2 unused left line Line → ReadsOnce r1 r2 → LineEnds seen mid now n line l1 l2 end
       → (end.fault ≡ None → ⊥)
       → RunsLines seen old now input r2 log l2 (record { refused = b || end.refused; fault = end.fault })
-  ends_in_line old mid now input r1 r2 log l1 l2 unused left line n b end s r e some =
+  ends_in_line old mid now input r1 r2 log l1 l2 unused left line n b end s r once e some =
       ends_at_line old mid now input r1 r2 log l1 l2 unused line r.bytes n b end (λ more. reading_of false (next_number n) (slice_split is_newline (left ++ more)))
-      s r.read e (λ more h. line_says s r false more) (λ none. absurd (some none)) (λ none. absurd (some none))
+      s r.read once e (λ more h. line_says s r false more) (λ none. absurd (some none)) (λ none. absurd (some none))
 
   -- the last line
   pub ends_in_last_line : (old mid now : ScreenOver W) (input r1 r2 : SourceSeen) (log l1 l2 : Seen) (unused left line : List ℕ) (n : ℕ) (b : Bool) (end : ScriptEnd)
-      → SoFar old mid input r1 log l1 unused n b → ReadsLine r1 r2 unused left line LastLine → LineEnds seen mid now n line l1 l2 end → r2.met_end ≡ true
+      → SoFar old mid input r1 log l1 unused n b → ReadsLine r1 r2 unused left line LastLine → ReadsOnce r1 r2 → LineEnds seen mid now n line l1 l2 end → r2.met_end ≡ true
       → RunsLines seen old now input r2 log l2 (record { refused = b || end.refused; fault = end.fault })
-  ends_in_last_line old mid now input r1 r2 log l1 l2 unused left line n b end s r e ended =
-      ends_at_line old mid now input r1 r2 log l1 l2 unused line r.bytes n b end (λ more. ends_with None) s r.read e
+  ends_in_last_line old mid now input r1 r2 log l1 l2 unused left line n b end s r once e ended =
+      ends_at_line old mid now input r1 r2 log l1 l2 unused line r.bytes n b end (λ more. ends_with None) s r.read once e
       (λ more h.
       ap (reading false) (append_assoc s.text r.bytes more) ∙ s.says false (r.bytes ++ more)
       ∙ ap (λ l. prepend s.made (reading_of false n (slice_split is_newline l))) (ap (λ m. unused ++ (r.bytes ++ m)) (h ended) ∙ ap (λ l. unused ++ l) (append-nil r.bytes) ∙ r.is_line.0)
@@ -283,9 +316,9 @@ module _ {W : Type 0} (seen : W → Seen) where
 
   -- A read failed.
   pub ends_in_failed_read : (old mid : ScreenOver W) (input r1 r2 : SourceSeen) (log l1 : Seen) (unused left line : List ℕ) (n : ℕ) (b : Bool)
-      → SoFar old mid input r1 log l1 unused n b → ReadsLine r1 r2 unused left line FailedRead
+      → SoFar old mid input r1 log l1 unused n b → ReadsLine r1 r2 unused left line FailedRead → ReadsOnce r1 r2
       → RunsLines seen old mid input r2 log l1 (record { refused = b; fault = Some Reading_fault })
-  ends_in_failed_read old mid input r1 r2 log l1 unused left line n b s r = record {
+  ends_in_failed_read old mid input r1 r2 log l1 unused left line n b s r once = record {
     text = s.text ++ r.bytes;
     made = s.made;
     outcomes = s.outcomes;
@@ -301,15 +334,18 @@ module _ {W : Type 0} (seen : W → Seen) where
       refl,
     );
     logs = s.logs;
+    failures = s.failures;
+    flushes = s.flushes;
     refused = s.is_refused;
     at_end = λ none. cc;
+    read_once = still_once input r1 r2 s.met s.read_once once;
   }
 
   -- A line is too long.
   pub ends_too_long : (old mid : ScreenOver W) (input r1 r2 : SourceSeen) (log l1 : Seen) (unused left line : List ℕ) (n : ℕ) (b : Bool)
-      → SoFar old mid input r1 log l1 unused n b → ReadsLine r1 r2 unused left line TooLong
+      → SoFar old mid input r1 log l1 unused n b → ReadsLine r1 r2 unused left line TooLong → ReadsOnce r1 r2
       → RunsLines seen old mid input r2 log l1 (record { refused = b; fault = Some (Text n LineTooLong) })
-  ends_too_long old mid input r1 r2 log l1 unused left line n b s r =
+  ends_too_long old mid input r1 r2 log l1 unused left line n b s r once =
       let byte = r.is_line.0 in
       record {
         text = s.text ++ r.bytes;
@@ -327,8 +363,11 @@ module _ {W : Type 0} (seen : W → Seen) where
           refl,
         );
         logs = s.logs;
+        failures = s.failures;
+        flushes = s.flushes;
         refused = s.is_refused;
         at_end = λ none. cc;
+        read_once = still_once input r1 r2 s.met s.read_once once;
       }
 
 pub some_fault : (fault : Option ScriptFault) → true ≡ is_some fault → fault ≡ None → ⊥
@@ -339,20 +378,7 @@ pub no_fault : (fault : Option ScriptFault) → false ≡ is_some fault → faul
 no_fault None h = refl
 no_fault (Some f) h = cc
 
-appends_kept : (a b c : Option (List ℕ)) (bs : List ℕ) → Appends a b bs → Keeps b c → Appends a c bs
-appends_kept None b c bs p q = tt
-appends_kept (Some x) None c bs p q = absurd p
-appends_kept (Some x) (Some y) None bs p q = absurd q
-appends_kept (Some x) (Some y) (Some z) bs p q = q ∙ p
-
 module _ {W : Type 0} (seen : W → Seen) where
-  logs_kept : (log l1 l2 : Seen) (lines : List ℕ) (fault : Option ScriptFault) → Logs log l1 lines fault → Keeps l1.taken l2.taken → Logs log l2 lines fault
-  logs_kept log l1 l2 lines None h k = appends_kept _ _ _ _ h k
-  logs_kept log l1 l2 lines (Some (Text line fault)) h k = appends_kept _ _ _ _ h k
-  logs_kept log l1 l2 lines (Some Reading_fault) h k = appends_kept _ _ _ _ h k
-  logs_kept log l1 l2 lines (Some (Write line fault)) h k = appends_kept _ _ _ _ h k
-  logs_kept log l1 l2 lines (Some Log) h k = (h.0, appends_kept _ _ _ _ h.1 k)
-
   lines_show : (old at_stop new : ScreenOver W) (calls : List Call) (outcomes : List Outcome) (made : List (ℕ × Call)) (met_end : Bool) (text : List ℕ) (fault : Option ScriptFault)
       → Makes seen old calls outcomes at_stop → HasOneSize old.desk old.painter → ScriptStops seen met_end text made at_stop fault new → RunShows seen old new calls (write_fault fault)
   lines_show old at_stop new calls outcomes made met_end text None makes one_size stop = shows-unbroken seen old at_stop new calls calls outcomes makes one_size refl stop.2
@@ -361,54 +387,64 @@ module _ {W : Type 0} (seen : W → Seen) where
   lines_show old at_stop new calls outcomes made met_end text (Some (Write line fault)) makes one_size stop = shows-broken seen old at_stop new calls calls outcomes makes one_size fault stop.1
   lines_show old at_stop new calls outcomes made met_end text (Some Log) makes one_size stop = shows-unbroken seen old at_stop new calls calls outcomes makes one_size refl stop.1
 
-  pub script_ends : {old now : ScreenOver W} {input rest : SourceSeen} {log written : Seen} {end : ScriptEnd} → HasOneSize old.desk old.painter → RunsLines seen old now input rest log written end
+  same_size : (at_stop new : ScreenOver W) → new ≡ at_stop → KeepsSize at_stop.desk new.desk
+  same_size at_stop new e = subst (λ s. KeepsSize at_stop.desk s.desk) (sym e) (record { lines = refl; columns = refl })
+
+  stops_keep_size : (at_stop new : ScreenOver W) (made : List (ℕ × Call)) (met_end : Bool) (text : List ℕ) (fault : Option ScriptFault) → ScriptStops seen met_end text made at_stop fault new
+      → KeepsSize at_stop.desk new.desk
+  stops_keep_size at_stop new made met_end text None stop = same_size at_stop new stop.2
+  stops_keep_size at_stop new made met_end text (Some (Text line fault)) stop = same_size at_stop new stop.1
+  stops_keep_size at_stop new made met_end text (Some Reading_fault) stop = same_size at_stop new stop.1
+  stops_keep_size at_stop new made met_end text (Some (Write line fault)) stop = cut-keeps_size seen at_stop new fault stop.1
+  stops_keep_size at_stop new made met_end text (Some Log) stop = same_size at_stop new stop.1
+
+  pub lines_keep_size : {old now : ScreenOver W} {input rest : SourceSeen} {log logged : Seen} {end : ScriptEnd} → HasOneSize old.desk old.painter → RunsLines seen old now input rest log logged end
+      → KeepsSize old.desk now.desk
+  lines_keep_size {old} {now} {rest} {end} one_size s =
+      then-keeps_size old.desk s.at_stop.desk now.desk (makes-keep_size seen old s.at_stop (calls_of s.made) s.outcomes one_size s.makes)
+      (stops_keep_size s.at_stop now s.made rest.met_end s.text end.fault s.stop)
+
+  pub script_ends : {old now : ScreenOver W} {input rest : SourceSeen} {log logged written : Seen} {ended end : ScriptEnd} → HasOneSize old.desk old.painter
+      → RunsLines seen old now input rest log logged ended → LogCloses ended.fault logged written end.fault → end.refused ≡ ended.refused → write_fault end.fault ≡ write_fault ended.fault
       → ScriptEnds seen old now input rest log written end
-  script_ends {old} {now} {rest} {end} one_size s = record {
+  script_ends {old} {now} {rest} {logged} {ended} one_size s closes refused same = record {
+    ended = ended;
+    logged = logged;
     lines = s;
-    shown = lines_show old s.at_stop now (calls_of s.made) s.outcomes s.made rest.met_end s.text end.fault s.makes one_size s.stop;
+    closes = closes;
+    refused = refused;
+    shown = subst (RunShows seen old now (calls_of s.made)) (sym same) (lines_show old s.at_stop now (calls_of s.made) s.outcomes s.made rest.met_end s.text ended.fault s.makes one_size s.stop);
   }
 
-  -- The log was flushed.
-  pub ends_flushed : (old now : ScreenOver W) (input rest : SourceSeen) (log l1 l2 : Seen) (end : ScriptEnd) → RunsLines seen old now input rest log l1 end
-      → Keeps l1.taken l2.taken → RunsLines seen old now input rest log l2 end
-  ends_flushed old now input rest log l1 l2 end s k = record {
-    text = s.text;
-    made = s.made;
-    outcomes = s.outcomes;
-    at_stop = s.at_stop;
-    read = s.read;
-    makes = s.makes;
-    stop = s.stop;
-    logs = logs_kept log l1 l2 (log_of s.made s.outcomes) end.fault s.logs k;
-    refused = s.refused;
-    at_end = s.at_end;
-  }
+-- ---- the flush of the log
 
-  -- The log could not be flushed, and nothing else failed.
-  pub ends_unflushed : (old now : ScreenOver W) (input rest : SourceSeen) (log l1 l2 : Seen) (end : ScriptEnd) → RunsLines seen old now input rest log l1 end
-      → end.fault ≡ None → Keeps l1.taken l2.taken
-      → RunsLines seen old now input rest log l2 (record { refused = end.refused; fault = Some Log })
-  ends_unflushed old now input rest log l1 l2 end s none k =
-      let stop = subst (λ f. ScriptStops seen rest.met_end s.text s.made s.at_stop f now) none s.stop in
-      let logs : Appends log.taken l1.taken (log_of s.made s.outcomes) = subst (Logs log l1 (log_of s.made s.outcomes)) none s.logs in
-      record {
-        text = s.text;
-        made = s.made;
-        outcomes = s.outcomes;
-        at_stop = s.at_stop;
-        read = s.read;
-        makes = s.makes;
-        stop = (
-          λ more h. (
-            [],
-            ap (λ m. (reading false (s.text ++ m)).calls) (h stop.0) ∙ ap (λ l. (reading false l).calls) (append-nil s.text) ∙ ap (λ (r : Reading). r.calls) stop.1 ∙ sym (append-nil s.made),
-          ),
-          stop.2,
-        );
-        logs = (length (log_of s.made s.outcomes), subst (Appends log.taken l2.taken) (sym (take-length (log_of s.made s.outcomes))) (appends_kept _ _ _ _ logs k));
-        refused = s.refused;
-        at_end = λ none. cc;
-      }
+-- A write of the log had failed.
+pub closes_failed : (fault : Option ScriptFault) (logged : Seen) → true ≡ log_failed fault → LogCloses fault logged logged fault
+closes_failed None logged h = cc
+closes_failed (Some (Text line fault)) logged h = cc
+closes_failed (Some Reading_fault) logged h = cc
+closes_failed (Some (Write line fault)) logged h = cc
+closes_failed (Some Log) logged h = (refl, refl)
+
+-- The flush succeeded.
+pub closes_flushed : (fault : Option ScriptFault) (logged written : Seen) → false ≡ log_failed fault → FlushSucceeds logged written → LogCloses fault logged written fault
+closes_flushed None logged written h f = inl (f, refl)
+closes_flushed (Some (Text line fault)) logged written h f = (inl f, refl)
+closes_flushed (Some Reading_fault) logged written h f = (inl f, refl)
+closes_flushed (Some (Write line fault)) logged written h f = (inl f, refl)
+closes_flushed (Some Log) logged written h f = cc
+
+-- The flush failed, behind another fault.
+pub closes_after_fault : (fault : Option ScriptFault) (logged written : Seen) → false ≡ log_failed fault → is_some fault ≡ not false → FlushFails logged written → LogCloses fault logged written fault
+closes_after_fault None logged written h some f = cc
+closes_after_fault (Some (Text line fault)) logged written h some f = (inr f, refl)
+closes_after_fault (Some Reading_fault) logged written h some f = (inr f, refl)
+closes_after_fault (Some (Write line fault)) logged written h some f = (inr f, refl)
+closes_after_fault (Some Log) logged written h some f = cc
+
+-- The flush failed, and nothing else.
+pub closes_unflushed : (fault : Option ScriptFault) (logged written : Seen) → fault ≡ None → FlushFails logged written → LogCloses fault logged written (Some Log)
+closes_unflushed fault logged written none f = subst (λ f. LogCloses f logged written (Some Log)) (sym none) (inr (f, refl))
 
 pub none_is : (fault : Option ScriptFault) → is_some fault ≡ not true → fault ≡ None
 none_is None h = refl

@@ -1,13 +1,14 @@
 -- What a terminal shows after a run of calls.
-use Rattle.std.proofs.Common.{◌≡◌, ℕ, List, [], ◌∷◌, ◌++◌, take, Option, Some, None, Result, Ok, Err, true, false, inl, inr, refl, sym, ap, ◌∙◌, subst, append_assoc, append-nil}
+use Rattle.std.proofs.Common.{◌≡◌, ℕ, List, [], ◌∷◌, ◌++◌, take, Option, Some, None, Result, Ok, Err, refl, sym, ap, ◌∙◌, subst, append_assoc, append-nil}
 use Rattle.std.proofs.KnownBytes.{Appends-trans}
 use Rattle.std.specs.Prelude.{⊤, MatchOption}
+use Rattle.cell.specs.Shown.{shown, shown_blank}
 use Rattle.cell.specs.Pictures.{HasSize}
 use Rattle.world.specs.World.{World, picture}
-use Rattle.world.specs.calls.Dispatch.{refresh_refusal}
 use Rattle.world.specs.calls.Refresh.{after_update_panels, after_doupdate, composed_windows}
 use Rattle.cell.specs.declared.refusal.Refusal.{Refusal}
-use Rattle.cell.proofs.PictureLemmas.{HasSize-picture_of, shown_at-picture_of}
+use Rattle.desk.proofs.WriterLemmas.{Writes-nothing, Writes-refused, never-refused}
+use Rattle.cell.proofs.PictureLemmas.{HasSize-lines_from, cell_or-lines_from}
 use Rattle.world.proofs.RefreshLaws.{found-unmarked, cursor-unmarked}
 use Rattle.ecma.specs.Terminals.{Terminal}
 use Rattle.ecma.specs.Streams.{Leads, LeadsWithBreaks, showing}
@@ -19,19 +20,20 @@ use Rattle.paint.specs.Updates.{Agrees, PainterState}
 use Rattle.streams.specs.declared.sending.WriteFault.{WriteFault}
 use Rattle.paint.proofs.Repair.{Agrees-update, Agrees-fault}
 use Rattle.desk.specs.States.{State, after, wanted}
-use Rattle.desk.specs.Runs.{Outcome, MayAnswer, MayRefuse, Run, all_sent, state_after, state_at_end}
+use Rattle.desk.specs.Runs.{Outcome, MayAnswer, Run, all_sent, state_after, state_at_end}
 use Rattle.world.proofs.Sizes.{size-call}
-use Rattle.desk.specs.Desks.{world}
-use Rattle.desk.specs.Ends.{IsCut, Makes, RunEnds, Stops}
+use Rattle.desk.specs.Desks.{DeskTable, world}
+use Rattle.desk.specs.Ends.{CallEnds, IsCut, Makes, RunEnds, Stops, Writes, cut_of}
 use Rattle.desk.specs.States.{state_of}
-use Rattle.desk.specs.Showing.{EndsInUpdate, ShowsWorld, RunShows}
+use Rattle.desk.specs.Showing.{EndsInDoupdate, EndsInUpdate, ShowsWorld, RunShows, showing_virtual}
 use Rattle.world.specs.declared.call.Call.{Call}
 use Rattle.world.specs.declared.call.Call.TheVariants as calls
-use Rattle.world.specs.declared.call.Refresh.{Refresh}
-use Rattle.world.specs.declared.call.Refresh.TheVariants.{UpdatePanels, Doupdate}
+use Rattle.world.specs.declared.call.Refresh.TheVariants.{UpdatePanels, Doupdate, InitPair}
 use Rattle.world.specs.declared.call.Reply.{Reply}
 use Rattle.desk.specs.declared.screen.RunEnd.{RunEnd}
-use Rattle.desk.specs.States.{HasOneSize, ScreenOver}
+use Rattle.desk.specs.States.{HasOneSize, KeepsSize, ScreenOver}
+use Rattle.desk.specs.declared.screen.Fault.{Fault}
+use Rattle.desk.specs.declared.screen.Fault.TheVariants.{Refused, Write}
 
 -- ---- sizes
 
@@ -48,6 +50,7 @@ size-painter s (calls.Writing writing) = (refl, refl)
 size-painter s (calls.Query query) = (refl, refl)
 size-painter s (calls.Refresh UpdatePanels) = (refl, refl)
 size-painter s (calls.Refresh Doupdate) = (refl, refl)
+size-painter s (calls.Refresh (InitPair pair foreground background)) = (refl, refl)
 
 size-after : (lines columns : ℕ) (s : State) (call : Call) (answer : Result Reply Refusal) → HasScreenSize lines columns s → HasScreenSize lines columns (state_after s call answer)
 size-after lines columns s call (Err e) h = h
@@ -72,15 +75,15 @@ nothing-sent : (painter : PainterState) (stream sent : List ℕ) (t : Terminal) 
 nothing-sent painter stream sent t e h = rw (e, append-nil) h
 
 agrees-call : (lines columns : ℕ) (s : State) (call : Call) (answer : Result Reply Refusal) (sent stream : List ℕ) (t : Terminal) → HasScreenSize lines columns s → HasSize lines columns t.picture
-    → MayAnswer s.world call answer sent → Agrees s.painter stream t → Agrees (state_after s call answer).painter (stream ++ sent) t
+    → MayAnswer s call answer sent → Agrees s.painter stream t → Agrees (state_after s call answer).painter (stream ++ sent) t
 agrees-call lines columns s call (Err e) sent stream t size fits may h = nothing-sent s.painter stream sent t may.1 h
 agrees-call lines columns s (calls.Making making) (Ok r) sent stream t size fits may h = nothing-sent s.painter stream sent t may.1.0 h
 agrees-call lines columns s (calls.Writing writing) (Ok r) sent stream t size fits may h = nothing-sent s.painter stream sent t may.1.0 h
 agrees-call lines columns s (calls.Query query) (Ok r) sent stream t size fits may h = nothing-sent s.painter stream sent t may.1.0 h
 agrees-call lines columns s (calls.Refresh UpdatePanels) (Ok r) sent stream t size fits may h = nothing-sent s.painter stream sent t may.1.0 h
+agrees-call lines columns s (calls.Refresh (InitPair pair foreground background)) (Ok r) sent stream t size fits may h = nothing-sent s.painter stream sent t may.1.0 h
 agrees-call lines columns s (calls.Refresh Doupdate) (Ok r) sent stream t size fits may h =
-    Agrees-update s.painter (wanted s.world) stream sent t (rw (size.painter_lines, size.painter_columns) fits) h
-    (rw (size.painter_lines, size.painter_columns, ← size.lines_of, ← size.columns_of) may.1.0)
+    Agrees-update s.painter s.world.virtual.clear (wanted s.world) stream sent t (rw (size.painter_lines, size.painter_columns) fits) h may.1.0
 
 pub agrees-run : (lines columns : ℕ) (s : State) (cs : List Call) (outcomes : List Outcome) (stream : List ℕ) (t : Terminal) → HasScreenSize lines columns s → HasSize lines columns t.picture
     → Run s cs outcomes → Agrees s.painter stream t → Agrees (state_at_end s cs outcomes).painter (stream ++ all_sent outcomes) t
@@ -108,14 +111,15 @@ leads-nothing : (lines columns : ℕ) (painter : PainterState) (sent : List ℕ)
 leads-nothing lines columns painter sent t e fits known = record { last = t; leads = rw e (Leads-nothing t); fits = fits; known = known }
 
 leads-call : (lines columns : ℕ) (s : State) (call : Call) (answer : Result Reply Refusal) (sent : List ℕ) (t : Terminal) → HasScreenSize lines columns s → HasSize lines columns t.picture
-    → MayAnswer s.world call answer sent → IsKnown s.painter t → LeadsOn lines columns (state_after s call answer).painter sent t
+    → MayAnswer s call answer sent → IsKnown s.painter t → LeadsOn lines columns (state_after s call answer).painter sent t
 leads-call lines columns s call (Err e) sent t size fits may h = leads-nothing lines columns s.painter sent t may.1 fits h
 leads-call lines columns s (calls.Making making) (Ok r) sent t size fits may h = leads-nothing lines columns s.painter sent t may.1.0 fits h
 leads-call lines columns s (calls.Writing writing) (Ok r) sent t size fits may h = leads-nothing lines columns s.painter sent t may.1.0 fits h
 leads-call lines columns s (calls.Query query) (Ok r) sent t size fits may h = leads-nothing lines columns s.painter sent t may.1.0 fits h
 leads-call lines columns s (calls.Refresh UpdatePanels) (Ok r) sent t size fits may h = leads-nothing lines columns s.painter sent t may.1.0 fits h
+leads-call lines columns s (calls.Refresh (InitPair pair foreground background)) (Ok r) sent t size fits may h = leads-nothing lines columns s.painter sent t may.1.0 fits h
 leads-call lines columns s (calls.Refresh Doupdate) (Ok r) sent t size fits may h =
-    let leads = may.1.0.shows t (rw (size.lines_of, size.columns_of) fits) in
+    let leads = may.1.0.shows t (rw (size.painter_lines, size.painter_columns) fits) in
     record {
       last = showing s.world.virtual.picture s.world.virtual.cursor;
       leads = leads;
@@ -133,6 +137,24 @@ leads-run lines columns s (c ∷ cs) (o ∷ os) t size fits run h =
     let rest = leads-run lines columns (state_after s c o.answer) cs os first.last (size-after lines columns s c o.answer size) first.fits run.1 first.known in
     record { last = rest.last; leads = Leads-append o.sent (all_sent os) t first.last rest.last first.leads rest.leads; fits = rest.fits; known = rest.known }
 
+-- ---- a run that ends in doupdate
+
+-- the painter knows that it showed the virtual screen
+abbrev pub VirtualIsKnown : State → Type 0
+VirtualIsKnown s = s.painter.last ≡ Some (wanted s.world)
+
+one-doupdate : (s : State) (answer : Result Reply Refusal) (sent : List ℕ) → MayAnswer s (calls.Refresh Doupdate) answer sent → VirtualIsKnown (state_after s (calls.Refresh Doupdate) answer)
+one-doupdate s (Ok r) sent h = refl
+one-doupdate s (Err e) sent h = absurd (never-refused s.world Doupdate e refl h.0)
+
+pub virtual-known : (s : State) (others : List Call) (outcomes : List Outcome) → Run s (others ++ calls.Refresh Doupdate ∷ []) outcomes
+    → VirtualIsKnown (state_at_end s (others ++ calls.Refresh Doupdate ∷ []) outcomes)
+virtual-known s [] [] run = absurd run
+virtual-known s [] (o ∷ []) run = one-doupdate s o.answer o.sent run.0
+virtual-known s [] (o ∷ p ∷ os) run = absurd run.1
+virtual-known s (c ∷ cs) [] run = absurd run
+virtual-known s (c ∷ cs) (o ∷ os) run = virtual-known (state_after s c o.answer) cs os run.1
+
 -- ---- a run that ends in update_panels and doupdate
 
 -- the state behind the two calls
@@ -141,13 +163,8 @@ pub record EndsShown (s : State) : Type 0 where
   pub world_is : s.world ≡ after_doupdate (after_update_panels before)
   pub last_is : s.painter.last ≡ Some (wanted (after_update_panels before))
 
--- update_panels and doupdate are never refused
-never-refused : (w : World) (refresh : Refresh) (e : Refusal) → refresh_refusal w.windows refresh ≡ None → MayRefuse w (calls.Refresh refresh) e → ⊥
-never-refused w refresh e none (inl h) = let never : ◌≡◌ {A = Option Refusal} None (Some e) = sym none ∙ h in cc
-never-refused w refresh e none (inr h) = let never : false ≡ true = h.1 in cc
-
-two-calls : (s : State) (one other : Result Reply Refusal) (sent more : List ℕ) → MayAnswer s.world (calls.Refresh UpdatePanels) one sent
-    → MayAnswer (state_after s (calls.Refresh UpdatePanels) one).world (calls.Refresh Doupdate) other more
+two-calls : (s : State) (one other : Result Reply Refusal) (sent more : List ℕ) → MayAnswer s (calls.Refresh UpdatePanels) one sent
+    → MayAnswer (state_after s (calls.Refresh UpdatePanels) one) (calls.Refresh Doupdate) other more
     → EndsShown (state_after (state_after s (calls.Refresh UpdatePanels) one) (calls.Refresh Doupdate) other)
 two-calls s (Ok r) (Ok q) sent more h k = record { before = s.world; world_is = refl; last_is = refl }
 two-calls s (Ok r) (Err e) sent more h k = absurd (never-refused (after_update_panels s.world) Doupdate e refl k.0)
@@ -165,10 +182,10 @@ ends-shown s (c ∷ cs) (o ∷ os) run = ends-shown (state_after s c o.answer) c
 -- what the doupdate showed is the world behind it
 pub shows-world : (w : World) → ShowsWorld (after_doupdate (after_update_panels w)) (showing (wanted (after_update_panels w)).picture (wanted (after_update_panels w)).cursor)
 shows-world w = record {
-  size = HasSize-picture_of w.windows.lines w.windows.columns (picture w);
+  size = HasSize-lines_from w.windows.lines w.windows.columns (picture w);
   cells = λ y x in_lines in_columns.
-      shown_at-picture_of w.windows.lines w.windows.columns (picture w) y x in_lines in_columns
-      ∙ sym (found-unmarked w.windows.window (composed_windows w) w.panels y x);
+      cell_or-lines_from shown_blank w.windows.lines w.windows.columns (picture w) y x in_lines in_columns
+      ∙ ap (shown w.pairs) (sym (found-unmarked w.windows.window (composed_windows w) w.panels y x));
   cursor = λ i. Some (sym (cursor-unmarked w.windows.window (composed_windows w) w.panels) i);
   rendition = refl;
 }
@@ -192,11 +209,36 @@ module _ {W : Type 0} (seen : W → Seen) (old at_stop new : ScreenOver W) (cs m
       (subst (λ l. EndsShown (state_at_end (state_of old) l outcomes)) (sym ends.1)
       (ends-shown (state_of old) ends.0 outcomes (subst (λ l. Run (state_of old) l outcomes) ends.1 makes.run)))
 
+  known : EndsInDoupdate made → VirtualIsKnown (state_of at_stop)
+  known ends = subst VirtualIsKnown (sym makes.state)
+      (subst (λ l. VirtualIsKnown (state_at_end (state_of old) l outcomes)) (sym ends.1)
+      (virtual-known (state_of old) ends.0 outcomes (subst (λ l. Run (state_of old) l outcomes) ends.1 makes.run)))
+
   shows-after : (e : EndsShown (state_of at_stop)) → ShowsWorld (world at_stop.desk) (showing (wanted (after_update_panels e.before)).picture (wanted (after_update_panels e.before)).cursor)
   shows-after e =
       subst (λ w. ShowsWorld w (showing (wanted (after_update_panels e.before)).picture (wanted (after_update_panels e.before)).cursor)) (sym e.world_is) (shows-world e.before)
 
+  leads-stop : old.painter.last ≡ None → (t : Terminal) → HasSize old.desk.windows.lines old.desk.windows.columns t.picture
+      → LeadsOn old.desk.windows.lines old.desk.windows.columns at_stop.painter (all_sent outcomes) t
+  leads-stop nothing t fits =
+      let none : IsKnown old.painter t = subst (λ o. MatchOption o ⊤ (λ shown. t ≡ showing shown.picture shown.cursor)) (sym nothing) tt in
+      subst (λ p. LeadsOn old.desk.windows.lines old.desk.windows.columns p (all_sent outcomes) t) (ap (λ (s : State). s.painter) (sym makes.state))
+      (leads-run old.desk.windows.lines old.desk.windows.columns (state_of old) made outcomes t (screen-size old one_size) fits makes.run none)
+
   -- every call was made, and no write failed
+  shows-virtual : EndsInDoupdate made → (stream : List ℕ) (t : Terminal) → HasSize old.desk.windows.lines old.desk.windows.columns t.picture → Agrees old.painter stream t
+      → LeadsWithBreaks (stream ++ all_sent outcomes) t (showing_virtual (world at_stop.desk))
+  shows-virtual ends stream t fits h =
+      let a = agrees-stop stream t fits h in
+      subst (λ o. MatchOption o ⊤ (λ shown. LeadsWithBreaks (stream ++ all_sent outcomes) t (showing shown.picture shown.cursor))) (known ends) a.leads
+
+  shows-virtual_on_any : EndsInDoupdate made → old.painter.last ≡ None → (t : Terminal) → HasSize old.desk.windows.lines old.desk.windows.columns t.picture
+      → Leads (all_sent outcomes) t (showing_virtual (world at_stop.desk))
+  shows-virtual_on_any ends nothing t fits =
+      let r = leads-stop nothing t fits in
+      let last : r.last ≡ showing_virtual (world at_stop.desk) = subst (λ o. MatchOption o ⊤ (λ shown. r.last ≡ showing shown.picture shown.cursor)) (known ends) r.known in
+      subst (λ u. Leads (all_sent outcomes) t u) last r.leads
+
   shows-whole : EndsInUpdate made → (stream : List ℕ) (t : Terminal) → HasSize old.desk.windows.lines old.desk.windows.columns t.picture → Agrees old.painter stream t
       → (u : Terminal) × LeadsWithBreaks (stream ++ all_sent outcomes) t u × ShowsWorld (world at_stop.desk) u
   shows-whole ends stream t fits h =
@@ -211,11 +253,9 @@ module _ {W : Type 0} (seen : W → Seen) (old at_stop new : ScreenOver W) (cs m
       → (u : Terminal) × Leads (all_sent outcomes) t u × ShowsWorld (world at_stop.desk) u
   shows-whole_on_any ends nothing t fits =
       let e = ended ends in
-      let none : IsKnown old.painter t = subst (λ o. MatchOption o ⊤ (λ shown. t ≡ showing shown.picture shown.cursor)) (sym nothing) tt in
-      let r = leads-run old.desk.windows.lines old.desk.windows.columns (state_of old) made outcomes t (screen-size old one_size) fits makes.run none in
-      let known : IsKnown at_stop.painter r.last = subst (λ p. IsKnown p r.last) (ap (λ (s : State). s.painter) (sym makes.state)) r.known in
+      let r = leads-stop nothing t fits in
       let last : r.last ≡ showing (wanted (after_update_panels e.before)).picture (wanted (after_update_panels e.before)).cursor =
-      subst (λ o. MatchOption o ⊤ (λ shown. r.last ≡ showing shown.picture shown.cursor)) e.last_is known in (
+      subst (λ o. MatchOption o ⊤ (λ shown. r.last ≡ showing shown.picture shown.cursor)) e.last_is r.known in (
         showing (wanted (after_update_panels e.before)).picture (wanted (after_update_panels e.before)).cursor,
         subst (λ u. Leads (all_sent outcomes) t u) last r.leads,
         shows-after e,
@@ -224,8 +264,10 @@ module _ {W : Type 0} (seen : W → Seen) (old at_stop new : ScreenOver W) (cs m
   pub shows-unbroken : cs ≡ made → new ≡ at_stop → RunShows seen old new cs None
   shows-unbroken whole same = subst (λ s. RunShows seen old s cs None) (sym same) (record {
     bytes = all_sent outcomes;
-    taken = makes.bytes;
+    taken = makes.writes.taken;
     agrees = agrees-stop;
+    shows_virtual = λ ends none. shows-virtual (ends.0, sym whole ∙ ends.1);
+    shows_virtual_on_any = λ ends none. shows-virtual_on_any (ends.0, sym whole ∙ ends.1);
     shows = λ ends none. shows-whole (ends.0, sym whole ∙ ends.1);
     shows_on_any = λ ends none. shows-whole_on_any (ends.0, sym whole ∙ ends.1);
   })
@@ -233,13 +275,15 @@ module _ {W : Type 0} (seen : W → Seen) (old at_stop new : ScreenOver W) (cs m
   pub shows-broken : (fault : WriteFault) → IsCut seen at_stop new fault → RunShows seen old new cs (Some fault)
   shows-broken fault cut = record {
     bytes = all_sent outcomes ++ take fault.sent cut.text;
-    taken = Appends-trans _ _ _ _ _ makes.bytes cut.bytes;
+    taken = Appends-trans _ _ _ _ _ makes.writes.taken cut.bytes;
     agrees = λ stream t fits h.
         let size = subst (HasScreenSize old.desk.windows.lines old.desk.windows.columns) (sym makes.state) (size-at_end old.desk.windows.lines old.desk.windows.columns (state_of old) made outcomes (screen-size old one_size)) in
         subst (λ p. Agrees p (stream ++ (all_sent outcomes ++ take fault.sent cut.text)) t) (ap (λ (s : State). s.painter) (sym cut.state))
         (subst (λ bytes. Agrees (record at_stop.painter { last = None }) bytes t) (append_assoc stream (all_sent outcomes) (take fault.sent cut.text))
-        (Agrees-fault at_stop.painter (wanted (world at_stop.desk)) (stream ++ all_sent outcomes) cut.text fault.sent t (rw (size.painter_lines, size.painter_columns) fits)
-        (agrees-stop stream t fits h) (rw (size.painter_lines, size.painter_columns, ← size.lines_of, ← size.columns_of) cut.clearing) cut.within));
+        (Agrees-fault at_stop.painter at_stop.desk.virtual.clear (wanted (world at_stop.desk)) (stream ++ all_sent outcomes) cut.text fault.sent t (rw (size.painter_lines, size.painter_columns) fits)
+        (agrees-stop stream t fits h) cut.is_text cut.within));
+    shows_virtual = λ ends none. absurd (let never : Some fault ≡ None = none in cc);
+    shows_virtual_on_any = λ ends none. absurd (let never : Some fault ≡ None = none in cc);
     shows = λ ends none. absurd (let never : Some fault ≡ None = none in cc);
     shows_on_any = λ ends none. absurd (let never : Some fault ≡ None = none in cc);
   }
@@ -252,3 +296,55 @@ run-stops seen old at_stop new cs made left outcomes (Some fault) makes one_size
 
 pub run-shows : {W : Type 0} (seen : W → Seen) (old new : ScreenOver W) (cs : List Call) (end : RunEnd) → HasOneSize old.desk old.painter → RunEnds seen old cs end new → RunShows seen old new cs end.fault
 run-shows seen old new cs end one_size h = run-stops seen old h.at_stop new cs h.made h.left h.outcomes end.fault h.makes one_size h.parts h.stop
+
+-- ---- one call
+
+-- one call was made, and had this outcome
+one-call : {W : Type 0} (seen : W → Seen) (old new : ScreenOver W) (call : Call) (answer : Result Reply Refusal) (sent : List ℕ) → MayAnswer (state_of old) call answer sent
+    → state_of new ≡ state_after (state_of old) call answer → Writes seen old new (call ∷ []) sent → Makes seen old (call ∷ []) (record { answer = answer; sent = sent } ∷ []) new
+one-call seen old new call answer sent may state writes = record {
+  run = (may, tt);
+  state = state;
+  writes = subst (Writes seen old new (call ∷ [])) (sym (append-nil sent)) writes;
+}
+
+pub call-shows : {W : Type 0} (seen : W → Seen) (old new : ScreenOver W) (call : Call) (r : Result Reply Fault) → HasOneSize old.desk old.painter → CallEnds seen old call r new
+    → RunShows seen old new (call ∷ []) (cut_of r)
+call-shows seen old new call (Ok reply) one_size h =
+    shows-unbroken seen old new new (call ∷ []) (call ∷ []) (record { answer = Ok reply; sent = h.1.0 } ∷ []) (one-call seen old new call (Ok reply) h.1.0 h.1.1 h.0 h.1.2) one_size refl refl
+call-shows seen old new call (Err (Refused e)) one_size h =
+    shows-unbroken seen old old new (call ∷ []) (call ∷ []) (record { answer = Err e; sent = [] } ∷ [])
+    (one-call seen old old call (Err e) [] (h.0, refl) refl (Writes-refused seen old call e h.0)) one_size refl h.1
+call-shows seen old new call (Err (Write fault)) one_size h =
+    shows-broken seen old old new (call ∷ []) [] [] (record { run = tt; state = refl; writes = Writes-nothing seen old }) one_size fault h.1
+
+-- ---- the size stays
+
+-- the world of the state has the size of the desk
+size-of : {W : Type 0} (old new : ScreenOver W) → HasScreenSize old.desk.windows.lines old.desk.windows.columns (state_of new) → KeepsSize old.desk new.desk
+size-of old new h = record { lines = h.lines_of; columns = h.columns_of }
+
+pub cut-keeps_size : {W : Type 0} (seen : W → Seen) (old new : ScreenOver W) (fault : WriteFault) → IsCut seen old new fault → KeepsSize old.desk new.desk
+cut-keeps_size seen old new fault h = record { lines = ap (λ (s : State). s.world.windows.lines) h.state; columns = ap (λ (s : State). s.world.windows.columns) h.state }
+
+pub call-keeps_size : {W : Type 0} (seen : W → Seen) (old new : ScreenOver W) (call : Call) (r : Result Reply Fault) → HasOneSize old.desk old.painter → CallEnds seen old call r new → KeepsSize old.desk new.desk
+call-keeps_size seen old new call (Ok reply) one_size h = size-of old new
+    (subst (HasScreenSize old.desk.windows.lines old.desk.windows.columns) (sym h.0) (size-after old.desk.windows.lines old.desk.windows.columns (state_of old) call (Ok reply) (screen-size old one_size)))
+call-keeps_size seen old new call (Err (Refused e)) one_size h = subst (λ s. KeepsSize old.desk s.desk) (sym h.1) (record { lines = refl; columns = refl })
+call-keeps_size seen old new call (Err (Write fault)) one_size h = cut-keeps_size seen old new fault h.1
+
+pub makes-keep_size : {W : Type 0} (seen : W → Seen) (old new : ScreenOver W) (cs : List Call) (outcomes : List Outcome) → HasOneSize old.desk old.painter → Makes seen old cs outcomes new
+    → KeepsSize old.desk new.desk
+makes-keep_size seen old new cs outcomes one_size h = size-of old new
+    (subst (HasScreenSize old.desk.windows.lines old.desk.windows.columns) (sym h.state) (size-at_end old.desk.windows.lines old.desk.windows.columns (state_of old) cs outcomes (screen-size old one_size)))
+
+pub then-keeps_size : (old mid new : DeskTable) → KeepsSize old mid → KeepsSize mid new → KeepsSize old new
+then-keeps_size old mid new h k = record { lines = k.lines ∙ h.lines; columns = k.columns ∙ h.columns }
+
+stop-keeps_size : {W : Type 0} (seen : W → Seen) (at_stop new : ScreenOver W) (left : List Call) (fault : Option WriteFault) → Stops seen at_stop left fault new → KeepsSize at_stop.desk new.desk
+stop-keeps_size seen at_stop new left None h = subst (λ s. KeepsSize at_stop.desk s.desk) (sym h.1) (record { lines = refl; columns = refl })
+stop-keeps_size seen at_stop new left (Some fault) h = cut-keeps_size seen at_stop new fault h.1
+
+pub run-keeps_size : {W : Type 0} (seen : W → Seen) (old new : ScreenOver W) (cs : List Call) (end : RunEnd) → HasOneSize old.desk old.painter → RunEnds seen old cs end new → KeepsSize old.desk new.desk
+run-keeps_size seen old new cs end one_size h =
+    then-keeps_size old.desk h.at_stop.desk new.desk (makes-keep_size seen old h.at_stop h.made h.outcomes one_size h.makes) (stop-keeps_size seen h.at_stop new h.left end.fault h.stop)

@@ -1,23 +1,25 @@
 -- What calls on a screen leave of it.
-use Rattle.std.specs.Prelude.{◌≡◌, ◌≤◌, ℕ, List, [], ◌∷◌, ◌++◌, Bool, true, false, length, take, Option, Some, None, Result, Ok, Err, count_by, sum_by}
+use Rattle.std.specs.Prelude.{◌≡◌, ◌≤◌, ◌==◌, ◌||◌, ℕ, List, [], ◌∷◌, ◌++◌, Bool, true, false, length, take, Option, Some, None, Result, Ok, Err, count_by, sum_by}
+use Rattle.std.specs.List.{list_any}
 use Rattle.std.specs.Io.KnownBytes.{Appends}
-use Rattle.cell.specs.declared.refusal.Refusal.{Refusal}
+use Rattle.streams.specs.Counts.{counted}
 use Rattle.streams.specs.Sinks.{Seen}
-use Rattle.paint.specs.Updates.{IsClearingText}
+use Rattle.paint.specs.Updates.{IsUpdateText}
 use Rattle.streams.specs.declared.sending.WriteFault.{WriteFault}
 use Rattle.desk.specs.Desks.{world}
 use Rattle.world.specs.calls.Dispatch.{is_doupdate}
-use Rattle.desk.specs.States.{ScreenOver, State, after, state_of, wanted}
-use Rattle.desk.specs.Runs.{Outcome, MayAnswer, MayRefuse, Run, all_sent, cells_read, is_accepted, is_refused, state_after, state_at_end}
+use Rattle.desk.specs.States.{ScreenOver, after, state_of, wanted}
+use Rattle.desk.specs.Runs.{Outcome, MayAnswer, MayRefuse, Run, all_sent, cells_read, flushes_after, is_accepted, is_refused, state_at_end}
 use Rattle.world.specs.declared.call.Call.{Call}
 use Rattle.world.specs.declared.call.Reply.{Reply}
 use Rattle.desk.specs.declared.screen.Fault.{Fault}
 use Rattle.desk.specs.declared.screen.Fault.TheVariants.{Refused, Write}
 use Rattle.desk.specs.declared.screen.RunEnd.{RunEnd}
 
-abbrev pub is_write_fault : Result Reply Fault → Bool
-is_write_fault (Err (Write fault)) = true
-is_write_fault _ = false
+-- the fault of a doupdate whose text was cut short
+abbrev pub cut_of : Result Reply Fault → Option WriteFault
+cut_of (Err (Write fault)) = Some fault
+cut_of _ = None
 
 abbrev pub begins_with_doupdate : List Call → Bool
 begins_with_doupdate [] = false
@@ -28,18 +30,26 @@ module _ {W : Type 0} (seen : W → Seen) where
   abbrev pub Took : ScreenOver W → ScreenOver W → List ℕ → Type 0
   Took old new bytes = Appends (seen old.writer).taken (seen new.writer).taken bytes
 
-  -- A doupdate sent a front of its text. What was shown last is unknown now, and nothing else changed.
+  -- The writer took these bytes in these calls. Each doupdate flushed it, once, behind its text, and no other call did.
+  pub record Writes (old new : ScreenOver W) (calls : List Call) (bytes : List ℕ) : Type 0 where
+    pub taken : Took old new bytes
+    pub flushes : (seen new.writer).flushes ≡ flushes_after (seen old.writer).flushes calls
+    pub flushed : (seen new.writer).flushed ≡ (list_any is_doupdate calls || (seen old.writer).flushed)
+
+  -- A doupdate sent a front of its text, and where that is all of it, tried a flush. What was shown last is unknown now, and nothing else
+  -- changed.
   pub record IsCut (old new : ScreenOver W) (fault : WriteFault) : Type 0 where
     pub state : state_of new ≡ record { world = world old.desk; painter = record old.painter { last = None } }
     pub text : List ℕ
-    pub clearing : IsClearingText old.desk.windows.lines old.desk.windows.columns (wanted (world old.desk)) text
+    pub is_text : IsUpdateText old.painter old.desk.virtual.clear (wanted (world old.desk)) text
     pub within : fault.sent ≤ length text
     pub bytes : Took old new (take fault.sent text)
+    pub flushes : (seen new.writer).flushes ≡ counted (fault.sent == length text) (seen old.writer).flushes
 
   -- One call ended so.
   abbrev pub CallEnds : ScreenOver W → Call → Result Reply Fault → ScreenOver W → Type 0
   CallEnds old call (Ok reply) new = (state_of new ≡ after (state_of old) call)
-      × ((sent : List ℕ) × MayAnswer (world old.desk) call (Ok reply) sent × Took old new sent)
+      × ((sent : List ℕ) × MayAnswer (state_of old) call (Ok reply) sent × Writes old new (call ∷ []) sent)
   CallEnds old call (Err (Refused e)) new = MayRefuse (world old.desk) call e × (new ≡ old)
   CallEnds old call (Err (Write fault)) new = (is_doupdate call ≡ true) × IsCut old new fault
 
@@ -47,7 +57,7 @@ module _ {W : Type 0} (seen : W → Seen) where
   pub record Makes (old : ScreenOver W) (calls : List Call) (outcomes : List Outcome) (new : ScreenOver W) : Type 0 where
     pub run : Run (state_of old) calls outcomes
     pub state : state_of new ≡ state_at_end (state_of old) calls outcomes
-    pub bytes : Took old new (all_sent outcomes)
+    pub writes : Writes old new calls (all_sent outcomes)
 
   -- The calls that are left are none, or begin with a doupdate whose text was cut short.
   abbrev pub Stops : ScreenOver W → List Call → Option WriteFault → ScreenOver W → Type 0

@@ -1,9 +1,9 @@
 -- How a script ends.
-use Rattle.std.specs.Prelude.{◌≡◌, ◌⊎◌, ◌∷◌, ◌++◌, ℕ, Bool, true, false, List, [], map, take, Option, Some, None, Result, Ok, Err}
-use Rattle.std.specs.List.{list_any}
-use Rattle.std.specs.Io.KnownBytes.{Appends, Consumes, IsAtEnd}
+use Rattle.std.specs.Prelude.{◌≡◌, ◌⊎◌, ◌<◌, ◌∷◌, ◌++◌, ℕ, Bool, true, false, List, [], length, map, take, Option, Some, None, Result, Ok, Err}
+use Rattle.std.specs.List.{flat_map, list_any}
+use Rattle.std.specs.Io.KnownBytes.{Appends, Consumes, IsAtEnd, Keeps}
 use Rattle.streams.specs.Sinks.{Seen}
-use Rattle.streams.specs.Counts.{next_count}
+use Rattle.streams.specs.Counts.{counted, next_count}
 use Rattle.streams.specs.declared.sending.WriteFault.{WriteFault}
 use Rattle.desk.specs.Runs.{Outcome, is_refused}
 use Rattle.desk.specs.Ends.{IsCut, Makes}
@@ -45,25 +45,51 @@ SaysHowever met_end text P = (more : List ℕ) → MayFollow met_end more → P 
 abbrev pub BeginsWith : List (ℕ × Call) → Reading → Type 0
 BeginsWith calls r = (others : List (ℕ × Call)) × (r.calls ≡ calls ++ others)
 
--- the lines of the log for calls with these outcomes
-abbrev pub log_of : List (ℕ × Call) → List Outcome → List ℕ
-log_of (call ∷ calls) (outcome ∷ outcomes) = log_line call.0 outcome.answer ++ log_of calls outcomes
-log_of _ _ = []
+-- ---- the log
 
--- The log took the lines of the calls, or, after a fault in writing it, a beginning of them.
-abbrev pub Logs : Seen → Seen → List ℕ → Option ScriptFault → Type 0
-Logs old new lines (Some Log) = (n : ℕ) × Appends old.taken new.taken (take n lines)
-Logs old new lines _ = Appends old.taken new.taken lines
+-- the lines of the log for calls with these outcomes; that of a call which has none is empty
+abbrev pub log_lines : List (ℕ × Call) → List Outcome → List (List ℕ)
+log_lines (call ∷ calls) (outcome ∷ outcomes) = log_line call.0 outcome.answer ∷ log_lines calls outcomes
+log_lines _ _ = []
 
-abbrev pub IsFlushed : Seen → Seen → Type 0
-IsFlushed old new = (new.failures ≡ old.failures) × (new.flushed ≡ true)
+abbrev pub log_text : List (List ℕ) → List ℕ
+log_text = flat_map (λ line. line)
 
--- Without a fault no failure of the log was counted, and a flush succeeded behind its last byte. A fault of the log is one failure.
--- After another fault only the flush may have failed.
-abbrev pub LogEnds : Option ScriptFault → Seen → Seen → Type 0
-LogEnds None old new = IsFlushed old new
-LogEnds (Some Log) old new = new.failures ≡ next_count old.failures
-LogEnds _ old new = IsFlushed old new ⊎ (new.failures ≡ next_count old.failures)
+-- The log took all lines but the last whole, and of that a front, not all.
+pub record IsCutInLastLine (old new : Seen) (lines : List (List ℕ)) : Type 0 where
+  pub whole : List (List ℕ)
+  pub last : List ℕ
+  pub parts : lines ≡ whole ++ last ∷ []
+  pub sent : ℕ
+  pub within : sent < length last
+  pub taken : Appends old.taken new.taken (log_text whole ++ take sent last)
+
+-- The log took the lines, but where a write of it failed in the last.
+abbrev pub Logs : Seen → Seen → List (List ℕ) → Option ScriptFault → Type 0
+Logs old new lines (Some Log) = IsCutInLastLine old new lines
+Logs old new lines _ = Appends old.taken new.taken (log_text lines)
+
+-- No failure was counted, and the one flush that was tried succeeded.
+pub record FlushSucceeds (old new : Seen) : Type 0 where
+  pub kept : Keeps old.taken new.taken
+  pub no_failure : new.failures ≡ old.failures
+  pub flushes : new.flushes ≡ next_count old.flushes
+  pub flushed : new.flushed ≡ true
+
+-- The one flush that was tried failed.
+pub record FlushFails (old new : Seen) : Type 0 where
+  pub kept : Keeps old.taken new.taken
+  pub failure : new.failures ≡ next_count old.failures
+  pub flushes : new.flushes ≡ next_count old.flushes
+
+-- How a script ends whose lines ended with this fault, or none: the log is flushed once, unless a write of it failed. A flush that fails is
+-- a fault where there was none.
+abbrev pub LogCloses : Option ScriptFault → Seen → Seen → Option ScriptFault → Type 0
+LogCloses None logged written fault = (FlushSucceeds logged written × (fault ≡ None)) ⊎ (FlushFails logged written × (fault ≡ Some Log))
+LogCloses (Some Log) logged written fault = (written ≡ logged) × (fault ≡ Some Log)
+LogCloses (Some earlier) logged written fault = (FlushSucceeds logged written ⊎ FlushFails logged written) × (fault ≡ Some earlier)
+
+-- ---- its lines
 
 -- the call of a line, with its number
 abbrev pub numbered : ℕ → Option Call → List (ℕ × Call)
@@ -90,7 +116,9 @@ module _ {W : Type 0} (seen : W → Seen) where
     pub at_stop : ScreenOver W
     pub makes : Makes seen old (calls_of (numbered number call)) outcomes at_stop
     pub stop : LineStops number (said_by_line line) call at_stop end.fault new
-    pub logs : Logs log written (log_of (numbered number call) outcomes) end.fault
+    pub logs : Logs log written (log_lines (numbered number call) outcomes) end.fault
+    pub failures : written.failures ≡ counted (log_failed end.fault) log.failures
+    pub flushes : written.flushes ≡ log.flushes
     pub refused : end.refused ≡ list_any is_refused outcomes
 
   -- A script ended so, after the calls that were made.
@@ -109,7 +137,8 @@ module _ {W : Type 0} (seen : W → Seen) where
   -- The calls that were made are its first.
   ScriptStops met_end text made at_stop (Some Log) new = SaysHowever met_end text (BeginsWith made) × (new ≡ at_stop)
 
-  -- The lines of a script, read from a source, were run on a screen and logged.
+  -- The lines of a script, read from a source, were run on a screen and logged. The log was not flushed yet. Where the end of the source
+  -- was met, no read came behind it.
   pub record RunsLines (old new : ScreenOver W) (input rest : SourceSeen) (log written : Seen) (end : ScriptEnd) : Type 0 where
     pub text : List ℕ
     pub made : List (ℕ × Call)
@@ -118,12 +147,19 @@ module _ {W : Type 0} (seen : W → Seen) where
     pub read : Consumes input.left rest.left text
     pub makes : Makes seen old (calls_of made) outcomes at_stop
     pub stop : ScriptStops rest.met_end text made at_stop end.fault new
-    pub logs : Logs log written (log_of made outcomes) end.fault
+    pub logs : Logs log written (log_lines made outcomes) end.fault
+    pub failures : written.failures ≡ counted (log_failed end.fault) log.failures
+    pub flushes : written.flushes ≡ log.flushes
     pub refused : end.refused ≡ list_any is_refused outcomes
     -- Without a fault the source has no byte left.
     pub at_end : end.fault ≡ None → IsAtEnd rest.left
+    pub read_once : input.met_end ≡ false → rest.read_past_end ≡ input.read_past_end
 
-  -- A script ended so, and what the writer took shows the world that its calls left.
+  -- A script ended so: its lines ended, and then the log was flushed. What the writer took shows the world that its calls left.
   pub record ScriptEnds (old new : ScreenOver W) (input rest : SourceSeen) (log written : Seen) (end : ScriptEnd) : Type 0 where
-    pub lines : RunsLines old new input rest log written end
+    pub ended : ScriptEnd
+    pub logged : Seen
+    pub lines : RunsLines old new input rest log logged ended
+    pub closes : LogCloses ended.fault logged written end.fault
+    pub refused : end.refused ≡ ended.refused
     pub shown : RunShows seen old new (calls_of lines.made) (write_fault end.fault)

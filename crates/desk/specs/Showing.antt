@@ -1,10 +1,11 @@
 -- What a terminal shows after a run of calls: the theorem of the screen.
 use Rattle.std.specs.Prelude.{◌≡◌, ℕ, ◌<◌, List, [], ◌∷◌, ◌++◌, Option, Some, None}
 use Rattle.std.specs.Io.KnownBytes.{Appends}
-use Rattle.cell.specs.Pictures.{HasSize, shown_at, no_rendition}
+use Rattle.cell.specs.Shown.{no_rendition}
+use Rattle.cell.specs.Pictures.{HasSize, shown_at}
 use Rattle.world.specs.World.{World, picture, topmost_cursor}
 use Rattle.ecma.specs.Terminals.{Terminal}
-use Rattle.ecma.specs.Streams.{Leads, LeadsWithBreaks}
+use Rattle.ecma.specs.Streams.{Leads, LeadsWithBreaks, showing}
 use Rattle.streams.specs.Sinks.{Seen}
 use Rattle.paint.specs.Updates.{Agrees}
 use Rattle.streams.specs.declared.sending.WriteFault.{WriteFault}
@@ -14,12 +15,20 @@ use Rattle.world.specs.declared.call.Call.TheVariants.{Refresh}
 use Rattle.world.specs.declared.call.Refresh.TheVariants.{UpdatePanels, Doupdate}
 use Rattle.desk.specs.States.{ScreenOver}
 
+-- the calls end in doupdate
+abbrev pub EndsInDoupdate : List Call → Type 0
+EndsInDoupdate calls = (others : List Call) × (calls ≡ others ++ Refresh Doupdate ∷ [])
+
+-- the terminal shows the virtual screen
+abbrev pub showing_virtual : World → Terminal
+showing_virtual world = showing world.virtual.picture world.virtual.cursor
+
 -- the calls end in update_panels and doupdate
 abbrev pub EndsInUpdate : List Call → Type 0
 EndsInUpdate calls = (others : List Call) × (calls ≡ others ++ Refresh UpdatePanels ∷ Refresh Doupdate ∷ [])
 
 -- The terminal shows in every cell what a search from the top visible panel down to the standard screen finds, and the topmost's cursor;
--- it prints without attributes.
+-- it prints with the empty rendition.
 pub record ShowsWorld (world : World) (t : Terminal) : Type 0 where
   pub size : HasSize world.windows.lines world.windows.columns t.picture
   pub cells : (y x : ℕ) → y < world.windows.lines → x < world.windows.columns → shown_at t.picture (y, x) ≡ picture world y x
@@ -28,13 +37,18 @@ pub record ShowsWorld (world : World) (t : Terminal) : Type 0 where
 
 module _ {W : Type 0} (seen : W → Seen) where
   -- The writer took these bytes in a run of calls. All that was sent before, if it agreed with the painter, agrees with it again when the
-  -- bytes follow, also where a write failed. Where the calls end in update_panels and doupdate, and no write failed, all of it shows the
-  -- world after the run; and if the painter knew nothing, as that of a screen just made, then these bytes alone show it on any terminal.
+  -- bytes follow, also where a write failed. Where the calls end in doupdate, and no write failed, all of it shows the virtual screen, and
+  -- where they end in update_panels and doupdate, the world after the run; and if the painter knew nothing, as that of a screen just made,
+  -- then these bytes alone show it on any terminal.
   pub record RunShows (old new : ScreenOver W) (calls : List Call) (fault : Option WriteFault) : Type 0 where
     pub bytes : List ℕ
     pub taken : Appends (seen old.writer).taken (seen new.writer).taken bytes
     pub agrees : (stream : List ℕ) (t : Terminal) → HasSize old.desk.windows.lines old.desk.windows.columns t.picture
         → Agrees old.painter stream t → Agrees new.painter (stream ++ bytes) t
+    pub shows_virtual : EndsInDoupdate calls → fault ≡ None → (stream : List ℕ) (t : Terminal) → HasSize old.desk.windows.lines old.desk.windows.columns t.picture
+        → Agrees old.painter stream t → LeadsWithBreaks (stream ++ bytes) t (showing_virtual (world new.desk))
+    pub shows_virtual_on_any : EndsInDoupdate calls → fault ≡ None → old.painter.last ≡ None → (t : Terminal)
+        → HasSize old.desk.windows.lines old.desk.windows.columns t.picture → Leads bytes t (showing_virtual (world new.desk))
     pub shows : EndsInUpdate calls → fault ≡ None → (stream : List ℕ) (t : Terminal) → HasSize old.desk.windows.lines old.desk.windows.columns t.picture
         → Agrees old.painter stream t → (u : Terminal) × LeadsWithBreaks (stream ++ bytes) t u × ShowsWorld (world new.desk) u
     pub shows_on_any : EndsInUpdate calls → fault ≡ None → old.painter.last ≡ None → (t : Terminal)

@@ -34,6 +34,11 @@ pub record ScreenOver (W : Type 0) : Type 0 where
 abbrev pub state_of : {W : Type 0} → ScreenOver W → State
 state_of screen = record { world = world screen.desk; painter = screen.painter }
 
+-- the screen keeps its size
+pub record KeepsSize (old new : DeskTable) : Type 0 where
+  pub lines : new.windows.lines ≡ old.windows.lines
+  pub columns : new.windows.columns ≡ old.windows.columns
+
 -- the painter's terminals have the size of the screen
 pub record HasOneSize (desk : DeskTable) (painter : PainterState) : Type 0 where
   pub lines : painter.lines ≡ desk.windows.lines

@@ -1,14 +1,17 @@
 //! The windows under a virtual screen.
 
-ghost use Rattle.std.specs.Prelude.{◌≡◌, ◌<◌, Ok, IfOk, false};
-ghost use Rattle.cell.specs.Pictures.{AreCells, HasSize, line_of, picture_of};
+ghost use Rattle.std.specs.Prelude.{◌≡◌, ◌<◌, ◌≤◌, ◌==◌, ◌&&◌, ℕ, Ok, Some, IfOk, false, if◌then◌else◌, length, nat_le, nat_lt, slice_index_or};
+ghost use Rattle.std.specs.Result.{result_err};
+ghost use Rattle.cell.specs.Pictures.{AreShown, HasSize, line_of, picture_of, shown_at};
+ghost use Rattle.cell.specs.Glyphs.{blank};
+ghost use Rattle.cell.specs.Shown.{shown};
 ghost use Rattle.world.specs.Windows.{cell_at};
 ghost use Rattle.world.specs.Panels.{standard_screen};
 ghost use Rattle.world.specs.World.{first_world};
 ghost use Rattle.world.specs.Sound.{AreSoundWindows, IsSound};
 ghost use Rattle.world.specs.calls.Making.{new_refusal};
 ghost use Rattle.cell.specs.Refusals.{RefusedBy};
-ghost use Rattle.world.specs.calls.Refresh.{after_doupdate, after_update_panels, cells_composed};
+ghost use Rattle.world.specs.calls.Refresh.{after_update_panels, init_pair_refusal};
 ghost use Rattle.grids.specs.Tables.{windows as windows_of};
 ghost use Rattle.world.specs.declared.call.Call.{Call};
 ghost use Rattle.world.specs.declared.call.Refresh.{Refresh};
@@ -17,7 +20,7 @@ ghost use Rattle.desk.specs.Desks.{world};
 ghost use Rattle.desk.specs.Runs.{Called};
 
 use crate::dispatch::{make, query, write};
-use cell::{Cell, Grid, Refusal, WinId};
+use cell::{Cell, Colour, Grid, PairId, Pairs, Refusal, Shown, WinId};
 use grids::Grids;
 use std::alloc::Global;
 use std::marker::Model;
@@ -27,12 +30,13 @@ use world::{Call, Composed, Refresh, Reply};
 /// The number of the standard screen.
 const STANDARD: WinId = WinId(0);
 
-/// A screen's windows and pads, and its virtual screen: a picture, where the cursor is wanted, and whether the terminal is
+/// A screen's windows and pads, its colour pairs, and its virtual screen: a picture, where the cursor is wanted, and whether the terminal is
 /// to be cleared first.
 #[derive(Drop)]
 pub struct Desk {
     windows: Windows,
-    picture: Grid,
+    pairs: Pairs,
+    picture: Grid<Shown>,
     cursor: (u16, u16),
     clear: bool,
 }
@@ -45,11 +49,13 @@ impl Model for Desk {
 
     ghost view = { λ d. record {
       windows = d.windows.table;
+      pairs = d.pairs;
       virtual = record { picture = d.picture; cursor = d.cursor; clear = d.clear };
     } };
 
     ghost invariant = { λ d. IsSound (world (record {
       windows = d.windows.table;
+      pairs = d.pairs;
       virtual = record { picture = d.picture; cursor = d.cursor; clear = d.clear };
     })) };
 }
@@ -67,6 +73,7 @@ impl Desk {
         match Grid::new(alloc, lines, cols) {
             Ok(picture) => Ok(Desk {
                 windows,
+                pairs: Pairs::new(),
                 picture,
                 cursor: (0, 0),
                 clear: false,
@@ -93,6 +100,13 @@ impl Desk {
             Call::Query(asked) => query(&self.windows, asked),
             Call::Refresh(Refresh::UpdatePanels) => Ok(Reply::Composed(self.update_panels())),
             Call::Refresh(Refresh::Doupdate) => unreachable!(),
+            Call::Refresh(
+                Refresh::InitPair {
+                    pair,
+                    foreground,
+                    background,
+                },
+            ) => self.init_pair(pair, foreground, background),
         }
     }
 
@@ -101,7 +115,7 @@ impl Desk {
         ensures { Called self.old (Call.Refresh Refresh.UpdatePanels) (Ok (Reply.Composed result)) self.new }
     {
         let (lines, columns) = size_of_screen(&self.windows.table);
-        show_standard(&self.windows.table, lines, &mut self.picture);
+        show_standard(&self.windows.table, &self.pairs, lines, &mut self.picture);
         let settings = self.windows.table.settings(STANDARD);
         self.cursor = settings.cursor;
         self.clear |= settings.clear;
@@ -109,6 +123,24 @@ impl Desk {
         Composed {
             cells: u32::from(lines) * u32::from(columns),
         }
+    }
+
+    /// Gives a colour pair a foreground and a background. What is shown already stays.
+    ///
+    /// # Errors
+    /// `BadPair` for pair 0, for one past `LAST_PAIR`, and for a colour past `LAST_COLOUR`.
+    pub fn init_pair(
+        &mut self,
+        pair: u16,
+        foreground: u16,
+        background: u16,
+    ) -> Result<Reply, Refusal>
+        ensures { Called self.old (Call.Refresh (Refresh.InitPair pair foreground background)) result self.new }
+    {
+        let (at, foreground, background) = colours_for(pair, foreground, background)?;
+        self.pairs.set(at, foreground, background);
+        prove!(self.pairs.is_sound());
+        Ok(Reply::Nothing)
     }
 
     /// How many lines and columns the screen has.
@@ -120,7 +152,7 @@ impl Desk {
     }
 
     /// The cells of a line of the virtual screen.
-    pub fn virtual_row(&self, y: u16) -> &[Cell]
+    pub fn virtual_row(&self, y: u16) -> &[Shown]
         requires { y < self.now.windows.lines }
         ensures { result.now ≡ line_of self.now.virtual.picture y }
     {
@@ -135,8 +167,15 @@ impl Desk {
         self.cursor
     }
 
+    /// Whether the terminal is to be cleared first.
+    pub fn clear_wanted(&self) -> bool
+        ensures { result ≡ self.now.virtual.clear }
+    {
+        self.clear
+    }
+
     /// All of the virtual screen.
-    pub(crate) fn virtual_screen(&self) -> &Grid
+    pub(crate) fn virtual_screen(&self) -> &Grid<Shown>
         ensures picture { result.now ≡ self.now.virtual.picture }
         ensures sound { IsSound (world self.now) }
     {
@@ -145,7 +184,7 @@ impl Desk {
 
     /// The terminal needn't be cleared any more.
     pub fn clear_done(&mut self)
-        ensures { world self.new ≡ after_doupdate (world self.old) }
+        ensures { self.new ≡ record self.old { virtual = record self.old.virtual { clear = false } } }
     {
         self.clear = false;
     }
@@ -162,17 +201,47 @@ fn size_of_screen(table: &Grids) -> (u16, u16)
     }
 }
 
+/// A pair that can be set, and two colours.
+fn colours_for(
+    pair: u16,
+    foreground: u16,
+    background: u16,
+) -> Result<(PairId, Colour, Colour), Refusal>
+    ensures refused { result_err result ≡ init_pair_refusal pair foreground background }
+    ensures made { IfOk result (λ made. made ≡ (pair, foreground, background)) }
+{
+    if pair == 0 {
+        return Err(Refusal::BadPair);
+    }
+    let at = PairId::new(pair).ok_or(Refusal::BadPair)?;
+    let foreground = Colour::new(foreground).ok_or(Refusal::BadPair)?;
+    let background = Colour::new(background).ok_or(Refusal::BadPair)?;
+    Ok((at, foreground, background))
+}
+
 /// Puts the picture of the standard screen, of so many lines, into a grid of its size.
-fn show_standard(table: &Grids, lines: u16, picture: &mut Grid)
+fn show_standard(table: &Grids, pairs: &Pairs, lines: u16, picture: &mut Grid<Shown>)
     requires windows { AreSoundWindows (windows_of table.now) }
     requires lines { lines ≡ table.now.lines }
     requires size { HasSize table.now.lines table.now.columns picture.old }
-    ensures shown { picture.new ≡ picture_of table.now.lines table.now.columns (cell_at (windows_of table.now).window standard_screen) }
-    ensures cells { AreCells picture.new }
+    ensures shown { picture.new ≡ picture_of table.now.lines table.now.columns (λ y x. shown pairs.now (cell_at (windows_of table.now).window standard_screen y x)) }
+    ensures cells { AreShown picture.new }
 {
     for y in 0..lines {
-        picture.put_cells(usize::from(y), 0, table.row(STANDARD, y));
+        show_line(pairs, table.row(STANDARD, y), usize::from(y), picture);
     }
     // Reading a line tells the proof that each cell can be printed.
     prove!(!picture.row(0).is_empty());
+}
+
+/// Puts a row of cells into line `y` of a picture, from its first column on, as the cells are shown.
+fn show_line(pairs: &Pairs, row: &[Cell], y: usize, picture: &mut Grid<Shown>)
+    requires line { y < length picture.old }
+    requires columns { length row.now ≤ length (line_of picture.old y) }
+    ensures shown { (v u : ℕ) → shown_at picture.new (v, u) ≡ (if (v == y) && (nat_le 0 u && nat_lt u (length row.now)) then shown pairs.now (slice_index_or row.now u blank) else shown_at picture.old (v, u)) }
+    ensures size { (lines columns : ℕ) → HasSize lines columns picture.old → HasSize lines columns picture.new }
+{
+    for x in 0..row.len() {
+        picture.set(y, x, pairs.shown(row[x]));
+    }
 }

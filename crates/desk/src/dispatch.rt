@@ -61,6 +61,8 @@ pub fn write(windows: &mut Windows, writing: Writing<'_>) -> Result<Reply, Refus
         Writing::Attron { win, attrs } => nothing(windows.wattron(win, attrs)?),
         Writing::Attroff { win, attrs } => nothing(windows.wattroff(win, attrs)?),
         Writing::Bkgdset { win, attrs, ch } => nothing(windows.wbkgdset(win, attrs, ch)?),
+        Writing::ColorSet { win, pair } => nothing(windows.wcolor_set(win, pair)?),
+        Writing::Bkgdpair { win, pair } => nothing(windows.wbkgdpair(win, pair)?),
     }
 }
 

@@ -1,11 +1,14 @@
 //! Runs scripts.
 
 ghost use Rattle.std.specs.Prelude.{◌≡◌, ◌≤◌, ◌||◌, length, is_err, is_some, false};
+ghost use Rattle.world.specs.Sound.{IsSound};
 ghost use Rattle.script.specs.Words.{placeless};
 ghost use Rattle.desk.specs.Ends.{CallEnds};
 ghost use Rattle.desk.specs.steps.Answers.{joined};
 ghost use Rattle.streams.specs.Counts.{counted};
-ghost use Rattle.desk.specs.ScriptEnds.{LineEnds, LogEnds, RunsLines, ScriptEnds, log_failed, read_failed, write_fault};
+ghost use Rattle.desk.specs.Desks.{world};
+ghost use Rattle.desk.specs.ScriptEnds.{LineEnds, RunsLines, ScriptEnds, log_failed, read_failed, write_fault};
+ghost use Rattle.desk.specs.States.{KeepsSize};
 
 use crate::screen::{Fault, Screen};
 use arrayvec::ArrayVec;
@@ -23,7 +26,7 @@ impl<W: Sink> Screen<W> {
         ensures answer { CallEnds W.seen self.old (placeless call.now) (joined result) self.new }
         ensures failures { (W.seen self.new.writer).failures ≡ counted (is_err result) (W.seen self.old.writer).failures }
     {
-        match self.call(call) {
+        match self.make_call(call) {
             Ok(reply) => Ok(Ok(reply)),
             Err(Fault::Refused(refusal)) => Ok(Err(refusal)),
             Err(Fault::Write(fault)) => Err(fault),
@@ -41,7 +44,6 @@ impl<W: Sink> Screen<W> {
         requires { length line.now ≤ LONGEST_LINE }
         ensures line { LineEnds W.seen self.old self.new number line.now (L.seen log.old) (L.seen log.new) result }
         ensures writer { (W.seen self.new.writer).failures ≡ counted (is_some (write_fault result.fault)) (W.seen self.old.writer).failures }
-        ensures log { (L.seen log.new).failures ≡ counted (log_failed result.fault) (L.seen log.old).failures }
         ensures reads { read_failed result.fault ≡ false }
     {
         let word = match read_line(line, taken) {
@@ -72,7 +74,6 @@ impl<W: Sink> Screen<W> {
         ensures lines { RunsLines W.seen self.old self.new (R.seen input.old) (R.seen input.new) (L.seen log.old) (L.seen log.new) result }
         ensures reading { (R.seen input.new).failures ≡ counted (read_failed result.fault) (R.seen input.old).failures }
         ensures writer { (W.seen self.new.writer).failures ≡ counted (is_some (write_fault result.fault)) (W.seen self.old.writer).failures }
-        ensures log { (L.seen log.new).failures ≡ counted (log_failed result.fault) (L.seen log.old).failures }
     {
         let mut bytes = Bytes::new();
         let mut line = ArrayVec::<u8, LONGEST_LINE>::new();
@@ -109,18 +110,27 @@ impl<W: Sink> Screen<W> {
         ensures script { ScriptEnds W.seen self.old self.new (R.seen input.old) (R.seen input.new) (L.seen log.old) (L.seen log.new) result }
         ensures reading { (R.seen input.new).failures ≡ counted (read_failed result.fault) (R.seen input.old).failures }
         ensures writer { (W.seen self.new.writer).failures ≡ counted (is_some (write_fault result.fault)) (W.seen self.old.writer).failures }
-        ensures log { LogEnds result.fault (L.seen log.old) (L.seen log.new) }
+        ensures sound { IsSound (world self.new.desk) }
+        ensures size { KeepsSize self.old.desk self.new.desk }
     {
-        prove!(self.has_one_size());
+        prove!(self.is_sound());
         let end = self.run_lines(input, log);
-        if end.fault == Some(ScriptFault::Log) {
+        prove!(self.is_sound());
+        if log_failed(end) {
             return end;
         }
         match log.flush() {
+            Ok(()) => end,
             Err(_) if end.fault.is_none() => ended(end.refused, Some(ScriptFault::Log)),
-            _ => end,
+            Err(_) => end,
         }
     }
+}
+
+fn log_failed(end: ScriptEnd) -> bool
+    ensures { result ≡ log_failed end.fault }
+{
+    matches!(end.fault, Some(ScriptFault::Log))
 }
 
 fn ended(refused: bool, fault: Option<ScriptFault>) -> ScriptEnd

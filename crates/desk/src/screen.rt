@@ -1,9 +1,11 @@
 //! A screen over a writer, and runs of calls on it.
 
-ghost use Rattle.std.specs.Prelude.{◌≡◌, IfOk, is_some, true};
+ghost use Rattle.std.specs.Prelude.{◌≡◌, ◌∷◌, [], IfOk, is_some, false, true};
 ghost use Rattle.world.specs.calls.Making.{new_refusal};
 ghost use Rattle.cell.specs.Refusals.{RefusedBy};
+ghost use Rattle.world.specs.Sound.{IsSound};
 ghost use Rattle.world.specs.World.{first_world};
+ghost use Rattle.world.specs.calls.Dispatch.{is_doupdate};
 ghost use Rattle.streams.specs.Counts.{counted};
 ghost use Rattle.paint.specs.Updates.{first_painter};
 ghost use Rattle.desk.specs.Desks.{world};
@@ -83,8 +85,8 @@ impl<W: Sink + Drop> Screen<W> {
 }
 
 impl<W: Sink> Screen<W> {
-    ghost use Rattle.desk.specs.States.{HasOneSize};
-    ghost use Rattle.desk.specs.Ends.{CallEnds, RunEnds, is_write_fault};
+    ghost use Rattle.desk.specs.States.{HasOneSize, KeepsSize};
+    ghost use Rattle.desk.specs.Ends.{CallEnds, RunEnds, cut_of};
     ghost use Rattle.desk.specs.Showing.{RunShows};
 
     /// The windows and the virtual screen.
@@ -104,31 +106,56 @@ impl<W: Sink> Screen<W> {
     /// Makes one call.
     pub fn call(&mut self, call: &Call<'_>) -> Result<Reply, Fault>
         ensures call { CallEnds W.seen self.old call.now result self.new }
-        ensures failures { (W.seen self.new.writer).failures ≡ counted (is_write_fault result) (W.seen self.old.writer).failures }
+        ensures shown { RunShows W.seen self.old self.new (call.now ∷ []) (cut_of result) }
+        ensures failures { (W.seen self.new.writer).failures ≡ counted (is_some (cut_of result)) (W.seen self.old.writer).failures }
+        ensures sound { IsSound (world self.new.desk) }
+        ensures size { KeepsSize self.old.desk self.new.desk }
     {
-        match *call {
-            Call::Refresh(Refresh::Doupdate) => self.doupdate(),
-            _ => Ok(self.desk.call(call)?),
-        }
+        prove!(self.is_sound());
+        let end = self.make_call(call);
+        prove!(self.is_sound());
+        end
     }
 
     /// Always true: what it ensures is what is known of each screen.
-    pub(crate) fn has_one_size(&self) -> bool
+    pub(crate) fn is_sound(&self) -> bool
         ensures yes { result ≡ true }
         ensures size { HasOneSize self.now.desk self.now.painter }
+        ensures sound { IsSound (world self.now.desk) }
     {
         self.desk.size().0 > 0
+    }
+
+    pub(crate) fn make_call(&mut self, call: &Call<'_>) -> Result<Reply, Fault>
+        ensures call { CallEnds W.seen self.old call.now result self.new }
+        ensures failures { (W.seen self.new.writer).failures ≡ counted (is_some (cut_of result)) (W.seen self.old.writer).failures }
+    {
+        match *call {
+            Call::Refresh(Refresh::Doupdate) => self.doupdate(),
+            _ => self.call_desk(call),
+        }
+    }
+
+    /// Makes a call that sends nothing.
+    fn call_desk(&mut self, call: &Call<'_>) -> Result<Reply, Fault>
+        requires { is_doupdate call.now ≡ false }
+        ensures call { CallEnds W.seen self.old call.now result self.new }
+        ensures failures { (W.seen self.new.writer).failures ≡ counted (is_some (cut_of result)) (W.seen self.old.writer).failures }
+    {
+        Ok(self.desk.call(call)?)
     }
 
     /// Shows the virtual screen.
     fn doupdate(&mut self) -> Result<Reply, Fault>
         ensures call { CallEnds W.seen self.old (Call.Refresh Refresh.Doupdate) result self.new }
-        ensures failures { (W.seen self.new.writer).failures ≡ counted (is_write_fault result) (W.seen self.old.writer).failures }
+        ensures failures { (W.seen self.new.writer).failures ≡ counted (is_some (cut_of result)) (W.seen self.old.writer).failures }
     {
         let cursor = self.desk.wanted_cursor();
+        let clear = self.desk.clear_wanted();
+        let picture = self.desk.virtual_screen();
         match self
             .painter
-            .doupdate(self.desk.virtual_screen(), cursor, &mut self.writer)
+            .doupdate(picture, cursor, clear, &mut self.writer)
         {
             Ok(sent) => {
                 self.desk.clear_done();
@@ -143,9 +170,13 @@ impl<W: Sink> Screen<W> {
         ensures run { RunEnds W.seen self.old calls.now result self.new }
         ensures shown { RunShows W.seen self.old self.new calls.now result.fault }
         ensures failures { (W.seen self.new.writer).failures ≡ counted (is_some result.fault) (W.seen self.old.writer).failures }
+        ensures sound { IsSound (world self.new.desk) }
+        ensures size { KeepsSize self.old.desk self.new.desk }
     {
-        prove!(self.has_one_size());
-        self.run_calls(calls)
+        prove!(self.is_sound());
+        let end = self.run_calls(calls);
+        prove!(self.is_sound());
+        end
     }
 
     fn run_calls(&mut self, calls: &[Call<'_>]) -> RunEnd
@@ -159,7 +190,7 @@ impl<W: Sink> Screen<W> {
             fault: None,
         };
         for call in calls {
-            match self.call(call) {
+            match self.make_call(call) {
                 Ok(reply) => {
                     end.done += 1;
                     end.composed += u128::from(cells_of(reply));

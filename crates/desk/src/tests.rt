@@ -209,13 +209,13 @@ fn a_run_stops_at_a_fault_and_the_next_one_repairs(rt: HostRuntime) -> Result<()
 
 #[test]
 fn sizes_past_the_limits_are_refused(rt: HostRuntime) -> Result<(), Fail> {
-    for (lines, cols) in [(0, 10), (4, 0), (256, 10), (4, 256), (1000, 1000)] {
+    for (lines, cols) in [(0, 10), (4, 0), (1000, 10), (4, 1000), (u16::MAX, u16::MAX)] {
         match screen(rt.alloc(), lines, cols) {
             Ok(_) => assert!(rt; false),
             Err(refusal) => assert_eq!(rt; refusal, Refusal::BadSize),
         }
     }
-    assert!(rt; screen(rt.alloc(), 255, 255).is_ok());
+    assert!(rt; screen(rt.alloc(), 999, 999).is_ok());
     Ok(())
 }
 
@@ -278,13 +278,54 @@ fn attributes_and_background_are_written(rt: HostRuntime) -> Result<(), Fail> {
         screen.writer().get_ref().as_slice(),
         b"\x1b[0m\x1b[2J\x1b[1;1H\x1b[1;1H\x1b[0;1;4ma.b\x1b[0;4m...\x1b[0m\x1b[1;4H".as_slice()
     );
-    let dot = Cell::new(b'.', Attr::BOLD | Attr::UNDERLINE).ok_or("no cell")?;
+    let dot = Cell::new(b'.', Attr::BOLD | Attr::UNDERLINE, 0).ok_or("no cell")?;
     let inch = Call::Query(Query::Inch { win });
     assert_eq!(rt; screen.call(&inch), Ok(Reply::Cell(dot)));
     let getyx = Call::Query(Query::Getyx { win });
     assert_eq!(rt; screen.call(&getyx), Ok(Reply::Pair(0, 1)));
     let getmaxyx = Call::Query(Query::Getmaxyx { win });
     assert_eq!(rt; screen.call(&getmaxyx), Ok(Reply::Pair(1, 6)));
+    Ok(())
+}
+
+#[test]
+fn colours_are_shown_by_the_next_picture(rt: HostRuntime) -> Result<(), Fail> {
+    let win = WinId(0);
+    let mut screen = screen(rt.alloc(), 1, 4)?;
+    let init_pair = |foreground| {
+        Call::Refresh(Refresh::InitPair {
+            pair: 1,
+            foreground,
+            background: 4,
+        })
+    };
+    let calls = [
+        init_pair(1),
+        Call::Writing(Writing::ColorSet { win, pair: 1 }),
+        addstr(0, b"ab"),
+        UPDATE[0],
+        UPDATE[1],
+        init_pair(2),
+        UPDATE[1],
+    ];
+    assert_eq!(rt; screen.run(&calls).done, 7);
+    let red = b"\x1b[0m\x1b[2J\x1b[1;1H\x1b[1;1H\x1b[0;31;44mab\x1b[0m  \x1b[1;3H".as_slice();
+    assert_eq!(rt; screen.writer().get_ref().get(..red.len()), Some(red));
+    assert_eq!(rt; screen.writer().get_ref().get(red.len()..), Some(red));
+    assert_eq!(rt; screen.run(&UPDATE).done, 2);
+    let green = b"\x1b[0m\x1b[2J\x1b[1;1H\x1b[1;1H\x1b[0;32;44mab\x1b[0m  \x1b[1;3H".as_slice();
+    assert_eq!(rt; screen.writer().get_ref().get(2 * red.len()..), Some(green));
+    let cell = Cell::new(b' ', Attr::NONE, 0).ok_or("no cell")?;
+    let inch = Call::Query(Query::Inch { win });
+    assert_eq!(rt; screen.call(&inch), Ok(Reply::Cell(cell)));
+    for (pair, foreground, background) in [(0, 1, 1), (64, 1, 1), (1, 8, 0), (1, 0, 8)] {
+        let call = Call::Refresh(Refresh::InitPair {
+            pair,
+            foreground,
+            background,
+        });
+        assert_eq!(rt; screen.call(&call), Err(Fault::Refused(Refusal::BadPair)));
+    }
     Ok(())
 }
 
@@ -304,7 +345,7 @@ update_panels\ndoupdate\ninch 2";
     );
     assert_eq!(rt;
         log.get_ref().as_slice(),
-        b"line 1: 1\nline 3: 2\nline 4: 1 3\nline 6: E3 OffScreen\nline 10: 32 00\n".as_slice()
+        b"line 1: 1\nline 3: 2\nline 4: 1 3\nline 6: E3 OffScreen\nline 10: 32 00 0\n".as_slice()
     );
     let sent = screen.writer().get_ref().as_slice();
     assert_eq!(rt; sent.len(), 84);

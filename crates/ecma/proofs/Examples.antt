@@ -1,7 +1,8 @@
 -- Worked streams on a terminal of 4 by 10, for a reader of the definitions.
-use Rattle.std.proofs.Common.{◌≡◌, [], ◌∷◌, ◌++◌, replicate, Option, Some, None, refl, arith}
+use Rattle.std.proofs.Common.{◌≡◌, ℕ, [], ◌∷◌, ◌++◌, replicate, Option, Some, None, refl, arith}
 use Rattle.std.specs.Prelude.{codes}
-use Rattle.cell.specs.Pictures.{Place, Rendition, shown_blank, shown_with, no_rendition, blank_picture, origin}
+use Rattle.cell.specs.Shown.{Rendition, shown_blank, shown_with, no_rendition}
+use Rattle.cell.specs.Pictures.{Place, blank_picture, origin}
 use Rattle.ecma.specs.Items.{Printable, Control, Unfinished, CUP, ED, EL, SGR, AreParameters, IsBeginning, escape}
 use Rattle.ecma.specs.Terminals.{Terminal, effect, effects, position, erasure, select_all, select}
 use Rattle.ecma.specs.Streams.{IsInProfile}
@@ -11,6 +12,9 @@ use Rattle.ecma.specs.declared.token.Erase.TheVariants.{ToEnd}
 -- a blank picture with its cursor and rendition
 blank_with : Option Place → Rendition → Terminal
 blank_with cursor rendition = record { picture = blank_picture 4 10; cursor = cursor; rendition = rendition }
+
+abbrev with_attributes : ℕ → Rendition
+with_attributes attributes = record no_rendition { attributes = attributes }
 
 new : Terminal
 unfolding blank_with
@@ -101,7 +105,7 @@ behind_last_column = refl
 -- ---- erasing
 
 -- E[7mE[2J: reverse, under which erasing has no effect
-reverse : effects (Control SGR (codes "7" ∷ []) ∷ []) new ≡ Some (blank_with (Some origin) 0x10)
+reverse : effects (Control SGR (codes "7" ∷ []) ∷ []) new ≡ Some (blank_with (Some origin) (with_attributes 0x10))
 unfolding new blank_with select
 reverse = refl
 
@@ -130,18 +134,40 @@ other_erasure = refl
 
 -- ---- renditions
 
--- E[1;4;22m is underline, and E[m nothing; E[31m is outside the profile
-underlined : select_all (1 ∷ 4 ∷ 22 ∷ []) no_rendition ≡ Some 0x04
+-- E[1;4;22m is underline, and E[m nothing
+underlined : select_all (1 ∷ 4 ∷ 22 ∷ []) no_rendition ≡ Some (with_attributes 0x04)
 unfolding select
 underlined = refl
 
-all_off : effect (Control SGR ([] ∷ [])) (blank_with None 0x3f) ≡ Some (blank_with None no_rendition)
+all_off : effect (Control SGR ([] ∷ [])) (blank_with None (with_attributes 0x3f)) ≡ Some (blank_with None no_rendition)
 unfolding blank_with select
 all_off = refl
 
-colour : effect (Control SGR (codes "31" ∷ [])) new ≡ None
+-- E[31m is red, E[31;44;39m a blue background, and E[0m ends both; E[38m and E[48m are outside the profile
+red : select_all (31 ∷ []) no_rendition ≡ Some (record no_rendition { foreground = Some 1 })
+unfolding select
+red = refl
+
+blue_background : select_all (31 ∷ 44 ∷ 39 ∷ []) no_rendition ≡ Some (record no_rendition { background = Some 4 })
+unfolding select
+blue_background = refl
+
+no_colours : select_all (37 ∷ 40 ∷ 0 ∷ []) no_rendition ≡ Some no_rendition
+unfolding select
+no_colours = refl
+
+other_foreground : select 38 no_rendition ≡ None
+unfolding select
+other_foreground = refl
+
+other_background : select 48 no_rendition ≡ None
+unfolding select
+other_background = refl
+
+-- E[41mE[2J: erasing has no effect under a colour
+erased_in_red : effects (Control SGR (codes "41" ∷ []) ∷ Control ED (codes "2" ∷ []) ∷ []) new ≡ None
 unfolding new blank_with select
-colour = refl
+erased_in_red = refl
 
 -- ---- differences
 

@@ -1,35 +1,71 @@
 -- How many bytes a token has.
-use Rattle.std.proofs.Common.{◌≡◌, ℕ, ◌+◌, ◌*◌, ◌<◌, ◌≤◌, true, List, [], ◌∷◌, length, arith, length-append}
-use Rattle.std.specs.Prelude.{nat_lt, decimal}
-use Rattle.std.specs.List.{list_all, flat_map}
+use Rattle.std.proofs.Common.{◌≡◌, ℕ, ◌+◌, ◌*◌, ◌<◌, ◌≤◌, List, [], ◌∷◌, ◌++◌, length, ap, ◌∙◌, arith, length-append}
+use Rattle.std.specs.Prelude.{decimal, Option, Some, None}
+use Rattle.std.specs.List.{AllByRecursion}
+use Rattle.std.proofs.lemmas.List.Concat.{flat_map-append}
 use Rattle.std.proofs.lemmas.Fmt.{length-decimal-le}
-use Rattle.std.proofs.lemmas.Bool.{and_parts, ltb-true}
-use Rattle.cell.specs.Attributes.{bits_of}
-use Rattle.cell.specs.declared.attr.Attr.{Attr}
-use Rattle.cell.specs.declared.limits.TheConstants.{LARGEST_SCREEN}
+use Rattle.cell.specs.Shown.{Rendition, IsColour, IsRendition}
+use Rattle.cell.specs.declared.limits.TheConstants.{LARGEST_SCREEN, LAST_COLOUR}
 use Rattle.ecma.specs.declared.token.Erase.{Erase}
 use Rattle.ecma.specs.declared.token.Erase.TheVariants.{ToEnd, FromStart, All}
 use Rattle.ecma.specs.declared.token.Token.{Token}
 use Rattle.ecma.specs.declared.token.Token.TheVariants.{Print, Cup, Sgr, El, Ed}
-use Rattle.ecma.specs.Spelling.{spelling, selection, codes_of, erasure_spelling, longest, IsToken}
-use Rattle.ecma.proofs.Numbers.{codes_small, codes_few}
+use Rattle.ecma.specs.Terminals.{first_foreground, first_background}
+use Rattle.ecma.specs.Spelling.{spelling, selection, codes_of, codes_of_attributes, code_of_colour, erasure_spelling, longest, IsToken}
+use Rattle.ecma.proofs.Numbers.{one_digit, few_attributes}
 
 pub length-cup : (line column : ℕ) → line < LARGEST_SCREEN → column < LARGEST_SCREEN → length (spelling (Cup line column)) ≤ 10
 unfolding spelling
 length-cup line column few_lines few_columns =
     simp length-append (omega (arith, length-decimal-le 3 (line + 1) (omega arith) (omega arith) (omega arith), length-decimal-le 3 (column + 1) (omega arith) (omega arith) (omega arith)))
 
-length-codes : (codes : List ℕ) → list_all (λ code. nat_lt code 10) codes ≡ true → length (flat_map (λ code. 59 ∷ decimal code) codes) ≤ 2 * length codes
+length-codes : (codes : List ℕ) → AllByRecursion (λ code. code < 10) codes → length (selection codes) ≤ 2 * length codes
 length-codes [] h = omega arith
 length-codes (code ∷ codes) h =
-    let parts = and_parts (nat_lt code 10) (list_all (λ code. nat_lt code 10) codes) h in
-    let small : code < 10 = ltb-true code 10 parts.0 in
-    omega (arith, length-append (59 ∷ decimal code) (flat_map (λ code. 59 ∷ decimal code) codes), length-decimal-le 1 code (omega arith) (omega arith) (omega arith), length-codes codes parts.1)
+    omega (arith, length-append (59 ∷ decimal code) (selection codes), length-decimal-le 1 code (omega arith) (omega arith) (omega (arith, h.0)), length-codes codes h.1)
 
-pub length-sgr : (attr : Attr) → length (spelling (Sgr attr)) ≤ 16
+pub two_digits : (first number : ℕ) (text : List ℕ) → first ≤ 40 → number ≤ LAST_COLOUR → text ≡ decimal (first + number) → length text ≤ 2
+two_digits first number text few small is = rw is (length-decimal-le 2 (first + number) (omega arith) (omega arith) (omega arith))
+
+pub three_digits : (n : ℕ) (text : List ℕ) → n < LARGEST_SCREEN → text ≡ decimal (n + 1) → length text ≤ 3
+three_digits n text few is = rw is (length-decimal-le 3 (n + 1) (omega arith) (omega arith) (omega arith))
+
+-- a separator and two digits
+pub length-colour : (first : ℕ) (colour : Option ℕ) → first ≤ 40 → IsColour colour → length (selection (code_of_colour first colour)) ≤ 3
+length-colour first None few h = omega arith
+length-colour first (Some number) few h =
+    omega (arith, length-append (59 ∷ decimal (first + number)) [], length-decimal-le 2 (first + number) (omega arith) (omega arith) (omega arith))
+
+pub selection-append : (a b : List ℕ) → selection (a ++ b) ≡ selection a ++ selection b
+selection-append a b = flat_map-append (λ code. 59 ∷ decimal code) a b
+
+-- what is sent of a rendition, part by part
+pub selection-codes_of : (rendition : Rendition) → selection (codes_of rendition)
+    ≡ selection (codes_of_attributes rendition.attributes) ++ selection (code_of_colour first_foreground rendition.foreground) ++ selection (code_of_colour first_background rendition.background)
+selection-codes_of rendition =
+    let foreground = code_of_colour first_foreground rendition.foreground in
+    let background = code_of_colour first_background rendition.background in
+    selection-append (codes_of_attributes rendition.attributes ++ foreground) background
+    ∙ ap (λ (text : List ℕ). text ++ selection background) (selection-append (codes_of_attributes rendition.attributes) foreground)
+
+pub length-sgr : (rendition : Rendition) → IsRendition rendition → length (spelling (Sgr rendition)) ≤ 22
 unfolding spelling
-length-sgr attr =
-    omega (arith, length-append (selection (bits_of attr)) (109 ∷ []), length-codes (codes_of (bits_of attr)) (codes_small (bits_of attr)), codes_few (bits_of attr))
+length-sgr rendition h =
+    let attributes = codes_of_attributes rendition.attributes in
+    let foreground = code_of_colour first_foreground rendition.foreground in
+    let background = code_of_colour first_background rendition.background in
+    let whole : length (selection (codes_of rendition)) ≡ length (selection attributes) + length (selection foreground) + length (selection background) =
+    ap (length {A = ℕ}) (selection-codes_of rendition)
+    ∙ omega (arith, length-append (selection attributes ++ selection foreground) (selection background), length-append (selection attributes) (selection foreground)) in
+    omega (
+      arith,
+      whole,
+      length-append (selection (codes_of rendition)) (109 ∷ []),
+      length-codes attributes (one_digit rendition.attributes h.of_the_six),
+      few_attributes rendition.attributes h.of_the_six,
+      length-colour first_foreground rendition.foreground (omega arith) h.foreground,
+      length-colour first_background rendition.background (omega arith) h.background,
+    )
 
 length-erasing : (how : Erase) → length (erasure_spelling how) ≤ 1
 length-erasing ToEnd = omega arith
@@ -40,6 +76,6 @@ pub length-spelling : (token : Token) → IsToken token → length (spelling tok
 unfolding spelling
 length-spelling (Print byte) h = omega arith
 length-spelling (Cup line column) h = length-cup line column h.0 h.1
-length-spelling (Sgr attr) h = length-sgr attr
+length-spelling (Sgr rendition) h = length-sgr rendition h
 length-spelling (El how) h = omega (arith, length-erasing how, length-append (erasure_spelling how) (75 ∷ []))
 length-spelling (Ed how) h = omega (arith, length-erasing how, length-append (erasure_spelling how) (74 ∷ []))

@@ -1,17 +1,18 @@
 -- Numbers in parameters, and the codes of a set of attributes.
-use Rattle.std.proofs.Common.{◌≡◌, ℕ, ◌^◌, ◌<◌, Bool, true, subst, List, [], ◌∷◌, length, Option, Some, None, refl, ap, ◌∙◌, arith, rules}
-use Rattle.std.specs.Prelude.{unwrap_or, ◌&&◌, ◌==◌, nat_lt, decimal}
+use Rattle.std.proofs.Common.{◌≡◌, ℕ, ◌+◌, ◌^◌, ◌<◌, ◌≤◌, Bool, true, List, [], ◌∷◌, ◌++◌, length, length-append, Option, Some, None, refl, ap, ◌∙◌, arith, rules}
+use Rattle.std.specs.Prelude.{unwrap_or, is_none, ◌&&◌, ◌==◌, nat_lt, decimal}
 use Rattle.std.specs.List.{list_all, AllByRecursion}
 use Rattle.std.specs.Str.Parse.{digits_value}
 use Rattle.std.proofs.lemmas.Str.Parse.{IsNumeralModel, numerals_by_value}
 use Rattle.std.proofs.lemmas.Fmt.{decimal_nonempty, digits_decimal, digits_value-decimal}
 use Rattle.std.proofs.lemmas.Bool.{and_parts, ltb-true, eqb-true, agree_below_at}
-use Rattle.std.proofs.lemmas.Nat.{and_le_r, and_assoc}
-use Rattle.cell.specs.Attributes.{known}
-use Rattle.cell.specs.Pictures.{no_rendition}
+use Rattle.std.specs.Option.{option_map_or, option_and_then}
+use Rattle.std.proofs.lemmas.Bool.Decides.{nat_tests}
+use Rattle.cell.specs.Shown.{Rendition, IsColour, IsRendition, no_rendition}
+use Rattle.cell.specs.declared.limits.TheConstants.{LAST_COLOUR}
 use Rattle.ecma.specs.Items.{IsDigit}
-use Rattle.ecma.specs.Terminals.{number_or, select, select_all}
-use Rattle.ecma.specs.Spelling.{codes_of}
+use Rattle.ecma.specs.Terminals.{first_foreground, first_background, number_or, select, select_all}
+use Rattle.ecma.specs.Spelling.{codes_of_attributes, code_of_colour, codes_of}
 
 numerals : IsNumeralModel (AllByRecursion IsDigit) (digits_value 10)
 numerals = numerals_by_value (AllByRecursion IsDigit) (search rules)
@@ -28,41 +29,145 @@ number_or-decimal default n fits = number_or-digits default (decimal n) (decimal
 
 -- ---- codes of attributes
 
--- the attributes that the codes select, or a number that no known attributes are
-selected : List ℕ → ℕ
-selected codes = unwrap_or (select_all codes no_rendition) 0x40
+-- a rendition with attributes that no known ones are
+unknown : Rendition
+unknown = record no_rendition { attributes = 0x40 }
+
+-- what the codes select
+selected : List ℕ → Rendition
+unfolding unknown
+selected codes = unwrap_or (select_all codes no_rendition) unknown
+
+-- the rendition has these attributes and no colours
+abbrev has_only : Rendition → ℕ → Bool
+has_only rendition bits = (rendition.attributes == bits) && (is_none rendition.foreground && is_none rendition.background)
 
 -- each code has one digit, there are six at most, and selecting them gives the attributes
 abbrev is_spelled : List ℕ → ℕ → Bool
-is_spelled codes bits = list_all (λ code. nat_lt code 10) codes && nat_lt (length codes) 7 && (selected codes == bits)
+is_spelled codes bits = list_all (λ code. nat_lt code 10) codes && nat_lt (length codes) 7 && has_only (selected codes) bits
 
-is_spelled_below : (bits : ℕ) → bits < 64 → is_spelled (codes_of bits) bits ≡ true
-unfolding codes_of select selected
-is_spelled_below bits fits = agree_below_at (λ (n : ℕ). is_spelled (codes_of n) n) (λ _. true) 64 bits refl fits
+is_spelled_below : (bits : ℕ) → bits < 64 → is_spelled (codes_of_attributes bits) bits ≡ true
+unfolding codes_of_attributes select selected unknown
+is_spelled_below bits fits = agree_below_at (λ (n : ℕ). is_spelled (codes_of_attributes n) n) (λ _. true) 64 bits refl fits
 
-pub known_small : (bits : ℕ) → known bits < 64
-known_small bits = grind (arith, and_le_r bits 0x3f)
+none_from_is_none : (o : Option ℕ) → is_none o ≡ true → o ≡ None
+none_from_is_none None h = refl
+none_from_is_none (Some n) h = absurd cc
 
--- bits beyond the six have no codes
-pub codes_of-known : (bits : ℕ) → codes_of (known bits) ≡ codes_of bits
-unfolding codes_of
-codes_of-known bits = simp and_assoc
+-- a rendition of these attributes alone
+abbrev only : ℕ → Rendition
+only bits = record { attributes = bits; foreground = None; background = None }
 
-is_spelled_known : (bits : ℕ) → is_spelled (codes_of bits) (known bits) ≡ true
-is_spelled_known bits = subst (λ (codes : List ℕ). is_spelled codes (known bits) ≡ true) (codes_of-known bits) (is_spelled_below (known bits) (known_small bits))
+only_from : (rendition : Rendition) (bits : ℕ) → has_only rendition bits ≡ true → rendition ≡ only bits
+only_from rendition bits h =
+    let parts = and_parts (rendition.attributes == bits) (is_none rendition.foreground && is_none rendition.background) h in
+    let colours = and_parts (is_none rendition.foreground) (is_none rendition.background) parts.1 in
+    let attributes : rendition.attributes ≡ bits = eqb-true rendition.attributes bits parts.0 in
+    let foreground = none_from_is_none rendition.foreground colours.0 in
+    let background = none_from_is_none rendition.background colours.1 in
+    λ i. record { attributes = attributes i; foreground = foreground i; background = background i }
 
-some_from_selected : (o : Option ℕ) (n : ℕ) → n < 64 → unwrap_or o 0x40 ≡ n → o ≡ Some n
-some_from_selected None n small e = absurd (omega arith)
-some_from_selected (Some m) n small e = ap Some e
+some_from_selected : (o : Option Rendition) (bits : ℕ) → bits < 64 → unwrap_or o unknown ≡ only bits → o ≡ Some (only bits)
+unfolding unknown
+some_from_selected None bits small e = absurd (let same : 0x40 ≡ bits = ap (λ (r : Rendition). r.attributes) e in omega arith)
+some_from_selected (Some rendition) bits small e = ap Some e
 
-pub select_all-codes_of : (bits : ℕ) → select_all (codes_of bits) no_rendition ≡ Some (known bits)
+pub select_all-attributes : (bits : ℕ) → bits < 64 → select_all (codes_of_attributes bits) no_rendition ≡ Some (only bits)
 unfolding selected
-select_all-codes_of bits =
-    let parts = and_parts _ _ (is_spelled_known bits) in
-    some_from_selected (select_all (codes_of bits) no_rendition) (known bits) (known_small bits) (eqb-true _ _ parts.1)
+select_all-attributes bits small =
+    let parts = and_parts (list_all (λ code. nat_lt code 10) (codes_of_attributes bits) && nat_lt (length (codes_of_attributes bits)) 7) (has_only (selected (codes_of_attributes bits)) bits) (is_spelled_below bits small) in
+    some_from_selected (select_all (codes_of_attributes bits) no_rendition) bits small (only_from (selected (codes_of_attributes bits)) bits parts.1)
 
-pub codes_small : (bits : ℕ) → list_all (λ code. nat_lt code 10) (codes_of bits) ≡ true
-codes_small bits = (and_parts _ _ (and_parts _ _ (is_spelled_known bits)).0).0
+small_attributes : (bits : ℕ) → bits < 64 → list_all (λ code. nat_lt code 10) (codes_of_attributes bits) ≡ true
+small_attributes bits small = (and_parts _ _ (and_parts _ _ (is_spelled_below bits small)).0).0
 
-pub codes_few : (bits : ℕ) → length (codes_of bits) < 7
-codes_few bits = ltb-true _ _ (and_parts _ _ (and_parts _ _ (is_spelled_known bits)).0).1
+pub few_attributes : (bits : ℕ) → bits < 64 → length (codes_of_attributes bits) < 7
+few_attributes bits small = ltb-true _ _ (and_parts _ _ (and_parts _ _ (is_spelled_below bits small)).0).1
+
+pub one_digit : (bits : ℕ) → bits < 64 → AllByRecursion (λ code. code < 10) (codes_of_attributes bits)
+one_digit bits small = each_small (codes_of_attributes bits) (small_attributes bits small) where
+  each_small : (codes : List ℕ) → list_all (λ code. nat_lt code 10) codes ≡ true → AllByRecursion (λ code. code < 10) codes
+  each_small [] h = tt
+  each_small (code ∷ codes) h =
+      let parts = and_parts (nat_lt code 10) (list_all (λ code. nat_lt code 10) codes) h in
+      (ltb-true code 10 parts.0, each_small codes parts.1)
+
+-- ---- codes of colours
+
+select-foreground : (number : ℕ) (rendition : Rendition) → number ≤ LAST_COLOUR → select (first_foreground + number) rendition ≡ Some (record rendition { foreground = Some number })
+unfolding select
+select-foreground number rendition small = grind (arith, nat_tests)
+
+select-background : (number : ℕ) (rendition : Rendition) → number ≤ LAST_COLOUR → select (first_background + number) rendition ≡ Some (record rendition { background = Some number })
+unfolding select
+select-background number rendition small = grind (arith, nat_tests)
+
+foreground-selected : (foreground : Option ℕ) (bits : ℕ) → IsColour foreground
+    → select_all (code_of_colour first_foreground foreground) (only bits) ≡ Some (record { attributes = bits; foreground = foreground; background = None })
+foreground-selected None bits h = refl
+foreground-selected (Some number) bits h = rw (select-foreground number (only bits) h) refl
+
+background-selected : (foreground background : Option ℕ) (bits : ℕ) → IsColour background
+    → select_all (code_of_colour first_background background) (record { attributes = bits; foreground = foreground; background = None })
+    ≡ Some (record { attributes = bits; foreground = foreground; background = background })
+background-selected foreground None bits h = refl
+background-selected foreground (Some number) bits h = rw (select-background number (record { attributes = bits; foreground = foreground; background = None }) h) refl
+
+-- ---- all codes
+
+then_append : (codes more : List ℕ) (o : Option Rendition) → ((next : Rendition) → select_all (codes ++ more) next ≡ option_and_then (select_all more) (select_all codes next))
+    → option_and_then (select_all (codes ++ more)) o ≡ option_and_then (select_all more) (option_and_then (select_all codes) o)
+then_append codes more None h = refl
+then_append codes more (Some next) h = h next
+
+select_all-append : (codes more : List ℕ) (rendition : Rendition) → select_all (codes ++ more) rendition ≡ option_and_then (select_all more) (select_all codes rendition)
+select_all-append [] more rendition = refl
+select_all-append (code ∷ codes) more rendition = then_append codes more (select code rendition) (λ next. select_all-append codes more next)
+
+pub select_all-codes_of : (rendition : Rendition) → IsRendition rendition → select_all (codes_of rendition) no_rendition ≡ Some rendition
+select_all-codes_of rendition h =
+    let bits = rendition.attributes in
+    let foreground = code_of_colour first_foreground rendition.foreground in
+    let background = code_of_colour first_background rendition.background in
+    select_all-append (codes_of_attributes bits ++ foreground) background no_rendition
+    ∙ ap (option_and_then (select_all background))
+    (select_all-append (codes_of_attributes bits) foreground no_rendition
+    ∙ ap (option_and_then (select_all foreground)) (select_all-attributes bits h.of_the_six)
+    ∙ foreground-selected rendition.foreground bits h.foreground)
+    ∙ background-selected rendition.foreground rendition.background bits h.background
+
+each-append : (P : ℕ → Type 0) (a b : List ℕ) → AllByRecursion P a → AllByRecursion P b → AllByRecursion P (a ++ b)
+each-append P [] b h k = k
+each-append P (x ∷ a) b h k = (h.0, each-append P a b h.1 k)
+
+small-colour : (first : ℕ) (colour : Option ℕ) → first ≤ 40 → IsColour colour → AllByRecursion (λ code. code < 100) (code_of_colour first colour)
+small-colour first None few h = tt
+small-colour first (Some number) few h = (omega arith, tt)
+
+wider : (codes : List ℕ) → AllByRecursion (λ code. code < 10) codes → AllByRecursion (λ code. code < 100) codes
+wider [] h = tt
+wider (code ∷ codes) h = (omega (arith, h.0), wider codes h.1)
+
+pub codes_small : (rendition : Rendition) → IsRendition rendition → AllByRecursion (λ code. code < 100) (codes_of rendition)
+codes_small rendition h =
+    each-append _ (codes_of_attributes rendition.attributes ++ code_of_colour first_foreground rendition.foreground) _
+    (each-append _ (codes_of_attributes rendition.attributes) _ (wider _ (one_digit rendition.attributes h.of_the_six))
+    (small-colour first_foreground rendition.foreground (omega arith) h.foreground))
+    (small-colour first_background rendition.background (omega arith) h.background)
+
+length-colour : (first : ℕ) (colour : Option ℕ) → length (code_of_colour first colour) ≤ 1
+length-colour first None = omega arith
+length-colour first (Some number) = omega arith
+
+pub codes_few : (rendition : Rendition) → IsRendition rendition → length (codes_of rendition) < 9
+codes_few rendition h =
+    let foreground = code_of_colour first_foreground rendition.foreground in
+    let background = code_of_colour first_background rendition.background in
+    omega (
+      arith,
+      few_attributes rendition.attributes h.of_the_six,
+      length-append (codes_of_attributes rendition.attributes ++ foreground) background,
+      length-append (codes_of_attributes rendition.attributes) foreground,
+      length-colour first_foreground rendition.foreground,
+      length-colour first_background rendition.background,
+    )

@@ -1,9 +1,10 @@
 -- No effect changes the size of the picture.
-use Rattle.std.proofs.Common.{◌≡◌, ℕ, zero, suc, ◌+◌, ◌<◌, Bool, true, false, cond, eqb, List, [], ◌∷◌, ◌++◌, length, set, take, drop, map, Option, Some, None, ◌∙◌, subst, arith, length-append, length-take, length-drop}
+use Rattle.std.proofs.Common.{◌≡◌, ℕ, zero, suc, ◌+◌, ◌<◌, Bool, true, false, cond, List, [], ◌∷◌, ◌++◌, length, set, take, drop, map, Option, Some, None, ◌∙◌, subst, arith, length-append, length-take, length-drop}
 use Rattle.std.specs.Option.{option_map, option_and_then}
 use Rattle.std.specs.List.{AllByRecursion}
 use Rattle.std.proofs.lemmas.List.{length-set, length-map}
-use Rattle.cell.specs.Pictures.{Picture, Place, Shown, shown_blank, shown_with, line_of, is_place, HasSize}
+use Rattle.cell.specs.Shown.{Shown, shown_blank, shown_with, is_empty}
+use Rattle.cell.specs.Pictures.{Picture, Place, line_of, is_place, HasSize}
 use Rattle.ecma.specs.declared.token.Erase.{Erase}
 use Rattle.ecma.specs.declared.token.Erase.TheVariants.{ToEnd, FromStart, All}
 use Rattle.ecma.specs.Items.{Item, Printable, Control, Unfinished, CUP, ED, EL, SGR}
@@ -95,9 +96,9 @@ keeps-cond lines columns true o h = h
 keeps-cond lines columns false o h = keeps-none lines columns
 
 size-erase_page : (lines columns : ℕ) (how : Erase) (t : Terminal) → HasSize lines columns t.picture → Keeps lines columns (erase_page how t)
-size-erase_page lines columns ToEnd t h = keeps-cond lines columns (eqb t.rendition 0) _ (keeps-map lines columns (λ place. record t { picture = erased_page ToEnd place t.picture }) t.cursor (λ place. size-erased_page lines columns ToEnd place t.picture h))
-size-erase_page lines columns FromStart t h = keeps-cond lines columns (eqb t.rendition 0) _ (keeps-map lines columns (λ place. record t { picture = erased_page FromStart place t.picture }) t.cursor (λ place. size-erased_page lines columns FromStart place t.picture h))
-size-erase_page lines columns All t h = keeps-cond lines columns (eqb t.rendition 0) _ (keeps-some lines columns (record t { picture = map blanked t.picture }) (size-erased_page lines columns All (0, 0) t.picture h))
+size-erase_page lines columns ToEnd t h = keeps-cond lines columns (is_empty t.rendition) _ (keeps-map lines columns (λ place. record t { picture = erased_page ToEnd place t.picture }) t.cursor (λ place. size-erased_page lines columns ToEnd place t.picture h))
+size-erase_page lines columns FromStart t h = keeps-cond lines columns (is_empty t.rendition) _ (keeps-map lines columns (λ place. record t { picture = erased_page FromStart place t.picture }) t.cursor (λ place. size-erased_page lines columns FromStart place t.picture h))
+size-erase_page lines columns All t h = keeps-cond lines columns (is_empty t.rendition) _ (keeps-some lines columns (record t { picture = map blanked t.picture }) (size-erased_page lines columns All (0, 0) t.picture h))
 
 size-effect : (lines columns : ℕ) (item : Item) (t : Terminal) → HasSize lines columns t.picture → Keeps lines columns (effect item t)
 size-effect lines columns (Printable byte) t h = keeps-map lines columns (printed byte t) t.cursor
@@ -106,7 +107,7 @@ size-effect lines columns (Control CUP parameters) t h = keeps-then lines column
     (λ place. keeps-cond lines columns (is_place t.picture place) (Some (record t { cursor = Some place })) (keeps-some lines columns (record t { cursor = Some place }) h))
 size-effect lines columns (Control ED parameters) t h = keeps-then lines columns (λ how. erase_page how t) (erasure parameters) (λ how. size-erase_page lines columns how t h)
 size-effect lines columns (Control EL parameters) t h = keeps-then lines columns (λ how. erase_line how t) (erasure parameters)
-    (λ how. keeps-cond lines columns (eqb t.rendition 0) _ (keeps-map lines columns (λ place. record t { picture = erased_at how place t.picture }) t.cursor (λ place. size-erased_at lines columns how place t.picture h)))
+    (λ how. keeps-cond lines columns (is_empty t.rendition) _ (keeps-map lines columns (λ place. record t { picture = erased_at how place t.picture }) t.cursor (λ place. size-erased_at lines columns how place t.picture h)))
 size-effect lines columns (Control SGR parameters) t h = keeps-map lines columns (λ rendition. record t { rendition = rendition }) (select_all (map (number_or 0) parameters) t.rendition) (λ rendition. h)
 size-effect lines columns (Unfinished begun) t h = keeps-some lines columns t h
 

@@ -1,13 +1,11 @@
 -- The spelling of a token is one item, with the token's effect.
-use Rattle.std.proofs.Common.{◌≡◌, ℕ, ◌+◌, ◌-◌, ◌<◌, ◌≤◌, Bool, true, List, [], ◌∷◌, ◌++◌, length, map, Some, refl, sym, ap, arith}
+use Rattle.std.proofs.Common.{◌≡◌, ℕ, ◌+◌, ◌-◌, ◌<◌, ◌≤◌, List, [], ◌∷◌, ◌++◌, length, map, Some, refl, sym, ap, arith}
 use Rattle.std.proofs.lemmas.List.{length-map, append-nil}
-use Rattle.std.specs.Prelude.{nat_lt, decimal}
-use Rattle.std.specs.List.{list_all, AllByRecursion, join_with_byte, flat_map}
+use Rattle.std.specs.Prelude.{decimal}
+use Rattle.std.specs.List.{AllByRecursion, join_with_byte, flat_map}
 use Rattle.std.proofs.lemmas.Fmt.{length-decimal-le}
-use Rattle.std.proofs.lemmas.Bool.{and_parts, ltb-true, lt-ltb}
-use Rattle.cell.specs.Attributes.{bits_of}
-use Rattle.cell.specs.Pictures.{Rendition, no_rendition}
-use Rattle.cell.specs.declared.attr.Attr.{Attr}
+use Rattle.std.proofs.lemmas.Bool.{lt-ltb}
+use Rattle.cell.specs.Shown.{Rendition, IsRendition, no_rendition}
 use Rattle.ecma.specs.declared.token.Erase.{Erase}
 use Rattle.ecma.specs.declared.token.Erase.TheVariants.{ToEnd, FromStart, All}
 use Rattle.ecma.specs.declared.token.Token.{Token}
@@ -17,8 +15,8 @@ use Rattle.ecma.specs.Terminals.{number_or, select, erasure_of, place_from_one}
 use Rattle.ecma.specs.Spelling.{codes_of, spelling, erasure_spelling, IsToken, IsItemOf}
 use Rattle.ecma.proofs.Numbers.{are_digits-decimal, number_or-decimal, select_all-codes_of, codes_small, codes_few}
 
-abbrev small : List ℕ → Bool
-small codes = list_all (λ code. nat_lt code 10) codes
+abbrev AreSmall : List ℕ → Type 0
+AreSmall codes = AllByRecursion (λ code. code < 100) codes
 
 -- ---- the parameters of SGR
 
@@ -26,28 +24,25 @@ joined-decimals : (first : List ℕ) (codes : List ℕ) → join_with_byte 59 (f
 joined-decimals first [] = sym (append-nil first)
 joined-decimals first (code ∷ codes) = ap (λ (rest : List ℕ). first ++ 59 ∷ rest) (joined-decimals (decimal code) codes)
 
-numbers-decimal : (codes : List ℕ) → small codes ≡ true → map (number_or 0) (map decimal codes) ≡ codes
+numbers-decimal : (codes : List ℕ) → AreSmall codes → map (number_or 0) (map decimal codes) ≡ codes
 numbers-decimal [] h = refl
 numbers-decimal (code ∷ codes) h =
-    let parts = and_parts (nat_lt code 10) (small codes) h in
-    let lt : code < 10 = ltb-true code 10 parts.0 in
+    let lt : code < 100 = h.0 in
     let first : number_or 0 (decimal code) ≡ code = number_or-decimal 0 code (omega arith) in
-    let others : map (number_or 0) (map decimal codes) ≡ codes = numbers-decimal codes parts.1 in
+    let others : map (number_or 0) (map decimal codes) ≡ codes = numbers-decimal codes h.1 in
     cc
 
-digits-decimals : (codes : List ℕ) → small codes ≡ true → AllByRecursion (AllByRecursion IsDigit) (map decimal codes)
+digits-decimals : (codes : List ℕ) → AreSmall codes → AllByRecursion (AllByRecursion IsDigit) (map decimal codes)
 digits-decimals [] h = tt
 digits-decimals (code ∷ codes) h =
-    let parts = and_parts (nat_lt code 10) (small codes) h in
-    let lt : code < 10 = ltb-true code 10 parts.0 in
-    (are_digits-decimal code (omega arith), digits-decimals codes parts.1)
+    let lt : code < 100 = h.0 in
+    (are_digits-decimal code (omega arith), digits-decimals codes h.1)
 
-short-decimals : (codes : List ℕ) → small codes ≡ true → AllByRecursion (λ digits. length digits ≤ 3) (map decimal codes)
+short-decimals : (codes : List ℕ) → AreSmall codes → AllByRecursion (λ digits. length digits ≤ 3) (map decimal codes)
 short-decimals [] h = tt
 short-decimals (code ∷ codes) h =
-    let parts = and_parts (nat_lt code 10) (small codes) h in
-    let lt : code < 10 = ltb-true code 10 parts.0 in
-    (length-decimal-le 3 code (omega arith) (omega arith) (omega arith), short-decimals codes parts.1)
+    let lt : code < 100 = h.0 in
+    (length-decimal-le 3 code (omega arith) (omega arith) (omega arith), short-decimals codes h.1)
 
 -- ---- each kind of token
 
@@ -79,21 +74,21 @@ select-zero : (rendition : Rendition) → select 0 rendition ≡ Some no_renditi
 unfolding select
 select-zero rendition = refl
 
-sgr : (attr : Attr) → IsItemOf (spelling (Sgr attr)) (Sgr attr)
+sgr : (rendition : Rendition) → IsRendition rendition → IsItemOf (spelling (Sgr rendition)) (Sgr rendition)
 unfolding spelling
-sgr attr =
-    let fine : small (codes_of (bits_of attr)) ≡ true = codes_small (bits_of attr) in
+sgr rendition h =
+    let fine : AreSmall (codes_of rendition) = codes_small rendition h in
     record {
-      item = Control SGR ((48 ∷ []) ∷ map decimal (codes_of (bits_of attr)));
+      item = Control SGR ((48 ∷ []) ∷ map decimal (codes_of rendition));
       well_formed = record {
         one = omega arith;
-        most = omega (arith, codes_few (bits_of attr), length-map (codes_of (bits_of attr)) decimal);
-        digits = ((((omega arith), (omega arith)), tt), digits-decimals (codes_of (bits_of attr)) fine);
-        short = (omega arith, short-decimals (codes_of (bits_of attr)) fine);
+        most = omega (arith, codes_few rendition h, length-map (codes_of rendition) decimal);
+        digits = ((((omega arith), (omega arith)), tt), digits-decimals (codes_of rendition) fine);
+        short = (omega arith, short-decimals (codes_of rendition) fine);
       };
       finished = tt;
-      spelled = ap (λ (text : List ℕ). 27 ∷ 91 ∷ text ++ 109 ∷ []) (sym (joined-decimals (48 ∷ []) (codes_of (bits_of attr))));
-      same_effect = λ t. rw (numbers-decimal (codes_of (bits_of attr)) fine, select-zero t.rendition, select_all-codes_of (bits_of attr)) refl;
+      spelled = ap (λ (text : List ℕ). 27 ∷ 91 ∷ text ++ 109 ∷ []) (sym (joined-decimals (48 ∷ []) (codes_of rendition)));
+      same_effect = λ t. rw (numbers-decimal (codes_of rendition) fine, select-zero t.rendition, select_all-codes_of rendition h) refl;
     }
 
 erasure_of-spelling : (how : Erase) → erasure_of (number_or 0 (erasure_spelling how)) ≡ Some how
@@ -110,7 +105,7 @@ pub is_item_of : (token : Token) → IsToken token → IsItemOf (spelling token)
 unfolding spelling
 is_item_of (Print byte) h = record { item = Printable byte; well_formed = h; finished = tt; spelled = refl; same_effect = λ t. refl }
 is_item_of (Cup line column) h = cup line column h
-is_item_of (Sgr attr) h = sgr attr
+is_item_of (Sgr rendition) h = sgr rendition h
 is_item_of (El how) h = record { item = Control EL (erasure_spelling how ∷ []); well_formed = erasing how; finished = tt; spelled = refl; same_effect = λ t. rw (erasure_of-spelling how) refl }
 is_item_of (Ed how) h = record { item = Control ED (erasure_spelling how ∷ []); well_formed = erasing how; finished = tt; spelled = refl; same_effect = λ t. rw (erasure_of-spelling how) refl }
 

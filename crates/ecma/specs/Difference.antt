@@ -1,9 +1,17 @@
 -- In how many places two pictures of one size differ, a measure of our own.
-use Rattle.std.specs.Prelude.{ℕ, ◌+◌, ◌==◌, ◌&&◌, if◌then◌else◌, Bool, [], ◌∷◌, List}
-use Rattle.cell.specs.Pictures.{Picture, Shown}
+use Rattle.std.specs.Prelude.{ℕ, ◌+◌, ◌==◌, ◌&&◌, if◌then◌else◌, Bool, [], ◌∷◌, List, Option}
+use Rattle.std.specs.Option.{option_eq}
+use Rattle.cell.specs.Shown.{Rendition, Shown}
+use Rattle.cell.specs.Pictures.{Picture}
+
+abbrev pub same_colour : Option ℕ → Option ℕ → Bool
+same_colour a b = option_eq (λ m n. m == n) a b
+
+abbrev pub same_rendition : Rendition → Rendition → Bool
+same_rendition a b = a.attributes == b.attributes && (same_colour a.foreground b.foreground && same_colour a.background b.background)
 
 abbrev pub same_shown : Shown → Shown → Bool
-same_shown a b = a.character == b.character && a.attributes == b.attributes
+same_shown a b = a.character == b.character && same_rendition a.rendition b.rendition
 
 -- in how many columns two lines differ
 abbrev pub line_difference : List Shown → List Shown → ℕ

@@ -1,13 +1,14 @@
 -- The one spelling of each token, and what a token does to a terminal.
 -- ECMA-48, 5th edition: 5.4, 8.3.21 CUP, 8.3.39 ED, 8.3.41 EL, 8.3.117 SGR.
 use Rattle.std.specs.Prelude.{◌≡◌, ◌==◌, ℕ, ◌+◌, ◌<◌, List, [], ◌∷◌, ◌++◌, if◌then◌else◌, decimal, Option, Some, IsTrue, ⊤}
+use Rattle.std.specs.Option.{option_map_or}
 use Rattle.std.specs.List.{flat_map}
 use Rattle.std.specs.Int.RustNames.{bit_and}
-use Rattle.cell.specs.Attributes.{known, bits_of}
 use Rattle.cell.specs.Glyphs.{is_printable}
+use Rattle.cell.specs.Shown.{Rendition, IsRendition}
 use Rattle.cell.specs.declared.limits.TheConstants.{LARGEST_SCREEN}
 use Rattle.ecma.specs.Items.{CUP, ED, EL, SGR, separator, control_sequence, Item, IsItem, IsFinished, bytes_of}
-use Rattle.ecma.specs.Terminals.{Terminal, print, move_to, erase_line, erase_page, effect}
+use Rattle.ecma.specs.Terminals.{Terminal, first_foreground, first_background, print, move_to, erase_line, erase_page, effect}
 use Rattle.ecma.specs.declared.token.Erase.{Erase}
 use Rattle.ecma.specs.declared.token.Erase.TheVariants.{ToEnd, FromStart, All}
 use Rattle.ecma.specs.declared.token.Token.{Token}
@@ -18,12 +19,23 @@ abbrev pub attribute_codes : List (ℕ × ℕ)
 attribute_codes = (0x01, 1) ∷ (0x02, 2) ∷ (0x04, 4) ∷ (0x08, 5) ∷ (0x10, 7) ∷ (0x20, 8) ∷ []
 
 -- the codes of the attributes of a set; other bits have none
-unfoldable pub codes_of : ℕ → List ℕ
-codes_of bits = flat_map (λ entry. if bit_and bits entry.0 == entry.0 then entry.1 ∷ [] else []) attribute_codes
+unfoldable pub codes_of_attributes : ℕ → List ℕ
+codes_of_attributes bits = flat_map (λ entry. if bit_and bits entry.0 == entry.0 then entry.1 ∷ [] else []) attribute_codes
 
--- the codes, each behind a separator
-abbrev pub selection : ℕ → List ℕ
-selection bits = flat_map (λ code. separator ∷ decimal code) (codes_of bits)
+-- the code of a colour, where black has the first; the default has none
+abbrev pub code_of_colour : ℕ → Option ℕ → List ℕ
+code_of_colour first colour = option_map_or (λ number. (first + number) ∷ []) colour []
+
+-- the codes of a rendition, in ascending order
+abbrev pub codes_of : Rendition → List ℕ
+codes_of rendition =
+    codes_of_attributes rendition.attributes
+    ++ code_of_colour first_foreground rendition.foreground
+    ++ code_of_colour first_background rendition.background
+
+-- codes, each behind a separator
+abbrev pub selection : List ℕ → List ℕ
+selection codes = flat_map (λ code. separator ∷ decimal code) codes
 
 -- nothing, 1 or 2
 abbrev pub erasure_spelling : Erase → List ℕ
@@ -31,11 +43,11 @@ erasure_spelling ToEnd = []
 erasure_spelling FromStart = 49 ∷ []
 erasure_spelling All = 50 ∷ []
 
--- a position counts from 1, and a selection begins with the 0 that ends all attributes
+-- a position counts from 1, and a selection begins with the 0 that ends all attributes and colours
 unfoldable pub spelling : Token → List ℕ
 spelling (Print byte) = byte ∷ []
 spelling (Cup line column) = control_sequence CUP (decimal (line + 1) ++ separator ∷ decimal (column + 1))
-spelling (Sgr attr) = control_sequence SGR (48 ∷ selection (bits_of attr))
+spelling (Sgr rendition) = control_sequence SGR (48 ∷ selection (codes_of rendition))
 spelling (El how) = control_sequence EL (erasure_spelling how)
 spelling (Ed how) = control_sequence ED (erasure_spelling how)
 
@@ -43,23 +55,24 @@ spelling (Ed how) = control_sequence ED (erasure_spelling how)
 abbrev pub longest : Token → ℕ
 longest (Print byte) = 1
 longest (Cup line column) = 10
-longest (Sgr attr) = 16
+longest (Sgr rendition) = 22
 longest (El how) = 4
 longest (Ed how) = 4
 
--- what a token does to a terminal; of a set of attributes the six count
+-- what a token does to a terminal
 abbrev pub token_effect : Token → Terminal → Option Terminal
 token_effect (Print byte) t = print byte t
 token_effect (Cup line column) t = move_to (line, column) t
-token_effect (Sgr attr) t = Some (record t { rendition = known (bits_of attr) })
+token_effect (Sgr rendition) t = Some (record t { rendition = rendition })
 token_effect (El how) t = erase_line how t
 token_effect (Ed how) t = erase_page how t
 
--- what can be spelled: a byte that a cell can hold, a line and a column of the largest screen, any attributes, any erasure
+-- what can be spelled: a byte that a cell can hold, a line and a column of the largest screen, attributes of the six with colours of
+-- the eight, any erasure
 abbrev pub IsToken : Token → Type 0
 IsToken (Print byte) = IsTrue (is_printable byte)
 IsToken (Cup line column) = (line < LARGEST_SCREEN) × (column < LARGEST_SCREEN)
-IsToken (Sgr attr) = ⊤
+IsToken (Sgr rendition) = IsRendition rendition
 IsToken (El how) = ⊤
 IsToken (Ed how) = ⊤
 

@@ -2,7 +2,8 @@
 -- ECMA-48, 5th edition: 5.4 for its items, and 8.3.21 CUP, 8.3.39 ED, 8.3.41 EL, 8.3.117 SGR for their effects.
 use Rattle.std.specs.Prelude.{◌≡◌, ℕ, ◌+◌, ◌<◌, ◌≤◌, List, [], ◌∷◌, length, Some, ⊤}
 use Rattle.std.specs.List.{AllByRecursion}
-use Rattle.cell.specs.Pictures.{Picture, Place, no_rendition}
+use Rattle.cell.specs.Shown.{no_rendition}
+use Rattle.cell.specs.Pictures.{Picture, Place}
 use Rattle.ecma.specs.Items.{Item, Splits, IsFinished}
 use Rattle.ecma.specs.Terminals.{Terminal, effects}
 
@@ -46,7 +47,7 @@ pub record LeadsWithBreaks (stream : List ℕ) (first last : Terminal) : Type 0 
   pub ends_finished : EndsFinished items
   pub have_effect : effects items first ≡ Some last
 
--- the terminal that shows this picture with the cursor at this place, and prints without attributes
+-- the terminal that shows this picture with the cursor at this place, and prints with the empty rendition
 abbrev pub showing : Picture → Place → Terminal
 showing picture place = record { picture = picture; cursor = Some place; rendition = no_rendition }
 

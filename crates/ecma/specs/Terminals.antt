@@ -1,14 +1,16 @@
 -- What a terminal shows, and what each item of a stream does to it.
 -- ECMA-48, 5th edition: 8.3.21 CUP, 8.3.39 ED, 8.3.41 EL, 8.3.117 SGR. An item that has no effect here is outside the profile:
 -- the profile leaves out wrapping and scrolling (what is printed behind the last column), the parameter 0 of CUP, places off the screen,
--- erasing while an attribute is on, and every SGR code but those of the six attributes.
-use Rattle.std.specs.Prelude.{◌==◌, ◌&&◌, nat_lt, if◌then◌else◌, ℕ, ◌+◌, ◌-◌, List, [], ◌∷◌, ◌++◌, length, map, take, drop, Option, Some, None}
+-- erasing while an attribute or a colour is on, and every SGR code but those of the six attributes and of the eight colours.
+use Rattle.std.specs.Prelude.{◌==◌, ◌&&◌, nat_lt, nat_le, Bool, if◌then◌else◌, ℕ, ◌+◌, ◌-◌, List, [], ◌∷◌, ◌++◌, length, map, take, drop, Option, Some, None}
 use Rattle.std.specs.Option.{option_map, option_and_then}
 use Rattle.std.specs.List.{slice_set}
 use Rattle.std.specs.Int.RustNames.{bit_or}
 use Rattle.std.specs.Str.Parse.{digits_value}
 use Rattle.cell.specs.Attributes.{without}
-use Rattle.cell.specs.Pictures.{Picture, Place, Shown, shown_blank, shown_with, Rendition, no_rendition, line_of, is_place, with_shown}
+use Rattle.cell.specs.Shown.{Shown, shown_blank, shown_with, Rendition, no_rendition, is_empty}
+use Rattle.cell.specs.Pictures.{Picture, Place, line_of, is_place, with_shown}
+use Rattle.cell.specs.declared.limits.TheConstants.{LAST_COLOUR}
 use Rattle.ecma.specs.declared.token.Erase.{Erase}
 use Rattle.ecma.specs.declared.token.Erase.TheVariants.{ToEnd, FromStart, All}
 use Rattle.ecma.specs.Items.{CUP, ED, EL, SGR, Item, Printable, Control, Unfinished}
@@ -59,9 +61,9 @@ erased_page ToEnd place picture = take (place.0 + 1) (erased_at ToEnd place pict
 erased_page FromStart place picture = map blanked (take place.0 picture) ++ drop place.0 (erased_at FromStart place picture)
 erased_page All place picture = map blanked picture
 
--- no effect while an attribute is on
+-- no effect while an attribute or a colour is on
 abbrev pub under_no_rendition : Terminal → Option Terminal → Option Terminal
-under_no_rendition t after = if t.rendition == no_rendition then after else None
+under_no_rendition t after = if is_empty t.rendition then after else None
 
 -- the cursor has to be known, and stays
 abbrev pub erase_line : Erase → Terminal → Option Terminal
@@ -75,11 +77,25 @@ erase_page All t = under_no_rendition t (Some (record t { picture = map blanked 
 
 -- ---- selecting a rendition
 
--- the rendition with these attributes on
+-- the rendition with these attributes on, or off
 abbrev pub with_on : ℕ → Rendition → Rendition
-with_on attributes rendition = bit_or rendition attributes
+with_on attributes rendition = record rendition { attributes = bit_or rendition.attributes attributes }
 
--- the rendition after a code: 0 ends all attributes, and 22 both bold and dim
+abbrev pub with_off : ℕ → Rendition → Rendition
+with_off attributes rendition = record rendition { attributes = without rendition.attributes attributes }
+
+-- one of the codes of the eight colours, from a first one on
+abbrev pub is_colour_code : ℕ → ℕ → Bool
+is_colour_code first code = nat_le first code && nat_le code (first + LAST_COLOUR)
+
+-- the code of black, for the foreground and for the background
+abbrev pub first_foreground : ℕ
+first_foreground = 30
+
+abbrev pub first_background : ℕ
+first_background = 40
+
+-- the rendition after a code: 0 ends all attributes and colours, 22 both bold and dim, 39 and 49 a colour
 unfoldable pub select : ℕ → Rendition → Option Rendition
 select code rendition =
     if code == 0 then Some no_rendition
@@ -89,11 +105,15 @@ select code rendition =
     else if code == 5 then Some (with_on 0x08 rendition)
     else if code == 7 then Some (with_on 0x10 rendition)
     else if code == 8 then Some (with_on 0x20 rendition)
-    else if code == 22 then Some (without rendition 0x03)
-    else if code == 24 then Some (without rendition 0x04)
-    else if code == 25 then Some (without rendition 0x08)
-    else if code == 27 then Some (without rendition 0x10)
-    else if code == 28 then Some (without rendition 0x20)
+    else if code == 22 then Some (with_off 0x03 rendition)
+    else if code == 24 then Some (with_off 0x04 rendition)
+    else if code == 25 then Some (with_off 0x08 rendition)
+    else if code == 27 then Some (with_off 0x10 rendition)
+    else if code == 28 then Some (with_off 0x20 rendition)
+    else if is_colour_code first_foreground code then Some (record rendition { foreground = Some (code - first_foreground) })
+    else if code == 39 then Some (record rendition { foreground = None })
+    else if is_colour_code first_background code then Some (record rendition { background = Some (code - first_background) })
+    else if code == 49 then Some (record rendition { background = None })
     else None
 
 -- the rendition after the codes, in their order

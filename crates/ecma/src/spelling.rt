@@ -2,17 +2,22 @@
 
 ghost use Rattle.std.specs.Prelude.{◌≡◌, ◌+◌, ◌≤◌, ◌++◌, length, take};
 ghost use Rattle.cell.specs.Attributes.{bits_of};
-ghost use Rattle.ecma.specs.Spelling.{spelling, selection, erasure_spelling, longest, IsToken, IsItemOf};
+ghost use Rattle.ecma.specs.Spelling.{spelling, selection, codes_of_attributes, code_of_colour, erasure_spelling, longest, IsToken, IsItemOf};
 
 use crate::token::{Erase, Token};
 use bitflags::Flags;
-use cell::Attr;
+use cell::{Attr, Colour};
 use itoa::Buffer;
 
 /// The most bytes that the spelling of a token has.
-pub const LONGEST_SPELLING: usize = 16;
+pub const LONGEST_SPELLING: usize = 22;
 
 const INTRODUCER: &[u8] = b"\x1b[";
+
+/// The codes that select black as foreground and as background.
+const FIRST_FOREGROUND: u8 = 30;
+
+const FIRST_BACKGROUND: u8 = 40;
 
 /// The digit that selects each attribute, in ascending order.
 const CODES: [(Attr, u8); 6] = [
@@ -54,9 +59,12 @@ pub fn spell(token: &Token, out: &mut [u8; LONGEST_SPELLING]) -> usize
             let at = append(out, at, digits.format(column + 1).as_bytes());
             append(out, at, b"H")
         }
-        Token::Sgr(attr) => {
+        Token::Sgr(rendition) => {
+            let pair = rendition.colours();
             let at = append(out, 0, b"\x1b[0");
-            let at = append_codes(out, at, attr);
+            let at = append_codes(out, at, rendition.attrs());
+            let at = append_colour(out, at, FIRST_FOREGROUND, pair.foreground);
+            let at = append_colour(out, at, FIRST_BACKGROUND, pair.background);
             append(out, at, b"m")
         }
         Token::El(erasure) => {
@@ -74,9 +82,9 @@ pub fn spell(token: &Token, out: &mut [u8; LONGEST_SPELLING]) -> usize
 
 fn append_codes(out: &mut [u8; LONGEST_SPELLING], at: usize, attr: Attr) -> usize
     requires { at + 12 ≤ LONGEST_SPELLING }
-    ensures end { result ≡ at + length (selection (bits_of attr)) }
+    ensures end { result ≡ at + length (selection (codes_of_attributes (bits_of attr))) }
     ensures room { result ≤ at + 12 }
-    ensures text { take result out.new ≡ take at out.old ++ selection (bits_of attr) }
+    ensures text { take result out.new ≡ take at out.old ++ selection (codes_of_attributes (bits_of attr)) }
 {
     let mut end = at;
     for (flag, code) in CODES {
@@ -85,6 +93,29 @@ fn append_codes(out: &mut [u8; LONGEST_SPELLING], at: usize, attr: Attr) -> usiz
         }
     }
     end
+}
+
+/// Appends the code of a colour, where black has the first one, behind a separator. The default has none.
+fn append_colour(
+    out: &mut [u8; LONGEST_SPELLING],
+    at: usize,
+    first: u8,
+    colour: Option<Colour>,
+) -> usize
+    requires room { at + 3 ≤ LONGEST_SPELLING }
+    requires first { first ≤ 40 }
+    ensures end { result ≡ at + length (selection (code_of_colour first colour)) }
+    ensures room { result ≤ at + 3 }
+    ensures text { take result out.new ≡ take at out.old ++ selection (code_of_colour first colour) }
+{
+    match colour {
+        Some(colour) => {
+            let mut digits = Buffer::new();
+            let at = append(out, at, b";");
+            append(out, at, digits.format(first + colour.number()).as_bytes())
+        }
+        None => at,
+    }
 }
 
 fn erasure_text(erasure: Erase) -> &'static [u8]

@@ -1,6 +1,6 @@
 //! What is sent to a terminal.
 
-use cell::Attr;
+use cell::Rendition;
 
 /// What is erased of a line or of the page. The cursor's own place is erased too.
 #[derive(Clone, Copy, PartialEq, Eq, Debug)]
@@ -19,9 +19,9 @@ pub enum Token {
     /// The character is printed at the cursor. It is one that a cell can hold.
     Print(u8),
     /// The cursor goes to a line and a column of the largest screen, counted from 0.
-    Cup(u8, u8),
-    /// What is printed from now on has these attributes and no others. Bits beyond the six are dropped.
-    Sgr(Attr),
+    Cup(u16, u16),
+    /// What is printed from now on has this rendition.
+    Sgr(Rendition),
     /// Erases in the cursor's line.
     El(Erase),
     /// Erases in the page.

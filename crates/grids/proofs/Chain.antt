@@ -2,7 +2,7 @@
 use Rattle.std.proofs.Common.{◌≡◌, ℕ, zero, suc, ◌+◌, ◌-◌, ◌<◌, ◌≤◌, ◌≢◌, Option, Some, None, MatchOption, IsSome, IsSomeAnd, List, [], ◌∷◌, length, slice_set, ap, arith, refl, sym, ◌∙◌, subst, inl, inr, ◌⊎◌, get_or-set_other}
 use Rattle.std.proofs.lemmas.Bool.{cases_eq}
 use Rattle.cell.specs.Glyphs.{Glyph}
-use Rattle.cell.specs.Pictures.{shown_at}
+use Rattle.cell.specs.Pictures.{glyph_at}
 use Rattle.cell.specs.declared.limits.TheConstants.{MOST_WINDOWS}
 use Rattle.world.specs.Windows.{own_grid, GridPlace, own, own_within, window_limit, leads}
 use Rattle.grids.specs.declared.slot.Part.{Part}
@@ -34,7 +34,7 @@ parent_at slots s w k part e is =
 
 -- a slot with a grid is at the end of its chain
 depth_of_grid : (slots : List (Option Kept)) (k : Kept) (cells : Cells) → StandsIn slots k cells → 0 < k.depth → (part : Part) × (cells ≡ Shared part)
-depth_of_grid slots k (Own picture) h up = absurd (omega (arith, h))
+depth_of_grid slots k (Own sheet) h up = absurd (omega (arith, h))
 depth_of_grid slots k (Shared part) h up = (part, refl)
 
 -- how many slots are taken
@@ -107,14 +107,14 @@ own_step : (slots : List (Option Kept)) (w : ℕ) (k : Kept) (part : Part) → s
 own_step slots w k part e is n y x = rw (e, is) refl
 
 end_of : (further : ℕ → ℕ → ℕ → Option GridPlace) (w y x : ℕ) (cells : Cells) → part_in cells ≡ None → leads further w y x (backing_of cells) ≡ Some (record { grid = w; line = y; column = x })
-end_of further w y x (Own picture) is = refl
+end_of further w y x (Own sheet) is = refl
 end_of further w y x (Shared part) is = cc
 
 own_end : (slots : List (Option Kept)) (w : ℕ) (k : Kept) → slot_at slots w ≡ Some k → part_in k.cells ≡ None → (n y x : ℕ) → own_within (suc n) (window_map slots) w y x ≡ Some (record { grid = w; line = y; column = x })
 own_end slots w k e is n y x = rw e (end_of (own_within n (window_map slots)) w y x k.cells is)
 
 pub shared_of : (cells : Cells) (part : Part) → part_in cells ≡ Some part → cells ≡ Shared part
-shared_of (Own picture) part is = cc
+shared_of (Own sheet) part is = cc
 shared_of (Shared p) part is = ap Shared (let e : p ≡ part = cc in e)
 
 pub limit-is : window_limit ≡ MOST_WINDOWS + 1
@@ -152,16 +152,16 @@ Leads-end slots s few win grid line column k taken e is h =
 -- a grid of its own, and a part of another window
 
 pub own_source : (cells : Cells) → part_in cells ≡ None → (grid : ℕ → ℕ → Glyph) × (backing_of cells ≡ own_grid grid)
-own_source (Own picture) is = (λ y x. shown_at picture (y, x), refl)
+own_source (Own sheet) is = (λ y x. glyph_at sheet (y, x), refl)
 own_source (Shared part) is = cc
 
 pub own_alone : (cells : Cells) (grid : ℕ → ℕ → Glyph) → backing_of cells ≡ own_grid grid → part_in cells ≡ None
-own_alone (Own picture) grid is = refl
+own_alone (Own sheet) grid is = refl
 own_alone (Shared part) grid is = cc
 
 -- each chain ends
 own_or_shared : (cells : Cells) → (part_in cells ≡ None) ⊎ ((part : Part) × (cells ≡ Shared part))
-own_or_shared (Own picture) = inl refl
+own_or_shared (Own sheet) = inl refl
 own_or_shared (Shared part) = inr (part, refl)
 
 ends : (slots : List (Option Kept)) → IsChained slots → (n w : ℕ) (k : Kept) → slot_at slots w ≡ Some k → k.depth ≡ n → (m y x : ℕ) → IsSome (own_within (suc (n + m)) (window_map slots) w y x)

@@ -7,12 +7,12 @@ use Rattle.std.proofs.lemmas.List.{ext_get_or, get_or-take, get_or-drop, get_or-
 use Rattle.std.proofs.lemmas.List.FromFn.{length-map-range_with_len, get_or-map-range_with_len}
 use mathlib.Core.Path.{fun_ext}
 use Rattle.cell.specs.Glyphs.{Glyph, blank, IsCell}
-use Rattle.cell.specs.Pictures.{Picture, Place, AreCells, line_of, shown_at, blank_picture}
+use Rattle.cell.specs.Pictures.{Sheet, Place, AreCells, line_of, glyph_at, blank_sheet}
 use Rattle.cell.specs.declared.limits.TheConstants.{LARGEST_PAD}
 use Rattle.world.specs.Windows.{own_grid}
 use Rattle.world.specs.World.{first_settings, blank_grid}
 use Rattle.world.specs.World.{new_window}
-use Rattle.cell.proofs.PictureLemmas.{HasSize-blank, AreCells-blank}
+use Rattle.cell.proofs.PictureLemmas.{IsCell-blank, HasSize-all_of, EachCell-all_of}
 use Rattle.grids.specs.declared.slot.Cells.{Cells}
 use Rattle.grids.specs.declared.slot.Cells.TheVariants.{Own}
 use Rattle.grids.specs.Kept.{Kept, IsKept, IsGridOf, window_of}
@@ -20,11 +20,11 @@ use Rattle.world.specs.Sound.{AreColumnsWithin}
 use Rattle.world.specs.declared.settings.Columns.{Columns}
 
 -- a piece of a line
-pub piece-of_line : (picture : Picture) (line left len : ℕ) → left + len ≤ length (line_of picture line)
-    → take len (drop left (line_of picture line)) ≡ map (λ x. shown_at picture (line, left + x)) (range_with_len 0 len)
-piece-of_line picture line left len fits =
-    let cells = line_of picture line in
-    let shown : ℕ → Glyph = λ x. shown_at picture (line, left + x) in
+pub piece-of_line : (sheet : Sheet) (line left len : ℕ) → left + len ≤ length (line_of sheet line)
+    → take len (drop left (line_of sheet line)) ≡ map (λ x. glyph_at sheet (line, left + x)) (range_with_len 0 len)
+piece-of_line sheet line left len fits =
+    let cells = line_of sheet line in
+    let shown : ℕ → Glyph = λ x. glyph_at sheet (line, left + x) in
     let whole : length (take len (drop left cells)) ≡ len = length-take-le len (drop left cells) (omega (arith, length-drop left cells)) in
     ext_get_or blank (take len (drop left cells)) (map shown (range_with_len 0 len))
     (whole ∙ sym (length-map-range_with_len shown 0 len))
@@ -34,11 +34,11 @@ piece-of_line picture line left len fits =
     ∙ get_or-drop left cells x blank
     ∙ sym (get_or-map-range_with_len shown 0 len x x blank within (zero-add x)))
 
-pub cells-of_line : (picture : Picture) (line left len : ℕ) → AreCells picture → line < length picture → AllByRecursion IsCell (take len (drop left (line_of picture line)))
-cells-of_line picture line left len cells below =
-    let row = All-get_or (AllByRecursion IsCell) picture line [] below (All-from_recursion (AllByRecursion IsCell) picture cells) in
-    recursion_from_All IsCell (take len (drop left (line_of picture line)))
-    (All-take IsCell len (drop left (line_of picture line)) (All-drop IsCell left (line_of picture line) (All-from_recursion IsCell (line_of picture line) row)))
+pub cells-of_line : (sheet : Sheet) (line left len : ℕ) → AreCells sheet → line < length sheet → AllByRecursion IsCell (take len (drop left (line_of sheet line)))
+cells-of_line sheet line left len cells below =
+    let row = All-get_or (AllByRecursion IsCell) sheet line [] below (All-from_recursion (AllByRecursion IsCell) sheet cells) in
+    recursion_from_All IsCell (take len (drop left (line_of sheet line)))
+    (All-take IsCell len (drop left (line_of sheet line)) (All-drop IsCell left (line_of sheet line) (All-from_recursion IsCell (line_of sheet line) row)))
 
 -- a blank grid
 
@@ -48,13 +48,13 @@ blank_at n k = elim (cases_lt k n) [
   | inr past ↦ get_or_past (replicate n blank) k blank (omega (arith, length-replicate n blank))
 ]
 
-pub shown-blank : (lines columns y x : ℕ) → shown_at (blank_picture lines columns) (y, x) ≡ blank
+pub shown-blank : (lines columns y x : ℕ) → glyph_at (blank_sheet lines columns) (y, x) ≡ blank
 shown-blank lines columns y x = elim (cases_lt y lines) [
   | inl below ↦ ap (λ (cells : List Glyph). get_or cells x blank) (get_or-replicate lines y (replicate columns blank) [] below) ∙ blank_at columns x
-  | inr past ↦ ap (λ (cells : List Glyph). get_or cells x blank) (get_or_past (blank_picture lines columns) y [] (omega (arith, length-replicate lines (replicate columns blank))))
+  | inr past ↦ ap (λ (cells : List Glyph). get_or cells x blank) (get_or_past (blank_sheet lines columns) y [] (omega (arith, length-replicate lines (replicate columns blank))))
 ]
 
-pub grid-blank : (lines columns : ℕ) → own_grid (λ y x. shown_at (blank_picture lines columns) (y, x)) ≡ blank_grid
+pub grid-blank : (lines columns : ℕ) → own_grid (λ y x. glyph_at (blank_sheet lines columns) (y, x)) ≡ blank_grid
 grid-blank lines columns = ap own_grid (fun_ext (λ y. fun_ext (λ x. shown-blank lines columns y x)))
 
 -- no line is touched
@@ -65,9 +65,6 @@ touched-none n y = elim (cases_lt y n) [
 ]
 
 -- a new window with a grid
-
-IsCell-blank : IsCell blank
-IsCell-blank = record { from_space = lit≤ tt; to_tilde = lit≤ tt; of_the_six = lit< tt }
 
 none_within : (columns : ℕ) (o : Option Columns) → o ≡ None → AreColumnsWithin columns o
 none_within columns None e = tt
@@ -82,15 +79,15 @@ IsKept-new lines columns depth place cells has_line has_column few_lines few_col
   few_columns = few_columns;
   touched_each = length-replicate lines None;
   touched = λ y. none_within columns (get_or (replicate lines None) y None) (touched-none lines y);
-  settings = record { cursor_line = has_line; cursor_column = has_column; region_order = omega arith; region_end = omega arith; attributes = lit< tt; background = IsCell-blank };
+  settings = record { cursor_line = has_line; cursor_column = has_column; region_order = omega arith; region_end = omega arith; attributes = lit< tt; background = IsCell-blank; pair = lit≤ tt };
   grid = grid;
 }
 
-pub IsGridOf-blank : (lines columns : ℕ) → IsGridOf lines columns (Own (blank_picture lines columns))
-IsGridOf-blank lines columns = (HasSize-blank lines columns, AreCells-blank lines columns)
+pub IsGridOf-blank : (lines columns : ℕ) → IsGridOf lines columns (Own (blank_sheet lines columns))
+IsGridOf-blank lines columns = (HasSize-all_of blank lines columns, EachCell-all_of IsCell blank lines columns IsCell-blank)
 
 pub window-blank : (lines columns depth : ℕ) (place : Option Place)
-    → window_of (record { lines = lines; columns = columns; place = place; settings = first_settings lines; touched = replicate lines None; depth = depth; cells = Own (blank_picture lines columns) })
+    → window_of (record { lines = lines; columns = columns; place = place; settings = first_settings lines; touched = replicate lines None; depth = depth; cells = Own (blank_sheet lines columns) })
     ≡ new_window lines columns place blank_grid
 window-blank lines columns depth place =
     let none : (λ y. get_or (replicate lines (let o : Option Columns = None in o)) y None) ≡ (λ y. None) = fun_ext (λ y. touched-none lines y) in

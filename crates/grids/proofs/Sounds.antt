@@ -5,7 +5,7 @@ use Rattle.std.specs.Prelude.{⊤}
 use Rattle.std.specs.List.{AllByRecursion}
 use Rattle.std.proofs.lemmas.List.Elements.{All-from_recursion, All-get_or}
 use Rattle.cell.specs.Glyphs.{IsCell, blank}
-use Rattle.cell.specs.Pictures.{Picture, line_of, shown_at, AreCells, HasSize}
+use Rattle.cell.specs.Pictures.{Sheet, line_of, glyph_at, AreCells, HasSize}
 use Rattle.world.specs.Sound.{HasCells, IsPartOf, IsSoundWindow, IsStandardScreen, AreSoundWindows}
 use Rattle.cell.proofs.PictureLemmas.{length-line}
 use Rattle.grids.specs.declared.slot.Part.{Part}
@@ -16,7 +16,7 @@ use Rattle.grids.specs.Tables.{WindowTable, IsWindowTable, slot_at, window_map, 
 use Rattle.grids.proofs.Chain.{each_at, chain_ends}
 use Rattle.grids.proofs.Changes.{slot_below, IsStandardOf}
 
-cell_in : (picture : Picture) (lines columns y x : ℕ) → HasSize lines columns picture → AreCells picture → y < lines → x < columns → IsCell (shown_at picture (y, x))
+cell_in : (picture : Sheet) (lines columns y x : ℕ) → HasSize lines columns picture → AreCells picture → y < lines → x < columns → IsCell (glyph_at picture (y, x))
 cell_in picture lines columns y x size cells below left =
     let width = length-line y size below in
     let line : AllByRecursion IsCell (line_of picture y) = All-get_or (AllByRecursion IsCell) picture y _ (omega (arith, size.height)) (All-from_recursion (AllByRecursion IsCell) picture cells) in

@@ -1,6 +1,6 @@
 -- What a slot keeps of a window, and the window that it stands for.
 use Rattle.std.specs.Prelude.{◌≡◌, ℕ, ◌<◌, ◌≤◌, Option, None, List, length, slice_index_or, ⊤}
-use Rattle.cell.specs.Pictures.{Place, HasSize, AreCells, shown_at}
+use Rattle.cell.specs.Pictures.{Place, HasSize, AreCells, glyph_at}
 use Rattle.cell.specs.declared.limits.TheConstants.{LARGEST_PAD}
 use Rattle.world.specs.Windows.{Backing, own_grid, part_of, Window}
 use Rattle.world.specs.Sound.{AreColumnsWithin, AreSettingsWithin}
@@ -20,7 +20,7 @@ pub record Kept : Type 0 where
   pub cells : Cells
 
 abbrev pub backing_of : Cells → Backing
-backing_of (Own picture) = own_grid (λ y x. shown_at picture (y, x))
+backing_of (Own sheet) = own_grid (λ y x. glyph_at sheet (y, x))
 backing_of (Shared part) = part_of part.parent part.line part.column
 
 abbrev pub window_of : Kept → Window
@@ -35,7 +35,7 @@ window_of k = record {
 
 -- a grid has each of its cells
 abbrev pub IsGridOf : ℕ → ℕ → Cells → Type 0
-IsGridOf lines columns (Own picture) = HasSize lines columns picture × AreCells picture
+IsGridOf lines columns (Own sheet) = HasSize lines columns sheet × AreCells sheet
 IsGridOf lines columns (Shared part) = ⊤
 
 -- the size is a pad's at most, each line has its touched columns, and cursor, region and grid are of that size

@@ -32,7 +32,7 @@ pub record FitsIn (k : Kept) (part : Part) (parent : Kept) : Type 0 where
   pub within : IsPartOf part.line part.column (window_of k) (window_of parent)
 
 abbrev pub StandsIn : List (Option Kept) → Kept → Cells → Type 0
-StandsIn slots k (Own picture) = k.depth ≡ 0
+StandsIn slots k (Own sheet) = k.depth ≡ 0
 StandsIn slots k (Shared part) = MatchOption (slot_at slots part.parent) ⊥ (FitsIn k part)
 
 -- each slot has its shape, and each derived window its parent

@@ -15,7 +15,7 @@ ghost use Rattle.grids.specs.Kept.{window_of, backing_of, IsGridOf, IsKept};
 ghost use Rattle.grids.specs.steps.Slots.{part_in, names_parent};
 ghost use Rattle.grids.specs.steps.Changes.{spread, with_touched, with_drawing, SameShape, shifted};
 
-use cell::{Attr, Cell, Grid, LARGEST_PAD};
+use cell::{Attr, Cell, Grid, LARGEST_PAD, PairId};
 use std::alloc::{AllocError, Global};
 use std::marker::Model;
 use world::{Columns, Settings};
@@ -31,7 +31,7 @@ pub struct Part {
 /// The cells of a window: a grid of its own, or a part of its parent.
 #[derive(Drop)]
 pub enum Cells {
-    Own(Grid),
+    Own(Grid<Cell>),
     Shared(Part),
 }
 
@@ -209,7 +209,7 @@ impl Slot {
         ensures part { part_in self.new.cells ≡ part_in self.old.cells }
         ensures kept { IsKept self.new }
     {
-        prove!(settings.background.ch() >= b' ');
+        prove!(settings.background.ch() >= b' ' && settings.pair.is_sound());
         self.settings = Settings {
             attrs: settings.attrs.known(),
             ..settings
@@ -319,6 +319,7 @@ fn first_settings(lines: u16) -> Settings
         region: (0, lines - 1),
         attrs: Attr::NONE,
         background: Cell::BLANK,
+        pair: PairId::DEFAULT,
         scrolling: false,
         clear: false,
     }

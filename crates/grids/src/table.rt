@@ -40,7 +40,7 @@ impl Model for Grids {
 }
 
 impl Grids {
-    /// A screen of 1 to 255 lines and columns, with the blank standard screen alone.
+    /// A screen of 1 to `LARGEST_SCREEN` lines and columns, with the blank standard screen alone.
     ///
     /// # Errors
     /// `BadSize` for a size out of these limits, `NoMemory`.

@@ -1,4 +1,5 @@
 use crate::{Attr, Cell, Grids, Refusal, Settings, WinId};
+use cell::PairId;
 use std::test::Fail;
 
 /// Writes a text of one line from a place of a window on.
@@ -6,7 +7,7 @@ fn write(grids: &mut Grids, win: WinId, y: u16, x: u16, text: &str) -> Result<()
     let (lines, columns) = grids.getmaxyx(win)?;
     let mut at = x;
     for &character in text.as_bytes() {
-        let cell = Cell::new(character, Attr::NONE).ok_or("no cell")?;
+        let cell = Cell::new(character, Attr::NONE, 0).ok_or("no cell")?;
         put(grids, win, y, at, cell)?;
         at = at.saturating_add(1);
     }
@@ -82,13 +83,13 @@ fn shows(grids: &Grids, win: WinId, y: u16, text: &str) -> Result<bool, Fail> {
 fn screen_size_is_limited(rt: HostRuntime) -> Result<(), Fail> {
     assert_eq!(rt; Grids::new(rt.alloc(), 0, 10).err(), Some(Refusal::BadSize));
     assert_eq!(rt;
-        Grids::new(rt.alloc(), 4, 256).err(),
+        Grids::new(rt.alloc(), 4, 1000).err(),
         Some(Refusal::BadSize)
     );
-    let grids = Grids::new(rt.alloc(), 255, 255)?;
-    assert_eq!(rt; grids.getmaxyx(WinId(0)), Ok((255, 255)));
+    let grids = Grids::new(rt.alloc(), 999, 999)?;
+    assert_eq!(rt; grids.getmaxyx(WinId(0)), Ok((999, 999)));
     assert_eq!(rt; grids.getbegyx(WinId(0)), Ok((0, 0)));
-    assert!(rt; shows(&grids, WinId(0), 254, "   ")?);
+    assert!(rt; shows(&grids, WinId(0), 998, "   ")?);
     Ok(())
 }
 
@@ -207,7 +208,7 @@ fn table_holds_a_thousand_windows(rt: HostRuntime) -> Result<(), Fail> {
 fn filled_columns_have_the_cell(rt: HostRuntime) -> Result<(), Fail> {
     let mut grids = Grids::new(rt.alloc(), 4, 10)?;
     let screen = WinId(0);
-    let star = Cell::new(b'*', Attr::BOLD).ok_or("no cell")?;
+    let star = Cell::new(b'*', Attr::BOLD, 5).ok_or("no cell")?;
     let (lines, columns) = grids.getmaxyx(screen)?;
     if lines <= 2 || columns <= 3 {
         return Err("no such place".into());
@@ -247,7 +248,8 @@ fn settings_are_kept(rt: HostRuntime) -> Result<(), Fail> {
         cursor: (3, 9),
         region: (1, 2),
         attrs: Attr::BOLD,
-        background: Cell::new(b'.', Attr::DIM).ok_or("no cell")?,
+        background: Cell::new(b'.', Attr::DIM, 63).ok_or("no cell")?,
+        pair: PairId::new(7).ok_or("no pair")?,
         scrolling: true,
         clear: true,
     };

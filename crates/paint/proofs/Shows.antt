@@ -1,59 +1,57 @@
 -- The plain text, read by a terminal.
-use Rattle.std.proofs.Common.{◌≡◌, ℕ, zero, suc, ◌+◌, ◌%◌, ◌<◌, ◌≤◌, eqb, List, [], ◌∷◌, ◌++◌, length, set, map, Option, Some, Result, refl, sym, ap, ◌∙◌, subst, arith, append_assoc, length-append, inl, inr}
+use Rattle.std.proofs.Common.{◌≡◌, Bool, ℕ, zero, suc, ◌+◌, ◌<◌, ◌≤◌, List, [], ◌∷◌, ◌++◌, length, set, map, Option, Some, Result, refl, sym, ap, ◌∙◌, subst, arith, append_assoc, length-append, inl, inr}
 use Rattle.std.specs.List.{AllByRecursion}
 use Rattle.std.specs.Fmt.{digits}
 use Rattle.std.proofs.lemmas.List.{set_at, get_or_at, set-set, set-get_or, get_or-set_same, length-map, length-set}
-use Rattle.std.proofs.lemmas.Bool.{cases_Bool, lt-ltb, eqb-true}
-use Rattle.std.proofs.lemmas.Nat.{and_mask}
-use Rattle.cell.specs.Attributes.{known}
+use Rattle.std.proofs.lemmas.Bool.{cases_Bool, lt-ltb}
 use Rattle.cell.specs.declared.limits.TheConstants.{LARGEST_SCREEN}
-use Rattle.cell.specs.Glyphs.{IsCell}
-use Rattle.cell.specs.Pictures.{Picture, Place, Shown, Rendition, no_rendition, rendition_of, shown_blank, line_of, with_shown, HasSize, AreCells}
+use Rattle.cell.specs.Shown.{Shown, Rendition, no_rendition, IsRendition, IsShown, shown_blank}
+use Rattle.cell.specs.Pictures.{Picture, Place, line_of, with_shown, HasSize, AreShown}
+use Rattle.cell.proofs.PictureLemmas.{IsRendition-none}
+use Rattle.ecma.specs.Difference.{same_rendition}
+use Rattle.ecma.proofs.Difference.{same_rendition-equal}
 use Rattle.ecma.specs.declared.token.Erase.TheVariants.{All}
 use Rattle.ecma.specs.declared.token.Token.TheVariants.{Print, Cup, Sgr, Ed}
 use Rattle.ecma.specs.Terminals.{Terminal, right_of, blanked}
 use Rattle.ecma.specs.Streams.{Leads, showing}
-use Rattle.ecma.specs.Spelling.{spelling, codes_of}
+use Rattle.ecma.specs.Spelling.{spelling, codes_of_attributes}
 use Rattle.ecma.proofs.Leading.{Leads-nothing, Leads-token}
 use Rattle.ecma.proofs.Joining.{Leads-append}
 use Rattle.ecma.proofs.Printing.{printable}
 use Rattle.streams.specs.declared.sending.WriteFault.{WriteFault}
 use Rattle.streams.specs.Sinks.{Seen}
 use Rattle.streams.specs.Sending.{Sends}
-use Rattle.paint.specs.Updates.{opening, IsClearingText}
+use Rattle.paint.specs.Updates.{PainterState, opening, IsUpdateText}
 use Rattle.paint.specs.steps.Plain.{change, line_text, rendition_behind, lines_text, rendition_at_end, ending, plain_text}
 use Rattle.paint.proofs.Changes.{change-same, change-other}
 
-abbrev at : Picture → Option Place → ℕ → Terminal
+abbrev at : Picture → Option Place → Rendition → Terminal
 at picture cursor rendition = record { picture = picture; cursor = cursor; rendition = rendition }
 
 -- ---- a change of the rendition
 
-known-small : (bits : ℕ) → bits < 64 → known bits ≡ bits
-known-small bits small = let same : bits % 64 ≡ bits = omega arith in and_mask bits 6 ∙ same
-
-change-leads : (picture : Picture) (cursor : Option Place) (old new : ℕ) → new < 64 → Leads (change old new) (at picture cursor old) (at picture cursor new)
-change-leads picture cursor old new small =
-    elim (cases_Bool (eqb new old)) [
-      | inl same ↦ rw (change-same old new (sym same), eqb-true new old same) (Leads-nothing (at picture cursor old))
-      | inr other ↦ rw (change-other old new (sym other)) (Leads-token (Sgr (record { 0 = new })) (at picture cursor old) (at picture cursor new) tt (rw (known-small new small) refl))
+change-leads : (picture : Picture) (cursor : Option Place) (old new : Rendition) → IsRendition new → Leads (change old new) (at picture cursor old) (at picture cursor new)
+change-leads picture cursor old new sound =
+    elim (cases_Bool (same_rendition new old)) [
+      | inl same ↦ rw (change-same old new (sym same), same_rendition-equal new old same) (Leads-nothing (at picture cursor old))
+      | inr other ↦ rw (change-other old new (sym other)) (Leads-token (Sgr new) (at picture cursor old) (at picture cursor new) sound refl)
     ]
 
 -- ---- the cells of a line
 
 -- one cell
-cell-leads : (picture : Picture) (line column rendition : ℕ) (cell : Shown) → IsCell cell
-    → Leads (change rendition (rendition_of cell) ++ spelling (Print cell.character)) (at picture (Some (line, column)) rendition)
-    (at (with_shown picture (line, column) cell) (right_of picture (line, column)) (rendition_of cell))
+cell-leads : (picture : Picture) (line column : ℕ) (rendition : Rendition) (cell : Shown) → IsShown cell
+    → Leads (change rendition cell.rendition ++ spelling (Print cell.character)) (at picture (Some (line, column)) rendition)
+    (at (with_shown picture (line, column) cell) (right_of picture (line, column)) cell.rendition)
 cell-leads picture line column rendition cell h =
-    Leads-append (change rendition (rendition_of cell)) (spelling (Print cell.character)) (at picture (Some (line, column)) rendition) (at picture (Some (line, column)) (rendition_of cell))
-    (at (with_shown picture (line, column) cell) (right_of picture (line, column)) (rendition_of cell))
-    (change-leads picture (Some (line, column)) rendition (rendition_of cell) h.of_the_six)
-    (Leads-token (Print cell.character) (at picture (Some (line, column)) (rendition_of cell))
-    (at (with_shown picture (line, column) cell) (right_of picture (line, column)) (rendition_of cell)) (printable cell.character h.from_space h.to_tilde) refl)
+    Leads-append (change rendition cell.rendition) (spelling (Print cell.character)) (at picture (Some (line, column)) rendition) (at picture (Some (line, column)) cell.rendition)
+    (at (with_shown picture (line, column) cell) (right_of picture (line, column)) cell.rendition)
+    (change-leads picture (Some (line, column)) rendition cell.rendition h.rendition)
+    (Leads-token (Print cell.character) (at picture (Some (line, column)) cell.rendition)
+    (at (with_shown picture (line, column) cell) (right_of picture (line, column)) cell.rendition) (printable cell.character h.from_space h.to_tilde) refl)
 
 -- where the cursor is after a line is of no account
-record LineLeads (text : List ℕ) (picture : Picture) (cursor : Option Place) (rendition : ℕ) (drawn : Picture) (last : ℕ) : Type 0 where
+record LineLeads (text : List ℕ) (picture : Picture) (cursor : Option Place) (rendition : Rendition) (drawn : Picture) (last : Rendition) : Type 0 where
   behind : Option Place
   leads : Leads text (at picture cursor rendition) (at drawn behind last)
 
@@ -68,8 +66,8 @@ next-column picture line column front gone old is_line place more =
     let inside : column + 1 < length (line_of picture line) = rw is_line (omega (arith, length-append front (gone ∷ old))) in
     rw (lt-ltb (column + 1) (length (line_of picture line)) inside) refl
 
-line-leads : (cells : List Shown) (picture : Picture) (cursor : Option Place) (rendition line column : ℕ) (front old : List Shown)
-    → line < length picture → line_of picture line ≡ front ++ old → length front ≡ column → length old ≡ length cells → AllByRecursion IsCell cells
+line-leads : (cells : List Shown) (picture : Picture) (cursor : Option Place) (rendition : Rendition) (line column : ℕ) (front old : List Shown)
+    → line < length picture → line_of picture line ≡ front ++ old → length front ≡ column → length old ≡ length cells → AllByRecursion IsShown cells
     → (0 < length cells → cursor ≡ Some (line, column))
     → LineLeads (line_text rendition cells) picture cursor rendition (set picture line (front ++ cells)) (rendition_behind rendition cells)
 line-leads [] picture cursor rendition line column front [] inside is_line place same all known_cursor =
@@ -81,7 +79,7 @@ line-leads (cell ∷ cells) picture cursor rendition line column front (gone ∷
     let behind = right_of picture (line, column) in
     let first = rw (cell-drawn picture line column front gone old cell is_line place) at (cell-leads picture line column rendition cell all.0) in
     let line_now : line_of drawn line ≡ (front ++ cell ∷ []) ++ old = get_or-set_same picture line (front ++ cell ∷ old) [] inside ∙ sym (append_assoc front (cell ∷ []) old) in
-    let others = line-leads cells drawn behind (rendition_of cell) line (column + 1) (front ++ cell ∷ []) old
+    let others = line-leads cells drawn behind cell.rendition line (column + 1) (front ++ cell ∷ []) old
     (omega (arith, length-set picture line (front ++ cell ∷ old))) line_now (omega (arith, length-append front (cell ∷ []))) (omega arith) all.1
     (λ more. next-column picture line column front gone old is_line place (omega arith)) in
     let whole : set drawn line ((front ++ cell ∷ []) ++ cells) ≡ set picture line (front ++ cell ∷ cells) =
@@ -89,8 +87,8 @@ line-leads (cell ∷ cells) picture cursor rendition line column front (gone ∷
     record {
       behind = others.behind;
       leads = rw (known_cursor (omega arith), ← whole)
-          (Leads-append (change rendition (rendition_of cell) ++ spelling (Print cell.character)) (line_text (rendition_of cell) cells) (at picture (Some (line, column)) rendition)
-          (at drawn behind (rendition_of cell)) (at (set drawn line ((front ++ cell ∷ []) ++ cells)) others.behind (rendition_behind (rendition_of cell) cells)) first others.leads);
+          (Leads-append (change rendition cell.rendition ++ spelling (Print cell.character)) (line_text cell.rendition cells) (at picture (Some (line, column)) rendition)
+          (at drawn behind cell.rendition) (at (set drawn line ((front ++ cell ∷ []) ++ cells)) others.behind (rendition_behind cell.rendition cells)) first others.leads);
     }
 
 -- ---- the lines
@@ -98,14 +96,14 @@ line-leads (cell ∷ cells) picture cursor rendition line column front (gone ∷
 abbrev AreWide : ℕ → Picture → Type 0
 AreWide columns lines = AllByRecursion (λ line. length line ≡ columns) lines
 
-cup-leads : (picture : Picture) (cursor : Option Place) (rendition line column : ℕ) → line < LARGEST_SCREEN → column < LARGEST_SCREEN → column < length (line_of picture line)
+cup-leads : (picture : Picture) (cursor : Option Place) (rendition : Rendition) (line column : ℕ) → line < LARGEST_SCREEN → column < LARGEST_SCREEN → column < length (line_of picture line)
     → Leads (spelling (Cup line column)) (at picture cursor rendition) (at picture (Some (line, column)) rendition)
 cup-leads picture cursor rendition line column few_lines few_columns inside =
     Leads-token (Cup line column) (at picture cursor rendition) (at picture (Some (line, column)) rendition) (few_lines, few_columns)
     (rw (lt-ltb column (length (line_of picture line)) inside) refl)
 
-one-line-leads : (cells : List Shown) (front : Picture) (gone : List Shown) (old : Picture) (cursor : Option Place) (rendition line : ℕ)
-    → line < LARGEST_SCREEN → length front ≡ line → 0 < length gone → length gone ≡ length cells → AllByRecursion IsCell cells
+one-line-leads : (cells : List Shown) (front : Picture) (gone : List Shown) (old : Picture) (cursor : Option Place) (rendition : Rendition) (line : ℕ)
+    → line < LARGEST_SCREEN → length front ≡ line → 0 < length gone → length gone ≡ length cells → AllByRecursion IsShown cells
     → LineLeads (spelling (Cup line 0) ++ line_text rendition cells) (front ++ gone ∷ old) cursor rendition (front ++ cells ∷ old) (rendition_behind rendition cells)
 one-line-leads cells front gone old cursor rendition line few place some same all =
     let picture = front ++ gone ∷ old in
@@ -119,8 +117,8 @@ one-line-leads cells front gone old cursor rendition line few place some same al
           (rw (set_at front gone old cells line place) at drawn.leads);
     }
 
-lines-leads : (lines : Picture) (columns line : ℕ) (front old : Picture) (cursor : Option Place) (rendition : ℕ)
-    → 0 < columns → line + length lines ≤ LARGEST_SCREEN → length front ≡ line → length old ≡ length lines → AreWide columns old → AreWide columns lines → AreCells lines
+lines-leads : (lines : Picture) (columns line : ℕ) (front old : Picture) (cursor : Option Place) (rendition : Rendition)
+    → 0 < columns → line + length lines ≤ LARGEST_SCREEN → length front ≡ line → length old ≡ length lines → AreWide columns old → AreWide columns lines → AreShown lines
     → LineLeads (lines_text line rendition lines) (front ++ old) cursor rendition (front ++ lines) (rendition_at_end rendition lines)
 lines-leads [] columns line front [] cursor rendition some few place same old_wide wide all = record { behind = cursor; leads = Leads-nothing (at (front ++ []) cursor rendition) }
 lines-leads [] columns line front (gone ∷ old) cursor rendition some few place same old_wide wide all = absurd (omega arith)
@@ -153,47 +151,47 @@ line-wide columns (first ∷ lines) zero h inside = h.0
 line-wide columns (first ∷ lines) (suc line) h inside = line-wide columns lines line h.1 (omega arith)
 
 -- the opening is three tokens
-pub opening-spelled : opening ≡ spelling (Sgr (record { 0 = 0 })) ++ spelling (Ed All) ++ spelling (Cup 0 0)
-unfolding spelling codes_of digits
+pub opening-spelled : opening ≡ spelling (Sgr no_rendition) ++ spelling (Ed All) ++ spelling (Cup 0 0)
+unfolding spelling codes_of_attributes digits
 opening-spelled = refl
 
-pub Sends-opening : {old new : Seen} {sent : ℕ} {result : Result ℕ WriteFault} → Sends old new sent (spelling (Sgr (record { 0 = 0 })) ++ spelling (Ed All) ++ spelling (Cup 0 0)) result → Sends old new sent opening result
+pub Sends-opening : {old new : Seen} {sent : ℕ} {result : Result ℕ WriteFault} → Sends old new sent (spelling (Sgr no_rendition) ++ spelling (Ed All) ++ spelling (Cup 0 0)) result → Sends old new sent opening result
 Sends-opening {old} {new} {sent} {result} h = subst (λ (text : List ℕ). Sends old new sent text result) (sym opening-spelled) h
 
-opening-leads : (columns : ℕ) (t : Terminal) → AreWide columns t.picture → 0 < columns → 0 < length t.picture → Leads opening t (at (map blanked t.picture) (Some (0, 0)) 0)
+opening-leads : (columns : ℕ) (t : Terminal) → AreWide columns t.picture → 0 < columns → 0 < length t.picture → Leads opening t (at (map blanked t.picture) (Some (0, 0)) no_rendition)
 opening-leads columns t wide some lines =
     let clear = map blanked t.picture in
     let column_inside : 0 < length (line_of clear 0) = omega (arith, some, first-line columns clear (blanked-wide columns t.picture wide) (omega (arith, length-map t.picture blanked))) in
-    subst (λ (text : List ℕ). Leads text t (at clear (Some (0, 0)) 0)) (sym opening-spelled)
-    (Leads-append (spelling (Sgr (record { 0 = 0 })) ++ spelling (Ed All)) (spelling (Cup 0 0)) t (at clear t.cursor 0) (at clear (Some (0, 0)) 0)
-    (Leads-append (spelling (Sgr (record { 0 = 0 }))) (spelling (Ed All)) t (at t.picture t.cursor 0) (at clear t.cursor 0)
-    (Leads-token (Sgr (record { 0 = 0 })) t (at t.picture t.cursor 0) tt refl)
-    (Leads-token (Ed All) (at t.picture t.cursor 0) (at clear t.cursor 0) tt refl))
-    (cup-leads clear t.cursor 0 0 0 (omega arith) (omega arith) column_inside))
+    subst (λ (text : List ℕ). Leads text t (at clear (Some (0, 0)) no_rendition)) (sym opening-spelled)
+    (Leads-append (spelling (Sgr no_rendition) ++ spelling (Ed All)) (spelling (Cup 0 0)) t (at clear t.cursor no_rendition) (at clear (Some (0, 0)) no_rendition)
+    (Leads-append (spelling (Sgr no_rendition)) (spelling (Ed All)) t (at t.picture t.cursor no_rendition) (at clear t.cursor no_rendition)
+    (Leads-token (Sgr no_rendition) t (at t.picture t.cursor no_rendition) IsRendition-none refl)
+    (Leads-token (Ed All) (at t.picture t.cursor no_rendition) (at clear t.cursor no_rendition) tt refl))
+    (cup-leads clear t.cursor no_rendition 0 0 (omega arith) (omega arith) column_inside))
 
 ending-leads : (picture : Picture) (cursor : Option Place) (rendition : Rendition) (place : Place) → place.0 < LARGEST_SCREEN → place.1 < LARGEST_SCREEN → place.1 < length (line_of picture place.0)
     → Leads (ending rendition place) (at picture cursor rendition) (showing picture place)
 ending-leads picture cursor rendition place few_lines few_columns inside =
     Leads-append (change rendition no_rendition) (spelling (Cup place.0 place.1)) (at picture cursor rendition) (at picture cursor no_rendition) (showing picture place)
-    (change-leads picture cursor rendition no_rendition (omega arith)) (cup-leads picture cursor no_rendition place.0 place.1 few_lines few_columns inside)
+    (change-leads picture cursor rendition no_rendition IsRendition-none) (cup-leads picture cursor no_rendition place.0 place.1 few_lines few_columns inside)
 
-plain-leads : (lines columns : ℕ) (picture : Picture) (place : Place) → lines ≤ LARGEST_SCREEN → columns ≤ LARGEST_SCREEN → HasSize lines columns picture → AreCells picture → place.0 < lines → place.1 < columns
+plain-leads : (lines columns : ℕ) (picture : Picture) (place : Place) → lines ≤ LARGEST_SCREEN → columns ≤ LARGEST_SCREEN → HasSize lines columns picture → AreShown picture → place.0 < lines → place.1 < columns
     → (t : Terminal) → HasSize lines columns t.picture → Leads (plain_text picture place) t (showing picture place)
 unfolding plain_text
 plain-leads lines columns picture place few_lines few_columns size all line_inside column_inside t t_size =
     let clear = map blanked t.picture in
-    let drawn = lines-leads picture columns 0 [] clear (Some (0, 0)) 0 (omega arith) (omega (arith, size.height)) refl
+    let drawn = lines-leads picture columns 0 [] clear (Some (0, 0)) no_rendition (omega arith) (omega (arith, size.height)) refl
     (omega (arith, length-map t.picture blanked, size.height, t_size.height)) (blanked-wide columns t.picture t_size.width) size.width all in
     let last = rendition_at_end no_rendition picture in
     Leads-append (opening ++ lines_text 0 no_rendition picture) (ending last place) t (at picture drawn.behind last) (showing picture place)
-    (Leads-append opening (lines_text 0 no_rendition picture) t (at clear (Some (0, 0)) 0) (at picture drawn.behind last)
+    (Leads-append opening (lines_text 0 no_rendition picture) t (at clear (Some (0, 0)) no_rendition) (at picture drawn.behind last)
     (opening-leads columns t t_size.width (omega arith) (omega (arith, t_size.height))) drawn.leads)
     (ending-leads picture drawn.behind last place (omega arith) (omega arith) (omega (arith, line-wide columns picture place.0 size.width (omega (arith, size.height)))))
 
-pub plain-clears : (lines columns : ℕ) (picture : Picture) (place : Place) → lines ≤ LARGEST_SCREEN → columns ≤ LARGEST_SCREEN → HasSize lines columns picture → AreCells picture → place.0 < lines → place.1 < columns
-    → IsClearingText lines columns (record { picture = picture; cursor = place }) (plain_text picture place)
+pub plain-updates : (painter : PainterState) (clear : Bool) (picture : Picture) (place : Place) → painter.lines ≤ LARGEST_SCREEN → painter.columns ≤ LARGEST_SCREEN → HasSize painter.lines painter.columns picture → AreShown picture
+    → place.0 < painter.lines → place.1 < painter.columns → IsUpdateText painter clear (record { picture = picture; cursor = place }) (plain_text picture place)
 unfolding plain_text
-plain-clears lines columns picture place few_lines few_columns size all line_inside column_inside = record {
+plain-updates painter clear picture place few_lines few_columns size all line_inside column_inside = record {
   begins = (lines_text 0 no_rendition picture ++ ending (rendition_at_end no_rendition picture) place, refl);
-  shows = plain-leads lines columns picture place few_lines few_columns size all line_inside column_inside;
+  shows = plain-leads painter.lines painter.columns picture place few_lines few_columns size all line_inside column_inside;
 }

@@ -1,37 +1,82 @@
 -- What a text that was sent means for a painter.
-use Rattle.std.proofs.Common.{◌≡◌, ℕ, true, List, Ok, Err, ap, ◌∙◌, arith}
+use Rattle.std.proofs.Common.{◌≡◌, Bool, ℕ, ◌<◌, ◌==◌, length, true, List, Ok, Err, sym, ap, ◌∙◌, arith}
 use Rattle.std.specs.Io.KnownBytes.{Keeps}
+use Rattle.std.proofs.lemmas.Bool.{eq-eqb, ne_eqb}
 use Rattle.std.proofs.lemmas.List.{take_all}
 use Rattle.streams.specs.declared.sending.WriteFault.{WriteFault}
-use Rattle.streams.specs.Counts.{next_count}
+use Rattle.streams.specs.Counts.{counted, next_count}
 use Rattle.streams.specs.Sinks.{Seen}
 use Rattle.streams.specs.Sending.{Sends}
-use Rattle.paint.specs.Updates.{PainterState, ShownPicture, IsClearingText, Updates, BreaksOff}
+use Rattle.paint.specs.Updates.{PainterState, ShownPicture, IsUpdateText, Updates, BreaksOff}
 use Rattle.streams.proofs.Sends.{Appends-keeps}
 
-module _ {painter : PainterState} {wanted : ShownPicture} {text : List ℕ} (clearing : IsClearingText painter.lines painter.columns wanted text) where
-  pub updated : {old mid new : Seen} {total : ℕ} → Sends old mid 0 text (Ok total) → Keeps mid.taken new.taken → new.failures ≡ mid.failures → new.flushed ≡ true
-      → Updates painter old new wanted total
-  updated {old} {mid} {new} h keeps failures flushed = record {
+-- the one flush of a text, which is tried where all of it was taken
+whole-flushed : (sent : ℕ) (text : List ℕ) (flushes : ℕ) → sent ≡ length text → counted (sent == length text) flushes ≡ next_count flushes
+whole-flushed sent text flushes e = ap (λ b. counted b flushes) (eq-eqb sent (length text) e)
+
+cut-unflushed : (sent : ℕ) (text : List ℕ) (flushes : ℕ) → sent < length text → counted (sent == length text) flushes ≡ flushes
+cut-unflushed sent text flushes h = ap (λ b. counted b flushes) (ne_eqb sent (length text) (λ e. absurd (omega arith)))
+
+module _ {painter : PainterState} {clear : Bool} {wanted : ShownPicture} {text : List ℕ} (is_text : IsUpdateText painter clear wanted text) where
+  pub updated : {old mid new : Seen} {total : ℕ} → Sends old mid 0 text (Ok total) → Keeps mid.taken new.taken → new.failures ≡ mid.failures
+      → new.flushes ≡ next_count mid.flushes → new.flushed ≡ true → Updates painter clear old new wanted total
+  updated {old} {mid} {new} h keeps failures flushes flushed = record {
     text = text;
-    clearing = clearing;
+    is_text = is_text;
     count = omega (arith, h.ends.0);
     taken = Appends-keeps old.taken mid.taken new.taken text h.ends.1 keeps;
     no_failure = failures ∙ h.ends.2;
+    flushes = flushes ∙ ap next_count h.flushes;
     flushed = flushed;
   }
 
   pub broken_flush : {old mid new : Seen} {total : ℕ} → Sends old mid 0 text (Ok total) → Keeps mid.taken new.taken → new.failures ≡ next_count mid.failures
-      → BreaksOff painter old new wanted total
-  broken_flush {old} {mid} {new} {total} h keeps failures = record {
+      → new.flushes ≡ next_count mid.flushes → BreaksOff painter clear old new wanted total
+  broken_flush {old} {mid} {new} {total} h keeps failures flushes = record {
     text = text;
-    clearing = clearing;
+    is_text = is_text;
     within = omega (arith, h.ends.0);
     taken = rw (take_all total text (omega (arith, h.ends.0))) (Appends-keeps old.taken mid.taken new.taken text h.ends.1 keeps);
     failure = failures ∙ ap next_count h.ends.2;
+    flushes = flushes ∙ ap next_count h.flushes ∙ sym (whole-flushed total text old.flushes (omega (arith, h.ends.0)));
   }
 
-  pub broken_text : {old new : Seen} {fault : WriteFault} → Sends old new 0 text (Err fault) → BreaksOff painter old new wanted fault.sent
+  pub broken_text : {old new : Seen} {fault : WriteFault} → Sends old new 0 text (Err fault) → BreaksOff painter clear old new wanted fault.sent
   broken_text {old} {new} {fault} h =
       let sent : fault.sent ≡ h.ends.0 = omega (arith, h.ends.2) in
-      record { text = text; clearing = clearing; within = omega (arith, h.ends.1); taken = rw sent h.ends.3; failure = h.ends.4 }
+      record {
+        text = text;
+        is_text = is_text;
+        within = omega (arith, h.ends.1);
+        taken = rw sent h.ends.3;
+        failure = h.ends.4;
+        flushes = h.flushes ∙ sym (cut-unflushed fault.sent text old.flushes (omega (arith, h.ends.1)));
+      }
+
+-- A text of a painter is one of each painter of terminals of that size.
+IsUpdateText-known : (painter other : PainterState) (clear : Bool) (wanted : ShownPicture) (text : List ℕ) → other.lines ≡ painter.lines → other.columns ≡ painter.columns
+    → IsUpdateText painter clear wanted text → IsUpdateText other clear wanted text
+IsUpdateText-known painter other clear wanted text lines columns h = record { begins = h.begins; shows = rw (lines, columns) h.shows }
+
+pub Updates-known : (painter other : PainterState) (clear : Bool) (old new : Seen) (wanted : ShownPicture) (bytes : ℕ) → other.lines ≡ painter.lines → other.columns ≡ painter.columns
+    → Updates painter clear old new wanted bytes → Updates other clear old new wanted bytes
+Updates-known painter other clear old new wanted bytes lines columns h = record {
+  text = h.text;
+  is_text = IsUpdateText-known painter other clear wanted h.text lines columns h.is_text;
+  count = h.count;
+  taken = h.taken;
+  no_failure = h.no_failure;
+  flushes = h.flushes;
+  flushed = h.flushed;
+}
+
+pub BreaksOff-known : (painter other : PainterState) (clear : Bool) (old new : Seen) (wanted : ShownPicture) (sent : ℕ) → other.lines ≡ painter.lines → other.columns ≡ painter.columns
+    → BreaksOff painter clear old new wanted sent → BreaksOff other clear old new wanted sent
+BreaksOff-known painter other clear old new wanted sent lines columns h = record {
+  text = h.text;
+  is_text = IsUpdateText-known painter other clear wanted h.text lines columns h.is_text;
+  within = h.within;
+  taken = h.taken;
+  failure = h.failure;
+  flushes = h.flushes;
+}

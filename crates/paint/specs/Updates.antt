@@ -1,12 +1,12 @@
 -- What a doupdate sends, what it leaves of the painter, and which streams agree with a painter.
 -- X/Open Curses Issue 7: doupdate, clearok.
-use Rattle.std.specs.Prelude.{◌≡◌, ℕ, ◌≤◌, List, ◌∷◌, ◌++◌, Bool, true, length, take, codes, Option, Some, None, ⊤, MatchOption, if◌then◌else◌}
+use Rattle.std.specs.Prelude.{◌≡◌, ℕ, ◌≤◌, ◌==◌, List, ◌∷◌, ◌++◌, Bool, true, length, take, codes, Option, Some, None, ⊤, MatchOption, if◌then◌else◌}
 use Rattle.std.specs.Io.KnownBytes.{Appends}
 use Rattle.cell.specs.Pictures.{Picture, Place, HasSize, blank_picture, origin}
 use Rattle.ecma.specs.Items.{escape}
 use Rattle.ecma.specs.Terminals.{Terminal}
 use Rattle.ecma.specs.Streams.{IsInProfile, LeadsWithBreaks, Shows, showing}
-use Rattle.streams.specs.Counts.{next_count}
+use Rattle.streams.specs.Counts.{counted, next_count}
 use Rattle.streams.specs.Sinks.{Seen}
 
 -- a picture with a cursor
@@ -43,29 +43,32 @@ opening = escape ∷ codes "[0m" ++ escape ∷ codes "[2J" ++ escape ∷ codes "
 abbrev pub BeginsWithOpening : List ℕ → Type 0
 BeginsWithOpening text = (rest : List ℕ) × (text ≡ opening ++ rest)
 
--- A text that clears: it begins with the opening, and read from any terminal of the size, it shows the picture and the cursor.
-pub record IsClearingText (lines columns : ℕ) (wanted : ShownPicture) (text : List ℕ) : Type 0 where
+-- The text of a doupdate, whether a clear screen is asked for or not: it clears in either case. It begins with the opening, and read
+-- from any terminal of the painter's size, it shows the picture and the cursor.
+pub record IsUpdateText (painter : PainterState) (clear : Bool) (wanted : ShownPicture) (text : List ℕ) : Type 0 where
   pub begins : BeginsWithOpening text
-  pub shows : (t : Terminal) → HasSize lines columns t.picture → Shows text t wanted.picture wanted.cursor
+  pub shows : (t : Terminal) → HasSize painter.lines painter.columns t.picture → Shows text t wanted.picture wanted.cursor
 
 -- ---- what a doupdate did
 
--- The sink took one text, all of it, and a flush succeeded behind its last byte. No failure was counted.
-pub record Updates (painter : PainterState) (old new : Seen) (wanted : ShownPicture) (bytes : ℕ) : Type 0 where
+-- The sink took one text, all of it, and the one flush that was tried succeeded behind its last byte. No failure was counted.
+pub record Updates (painter : PainterState) (clear : Bool) (old new : Seen) (wanted : ShownPicture) (bytes : ℕ) : Type 0 where
   pub text : List ℕ
-  pub clearing : IsClearingText painter.lines painter.columns wanted text
+  pub is_text : IsUpdateText painter clear wanted text
   pub count : bytes ≡ length text
   pub taken : Appends old.taken new.taken text
   pub no_failure : new.failures ≡ old.failures
+  pub flushes : new.flushes ≡ next_count old.flushes
   pub flushed : new.flushed ≡ true
 
--- The sink took the first bytes of such a text, and then a write or the flush failed.
-pub record BreaksOff (painter : PainterState) (old new : Seen) (wanted : ShownPicture) (sent : ℕ) : Type 0 where
+-- The sink took the first bytes of such a text, and then a write failed, or, behind all of it, the one flush.
+pub record BreaksOff (painter : PainterState) (clear : Bool) (old new : Seen) (wanted : ShownPicture) (sent : ℕ) : Type 0 where
   pub text : List ℕ
-  pub clearing : IsClearingText painter.lines painter.columns wanted text
+  pub is_text : IsUpdateText painter clear wanted text
   pub within : sent ≤ length text
   pub taken : Appends old.taken new.taken (take sent text)
   pub failure : new.failures ≡ next_count old.failures
+  pub flushes : new.flushes ≡ counted (sent == length text) old.flushes
 
 -- ---- streams that agree with a painter
 

@@ -1,11 +1,11 @@
 //! What a painter's texts make of all that was sent to a terminal. Each function does nothing, and its contract is
 //! the law.
 
-ghost use Rattle.std.specs.Prelude.{◌≡◌, ◌≤◌, ℕ, List, [], ◌++◌, length, take, Some, None};
+ghost use Rattle.std.specs.Prelude.{◌≡◌, ◌≤◌, ℕ, Bool, List, [], ◌++◌, length, take, Some, None};
 ghost use Rattle.cell.specs.Pictures.{HasSize};
 ghost use Rattle.ecma.specs.Terminals.{Terminal};
 ghost use Rattle.ecma.specs.Streams.{IsInProfile, LeadsWithBreaks, showing};
-ghost use Rattle.paint.specs.Updates.{PainterState, ShownPicture, IsClearingText, Agrees};
+ghost use Rattle.paint.specs.Updates.{PainterState, ShownPicture, IsUpdateText, Agrees};
 
 /// A painter that knows nothing agrees with every stream in the profile, and so with the empty one.
 pub fn unknown_agrees()
@@ -15,22 +15,22 @@ pub fn unknown_agrees()
 
 /// After a doupdate all that was sent agrees with the painter, which knows what it showed.
 pub fn agrees_after_update()
-    ensures { (painter : PainterState) (wanted : ShownPicture) (stream text : List ℕ) (t : Terminal) → HasSize painter.lines painter.columns t.picture
-        → Agrees painter stream t → IsClearingText painter.lines painter.columns wanted text
+    ensures { (painter : PainterState) (clear : Bool) (wanted : ShownPicture) (stream text : List ℕ) (t : Terminal) → HasSize painter.lines painter.columns t.picture
+        → Agrees painter stream t → IsUpdateText painter clear wanted text
         → Agrees (record painter { last = Some wanted }) (stream ++ text) t }
 {}
 
 /// After a doupdate that was broken off all that was sent agrees with the painter, which knows nothing then.
 pub fn agrees_after_fault()
-    ensures { (painter : PainterState) (wanted : ShownPicture) (stream text : List ℕ) (sent : ℕ) (t : Terminal) → HasSize painter.lines painter.columns t.picture
-        → Agrees painter stream t → IsClearingText painter.lines painter.columns wanted text → sent ≤ length text
+    ensures { (painter : PainterState) (clear : Bool) (wanted : ShownPicture) (stream text : List ℕ) (sent : ℕ) (t : Terminal) → HasSize painter.lines painter.columns t.picture
+        → Agrees painter stream t → IsUpdateText painter clear wanted text → sent ≤ length text
         → Agrees (record painter { last = None }) (stream ++ take sent text) t }
 {}
 
 /// Behind any stream that agrees with the painter, the text of a doupdate leaves the terminal showing the picture and the
 /// cursor.
 pub fn shows_after_update()
-    ensures { (painter : PainterState) (wanted : ShownPicture) (stream text : List ℕ) (t : Terminal) → HasSize painter.lines painter.columns t.picture
-        → Agrees painter stream t → IsClearingText painter.lines painter.columns wanted text
+    ensures { (painter : PainterState) (clear : Bool) (wanted : ShownPicture) (stream text : List ℕ) (t : Terminal) → HasSize painter.lines painter.columns t.picture
+        → Agrees painter stream t → IsUpdateText painter clear wanted text
         → LeadsWithBreaks (stream ++ text) t (showing wanted.picture wanted.cursor) }
 {}

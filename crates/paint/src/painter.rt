@@ -1,12 +1,12 @@
 //! A painter: it sends pictures to terminals of one size.
 
-ghost use Rattle.std.specs.Prelude.{◌≡◌, ◌<◌, ◌↔◌, ◌⊎◌, ◌||◌, IfOk, IfErr, IsErrOf, IsTrue, MatchResult, Some, None, is_ok, if◌then◌else◌};
+ghost use Rattle.std.specs.Prelude.{◌≡◌, ◌<◌, ◌≤◌, ◌↔◌, ◌⊎◌, ◌||◌, Bool, IfOk, IfErr, IsErrOf, IsTrue, MatchResult, Some, None, is_ok, if◌then◌else◌};
 ghost use Rattle.cell.specs.Pictures.{HasSize};
 ghost use Rattle.cell.specs.Limits.{is_no_size};
 ghost use Rattle.paint.specs.Updates.{first_painter, Updates, BreaksOff};
 
 use crate::plain::send_text;
-use cell::{Grid, LARGEST_SCREEN, Refusal, is_no_size};
+use cell::{Grid, LARGEST_SCREEN, Refusal, Shown, is_no_size};
 use std::alloc::Global;
 use std::marker::Model;
 use streams::{Sent, Sink, WriteFault};
@@ -14,23 +14,25 @@ use streams::{Sent, Sink, WriteFault};
 /// Sends pictures to terminals of one size, and knows which picture and cursor it showed there last.
 #[derive(Drop)]
 pub struct Painter {
-    lines: u8,
-    columns: u8,
-    picture: Grid,
+    lines: u16,
+    columns: u16,
+    picture: Grid<Shown>,
     // The line and column where the cursor was put with the picture, and none where what was shown last is unknown.
-    cursor: Option<(u8, u8)>,
+    cursor: Option<(u16, u16)>,
 }
 
 impl Model for Painter {
     ghost use Rattle.std.specs.Option.{option_map};
+    ghost use Rattle.std.specs.Prelude.{◌≤◌};
     ghost use Rattle.cell.specs.Pictures.{HasSize};
+    ghost use Rattle.cell.specs.declared.limits.TheConstants.{LARGEST_SCREEN};
     ghost use Rattle.paint.specs.Updates.{PainterState};
 
     ghost Value = { PainterState };
 
     ghost view = { λ p. record { lines = p.lines; columns = p.columns; last = option_map (λ cursor. record { picture = p.picture; cursor = cursor }) p.cursor } };
 
-    ghost invariant = { λ p. HasSize p.lines p.columns p.picture };
+    ghost invariant = { λ p. (p.lines ≤ LARGEST_SCREEN) × (p.columns ≤ LARGEST_SCREEN) × HasSize p.lines p.columns p.picture };
 }
 
 impl Painter {
@@ -46,8 +48,8 @@ impl Painter {
         }
         match Grid::new(alloc, lines, columns) {
             Ok(picture) => Ok(Painter {
-                lines: lines as u8,
-                columns: columns as u8,
+                lines,
+                columns,
                 picture,
                 cursor: None,
             }),
@@ -56,23 +58,24 @@ impl Painter {
     }
 
     /// Shows a picture of the painter's size, with the cursor at a line and a column, on any terminal of that size:
-    /// it sends one text and flushes once. After an error what was shown last is unknown.
+    /// it sends one text and flushes once. The text clears the terminal first, whether `clear` asks for it or not. After an
+    /// error what was shown last is unknown.
     pub fn doupdate<W: Sink>(
         &mut self,
-        picture: &Grid,
+        picture: &Grid<Shown>,
         cursor: (u16, u16),
+        clear: bool,
         sink: &mut W,
     ) -> Result<Sent, WriteFault>
         requires size { HasSize self.old.lines self.old.columns picture.now }
         requires line { cursor.0 < self.old.lines }
         requires column { cursor.1 < self.old.columns }
         ensures text { MatchResult result
-            (λ sent. Updates self.old (W.seen sink.old) (W.seen sink.new) (record { picture = picture.now; cursor = cursor }) sent.bytes)
-            (λ fault. BreaksOff self.old (W.seen sink.old) (W.seen sink.new) (record { picture = picture.now; cursor = cursor }) fault.sent) }
+            (λ sent. Updates self.old clear (W.seen sink.old) (W.seen sink.new) (record { picture = picture.now; cursor = cursor }) sent.bytes)
+            (λ fault. BreaksOff self.old clear (W.seen sink.old) (W.seen sink.new) (record { picture = picture.now; cursor = cursor }) fault.sent) }
         ensures painter { self.new ≡ record self.old { last = (if is_ok result then Some (record { picture = picture.now; cursor = cursor }) else None) } }
     {
         self.cursor = None;
-        let cursor = (cursor.0 as u8, cursor.1 as u8);
         let sent = send_picture(sink, picture, self.lines, self.columns, cursor)?;
         self.picture.copy_from(picture);
         self.cursor = Some(cursor);
@@ -83,17 +86,19 @@ impl Painter {
 /// Sends the text of a picture of this size, and flushes.
 fn send_picture<W: Sink>(
     sink: &mut W,
-    picture: &Grid,
-    lines: u8,
-    columns: u8,
-    cursor: (u8, u8),
+    picture: &Grid<Shown>,
+    lines: u16,
+    columns: u16,
+    cursor: (u16, u16),
 ) -> Result<Sent, WriteFault>
+    requires few_lines { lines ≤ LARGEST_SCREEN }
+    requires few_columns { columns ≤ LARGEST_SCREEN }
     requires size { HasSize lines columns picture.now }
     requires line { cursor.0 < lines }
     requires column { cursor.1 < columns }
-    ensures { MatchResult result
-        (λ sent. Updates (first_painter lines columns) (W.seen sink.old) (W.seen sink.new) (record { picture = picture.now; cursor = cursor }) sent.bytes)
-        (λ fault. BreaksOff (first_painter lines columns) (W.seen sink.old) (W.seen sink.new) (record { picture = picture.now; cursor = cursor }) fault.sent) }
+    ensures { (clear : Bool) → MatchResult result
+        (λ sent. Updates (first_painter lines columns) clear (W.seen sink.old) (W.seen sink.new) (record { picture = picture.now; cursor = cursor }) sent.bytes)
+        (λ fault. BreaksOff (first_painter lines columns) clear (W.seen sink.old) (W.seen sink.new) (record { picture = picture.now; cursor = cursor }) fault.sent) }
 {
     // Reading a line tells the proof that each cell can be printed.
     prove!(picture.row(0).len() == usize::from(columns));

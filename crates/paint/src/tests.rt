@@ -2,7 +2,7 @@ ghost use Rattle.std.specs.Prelude.{IfOk};
 ghost use Rattle.cell.specs.Pictures.{HasSize};
 
 use crate::{Counted, Painter, Sent, WriteFault};
-use cell::{Attr, Cell, Grid, Refusal};
+use cell::{Attr, Colour, ColourPair, Grid, Refusal, Rendition, Shown};
 use std::alloc::Global;
 use std::io;
 use std::io::{ErrorKind, Write};
@@ -56,12 +56,12 @@ impl Write for Stuck {
 }
 
 /// The screen of 4 lines and 10 columns with the word hi at its top, and the text that shows it.
-fn greeting(alloc: Global) -> Result<Grid, Fail>
+fn greeting(alloc: Global) -> Result<Grid<Shown>, Fail>
     ensures { IfOk result (λ grid. HasSize 4 10 grid) }
 {
     let mut grid = Grid::new(alloc, 4, 10)?;
-    grid.set(0, 0, Cell::new(b'h', Attr::NONE).ok_or("no cell")?);
-    grid.set(0, 1, Cell::new(b'i', Attr::NONE).ok_or("no cell")?);
+    grid.set(0, 0, Shown::new(b'h', Rendition::NONE).ok_or("no cell")?);
+    grid.set(0, 1, Shown::new(b'i', Rendition::NONE).ok_or("no cell")?);
     Ok(grid)
 }
 
@@ -74,7 +74,7 @@ fn shows_a_screen(rt: HostRuntime) -> Result<(), Fail> {
     let mut painter = Painter::new(rt.alloc(), 4, 10)?;
     let mut sink = Counted::new(Vec::new(rt.alloc()));
     assert_eq!(rt;
-        painter.doupdate(&picture, (0, 2), &mut &mut sink)?,
+        painter.doupdate(&picture, (0, 2), false, &mut &mut sink)?,
         Sent { bytes: 84 }
     );
     assert_eq!(rt; sink.get_ref().as_slice(), GREETING);
@@ -83,15 +83,20 @@ fn shows_a_screen(rt: HostRuntime) -> Result<(), Fail> {
 }
 
 #[test]
-fn shows_a_bold_cell(rt: HostRuntime) -> Result<(), Fail> {
+fn shows_a_bold_cell_in_yellow(rt: HostRuntime) -> Result<(), Fail> {
     let mut picture = Grid::new(rt.alloc(), 1, 1)?;
-    picture.set(0, 0, Cell::new(b'A', Attr::BOLD).ok_or("no cell")?);
+    let pair = ColourPair {
+        foreground: Some(Colour::YELLOW),
+        background: None,
+    };
+    let rendition = Rendition::new(Attr::BOLD, pair);
+    picture.set(0, 0, Shown::new(b'A', rendition).ok_or("no cell")?);
     let mut painter = Painter::new(rt.alloc(), 1, 1)?;
     let mut sink = Counted::new(Vec::new(rt.alloc()));
-    let sent = painter.doupdate(&picture, (0, 0), &mut sink)?;
-    let expected = b"\x1b[0m\x1b[2J\x1b[1;1H\x1b[1;1H\x1b[0;1mA\x1b[0m\x1b[1;1H";
+    let sent = painter.doupdate(&picture, (0, 0), false, &mut sink)?;
+    let expected = b"\x1b[0m\x1b[2J\x1b[1;1H\x1b[1;1H\x1b[0;1;33mA\x1b[0m\x1b[1;1H";
     assert_eq!(rt; sink.get_ref().as_slice(), expected.as_slice());
-    assert_eq!(rt; sent.bytes, 37);
+    assert_eq!(rt; sent.bytes, 40);
     Ok(())
 }
 
@@ -106,12 +111,12 @@ fn shows_all_after_a_fault(rt: HostRuntime) -> Result<(), Fail> {
             fails,
         });
         assert_eq!(rt;
-            painter.doupdate(&picture, (0, 2), &mut sink),
+            painter.doupdate(&picture, (0, 2), false, &mut sink),
             Err(WriteFault { sent: 5 })
         );
         assert_eq!(rt; sink.get_ref().taken.as_slice(), b"\x1b[0m\x1b".as_slice());
         assert_eq!(rt;
-            painter.doupdate(&picture, (0, 2), &mut sink),
+            painter.doupdate(&picture, (0, 2), false, &mut sink),
             Ok(Sent { bytes: 84 })
         );
         assert_eq!(rt; sink.get_ref().taken.get(5..), Some(GREETING));
@@ -127,7 +132,7 @@ fn tells_of_a_flush_that_fails(rt: HostRuntime) -> Result<(), Fail> {
         taken: Vec::new(rt.alloc()),
     });
     assert_eq!(rt;
-        painter.doupdate(&picture, (0, 2), &mut sink),
+        painter.doupdate(&picture, (0, 2), false, &mut sink),
         Err(WriteFault { sent: 84 })
     );
     assert_eq!(rt; sink.get_ref().taken.as_slice(), GREETING);
@@ -136,12 +141,12 @@ fn tells_of_a_flush_that_fails(rt: HostRuntime) -> Result<(), Fail> {
 
 #[test]
 fn refuses_other_sizes(rt: HostRuntime) -> Result<(), Fail> {
-    for (lines, columns) in [(0, 1), (1, 0), (256, 1), (1, 256)] {
+    for (lines, columns) in [(0, 1), (1, 0), (1000, 1), (1, 1000)] {
         assert_eq!(rt;
             Painter::new(rt.alloc(), lines, columns).err(),
             Some(Refusal::BadSize)
         );
     }
-    let _ = Painter::new(rt.alloc(), 255, 255)?;
+    let _ = Painter::new(rt.alloc(), 999, 999)?;
     Ok(())
 }

@@ -8,13 +8,13 @@ use Rattle.cell.specs.declared.refusal.Refusal.{Refusal}
 use Rattle.world.specs.declared.call.Reply.{Reply}
 use Rattle.world.specs.declared.call.Reply.TheVariants.{Nothing, Number, Pair, Cell, Composed, Sent}
 
--- what the log says of a reply, if it says something: a number, two numbers, or the code of a character and its attributes in two
--- hexadecimal digits
+-- what the log says of a reply, if it says something: a number, two numbers, or of a cell the code of its character, its attributes in two
+-- hexadecimal digits, and its colour pair
 abbrev pub reply_text : Reply → Option (List ℕ)
 reply_text Nothing = None
 reply_text (Number win) = Some (decimal win.0)
 reply_text (Pair y x) = Some (decimal y ++ space ∷ decimal x)
-reply_text (Cell shown) = Some (decimal shown.character ++ space ∷ hex_digits shown.attributes)
+reply_text (Cell cell) = Some (decimal cell.character ++ space ∷ hex_digits cell.attributes ++ space ∷ decimal cell.pair)
 reply_text (Composed composed) = None
 reply_text (Sent sent) = None
 

@@ -9,9 +9,9 @@ use Rattle.cell.specs.declared.window.WinId.{WinId}
 use Rattle.world.specs.declared.call.Call.{Call}
 use Rattle.world.specs.declared.call.Call.TheVariants.{Making, Writing, Query, Refresh}
 use Rattle.world.specs.declared.call.Making.TheVariants.{Newwin, Subwin, Derwin, Newpad, Subpad, Delwin, Mvwin, Mvderwin}
-use Rattle.world.specs.declared.call.Writing.TheVariants.{Move, Addch, Addstr, Insch, Delch, Insertln, Deleteln, Erase, Clrtoeol, Clrtobot, Scrl, Setscrreg, Scrollok, Attrset, Attron, Attroff, Bkgdset}
+use Rattle.world.specs.declared.call.Writing.TheVariants.{Move, Addch, Addstr, Insch, Delch, Insertln, Deleteln, Erase, Clrtoeol, Clrtobot, Scrl, Setscrreg, Scrollok, Attrset, Attron, Attroff, Bkgdset, ColorSet, Bkgdpair}
 use Rattle.world.specs.declared.call.Query.TheVariants.{Getyx, Getbegyx, Getmaxyx, Getparyx, Inch}
-use Rattle.world.specs.declared.call.Refresh.TheVariants.{UpdatePanels, Doupdate}
+use Rattle.world.specs.declared.call.Refresh.TheVariants.{UpdatePanels, Doupdate, InitPair}
 use Rattle.script.specs.declared.words.TheConstants.{WORDS}
 use Rattle.script.specs.declared.words.Form.{Form}
 use Rattle.script.specs.declared.words.Form.TheVariants.{Number, Signed, Attributes, Flag, Character, Text}
@@ -84,6 +84,8 @@ entry_of word.Attrset = record { word = codes "attrset"; forms = Number ∷ Attr
 entry_of word.Attron = record { word = codes "attron"; forms = Number ∷ Attributes ∷ []; call = λ a. Writing (Attron (window a) (attributes a)) }
 entry_of word.Attroff = record { word = codes "attroff"; forms = Number ∷ Attributes ∷ []; call = λ a. Writing (Attroff (window a) (attributes a)) }
 entry_of word.Bkgdset = record { word = codes "bkgdset"; forms = Number ∷ Attributes ∷ Character ∷ []; call = λ a. Writing (Bkgdset (window a) (attributes a) (character a)) }
+entry_of word.ColorSet = record { word = codes "color_set"; forms = Number ∷ Number ∷ []; call = λ a. Writing (ColorSet (window a) (number a 1)) }
+entry_of word.Bkgdpair = record { word = codes "bkgdpair"; forms = Number ∷ Number ∷ []; call = λ a. Writing (Bkgdpair (window a) (number a 1)) }
 -- queries
 entry_of word.Getyx = record { word = codes "getyx"; forms = Number ∷ []; call = λ a. Query (Getyx (window a)) }
 entry_of word.Getbegyx = record { word = codes "getbegyx"; forms = Number ∷ []; call = λ a. Query (Getbegyx (window a)) }
@@ -93,6 +95,7 @@ entry_of word.Inch = record { word = codes "inch"; forms = Number ∷ []; call =
 -- refresh
 entry_of word.UpdatePanels = record { word = codes "update_panels"; forms = []; call = λ a. Refresh UpdatePanels }
 entry_of word.Doupdate = record { word = codes "doupdate"; forms = []; call = λ a. Refresh Doupdate }
+entry_of word.InitPair = record { word = codes "init_pair"; forms = Number ∷ Number ∷ Number ∷ []; call = λ a. Refresh (InitPair (number a 0) (number a 1) (number a 2)) }
 
 -- the call of a script word
 abbrev pub word_of : List ℕ → Option Word

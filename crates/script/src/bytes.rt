@@ -1,6 +1,6 @@
 //! The bytes of a script, one after another.
 
-ghost use Rattle.std.specs.Prelude.{◌≡◌, ◌≤◌, ◌<◌, ◌∷◌, [], length, true};
+ghost use Rattle.std.specs.Prelude.{◌≡◌, ◌≤◌, ◌<◌, ◌∷◌, ◌||◌, [], length, false, true};
 ghost use Rattle.streams.specs.Counts.{counted};
 ghost use Rattle.script.specs.steps.Bytes.{ReadsByte, ReadsLine, byte_ended, byte_failed, is_byte, is_line, line_ended, line_failed, work_left};
 
@@ -77,7 +77,8 @@ impl Bytes {
     /// The next byte. It reads where all bytes are used.
     fn next<R: Source>(&mut self, source: &mut R) -> Next
         ensures byte { ReadsByte (R.seen source.old) (R.seen source.new) self.old self.new result }
-        ensures ended { byte_ended result ≡ true → (R.seen source.new).met_end ≡ true }
+        ensures ended { (R.seen source.new).met_end ≡ (byte_ended result || (R.seen source.old).met_end) }
+        ensures past { (R.seen source.old).met_end ≡ false → (R.seen source.new).read_past_end ≡ (R.seen source.old).read_past_end }
         ensures failures { (R.seen source.new).failures ≡ counted (byte_failed result) (R.seen source.old).failures }
         ensures progress { is_byte result ≡ true → work_left (R.seen source.new) self.new < work_left (R.seen source.old) self.old }
     {
@@ -96,14 +97,15 @@ impl Bytes {
     }
 
     /// The bytes up to the next newline, in place of what was in `line`. Of a line that is too long it takes as many as
-    /// a line may have, and one more.
+    /// a line may have, and one more. Where the end is met, nothing is read behind it.
     pub fn next_line<R: Source>(
         &mut self,
         source: &mut R,
         line: &mut ArrayVec<u8, LONGEST_LINE>,
     ) -> LineRead
         ensures line { ReadsLine (R.seen source.old) (R.seen source.new) self.old self.new line.new.items result }
-        ensures ended { line_ended result ≡ true → (R.seen source.new).met_end ≡ true }
+        ensures ended { (R.seen source.new).met_end ≡ (line_ended result || (R.seen source.old).met_end) }
+        ensures past { (R.seen source.old).met_end ≡ false → (R.seen source.new).read_past_end ≡ (R.seen source.old).read_past_end }
         ensures failures { (R.seen source.new).failures ≡ counted (line_failed result) (R.seen source.old).failures }
         ensures progress { is_line result ≡ true → work_left (R.seen source.new) self.new < work_left (R.seen source.old) self.old }
     {

@@ -14,8 +14,8 @@ use world::Reply;
 /// Room for a line of the log.
 const LINE_ROOM: usize = 128;
 
-/// The most bytes that the log says of a reply: two numbers with a space between them.
-const LONGEST_REPLY: usize = 2 * MOST_DECIMAL_DIGITS + 1;
+/// The most bytes that the log says of a reply: two numbers, and between them two spaces and two digits.
+const LONGEST_REPLY: usize = 2 * MOST_DECIMAL_DIGITS + 4;
 
 /// Puts what the log says of a reply at the end, and answers whether it says something.
 fn append_reply(line: &mut ArrayVec<u8, LINE_ROOM>, reply: Reply) -> bool
@@ -36,21 +36,25 @@ fn append_reply(line: &mut ArrayVec<u8, LINE_ROOM>, reply: Reply) -> bool
             append_decimal(line, u64::from(cell.ch()));
             append(line, b" ");
             append(line, &cell.attr().hex_digits());
+            append(line, b" ");
+            append_decimal(line, u64::from(cell.pair().number()));
         }
     }
     true
 }
 
 /// Writes the line of a call that answers something or is refused, and nothing for another. An error leaves a front of the
-/// line.
+/// line, and not all. Nothing is flushed.
 pub fn log_answer<L: Sink>(
     log: &mut L,
     number: u64,
     answer: Result<Reply, Refusal>,
 ) -> Result<(), WriteFault>
     ensures ok { OnOk result (Appends (L.seen log.old).taken (L.seen log.new).taken (log_line number answer)) }
-    ensures err { IfErr result (λ fault. Appends (L.seen log.old).taken (L.seen log.new).taken (take fault.sent (log_line number answer))) }
+    ensures err { IfErr result (λ fault. (fault.sent < length (log_line number answer))
+        × Appends (L.seen log.old).taken (L.seen log.new).taken (take fault.sent (log_line number answer))) }
     ensures failures { (L.seen log.new).failures ≡ counted (is_err result) (L.seen log.old).failures }
+    ensures flushes { (L.seen log.new).flushes ≡ (L.seen log.old).flushes }
 {
     let mut line = ArrayVec::<u8, LINE_ROOM>::new();
     append(&mut line, b"line ");

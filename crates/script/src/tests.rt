@@ -68,7 +68,7 @@ fn said(alloc: Global, line: &[u8]) -> Result<String, Fail> {
 
 /// Lines with their calls.
 #[rattlefmt::skip]
-const CALLS: [(&str, &str); 32] = [
+const CALLS: [(&str, &str); 35] = [
     ("newwin 3 6 0 2", "Making(Newwin { lines: 3, columns: 6, y: 0, x: 2 })"),
     ("subwin 1 2 3 4 5", "Making(Subwin { win: WinId(1), lines: 2, columns: 3, y: 4, x: 5 })"),
     ("derwin 1 2 3 4 5", "Making(Derwin { win: WinId(1), lines: 2, columns: 3, y: 4, x: 5 })"),
@@ -93,6 +93,9 @@ const CALLS: [(&str, &str); 32] = [
     ("attrset 0 00", "Writing(Attrset { win: WinId(0), attrs: Attr(0) })"),
     ("attron 0 2a", "Writing(Attron { win: WinId(0), attrs: Attr(42) })"),
     ("attroff 0 3f", "Writing(Attroff { win: WinId(0), attrs: Attr(63) })"),
+    ("color_set 3 63", "Writing(ColorSet { win: WinId(3), pair: 63 })"),
+    ("bkgdpair 0 64", "Writing(Bkgdpair { win: WinId(0), pair: 64 })"),
+    ("init_pair 1 7 0", "Refresh(InitPair { pair: 1, foreground: 7, background: 0 })"),
     ("bkgdset 0 10 .", "Writing(Bkgdset { win: WinId(0), attrs: Attr(16), ch: 46 })"),
     ("getyx 1", "Query(Getyx { win: WinId(1) })"),
     ("getbegyx 1", "Query(Getbegyx { win: WinId(1) })"),
@@ -231,11 +234,11 @@ fn a_line_has_at_most_512_bytes(rt: HostRuntime) {
 
 #[test]
 fn answers_have_their_lines(rt: HostRuntime) -> Result<(), Fail> {
-    let cell = Cell::new(b'A', Attr::REVERSE).ok_or("no cell")?;
+    let cell = Cell::new(b'A', Attr::REVERSE, 63).ok_or("no cell")?;
     let answers = [
         (1, Ok(Reply::Number(WinId(2))), "line 1: 2\n"),
         (12, Ok(Reply::Pair(3, 0)), "line 12: 3 0\n"),
-        (7, Ok(Reply::Cell(cell)), "line 7: 65 10\n"),
+        (7, Ok(Reply::Cell(cell)), "line 7: 65 10 63\n"),
         (9, Err(Refusal::NoSuchWindow), "line 9: E1 NoSuchWindow\n"),
         (
             u64::MAX,

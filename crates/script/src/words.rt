@@ -33,26 +33,26 @@ pub enum Word {
     Newwin, Subwin, Derwin, Newpad, Subpad, Delwin, Mvwin, Mvderwin,
     // Writing.
     Move, Addch, Addstr, Insch, Delch, Insertln, Deleteln, Erase, Clrtoeol, Clrtobot, Scrl, Setscrreg, Scrollok,
-    Attrset, Attron, Attroff, Bkgdset,
+    Attrset, Attron, Attroff, Bkgdset, ColorSet, Bkgdpair,
     // Queries.
     Getyx, Getbegyx, Getmaxyx, Getparyx, Inch,
     // Refresh.
-    UpdatePanels, Doupdate,
+    UpdatePanels, Doupdate, InitPair,
 }
 
 /// Every word.
 #[rattlefmt::skip]
-const WORDS: [Word; 32] = [
+const WORDS: [Word; 35] = [
     // Making and placing.
     Word::Newwin, Word::Subwin, Word::Derwin, Word::Newpad, Word::Subpad, Word::Delwin, Word::Mvwin, Word::Mvderwin,
     // Writing.
     Word::Move, Word::Addch, Word::Addstr, Word::Insch, Word::Delch, Word::Insertln, Word::Deleteln, Word::Erase,
     Word::Clrtoeol, Word::Clrtobot, Word::Scrl, Word::Setscrreg, Word::Scrollok,
-    Word::Attrset, Word::Attron, Word::Attroff, Word::Bkgdset,
+    Word::Attrset, Word::Attron, Word::Attroff, Word::Bkgdset, Word::ColorSet, Word::Bkgdpair,
     // Queries.
     Word::Getyx, Word::Getbegyx, Word::Getmaxyx, Word::Getparyx, Word::Inch,
     // Refresh.
-    Word::UpdatePanels, Word::Doupdate,
+    Word::UpdatePanels, Word::Doupdate, Word::InitPair,
 ];
 
 /// How a word is written, and the forms of its call's arguments.
@@ -112,6 +112,8 @@ impl Word {
             Word::Attron => Row { word: b"attron", forms: &[Number, Attributes] },
             Word::Attroff => Row { word: b"attroff", forms: &[Number, Attributes] },
             Word::Bkgdset => Row { word: b"bkgdset", forms: &[Number, Attributes, Character] },
+            Word::ColorSet => Row { word: b"color_set", forms: &[Number, Number] },
+            Word::Bkgdpair => Row { word: b"bkgdpair", forms: &[Number, Number] },
             // Queries.
             Word::Getyx => Row { word: b"getyx", forms: &[Number] },
             Word::Getbegyx => Row { word: b"getbegyx", forms: &[Number] },
@@ -121,6 +123,7 @@ impl Word {
             // Refresh.
             Word::UpdatePanels => Row { word: b"update_panels", forms: &[] },
             Word::Doupdate => Row { word: b"doupdate", forms: &[] },
+            Word::InitPair => Row { word: b"init_pair", forms: &[Number, Number, Number] },
         }
     }
 
@@ -159,6 +162,8 @@ impl Word {
             Word::Attron => Call::Writing(Writing::Attron { win, attrs: a.attributes() }),
             Word::Attroff => Call::Writing(Writing::Attroff { win, attrs: a.attributes() }),
             Word::Bkgdset => Call::Writing(Writing::Bkgdset { win, attrs: a.attributes(), ch: a.character() }),
+            Word::ColorSet => Call::Writing(Writing::ColorSet { win, pair: a.number(1) }),
+            Word::Bkgdpair => Call::Writing(Writing::Bkgdpair { win, pair: a.number(1) }),
             // Queries.
             Word::Getyx => Call::Query(Query::Getyx { win }),
             Word::Getbegyx => Call::Query(Query::Getbegyx { win }),
@@ -168,6 +173,7 @@ impl Word {
             // Refresh.
             Word::UpdatePanels => Call::Refresh(Refresh::UpdatePanels),
             Word::Doupdate => Call::Refresh(Refresh::Doupdate),
+            Word::InitPair => Call::Refresh(Refresh::InitPair { pair: a.number(0), foreground: a.number(1), background: a.number(2) }),
         }
     }
 }

@@ -32,13 +32,15 @@ pub record IsPartlySent (old new : Seen) (sent : ℕ) (piece rest : List ℕ) (t
   pub count : total ≡ sent + length front
   pub bytes : Appends old.taken new.taken front
   pub failures : new.failures ≡ old.failures
+  pub flushes : new.flushes ≡ old.flushes
 
 pub Sends-nothing : {old : Seen} {sent : ℕ} → Sends old old sent [] (Ok sent)
-Sends-nothing {old} {sent} = record { ends = (omega arith, Appends-nothing old.taken, refl) }
+Sends-nothing {old} {sent} = record { ends = (omega arith, Appends-nothing old.taken, refl); flushes = refl }
 
 pub Sends-then : {a b c : Seen} {sent total : ℕ} {s t : List ℕ} {r : Result ℕ WriteFault} → Sends a b sent s (Ok total) → Sends b c total t r → Sends a c sent (s ++ t) r
 Sends-then {a} {b} {c} {sent} {total} {s} {t} {r = Ok n} h k = record {
   ends = (omega (arith, h.ends.0, k.ends.0, length-append s t), Appends-append a.taken b.taken c.taken s t h.ends.1 k.ends.1, k.ends.2 ∙ h.ends.2);
+  flushes = k.flushes ∙ h.flushes;
 }
 Sends-then {a} {b} {c} {sent} {total} {s} {t} {r = Err fault} h k = record {
   ends = (
@@ -48,21 +50,24 @@ Sends-then {a} {b} {c} {sent} {total} {s} {t} {r = Err fault} h k = record {
     rw (take-append-add s t k.ends.0) (Appends-append a.taken b.taken c.taken s (take k.ends.0 t) h.ends.1 k.ends.3),
     k.ends.4 ∙ ap next_count h.ends.2,
   );
+  flushes = k.flushes ∙ h.flushes;
 }
 
 pub Sends-front : {a b : Seen} {sent : ℕ} {s : List ℕ} {fault : WriteFault} (t : List ℕ) → Sends a b sent s (Err fault) → Sends a b sent (s ++ t) (Err fault)
 Sends-front {a} {b} {sent} {s} {fault} t h = record {
-  ends = (h.ends.0, omega (arith, h.ends.1, length-append s t), h.ends.2, rw (take-append-le h.ends.0 s t h.ends.1) h.ends.3, h.ends.4);
+  ends = (h.ends.0, omega (arith, h.ends.1, length-append s t), h.ends.2, rw (take-append-le h.ends.0 s t (omega (arith, h.ends.1))) h.ends.3, h.ends.4);
+  flushes = h.flushes;
 }
 
 pub IsPartlySent-more : (old mid new : Seen) (sent : ℕ) (piece rest : List ℕ) (total n more : ℕ) → IsPartlySent old mid sent piece rest total → n ≤ length rest
-    → Appends mid.taken new.taken (take n rest) → new.failures ≡ mid.failures → more ≡ total + n → IsPartlySent old new sent piece (drop n rest) more
-IsPartlySent-more old mid new sent piece rest total n more h short bytes failures e = record {
+    → Appends mid.taken new.taken (take n rest) → new.failures ≡ mid.failures → new.flushes ≡ mid.flushes → more ≡ total + n → IsPartlySent old new sent piece (drop n rest) more
+IsPartlySent-more old mid new sent piece rest total n more h short bytes failures flushes e = record {
   front = h.front ++ take n rest;
   whole = rw (append_assoc, take-append-drop n rest) h.whole;
   count = omega (arith, h.count, length-append h.front (take n rest), length-take-le n rest short);
   bytes = Appends-append old.taken mid.taken new.taken h.front (take n rest) h.bytes bytes;
   failures = failures ∙ h.failures;
+  flushes = flushes ∙ h.flushes;
 }
 
 -- a write that takes some bytes counts no failure
@@ -72,7 +77,7 @@ failures-some failures n piece h = rw (ne_eqb n 0 h) refl
 -- ---- a text in pieces
 
 pub IsPartlySent-none : {old : Seen} {sent : ℕ} {text : List ℕ} → IsPartlySent old old sent text text sent
-IsPartlySent-none {old} {sent} {text} = record { front = []; whole = refl; count = omega arith; bytes = Appends-nothing old.taken; failures = refl }
+IsPartlySent-none {old} {sent} {text} = record { front = []; whole = refl; count = omega arith; bytes = Appends-nothing old.taken; failures = refl; flushes = refl }
 
 pub IsPartlySent-then : {old mid new : Seen} {sent : ℕ} {whole piece rest : List ℕ} {total n : ℕ} → IsPartlySent old mid sent whole (piece ++ rest) total
     → Sends mid new total piece (Ok n) → IsPartlySent old new sent whole rest n
@@ -82,10 +87,11 @@ IsPartlySent-then {old} {mid} {new} {sent} {whole} {piece} {rest} {total} {n} h 
   count = omega (arith, h.count, k.ends.0, length-append h.front piece);
   bytes = Appends-append old.taken mid.taken new.taken h.front piece h.bytes k.ends.1;
   failures = k.ends.2 ∙ h.failures;
+  flushes = k.flushes ∙ h.flushes;
 }
 
 Sends-partly : {old mid : Seen} {sent : ℕ} {whole rest : List ℕ} {total : ℕ} (h : IsPartlySent old mid sent whole rest total) → Sends old mid sent h.front (Ok total)
-Sends-partly h = record { ends = (h.count, h.bytes, h.failures) }
+Sends-partly h = record { ends = (h.count, h.bytes, h.failures); flushes = h.flushes }
 
 pub IsPartlySent-fails : {old mid new : Seen} {sent : ℕ} {whole piece : List ℕ} {total : ℕ} {fault : WriteFault} (rest : List ℕ) → IsPartlySent old mid sent whole (piece ++ rest) total
     → Sends mid new total piece (Err fault) → Sends old new sent whole (Err fault)

@@ -3,11 +3,12 @@
 use Rattle.std.specs.Prelude.{if◌then◌else◌, ◌==◌, ℕ, List, Option, Result, Ok, Err, Bool, true, false}
 use Rattle.streams.specs.Counts.{moved_nothing}
 
--- The bytes that it took so far, where they are known, how many failures it counted, and whether a flush succeeded
--- after the last byte.
+-- The bytes that it took so far, where they are known, how many failures it counted, how many flushes were tried, and
+-- whether one succeeded after the last byte.
 pub record Seen : Type 0 where
   pub taken : Option (List ℕ)
   pub failures : ℕ
+  pub flushes : ℕ
   pub flushed : Bool
 
 -- An error is a failure of a write, and so is an answer of 0 for a piece that isn't empty.

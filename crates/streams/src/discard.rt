@@ -8,20 +8,24 @@ use std::io;
 /// Takes every byte, and keeps none. It never fails.
 #[derive(Drop)]
 pub struct Discard {
+    flushes: u64,
     flushed: bool,
 }
 
 impl Discard {
     /// A sink to which nothing was written.
     pub fn new() -> Discard
-        ensures { ⟦<Discard as Sink>⟧.seen result ≡ record { taken = None; failures = 0; flushed = false } }
+        ensures { ⟦<Discard as Sink>⟧.seen result ≡ record { taken = None; failures = 0; flushes = 0; flushed = false } }
     {
-        Discard { flushed: false }
+        Discard {
+            flushes: 0,
+            flushed: false,
+        }
     }
 }
 
 impl Sink for Discard {
-    ghost seen = { λ s. record { taken = None; failures = 0; flushed = s.flushed } };
+    ghost seen = { λ s. record { taken = None; failures = 0; flushes = s.flushes; flushed = s.flushed } };
 
     fn write(&mut self, piece: &[u8]) -> io::Result<usize> {
         if !piece.is_empty() {
@@ -31,6 +35,7 @@ impl Sink for Discard {
     }
 
     fn flush(&mut self) -> io::Result<()> {
+        self.flushes = self.flushes.wrapping_add(1);
         self.flushed = true;
         Ok(())
     }

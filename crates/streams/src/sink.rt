@@ -3,7 +3,7 @@
 ghost use Rattle.std.specs.Prelude.{◌≡◌, false, is_err};
 ghost use Rattle.std.specs.Io.{WritesAtMost};
 ghost use Rattle.std.specs.Io.KnownBytes.{WriteAppends, Keeps};
-ghost use Rattle.streams.specs.Counts.{counted};
+ghost use Rattle.streams.specs.Counts.{counted, next_count};
 ghost use Rattle.streams.specs.Sinks.{Seen, write_fails, flushed_after_write, flushed_after_flush};
 
 use std::io;
@@ -12,7 +12,7 @@ use std::io::Write;
 /// What takes bytes, and counts its failures: an error, an answer of 0 for a piece that isn't empty, or a flush that
 /// fails.
 pub trait Sink {
-    // What it took, how often it failed, and whether it was flushed.
+    // What it took, how often it failed, how often a flush was tried, and whether it was flushed.
     ghost seen: { Self → Seen };
 
     /// Takes a front of the piece, and says how long it is.
@@ -20,12 +20,14 @@ pub trait Sink {
         ensures bound { WritesAtMost result piece.now }
         ensures bytes { WriteAppends (seen self.old).taken (seen self.new).taken result piece.now }
         ensures failures { (seen self.new).failures ≡ counted (write_fails piece.now result) (seen self.old).failures }
+        ensures flushes { (seen self.new).flushes ≡ (seen self.old).flushes }
         ensures flushed { (seen self.new).flushed ≡ flushed_after_write (seen self.old).flushed result };
 
     /// Hands on all that was taken.
     fn flush(&mut self) -> io::Result<()>
         ensures bytes { Keeps (seen self.old).taken (seen self.new).taken }
         ensures failures { (seen self.new).failures ≡ counted (is_err result) (seen self.old).failures }
+        ensures flushes { (seen self.new).flushes ≡ next_count (seen self.old).flushes }
         ensures flushed { (seen self.new).flushed ≡ flushed_after_flush (seen self.old).flushed result };
 }
 
@@ -46,17 +48,19 @@ impl<S: Sink> Sink for &mut S {
 pub struct Counted<W> {
     writer: W,
     failures: u64,
+    flushes: u64,
     flushed: bool,
 }
 
 impl<W: Write> Counted<W> {
     /// A sink that took what the writer has taken, with no failure yet.
     pub fn new(writer: W) -> Counted<W>
-        ensures { ⟦<Counted<W> as Sink>⟧.seen result ≡ record { taken = W.contents writer; failures = 0; flushed = false } }
+        ensures { ⟦<Counted<W> as Sink>⟧.seen result ≡ record { taken = W.contents writer; failures = 0; flushes = 0; flushed = false } }
     {
         Counted {
             writer,
             failures: 0,
+            flushes: 0,
             flushed: false,
         }
     }
@@ -75,6 +79,7 @@ impl<W: Write> Counted<W> {
         let Counted {
             writer,
             failures: _,
+            flushes: _,
             flushed: _,
         } = self;
         writer
@@ -82,7 +87,12 @@ impl<W: Write> Counted<W> {
 }
 
 impl<W: Write> Sink for Counted<W> {
-    ghost seen = { λ s. record { taken = W.contents s.writer; failures = s.failures; flushed = s.flushed } };
+    ghost seen = { λ s. record {
+      taken = W.contents s.writer;
+      failures = s.failures;
+      flushes = s.flushes;
+      flushed = s.flushed;
+    } };
 
     fn write(&mut self, piece: &[u8]) -> io::Result<usize> {
         let outcome = self.writer.write(piece);
@@ -96,6 +106,7 @@ impl<W: Write> Sink for Counted<W> {
 
     fn flush(&mut self) -> io::Result<()> {
         let outcome = self.writer.flush();
+        self.flushes = self.flushes.wrapping_add(1);
         match outcome {
             Ok(()) => self.flushed = true,
             Err(_) => self.failures = self.failures.wrapping_add(1),

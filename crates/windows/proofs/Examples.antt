@@ -11,7 +11,7 @@ use Rattle.world.specs.Drawings.{at_place, character_deleted, character_inserted
 use Rattle.world.specs.calls.writing.Editing.{after_scrl}
 
 letter : ℕ → Glyph
-letter character = record { character = character; attributes = 0 }
+letter character = record { character = character; attributes = 0; pair = 0 }
 
 star : Glyph
 unfolding letter

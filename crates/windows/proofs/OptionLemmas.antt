@@ -4,9 +4,11 @@ use Rattle.std.specs.Int.RustNames.{bit_or}
 use Rattle.std.proofs.lemmas.Nat.{and_le_l}
 use Rattle.cell.specs.Attributes.{bits_of, known}
 use Rattle.cell.specs.Glyphs.{Glyph, is_printable}
+use Rattle.cell.specs.declared.limits.TheConstants.{LAST_PAIR}
+use Rattle.std.specs.Prelude.{◌&&◌, nat_le}
 use Rattle.world.specs.Windows.{Windows}
 use Rattle.world.specs.Settings.{after_set_settings, set}
-use Rattle.world.specs.calls.writing.Options.{with_attributes, with_background, with_region, with_scrolling, after_attron, after_attroff, after_bkgdset, after_setscrreg, after_scrollok}
+use Rattle.world.specs.calls.writing.Options.{with_attributes, with_background, with_background_pair, with_pair, with_region, with_scrolling, after_attron, after_attroff, after_bkgdset, after_color_set, after_bkgdpair, after_setscrreg, after_scrollok}
 use Rattle.cell.specs.Attributes.{without}
 use Rattle.cell.specs.declared.attr.Attr.{Attr}
 use Rattle.world.specs.declared.settings.Settings.{Settings}
@@ -28,11 +30,18 @@ module _ (windows new : Windows) (w : ℕ) (s : WindowState) (h : IsStateOf wind
   pub region_set : (top bottom : ℕ) → new ≡ after_set_settings windows w (record s.settings { region = (top, bottom) }) → new ≡ after_setscrreg windows w top bottom
   region_set top bottom is = set-known (record s.settings { region = (top, bottom) }) (with_region top bottom) h.within.attributes refl is
 
-  pub background_set : (cell : Glyph) (attributes character : ℕ) → cell ≡ record { character = character; attributes = known attributes }
+  pub background_set : (cell : Glyph) (attributes character : ℕ) → cell ≡ record { character = character; attributes = known attributes; pair = 0 }
       → new ≡ after_set_settings windows w (record s.settings { background = cell }) → new ≡ after_bkgdset windows w attributes character
   background_set cell attributes character e is =
-      set-known (record s.settings { background = cell }) (with_background (record { character = character; attributes = known attributes })) h.within.attributes
+      set-known (record s.settings { background = cell }) (with_background (record { character = character; attributes = known attributes; pair = 0 })) h.within.attributes
       (ap (λ g. with_background g s.settings) e) is
+
+  pub pair_set : (own pair : ℕ) → own ≡ pair → new ≡ after_set_settings windows w (record s.settings { pair = own }) → new ≡ after_color_set windows w pair
+  pair_set own pair same is = set-known (record s.settings { pair = own }) (with_pair pair) h.within.attributes (ap (λ p. with_pair p s.settings) same) is
+
+  pub background_pair_set : (cell : Glyph) (pair : ℕ) → cell ≡ record s.settings.background { pair = pair } → new ≡ after_set_settings windows w (record s.settings { background = cell })
+      → new ≡ after_bkgdpair windows w pair
+  background_pair_set cell pair same is = set-known (record s.settings { background = cell }) (with_background_pair pair) h.within.attributes (ap (λ g. with_background g s.settings) same) is
 
   pub attributes_added : (sum own : Attr) (attributes : ℕ) → bits_of own ≡ known attributes → bits_of own < 64 → bits_of sum ≡ bit_or (bits_of s.settings.attrs) (bits_of own)
       → new ≡ after_set_settings windows w (record s.settings { attrs = sum }) → new ≡ after_attron windows w attributes
@@ -54,6 +63,13 @@ some-of true cell v e = cc
 some-of false cell v e = cc
 
 pub made-cell : (cell : Glyph) (character attributes : ℕ)
-    → (let o : Option Glyph = if is_printable character then Some (record { character = character; attributes = known attributes }) else None in Some cell ≡ o)
-    → cell ≡ record { character = character; attributes = known attributes }
-made-cell cell character attributes e = some-of (is_printable character) cell (record { character = character; attributes = known attributes }) e
+    → (let o : Option Glyph = if is_printable character && nat_le 0 LAST_PAIR then Some (record { character = character; attributes = known attributes; pair = 0 }) else None in Some cell ≡ o)
+    → cell ≡ record { character = character; attributes = known attributes; pair = 0 }
+made-cell cell character attributes e = some-of (is_printable character && nat_le 0 LAST_PAIR) cell (record { character = character; attributes = known attributes; pair = 0 }) e
+
+-- a pair that is in the table
+pub made-pair : (own pair : ℕ) → (let o : Option ℕ = if nat_le pair LAST_PAIR then Some pair else None in Some own ≡ o) → own ≡ pair
+made-pair own pair e = same_number (nat_le pair LAST_PAIR) own pair e where
+  same_number : (t : Bool) (own pair : ℕ) → (let o : Option ℕ = if t then Some pair else None in Some own ≡ o) → own ≡ pair
+  same_number true own pair e = cc
+  same_number false own pair e = cc

@@ -8,7 +8,9 @@ use Rattle.cell.specs.Attributes.{bits_of, known}
 use Rattle.cell.specs.Pictures.{Place}
 use Rattle.world.specs.Windows.{Window, WindowMap, Windows, GridPlace, Drawing, own, drawn, put_from, put_windows, put, HasPlace}
 use Rattle.world.specs.Settings.{with_settings, after_set_settings, set_in, set, with_cursor}
-use Rattle.world.specs.Sound.{AreSoundWindows}
+use Rattle.std.specs.Prelude.{⊤, MatchOption}
+use Rattle.world.specs.Sound.{AreSoundWindows, IsSoundWindow}
+use Rattle.world.specs.calls.Queries.{window_size}
 use Rattle.world.specs.declared.settings.Settings.{Settings}
 use Rattle.world.proofs.WindowLaws.{own-put}
 use Rattle.windows.specs.steps.State.{IsStateOf}
@@ -87,3 +89,32 @@ pub set-cursor : (windows new : Windows) (w : ℕ) (s : WindowState) (place : Pl
 set-cursor windows new w s place h is =
     let bits = known-small (bits_of s.settings.attrs) h.within.attributes in
     is ∙ set-is windows w s (record s.settings { cursor = place }) (with_cursor place) h (λ i. record s.settings { cursor = place; attrs = record { 0 = bits i } })
+
+-- a window of a sound world has the state that its size and its settings make
+state_from : (windows : Windows) (w : ℕ) (size : ℕ × ℕ) (settings : Settings) (o : Option Window) → windows.window w ≡ o → AreSoundWindows windows
+    → option_map (λ (a : Window). (a.lines, a.columns)) o ≡ Some size → option_map (λ (a : Window). a.settings) o ≡ Some settings
+    → IsStateOf windows w (record { lines = size.0; columns = size.1; settings = settings })
+state_from windows w size settings None e sound size_is settings_are = cc
+state_from windows w size settings (Some a) e sound size_is settings_are =
+    let window : IsSoundWindow windows w a = subst (λ (o : Option Window). MatchOption o ⊤ (IsSoundWindow windows w)) e (sound.each w) in
+    let same_size : (a.lines, a.columns) ≡ size = cc in
+    let same_settings : a.settings ≡ settings = cc in
+    let own_state : IsStateOf windows w (record { lines = a.lines; columns = a.columns; settings = a.settings }) = record {
+      window = a;
+      there = e;
+      lines = refl;
+      columns = refl;
+      settings = refl;
+      has_line = window.has_line;
+      has_column = window.has_column;
+      few_lines = window.few_lines;
+      few_columns = window.few_columns;
+      within = window.settings;
+      chain_ends = window.chain_ends;
+      sound = sound;
+    } in
+    subst (λ (s : WindowState). IsStateOf windows w s) (λ i. record { lines = (same_size i).0; columns = (same_size i).1; settings = same_settings i }) own_state
+
+pub state-from : (windows : Windows) (w lines columns : ℕ) (settings : Settings) → AreSoundWindows windows → window_size windows.window w ≡ Some (lines, columns)
+    → option_map (λ (a : Window). a.settings) (windows.window w) ≡ Some settings → IsStateOf windows w (record { lines = lines; columns = columns; settings = settings })
+state-from windows w lines columns settings sound size_is settings_are = state_from windows w (lines, columns) settings (windows.window w) refl sound size_is settings_are

@@ -124,10 +124,12 @@ some-of : (t : Bool) (cell v : Glyph) → (let o : Option Glyph = if t then Some
 some-of true cell v e = cc
 some-of false cell v e = cc
 
-pub written-is : (settings : Settings) (character shown attributes : ℕ) (t : Bool) (cell : Glyph) → bits_of settings.attrs < 64 → settings.background.attributes < 64
+pub written-is : (settings : Settings) (character shown attributes pair : ℕ) (t : Bool) (cell : Glyph) → bits_of settings.attrs < 64 → settings.background.attributes < 64
     → shown ≡ (if character == 32 then settings.background.character else character) → attributes ≡ bit_or (bits_of settings.attrs) settings.background.attributes
-    → (let o : Option Glyph = if t then Some (record { character = shown; attributes = known attributes }) else None in Some cell ≡ o)
-    → cell ≡ written_glyph settings character
-written-is settings character shown attributes t cell few small shown_is attributes_are e =
+    → pair ≡ (if settings.pair == 0 then settings.background.pair else settings.pair)
+    → (let o : Option Glyph = if t then Some (record { character = shown; attributes = known attributes; pair = 0 }) else None in Some cell ≡ o)
+    → record cell { pair = pair } ≡ written_glyph settings character
+written-is settings character shown attributes pair t cell few small shown_is attributes_are pair_is e =
     let together = ap known attributes_are ∙ known-either (bits_of settings.attrs) settings.background.attributes few small in
-    some-of t cell (record { character = shown; attributes = known attributes }) e ∙ (λ i. record { character = shown_is i; attributes = together i })
+    let made = some-of t cell (record { character = shown; attributes = known attributes; pair = 0 }) e in
+    ap (λ (g : Glyph). record g { pair = pair }) made ∙ (λ i. record { character = shown_is i; attributes = together i; pair = pair_is i })

@@ -19,7 +19,7 @@ pub struct Windows {
 }
 
 impl Windows {
-    /// A screen of 1 to 255 lines and columns, with the blank standard screen alone.
+    /// A screen of 1 to `LARGEST_SCREEN` lines and columns, with the blank standard screen alone.
     ///
     /// # Errors
     /// `BadSize` for a size out of these limits, `NoMemory`.

@@ -92,6 +92,31 @@ fn background_is_written_for_spaces(rt: HostRuntime) -> Result<(), Fail> {
 }
 
 #[test]
+fn characters_have_a_pair(rt: HostRuntime) -> Result<(), Fail> {
+    let mut windows = Windows::new(rt.alloc(), 1, 6)?;
+    assert_eq!(rt; windows.wbkgdset(SCREEN, Attr::NONE, b'.'), Ok(()));
+    assert_eq!(rt; windows.wbkgdpair(SCREEN, 2), Ok(()));
+    assert_eq!(rt; write(&mut windows, "a "), Ok(lines(0, 0, 0, 1)));
+    assert_eq!(rt; windows.wcolor_set(SCREEN, 63), Ok(()));
+    assert_eq!(rt; write(&mut windows, "b "), Ok(lines(0, 0, 2, 3)));
+    assert_eq!(rt; windows.wclrtoeol(SCREEN), Ok(lines(0, 0, 4, 5)));
+    assert!(rt; shows(&windows, SCREEN, 0, "a.b...")?);
+    let (height, _) = windows.table.getmaxyx(SCREEN)?;
+    if height > 0 {
+        let row = windows.table.row(SCREEN, 0);
+        assert!(rt;
+            row.iter()
+                .zip([2u8, 2, 63, 63, 2, 2].as_slice())
+                .all(|(cell, pair)| cell.pair().number() == *pair)
+        );
+    }
+    assert_eq!(rt; windows.wcolor_set(SCREEN, 64), Err(Refusal::BadPair));
+    assert_eq!(rt; windows.wbkgdpair(SCREEN, 64), Err(Refusal::BadPair));
+    assert_eq!(rt; windows.wbkgdpair(WinId(9), 64), Err(Refusal::NoSuchWindow));
+    Ok(())
+}
+
+#[test]
 fn characters_are_inserted_and_deleted(rt: HostRuntime) -> Result<(), Fail> {
     let mut windows = Windows::new(rt.alloc(), 1, 4)?;
     assert_eq!(rt; write(&mut windows, "abcd"), Ok(lines(0, 0, 0, 3)));

@@ -13,8 +13,8 @@ use Rattle.world.specs.declared.call.Call.TheVariants as calls
 use Rattle.world.specs.declared.call.Making.{Making}
 use Rattle.world.specs.declared.call.Making.TheVariants.{Newwin, Subwin, Derwin, Newpad, Subpad, Delwin, Mvwin, Mvderwin}
 use Rattle.world.specs.declared.call.Writing.{Writing}
-use Rattle.world.specs.declared.call.Writing.TheVariants.{Move, Addch, Addstr, Insch, Delch, Insertln, Deleteln, Erase, Clrtoeol, Clrtobot, Scrl, Setscrreg, Scrollok, Attrset, Attron, Attroff, Bkgdset}
-use Rattle.world.specs.declared.call.Refresh.TheVariants.{UpdatePanels, Doupdate}
+use Rattle.world.specs.declared.call.Writing.TheVariants.{Move, Addch, Addstr, Insch, Delch, Insertln, Deleteln, Erase, Clrtoeol, Clrtobot, Scrl, Setscrreg, Scrollok, Attrset, Attron, Attroff, Bkgdset, ColorSet, Bkgdpair}
+use Rattle.world.specs.declared.call.Refresh.TheVariants.{UpdatePanels, Doupdate, InitPair}
 
 pub record SameSize (one other : Windows) : Type 0 where
   pub lines : one.lines ≡ other.lines
@@ -100,6 +100,8 @@ size-writing windows (Attrset win attributes) = record { lines = refl; columns =
 size-writing windows (Attron win attributes) = record { lines = refl; columns = refl }
 size-writing windows (Attroff win attributes) = record { lines = refl; columns = refl }
 size-writing windows (Bkgdset win attributes character) = record { lines = refl; columns = refl }
+size-writing windows (ColorSet win pair) = record { lines = refl; columns = refl }
+size-writing windows (Bkgdpair win pair) = record { lines = refl; columns = refl }
 
 pub size-call : (world : World) (call : Call) → SameSize (world_after world call).windows world.windows
 size-call world (calls.Making making) = size-making world.windows making
@@ -107,3 +109,4 @@ size-call world (calls.Writing writing) = size-writing world.windows writing
 size-call world (calls.Query query) = record { lines = refl; columns = refl }
 size-call world (calls.Refresh UpdatePanels) = record { lines = refl; columns = refl }
 size-call world (calls.Refresh Doupdate) = record { lines = refl; columns = refl }
+size-call world (calls.Refresh (InitPair pair foreground background)) = record { lines = refl; columns = refl }

@@ -11,11 +11,13 @@ use Rattle.world.specs.declared.settings.Settings.{Settings}
 
 -- ---- characters
 
--- A written space becomes the background's character, and every character has the attributes of the window and of the background.
+-- A written space becomes the background's character; every character has the attributes of the window and of the background, and the
+-- window's pair, or the background's where the window's is 0.
 abbrev pub written_glyph : Settings → ℕ → Glyph
 written_glyph settings character = record {
   character = (if character == 32 then settings.background.character else character);
   attributes = bit_or (bits_of settings.attrs) settings.background.attributes;
+  pair = (if settings.pair == 0 then settings.background.pair else settings.pair);
 }
 
 -- one cell at a place

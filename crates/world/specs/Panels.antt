@@ -3,7 +3,8 @@
 use Rattle.std.specs.Prelude.{unwrap_or, ℕ, ◌+◌, ◌-◌, Bool, false, ◌==◌, ◌&&◌, nat_lt, nat_le, Option, Some, None, List, [], reverse, find}
 use Rattle.std.specs.List.{filter_map, last_or}
 use Rattle.std.specs.Option.{option_map_or}
-use Rattle.cell.specs.Pictures.{Place, Shown, origin}
+use Rattle.cell.specs.Glyphs.{Glyph}
+use Rattle.cell.specs.Pictures.{Place, origin}
 use Rattle.cell.specs.declared.limits.TheConstants.{MOST_PANELS}
 use Rattle.world.specs.Windows.{Window, WindowMap, any_below, cell_at}
 
@@ -65,12 +66,12 @@ abbrev pub place_of : WindowMap → ℕ → Place
 place_of window w = option_map_or screen_place (window w) origin
 
 -- the cell that window w shows at the place (y, x) of the screen
-abbrev pub cell_on_screen : WindowMap → ℕ → ℕ → ℕ → Shown
+abbrev pub cell_on_screen : WindowMap → ℕ → ℕ → ℕ → Glyph
 cell_on_screen window w y x = cell_at window w (y - (place_of window w).0) (x - (place_of window w).1)
 
 -- What a search from the top visible panel down to the standard screen finds at (y, x): the cell of the owner's window, or of the
 -- standard screen where no panel owns the place.
-abbrev pub found_from_top : WindowMap → Panels → ℕ → ℕ → Shown
+abbrev pub found_from_top : WindowMap → Panels → ℕ → ℕ → Glyph
 found_from_top window panels y x = cell_on_screen window (window_or_standard panels (owner window panels y x)) y x
 
 -- ---- the cursor

@@ -2,8 +2,9 @@
 use Rattle.std.specs.Prelude.{◌≡◌, ◌≢◌, ℕ, ◌+◌, ◌<◌, ◌≤◌, Option, Some, None, is_some, IsSome, IsSomeAnd, MatchOption, ⊤, All, AllPairs}
 use Rattle.cell.specs.Attributes.{bits_of}
 use Rattle.cell.specs.Glyphs.{Glyph, IsCell}
-use Rattle.cell.specs.Pictures.{origin, HasSize, AreCells}
-use Rattle.cell.specs.declared.limits.TheConstants.{LARGEST_PAD, LARGEST_SCREEN, MOST_PANELS, MOST_WINDOWS}
+use Rattle.cell.specs.Pictures.{origin, HasSize, AreShown}
+use Rattle.cell.specs.Shown.{ArePairs}
+use Rattle.cell.specs.declared.limits.TheConstants.{LARGEST_PAD, LARGEST_SCREEN, LAST_PAIR, MOST_PANELS, MOST_WINDOWS}
 use Rattle.world.specs.Windows.{Backing, own_grid, part_of, Window, WindowMap, Windows, own}
 use Rattle.world.specs.Panels.{Panels, standard_screen}
 use Rattle.world.specs.World.{VirtualScreen, World}
@@ -38,6 +39,7 @@ pub record AreSettingsWithin (lines columns : ℕ) (settings : Settings) : Type 
   pub region_end : settings.region.1 < lines
   pub attributes : bits_of settings.attrs < 64
   pub background : IsCell settings.background
+  pub pair : settings.pair ≤ LAST_PAIR
 
 pub record IsSoundWindow (windows : Windows) (w : ℕ) (a : Window) : Type 0 where
   pub number : w ≤ MOST_WINDOWS
@@ -83,11 +85,12 @@ pub record AreSoundPanels (window : WindowMap) (panels : Panels) : Type 0 where
 
 pub record IsSoundVirtual (lines columns : ℕ) (virtual : VirtualScreen) : Type 0 where
   pub size : HasSize lines columns virtual.picture
-  pub cells : AreCells virtual.picture
+  pub cells : AreShown virtual.picture
   pub line : virtual.cursor.0 < lines
   pub column : virtual.cursor.1 < columns
 
 pub record IsSound (world : World) : Type 0 where
   pub windows : AreSoundWindows world.windows
   pub panels : AreSoundPanels world.windows.window world.panels
+  pub pairs : ArePairs world.pairs
   pub virtual : IsSoundVirtual world.windows.lines world.windows.columns world.virtual

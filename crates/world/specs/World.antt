@@ -1,8 +1,9 @@
--- The world that calls change: the windows, the panels, and the virtual screen, which is what the next doupdate shows.
--- X/Open Curses Issue 7: wnoutrefresh and doupdate ("virtual screen"); NetBSD panel(3): update_panels.
+-- The world that calls change: the windows, the panels, the colour pairs, and the virtual screen, which is what the next doupdate shows.
+-- X/Open Curses Issue 7: wnoutrefresh and doupdate ("virtual screen"), init_pair; NetBSD panel(3): update_panels.
 use Rattle.std.specs.Prelude.{ℕ, ◌-◌, Bool, false, Option, Some, None}
 use Rattle.cell.specs.Glyphs.{blank}
-use Rattle.cell.specs.Pictures.{Picture, Place, Shown, origin, blank_picture}
+use Rattle.cell.specs.Pictures.{Picture, Place, origin, blank_picture}
+use Rattle.cell.specs.Shown.{Shown, Pairs, shown, first_pairs}
 use Rattle.world.specs.Windows.{Backing, own_grid, Window, Windows, no_windows, replaced}
 use Rattle.world.specs.Panels.{Panels, no_panels, standard_screen, found_from_top, cursor_of_topmost}
 use Rattle.world.specs.declared.settings.Settings.{Settings}
@@ -16,15 +17,16 @@ pub record VirtualScreen : Type 0 where
 pub record World : Type 0 where
   pub windows : Windows
   pub panels : Panels
+  pub pairs : Pairs
   pub virtual : VirtualScreen
 
 -- windows under a virtual screen, without panels
-abbrev pub without_panels : Windows → VirtualScreen → World
-without_panels windows virtual = record { windows = windows; panels = no_panels; virtual = virtual }
+abbrev pub without_panels : Windows → Pairs → VirtualScreen → World
+without_panels windows pairs virtual = record { windows = windows; panels = no_panels; pairs = pairs; virtual = virtual }
 
--- the picture of the world: what the search from the top finds at (y, x)
+-- the picture of the world: what the search from the top finds at (y, x), in the colours that its pair has
 abbrev pub picture : World → ℕ → ℕ → Shown
-picture world y x = found_from_top world.windows.window world.panels y x
+picture world y x = shown world.pairs (found_from_top world.windows.window world.panels y x)
 
 -- the topmost's cursor
 abbrev pub topmost_cursor : World → Place
@@ -34,7 +36,7 @@ topmost_cursor world = cursor_of_topmost world.windows.window world.panels
 
 -- what a new window is set to
 abbrev pub first_settings : ℕ → Settings
-first_settings lines = record { cursor = origin; region = (0, lines - 1); attrs = record { 0 = 0 }; background = blank; scrolling = false; clear = false }
+first_settings lines = record { cursor = origin; region = (0, lines - 1); attrs = record { 0 = 0 }; background = blank; pair = 0; scrolling = false; clear = false }
 
 abbrev pub blank_grid : Backing
 blank_grid = own_grid (λ y x. blank)
@@ -47,4 +49,5 @@ new_window lines columns place backing = record { lines = lines; columns = colum
 abbrev pub first_world : ℕ → ℕ → World
 first_world lines columns = without_panels
     (record { lines = lines; columns = columns; window = replaced no_windows standard_screen (Some (new_window lines columns (Some origin) blank_grid)) })
+    first_pairs
     (record { picture = blank_picture lines columns; cursor = origin; clear = false })

@@ -104,8 +104,12 @@ pub enum Writing<'a> {
     Attron { win: WinId, attrs: Attr },
     /// Takes attributes away.
     Attroff { win: WinId, attrs: Attr },
-    /// Sets the background to a character with attributes.
+    /// Sets the background to a character with attributes, of pair 0.
     Bkgdset { win: WinId, attrs: Attr, ch: u8 },
+    /// Sets the colour pair.
+    ColorSet { win: WinId, pair: u16 },
+    /// Sets the background's colour pair.
+    Bkgdpair { win: WinId, pair: u16 },
 }
 
 /// The calls that ask about a window or pad.
@@ -123,13 +127,19 @@ pub enum Query {
     Inch { win: WinId },
 }
 
-/// The calls that refresh.
+/// The calls that refresh, and the one that sets the colours of a pair.
 #[derive(Clone, Copy, Debug)]
 pub enum Refresh {
     /// Takes the picture of the windows and panels into the virtual screen.
     UpdatePanels,
     /// Shows the virtual screen on the terminal.
     Doupdate,
+    /// Gives a colour pair a foreground and a background, each by its number.
+    InitPair {
+        pair: u16,
+        foreground: u16,
+        background: u16,
+    },
 }
 
 /// How many cells of windows an `update_panels` read.

@@ -53,9 +53,9 @@ pub fn kept_picture()
     ensures written { (world : World) (w : ℕ) (a : Window) (f : Drawing) (y x : ℕ) → AreSoundWindows world.windows
         → world.windows.window w ≡ Some a → y < world.windows.lines → x < world.windows.columns
         → frame_affects world w (frame_of a f) y ≡ false
-        → found_from_top (put_windows world.windows.window w f) world.panels y x ≡ picture world y x }
+        → found_from_top (put_windows world.windows.window w f) world.panels y x ≡ found_from_top world.windows.window world.panels y x }
     ensures moved { (world : World) (w v z y x : ℕ) → AreSoundWindows world.windows → mvderwin_refusal world.windows w v z ≡ None
-        → move_affects world w y ≡ false → found_from_top (after_mvderwin world.windows w v z).window world.panels y x ≡ picture world y x }
+        → move_affects world w y ≡ false → found_from_top (after_mvderwin world.windows w v z).window world.panels y x ≡ found_from_top world.windows.window world.panels y x }
 {}
 
 /// Where a derived window is moved in its parent, each window that neither is it nor derives from it shows the cells that it showed.

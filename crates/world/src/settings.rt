@@ -1,6 +1,6 @@
 //! What a window is set to, and what is touched of it.
 
-use cell::{Attr, Cell};
+use cell::{Attr, Cell, PairId};
 
 /// The columns of a line from a first to a last, both inclusive.
 #[derive(Clone, Copy, PartialEq, Eq, Debug)]
@@ -16,6 +16,7 @@ pub struct Settings {
     pub region: (u16, u16),
     pub attrs: Attr,
     pub background: Cell,
+    pub pair: PairId,
     pub scrolling: bool,
     pub clear: bool,
 }

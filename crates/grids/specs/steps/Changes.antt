@@ -30,7 +30,7 @@ pub record Changed (old new : List (Option Kept)) (at : ℕ) (change : Window �
 
 -- another offset of a derived window in its parent
 abbrev pub shifted : ℕ → ℕ → Cells → Cells
-shifted y x (Own picture) = Own picture
+shifted y x (Own sheet) = Own sheet
 shifted y x (Shared part) = Shared (record part { line = y; column = x })
 
 -- one derived window's offset was changed, and nothing else

@@ -10,7 +10,7 @@ use Rattle.grids.specs.Tables.{slot_at}
 
 -- the parent and the offset into it, of a derived window
 abbrev pub part_in : Cells → Option Part
-part_in (Own picture) = None
+part_in (Own sheet) = None
 part_in (Shared part) = Some part
 
 abbrev pub depth_at : List (Option Kept) → ℕ → ℕ

@@ -1,8 +1,9 @@
 -- The text of the plain painter, which sends each cell of a picture: its own words, and no promise of a painter.
-use Rattle.std.specs.Prelude.{◌≡◌, ℕ, ◌+◌, ◌*◌, ◌==◌, if◌then◌else◌, List, [], ◌∷◌, ◌++◌, Result, Ok, Err, ⊤}
-use Rattle.cell.specs.Attributes.{bits_of}
+use Rattle.std.specs.Prelude.{◌≡◌, ℕ, ◌+◌, ◌*◌, if◌then◌else◌, List, [], ◌∷◌, ◌++◌, Result, Ok, Err, ⊤}
 use Rattle.cell.specs.declared.limits.TheConstants.{LARGEST_SCREEN}
-use Rattle.cell.specs.Pictures.{Picture, Place, Shown, Rendition, no_rendition, rendition_of}
+use Rattle.cell.specs.Shown.{Shown, Rendition, no_rendition}
+use Rattle.cell.specs.Pictures.{Picture, Place}
+use Rattle.ecma.specs.Difference.{same_rendition}
 use Rattle.ecma.specs.declared.token.Erase.TheVariants.{All}
 use Rattle.ecma.specs.declared.token.Token.TheVariants.{Print, Cup, Sgr, Ed}
 use Rattle.ecma.specs.Spelling.{spelling, longest}
@@ -14,17 +15,17 @@ use Rattle.paint.specs.Updates.{opening}
 
 -- from one rendition to another
 unfoldable pub change : Rendition → Rendition → List ℕ
-change old new = if new == old then [] else spelling (Sgr (record { 0 = new }))
+change old new = if same_rendition new old then [] else spelling (Sgr new)
 
 -- the cells of a line, from a rendition on
 abbrev pub line_text : Rendition → List Shown → List ℕ
 line_text rendition [] = []
-line_text rendition (cell ∷ cells) = change rendition (rendition_of cell) ++ spelling (Print cell.character) ++ line_text (rendition_of cell) cells
+line_text rendition (cell ∷ cells) = change rendition cell.rendition ++ spelling (Print cell.character) ++ line_text cell.rendition cells
 
 -- the rendition behind these cells
 abbrev pub rendition_behind : Rendition → List Shown → Rendition
 rendition_behind rendition [] = rendition
-rendition_behind rendition (cell ∷ cells) = rendition_behind (rendition_of cell) cells
+rendition_behind rendition (cell ∷ cells) = rendition_behind cell.rendition cells
 
 -- the lines from this one on
 abbrev pub lines_text : ℕ → Rendition → Picture → List ℕ
@@ -45,7 +46,7 @@ plain_text picture place = opening ++ lines_text 0 no_rendition picture ++ endin
 -- ---- the most bytes that its parts have
 
 abbrev pub longest_change : ℕ
-longest_change = longest (Sgr (record { 0 = no_rendition }))
+longest_change = longest (Sgr no_rendition)
 
 abbrev pub longest_move : ℕ
 longest_move = longest (Cup 0 0)
@@ -73,7 +74,7 @@ sent_by (Ok after) = Ok after.sent
 sent_by (Err fault) = Err fault
 
 abbrev pub HasRendition : Rendition → Result Pen WriteFault → Type 0
-HasRendition rendition (Ok after) = bits_of after.rendition ≡ rendition
+HasRendition rendition (Ok after) = after.rendition ≡ rendition
 HasRendition rendition (Err fault) = ⊤
 
 -- the text was sent, and behind it the rendition is this one

@@ -1,6 +1,6 @@
 //! The calls that write characters.
 
-ghost use Rattle.std.specs.Prelude.{◌≡◌, ◌<◌, IsSome, IfOk, OnOk, OnErr, false, true};
+ghost use Rattle.std.specs.Prelude.{◌≡◌, ◌<◌, ◌==◌, if◌then◌else◌, IsSome, IfOk, OnOk, OnErr, false, true};
 ghost use Rattle.std.specs.List.{list_any};
 ghost use Rattle.std.specs.Result.{result_err};
 ghost use Rattle.cell.specs.Attributes.{bits_of};
@@ -17,7 +17,7 @@ use crate::frame::{joined, lines_from, place};
 use crate::state::{WindowState, set_cursor, state_of};
 use crate::table::Windows;
 use bitflags::Flags;
-use cell::{Cell, Frame, Refusal, WinId, is_printable};
+use cell::{Cell, Frame, PairId, Refusal, WinId, is_printable};
 use grids::Grids;
 use world::Settings;
 
@@ -238,8 +238,19 @@ fn written_cell(settings: &Settings, ch: u8) -> Cell
     } else {
         ch
     };
-    match Cell::new(shown, settings.attrs.union(settings.background.attr())) {
-        Some(cell) => cell,
+    match Cell::new(shown, settings.attrs.union(settings.background.attr()), 0) {
+        Some(cell) => cell.with_pair(written_pair(settings)),
         None => unreachable!(),
+    }
+}
+
+/// The pair of a printed character: the window's, or the background's where that is 0.
+fn written_pair(settings: &Settings) -> PairId
+    ensures { result ≡ (if settings.now.pair == 0 then settings.now.background.pair else settings.now.pair) }
+{
+    if settings.pair.number() == 0 {
+        settings.background.pair()
+    } else {
+        settings.pair
     }
 }

@@ -1,9 +1,9 @@
-//! The cursor, the attributes and the background of a window.
+//! The cursor, the attributes, the colours and the background of a window.
 
 ghost use Rattle.std.specs.Prelude.{◌≡◌, OnOk, OnErr};
 ghost use Rattle.std.specs.Result.{result_err};
 ghost use Rattle.cell.specs.Attributes.{bits_of};
-ghost use Rattle.world.specs.calls.writing.Options.{move_refusal, after_move, after_attrset, after_attron, after_attroff, bkgdset_refusal, after_bkgdset};
+ghost use Rattle.world.specs.calls.writing.Options.{move_refusal, after_move, after_attrset, after_attron, after_attroff, bkgdset_refusal, after_bkgdset, pair_refusal, after_color_set, after_bkgdpair};
 ghost use Rattle.world.specs.calls.Missing.{missing_refusal};
 ghost use Rattle.world.specs.Sound.{AreSoundWindows};
 ghost use Rattle.grids.specs.Tables.{windows};
@@ -11,7 +11,7 @@ ghost use Rattle.grids.specs.Tables.{windows};
 use crate::state::{set_cursor, state_of};
 use crate::table::Windows;
 use bitflags::Flags;
-use cell::{Attr, Cell, Refusal, WinId};
+use cell::{Attr, Cell, PairId, Refusal, WinId};
 use world::Settings;
 
 impl Windows {
@@ -90,7 +90,7 @@ impl Windows {
         Ok(())
     }
 
-    /// Sets the window's background to a character with attributes.
+    /// Sets the window's background to a character with attributes, of pair 0.
     ///
     /// # Errors
     /// `NoSuchWindow`; `BadCharacter` for a character outside 32 to 126.
@@ -101,9 +101,49 @@ impl Windows {
         ensures sound { AreSoundWindows (windows self.new.table) }
     {
         let state = state_of(&self.table, win)?;
-        let background = Cell::new(ch, attrs).ok_or(Refusal::BadCharacter)?;
+        let background = Cell::new(ch, attrs, 0).ok_or(Refusal::BadCharacter)?;
         let settings = Settings {
             background,
+            ..state.settings
+        };
+        self.table.set_settings(win, settings);
+        Ok(())
+    }
+
+    /// Sets the window's colour pair.
+    ///
+    /// # Errors
+    /// `NoSuchWindow`; `BadPair` for a number past `LAST_PAIR`.
+    pub fn wcolor_set(&mut self, win: WinId, pair: u16) -> Result<(), Refusal>
+        ensures refused { result_err result ≡ pair_refusal (windows self.old.table) win.0 pair }
+        ensures set { OnOk result (windows self.new.table ≡ after_color_set (windows self.old.table) win.0 pair) }
+        ensures unchanged { OnErr result (self.new ≡ self.old) }
+        ensures sound { AreSoundWindows (windows self.new.table) }
+    {
+        let state = state_of(&self.table, win)?;
+        let pair = PairId::new(pair).ok_or(Refusal::BadPair)?;
+        let settings = Settings {
+            pair,
+            ..state.settings
+        };
+        self.table.set_settings(win, settings);
+        Ok(())
+    }
+
+    /// Sets the colour pair of the window's background.
+    ///
+    /// # Errors
+    /// `NoSuchWindow`; `BadPair` for a number past `LAST_PAIR`.
+    pub fn wbkgdpair(&mut self, win: WinId, pair: u16) -> Result<(), Refusal>
+        ensures refused { result_err result ≡ pair_refusal (windows self.old.table) win.0 pair }
+        ensures set { OnOk result (windows self.new.table ≡ after_bkgdpair (windows self.old.table) win.0 pair) }
+        ensures unchanged { OnErr result (self.new ≡ self.old) }
+        ensures sound { AreSoundWindows (windows self.new.table) }
+    {
+        let state = state_of(&self.table, win)?;
+        let pair = PairId::new(pair).ok_or(Refusal::BadPair)?;
+        let settings = Settings {
+            background: state.settings.background.with_pair(pair),
             ..state.settings
         };
         self.table.set_settings(win, settings);

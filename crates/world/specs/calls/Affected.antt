@@ -1,6 +1,6 @@
 -- The screen lines on which a call can change the picture, and how many cells of windows an update_panels may read for them.
 -- X/Open Curses Issue 7 and NetBSD panel(3) say nothing of what a refresh reads: these bounds are Curspan's own.
-use Rattle.std.specs.Prelude.{ℕ, ◌+◌, ◌-◌, ◌*◌, Bool, false, if◌then◌else◌, ◌==◌, ◌&&◌, ◌||◌, nat_lt, nat_le, Option, None, is_none, List, [], ◌∷◌}
+use Rattle.std.specs.Prelude.{ℕ, ◌+◌, ◌-◌, ◌*◌, Bool, true, false, if◌then◌else◌, ◌==◌, ◌&&◌, ◌||◌, nat_lt, nat_le, Option, None, is_none, List, [], ◌∷◌}
 use Rattle.std.specs.List.{count_by, list_any, range_with_len}
 use Rattle.std.specs.Option.{option_map_or}
 use Rattle.world.specs.Windows.{Window, WindowMap, Windows, any_below, derives}
@@ -16,8 +16,10 @@ use Rattle.world.specs.declared.call.Call.{Call}
 use Rattle.world.specs.declared.call.Call.TheVariants as calls
 use Rattle.world.specs.declared.call.Making.{Making}
 use Rattle.world.specs.declared.call.Making.TheVariants.{Newwin, Subwin, Derwin, Newpad, Subpad, Delwin, Mvwin, Mvderwin}
+use Rattle.world.specs.declared.call.Refresh.{Refresh}
+use Rattle.world.specs.declared.call.Refresh.TheVariants.{UpdatePanels, Doupdate, InitPair}
 use Rattle.world.specs.declared.call.Writing.{Writing}
-use Rattle.world.specs.declared.call.Writing.TheVariants.{Move, Addch, Addstr, Insch, Delch, Insertln, Deleteln, Erase, Clrtoeol, Clrtobot, Scrl, Setscrreg, Scrollok, Attrset, Attron, Attroff, Bkgdset}
+use Rattle.world.specs.declared.call.Writing.TheVariants.{Move, Addch, Addstr, Insch, Delch, Insertln, Deleteln, Erase, Clrtoeol, Clrtobot, Scrl, Setscrreg, Scrollok, Attrset, Attron, Attroff, Bkgdset, ColorSet, Bkgdpair}
 
 -- ---- what a call writes: the window, and the frame in it
 
@@ -39,6 +41,8 @@ written_window (Attrset win attributes) = win.0
 written_window (Attron win attributes) = win.0
 written_window (Attroff win attributes) = win.0
 written_window (Bkgdset win attributes character) = win.0
+written_window (ColorSet win pair) = win.0
+written_window (Bkgdpair win pair) = win.0
 
 abbrev pub writing_frame : Windows → Writing → Option Frame
 writing_frame windows (Move win y x) = None
@@ -58,6 +62,8 @@ writing_frame windows (Attrset win attributes) = None
 writing_frame windows (Attron win attributes) = None
 writing_frame windows (Attroff win attributes) = None
 writing_frame windows (Bkgdset win attributes character) = None
+writing_frame windows (ColorSet win pair) = None
+writing_frame windows (Bkgdpair win pair) = None
 
 abbrev pub call_frame : World → Call → Option Frame
 call_frame world (calls.Making making) = None
@@ -98,12 +104,18 @@ making_affects world (Delwin win) line = false
 making_affects world (Mvwin win y x) line = false
 making_affects world (Mvderwin win y x) line = move_affects world win.0 line
 
+-- other colours of a pair show on every line
+abbrev pub refresh_affects : Refresh → ℕ → Bool
+refresh_affects UpdatePanels line = false
+refresh_affects Doupdate line = false
+refresh_affects (InitPair pair foreground background) line = true
+
 -- of an accepted call
 abbrev pub accepted_affects : World → Call → ℕ → Bool
 accepted_affects world (calls.Making making) line = making_affects world making line
 accepted_affects world (calls.Writing writing) line = frame_affects world (written_window writing) (writing_frame world.windows writing) line
 accepted_affects world (calls.Query query) line = false
-accepted_affects world (calls.Refresh refresh) line = false
+accepted_affects world (calls.Refresh refresh) line = refresh_affects refresh line
 
 -- The lines that a call affects: none if it is refused.
 abbrev pub affected_lines : World → Call → ℕ → Bool

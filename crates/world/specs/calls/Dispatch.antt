@@ -11,23 +11,23 @@ use Rattle.world.specs.calls.Making.{new_number, newwin_refusal, after_newwin, s
 use Rattle.world.specs.calls.writing.Characters.{addch_refusal, after_addch, addstr_refusal, after_addstr, insch_refusal, after_insch, after_delch}
 use Rattle.world.specs.calls.Missing.{missing_refusal}
 use Rattle.world.specs.calls.writing.Editing.{after_insertln, after_deleteln, after_erase, after_clrtoeol, after_clrtobot, scrl_refusal, after_scrl}
-use Rattle.world.specs.calls.writing.Options.{move_refusal, after_move, setscrreg_refusal, after_setscrreg, after_scrollok, after_attrset, after_attron, after_attroff, bkgdset_refusal, after_bkgdset}
+use Rattle.world.specs.calls.writing.Options.{move_refusal, after_move, setscrreg_refusal, after_setscrreg, after_scrollok, after_attrset, after_attron, after_attroff, bkgdset_refusal, after_bkgdset, pair_refusal, after_color_set, after_bkgdpair}
 use Rattle.world.specs.calls.Queries.{cell_at_cursor}
 use Rattle.world.specs.calls.Queries.{cursor_of, getbegyx_refusal, place_on_screen, window_size, getparyx_refusal, offset_in_parent}
-use Rattle.world.specs.calls.Refresh.{after_update_panels, after_doupdate, cells_composed}
+use Rattle.world.specs.calls.Refresh.{after_update_panels, after_doupdate, init_pair_refusal, after_init_pair}
 use Rattle.cell.specs.declared.refusal.Refusal.{Refusal}
 use Rattle.world.specs.declared.call.Call.{Call}
 use Rattle.world.specs.declared.call.Call.TheVariants as calls
 use Rattle.world.specs.declared.call.Making.{Making}
 use Rattle.world.specs.declared.call.Making.TheVariants.{Newwin, Subwin, Derwin, Newpad, Subpad, Delwin, Mvwin, Mvderwin}
 use Rattle.world.specs.declared.call.Writing.{Writing}
-use Rattle.world.specs.declared.call.Writing.TheVariants.{Move, Addch, Addstr, Insch, Delch, Insertln, Deleteln, Erase, Clrtoeol, Clrtobot, Scrl, Setscrreg, Scrollok, Attrset, Attron, Attroff, Bkgdset}
+use Rattle.world.specs.declared.call.Writing.TheVariants.{Move, Addch, Addstr, Insch, Delch, Insertln, Deleteln, Erase, Clrtoeol, Clrtobot, Scrl, Setscrreg, Scrollok, Attrset, Attron, Attroff, Bkgdset, ColorSet, Bkgdpair}
 use Rattle.world.specs.declared.call.Query.{Query}
 use Rattle.world.specs.declared.call.Query.TheVariants.{Getyx, Getbegyx, Getmaxyx, Getparyx, Inch}
 use Rattle.world.specs.declared.call.Refresh.{Refresh}
-use Rattle.world.specs.declared.call.Refresh.TheVariants.{UpdatePanels, Doupdate}
+use Rattle.world.specs.declared.call.Refresh.TheVariants.{UpdatePanels, Doupdate, InitPair}
 use Rattle.world.specs.declared.call.Reply.{Reply}
-use Rattle.world.specs.declared.call.Reply.TheVariants.{Nothing, Number, Pair, Cell, Composed}
+use Rattle.world.specs.declared.call.Reply.TheVariants.{Nothing, Number, Pair, Cell}
 
 -- ---- refusals: the first of a call's tests that holds
 
@@ -60,6 +60,8 @@ writing_refusal windows (Attrset win attributes) = missing_refusal windows.windo
 writing_refusal windows (Attron win attributes) = missing_refusal windows.window win.0
 writing_refusal windows (Attroff win attributes) = missing_refusal windows.window win.0
 writing_refusal windows (Bkgdset win attributes character) = bkgdset_refusal windows win.0 character
+writing_refusal windows (ColorSet win pair) = pair_refusal windows win.0 pair
+writing_refusal windows (Bkgdpair win pair) = pair_refusal windows win.0 pair
 
 abbrev pub query_refusal : Windows → Query → Option Refusal
 query_refusal windows (Getyx win) = missing_refusal windows.window win.0
@@ -68,15 +70,16 @@ query_refusal windows (Getmaxyx win) = missing_refusal windows.window win.0
 query_refusal windows (Getparyx win) = getparyx_refusal windows.window win.0
 query_refusal windows (Inch win) = missing_refusal windows.window win.0
 
-abbrev pub refresh_refusal : Windows → Refresh → Option Refusal
-refresh_refusal windows UpdatePanels = None
-refresh_refusal windows Doupdate = None
+abbrev pub refresh_refusal : Refresh → Option Refusal
+refresh_refusal UpdatePanels = None
+refresh_refusal Doupdate = None
+refresh_refusal (InitPair pair foreground background) = init_pair_refusal pair foreground background
 
 abbrev pub refusal : World → Call → Option Refusal
 refusal world (calls.Making making) = making_refusal world.windows (is_in_panel world.panels) making
 refusal world (calls.Writing writing) = writing_refusal world.windows writing
 refusal world (calls.Query query) = query_refusal world.windows query
-refusal world (calls.Refresh refresh) = refresh_refusal world.windows refresh
+refusal world (calls.Refresh refresh) = refresh_refusal refresh
 
 -- The calls that make a window or pad take memory. Where there is none of it, they are refused for that.
 abbrev pub makes_window : Making → Bool
@@ -129,6 +132,8 @@ after_writing windows (Attrset win attributes) = after_attrset windows win.0 (bi
 after_writing windows (Attron win attributes) = after_attron windows win.0 (bits_of attributes)
 after_writing windows (Attroff win attributes) = after_attroff windows win.0 (bits_of attributes)
 after_writing windows (Bkgdset win attributes character) = after_bkgdset windows win.0 (bits_of attributes) character
+after_writing windows (ColorSet win pair) = after_color_set windows win.0 pair
+after_writing windows (Bkgdpair win pair) = after_bkgdpair windows win.0 pair
 
 -- the world after a call that was accepted
 abbrev pub world_after : World → Call → World
@@ -137,6 +142,7 @@ world_after world (calls.Writing writing) = record world { windows = after_writi
 world_after world (calls.Query query) = world
 world_after world (calls.Refresh UpdatePanels) = after_update_panels world
 world_after world (calls.Refresh Doupdate) = after_doupdate world
+world_after world (calls.Refresh (InitPair pair foreground background)) = after_init_pair world pair foreground background
 
 -- ---- answers
 
@@ -154,13 +160,12 @@ query_reply windows (Inch win) = option_map_or (λ shown. Cell shown) (cell_at_c
 abbrev pub making_reply : Windows → Making → Reply
 making_reply windows making = if makes_window making then Number (record { 0 = next_window windows }) else Nothing
 
--- what a call answers that is neither refused nor doupdate
+-- what a call answers that is neither refused nor one of those that refresh
 abbrev pub reply_of : World → Call → Reply
 reply_of world (calls.Making making) = making_reply world.windows making
 reply_of world (calls.Writing writing) = Nothing
 reply_of world (calls.Query query) = query_reply world.windows query
-reply_of world (calls.Refresh UpdatePanels) = Composed (record { cells = cells_composed world })
-reply_of world (calls.Refresh Doupdate) = Nothing
+reply_of world (calls.Refresh refresh) = Nothing
 
 -- ---- kinds of calls
 
@@ -170,6 +175,7 @@ is_doupdate (calls.Writing writing) = false
 is_doupdate (calls.Query query) = false
 is_doupdate (calls.Refresh UpdatePanels) = false
 is_doupdate (calls.Refresh Doupdate) = true
+is_doupdate (calls.Refresh (InitPair pair foreground background)) = false
 
 abbrev pub is_update_panels : Call → Bool
 is_update_panels (calls.Making making) = false
@@ -177,3 +183,4 @@ is_update_panels (calls.Writing writing) = false
 is_update_panels (calls.Query query) = false
 is_update_panels (calls.Refresh UpdatePanels) = true
 is_update_panels (calls.Refresh Doupdate) = false
+is_update_panels (calls.Refresh (InitPair pair foreground background)) = false

@@ -1,4 +1,4 @@
-use Rattle.std.proofs.Common.{inl, inr, refl, rules}
+use Rattle.std.proofs.Common.{inr, rules}
 use Rattle.curspan.proofs.serve.run.Goals as goal
 
 pub returns-clause-ran : goal.returns-clause-ran
@@ -13,5 +13,5 @@ returns-clause-ran g c =
         over = search rules;
         runs = c.run_told.ensures.ran;
       };
-      status_is = c.status_of.ensures;
+      status_is = c.status_of.ensures.status;
     })

@@ -3,4 +3,4 @@ use Rattle.desk.proofs.Composing.{ShownAbove}
 use Rattle.desk.proofs.desk.show_standard.Given as goal
 
 abbrev pub invariant-loop-y : goal.invariant-loop-y
-invariant-loop-y l = ShownAbove (windows l.table) l.y l.picture
+invariant-loop-y l = ShownAbove (windows l.table) l.pairs l.y l.picture

@@ -1,6 +1,7 @@
-use Rattle.std.proofs.Common.{rules, arith}
+use Rattle.std.proofs.Common.{rules, arith, ◌∙◌}
 use Rattle.std.proofs.lemmas.Grind.{common_steps}
 use Rattle.ecma.specs.Spelling.{spelling}
+use Rattle.ecma.proofs.Lengths.{three_digits}
 use Rattle.ecma.proofs.Tokens.{is_item_of_bytes}
 use Rattle.ecma.proofs.spelling.spell.Goals as goal
 
@@ -14,7 +15,7 @@ returns-in-Cup-clause-item c = is_item_of_bytes c.args.token.now _ c.requires (g
 
 pub returns-in-Sgr-clause-item : goal.returns-in-Sgr-clause-item
 unfolding spelling
-returns-in-Sgr-clause-item c = is_item_of_bytes c.args.token.now _ c.requires (search rules)
+returns-in-Sgr-clause-item c = is_item_of_bytes c.args.token.now _ c.requires (grind (arith, common_steps))
 
 pub returns-in-El-clause-item : goal.returns-in-El-clause-item
 unfolding spelling
@@ -23,3 +24,10 @@ returns-in-El-clause-item c = is_item_of_bytes c.args.token.now _ c.requires (se
 pub returns-in-Ed-clause-item : goal.returns-in-Ed-clause-item
 unfolding spelling
 returns-in-Ed-clause-item c = is_item_of_bytes c.args.token.now _ c.requires (search rules)
+
+pub returns-in-Cup-clause-short : goal.returns-in-Cup-clause-short
+returns-in-Cup-clause-short c =
+    let few = rw c.in-Cup.is at c.requires in
+    let line = three_digits c.in-Cup.line c.as_bytes.result.now few.0 (c.as_bytes.ensures.value ∙ c.format.ensures.text) in
+    let column = three_digits c.in-Cup.column c.as_bytes-in-Cup.result.now few.1 (c.as_bytes-in-Cup.ensures.value ∙ c.format-in-Cup.ensures.text) in
+    rw c.in-Cup.is (omega (arith, c.append-at.ensures.end, c.append-at-in-Cup.ensures.end, c.append-at-in-Cup-2.ensures.end, c.append-at-in-Cup-3.ensures.end, c.append-in-Cup.ensures.end))

@@ -1,7 +1,6 @@
 use Rattle.std.proofs.Common.{arith, ◌∷◌, ◌+◌, ◌++◌, drop}
 use Rattle.std.proofs.lemmas.List.{drop_all}
 use Rattle.std.proofs.lemmas.Result.{err_from_is_err_and}
-use Rattle.cell.specs.Attributes.{bits_of}
 use Rattle.ecma.specs.declared.token.Token.TheVariants.{Cup}
 use Rattle.ecma.specs.Spelling.{spelling}
 use Rattle.paint.specs.steps.Plain.{line_text, rendition_behind}
@@ -16,8 +15,8 @@ loop-cell-init g c = record { drawn = IsPartlyDrawn-none c.args.line c.args.cell
 
 -- the cell of this turn is the first of the rest
 drawn : (g : Over) (c : After-draw_cell g) → IsPartlyDrawn (g.W.Sink.seen c.args.sink.now) (g.W.Sink.seen c.loop-cell.sink) c.args.pen c.loop-cell.pen
-    (spelling (Cup c.args.line 0) ++ line_text (bits_of c.args.pen.rendition) c.args.cells.now)
-    (c.cell-item.result ∷ drop (c.loop-cell.cell-index + 1) c.args.cells.now) (rendition_behind (bits_of c.args.pen.rendition) c.args.cells.now)
+    (spelling (Cup c.args.line 0) ++ line_text c.args.pen.rendition c.args.cells.now)
+    (c.cell-item.result ∷ drop (c.loop-cell.cell-index + 1) c.args.cells.now) (rendition_behind c.args.pen.rendition c.args.cells.now)
 drawn g c = rw (drop_item c.args.cells.now c.loop-cell.cell-index c.cell-item.result c.cell-item.result c.loop-cell-test.true c.cell-item.is) at c.loop-cell.invariant.drawn
 
 pub loop-cell-preserved : goal.loop-cell-preserved

@@ -1,6 +1,5 @@
 use Rattle.std.proofs.Common.{◌+◌, ◌<◌, arith, length, [], ◌∷◌, drop}
 use Rattle.std.proofs.lemmas.Result.{err_from_is_err_and}
-use Rattle.cell.specs.Attributes.{bits_of}
 use Rattle.paint.specs.steps.Plain.{lines_text, rendition_at_end}
 use Rattle.paint.proofs.Lists.{drop_item}
 use Rattle.paint.proofs.Lines.{AreLinesLeft, AreLinesLeft-more, AreLinesLeft-fails}
@@ -10,8 +9,8 @@ use Rattle.paint.proofs.plain.draw_lines.Given.{Over}
 
 -- the line of this turn is the first of the rest
 left : (g : Over) (c : After-draw_line g) → AreLinesLeft (g.W.Sink.seen c.args.sink.now) (g.W.Sink.seen c.loop-line.sink) c.args.pen c.loop-line.pen
-    (lines_text 0 (bits_of c.args.pen.rendition) c.args.picture.now) c.loop-line.line
-    (c.row.result.now ∷ drop (c.loop-line.line + 1) c.args.picture.now) (rendition_at_end (bits_of c.args.pen.rendition) c.args.picture.now)
+    (lines_text 0 c.args.pen.rendition c.args.picture.now) c.loop-line.line
+    (c.row.result.now ∷ drop (c.loop-line.line + 1) c.args.picture.now) (rendition_at_end c.args.pen.rendition c.args.picture.now)
 left g c =
     let inside : c.loop-line.line < length c.args.picture.now = omega (arith, c.requires.lines, c.loop-line-test.true) in
     let row = rw c.from.ensures at c.row.ensures.row in

@@ -9,4 +9,4 @@ loop-rest-preserved g c = rw take_rest
     c.args.sent c.args.piece.now c.loop-rest.rest.now c.loop-rest.total c.in-Ok.taken (c.loop-rest.total + c.in-Ok.taken)
     c.loop-rest.invariant c.in-Ok.ensures.bound c.in-Ok.ensures.bytes
     (c.in-Ok.ensures.failures ∙ failures-some (g.W.Sink.seen c.loop-rest.sink).failures c.in-Ok.taken c.loop-rest.rest.now c.in-Ok.taken-test.1)
-    refl)
+    c.in-Ok.ensures.flushes refl)

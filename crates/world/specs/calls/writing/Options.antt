@@ -1,17 +1,18 @@
--- The calls that set a window's cursor, attributes, background and scroll region: when they are refused, and what they change. They
--- write no cell.
--- X/Open Curses Issue 7: move, attrset, attron, attroff, bkgdset, setscrreg, scrollok.
+-- The calls that set a window's cursor, attributes, colours, background and scroll region: when they are refused, and what they change.
+-- They write no cell.
+-- X/Open Curses Issue 7: move, attrset, attron, attroff, color_set, bkgdset, setscrreg, scrollok. `bkgdpair` is Curspan's own.
 use Rattle.std.specs.Prelude.{ℕ, Bool, false, not, ◌&&◌, ◌||◌, nat_lt, nat_le, Option, [], ◌∷◌}
 use Rattle.std.specs.Option.{option_map_or}
 use Rattle.std.specs.Int.RustNames.{bit_or}
 use Rattle.cell.specs.Attributes.{bits_of, known, without}
 use Rattle.cell.specs.Glyphs.{Glyph, is_printable}
 use Rattle.cell.specs.Refusals.{first_of}
+use Rattle.cell.specs.declared.limits.TheConstants.{LAST_PAIR}
 use Rattle.world.specs.Windows.{WindowMap, Windows}
 use Rattle.world.specs.Settings.{set, with_cursor}
 use Rattle.world.specs.Windows.{is_missing}
 use Rattle.cell.specs.declared.refusal.Refusal.{Refusal}
-use Rattle.cell.specs.declared.refusal.Refusal.TheVariants.{NoSuchWindow, OutsideWindow, BadRegion, BadCharacter}
+use Rattle.cell.specs.declared.refusal.Refusal.TheVariants.{NoSuchWindow, OutsideWindow, BadRegion, BadCharacter, BadPair}
 use Rattle.world.specs.declared.settings.Settings.{Settings}
 
 -- ---- move
@@ -43,7 +44,25 @@ after_attron windows w attributes = set windows w (λ settings. with_attributes 
 abbrev pub after_attroff : Windows → ℕ → ℕ → Windows
 after_attroff windows w attributes = set windows w (λ settings. with_attributes (without (bits_of settings.attrs) (known attributes)) settings)
 
--- ---- bkgdset
+-- ---- color_set
+
+-- the pair is not in the table
+abbrev pub is_no_pair : ℕ → Bool
+is_no_pair pair = not (nat_le pair LAST_PAIR)
+
+abbrev pub pair_refusal : Windows → ℕ → ℕ → Option Refusal
+pair_refusal windows w pair = first_of (
+    (is_missing windows.window w, NoSuchWindow)
+    ∷ (is_no_pair pair, BadPair)
+    ∷ [])
+
+abbrev pub with_pair : ℕ → Settings → Settings
+with_pair pair settings = record settings { pair = pair }
+
+abbrev pub after_color_set : Windows → ℕ → ℕ → Windows
+after_color_set windows w pair = set windows w (with_pair pair)
+
+-- ---- bkgdset, bkgdpair
 
 abbrev pub bkgdset_refusal : Windows → ℕ → ℕ → Option Refusal
 bkgdset_refusal windows w character = first_of (
@@ -54,9 +73,17 @@ bkgdset_refusal windows w character = first_of (
 abbrev pub with_background : Glyph → Settings → Settings
 with_background glyph settings = record settings { background = glyph }
 
+-- of pair 0
 abbrev pub after_bkgdset : Windows → ℕ → ℕ → ℕ → Windows
 after_bkgdset windows w attributes character =
-    set windows w (with_background (record { character = character; attributes = known attributes }))
+    set windows w (with_background (record { character = character; attributes = known attributes; pair = 0 }))
+
+-- the background's pair alone
+abbrev pub with_background_pair : ℕ → Settings → Settings
+with_background_pair pair settings = record settings { background = record settings.background { pair = pair } }
+
+abbrev pub after_bkgdpair : Windows → ℕ → ℕ → Windows
+after_bkgdpair windows w pair = set windows w (with_background_pair pair)
 
 -- ---- setscrreg, scrollok
 

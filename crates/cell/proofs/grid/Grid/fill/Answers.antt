@@ -1,12 +1,12 @@
 use Rattle.std.proofs.Common.{◌≡◌, ◌≤◌, ◌<◌, length, arith, ◌∙◌}
 use Rattle.std.proofs.lemmas.List.{length-set}
-use Rattle.cell.specs.Pictures.{line_of, with_shown}
-use Rattle.cell.proofs.PictureLemmas.{HasSize-with_shown, AreCells-with_shown}
-use Rattle.cell.proofs.Fills.{filled-more, width-with_shown}
+use Rattle.cell.specs.Pictures.{line_of, with_cell}
+use Rattle.cell.proofs.PictureLemmas.{HasSize-with_cell, EachCell-with_cell}
+use Rattle.cell.proofs.Fills.{filled-more, width-with_cell}
 use Rattle.cell.proofs.grid.Grid.fill.Goals as goal
 
 pub loop-x-preserved : goal.loop-x-preserved
-loop-x-preserved c =
+loop-x-preserved g c =
     let a = c.args in
     let now = c.loop-x.self in
     let x = c.loop-x.x in
@@ -14,12 +14,12 @@ loop-x-preserved c =
     let below : a.y < length now = omega (arith, old.height, c.requires.line) in
     let left : x < length (line_of now a.y) = omega (arith, old.width a.y, c.requires.columns, c.loop-x-test.true) in
     let start : a.start ≤ x = omega (arith, c.loop-x.auto.x) in
-    let next = with_shown now (a.y, x) a.cell in
+    let next = with_cell now (a.y, x) a.cell in
     let is : c.set.new.self ≡ next = c.set.ensures in
     rw is (record {
-      shown = filled-more now a.self.now a.y a.start x a.cell below left start old.shown;
-      size = λ lines columns size. HasSize-with_shown (a.y, x) a.cell (old.size lines columns size);
-      cells = λ cells. AreCells-with_shown now (a.y, x) a.cell (old.cells cells) c.ch.ensures.sound;
+      shown = filled-more g.T.Element.blank now a.self.now a.y a.start x (λ _. a.cell) below left start old.shown;
+      size = λ lines columns size. HasSize-with_cell (a.y, x) a.cell (old.size lines columns size);
+      cells = λ cells. EachCell-with_cell g.T.Element.Is now (a.y, x) a.cell (old.cells cells) c.is_sound.ensures.sound;
       height = length-set now a.y _ ∙ old.height;
-      width = λ v. width-with_shown now a.y x v a.cell ∙ old.width v;
+      width = λ v. width-with_cell now a.y x v a.cell ∙ old.width v;
     })

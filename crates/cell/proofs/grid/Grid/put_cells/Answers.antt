@@ -1,53 +1,53 @@
 use Rattle.std.proofs.Common.{◌+◌, ◌*◌, length, arith, sym, ◌∙◌}
 use Rattle.std.specs.List.{splice}
-use Rattle.cell.proofs.GridLemmas.{AreCells-rows, length-rows}
+use Rattle.cell.proofs.GridLemmas.{EachCell-rows, length-rows}
 use Rattle.cell.proofs.Pieces.{PieceFits-from, IsGrid-piece, shown-piece, HasSize-same}
 use Rattle.cell.proofs.grid.Grid.put_cells.Goals as goal
 
 pub overflow_mul-y : goal.overflow_mul-y
-overflow_mul-y c =
+overflow_mul-y g c =
     let piece = PieceFits-from c.self.invariant c.self.view_is c.requires.line c.requires.columns in
     omega arith
 
 pub overflow_add-y : goal.overflow_add-y
-overflow_add-y c =
+overflow_add-y g c =
     let piece = PieceFits-from c.self.invariant c.self.view_is c.requires.line c.requires.columns in
     omega arith
 
 pub put_piece-requires : goal.put_piece-requires
-put_piece-requires c =
+put_piece-requires g c =
     let piece = PieceFits-from c.self.invariant c.self.view_is c.requires.line c.requires.columns in
     omega arith
 
 pub invariant_of-self : goal.invariant_of-self
-invariant_of-self c =
+invariant_of-self g c =
     let grid = c.self.inside in
     let piece = PieceFits-from c.self.invariant c.self.view_is c.requires.line c.requires.columns in
-    rw c.put_piece.ensures (IsGrid-piece grid.lines grid.columns grid.cells.items c.args.cells.now c.args.y c.args.x c.self.invariant piece.below piece.fits c.requires.cells)
+    rw c.put_piece.ensures (IsGrid-piece g.T.Element.blank grid.lines grid.columns grid.cells.items c.args.cells.now c.args.y c.args.x c.self.invariant piece.below piece.fits c.requires.cells)
 
 pub returns-clause-shown : goal.returns-clause-shown
-returns-clause-shown c =
+returns-clause-shown g c =
     let grid = c.self.inside in
     let piece = PieceFits-from c.self.invariant c.self.view_is c.requires.line c.requires.columns in
     rw (← c.self.view_is, c.put_piece.ensures)
-    (shown-piece grid.lines grid.columns grid.cells.items c.args.cells.now c.args.y c.args.x c.self.invariant piece.below piece.fits c.requires.cells)
+    (shown-piece g.T.Element.blank grid.lines grid.columns grid.cells.items c.args.cells.now c.args.y c.args.x c.self.invariant piece.below piece.fits c.requires.cells)
 
 pub returns-clause-size : goal.returns-clause-size
-returns-clause-size c =
+returns-clause-size g c =
     let grid = c.self.inside in
     let piece = PieceFits-from c.self.invariant c.self.view_is c.requires.line c.requires.columns in
-    let after = IsGrid-piece grid.lines grid.columns grid.cells.items c.args.cells.now c.args.y c.args.x c.self.invariant piece.below piece.fits c.requires.cells in
+    let after = IsGrid-piece g.T.Element.blank grid.lines grid.columns grid.cells.items c.args.cells.now c.args.y c.args.x c.self.invariant piece.below piece.fits c.requires.cells in
     rw (← c.self.view_is, c.put_piece.ensures) (λ lines columns size. HasSize-same c.self.invariant after size)
 
 pub returns-clause-cells : goal.returns-clause-cells
-returns-clause-cells c =
+returns-clause-cells g c =
     let grid = c.self.inside in
     let piece = PieceFits-from c.self.invariant c.self.view_is c.requires.line c.requires.columns in
-    let after = IsGrid-piece grid.lines grid.columns grid.cells.items c.args.cells.now c.args.y c.args.x c.self.invariant piece.below piece.fits c.requires.cells in
-    rw c.put_piece.ensures (λ _. AreCells-rows grid.lines grid.columns (splice grid.cells.items (c.args.y * grid.columns + c.args.x) (c.args.y * grid.columns + c.args.x + length c.args.cells.now) c.args.cells.now) after)
+    let after = IsGrid-piece g.T.Element.blank grid.lines grid.columns grid.cells.items c.args.cells.now c.args.y c.args.x c.self.invariant piece.below piece.fits c.requires.cells in
+    rw c.put_piece.ensures (λ _. EachCell-rows grid.lines grid.columns (splice grid.cells.items (c.args.y * grid.columns + c.args.x) (c.args.y * grid.columns + c.args.x + length c.args.cells.now) c.args.cells.now) after)
 
 pub returns-clause-height : goal.returns-clause-height
-returns-clause-height c =
+returns-clause-height g c =
     let grid = c.self.inside in
     rw (← c.self.view_is)
     (length-rows grid.lines grid.columns c.put_piece.new.cells.items ∙ sym (length-rows grid.lines grid.columns grid.cells.items))

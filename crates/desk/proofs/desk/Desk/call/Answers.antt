@@ -8,12 +8,12 @@ returns-in-Making c =
     let virtual : VirtualScreen = record { picture = d.picture; cursor = d.cursor; clear = d.clear } in
     let e = c.make.ensures in
     rw (← c.self.view_is, c.in-Making.is)
-    (made-called d.windows.table c.make.new.table virtual c.in-Making.making c.make.result e.refused e.exact e.reply e.made e.unchanged)
+    (made-called d.windows.table c.make.new.table d.pairs virtual c.in-Making.making c.make.result e.refused e.exact e.reply e.made e.unchanged)
 
 pub invariant_of-self-in-Writing : goal.invariant_of-self-in-Writing
 invariant_of-self-in-Writing c =
     let d = c.self-in-Writing.inside in
     let virtual : VirtualScreen = record { picture = d.picture; cursor = d.cursor; clear = d.clear } in
     let e = c.write.ensures in
-    IsSound-desk d.windows.table c.write.new.windows.table virtual c.self-in-Writing.invariant e.sound
-    (size-written d.windows.table c.write.new.windows.table virtual c.in-Writing.writing c.write.result e.written e.unchanged)
+    IsSound-desk d.windows.table c.write.new.windows.table d.pairs virtual c.self-in-Writing.invariant e.sound
+    (size-written d.windows.table c.write.new.windows.table d.pairs virtual c.in-Writing.writing c.write.result e.written e.unchanged)

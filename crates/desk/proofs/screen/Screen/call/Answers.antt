@@ -1,8 +1,10 @@
-use Rattle.std.proofs.Common.{◌∙◌, sym}
-use Rattle.desk.proofs.DeskLemmas.{size-called}
+use Rattle.desk.proofs.ShowingLemmas.{call-keeps_size, call-shows}
 use Rattle.desk.proofs.screen.Screen.call.Goals as goal
 
-pub invariant_of-self-in_default : goal.invariant_of-self-in_default
-invariant_of-self-in_default g c =
-    let size = size-called c.self.inside.desk c.call.new.self c.args.call.now c.call.result c.call.ensures in
-    record { lines = c.self.invariant.lines ∙ sym size.0; columns = c.self.invariant.columns ∙ sym size.1 }
+pub returns-clause-shown : goal.returns-clause-shown
+returns-clause-shown g c =
+    call-shows g.W.Sink.seen c.args.self.now c.make_call-end.new.self c.args.call.now c.make_call-end.result c.is_sound.ensures.size c.make_call-end.ensures.call
+
+pub returns-clause-size : goal.returns-clause-size
+returns-clause-size g c =
+    call-keeps_size g.W.Sink.seen c.args.self.now c.make_call-end.new.self c.args.call.now c.make_call-end.result c.is_sound.ensures.size c.make_call-end.ensures.call

@@ -6,7 +6,7 @@ use Rattle.desk.proofs.screen.Screen.run_calls.Goals.{in-Ok, in-Err-Refused}
 pub loop-call-preserved : goal.loop-call-preserved
 loop-call-preserved g c =
     let so_far = c.loop-call.invariant.so_far in
-    elim c.match-call.branch [
+    elim c.match-make_call.branch [
       | in-Ok w ↦ rw (w.end-is, w.from.ensures, w.cells_of.ensures) (record {
         so_far = accepted_next _ _ _ _ _ _ _ _ _ _ _ so_far c.loop-call-test.true w.in-Ok.ensures.call;
         count = omega arith;

@@ -16,7 +16,7 @@ returns-in-Ok-log_answer-clause-line g c =
     (rw c.in-Ok-Some.field-0-is at c.in-Ok-Some.ensures)
     (rw c.call.ensures at c.in-Ok.ensures.answer)
     c.is_err-refused.ensures.value
-    c.in-Ok-log_answer.ensures.ok)
+    c.in-Ok-log_answer.ensures.ok c.in-Ok-log_answer.ensures.failures c.in-Ok-log_answer.ensures.flushes)
 
 pub returns-in-Err-log_answer-clause-line : goal.returns-in-Err-log_answer-clause-line
 returns-in-Err-log_answer-clause-line g c =
@@ -24,7 +24,7 @@ returns-in-Err-log_answer-clause-line g c =
     (rw c.in-Ok-Some.field-0-is at c.in-Ok-Some.ensures)
     (rw c.call.ensures at c.in-Ok.ensures.answer)
     c.is_err-refused.ensures.value
-    c.in-Err-log_answer.ensures.err)
+    c.in-Err-log_answer.ensures.err.0 c.in-Err-log_answer.ensures.err.1 c.in-Err-log_answer.ensures.failures c.in-Err-log_answer.ensures.flushes)
 
 pub returns-in-Err-answer-clause-line : goal.returns-in-Err-answer-clause-line
 returns-in-Err-answer-clause-line g c =

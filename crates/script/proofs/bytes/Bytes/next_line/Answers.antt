@@ -7,6 +7,8 @@ pub loop-byte-init : goal.loop-byte-init
 loop-byte-init g c = record {
   gathered = gathered_none _ _ _ c.clear.ensures;
   short = rw c.clear.ensures (omega arith);
+  ended = refl;
+  past = λ unmet. refl;
   failures = refl;
   progress = omega arith;
 }
@@ -25,6 +27,8 @@ loop-byte-preserved g c =
     record {
       gathered = gathered_more _ _ _ _ _ _ _ _ _ c.loop-byte.invariant.gathered c.in-Byte.ensures.byte (not_newline _ c.if-byte-eq10.false) c.push.ensures.items;
       short = omega (arith, c.push.ensures.len);
+      ended = c.in-Byte.ensures.ended ∙ c.loop-byte.invariant.ended;
+      past = λ unmet. c.in-Byte.ensures.past (c.loop-byte.invariant.ended ∙ unmet) ∙ c.loop-byte.invariant.past unmet;
       failures = c.in-Byte.ensures.failures ∙ c.loop-byte.invariant.failures;
       progress = omega (arith, c.in-Byte.ensures.progress refl);
     }

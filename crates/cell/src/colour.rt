@@ -1,0 +1,203 @@
+//! Colours, and pairs of them.
+
+ghost use Rattle.std.specs.Prelude.{◌≡◌, ◌&&◌, is_none, ◌≤◌, nat_le, if◌then◌else◌, slice_set, true};
+ghost use Rattle.cell.specs.Shown.{ArePairs, IsColour, first_pairs, shown};
+
+use crate::cell::Cell;
+use crate::limits::{LAST_COLOUR, LAST_PAIR};
+use crate::shown::{Rendition, Shown};
+use std::marker::Model;
+
+/// One of the eight colours of X/Open Curses, by its number.
+#[derive(Clone, Copy, PartialEq, Eq, Debug)]
+pub struct Colour(u8);
+
+impl Model for Colour {
+    ghost use Rattle.std.specs.Prelude.{ℕ, ◌≤◌};
+    ghost use Rattle.cell.specs.declared.limits.TheConstants.{LAST_COLOUR};
+
+    ghost Value = { ℕ };
+
+    ghost view = { λ c. c.0 };
+
+    ghost invariant = { λ c. c.0 ≤ LAST_COLOUR };
+
+    ghost inverse = { λ n. record { 0 = n } };
+}
+
+impl Colour {
+    pub const BLACK: Colour = Colour(0);
+
+    pub const RED: Colour = Colour(1);
+
+    pub const GREEN: Colour = Colour(2);
+
+    pub const YELLOW: Colour = Colour(3);
+
+    pub const BLUE: Colour = Colour(4);
+
+    pub const MAGENTA: Colour = Colour(5);
+
+    pub const CYAN: Colour = Colour(6);
+
+    pub const WHITE: Colour = Colour(7);
+
+    /// The colour of a number up to `LAST_COLOUR`, and none for another.
+    pub fn new(number: u16) -> Option<Colour>
+        ensures { result ≡ (if nat_le number LAST_COLOUR then Some number else None) }
+    {
+        if number <= u16::from(LAST_COLOUR) {
+            Some(Colour(number as u8))
+        } else {
+            None
+        }
+    }
+
+    /// The number.
+    pub fn number(self) -> u8
+        ensures value { result ≡ self }
+        ensures sound { self ≤ LAST_COLOUR }
+    {
+        self.0
+    }
+}
+
+/// A colour pair of the table, by its number.
+#[derive(Clone, Copy, PartialEq, Eq, Debug)]
+pub struct PairId(u8);
+
+impl Model for PairId {
+    ghost use Rattle.std.specs.Prelude.{ℕ, ◌≤◌};
+    ghost use Rattle.cell.specs.declared.limits.TheConstants.{LAST_PAIR};
+
+    ghost Value = { ℕ };
+
+    ghost view = { λ p. p.0 };
+
+    ghost invariant = { λ p. p.0 ≤ LAST_PAIR };
+
+    ghost inverse = { λ n. record { 0 = n } };
+}
+
+impl PairId {
+    /// The pair that always has the default colours.
+    pub const DEFAULT: PairId = PairId(0);
+
+    /// The pair of a number up to `LAST_PAIR`, and none for another.
+    pub fn new(number: u16) -> Option<PairId>
+        ensures { result ≡ (if nat_le number LAST_PAIR then Some number else None) }
+    {
+        if number <= u16::from(LAST_PAIR) {
+            Some(PairId(number as u8))
+        } else {
+            None
+        }
+    }
+
+    /// The number.
+    pub fn number(self) -> u8
+        ensures value { result ≡ self }
+        ensures sound { self ≤ LAST_PAIR }
+    {
+        self.0
+    }
+
+    /// Always true: what it ensures is what is known of each pair.
+    pub fn is_sound(self) -> bool
+        ensures yes { result ≡ true }
+        ensures sound { self ≤ LAST_PAIR }
+    {
+        self.0 <= LAST_PAIR
+    }
+}
+
+/// The colours of characters and of what is behind them, where none is the terminal's default.
+#[derive(Clone, Copy, PartialEq, Eq, Debug)]
+pub struct ColourPair {
+    pub foreground: Option<Colour>,
+    pub background: Option<Colour>,
+}
+
+impl ColourPair {
+    /// The default colours.
+    pub const DEFAULT: ColourPair = ColourPair {
+        foreground: None,
+        background: None,
+    };
+
+    /// Whether both are the default.
+    pub fn is_default(self) -> bool
+        ensures { result ≡ (is_none self.foreground && is_none self.background) }
+    {
+        self.foreground.is_none() && self.background.is_none()
+    }
+}
+
+/// The table of colour pairs, by their numbers.
+#[derive(Drop)]
+pub struct Pairs {
+    pairs: [ColourPair; PAIRS],
+}
+
+/// How many pairs there are.
+const PAIRS: usize = LAST_PAIR as usize + 1;
+
+impl Model for Pairs {
+    ghost use Rattle.cell.specs.Shown.{Pairs, ArePairs};
+
+    ghost Value = { Pairs };
+
+    ghost view = { λ table. table.pairs };
+
+    ghost invariant = { λ table. ArePairs table.pairs };
+}
+
+impl Pairs {
+    /// The table in which each pair has the default colours.
+    pub fn new() -> Pairs
+        ensures { result ≡ first_pairs }
+    {
+        Pairs {
+            pairs: [ColourPair::DEFAULT; PAIRS],
+        }
+    }
+
+    /// Gives a pair a foreground and a background.
+    pub fn set(&mut self, at: PairId, foreground: Colour, background: Colour)
+        ensures { self.new ≡ slice_set self.old at (record { foreground = Some foreground; background = Some background }) }
+    {
+        let pair = ColourPair {
+            foreground: Some(foreground),
+            background: Some(background),
+        };
+        prove!(is_colour(pair.foreground) && is_colour(pair.background));
+        self.pairs[usize::from(at.number())] = pair;
+    }
+
+    /// Always true: what it ensures is what is known of each table.
+    pub fn is_sound(&self) -> bool
+        ensures yes { result ≡ true }
+        ensures sound { ArePairs self.now }
+    {
+        !self.pairs.as_slice().is_empty()
+    }
+
+    /// How a cell is shown.
+    pub fn shown(&self, cell: Cell) -> Shown
+        ensures { result ≡ shown self.now cell }
+    {
+        let pair = self.pairs[usize::from(cell.pair().number())];
+        Shown::of_cell(cell, Rendition::new(cell.attr(), pair))
+    }
+}
+
+/// Always true: what it ensures is what is known of each colour.
+pub fn is_colour(colour: Option<Colour>) -> bool
+    ensures yes { result ≡ true }
+    ensures sound { IsColour colour }
+{
+    match colour {
+        Some(colour) => colour.number() <= LAST_COLOUR,
+        None => true,
+    }
+}

@@ -1,0 +1,30 @@
+-- What writing a text of any length does to a sink.
+-- No standard says it; the answers are those of Rust's std::io::Write.
+use Rattle.std.specs.Prelude.{◌≡◌, ◌⊎◌, ◌<◌, ◌≤◌, ℕ, List, length, take, true}
+use Rattle.std.specs.Io.KnownBytes.{Appends}
+use Rattle.streams.specs.Counts.{next_count}
+use Rattle.streams.specs.Sinks.{Seen}
+
+-- The sink took a front of the text, and not all.
+pub record TakesFront (old new : Seen) (text : List ℕ) : Type 0 where
+  pub sent : ℕ
+  pub within : sent < length text
+  pub taken : Appends old.taken new.taken (take sent text)
+
+-- The sink took the text, all of it, and the one flush that was tried succeeded behind it. No failure was counted.
+pub record IsWritten (old new : Seen) (text : List ℕ) : Type 0 where
+  pub taken : Appends old.taken new.taken text
+  pub no_failure : new.failures ≡ old.failures
+  pub flushes : new.flushes ≡ next_count old.flushes
+  pub flushed : new.flushed ≡ true
+
+-- The sink took a front of the text, or all of it, and one failure was counted, of a write or of the flush behind it.
+pub record IsNotWritten (old new : Seen) (text : List ℕ) : Type 0 where
+  pub sent : ℕ
+  pub within : sent ≤ length text
+  pub taken : Appends old.taken new.taken (take sent text)
+  pub failure : new.failures ≡ next_count old.failures
+
+-- A line was written on the log, once, or a failure was counted.
+abbrev pub IsTold : Seen → Seen → List ℕ → Type 0
+IsTold log told line = IsWritten log told line ⊎ IsNotWritten log told line

@@ -1,0 +1,106 @@
+-- What calls do to the writer of a screen.
+use Rattle.std.proofs.Common.{◌≡◌, ℕ, Bool, true, false, ◌||◌, List, [], ◌∷◌, ◌++◌, Option, Some, None, Ok, Err, inl, inr, refl, sym, ap, ◌∙◌, subst}
+use Rattle.std.proofs.KnownBytes.{Appends-nil, Appends-trans}
+use Rattle.std.proofs.lemmas.List.Folds.{list_any-append}
+use Rattle.std.specs.List.{list_any}
+use Rattle.cell.specs.declared.refusal.Refusal.{Refusal}
+use Rattle.streams.specs.Counts.{counted}
+use Rattle.streams.specs.Sinks.{Seen}
+use Rattle.streams.specs.declared.sending.WriteFault.{WriteFault}
+use Rattle.paint.specs.Updates.{BreaksOff, Updates}
+use Rattle.world.specs.World.{World}
+use Rattle.world.specs.calls.Dispatch.{is_doupdate, refresh_refusal}
+use Rattle.world.specs.declared.call.Call.{Call}
+use Rattle.world.specs.declared.call.Call.TheVariants as calls
+use Rattle.world.specs.declared.call.Refresh.{Refresh}
+use Rattle.world.specs.declared.call.Refresh.TheVariants.{UpdatePanels, Doupdate, InitPair}
+use Rattle.world.specs.declared.call.Reply.{Reply}
+use Rattle.world.specs.declared.call.Reply.TheVariants.{Sent}
+use Rattle.desk.specs.Desks.{DeskTable, world}
+use Rattle.desk.specs.States.{ScreenOver, wanted}
+use Rattle.desk.specs.Runs.{Called, MayRefuse, flushes_after}
+use Rattle.desk.specs.Ends.{CallEnds, Writes}
+use Rattle.desk.specs.declared.screen.Fault.TheVariants.{Refused, Write}
+
+-- a call that has no test and takes no memory is never refused
+pub never-refused : (w : World) (refresh : Refresh) (e : Refusal) → refresh_refusal refresh ≡ None → MayRefuse w (calls.Refresh refresh) e → ⊥
+never-refused w refresh e none (inl h) = let no : ◌≡◌ {A = Option Refusal} None (Some e) = sym none ∙ h in cc
+never-refused w refresh e none (inr h) = let no : false ≡ true = h.1 in cc
+
+flushes_after-append : (flushes : ℕ) (calls more : List Call) → flushes_after flushes (calls ++ more) ≡ flushes_after (flushes_after flushes calls) more
+flushes_after-append flushes [] more = refl
+flushes_after-append flushes (call ∷ calls) more = flushes_after-append (counted (is_doupdate call) flushes) calls more
+
+or_turned : (a b c : Bool) → (b || (a || c)) ≡ ((a || b) || c)
+or_turned true true c = refl
+or_turned true false c = refl
+or_turned false b c = refl
+
+module _ {W : Type 0} (seen : W → Seen) where
+  pub Writes-nothing : (old : ScreenOver W) → Writes seen old old [] []
+  Writes-nothing old = record { taken = Appends-nil _; flushes = refl; flushed = refl }
+
+  pub Writes-trans : (old mid new : ScreenOver W) (calls more : List Call) (bytes others : List ℕ) → Writes seen old mid calls bytes → Writes seen mid new more others
+      → Writes seen old new (calls ++ more) (bytes ++ others)
+  Writes-trans old mid new calls more bytes others h k = record {
+    taken = Appends-trans _ _ _ _ _ h.taken k.taken;
+    flushes = k.flushes ∙ ap (λ n. flushes_after n more) h.flushes ∙ sym (flushes_after-append (seen old.writer).flushes calls more);
+    flushed = k.flushed ∙ ap (λ b. list_any is_doupdate more || b) h.flushed
+        ∙ or_turned (list_any is_doupdate calls) (list_any is_doupdate more) (seen old.writer).flushed
+        ∙ ap (λ b. b || (seen old.writer).flushed) (sym (list_any-append is_doupdate calls more));
+  }
+
+  quiet : (old new : ScreenOver W) (call : Call) → is_doupdate call ≡ false → new.writer ≡ old.writer → Writes seen old new (call ∷ []) []
+  quiet old new call other same = subst (λ w. Writes seen old (record new { writer = w }) (call ∷ []) []) (sym same) (record {
+    taken = Appends-nil _;
+    flushes = ap (λ b. counted b (seen old.writer).flushes) (sym other);
+    flushed = ap (λ b. (b || false) || (seen old.writer).flushed) (sym other);
+  })
+
+  -- a refused call
+  pub Writes-refused : (old : ScreenOver W) (call : Call) (e : Refusal) → MayRefuse (world old.desk) call e → Writes seen old old (call ∷ []) []
+  Writes-refused old (calls.Making m) e h = quiet old old (calls.Making m) refl refl
+  Writes-refused old (calls.Writing w) e h = quiet old old (calls.Writing w) refl refl
+  Writes-refused old (calls.Query q) e h = quiet old old (calls.Query q) refl refl
+  Writes-refused old (calls.Refresh UpdatePanels) e h = absurd (never-refused (world old.desk) UpdatePanels e refl h)
+  Writes-refused old (calls.Refresh Doupdate) e h = absurd (never-refused (world old.desk) Doupdate e refl h)
+  Writes-refused old (calls.Refresh (InitPair pair foreground background)) e h = quiet old old (calls.Refresh (InitPair pair foreground background)) refl refl
+
+  -- ---- one call
+
+  -- a call of the desk was accepted
+  pub called-ends : (old : ScreenOver W) (desk : DeskTable) (call : Call) (reply : Reply) → is_doupdate call ≡ false → Called old.desk call (Ok reply) desk
+      → CallEnds seen old call (Ok reply) (record old { desk = desk })
+  called-ends old desk (calls.Making m) reply other h =
+      ((λ i. record { world = h.2 i; painter = old.painter }), ([], (h.0, (refl, h.1)), quiet old (record old { desk = desk }) (calls.Making m) refl refl))
+  called-ends old desk (calls.Writing w) reply other h =
+      ((λ i. record { world = h.2 i; painter = old.painter }), ([], (h.0, (refl, h.1)), quiet old (record old { desk = desk }) (calls.Writing w) refl refl))
+  called-ends old desk (calls.Query q) reply other h =
+      ((λ i. record { world = world (h.2 i); painter = old.painter }), ([], (h.0, (refl, h.1)), quiet old (record old { desk = desk }) (calls.Query q) refl refl))
+  called-ends old desk (calls.Refresh UpdatePanels) reply other h =
+      ((λ i. record { world = h.2 i; painter = old.painter }), ([], (h.0, (refl, h.1)), quiet old (record old { desk = desk }) (calls.Refresh UpdatePanels) refl refl))
+  called-ends old desk (calls.Refresh Doupdate) reply other h = cc
+  called-ends old desk (calls.Refresh (InitPair pair foreground background)) reply other h =
+      ((λ i. record { world = h.2 i; painter = old.painter }), ([], (h.0, (refl, h.1)), quiet old (record old { desk = desk }) (calls.Refresh (InitPair pair foreground background)) refl refl))
+
+  -- a call of the desk was refused
+  pub refused-ends : (old : ScreenOver W) (desk : DeskTable) (call : Call) (e : Refusal) → Called old.desk call (Err e) desk
+      → CallEnds seen old call (Err (Refused e)) (record old { desk = desk })
+  refused-ends old desk call e h = (h.0, ap (λ d. record old { desk = d }) h.1)
+
+  -- a doupdate sent all of its text
+  pub updated-ends : (old : ScreenOver W) (writer : W) (bytes : ℕ)
+      → Updates old.painter old.desk.virtual.clear (seen old.writer) (seen writer) (wanted (world old.desk)) bytes
+      → CallEnds seen old (calls.Refresh Doupdate) (Ok (Sent (record { bytes = bytes }))) (record {
+        desk = record old.desk { virtual = record old.desk.virtual { clear = false } };
+        painter = record old.painter { last = Some (wanted (world old.desk)) };
+        writer = writer;
+      })
+  updated-ends old writer bytes u =
+      (refl, (u.text, (refl, (u.is_text, ap (λ n. Sent (record { bytes = n })) u.count)), record { taken = u.taken; flushes = u.flushes; flushed = u.flushed }))
+
+  -- a doupdate sent a front of its text
+  pub cut-ends : (old : ScreenOver W) (writer : W) (fault : WriteFault)
+      → BreaksOff old.painter old.desk.virtual.clear (seen old.writer) (seen writer) (wanted (world old.desk)) fault.sent
+      → CallEnds seen old (calls.Refresh Doupdate) (Err (Write fault)) (record { desk = old.desk; painter = record old.painter { last = None }; writer = writer })
+  cut-ends old writer fault b = (refl, record { state = refl; text = b.text; is_text = b.is_text; within = b.within; bytes = b.taken; flushes = b.flushes })
