@@ -6,3 +6,4 @@ pub mod KindIsNamed
 pub mod TakenLemmas
 pub mod PrintLemmas
 pub mod PictureLemmas
+pub mod PictureTexts

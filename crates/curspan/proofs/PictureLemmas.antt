@@ -1,16 +1,19 @@
 -- A picture that could not be written.
-use Rattle.std.proofs.Common.{◌≡◌, false, Option, Some, None, inr, refl}
+use Rattle.std.proofs.Common.{◌≡◌, ℕ, false, Option, Some, None, inr}
 use Rattle.std.specs.Prelude.{is_some, MatchOption}
-use Rattle.streams.specs.Counts.{next_count}
 use Rattle.streams.specs.Sinks.{Seen}
 use Rattle.world.specs.World.{World}
 use Rattle.script.specs.declared.fault.ScriptEnd.{ScriptEnd}
-use Rattle.curspan.specs.Serving.{Prints}
+use Rattle.script.specs.Log.{last_line}
+use Rattle.script.specs.declared.fault.ScriptFault.TheVariants.{Log}
+use Rattle.curspan.specs.Serving.{Outputs, Prints, picture_text}
+use Rattle.curspan.specs.Written.{IsNotWritten, IsTold}
 
 without : {X : Type 0} {A : Type 0} (B : X → Type 0) (o : Option X) → is_some o ≡ false → A → MatchOption o A B
 without B None none a = a
 without B (Some x) none a = cc
 
--- a script without a fault, and a failure of the output
-pub Prints-failed : (end : ScriptEnd) (world : World) (out shown told after : Seen) → is_some end.fault ≡ false → shown.failures ≡ next_count out.failures → Prints end world out shown told after 3
-Prints-failed end world out shown told after none failed = without _ end.fault none (inr (failed, refl))
+-- Behind a script without a fault writing the picture failed, and the log is told.
+pub Prints-failed : (end : ScriptEnd) (world : World) (told : Seen) (old new : Outputs) (status : ℕ) → is_some end.fault ≡ false → status ≡ 3
+    → IsNotWritten old.output new.output (picture_text world) → IsTold told new.log (last_line Log) → Prints end world told old new status
+Prints-failed end world told old new status none failed output log = without _ end.fault none (inr (failed, output, log))

@@ -1,13 +1,16 @@
 -- A text is written piece by piece.
-use Rattle.std.proofs.Common.{◌≡◌, ◌+◌, ◌≤◌, ℕ, List, [], ◌++◌, length, take, drop, Ok, Err, refl, sym, ap, ap₂, ◌∙◌, subst, arith, append_assoc, append-nil, take-append-drop, length-append}
+use Rattle.std.proofs.Common.{◌≡◌, ◌+◌, ◌≤◌, ℕ, Bool, true, false, List, [], ◌++◌, length, take, drop, Result, Ok, Err, inl, inr, refl, sym, ap, ap₂, ◌∙◌, subst, arith, append_assoc, append-nil, take-append-drop, length-append}
 use Rattle.std.proofs.lemmas.List.{take-append-le}
-use Rattle.std.proofs.Math.Seq.{take-append-add}
+use Rattle.std.proofs.Math.Seq.{take-append-add, take-length}
 use Rattle.std.proofs.KnownBytes.{Appends-nil, Appends-trans}
-use Rattle.std.specs.Io.KnownBytes.{Appends}
-use Rattle.streams.specs.Sinks.{Seen}
+use Rattle.std.specs.Prelude.{is_err, is_ok}
+use Rattle.std.specs.Io.KnownBytes.{Appends, Keeps}
+use Rattle.streams.specs.Counts.{counted, next_count}
+use Rattle.streams.specs.Sinks.{Seen, flushed_after_flush}
+use Rattle.streams.proofs.Sends.{Appends-keeps}
 use Rattle.streams.specs.Sending.{Sends}
 use Rattle.streams.specs.declared.sending.WriteFault.{WriteFault}
-use Rattle.curspan.specs.Written.{TakesFront}
+use Rattle.curspan.specs.Written.{IsNotWritten, IsTold, TakesFront, WritingEnds}
 
 -- a front of a text was written, and the rest wasn't yet
 pub record IsPartlyPut (old new : Seen) (text rest : List ℕ) : Type 0 where
@@ -49,3 +52,44 @@ cut_put old mid new text rest piece after at fault p s front back =
       within = rw whole (omega (arith, s.ends.1, length-append p.front (piece ++ after), length-append piece after));
       taken = subst (Appends old.taken new.taken) (sym taken) (Appends-trans _ _ _ _ _ p.taken s.ends.3);
     }
+
+-- ---- a text, and a flush behind it
+
+pub not_put : (old new : Seen) (text : List ℕ) → TakesFront old new text → new.failures ≡ next_count old.failures → IsNotWritten old new text
+not_put old new text front failure = record { sent = front.sent; within = omega (arith, front.within); taken = front.taken; failure = failure }
+
+pub flushed_behind : {T E : Type 0} (old mid new : Seen) (text : List ℕ) (r : Result T E) → Appends old.taken mid.taken text → mid.failures ≡ old.failures
+    → mid.flushes ≡ old.flushes → Keeps mid.taken new.taken → new.failures ≡ counted (is_err r) mid.failures → new.flushes ≡ next_count mid.flushes
+    → new.flushed ≡ flushed_after_flush mid.flushed r → WritingEnds (is_ok r) old new text
+flushed_behind old mid new text (Ok x) taken failures flushes kept counted flush flushed = record {
+  taken = Appends-keeps old.taken mid.taken new.taken text taken kept;
+  no_failure = counted ∙ failures;
+  flushes = flush ∙ ap next_count flushes;
+  flushed = flushed;
+}
+flushed_behind old mid new text (Err e) taken failures flushes kept counted flush flushed = record {
+  sent = length text;
+  within = omega arith;
+  taken = rw (take-length text) (Appends-keeps old.taken mid.taken new.taken text taken kept);
+  failure = counted ∙ ap next_count failures;
+}
+
+pub told : (old new : Seen) (text : List ℕ) (written : Bool) → WritingEnds written old new text → IsTold old new text
+told old new text true h = inl h
+told old new text false h = inr h
+
+-- ---- a front of one of several texts
+
+pub front_behind : (old mid new : Seen) (front text : List ℕ) → Appends old.taken mid.taken front → TakesFront mid new text → TakesFront old new (front ++ text)
+front_behind old mid new front text before h = record {
+  sent = length front + h.sent;
+  within = omega (arith, h.within, length-append front text);
+  taken = rw (take-append-add front text h.sent) (Appends-trans _ _ _ _ _ before h.taken);
+}
+
+pub front_before : (old new : Seen) (text behind : List ℕ) → TakesFront old new text → TakesFront old new (text ++ behind)
+front_before old new text behind h = record {
+  sent = h.sent;
+  within = omega (arith, h.within, length-append text behind);
+  taken = rw (take-append-le h.sent text behind (omega (arith, h.within))) h.taken;
+}

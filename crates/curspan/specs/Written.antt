@@ -1,6 +1,6 @@
 -- What writing a text of any length does to a sink.
 -- No standard says it; the answers are those of Rust's std::io::Write.
-use Rattle.std.specs.Prelude.{◌≡◌, ◌⊎◌, ◌<◌, ◌≤◌, ℕ, List, length, take, true}
+use Rattle.std.specs.Prelude.{◌≡◌, ◌⊎◌, ◌<◌, ◌≤◌, ℕ, List, length, take, Bool, true, false}
 use Rattle.std.specs.Io.KnownBytes.{Appends}
 use Rattle.streams.specs.Counts.{next_count}
 use Rattle.streams.specs.Sinks.{Seen}
@@ -24,6 +24,11 @@ pub record IsNotWritten (old new : Seen) (text : List ℕ) : Type 0 where
   pub within : sent ≤ length text
   pub taken : Appends old.taken new.taken (take sent text)
   pub failure : new.failures ≡ next_count old.failures
+
+-- The text was written, or wasn't.
+abbrev pub WritingEnds : Bool → Seen → Seen → List ℕ → Type 0
+WritingEnds true old new text = IsWritten old new text
+WritingEnds false old new text = IsNotWritten old new text
 
 -- A line was written on the log, once, or a failure was counted.
 abbrev pub IsTold : Seen → Seen → List ℕ → Type 0

@@ -8,7 +8,7 @@ mod put;
 mod serve;
 
 use desk::{Counted, CountedReader, Sink};
-use put::put;
+use put::tell;
 use serve::{no_memory, serve};
 use std::io::{BufReader, BufWriter, ErrorKind};
 use std::process::ExitCode;
@@ -20,7 +20,7 @@ fn main(rt: HostRuntime) -> ExitCode {
         Ok(status) => status,
         Err(error) if error.kind() == ErrorKind::OutOfMemory => no_memory(&mut log),
         Err(_) => {
-            put(&mut log, b"a word of the command line is not in UTF-8\n");
+            tell(&mut log, b"a word of the command line is not in UTF-8\n");
             2
         }
     };

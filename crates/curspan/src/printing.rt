@@ -1,11 +1,12 @@
 //! Prints pictures.
 
-ghost use Rattle.std.specs.Prelude.{◌≡◌, ◌≤◌, ◌+◌, ◌*◌, ◌++◌, [], Some, length, not, true};
+ghost use Rattle.std.specs.Prelude.{◌≡◌, ◌≤◌, ◌+◌, ◌*◌, ◌++◌, [], Some, false, length, not, true};
 ghost use Rattle.std.specs.List.{flat_map, list_any};
 ghost use Rattle.std.specs.Io.KnownBytes.{Appends};
 ghost use Rattle.cell.specs.Shown.{no_rendition};
 ghost use Rattle.streams.specs.Counts.{counted};
 ghost use Rattle.curspan.specs.Printing.{attributes_text, characters_text, colours_text, cursor_text, has_attributes, has_colour, line_text, printed_picture, rendition_text, sign, signs};
+ghost use Rattle.curspan.specs.Written.{TakesFront};
 
 use crate::put::put;
 use arrayvec::ArrayVec;
@@ -129,6 +130,7 @@ fn ending(cursor: (u16, u16)) -> ArrayVec<u8, ENDING_ROOM>
 /// Prints the lines of a desk's virtual screen, and answers whether all went out.
 fn put_lines<O: Sink>(out: &mut O, desk: &Desk) -> bool
     ensures taken { result ≡ true → Appends (O.seen out.old).taken (O.seen out.new).taken (flat_map line_text desk.now.virtual.picture) }
+    ensures cut { result ≡ false → TakesFront (O.seen out.old) (O.seen out.new) (flat_map line_text desk.now.virtual.picture) }
     ensures flushes { (O.seen out.new).flushes ≡ (O.seen out.old).flushes }
     ensures failures { (O.seen out.new).failures ≡ counted (not result) (O.seen out.old).failures }
 {
@@ -144,6 +146,8 @@ fn put_lines<O: Sink>(out: &mut O, desk: &Desk) -> bool
 /// Prints a desk's virtual screen with the cursor that it wants, and answers whether all went out.
 pub fn put_picture<O: Sink>(out: &mut O, desk: &Desk) -> bool
     ensures taken { result ≡ true → Appends (O.seen out.old).taken (O.seen out.new).taken
+        (printed_picture desk.now.virtual.picture (Some desk.now.virtual.cursor) no_rendition) }
+    ensures cut { result ≡ false → TakesFront (O.seen out.old) (O.seen out.new)
         (printed_picture desk.now.virtual.picture (Some desk.now.virtual.cursor) no_rendition) }
     ensures flushes { (O.seen out.new).flushes ≡ (O.seen out.old).flushes }
     ensures failures { (O.seen out.new).failures ≡ counted (not result) (O.seen out.old).failures }

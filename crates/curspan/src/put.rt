@@ -1,9 +1,9 @@
 //! Writing a text of any length.
 
-ghost use Rattle.std.specs.Prelude.{◌≡◌, false, not, true};
+ghost use Rattle.std.specs.Prelude.{◌≡◌, false, is_ok, not, true};
 ghost use Rattle.std.specs.Io.KnownBytes.{Appends};
 ghost use Rattle.streams.specs.Counts.{counted};
-ghost use Rattle.curspan.specs.Written.{TakesFront};
+ghost use Rattle.curspan.specs.Written.{IsTold, TakesFront, WritingEnds};
 
 use streams::{Sink, send};
 
@@ -26,4 +26,21 @@ pub fn put<W: Sink>(sink: &mut W, text: &[u8]) -> bool
         }
     }
     true
+}
+
+/// Writes a text and flushes, and answers whether all of it went out.
+pub fn write_out<W: Sink>(sink: &mut W, text: &[u8]) -> bool
+    ensures { WritingEnds result (W.seen sink.old) (W.seen sink.new) text.now }
+{
+    if !put(sink, text) {
+        return false;
+    }
+    sink.flush().is_ok()
+}
+
+/// Writes a line on the log and flushes it. Where that fails, there is nothing left to tell it to.
+pub fn tell<L: Sink>(log: &mut L, line: &[u8])
+    ensures { IsTold (L.seen log.old) (L.seen log.new) line.now }
+{
+    write_out(log, line);
 }

@@ -1,27 +1,29 @@
 //! Does what the command line asks for, over any reader and writers.
 
-ghost use Rattle.std.specs.Prelude.{◌≡◌, ◌<◌, ◌⊎◌, ℕ, None, Some, Err, true, false, is_some, map};
-ghost use Rattle.std.specs.Io.KnownBytes.{Appends};
+ghost use Rattle.std.specs.Prelude.{◌≡◌, ◌<◌, ◌⊎◌, IfOk, None, Some, map};
 ghost use Rattle.cell.specs.Shown.{no_rendition};
-ghost use Rattle.streams.specs.Counts.{counted, next_count};
 ghost use Rattle.clap.specs.Words.{kind_of};
 ghost use Rattle.curspan.specs.CommandLine.{IsSize};
-ghost use Rattle.curspan.specs.Serving.{IsPrinted, IsStatusOfKind, Paints, Runs, Serves, Tells};
-ghost use Rattle.desk.specs.States.{after, state_of};
-ghost use Rattle.std.specs.Bool.{OnTrue};
+ghost use Rattle.curspan.specs.Printing.{printed_picture};
+ghost use Rattle.curspan.specs.Serving.{Explains, LacksMemory, Paints, Runs, Serves, Tells, no_memory_line, nothing_seen, outputs};
 ghost use Rattle.curspan.specs.Statuses.{status_of};
+ghost use Rattle.curspan.specs.Written.{IsTold, WritingEnds};
+ghost use Rattle.desk.specs.Desks.{world};
+ghost use Rattle.desk.specs.States.{after, state_of};
+ghost use Rattle.paint.specs.Updates.{first_painter};
+ghost use Rattle.script.specs.Log.{last_line};
+ghost use Rattle.world.specs.World.{first_world};
 
 use crate::asked::{Job, Kind};
 use crate::command::job;
 use crate::printing::put_picture;
-use crate::put::put;
-use arrayvec::ArrayString;
+use crate::put::{tell, write_out};
 use clap::Error;
 use clap::error::ErrorKind;
-use desk::{Call, Desk, Refresh, Screen, ScriptEnd, ScriptFault, Sink, Source};
+use desk::{Call, Desk, Refresh, Refusal, Screen, ScriptEnd, ScriptFault, Sink, Source};
+use script::last_line;
 use std::alloc::Global;
 use std::convert::AsStr;
-use std::fmt::Write;
 use streams::Discard;
 
 /// Every call was accepted, or help was asked for.
@@ -37,17 +39,25 @@ const NO_MEMORY: u8 = 4;
 
 /// Says on the log that there is no memory, and answers that status.
 pub fn no_memory<L: Sink>(log: &mut L) -> u8
-    ensures { result ≡ 4 }
+    ensures status { result ≡ 4 }
+    ensures told { IsTold (L.seen log.old) (L.seen log.new) no_memory_line }
 {
-    put(log, b"no memory for the screen\n");
+    tell(log, b"no memory for the screen\n");
     NO_MEMORY
+}
+
+/// Says on the log that writing failed, and answers that status.
+fn writing_failed<L: Sink>(log: &mut L) -> u8
+    ensures status { result ≡ 3 }
+    ensures told { IsTold (L.seen log.old) (L.seen log.new) (last_line ScriptFault.Log) }
+{
+    tell(log, last_line(ScriptFault::Log).as_slice());
+    FAILED
 }
 
 /// Prints help on the output and a usage fault on the log, and answers the status.
 fn usage<O: Sink, L: Sink>(alloc: Global, error: &Error, out: &mut O, log: &mut L) -> u8
-    ensures status { IsStatusOfKind (kind_of error.now) result }
-    ensures quiet { result ≡ 2 → out.new ≡ out.old }
-    ensures shown { result ≡ 0 → ((O.seen out.new).flushed ≡ true) × ((O.seen out.new).failures ≡ (O.seen out.old).failures) }
+    ensures explained { Explains (kind_of error.now) (outputs (O.seen out.old) (L.seen log.old)) (outputs (O.seen out.new) (L.seen log.new)) result }
     ensures log { result < 2 → log.new ≡ log.old }
 {
     if error.kind() == ErrorKind::OutOfMemory {
@@ -55,34 +65,18 @@ fn usage<O: Sink, L: Sink>(alloc: Global, error: &Error, out: &mut O, log: &mut 
     }
     match error.to_string(alloc) {
         Ok(text) if error.use_stderr() => {
-            put(log, text.as_bytes());
+            tell(log, text.as_bytes());
             BAD_TEXT
         }
         Ok(text) => {
-            if put(out, text.as_bytes()) && out.flush().is_ok() {
+            if write_out(out, text.as_bytes()) {
                 ACCEPTED
             } else {
-                put(log, b"writing failed\n");
-                FAILED
+                writing_failed(log)
             }
         }
         Err(_) => no_memory(log),
     }
-}
-
-/// The last line of the log after a fault.
-fn last_line(fault: ScriptFault) -> ArrayString<80> {
-    let mut text = ArrayString::new();
-    let _ = match fault {
-        ScriptFault::Text { line, fault } => write!(text, "line {line}: {fault}\n"),
-        ScriptFault::Reading => write!(text, "reading failed\n"),
-        ScriptFault::Write { line, fault } => {
-            let sent = fault.sent;
-            write!(text, "line {line}: write failed after {sent} bytes\n")
-        }
-        ScriptFault::Log => write!(text, "writing failed\n"),
-    };
-    text
 }
 
 /// The status of a script that ended so.
@@ -98,6 +92,16 @@ fn status_of(end: ScriptEnd) -> u8
     }
 }
 
+/// A screen of the job's size, over a sink that keeps nothing.
+fn blank_screen(alloc: Global, job: Job) -> Result<Screen<Discard>, Refusal>
+    requires { IsSize job.lines × IsSize job.cols }
+    ensures world { IfOk result (λ screen. world screen.desk ≡ first_world job.lines job.cols) }
+    ensures painter { IfOk result (λ screen. screen.painter ≡ first_painter job.lines job.cols) }
+    ensures writer { IfOk result (λ screen. ⟦<Discard as Sink>⟧.seen screen.writer ≡ nothing_seen) }
+{
+    Screen::new(alloc, job.lines, job.cols, Discard::new())
+}
+
 /// Runs a script on a screen, and tells on the log of the fault that ended it.
 fn run_told<W: Sink, R: Source, L: Sink>(
     screen: &mut Screen<W>,
@@ -106,12 +110,11 @@ fn run_told<W: Sink, R: Source, L: Sink>(
 ) -> ScriptEnd
     ensures ran { Tells W.seen screen.old screen.new (R.seen input.old) (R.seen input.new) (L.seen log.old) (L.seen log.new) result }
     ensures log { result.fault ≡ None → (L.seen log.new).failures ≡ (L.seen log.old).failures }
+    ensures same { W.name screen.new.writer ≡ W.name screen.old.writer }
 {
     let end = screen.run_script(input, log);
     if let Some(fault) = end.fault {
-        let line = last_line(fault);
-        put(log, line.as_str().as_bytes());
-        let _ = log.flush();
+        tell(log, last_line(fault).as_slice());
     }
     end
 }
@@ -125,15 +128,18 @@ fn run<'a, R: Source, O: Sink, L: Sink>(
     log: &mut L,
 ) -> u8
     requires { IsSize job.lines × IsSize job.cols }
-    ensures ran { ((result ≡ 4) × (R.seen input.new ≡ R.seen input.old))
-        ⊎ Runs ⟦<&'a mut O as Sink>⟧.seen job (R.seen input.old) (R.seen input.new) (O.seen out.old) (L.seen log.old) (L.seen log.new) result }
+    ensures ran { (LacksMemory (outputs (O.seen out.old) (L.seen log.old)) (outputs (O.seen out.new) (L.seen log.new)) result × (R.seen input.new ≡ R.seen input.old))
+        ⊎ Runs ⟦<&'a mut O as Sink>⟧.seen job (R.seen input.old) (R.seen input.new) (outputs (O.seen out.old) (L.seen log.old)) (outputs (O.seen out.new) (L.seen log.new)) result }
     ensures log { result < 2 → (L.seen log.new).failures ≡ (L.seen log.old).failures }
 {
-    let mut screen = match Screen::new(alloc, job.lines, job.cols, out) {
-        Ok(screen) => screen,
+    let mut screen = match blank_screen(alloc, job) {
+        Ok(screen) => screen.with_writer(out),
         Err(_) => return no_memory(log),
     };
-    status_of(run_told(&mut screen, input, log))
+    let end = run_told(&mut screen, input, log);
+    // The output is told to be what the screen sent.
+    screen.into_writer();
+    status_of(end)
 }
 
 /// Takes the picture of a screen into its virtual screen.
@@ -148,8 +154,7 @@ fn take_picture<W: Sink>(screen: &mut Screen<W>)
 
 /// Prints the virtual screen of a desk and flushes, and answers whether all of it went out.
 fn print<O: Sink>(out: &mut O, desk: &Desk) -> bool
-    ensures printed { OnTrue result (IsPrinted desk.now.virtual.picture desk.now.virtual.cursor (O.seen out.old) (O.seen out.new)) }
-    ensures failed { result ≡ false → (O.seen out.new).failures ≡ next_count (O.seen out.old).failures }
+    ensures { WritingEnds result (O.seen out.old) (O.seen out.new) (printed_picture desk.now.virtual.picture (Some desk.now.virtual.cursor) no_rendition) }
 {
     if !put_picture(out, desk) {
         return false;
@@ -166,11 +171,11 @@ fn paint<R: Source, O: Sink, L: Sink>(
     log: &mut L,
 ) -> u8
     requires { IsSize job.lines × IsSize job.cols }
-    ensures painted { ((result ≡ 4) × (R.seen input.new ≡ R.seen input.old))
-        ⊎ Paints ⟦<Discard as Sink>⟧.seen job (R.seen input.old) (R.seen input.new) (O.seen out.old) (O.seen out.new) (L.seen log.old) (L.seen log.new) result }
+    ensures painted { (LacksMemory (outputs (O.seen out.old) (L.seen log.old)) (outputs (O.seen out.new) (L.seen log.new)) result × (R.seen input.new ≡ R.seen input.old))
+        ⊎ Paints ⟦<Discard as Sink>⟧.seen job (R.seen input.old) (R.seen input.new) (outputs (O.seen out.old) (L.seen log.old)) (outputs (O.seen out.new) (L.seen log.new)) result }
     ensures log { result < 2 → (L.seen log.new).failures ≡ (L.seen log.old).failures }
 {
-    let mut screen = match Screen::new(alloc, job.lines, job.cols, Discard::new()) {
+    let mut screen = match blank_screen(alloc, job) {
         Ok(screen) => screen,
         Err(_) => return no_memory(log),
     };
@@ -182,13 +187,13 @@ fn paint<R: Source, O: Sink, L: Sink>(
     if print(out, screen.desk()) {
         status_of(end)
     } else {
-        put(log, b"writing failed\n");
-        FAILED
+        writing_failed(log)
     }
 }
 
-/// Does what the words ask for, and answers the status: where clap refuses the words, that of its error's kind, and nothing is
-/// read; else that of how the script ended, 3 where its picture can't be written, or 4 where there is no memory. The first word is the program's name. A status
+/// Does what the words ask for, and answers the status. Where clap refuses the words, nothing is read, and help stands on the
+/// output, with status 0, or a usage fault on the log, with status 2. Else the status is that of how the script ended, 3
+/// where its picture can't be written, or 4 where there is no memory. The first word is the program's name. A status
 /// below 2 tells that no write or flush of the log failed.
 pub fn serve<'a, S: AsStr, R: Source, O: Sink, L: Sink>(
     alloc: Global,
@@ -197,7 +202,8 @@ pub fn serve<'a, S: AsStr, R: Source, O: Sink, L: Sink>(
     out: &'a mut O,
     log: &mut L,
 ) -> u8
-    ensures served { Serves ⟦<&'a mut O as Sink>⟧.seen ⟦<Discard as Sink>⟧.seen (map S.text words.now) (R.seen input.old) (R.seen input.new) (O.seen out.old) (O.seen out.new) (L.seen log.old) (L.seen log.new) result }
+    ensures served { Serves ⟦<&'a mut O as Sink>⟧.seen ⟦<Discard as Sink>⟧.seen (map S.text words.now) (R.seen input.old) (R.seen input.new)
+        (outputs (O.seen out.old) (L.seen log.old)) (outputs (O.seen out.new) (L.seen log.new)) result }
     ensures log { result < 2 → (L.seen log.new).failures ≡ (L.seen log.old).failures }
 {
     match job(alloc, words) {

@@ -25,6 +25,7 @@ impl<W: Sink> Screen<W> {
     fn answer(&mut self, call: &Call<'_>) -> Result<Result<Reply, Refusal>, WriteFault>
         ensures answer { CallEnds W.seen self.old (placeless call.now) (joined result) self.new }
         ensures failures { (W.seen self.new.writer).failures ≡ counted (is_err result) (W.seen self.old.writer).failures }
+        ensures same { W.name self.new.writer ≡ W.name self.old.writer }
     {
         match self.make_call(call) {
             Ok(reply) => Ok(Ok(reply)),
@@ -44,6 +45,7 @@ impl<W: Sink> Screen<W> {
         requires { length line.now ≤ LONGEST_LINE }
         ensures line { LineEnds W.seen self.old self.new number line.now (L.seen log.old) (L.seen log.new) result }
         ensures writer { (W.seen self.new.writer).failures ≡ counted (is_some (write_fault result.fault)) (W.seen self.old.writer).failures }
+        ensures same { W.name self.new.writer ≡ W.name self.old.writer }
         ensures reads { read_failed result.fault ≡ false }
     {
         let word = match read_line(line, taken) {
@@ -74,6 +76,7 @@ impl<W: Sink> Screen<W> {
         ensures lines { RunsLines W.seen self.old self.new (R.seen input.old) (R.seen input.new) (L.seen log.old) (L.seen log.new) result }
         ensures reading { (R.seen input.new).failures ≡ counted (read_failed result.fault) (R.seen input.old).failures }
         ensures writer { (W.seen self.new.writer).failures ≡ counted (is_some (write_fault result.fault)) (W.seen self.old.writer).failures }
+        ensures same { W.name self.new.writer ≡ W.name self.old.writer }
     {
         let mut bytes = Bytes::new();
         let mut line = ArrayVec::<u8, LONGEST_LINE>::new();
@@ -110,6 +113,7 @@ impl<W: Sink> Screen<W> {
         ensures script { ScriptEnds W.seen self.old self.new (R.seen input.old) (R.seen input.new) (L.seen log.old) (L.seen log.new) result }
         ensures reading { (R.seen input.new).failures ≡ counted (read_failed result.fault) (R.seen input.old).failures }
         ensures writer { (W.seen self.new.writer).failures ≡ counted (is_some (write_fault result.fault)) (W.seen self.old.writer).failures }
+        ensures same { W.name self.new.writer ≡ W.name self.old.writer }
         ensures sound { IsSound (world self.new.desk) }
         ensures size { KeepsSize self.old.desk self.new.desk }
     {

@@ -1,6 +1,6 @@
 //! A screen over a writer, and runs of calls on it.
 
-ghost use Rattle.std.specs.Prelude.{◌≡◌, ◌∷◌, [], IfOk, is_some, false, true};
+ghost use Rattle.std.specs.Prelude.{◌≡◌, ◌∷◌, [], IfOk, None, is_some, false, true};
 ghost use Rattle.world.specs.calls.Making.{new_refusal};
 ghost use Rattle.cell.specs.Refusals.{RefusedBy};
 ghost use Rattle.world.specs.Sound.{IsSound};
@@ -82,6 +82,37 @@ impl<W: Sink + Drop> Screen<W> {
             writer,
         })
     }
+
+    /// The same windows over another writer, on whose terminal nothing was shown yet. The old writer is dropped.
+    pub fn with_writer<V>(self, writer: V) -> Screen<V>
+        ensures { result ≡ record { desk = self.desk; painter = record self.painter { last = None }; writer = writer } }
+    {
+        let Screen {
+            desk,
+            mut painter,
+            writer: _,
+        } = self;
+        painter.forget();
+        Screen {
+            desk,
+            painter,
+            writer,
+        }
+    }
+}
+
+impl<W> Screen<W> {
+    /// The writer again.
+    pub fn into_writer(self) -> W
+        ensures { result ≡ self.writer }
+    {
+        let Screen {
+            desk: _,
+            painter: _,
+            writer,
+        } = self;
+        writer
+    }
 }
 
 impl<W: Sink> Screen<W> {
@@ -108,6 +139,7 @@ impl<W: Sink> Screen<W> {
         ensures call { CallEnds W.seen self.old call.now result self.new }
         ensures shown { RunShows W.seen self.old self.new (call.now ∷ []) (cut_of result) }
         ensures failures { (W.seen self.new.writer).failures ≡ counted (is_some (cut_of result)) (W.seen self.old.writer).failures }
+        ensures same { W.name self.new.writer ≡ W.name self.old.writer }
         ensures sound { IsSound (world self.new.desk) }
         ensures size { KeepsSize self.old.desk self.new.desk }
     {
@@ -129,6 +161,7 @@ impl<W: Sink> Screen<W> {
     pub(crate) fn make_call(&mut self, call: &Call<'_>) -> Result<Reply, Fault>
         ensures call { CallEnds W.seen self.old call.now result self.new }
         ensures failures { (W.seen self.new.writer).failures ≡ counted (is_some (cut_of result)) (W.seen self.old.writer).failures }
+        ensures same { W.name self.new.writer ≡ W.name self.old.writer }
     {
         match *call {
             Call::Refresh(Refresh::Doupdate) => self.doupdate(),
@@ -141,6 +174,7 @@ impl<W: Sink> Screen<W> {
         requires { is_doupdate call.now ≡ false }
         ensures call { CallEnds W.seen self.old call.now result self.new }
         ensures failures { (W.seen self.new.writer).failures ≡ counted (is_some (cut_of result)) (W.seen self.old.writer).failures }
+        ensures same { W.name self.new.writer ≡ W.name self.old.writer }
     {
         Ok(self.desk.call(call)?)
     }
@@ -149,6 +183,7 @@ impl<W: Sink> Screen<W> {
     fn doupdate(&mut self) -> Result<Reply, Fault>
         ensures call { CallEnds W.seen self.old (Call.Refresh Refresh.Doupdate) result self.new }
         ensures failures { (W.seen self.new.writer).failures ≡ counted (is_some (cut_of result)) (W.seen self.old.writer).failures }
+        ensures same { W.name self.new.writer ≡ W.name self.old.writer }
     {
         let cursor = self.desk.wanted_cursor();
         let clear = self.desk.clear_wanted();
@@ -170,6 +205,7 @@ impl<W: Sink> Screen<W> {
         ensures run { RunEnds W.seen self.old calls.now result self.new }
         ensures shown { RunShows W.seen self.old self.new calls.now result.fault }
         ensures failures { (W.seen self.new.writer).failures ≡ counted (is_some result.fault) (W.seen self.old.writer).failures }
+        ensures same { W.name self.new.writer ≡ W.name self.old.writer }
         ensures sound { IsSound (world self.new.desk) }
         ensures size { KeepsSize self.old.desk self.new.desk }
     {
@@ -182,6 +218,7 @@ impl<W: Sink> Screen<W> {
     fn run_calls(&mut self, calls: &[Call<'_>]) -> RunEnd
         ensures run { RunEnds W.seen self.old calls.now result self.new }
         ensures failures { (W.seen self.new.writer).failures ≡ counted (is_some result.fault) (W.seen self.old.writer).failures }
+        ensures same { W.name self.new.writer ≡ W.name self.old.writer }
     {
         let mut end = RunEnd {
             done: 0,

@@ -57,6 +57,13 @@ impl Painter {
         }
     }
 
+    /// What it showed last is unknown from now on, as where its terminals are others.
+    pub fn forget(&mut self)
+        ensures { self.new ≡ record self.old { last = None } }
+    {
+        self.cursor = None;
+    }
+
     /// Shows a picture of the painter's size, with the cursor at a line and a column, on any terminal of that size:
     /// it sends one text and flushes once. The text clears the terminal first, whether `clear` asks for it or not. After an
     /// error what was shown last is unknown.
@@ -74,8 +81,9 @@ impl Painter {
             (λ sent. Updates self.old clear (W.seen sink.old) (W.seen sink.new) (record { picture = picture.now; cursor = cursor }) sent.bytes)
             (λ fault. BreaksOff self.old clear (W.seen sink.old) (W.seen sink.new) (record { picture = picture.now; cursor = cursor }) fault.sent) }
         ensures painter { self.new ≡ record self.old { last = (if is_ok result then Some (record { picture = picture.now; cursor = cursor }) else None) } }
+        ensures same { W.name sink.new ≡ W.name sink.old }
     {
-        self.cursor = None;
+        self.forget();
         let sent = send_picture(sink, picture, self.lines, self.columns, cursor)?;
         self.picture.copy_from(picture);
         self.cursor = Some(cursor);
@@ -96,9 +104,10 @@ fn send_picture<W: Sink>(
     requires size { HasSize lines columns picture.now }
     requires line { cursor.0 < lines }
     requires column { cursor.1 < columns }
-    ensures { (clear : Bool) → MatchResult result
+    ensures text { (clear : Bool) → MatchResult result
         (λ sent. Updates (first_painter lines columns) clear (W.seen sink.old) (W.seen sink.new) (record { picture = picture.now; cursor = cursor }) sent.bytes)
         (λ fault. BreaksOff (first_painter lines columns) clear (W.seen sink.old) (W.seen sink.new) (record { picture = picture.now; cursor = cursor }) fault.sent) }
+    ensures same { W.name sink.new ≡ W.name sink.old }
 {
     // Reading a line tells the proof that each cell can be printed.
     prove!(picture.row(0).len() == usize::from(columns));

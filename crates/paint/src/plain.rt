@@ -22,6 +22,7 @@ fn change<W: Sink>(sink: &mut W, pen: Pen, rendition: Rendition) -> Result<u32, 
     requires { pen.sent + longest_change < 2 ^ 32 }
     ensures bound { IfOk result (λ sent. sent ≤ pen.sent + longest_change) }
     ensures sends { Sends (W.seen sink.old) (W.seen sink.new) pen.sent (change pen.rendition rendition) result }
+    ensures same { W.name sink.new ≡ W.name sink.old }
 {
     if rendition == pen.rendition {
         return Ok(pen.sent);
@@ -36,6 +37,7 @@ fn draw_cell<W: Sink>(sink: &mut W, pen: Pen, cell: Shown) -> Result<Pen, WriteF
     ensures bound { IfOk result (λ after. after.sent ≤ pen.sent + longest_cell) }
     ensures draws { Draws (W.seen sink.old) (W.seen sink.new) pen
         (change pen.rendition cell.rendition ++ spelling (Token.Print cell.character)) cell.rendition result }
+    ensures same { W.name sink.new ≡ W.name sink.old }
 {
     let rendition = cell.rendition();
     let sent = change(sink, pen, rendition)?;
@@ -52,6 +54,7 @@ fn draw_line<W: Sink>(sink: &mut W, pen: Pen, line: u16, cells: &[Shown]) -> Res
     ensures draws { Draws (W.seen sink.old) (W.seen sink.new) pen
         (spelling (Token.Cup line 0) ++ line_text pen.rendition cells.now)
         (rendition_behind pen.rendition cells.now) result }
+    ensures same { W.name sink.new ≡ W.name sink.old }
 {
     let sent = send_token(sink, pen.sent, Token::Cup(line, 0))?;
     let mut pen = Pen { sent, ..pen };
@@ -75,6 +78,7 @@ fn draw_lines<W: Sink>(
     ensures bound { IfOk result (λ after. after.sent ≤ pen.sent + longest_lines) }
     ensures draws { Draws (W.seen sink.old) (W.seen sink.new) pen
         (lines_text 0 pen.rendition picture.now) (rendition_at_end pen.rendition picture.now) result }
+    ensures same { W.name sink.new ≡ W.name sink.old }
 {
     let mut pen = pen;
     for line in 0..lines {
@@ -86,6 +90,7 @@ fn draw_lines<W: Sink>(
 fn send_opening<W: Sink>(sink: &mut W) -> Result<u32, WriteFault>
     ensures bound { IfOk result (λ sent. sent ≤ longest_opening) }
     ensures sends { Sends (W.seen sink.old) (W.seen sink.new) 0 opening result }
+    ensures same { W.name sink.new ≡ W.name sink.old }
 {
     let sent = send_token(sink, 0, Token::Sgr(Rendition::NONE))?;
     let sent = send_token(sink, sent, Token::Ed(Erase::All))?;
@@ -97,6 +102,7 @@ fn send_ending<W: Sink>(sink: &mut W, pen: Pen, cursor: (u16, u16)) -> Result<u3
     requires column { cursor.1 < LARGEST_SCREEN }
     requires room { pen.sent + longest_ending < 2 ^ 32 }
     ensures sends { Sends (W.seen sink.old) (W.seen sink.new) pen.sent (ending pen.rendition cursor) result }
+    ensures same { W.name sink.new ≡ W.name sink.old }
 {
     let sent = change(sink, pen, Rendition::NONE)?;
     send_token(sink, sent, Token::Cup(cursor.0, cursor.1))
@@ -115,6 +121,7 @@ pub fn send_text<W: Sink>(
     requires line { cursor.0 < LARGEST_SCREEN }
     requires column { cursor.1 < LARGEST_SCREEN }
     ensures sends { Sends (W.seen sink.old) (W.seen sink.new) 0 (plain_text picture.now cursor) result }
+    ensures same { W.name sink.new ≡ W.name sink.old }
 {
     let sent = send_opening(sink)?;
     let pen = Pen {
@@ -131,6 +138,7 @@ fn send_token<W: Sink>(sink: &mut W, sent: u32, token: Token) -> Result<u32, Wri
     requires room { sent + longest token < 2 ^ 32 }
     ensures bound { IfOk result (λ total. total ≤ sent + longest token) }
     ensures sends { Sends (W.seen sink.old) (W.seen sink.new) sent (spelling token) result }
+    ensures same { W.name sink.new ≡ W.name sink.old }
 {
     let mut text = [0; LONGEST_SPELLING];
     let length = spell(&token, &mut text);

@@ -5,6 +5,10 @@ use Rattle.script.specs.Characters.{newline, space}
 use Rattle.cell.specs.Attributes.{hex_digits}
 use Rattle.cell.specs.Refusals.{refusal_text}
 use Rattle.cell.specs.declared.refusal.Refusal.{Refusal}
+use Rattle.script.specs.declared.fault.ScriptFault.{ScriptFault}
+use Rattle.script.specs.declared.fault.ScriptFault.TheVariants.{Text, Reading, Write, Log}
+use Rattle.script.specs.declared.fault.TextFault.{TextFault}
+use Rattle.script.specs.declared.fault.TextFault.TheVariants.{LineTooLong, BadByte, UnknownCall, WrongNumberOfArguments, BadArgument}
 use Rattle.world.specs.declared.call.Reply.{Reply}
 use Rattle.world.specs.declared.call.Reply.TheVariants.{Nothing, Number, Pair, Cell, Composed, Sent}
 
@@ -23,6 +27,25 @@ abbrev pub answer_text : Result Reply Refusal → Option (List ℕ)
 answer_text (Ok reply) = reply_text reply
 answer_text (Err refusal) = Some (refusal_text refusal)
 
+-- the line of the log that says a text of a script's line
+abbrev pub numbered_line : ℕ → List ℕ → List ℕ
+numbered_line number text = codes "line " ++ decimal number ++ codes ": " ++ text ++ newline ∷ []
+
 -- the line of the log for the call of a script's line, if it answers something or is refused
 abbrev pub log_line : ℕ → Result Reply Refusal → List ℕ
-log_line number answer = option_map_or (λ text. codes "line " ++ decimal number ++ codes ": " ++ text ++ newline ∷ []) (answer_text answer) []
+log_line number answer = option_map_or (numbered_line number) (answer_text answer) []
+
+-- what the log says of a line's fault
+abbrev pub fault_text : TextFault → List ℕ
+fault_text LineTooLong = codes "line too long"
+fault_text BadByte = codes "bad byte"
+fault_text UnknownCall = codes "unknown call"
+fault_text WrongNumberOfArguments = codes "wrong number of arguments"
+fault_text BadArgument = codes "bad argument"
+
+-- the last line of the log, behind those of the calls, for the fault that ended a script
+abbrev pub last_line : ScriptFault → List ℕ
+last_line (Text line fault) = numbered_line line (fault_text fault)
+last_line Reading = codes "reading failed" ++ newline ∷ []
+last_line (Write line fault) = numbered_line line (codes "write failed after " ++ decimal fault.sent ++ codes " bytes")
+last_line Log = codes "writing failed" ++ newline ∷ []

@@ -1,21 +1,37 @@
 //! What is wrong with a script's text, and how a script ends.
 
+ghost use Rattle.std.specs.Prelude.{◌≡◌, ◌≤◌, length};
+
 use streams::WriteFault;
 use thiserror::Error;
 
 /// The first fault of a line.
 #[derive(Clone, Copy, Debug, PartialEq, Eq, Error)]
+#[error("{}", self.text())]
 pub enum TextFault {
-    #[error("line too long")]
     LineTooLong,
-    #[error("bad byte")]
     BadByte,
-    #[error("unknown call")]
     UnknownCall,
-    #[error("wrong number of arguments")]
     WrongNumberOfArguments,
-    #[error("bad argument")]
     BadArgument,
+}
+
+impl TextFault {
+    ghost use Rattle.script.specs.Log.{fault_text};
+
+    /// What the log says of it.
+    pub fn text(self) -> &'static str
+        ensures text { result.now ≡ fault_text self }
+        ensures short { length result.now ≤ 25 }
+    {
+        match self {
+            TextFault::LineTooLong => "line too long",
+            TextFault::BadByte => "bad byte",
+            TextFault::UnknownCall => "unknown call",
+            TextFault::WrongNumberOfArguments => "wrong number of arguments",
+            TextFault::BadArgument => "bad argument",
+        }
+    }
 }
 
 /// Why a script ended before its end. Lines are numbered from 1.

@@ -17,7 +17,7 @@ pub use bytes::{Bytes, LineRead};
 pub use fault::{ScriptEnd, ScriptFault, TextFault};
 pub use limits::LONGEST_LINE;
 pub use line::read_line;
-pub use log::log_answer;
+pub use log::{LogLine, last_line, log_answer};
 pub use words::Word;
 
 #[cfg(test)]

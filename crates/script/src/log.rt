@@ -3,9 +3,12 @@
 ghost use Rattle.std.specs.Prelude.{◌≡◌, ◌≤◌, ◌+◌, ◌<◌, ◌++◌, length, take, Some, is_err, is_some, IfErr, OnOk};
 ghost use Rattle.std.specs.Option.{option_map_or};
 ghost use Rattle.std.specs.Io.KnownBytes.{Appends};
-ghost use Rattle.script.specs.Log.{log_line, reply_text};
+ghost use Rattle.std.specs.Prelude.{codes, decimal, [], ◌∷◌};
+ghost use Rattle.script.specs.Characters.{newline};
+ghost use Rattle.script.specs.Log.{last_line, log_line, reply_text};
 ghost use Rattle.streams.specs.Counts.{counted};
 
+use crate::fault::ScriptFault;
 use arrayvec::ArrayVec;
 use cell::Refusal;
 use streams::{MOST_DECIMAL_DIGITS, Sink, WriteFault, append, append_decimal, send};
@@ -14,11 +17,14 @@ use world::Reply;
 /// Room for a line of the log.
 const LINE_ROOM: usize = 128;
 
+/// A line of the log.
+pub type LogLine = ArrayVec<u8, LINE_ROOM>;
+
 /// The most bytes that the log says of a reply: two numbers, and between them two spaces and two digits.
 const LONGEST_REPLY: usize = 2 * MOST_DECIMAL_DIGITS + 4;
 
 /// Puts what the log says of a reply at the end, and answers whether it says something.
-fn append_reply(line: &mut ArrayVec<u8, LINE_ROOM>, reply: Reply) -> bool
+fn append_reply(line: &mut LogLine, reply: Reply) -> bool
     requires { length line.old.items + LONGEST_REPLY ≤ LINE_ROOM }
     ensures text { Some line.new.items ≡ option_map_or (λ text. Some (line.old.items ++ text)) (reply_text reply) (Some line.old.items) }
     ensures has { result ≡ is_some (reply_text reply) }
@@ -43,6 +49,46 @@ fn append_reply(line: &mut ArrayVec<u8, LINE_ROOM>, reply: Reply) -> bool
     true
 }
 
+/// How a line of the log begins that says something of a script's line.
+fn beginning(number: u64) -> LogLine
+    ensures text { result.items ≡ codes "line " ++ decimal number ++ codes ": " }
+    ensures short { length result.items ≤ 27 }
+{
+    let mut line = LogLine::new();
+    append(&mut line, b"line ");
+    append_decimal(&mut line, number);
+    append(&mut line, b": ");
+    line
+}
+
+/// A line with its last words, and its end.
+fn ended(line: LogLine, text: &[u8]) -> LogLine
+    requires { length line.items + length text.now < LINE_ROOM }
+    ensures { result.items ≡ line.items ++ text.now ++ newline ∷ [] }
+{
+    let mut line = line;
+    append(&mut line, text);
+    append(&mut line, b"\n");
+    line
+}
+
+/// The line behind those of the calls, for the fault that ended a script.
+pub fn last_line(fault: ScriptFault) -> LogLine
+    ensures { result.items ≡ last_line fault }
+{
+    match fault {
+        ScriptFault::Text { line, fault } => ended(beginning(line), fault.text().as_bytes()),
+        ScriptFault::Reading => ended(LogLine::new(), b"reading failed"),
+        ScriptFault::Write { line, fault } => {
+            let mut text = beginning(line);
+            append(&mut text, b"write failed after ");
+            append_decimal(&mut text, u64::from(fault.sent));
+            ended(text, b" bytes")
+        }
+        ScriptFault::Log => ended(LogLine::new(), b"writing failed"),
+    }
+}
+
 /// Writes the line of a call that answers something or is refused, and nothing for another. An error leaves a front of the
 /// line, and not all. Nothing is flushed.
 pub fn log_answer<L: Sink>(
@@ -56,10 +102,7 @@ pub fn log_answer<L: Sink>(
     ensures failures { (L.seen log.new).failures ≡ counted (is_err result) (L.seen log.old).failures }
     ensures flushes { (L.seen log.new).flushes ≡ (L.seen log.old).flushes }
 {
-    let mut line = ArrayVec::<u8, LINE_ROOM>::new();
-    append(&mut line, b"line ");
-    append_decimal(&mut line, number);
-    append(&mut line, b": ");
+    let mut line = beginning(number);
     match answer {
         Ok(reply) => {
             if !append_reply(&mut line, reply) {

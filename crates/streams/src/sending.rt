@@ -1,6 +1,6 @@
 //! Sending a text to a sink.
 
-ghost use Rattle.std.specs.Prelude.{◌+◌, ◌^◌, ◌<◌, length};
+ghost use Rattle.std.specs.Prelude.{◌≡◌, ◌+◌, ◌^◌, ◌<◌, length};
 ghost use Rattle.streams.specs.Sending.{Sends};
 
 use crate::sink::Sink;
@@ -21,7 +21,8 @@ pub struct WriteFault {
 /// many bytes of the text went out then. An error, or an answer of 0, ends it.
 pub fn send<W: Sink>(sink: &mut W, sent: u32, piece: &[u8]) -> Result<u32, WriteFault>
     requires { sent + length piece.now < 2 ^ 32 }
-    ensures { Sends (W.seen sink.old) (W.seen sink.new) sent piece.now result }
+    ensures sends { Sends (W.seen sink.old) (W.seen sink.new) sent piece.now result }
+    ensures same { W.name sink.new ≡ W.name sink.old }
 {
     let mut total = sent;
     let mut rest = piece;

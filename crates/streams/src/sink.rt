@@ -1,6 +1,6 @@
 //! What takes the bytes of a text.
 
-ghost use Rattle.std.specs.Prelude.{◌≡◌, false, is_err};
+ghost use Rattle.std.specs.Prelude.{◌≡◌, ℕ, false, is_err};
 ghost use Rattle.std.specs.Io.{WritesAtMost};
 ghost use Rattle.std.specs.Io.KnownBytes.{WriteAppends, Keeps};
 ghost use Rattle.streams.specs.Counts.{counted, next_count};
@@ -15,24 +15,31 @@ pub trait Sink {
     // What it took, how often it failed, how often a flush was tried, and whether it was flushed.
     ghost seen: { Self → Seen };
 
+    // Which sink it is: of two lent ones with one name, both are the same borrow. What isn't lent has none.
+    ghost name: { Self → ℕ } = { λ s. 0 };
+
     /// Takes a front of the piece, and says how long it is.
     fn write(&mut self, piece: &[u8]) -> io::Result<usize>
         ensures bound { WritesAtMost result piece.now }
         ensures bytes { WriteAppends (seen self.old).taken (seen self.new).taken result piece.now }
         ensures failures { (seen self.new).failures ≡ counted (write_fails piece.now result) (seen self.old).failures }
         ensures flushes { (seen self.new).flushes ≡ (seen self.old).flushes }
-        ensures flushed { (seen self.new).flushed ≡ flushed_after_write (seen self.old).flushed result };
+        ensures flushed { (seen self.new).flushed ≡ flushed_after_write (seen self.old).flushed result }
+        ensures same { name self.new ≡ name self.old };
 
     /// Hands on all that was taken.
     fn flush(&mut self) -> io::Result<()>
         ensures bytes { Keeps (seen self.old).taken (seen self.new).taken }
         ensures failures { (seen self.new).failures ≡ counted (is_err result) (seen self.old).failures }
         ensures flushes { (seen self.new).flushes ≡ next_count (seen self.old).flushes }
-        ensures flushed { (seen self.new).flushed ≡ flushed_after_flush (seen self.old).flushed result };
+        ensures flushed { (seen self.new).flushed ≡ flushed_after_flush (seen self.old).flushed result }
+        ensures same { name self.new ≡ name self.old };
 }
 
 impl<S: Sink> Sink for &mut S {
     ghost seen = { λ s. S.seen s.now };
+
+    ghost name = { λ s. s.ghost_name };
 
     fn write(&mut self, piece: &[u8]) -> io::Result<usize> {
         Sink::write(&mut **self, piece)

@@ -2,7 +2,7 @@ use Rattle.curspan.proofs.PutLemmas.{cut_put, more_put}
 use Rattle.curspan.proofs.put.put.Goals as goal
 
 pub loop-rest-preserved : goal.loop-rest-preserved
-loop-rest-preserved g c = more_put _ _ _ _ _ _ _ _ _ c.loop-rest.invariant c.in-Ok.ensures c.split_at.ensures.front c.split_at.ensures.back
+loop-rest-preserved g c = more_put _ _ _ _ _ _ _ _ _ c.loop-rest.invariant c.in-Ok.ensures.sends c.split_at.ensures.front c.split_at.ensures.back
 
 pub returns-in-Err-clause-cut : goal.returns-in-Err-clause-cut
-returns-in-Err-clause-cut g c = λ cut. cut_put _ _ _ _ _ _ _ _ _ c.loop-rest.invariant c.in-Err.ensures c.split_at.ensures.front c.split_at.ensures.back
+returns-in-Err-clause-cut g c = λ cut. cut_put _ _ _ _ _ _ _ _ _ c.loop-rest.invariant c.in-Err.ensures.sends c.split_at.ensures.front c.split_at.ensures.back

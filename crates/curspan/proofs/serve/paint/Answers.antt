@@ -1,12 +1,19 @@
-use Rattle.std.proofs.Common.{◌≡◌, false, inr, sym, ◌∙◌}
+use Rattle.std.proofs.Common.{◌≡◌, false, Some, ap, inr, subst, sym, ◌∙◌}
 use Rattle.std.specs.Prelude.{is_some}
 use Rattle.curspan.proofs.PictureLemmas.{Prints-failed}
 use Rattle.desk.specs.Desks.{world}
+use Rattle.desk.specs.States.{State}
+use Rattle.cell.specs.Shown.{no_rendition}
+use Rattle.curspan.specs.Printing.{printed_picture}
+use Rattle.curspan.specs.Serving.{outputs}
+use Rattle.curspan.specs.Written.{IsNotWritten}
 use Rattle.curspan.proofs.serve.paint.Goals as goal
 
 pub returns-clause-painted : goal.returns-clause-painted
 returns-clause-painted g c =
     let fault : is_some c.run_told-end.result.fault ≡ false = sym c.is_some.ensures ∙ c.if-is_some.false in
+    let text = ap (λ (s : State). printed_picture s.world.virtual.picture (Some s.world.virtual.cursor) no_rendition) c.take_picture.ensures in
+    let not_written = subst (IsNotWritten (g.O.Sink.seen c.args.out.now) (g.O.Sink.seen c.print.new.out)) text (rw (c.desk.ensures, c.if-print.false) at c.print.ensures) in
     inr (record {
       last = c.run_told-end.new.screen;
       end = c.run_told-end.result;
@@ -15,8 +22,10 @@ returns-clause-painted g c =
         first = c.in-Ok.screen;
         blank = c.in-Ok.ensures.world;
         unpainted = c.in-Ok.ensures.painter;
-        over = rw c.in-Ok.ensures.writer c.new.ensures;
+        over = c.in-Ok.ensures.writer;
         runs = c.run_told-end.ensures.ran;
       };
-      prints = Prints-failed c.run_told-end.result (world c.run_told-end.new.screen.desk) (g.O.Sink.seen c.args.out.now) (g.O.Sink.seen c.print.new.out) (g.L.Sink.seen c.run_told-end.new.log) (g.L.Sink.seen c.put.new.sink) fault (c.print.ensures.failed c.if-print.false);
+      prints = Prints-failed c.run_told-end.result (world c.run_told-end.new.screen.desk) (g.L.Sink.seen c.run_told-end.new.log)
+          (outputs (g.O.Sink.seen c.args.out.now) (g.L.Sink.seen c.args.log.now)) (outputs (g.O.Sink.seen c.print.new.out) (g.L.Sink.seen c.writing_failed.new.log))
+          c.writing_failed.result fault c.writing_failed.ensures.status not_written c.writing_failed.ensures.told;
     })

@@ -1,17 +1,18 @@
-use Rattle.std.proofs.Common.{inr, rules}
+use Rattle.std.proofs.Common.{inr, refl, rules}
 use Rattle.curspan.proofs.serve.run.Goals as goal
 
 pub returns-clause-ran : goal.returns-clause-ran
 returns-clause-ran g c =
     inr (record {
-      last = c.run_told.new.screen;
-      end = c.run_told.result;
+      last = c.run_told-end.new.screen;
+      end = c.run_told-end.result;
       script = record {
-        first = c.in-Ok.screen;
-        blank = c.in-Ok.ensures.world;
-        unpainted = c.in-Ok.ensures.painter;
-        over = search rules;
-        runs = c.run_told.ensures.ran;
+        first = c.with_writer-screen.result;
+        blank = rw c.with_writer-screen.ensures c.in-Ok.ensures.world;
+        unpainted = rw (c.with_writer-screen.ensures, c.in-Ok.ensures.painter) refl;
+        over = rw c.with_writer-screen.ensures refl;
+        runs = c.run_told-end.ensures.ran;
       };
+      output = search rules;
       status_is = c.status_of.ensures.status;
     })

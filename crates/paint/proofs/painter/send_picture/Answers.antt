@@ -13,15 +13,15 @@ is_text : (g : Over) (c : After-send_text g) (clear : Bool)
 is_text g c clear =
     plain-updates (first_painter c.args.lines c.args.columns) clear c.args.picture.now c.args.cursor (omega arith) (omega arith) c.requires.size c.row.ensures.cells c.requires.line c.requires.column
 
-pub returns-in_err-sent : goal.returns-in_err-sent
-returns-in_err-sent g c =
+pub returns-in_err-sent-clause-text : goal.returns-in_err-sent-clause-text
+returns-in_err-sent-clause-text g c =
     let fault = err_from_is_err_and c.from_residual.result c.from_residual.ensures.1 in
-    rw (fault.1, fault.2) (λ clear. broken_text (is_text g (goal.at.returns-in_err-sent g c).After-send_text clear) c.in_err-sent.ensures.sends)
+    rw (fault.1, fault.2) (λ clear. broken_text (is_text g (goal.at.returns-in_err-sent-clause-text g c).After-send_text clear) c.in_err-sent.ensures.sends)
 
-pub returns-in-Ok : goal.returns-in-Ok
-returns-in-Ok g c = λ clear.
-    updated (is_text g (goal.at.returns-in-Ok g c).After-send_text clear) c.in_ok-sent.ensures.sends c.in-Ok.ensures.bytes c.in-Ok.ensures.failures c.in-Ok.ensures.flushes c.in-Ok.ensures.flushed
+pub returns-in-Ok-clause-text : goal.returns-in-Ok-clause-text
+returns-in-Ok-clause-text g c = λ clear.
+    updated (is_text g (goal.at.returns-in-Ok-clause-text g c).After-send_text clear) c.in_ok-sent.ensures.sends c.in-Ok.ensures.bytes c.in-Ok.ensures.failures c.in-Ok.ensures.flushes c.in-Ok.ensures.flushed
 
-pub returns-in-Err : goal.returns-in-Err
-returns-in-Err g c = λ clear.
-    broken_flush (is_text g (goal.at.returns-in-Err g c).After-send_text clear) c.in_ok-sent.ensures.sends c.in-Err.ensures.bytes c.in-Err.ensures.failures c.in-Err.ensures.flushes
+pub returns-in-Err-clause-text : goal.returns-in-Err-clause-text
+returns-in-Err-clause-text g c = λ clear.
+    broken_flush (is_text g (goal.at.returns-in-Err-clause-text g c).After-send_text clear) c.in_ok-sent.ensures.sends c.in-Err.ensures.bytes c.in-Err.ensures.failures c.in-Err.ensures.flushes

@@ -1,4 +1,4 @@
-use Rattle.std.proofs.Common.{arith, ◌∷◌, ◌+◌, ◌++◌, drop}
+use Rattle.std.proofs.Common.{arith, ◌∙◌, ◌∷◌, ◌+◌, ◌++◌, drop}
 use Rattle.std.proofs.lemmas.List.{drop_all}
 use Rattle.std.proofs.lemmas.Result.{err_from_is_err_and}
 use Rattle.ecma.specs.declared.token.Token.TheVariants.{Cup}
@@ -11,7 +11,11 @@ use Rattle.paint.proofs.plain.draw_line.Goals.{After-draw_cell}
 use Rattle.paint.proofs.plain.draw_line.Given.{Over}
 
 pub loop-cell-init : goal.loop-cell-init
-loop-cell-init g c = record { drawn = IsPartlyDrawn-none c.args.line c.args.cells.now c.in_ok-sent.ensures.sends; room = omega (arith, c.in_ok-sent.ensures.bound) }
+loop-cell-init g c = record {
+  drawn = IsPartlyDrawn-none c.args.line c.args.cells.now c.in_ok-sent.ensures.sends;
+  room = omega (arith, c.in_ok-sent.ensures.bound);
+  same = c.in_ok-sent.ensures.same;
+}
 
 -- the cell of this turn is the first of the rest
 drawn : (g : Over) (c : After-draw_cell g) → IsPartlyDrawn (g.W.Sink.seen c.args.sink.now) (g.W.Sink.seen c.loop-cell.sink) c.args.pen c.loop-cell.pen
@@ -23,6 +27,7 @@ pub loop-cell-preserved : goal.loop-cell-preserved
 loop-cell-preserved g c = record {
   drawn = IsPartlyDrawn-more (drawn g (goal.at.loop-cell-preserved g c).After-draw_cell) c.in_ok-pen.ensures.draws;
   room = omega (arith, c.in_ok-pen.ensures.bound);
+  same = c.in_ok-pen.ensures.same ∙ c.loop-cell.invariant.same;
 }
 
 pub returns-in_err-pen-clause-draws : goal.returns-in_err-pen-clause-draws

@@ -1,4 +1,4 @@
-use Rattle.std.proofs.Common.{◌+◌, ◌*◌, ◌≤◌, ◌++◌, drop}
+use Rattle.std.proofs.Common.{◌≡◌, ◌+◌, ◌*◌, ◌≤◌, ◌++◌, drop}
 use Rattle.ecma.specs.declared.token.Token.TheVariants.{Cup}
 use Rattle.ecma.specs.Spelling.{spelling}
 use Rattle.paint.specs.steps.Plain.{line_text, rendition_behind, longest_move, longest_cell}
@@ -11,4 +11,5 @@ invariant-loop-cell g l = record {
       (spelling (Cup l.line 0) ++ line_text l.fn.pen.rendition l.cells)
       (drop l.cell-index l.cells) (rendition_behind l.fn.pen.rendition l.cells);
   room : l.pen.sent ≤ l.fn.pen.sent + longest_move + longest_cell * l.cell-index;
+  same : g.W.Sink.name l.sink ≡ g.W.Sink.name l.fn.sink;
 }

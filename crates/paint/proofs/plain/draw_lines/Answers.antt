@@ -1,4 +1,4 @@
-use Rattle.std.proofs.Common.{◌+◌, ◌<◌, arith, length, [], ◌∷◌, drop}
+use Rattle.std.proofs.Common.{◌∙◌, ◌+◌, ◌<◌, arith, length, [], ◌∷◌, drop}
 use Rattle.std.proofs.lemmas.Result.{err_from_is_err_and}
 use Rattle.paint.specs.steps.Plain.{lines_text, rendition_at_end}
 use Rattle.paint.proofs.Lists.{drop_item}
@@ -20,6 +20,7 @@ pub loop-line-preserved : goal.loop-line-preserved
 loop-line-preserved g c = record {
   left = AreLinesLeft-more (left g (goal.at.loop-line-preserved g c).After-draw_line) c.in_ok-pen.ensures.draws;
   room = omega (arith, c.in_ok-pen.ensures.bound);
+  same = c.in_ok-pen.ensures.same ∙ c.loop-line.invariant.same;
 }
 
 pub returns-in_err-pen-clause-draws : goal.returns-in_err-pen-clause-draws

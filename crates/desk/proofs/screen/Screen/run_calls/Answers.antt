@@ -13,6 +13,7 @@ loop-call-preserved g c =
         composed = omega arith;
         fault = c.loop-call.invariant.fault;
         failures = w.in-Ok.ensures.failures ∙ c.loop-call.invariant.failures;
+        same = w.in-Ok.ensures.same ∙ c.loop-call.invariant.same;
       })
       | in-Err-Refused w ↦ rw w.end-is (record {
         so_far = refused_next _ _ _ _ _ _ _ _ _ _ _ so_far c.loop-call-test.true (rw w.in-Err-Refused.field-0-is at w.in-Err-Refused.ensures.call);
@@ -20,6 +21,7 @@ loop-call-preserved g c =
         composed = omega arith;
         fault = c.loop-call.invariant.fault;
         failures = (rw w.in-Err-Refused.field-0-is at w.in-Err-Refused.ensures.failures) ∙ c.loop-call.invariant.failures;
+        same = w.in-Err-Refused.ensures.same ∙ c.loop-call.invariant.same;
       })
     ]
 

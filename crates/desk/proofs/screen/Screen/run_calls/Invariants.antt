@@ -9,4 +9,5 @@ invariant-loop-call g l = record {
   composed : l.end.composed ≤ 2 ^ 32 * l.call-index;
   fault : l.end.fault ≡ None;
   failures : (g.W.Sink.seen l.self.writer).failures ≡ (g.W.Sink.seen l.fn.self.writer).failures;
+  same : g.W.Sink.name l.self.writer ≡ g.W.Sink.name l.fn.self.writer;
 }

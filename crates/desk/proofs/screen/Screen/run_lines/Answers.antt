@@ -9,6 +9,7 @@ loop-self-init g c = record {
   so_far = so_far_none g.W.Sink.seen _ _ _ _ c.new-bytes.ensures;
   reading = refl;
   writing = refl;
+  same = refl;
 }
 
 pub returns-then-is_some-clause-lines : goal.returns-then-is_some-clause-lines
@@ -25,6 +26,7 @@ loop-self-preserved g c =
           h.so_far c.in-Line.ensures.line c.in-Line.ensures.ended c.in-Line.ensures.past (rw c.as_slice.ensures.value at c.run_line-end.ensures.line) none;
       reading = c.in-Line.ensures.failures ∙ h.reading;
       writing = c.run_line-end.ensures.writer ∙ ap (λ f. counted (is_some (write_fault f)) (g.W.Sink.seen c.loop-self.self.writer).failures) none ∙ h.writing;
+      same = c.run_line-end.ensures.same ∙ h.same;
     })
 
 pub returns-in-LastLine-clause-lines : goal.returns-in-LastLine-clause-lines

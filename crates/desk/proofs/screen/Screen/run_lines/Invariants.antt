@@ -11,6 +11,7 @@ invariant-loop-self g l =
       so_far : SoFar writer l.fn.self l.self (source l.fn.input) (source l.input) (logged l.fn.log) (logged l.log) l.bytes l.number l.refused;
       reading : (source l.input).failures ≡ (source l.fn.input).failures;
       writing : (writer l.self.writer).failures ≡ (writer l.fn.self.writer).failures;
+      same : g.W.Sink.name l.self.writer ≡ g.W.Sink.name l.fn.self.writer;
     }
 
 abbrev pub decreases-loop-self : goal.decreases-loop-self

@@ -1,0 +1,12 @@
+use Rattle.std.proofs.Common.{◌≡◌, ℕ, List, ◌++◌, append_assoc, refl, codes, decimal, [], ◌∷◌}
+use Rattle.script.specs.Characters.{newline}
+use Rattle.script.proofs.log.last_line.Goals as goal
+
+-- a line, put together piece by piece
+joined : (beginning before sent behind end : List ℕ) → (((beginning ++ before) ++ sent) ++ behind) ++ end ≡ (beginning ++ ((before ++ sent) ++ behind)) ++ end
+joined beginning before sent behind end = rw (append_assoc beginning before sent, append_assoc beginning (before ++ sent) behind) refl
+
+pub returns-in-Write : goal.returns-in-Write
+returns-in-Write c =
+    rw (c.ended-in-Write.ensures, c.append_decimal.ensures.text, c.append.ensures, c.beginning-text.ensures.text, c.from.ensures, c.in-Write.is)
+    (joined (codes "line " ++ decimal c.in-Write.line ++ codes ": ") (codes "write failed after ") (decimal c.in-Write.fault.sent) (codes " bytes") (newline ∷ []))
