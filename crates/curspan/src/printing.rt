@@ -1,28 +1,35 @@
 //! Prints pictures.
 
-ghost use Rattle.std.specs.Prelude.{◌≡◌, ◌≤◌, ◌+◌, ◌*◌, ◌++◌, [], Some, false, length, not, true};
+ghost use Rattle.std.specs.Prelude.{◌≡◌, ◌≤◌, ◌+◌, ◌*◌, ◌++◌, ◌∷◌, [], if◌then◌else◌, All, false, length, not, true};
 ghost use Rattle.std.specs.List.{flat_map, list_any};
 ghost use Rattle.std.specs.Io.KnownBytes.{Appends};
-ghost use Rattle.cell.specs.Shown.{no_rendition};
 ghost use Rattle.streams.specs.Counts.{counted};
 ghost use Rattle.curspan.specs.Printing.{attributes_text, characters_text, colours_text, cursor_text, has_attributes, has_colour, line_text, printed_picture, rendition_text, sign, signs};
-ghost use Rattle.curspan.specs.Written.{TakesFront};
+ghost use Rattle.curspan.specs.Written.{TakesFront, WritingEnds};
 
 use crate::put::put;
 use arrayvec::ArrayVec;
 use bitflags::Flags;
-use cell::{Attr, Colour, LARGEST_SCREEN, Rendition, Shown};
-use desk::Desk;
-use streams::{Sink, append, append_decimal};
+use cell::{Colour, Grid, LARGEST_SCREEN, Rendition, Shown};
+use streams::{MOST_DECIMAL_DIGITS, Sink, append, append_decimal};
 
 /// Room for a line of a picture, with its attributes and colours: 5 bytes for each cell, and 7 more.
 const ROOM: usize = 5120;
 
-/// Room for what stands behind the lines: two numbers, and 26 bytes more.
+/// The most bytes that say where the cursor stands: two numbers, and 9 bytes more.
+const LONGEST_CURSOR: usize = 2 * MOST_DECIMAL_DIGITS + 9;
+
+/// The most bytes that say a rendition.
+const LONGEST_RENDITION: usize = 16;
+
+/// Room for what stands behind the lines.
 const ENDING_ROOM: usize = 128;
 
 /// The text of a line of a picture.
 type LineText = ArrayVec<u8, ROOM>;
+
+/// The text behind the lines.
+type EndingText = ArrayVec<u8, ENDING_ROOM>;
 
 /// Whether some cell of a line has attributes.
 fn has_attributes(row: &[Shown]) -> bool
@@ -112,48 +119,109 @@ fn line_text(row: &[Shown]) -> LineText
     text
 }
 
-/// The text behind the lines: the cursor, and the empty rendition.
-fn ending(cursor: (u16, u16)) -> ArrayVec<u8, ENDING_ROOM>
-    ensures { result.items ≡ cursor_text (Some cursor) ++ rendition_text no_rendition }
+/// Puts where the cursor stands at the end.
+fn append_cursor(text: &mut EndingText, cursor: Option<(u16, u16)>)
+    requires { length text.old.items + LONGEST_CURSOR ≤ ENDING_ROOM }
+    ensures text { text.new.items ≡ text.old.items ++ cursor_text cursor }
+    ensures short { length text.new.items ≤ length text.old.items + LONGEST_CURSOR }
 {
-    let mut text = ArrayVec::<u8, ENDING_ROOM>::new();
-    append(&mut text, b"cursor ");
-    append_decimal(&mut text, u64::from(cursor.0));
-    append(&mut text, b" ");
-    append_decimal(&mut text, u64::from(cursor.1));
-    append(&mut text, b"\nrendition ");
-    append(&mut text, &Attr::NONE.hex_digits());
-    append(&mut text, b"\n");
+    let Some((y, x)) = cursor else {
+        append(text, b"cursor unknown\n");
+        return;
+    };
+    append(text, b"cursor ");
+    append_decimal(text, u64::from(y));
+    append(text, b" ");
+    append_decimal(text, u64::from(x));
+    append(text, b"\n");
+}
+
+/// Puts the signs of a rendition's colours at the end, behind a space, if it has one.
+fn append_signs(text: &mut EndingText, rendition: Rendition)
+    requires { length text.old.items + 3 ≤ ENDING_ROOM }
+    ensures text { text.new.items ≡ text.old.items ++ (if has_colour rendition then 32 ∷ signs rendition else []) }
+    ensures short { length text.new.items ≤ length text.old.items + 3 }
+{
+    if rendition.colours().is_default() {
+        return;
+    }
+    append(text, b" ");
+    append(text, &signs(rendition));
+}
+
+/// Puts a rendition at the end.
+fn append_rendition(text: &mut EndingText, rendition: Rendition)
+    requires { length text.old.items + LONGEST_RENDITION ≤ ENDING_ROOM }
+    ensures { text.new.items ≡ text.old.items ++ rendition_text rendition }
+{
+    append(text, b"rendition ");
+    append(text, &rendition.attrs().hex_digits());
+    append_signs(text, rendition);
+    append(text, b"\n");
+}
+
+/// The text behind the lines.
+fn ending(cursor: Option<(u16, u16)>, rendition: Rendition) -> EndingText
+    ensures { result.items ≡ cursor_text cursor ++ rendition_text rendition }
+{
+    let mut text = EndingText::new();
+    append_cursor(&mut text, cursor);
+    append_rendition(&mut text, rendition);
     text
 }
 
-/// Prints the lines of a desk's virtual screen, and answers whether all went out.
-fn put_lines<O: Sink>(out: &mut O, desk: &Desk) -> bool
-    ensures taken { result ≡ true → Appends (O.seen out.old).taken (O.seen out.new).taken (flat_map line_text desk.now.virtual.picture) }
-    ensures cut { result ≡ false → TakesFront (O.seen out.old) (O.seen out.new) (flat_map line_text desk.now.virtual.picture) }
+/// Prints the lines of a picture, of which there are so many, and answers whether all went out.
+fn put_lines<O: Sink>(out: &mut O, picture: &Grid<Shown>, lines: u16) -> bool
+    requires lines { length picture.now ≡ lines }
+    requires columns { All (λ line. length line ≤ LARGEST_SCREEN) picture.now }
+    ensures taken { result ≡ true → Appends (O.seen out.old).taken (O.seen out.new).taken (flat_map line_text picture.now) }
+    ensures cut { result ≡ false → TakesFront (O.seen out.old) (O.seen out.new) (flat_map line_text picture.now) }
     ensures flushes { (O.seen out.new).flushes ≡ (O.seen out.old).flushes }
     ensures failures { (O.seen out.new).failures ≡ counted (not result) (O.seen out.old).failures }
 {
-    let (lines, _) = desk.size();
     for y in 0..lines {
-        if !put(out, line_text(desk.virtual_row(y)).as_slice()) {
+        if !put(out, line_text(picture.row(usize::from(y))).as_slice()) {
             return false;
         }
     }
     true
 }
 
-/// Prints a desk's virtual screen with the cursor that it wants, and answers whether all went out.
-pub fn put_picture<O: Sink>(out: &mut O, desk: &Desk) -> bool
-    ensures taken { result ≡ true → Appends (O.seen out.old).taken (O.seen out.new).taken
-        (printed_picture desk.now.virtual.picture (Some desk.now.virtual.cursor) no_rendition) }
-    ensures cut { result ≡ false → TakesFront (O.seen out.old) (O.seen out.new)
-        (printed_picture desk.now.virtual.picture (Some desk.now.virtual.cursor) no_rendition) }
+/// Prints a picture of so many lines, the cursor and the rendition, and answers whether all went out. Nothing is flushed.
+fn put_picture<O: Sink>(
+    out: &mut O,
+    picture: &Grid<Shown>,
+    lines: u16,
+    cursor: Option<(u16, u16)>,
+    rendition: Rendition,
+) -> bool
+    requires lines { length picture.now ≡ lines }
+    requires columns { All (λ line. length line ≤ LARGEST_SCREEN) picture.now }
+    ensures taken { result ≡ true → Appends (O.seen out.old).taken (O.seen out.new).taken (printed_picture picture.now cursor rendition) }
+    ensures cut { result ≡ false → TakesFront (O.seen out.old) (O.seen out.new) (printed_picture picture.now cursor rendition) }
     ensures flushes { (O.seen out.new).flushes ≡ (O.seen out.old).flushes }
     ensures failures { (O.seen out.new).failures ≡ counted (not result) (O.seen out.old).failures }
 {
-    if !put_lines(out, desk) {
+    if !put_lines(out, picture, lines) {
         return false;
     }
-    put(out, ending(desk.wanted_cursor()).as_slice())
+    put(out, ending(cursor, rendition).as_slice())
+}
+
+/// Prints a picture as `put_picture` does and flushes, and answers whether all of it went out.
+pub fn print<O: Sink>(
+    out: &mut O,
+    picture: &Grid<Shown>,
+    lines: u16,
+    cursor: Option<(u16, u16)>,
+    rendition: Rendition,
+) -> bool
+    requires lines { length picture.now ≡ lines }
+    requires columns { All (λ line. length line ≤ LARGEST_SCREEN) picture.now }
+    ensures { WritingEnds result (O.seen out.old) (O.seen out.new) (printed_picture picture.now cursor rendition) }
+{
+    if !put_picture(out, picture, lines, cursor, rendition) {
+        return false;
+    }
+    out.flush().is_ok()
 }

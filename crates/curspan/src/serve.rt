@@ -16,8 +16,9 @@ ghost use Rattle.world.specs.World.{first_world};
 
 use crate::asked::{Job, Kind};
 use crate::command::job;
-use crate::printing::put_picture;
+use crate::printing::print;
 use crate::put::{tell, write_out};
+use cell::Rendition;
 use clap::Error;
 use clap::error::ErrorKind;
 use desk::{Call, Desk, Refresh, Refusal, Screen, ScriptEnd, ScriptFault, Sink, Source};
@@ -153,13 +154,12 @@ fn take_picture<W: Sink>(screen: &mut Screen<W>)
 }
 
 /// Prints the virtual screen of a desk and flushes, and answers whether all of it went out.
-fn print<O: Sink>(out: &mut O, desk: &Desk) -> bool
+fn print_desk<O: Sink>(out: &mut O, desk: &Desk) -> bool
     ensures { WritingEnds result (O.seen out.old) (O.seen out.new) (printed_picture desk.now.virtual.picture (Some desk.now.virtual.cursor) no_rendition) }
 {
-    if !put_picture(out, desk) {
-        return false;
-    }
-    out.flush().is_ok()
+    let (lines, _) = desk.size();
+    let cursor = Some(desk.wanted_cursor());
+    print(out, desk.virtual_screen(), lines, cursor, Rendition::NONE)
 }
 
 /// Runs a script on a screen of the job's size, prints the picture that it leaves, and answers the status.
@@ -184,7 +184,7 @@ fn paint<R: Source, O: Sink, L: Sink>(
         return status_of(end);
     }
     take_picture(&mut screen);
-    if print(out, screen.desk()) {
+    if print_desk(out, screen.desk()) {
         status_of(end)
     } else {
         writing_failed(log)

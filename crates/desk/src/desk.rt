@@ -175,7 +175,7 @@ impl Desk {
     }
 
     /// All of the virtual screen.
-    pub(crate) fn virtual_screen(&self) -> &Grid<Shown>
+    pub fn virtual_screen(&self) -> &Grid<Shown>
         ensures picture { result.now ≡ self.now.virtual.picture }
         ensures sound { IsSound (world self.now) }
     {

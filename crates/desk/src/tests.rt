@@ -208,6 +208,18 @@ fn a_run_stops_at_a_fault_and_the_next_one_repairs(rt: HostRuntime) -> Result<()
 }
 
 #[test]
+fn another_writer_is_shown_all_again(rt: HostRuntime) -> Result<(), Fail> {
+    let mut screen = screen(rt.alloc(), 1, 4)?;
+    screen.call(&addstr(0, b"hi"))?;
+    screen.run(&UPDATE);
+    let mut screen = screen.with_writer(Counted::new(Vec::new(rt.alloc())));
+    assert_eq!(rt; screen.writer().get_ref().as_slice(), b"".as_slice());
+    screen.run(&UPDATE);
+    assert_eq!(rt; screen.into_writer().into_inner().as_slice(), HI);
+    Ok(())
+}
+
+#[test]
 fn sizes_past_the_limits_are_refused(rt: HostRuntime) -> Result<(), Fail> {
     for (lines, cols) in [(0, 10), (4, 0), (1000, 10), (4, 1000), (u16::MAX, u16::MAX)] {
         match screen(rt.alloc(), lines, cols) {

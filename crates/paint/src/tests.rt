@@ -101,6 +101,19 @@ fn shows_a_bold_cell_in_yellow(rt: HostRuntime) -> Result<(), Fail> {
 }
 
 #[test]
+fn shows_all_after_it_forgot(rt: HostRuntime) -> Result<(), Fail> {
+    let picture = greeting(rt.alloc())?;
+    let mut painter = Painter::new(rt.alloc(), 4, 10)?;
+    let mut first = Counted::new(Vec::new(rt.alloc()));
+    painter.doupdate(&picture, (0, 2), false, &mut first)?;
+    painter.forget();
+    let mut second = Counted::new(Vec::new(rt.alloc()));
+    painter.doupdate(&picture, (0, 2), false, &mut second)?;
+    assert_eq!(rt; second.get_ref().as_slice(), GREETING);
+    Ok(())
+}
+
+#[test]
 fn shows_all_after_a_fault(rt: HostRuntime) -> Result<(), Fail> {
     for fails in [true, false] {
         let picture = greeting(rt.alloc())?;

@@ -1,4 +1,7 @@
-use crate::{Arguments, Bytes, LONGEST_LINE, LineRead, log_answer, read_line};
+use crate::{
+    Arguments, Bytes, LONGEST_LINE, LineRead, ScriptFault, TextFault, last_line, log_answer,
+    read_line,
+};
 use arrayvec::ArrayVec;
 use cell::{Attr, Cell, Refusal, WinId};
 use std::alloc::Global;
@@ -229,6 +232,32 @@ fn a_line_has_at_most_512_bytes(rt: HostRuntime) {
         let mut line = ArrayVec::new();
         assert_eq!(rt; Bytes::new().next_line(&mut source, &mut line), read);
         assert_eq!(rt; line.as_slice(), &LONG[..512]);
+    }
+}
+
+#[test]
+fn faults_have_their_last_lines(rt: HostRuntime) {
+    let (line, sent) = (12, u32::MAX);
+    let faults = [
+        (
+            ScriptFault::Text {
+                line,
+                fault: TextFault::WrongNumberOfArguments,
+            },
+            "line 12: wrong number of arguments\n",
+        ),
+        (
+            ScriptFault::Write {
+                line,
+                fault: WriteFault { sent },
+            },
+            "line 12: write failed after 4294967295 bytes\n",
+        ),
+        (ScriptFault::Reading, "reading failed\n"),
+        (ScriptFault::Log, "writing failed\n"),
+    ];
+    for (fault, text) in faults {
+        assert_eq!(rt; last_line(fault).as_slice(), text.as_bytes());
     }
 }
 

@@ -6,7 +6,7 @@ use Rattle.curspan.proofs.printing.put_lines.Given as goal
 
 abbrev pub invariant-loop-y : goal.invariant-loop-y
 invariant-loop-y g l = record {
-  taken : Appends (g.O.Sink.seen l.fn.out).taken (g.O.Sink.seen l.out).taken (flat_map line_text (take l.y l.desk.virtual.picture));
+  taken : Appends (g.O.Sink.seen l.fn.out).taken (g.O.Sink.seen l.out).taken (flat_map line_text (take l.y l.picture));
   flushes : (g.O.Sink.seen l.out).flushes ≡ (g.O.Sink.seen l.fn.out).flushes;
   failures : (g.O.Sink.seen l.out).failures ≡ (g.O.Sink.seen l.fn.out).failures;
 }

@@ -13,7 +13,7 @@ pub returns-clause-painted : goal.returns-clause-painted
 returns-clause-painted g c =
     let fault : is_some c.run_told-end.result.fault ≡ false = sym c.is_some.ensures ∙ c.if-is_some.false in
     let text = ap (λ (s : State). printed_picture s.world.virtual.picture (Some s.world.virtual.cursor) no_rendition) c.take_picture.ensures in
-    let not_written = subst (IsNotWritten (g.O.Sink.seen c.args.out.now) (g.O.Sink.seen c.print.new.out)) text (rw (c.desk.ensures, c.if-print.false) at c.print.ensures) in
+    let not_written = subst (IsNotWritten (g.O.Sink.seen c.args.out.now) (g.O.Sink.seen c.print_desk.new.out)) text (rw (c.desk.ensures, c.if-print_desk.false) at c.print_desk.ensures) in
     inr (record {
       last = c.run_told-end.new.screen;
       end = c.run_told-end.result;
@@ -26,6 +26,6 @@ returns-clause-painted g c =
         runs = c.run_told-end.ensures.ran;
       };
       prints = Prints-failed c.run_told-end.result (world c.run_told-end.new.screen.desk) (g.L.Sink.seen c.run_told-end.new.log)
-          (outputs (g.O.Sink.seen c.args.out.now) (g.L.Sink.seen c.args.log.now)) (outputs (g.O.Sink.seen c.print.new.out) (g.L.Sink.seen c.writing_failed.new.log))
+          (outputs (g.O.Sink.seen c.args.out.now) (g.L.Sink.seen c.args.log.now)) (outputs (g.O.Sink.seen c.print_desk.new.out) (g.L.Sink.seen c.writing_failed.new.log))
           c.writing_failed.result fault c.writing_failed.ensures.status not_written c.writing_failed.ensures.told;
     })

@@ -1,0 +1,12 @@
+use Rattle.std.proofs.Common.{[], ◌∷◌, codes}
+use Rattle.std.specs.Prelude.{if◌then◌else◌}
+use Rattle.cell.specs.Attributes.{hex_digits}
+use Rattle.curspan.specs.Printing.{has_colour, signs}
+use Rattle.curspan.proofs.PrintLemmas.{joined}
+use Rattle.curspan.proofs.printing.append_rendition.Goals as goal
+
+pub returns : goal.returns
+returns c =
+    let r = c.args.rendition in
+    rw (c.append-3.ensures, c.append_signs.ensures.text, c.append-2.ensures, c.append.ensures, c.hex_digits.ensures, c.attrs.ensures)
+    (joined c.args.text.now.items (codes "rendition ") (hex_digits r.attributes) (if has_colour r then 32 ∷ signs r else []) (10 ∷ []))
