@@ -1,5 +1,5 @@
 -- What a stream reaches, and where it fails.
-use Rattle.std.proofs.Common.{◌≡◌, ℕ, List, [], length, Option, Some, ap, arith, refl, sym, ◌∙◌, subst}
+use Rattle.std.proofs.Common.{◌≡◌, ℕ, List, [], length, Option, Some, ap, arith, sym, ◌∙◌, subst}
 use Rattle.ecma.specs.Items.{Item}
 use Rattle.ecma.specs.Terminals.{Terminal, effects}
 use Rattle.ecma.specs.Streams.{FailsAt, IsInProfile, Reaches}

@@ -88,7 +88,7 @@ MayPrecede-then (Printable byte) bytes more some h = tt
 MayPrecede-then (Control function parameters) bytes more some h = tt
 MayPrecede-then (Unfinished begun) bytes more some h = EndsOrEscapes-then bytes more some h
 
-Splits-ends_then : (bytes : List ℕ) (items : List Item) (more : List ℕ) → Splits bytes items [] → EndsFinished items → Splits (bytes ++ more) items more
+pub Splits-ends_then : (bytes : List ℕ) (items : List Item) (more : List ℕ) → Splits bytes items [] → EndsFinished items → Splits (bytes ++ more) items more
 Splits-ends_then bytes [] more h ends = ap (λ (front : List ℕ). front ++ more) h
 Splits-ends_then bytes (item ∷ []) more h ends = Splits-then bytes (item ∷ []) [] more h (ends, tt)
 Splits-ends_then bytes (item ∷ next ∷ items) more h ends =

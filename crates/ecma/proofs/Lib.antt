@@ -10,3 +10,8 @@ pub mod Failing
 pub mod Sizes
 pub mod Lengths
 pub mod Difference
+pub mod Stopping
+pub mod Beginnings
+pub mod Selecting
+pub mod Erasing
+pub mod Standing

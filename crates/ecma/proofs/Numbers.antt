@@ -6,7 +6,7 @@ use Rattle.std.specs.Str.Parse.{digits_value}
 use Rattle.std.proofs.lemmas.Str.Parse.{IsNumeralModel, numerals_by_value}
 use Rattle.std.proofs.lemmas.Fmt.{decimal_nonempty, digits_decimal, digits_value-decimal}
 use Rattle.std.proofs.lemmas.Bool.{and_parts, ltb-true, eqb-true, agree_below_at}
-use Rattle.std.specs.Option.{option_map_or, option_and_then}
+use Rattle.std.specs.Option.{option_and_then}
 use Rattle.std.proofs.lemmas.Bool.Decides.{nat_tests}
 use Rattle.cell.specs.Shown.{Rendition, IsColour, IsRendition, no_rendition}
 use Rattle.cell.specs.declared.limits.TheConstants.{LAST_COLOUR}
@@ -120,7 +120,7 @@ then_append : (codes more : List ℕ) (o : Option Rendition) → ((next : Rendit
 then_append codes more None h = refl
 then_append codes more (Some next) h = h next
 
-select_all-append : (codes more : List ℕ) (rendition : Rendition) → select_all (codes ++ more) rendition ≡ option_and_then (select_all more) (select_all codes rendition)
+pub select_all-append : (codes more : List ℕ) (rendition : Rendition) → select_all (codes ++ more) rendition ≡ option_and_then (select_all more) (select_all codes rendition)
 select_all-append [] more rendition = refl
 select_all-append (code ∷ codes) more rendition = then_append codes more (select code rendition) (λ next. select_all-append codes more next)
 
@@ -136,7 +136,7 @@ select_all-codes_of rendition h =
     ∙ foreground-selected rendition.foreground bits h.foreground)
     ∙ background-selected rendition.foreground rendition.background bits h.background
 
-each-append : (P : ℕ → Type 0) (a b : List ℕ) → AllByRecursion P a → AllByRecursion P b → AllByRecursion P (a ++ b)
+pub each-append : (P : ℕ → Type 0) (a b : List ℕ) → AllByRecursion P a → AllByRecursion P b → AllByRecursion P (a ++ b)
 each-append P [] b h k = k
 each-append P (x ∷ a) b h k = (h.0, each-append P a b h.1 k)
 

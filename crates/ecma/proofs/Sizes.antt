@@ -37,7 +37,7 @@ wide-blank : (columns : ℕ) (lines : Picture) → AreWide columns lines → Are
 wide-blank columns [] h = tt
 wide-blank columns (line ∷ lines) h = (length-map line (λ _. shown_blank) ∙ h.0, wide-blank columns lines h.1)
 
-line-wide : (columns : ℕ) (lines : Picture) (line : ℕ) → AreWide columns lines → line < length lines → length (line_of lines line) ≡ columns
+pub line-wide : (columns : ℕ) (lines : Picture) (line : ℕ) → AreWide columns lines → line < length lines → length (line_of lines line) ≡ columns
 line-wide columns [] line h inside = absurd (omega arith)
 line-wide columns (first ∷ lines) zero h inside = h.0
 line-wide columns (first ∷ lines) (suc line) h inside = line-wide columns lines line h.1 (omega arith)
@@ -53,7 +53,7 @@ size-row lines columns picture line row h e = record {
   width = wide-set columns picture line row h.width (λ inside. e ∙ line-wide columns picture line h.width inside);
 }
 
-size-erased_at : (lines columns : ℕ) (how : Erase) (place : Place) (picture : Picture) → HasSize lines columns picture → HasSize lines columns (erased_at how place picture)
+pub size-erased_at : (lines columns : ℕ) (how : Erase) (place : Place) (picture : Picture) → HasSize lines columns picture → HasSize lines columns (erased_at how place picture)
 size-erased_at lines columns how place picture h = size-row lines columns picture place.0 (erased_line how place.1 (line_of picture place.0)) h (length-erased_line how place.1 (line_of picture place.0))
 
 size-erased_page : (lines columns : ℕ) (how : Erase) (place : Place) (picture : Picture) → HasSize lines columns picture → HasSize lines columns (erased_page how place picture)

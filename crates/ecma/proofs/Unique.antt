@@ -9,20 +9,20 @@ use Rattle.std.specs.List.{AllByRecursion, join_with_byte}
 use Rattle.ecma.specs.Items.{Function, CUP, ED, EL, SGR, Item, Printable, Control, Unfinished, IsDigit, AreParameters, IsBeginning, IsItem, MayPrecede, EndsOrEscapes, Splits, final_byte, bytes_of}
 
 -- a digit or a semicolon
-abbrev IsInner : ℕ → Type 0
+abbrev pub IsInner : ℕ → Type 0
 IsInner byte = (48 ≤ byte) × (byte ≤ 59)
 
-record Same (a b f g : List ℕ) : Type 0 where
-  first : a ≡ b
-  second : f ≡ g
+pub record Same (a b f g : List ℕ) : Type 0 where
+  pub first : a ≡ b
+  pub second : f ≡ g
 
 -- nothing follows that has P
-abbrev Stops : (ℕ → Type 0) → List ℕ → Type 0
+abbrev pub Stops : (ℕ → Type 0) → List ℕ → Type 0
 Stops P [] = ⊤
 Stops P (byte ∷ bytes) = P byte → ⊥
 
 -- two texts of bytes that have P before a stop are one
-cut : (P : ℕ → Type 0) (a b f g : List ℕ) → AllByRecursion P a → AllByRecursion P b → Stops P f → Stops P g → a ++ f ≡ b ++ g → Same a b f g
+pub cut : (P : ℕ → Type 0) (a b f g : List ℕ) → AllByRecursion P a → AllByRecursion P b → Stops P f → Stops P g → a ++ f ≡ b ++ g → Same a b f g
 cut P [] [] f g ha hb hf hg e = record { first = refl; second = e }
 cut P [] (y ∷ b) [] g ha hb hf hg e = absurd cc
 cut P [] (y ∷ b) (x ∷ f) g ha hb hf hg e = let same : x ≡ y = cc in absurd (hf (rw same hb.0))
@@ -35,11 +35,11 @@ cut P (x ∷ a) (y ∷ b) f g ha hb hf hg e =
     let first : a ≡ b = rest.first in
     record { first = cc; second = rest.second }
 
-All-append : (a b : List ℕ) → AllByRecursion IsInner a → AllByRecursion IsInner b → AllByRecursion IsInner (a ++ b)
+pub All-append : (a b : List ℕ) → AllByRecursion IsInner a → AllByRecursion IsInner b → AllByRecursion IsInner (a ++ b)
 All-append [] b ha hb = hb
 All-append (x ∷ a) b ha hb = (ha.0, All-append a b ha.1 hb)
 
-All-front : (a b : List ℕ) → AllByRecursion IsInner (a ++ b) → AllByRecursion IsInner a
+pub All-front : (a b : List ℕ) → AllByRecursion IsInner (a ++ b) → AllByRecursion IsInner a
 All-front [] b h = tt
 All-front (x ∷ a) b h = (h.0, All-front a b h.1)
 
@@ -47,24 +47,24 @@ digits-inner : (digits : List ℕ) → AllByRecursion IsDigit digits → AllByRe
 digits-inner [] h = tt
 digits-inner (digit ∷ digits) h = ((h.0.0, omega (arith, h.0.1)), digits-inner digits h.1)
 
-joined-inner : (parameters : List (List ℕ)) → AllByRecursion (AllByRecursion IsDigit) parameters → AllByRecursion IsInner (join_with_byte 59 parameters)
+pub joined-inner : (parameters : List (List ℕ)) → AllByRecursion (AllByRecursion IsDigit) parameters → AllByRecursion IsInner (join_with_byte 59 parameters)
 joined-inner [] h = tt
 joined-inner (digits ∷ []) h = digits-inner digits h.0
 joined-inner (digits ∷ next ∷ parameters) h = All-append digits (59 ∷ join_with_byte 59 (next ∷ parameters)) (digits-inner digits h.0) ((omega arith, omega arith), joined-inner (next ∷ parameters) h.1)
 
-final-stops : (function : Function) (bytes : List ℕ) → Stops IsInner (final_byte function ∷ bytes)
+pub final-stops : (function : Function) (bytes : List ℕ) → Stops IsInner (final_byte function ∷ bytes)
 final-stops CUP bytes = λ h. omega (arith, h.1)
 final-stops ED bytes = λ h. omega (arith, h.1)
 final-stops EL bytes = λ h. omega (arith, h.1)
 final-stops SGR bytes = λ h. omega (arith, h.1)
 
-not-final : (function : Function) → final_byte function ≡ 27 → ⊥
+pub not-final : (function : Function) → final_byte function ≡ 27 → ⊥
 not-final CUP e = omega arith
 not-final ED e = omega arith
 not-final EL e = omega arith
 not-final SGR e = omega arith
 
-same-function : (a b : Function) → final_byte a ≡ final_byte b → a ≡ b
+pub same-function : (a b : Function) → final_byte a ≡ final_byte b → a ≡ b
 same-function CUP CUP e = refl
 same-function ED ED e = refl
 same-function EL EL e = refl
@@ -84,10 +84,10 @@ same-function SGR EL e = absurd (omega arith)
 
 -- ---- parameters
 
-not-digit : IsDigit 59 → ⊥
+pub not-digit : IsDigit 59 → ⊥
 not-digit h = omega (arith, h.1)
 
-same-parameters : (a : List ℕ) (ps : List (List ℕ)) (b : List ℕ) (qs : List (List ℕ)) → AllByRecursion (AllByRecursion IsDigit) (a ∷ ps) → AllByRecursion (AllByRecursion IsDigit) (b ∷ qs)
+pub same-parameters : (a : List ℕ) (ps : List (List ℕ)) (b : List ℕ) (qs : List (List ℕ)) → AllByRecursion (AllByRecursion IsDigit) (a ∷ ps) → AllByRecursion (AllByRecursion IsDigit) (b ∷ qs)
     → join_with_byte 59 (a ∷ ps) ≡ join_with_byte 59 (b ∷ qs) → ◌≡◌ {A = List (List ℕ)} (a ∷ ps) (b ∷ qs)
 same-parameters a [] b [] ha hb e = cc
 same-parameters a [] b (d ∷ qs) ha hb e =
@@ -106,10 +106,10 @@ same-parameters a (c ∷ ps) b (d ∷ qs) ha hb e =
 -- ---- unfinished items
 
 -- an unfinished item is an escape, or the introducer and some inner bytes
-record Inner (bytes : List ℕ) : Type 0 where
-  inner : List ℕ
-  is : bytes ≡ 27 ∷ 91 ∷ inner
-  each : AllByRecursion IsInner inner
+pub record Inner (bytes : List ℕ) : Type 0 where
+  pub inner : List ℕ
+  pub is : bytes ≡ 27 ∷ 91 ∷ inner
+  pub each : AllByRecursion IsInner inner
 
 front-inner : (p q : List ℕ) (m : ℕ) (missing : List ℕ) (final : ℕ) → AllByRecursion IsInner q → p ++ m ∷ missing ≡ q ++ final ∷ [] → AllByRecursion IsInner p
 front-inner [] q m missing final h e = tt
@@ -131,14 +131,14 @@ shape (x ∷ y ∷ p) (m ∷ missing) function parameters some more h e =
     let tail : p ++ m ∷ missing ≡ join_with_byte 59 parameters ++ final_byte function ∷ [] = cc in
     inr (record { inner = p; is = cc; each = front-inner p (join_with_byte 59 parameters) m missing (final_byte function) (joined-inner parameters h.digits) tail })
 
-shape-of : (bytes : List ℕ) → IsBeginning bytes → (bytes ≡ 27 ∷ []) ⊎ Inner bytes
+pub shape-of : (bytes : List ℕ) → IsBeginning bytes → (bytes ≡ 27 ∷ []) ⊎ Inner bytes
 shape-of bytes h = shape bytes h.missing h.function h.parameters h.begun h.not_finished h.well_formed h.goes_on
 
 escape-stops : (bytes : List ℕ) → EndsOrEscapes bytes → Stops IsInner bytes
 escape-stops [] h = tt
 escape-stops (byte ∷ bytes) h = λ inner. omega (arith, inner.0)
 
-not-escape : (byte : ℕ) (bytes g : List ℕ) → (byte ≡ 27 → ⊥) → byte ∷ bytes ≡ g → EndsOrEscapes g → ⊥
+pub not-escape : (byte : ℕ) (bytes g : List ℕ) → (byte ≡ 27 → ⊥) → byte ∷ bytes ≡ g → EndsOrEscapes g → ⊥
 not-escape byte bytes [] h e k = cc
 not-escape byte bytes (first ∷ g) h e k = let same : byte ≡ first = cc in h (same ∙ k)
 

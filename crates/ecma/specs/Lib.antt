@@ -3,3 +3,6 @@ pub mod Terminals
 pub mod Streams
 pub mod Spelling
 pub mod Difference
+pub mod Pages
+pub mod Parameters
+pub mod Standing

@@ -4,6 +4,7 @@ ghost use Rattle.std.specs.Prelude.{◌≡◌, ◌↔◌, ℕ, ◌<◌, ◌≤�
 ghost use Rattle.cell.specs.Pictures.{HasSize, Picture};
 ghost use Rattle.ecma.specs.Difference.{difference};
 ghost use Rattle.ecma.specs.Items.{EndsOrEscapes, Item, Splits};
+ghost use Rattle.ecma.specs.Standing.{Reader, StandsAfter};
 ghost use Rattle.ecma.specs.Terminals.{Terminal};
 ghost use Rattle.ecma.specs.Spelling.{spelling, IsToken, IsItemOf};
 ghost use Rattle.ecma.specs.declared.token.Token.{Token};
@@ -29,6 +30,17 @@ pub fn one_failure()
     ensures terminal { (stream : List ℕ) (offset other : ℕ) (t u v : Terminal) → FailsAt stream t offset u → FailsAt stream t other v
         → u ≡ v }
     ensures outside { (stream : List ℕ) (offset : ℕ) (t u v : Terminal) → FailsAt stream t offset u → IsInProfile stream t v → ⊥ }
+{}
+
+/// What a reader shows is that of the stream that it read, however it was cut: two that stand after one stream show one terminal.
+pub fn one_standing()
+    ensures { (stream : List ℕ) (first : Terminal) (one other : Reader) → StandsAfter stream first one → StandsAfter stream first other
+        → one.terminal ≡ other.terminal }
+{}
+
+/// A stream that fails does so at the same offset, with the same terminal, whatever follows it.
+pub fn failure_stays()
+    ensures { (stream more : List ℕ) (offset : ℕ) (t u : Terminal) → FailsAt stream t offset u → FailsAt (stream ++ more) t offset u }
 {}
 
 /// If a stream leads from t to u and another from u to v, then the one followed by the other leads from t to v.

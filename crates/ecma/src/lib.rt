@@ -2,10 +2,15 @@
 #![tactic(auto)]
 
 pub mod laws;
+mod page;
+mod parameter;
+mod selection;
 mod spelling;
+mod terminal;
 #[cfg(test)]
 mod tests;
 mod token;
 
 pub use spelling::{LONGEST_SPELLING, spell};
+pub use terminal::{NotInProfile, Terminal};
 pub use token::{Erase, Token};

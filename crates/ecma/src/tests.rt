@@ -6,6 +6,8 @@ use crate::{Erase, LONGEST_SPELLING, Token, spell};
 use bitflags::Flags;
 use cell::{Attr, Colour, ColourPair, Rendition};
 
+mod terminal;
+
 fn is_spelled(token: Token, bytes: &[u8]) -> bool
     requires { IsToken token }
 {

@@ -1,0 +1,264 @@
+-- What goes on with a control sequence, and what doesn't.
+use Rattle.std.proofs.Common.{◌≡◌, ℕ, ◌+◌, ◌<◌, ◌≤◌, List, [], ◌∷◌, ◌++◌, length, None, inl, inr, refl, sym, ap, ◌∙◌, subst, arith, append_assoc}
+use Rattle.std.specs.Prelude.{◌⊎◌, IsTrue}
+use Rattle.std.specs.List.{AllByRecursion, join_with_byte}
+use Rattle.std.proofs.lemmas.Bool.{cases_lt}
+use Rattle.std.proofs.lemmas.List.{append-nil}
+use Rattle.cell.specs.Glyphs.{is_printable}
+use Rattle.ecma.specs.Items.{Function, CUP, ED, EL, SGR, Item, Printable, Control, Unfinished, IsDigit, AreParameters, IsBeginning, IsItem, MayPrecede, EndsOrEscapes, bytes_of, final_byte, introducer}
+use Rattle.ecma.specs.Terminals.{Terminal, print, effect}
+use Rattle.ecma.proofs.Numbers.{each-append}
+use Rattle.ecma.proofs.Printing.{from_space}
+use Rattle.ecma.proofs.Stopping.{NoEffect}
+use Rattle.ecma.proofs.Unique.{IsInner, Stops, cut, All-append, All-front, joined-inner, final-stops, not-digit, not-escape, shape-of, same-parameters}
+
+-- ---- in text
+
+escape-first : (byte : ℕ) (q following : List ℕ) → IsBeginning q → byte ∷ [] ≡ q ++ following → byte ≡ 27
+escape-first byte q following h e = elim (shape-of q h) [
+  | inl lone ↦ let whole : byte ∷ [] ≡ 27 ∷ following = e ∙ ap (λ (front : List ℕ). front ++ following) lone in cc
+  | inr begins ↦ let whole : byte ∷ [] ≡ 27 ∷ 91 ∷ (begins.inner ++ following) = e ∙ ap (λ (front : List ℕ). front ++ following) begins.is in cc
+]
+
+pub NoEffect-text : (byte : ℕ) (t : Terminal) → (byte ≡ 27 → ⊥) → (IsTrue (is_printable byte) → print byte t ≡ None) → NoEffect (byte ∷ []) t
+NoEffect-text byte t other prints = record { each = none } where
+  none : (item : Item) (following : List ℕ) → byte ∷ [] ≡ bytes_of item ++ following → IsItem item → MayPrecede item following → effect item t ≡ None
+  none (Printable c) following e is p =
+      let same : byte ≡ c = cc in
+      subst (λ (b : ℕ). print b t ≡ None) same (prints (subst (λ (b : ℕ). IsTrue (is_printable b)) (sym same) is))
+  none (Control function parameters) following e is p = absurd (let same : byte ≡ 27 = cc in other same)
+  none (Unfinished q) following e is p = absurd (other (escape-first byte q following is e))
+
+-- ---- behind an escape
+
+pub NoEffect-escape : (byte : ℕ) (t : Terminal) → (byte ≡ 27 → ⊥) → (byte ≡ 91 → ⊥) → NoEffect (27 ∷ byte ∷ []) t
+NoEffect-escape byte t other no_bracket = record { each = none } where
+  none : (item : Item) (following : List ℕ) → 27 ∷ byte ∷ [] ≡ bytes_of item ++ following → IsItem item → MayPrecede item following → effect item t ≡ None
+  none (Printable c) following e is p = absurd (let same : 27 ≡ c = cc in omega (arith, from_space c is))
+  none (Control function parameters) following e is p = absurd (let same : byte ≡ 91 = cc in no_bracket same)
+  none (Unfinished q) following e is p = elim (shape-of q is) [
+    | inl lone ↦
+        let whole : 27 ∷ byte ∷ [] ≡ 27 ∷ following = e ∙ ap (λ (front : List ℕ). front ++ following) lone in
+        let behind : byte ∷ [] ≡ following = cc in
+        absurd (not-escape byte [] following other behind p)
+    | inr begins ↦
+        let whole : 27 ∷ byte ∷ [] ≡ 27 ∷ 91 ∷ (begins.inner ++ following) = e ∙ ap (λ (front : List ℕ). front ++ following) begins.is in
+        absurd (let same : byte ≡ 91 = cc in no_bracket same)
+  ]
+
+-- ---- within parameters
+
+is_inner : (byte : ℕ) → IsInner byte ⊎ (IsInner byte → ⊥)
+is_inner byte = elim (cases_lt byte 48) [
+  | inl below ↦ inr (λ h. omega (arith, h.0))
+  | inr from ↦ elim (cases_lt 59 byte) [
+    | inl beyond ↦ inr (λ h. omega (arith, h.1))
+    | inr to ↦ inl (from, to)
+  ]
+]
+
+All-back : (a b : List ℕ) → AllByRecursion IsInner (a ++ b) → AllByRecursion IsInner b
+All-back [] b h = h
+All-back (x ∷ a) b h = All-back a b h.1
+
+same-joined : (ps qs : List (List ℕ)) → AreParameters ps → AreParameters qs → join_with_byte 59 ps ≡ join_with_byte 59 qs → ps ≡ qs
+same-joined [] qs h k e = absurd (omega (arith, h.one))
+same-joined (a ∷ ps) [] h k e = absurd (omega (arith, k.one))
+same-joined (a ∷ ps) (b ∷ qs) h k e = same-parameters a ps b qs h.digits k.digits e
+
+module _ (ps : List (List ℕ)) (byte : ℕ) (t : Terminal) (h : AreParameters ps) (other : byte ≡ 27 → ⊥) where
+  all-inner : IsInner byte → AllByRecursion IsInner (join_with_byte 59 ps ++ byte ∷ [])
+  all-inner inner = All-append (join_with_byte 59 ps) (byte ∷ []) (joined-inner ps h.digits) (inner, tt)
+
+  -- no control sequence ends before the byte, and one that ends with it has these parameters
+  none-control : (function : Function) (qs : List (List ℕ)) (following : List ℕ) → AreParameters qs
+      → join_with_byte 59 ps ++ byte ∷ [] ≡ (join_with_byte 59 qs ++ final_byte function ∷ []) ++ following
+      → (byte ≡ final_byte function → effect (Control function ps) t ≡ None) → effect (Control function qs) t ≡ None
+  none-control function qs following k e none = elim (is_inner byte) [
+    | inl inner ↦
+        let all : AllByRecursion IsInner ((join_with_byte 59 qs ++ final_byte function ∷ []) ++ following) = subst (λ (bytes : List ℕ). AllByRecursion IsInner bytes) e (all-inner inner) in
+        let last = All-back (join_with_byte 59 qs) (final_byte function ∷ []) (All-front (join_with_byte 59 qs ++ final_byte function ∷ []) following all) in
+        absurd (final-stops function [] last.0)
+    | inr stops ↦
+        let both = cut IsInner (join_with_byte 59 ps) (join_with_byte 59 qs) (byte ∷ []) (final_byte function ∷ following) (joined-inner ps h.digits) (joined-inner qs k.digits) stops (final-stops function following)
+        (e ∙ append_assoc (join_with_byte 59 qs) (final_byte function ∷ []) following) in
+        let behind : byte ∷ [] ≡ final_byte function ∷ following = both.second in
+        let final : byte ≡ final_byte function = cc in
+        subst (λ (parameters : List (List ℕ)). effect (Control function parameters) t ≡ None) (same-joined ps qs h k both.first) (none final)
+  ]
+
+  none-begun : (inner following : List ℕ) → AllByRecursion IsInner inner → EndsOrEscapes following → IsBeginning (27 ∷ 91 ∷ inner) → join_with_byte 59 ps ++ byte ∷ [] ≡ inner ++ following
+      → (IsInner byte → IsBeginning (27 ∷ 91 ∷ (join_with_byte 59 ps ++ byte ∷ [])) → ⊥) → ⊥
+  none-begun inner [] each there begins e goes_on =
+      let same : inner ≡ join_with_byte 59 ps ++ byte ∷ [] = sym (e ∙ append-nil inner) in
+      let last = All-back (join_with_byte 59 ps) (byte ∷ []) (subst (λ (bytes : List ℕ). AllByRecursion IsInner bytes) same each) in
+      goes_on last.0 (subst (λ (bytes : List ℕ). IsBeginning (27 ∷ 91 ∷ bytes)) same begins)
+  none-begun inner (x ∷ following) each there begins e goes_on = elim (is_inner byte) [
+    | inl here ↦
+        let last = All-back inner (x ∷ following) (subst (λ (bytes : List ℕ). AllByRecursion IsInner bytes) e (all-inner here)) in
+        omega (arith, last.0.0)
+    | inr stops ↦
+        let both = cut IsInner (join_with_byte 59 ps) inner (byte ∷ []) (x ∷ following) (joined-inner ps h.digits) each stops (λ last. omega (arith, last.0)) e in
+        let behind : byte ∷ [] ≡ x ∷ following = both.second in
+        let same : byte ≡ x = cc in other (same ∙ there)
+  ]
+
+  pub NoEffect-parameters : (IsInner byte → IsBeginning (27 ∷ 91 ∷ (join_with_byte 59 ps ++ byte ∷ [])) → ⊥) → ((function : Function) → byte ≡ final_byte function → effect (Control function ps) t ≡ None)
+      → NoEffect ((introducer ++ join_with_byte 59 ps) ++ byte ∷ []) t
+  NoEffect-parameters goes_on ends = record { each = none } where
+    none : (item : Item) (following : List ℕ) → 27 ∷ 91 ∷ (join_with_byte 59 ps ++ byte ∷ []) ≡ bytes_of item ++ following → IsItem item → MayPrecede item following → effect item t ≡ None
+    none (Printable c) following e is p = absurd (let same : 27 ≡ c = cc in omega (arith, from_space c is))
+    none (Control function parameters) following e is p =
+        let behind : join_with_byte 59 ps ++ byte ∷ [] ≡ (join_with_byte 59 parameters ++ final_byte function ∷ []) ++ following = cc in
+        none-control function parameters following is behind (ends function)
+    none (Unfinished q) following e is p = elim (shape-of q is) [
+      | inl lone ↦
+          let whole : 27 ∷ 91 ∷ (join_with_byte 59 ps ++ byte ∷ []) ≡ 27 ∷ following = e ∙ ap (λ (front : List ℕ). front ++ following) lone in
+          let behind : 91 ∷ (join_with_byte 59 ps ++ byte ∷ []) ≡ following = cc in
+          absurd (not-escape 91 (join_with_byte 59 ps ++ byte ∷ []) following (λ same. omega arith) behind p)
+      | inr begins ↦
+          let whole : 27 ∷ 91 ∷ (join_with_byte 59 ps ++ byte ∷ []) ≡ 27 ∷ 91 ∷ (begins.inner ++ following) = e ∙ ap (λ (front : List ℕ). front ++ following) begins.is in
+          let behind : join_with_byte 59 ps ++ byte ∷ [] ≡ begins.inner ++ following = cc in
+          absurd (none-begun begins.inner following begins.each p (subst IsBeginning begins.is is) behind goes_on)
+    ]
+
+-- ---- too many digits, and too many parameters
+
+digits-longer : (a : List ℕ) (byte : ℕ) (missing q stop : List ℕ) → IsDigit byte → Stops IsDigit stop → a ++ byte ∷ missing ≡ q ++ stop → AllByRecursion IsDigit a → length a < length q
+digits-longer [] byte missing [] [] digit stops e h = absurd cc
+digits-longer [] byte missing [] (s ∷ stop) digit stops e h = let same : byte ≡ s = cc in absurd (stops (subst IsDigit same digit))
+digits-longer [] byte missing (y ∷ q) stop digit stops e h = omega arith
+digits-longer (x ∷ a) byte missing [] [] digit stops e h = absurd cc
+digits-longer (x ∷ a) byte missing [] (s ∷ stop) digit stops e h = let same : x ≡ s = cc in absurd (stops (subst IsDigit same h.0))
+digits-longer (x ∷ a) byte missing (y ∷ q) stop digit stops e h =
+    let tail : a ++ byte ∷ missing ≡ q ++ stop = cc in
+    let less = digits-longer a byte missing q stop digit stops tail h.1 in omega arith
+
+pub final-no_digit : (function : Function) → IsDigit (final_byte function) → ⊥
+final-no_digit CUP h = omega (arith, h.1)
+final-no_digit ED h = omega (arith, h.1)
+final-no_digit EL h = omega (arith, h.1)
+final-no_digit SGR h = omega (arith, h.1)
+
+pub final-no_separator : (function : Function) → 59 ≡ final_byte function → ⊥
+final-no_separator CUP e = omega arith
+final-no_separator ED e = omega arith
+final-no_separator EL e = omega arith
+final-no_separator SGR e = omega arith
+
+-- behind its first parameter, which a separator ends, a sequence has others
+record Others (qs : List (List ℕ)) (function : Function) (bytes : List ℕ) : Type 0 where
+  first : List ℕ
+  rest : List (List ℕ)
+  is : ◌≡◌ {A = List (List ℕ)} qs (first ∷ rest)
+  some : 1 ≤ length rest
+  behind : bytes ≡ join_with_byte 59 rest ++ final_byte function ∷ []
+
+others : (a bytes : List ℕ) (qs : List (List ℕ)) (function : Function) → AllByRecursion IsDigit a → AllByRecursion (AllByRecursion IsDigit) qs → 1 ≤ length qs
+    → a ++ 59 ∷ bytes ≡ join_with_byte 59 qs ++ final_byte function ∷ [] → Others qs function bytes
+others a bytes [] function h k one e = absurd (omega arith)
+others a bytes (q ∷ []) function h k one e =
+    let both = cut IsDigit a q (59 ∷ bytes) (final_byte function ∷ []) h k.0 not-digit (final-no_digit function) e in
+    let behind : 59 ∷ bytes ≡ final_byte function ∷ [] = both.second in
+    let same : 59 ≡ final_byte function = cc in
+    absurd (final-no_separator function same)
+others a bytes (q ∷ r ∷ qs) function h k one e =
+    let both = cut IsDigit a q (59 ∷ bytes) (59 ∷ (join_with_byte 59 (r ∷ qs) ++ final_byte function ∷ [])) h k.0 not-digit not-digit
+    (e ∙ append_assoc q (59 ∷ join_with_byte 59 (r ∷ qs)) (final_byte function ∷ [])) in
+    let behind : 59 ∷ bytes ≡ 59 ∷ (join_with_byte 59 (r ∷ qs) ++ final_byte function ∷ []) = both.second in
+    record { first = q; rest = r ∷ qs; is = refl; some = omega arith; behind = cc }
+
+pub join-more : (a : List ℕ) (ended : List (List ℕ)) (current : List ℕ) → join_with_byte 59 (a ∷ (ended ++ current ∷ [])) ≡ a ++ 59 ∷ join_with_byte 59 (ended ++ current ∷ [])
+join-more a [] current = refl
+join-more a (b ∷ ended) current = refl
+
+abbrev pub AreDigits : List (List ℕ) → Type 0
+AreDigits parameters = AllByRecursion (AllByRecursion IsDigit) parameters
+
+abbrev pub AreShort : List (List ℕ) → Type 0
+AreShort parameters = AllByRecursion (λ digits. length digits ≤ 3) parameters
+
+current-first : (current : List ℕ) (byte : ℕ) (missing : List ℕ) (qs : List (List ℕ)) (function : Function) → AllByRecursion IsDigit current → AreShort qs → 1 ≤ length qs → IsDigit byte
+    → current ++ byte ∷ missing ≡ join_with_byte 59 qs ++ final_byte function ∷ [] → length current < 3
+current-first current byte missing [] function h short one digit e = absurd (omega arith)
+current-first current byte missing (q ∷ []) function h short one digit e =
+    let less = digits-longer current byte missing q (final_byte function ∷ []) digit (final-no_digit function) e h in omega (arith, short.0)
+current-first current byte missing (q ∷ r ∷ qs) function h short one digit e =
+    let less = digits-longer current byte missing q (59 ∷ (join_with_byte 59 (r ∷ qs) ++ final_byte function ∷ [])) digit not-digit (e ∙ append_assoc q (59 ∷ join_with_byte 59 (r ∷ qs)) (final_byte function ∷ [])) h in
+    omega (arith, short.0)
+
+current-short : (ended : List (List ℕ)) (current : List ℕ) (byte : ℕ) (missing : List ℕ) (qs : List (List ℕ)) (function : Function) → AreDigits (ended ++ current ∷ []) → AreDigits qs → AreShort qs → 1 ≤ length qs → IsDigit byte
+    → join_with_byte 59 (ended ++ current ∷ []) ++ byte ∷ missing ≡ join_with_byte 59 qs ++ final_byte function ∷ [] → length current < 3
+current-short [] current byte missing qs function h k short one digit e = current-first current byte missing qs function h.0 short one digit e
+current-short (a ∷ ended) current byte missing qs function h k short one digit e =
+    let next = others a (join_with_byte 59 (ended ++ current ∷ []) ++ byte ∷ missing) qs function h.0 k one
+    (sym (append_assoc a (59 ∷ join_with_byte 59 (ended ++ current ∷ [])) (byte ∷ missing)) ∙ sym (ap (λ (front : List ℕ). front ++ byte ∷ missing) (join-more a ended current)) ∙ e) in
+    let digits = subst AreDigits next.is k in
+    let lengths = subst AreShort next.is short in
+    current-short ended current byte missing next.rest function h.1 digits.1 lengths.1 next.some digit next.behind
+
+ended-few : (ended : List (List ℕ)) (current : List ℕ) (missing : List ℕ) (qs : List (List ℕ)) (function : Function) → AreDigits (ended ++ current ∷ []) → AreDigits qs → 1 ≤ length qs
+    → join_with_byte 59 (ended ++ current ∷ []) ++ 59 ∷ missing ≡ join_with_byte 59 qs ++ final_byte function ∷ [] → length ended + 2 ≤ length qs
+ended-few [] current missing qs function h k one e =
+    let next = others current missing qs function h.0 k one e in
+    let long : length qs ≡ length (next.first ∷ next.rest) = ap length next.is in
+    let some = next.some in omega arith
+ended-few (a ∷ ended) current missing qs function h k one e =
+    let next = others a (join_with_byte 59 (ended ++ current ∷ []) ++ 59 ∷ missing) qs function h.0 k one
+    (sym (append_assoc a (59 ∷ join_with_byte 59 (ended ++ current ∷ [])) (59 ∷ missing)) ∙ sym (ap (λ (front : List ℕ). front ++ 59 ∷ missing) (join-more a ended current)) ∙ e) in
+    let digits = subst AreDigits next.is k in
+    let long : length qs ≡ length (next.first ∷ next.rest) = ap length next.is in
+    let few = ended-few ended current missing next.rest function h.1 digits.1 next.some next.behind in omega arith
+
+pub no-more_digits : (ended : List (List ℕ)) (current : List ℕ) (byte : ℕ) → AreParameters (ended ++ current ∷ []) → IsDigit byte → 3 ≤ length current
+    → IsBeginning (27 ∷ 91 ∷ (join_with_byte 59 (ended ++ current ∷ []) ++ byte ∷ [])) → ⊥
+no-more_digits ended current byte h digit full begins =
+    let front = join_with_byte 59 (ended ++ current ∷ []) in
+    let whole = begins.goes_on in
+    let tail : (front ++ byte ∷ []) ++ begins.missing ≡ join_with_byte 59 begins.parameters ++ final_byte begins.function ∷ [] = cc in
+    let short = current-short ended current byte begins.missing begins.parameters begins.function h.digits begins.well_formed.digits begins.well_formed.short begins.well_formed.one digit
+    (sym (append_assoc front (byte ∷ []) begins.missing) ∙ tail) in
+    omega arith
+
+pub no-more_parameters : (ended : List (List ℕ)) (current : List ℕ) → AreParameters (ended ++ current ∷ []) → 15 ≤ length ended
+    → IsBeginning (27 ∷ 91 ∷ (join_with_byte 59 (ended ++ current ∷ []) ++ 59 ∷ [])) → ⊥
+no-more_parameters ended current h full begins =
+    let front = join_with_byte 59 (ended ++ current ∷ []) in
+    let whole = begins.goes_on in
+    let tail : (front ++ 59 ∷ []) ++ begins.missing ≡ join_with_byte 59 begins.parameters ++ final_byte begins.function ∷ [] = cc in
+    let few = ended-few ended current begins.missing begins.parameters begins.function h.digits begins.well_formed.digits begins.well_formed.one
+    (sym (append_assoc front (59 ∷ []) begins.missing) ∙ tail) in
+    omega (arith, begins.well_formed.most)
+
+-- ---- a byte that no parameters have
+
+final-no_colon : (function : Function) → final_byte function ≡ 58 → ⊥
+final-no_colon CUP e = omega arith
+final-no_colon ED e = omega arith
+final-no_colon EL e = omega arith
+final-no_colon SGR e = omega arith
+
+abbrev NoColon : List ℕ → Type 0
+NoColon bytes = AllByRecursion (λ byte. byte ≡ 58 → ⊥) bytes
+
+digits-no_colon : (digits : List ℕ) → AllByRecursion IsDigit digits → NoColon digits
+digits-no_colon [] h = tt
+digits-no_colon (digit ∷ digits) h = ((λ e. omega (arith, h.0.1)), digits-no_colon digits h.1)
+
+joined-no_colon : (parameters : List (List ℕ)) → AreDigits parameters → NoColon (join_with_byte 59 parameters)
+joined-no_colon [] h = tt
+joined-no_colon (digits ∷ []) h = digits-no_colon digits h.0
+joined-no_colon (digits ∷ next ∷ parameters) h =
+    each-append (λ byte. byte ≡ 58 → ⊥) digits (59 ∷ join_with_byte 59 (next ∷ parameters)) (digits-no_colon digits h.0) ((λ e. omega arith), joined-no_colon (next ∷ parameters) h.1)
+
+no-colon_behind : (front missing : List ℕ) → NoColon (front ++ 58 ∷ missing) → ⊥
+no-colon_behind [] missing h = h.0 refl
+no-colon_behind (byte ∷ front) missing h = no-colon_behind front missing h.1
+
+pub no-colon : (front : List ℕ) → IsBeginning (27 ∷ 91 ∷ (front ++ 58 ∷ [])) → ⊥
+no-colon front begins =
+    let whole = begins.goes_on in
+    let tail : (front ++ 58 ∷ []) ++ begins.missing ≡ join_with_byte 59 begins.parameters ++ final_byte begins.function ∷ [] = cc in
+    let all : NoColon (join_with_byte 59 begins.parameters ++ final_byte begins.function ∷ []) =
+    each-append (λ byte. byte ≡ 58 → ⊥) (join_with_byte 59 begins.parameters) (final_byte begins.function ∷ []) (joined-no_colon begins.parameters begins.well_formed.digits) (final-no_colon begins.function, tt) in
+    no-colon_behind front begins.missing (subst NoColon (sym tail ∙ append_assoc front (58 ∷ []) begins.missing) all)

@@ -1,0 +1,135 @@
+-- Lines of a picture, erased.
+use Rattle.std.proofs.Common.{◌≡◌, ℕ, zero, suc, ◌+◌, ◌-◌, ◌<◌, ◌≤◌, Bool, true, false, List, [], ◌∷◌, ◌++◌, length, get_or, set, take, drop, map, inl, inr, refl, sym, ap, ◌∙◌, arith, append_assoc, length-append}
+use Rattle.std.specs.Prelude.{◌==◌, ◌&&◌, nat_le, nat_lt, if◌then◌else◌}
+use Rattle.std.proofs.lemmas.Bool.{cases_lt, cases_eq, eq-eqb, ne_eqb, le-leb, lt-leb, lt-ltb, le-ltb}
+use Rattle.std.proofs.lemmas.List.{append-nil, drop_more, get_or_append_left, get_or-append_right, get_or-drop, get_or-set_other, get_or-set_same, get_or-take, get_or_at, length-drop, length-map, length-take, length-take-le, map_push, set_at, take-append-drop, take_more}
+use Rattle.cell.specs.Shown.{Shown, shown_blank}
+use Rattle.cell.specs.Pictures.{Picture, HasSize, cell_or, line_of}
+use Rattle.cell.proofs.PictureLemmas.{length-line, same_pictures}
+use Rattle.ecma.specs.declared.token.Erase.{Erase}
+use Rattle.ecma.specs.declared.token.Erase.TheVariants.{ToEnd, FromStart, All}
+use Rattle.ecma.specs.Terminals.{blanked, erased_line, erased_at}
+use Rattle.ecma.proofs.Sizes.{size-erased_at}
+
+-- ---- one line
+
+blanked-cell : (row : List Shown) (x : ℕ) → get_or (blanked row) x shown_blank ≡ shown_blank
+blanked-cell [] x = refl
+blanked-cell (shown ∷ row) zero = refl
+blanked-cell (shown ∷ row) (suc x) = blanked-cell row x
+
+-- the columns that are erased, up to an end that is left out
+abbrev pub span : Erase → ℕ → ℕ → ℕ × ℕ
+span ToEnd column columns = (column, columns)
+span FromStart column columns = (0, column + 1)
+span All column columns = (0, columns)
+
+abbrev is_within : ℕ × ℕ → ℕ → Bool
+is_within ends x = nat_le ends.0 x && nat_lt x ends.1
+
+within-true : (ends : ℕ × ℕ) (x : ℕ) → ends.0 ≤ x → x < ends.1 → is_within ends x ≡ true
+within-true ends x from to = rw (le-leb ends.0 x from, lt-ltb x ends.1 to) refl
+
+within-before : (ends : ℕ × ℕ) (x : ℕ) → x < ends.0 → is_within ends x ≡ false
+within-before ends x before = rw (lt-leb ends.0 x before) refl
+
+within-after : (ends : ℕ × ℕ) (x : ℕ) → ends.0 ≤ x → ends.1 ≤ x → is_within ends x ≡ false
+within-after ends x from after = rw (le-leb ends.0 x from, le-ltb x ends.1 after) refl
+
+erased-cell : (how : Erase) (column x : ℕ) (row : List Shown) → column < length row → x < length row
+    → (if is_within (span how column (length row)) x then shown_blank else get_or row x shown_blank) ≡ get_or (erased_line how column row) x shown_blank
+erased-cell ToEnd column x row h k = elim (cases_lt x column) [
+  | inl before ↦
+      let front : x < length (take column row) = omega (arith, length-take column row) in
+      rw (within-before (column, length row) x before) (sym (get_or_append_left (take column row) (blanked (drop column row)) shown_blank x front ∙ get_or-take column row x shown_blank before))
+  | inr from ↦
+      rw (within-true (column, length row) x from k)
+      (sym (get_or-append_right (take column row) (blanked (drop column row)) column x shown_blank (length-take-le column row (omega arith)) from ∙ blanked-cell (drop column row) (x - column)))
+]
+erased-cell FromStart column x row h k =
+    let long : length (blanked (take (column + 1) row)) ≡ column + 1 = length-map (take (column + 1) row) (λ _. shown_blank) ∙ length-take-le (column + 1) row (omega arith) in
+    elim (cases_lt x (column + 1)) [
+      | inl before ↦
+          let front : x < length (blanked (take (column + 1) row)) = omega arith in
+          rw (within-true (0, column + 1) x (omega arith) before)
+          (sym (get_or_append_left (blanked (take (column + 1) row)) (drop (column + 1) row) shown_blank x front ∙ blanked-cell (take (column + 1) row) x))
+      | inr after ↦
+          let place : column + 1 + (x - (column + 1)) ≡ x = omega arith in
+          rw (within-after (0, column + 1) x (omega arith) after)
+          (sym (get_or-append_right (blanked (take (column + 1) row)) (drop (column + 1) row) (column + 1) x shown_blank long after
+          ∙ get_or-drop (column + 1) row (x - (column + 1)) shown_blank ∙ ap (λ (i : ℕ). get_or row i shown_blank) place))
+    ]
+erased-cell All column x row h k = rw (within-true (0, length row) x (omega arith) k) (sym (blanked-cell row x))
+
+pub filled-is : (how : Erase) (line column lines columns : ℕ) (old new : Picture) → HasSize lines columns old → HasSize lines columns new → line < lines → column < columns
+    → ((v u : ℕ) → cell_or shown_blank new (v, u) ≡ (if (v == line) && is_within (span how column columns) u then shown_blank else cell_or shown_blank old (v, u)))
+    → new ≡ erased_at how (line, column) old
+filled-is how line column lines columns old new h k below left filled =
+    same_pictures shown_blank k (size-erased_at lines columns how (line, column) old h) (λ y x under within.
+    let row = erased_line how column (line_of old line) in
+    elim (cases_eq y line) [
+      | inl same ↦
+          let wide : length (line_of old line) ≡ columns = length-line line h below in
+          let high : line < length old = omega (arith, h.height) in
+          let at_line : cell_or shown_blank new (line, x) ≡ (if is_within (span how column columns) x then shown_blank else get_or (line_of old line) x shown_blank) =
+          filled line x ∙ rw (eq-eqb line line refl) refl in
+          let erased : (if is_within (span how column columns) x then shown_blank else get_or (line_of old line) x shown_blank) ≡ get_or row x shown_blank =
+          ap (λ (n : ℕ). if is_within (span how column n) x then shown_blank else get_or (line_of old line) x shown_blank) (sym wide)
+          ∙ erased-cell how column x (line_of old line) (omega arith) (omega arith) in
+          ap (λ (v : ℕ). cell_or shown_blank new (v, x)) same ∙ at_line ∙ erased
+          ∙ ap (λ (cells : List Shown). get_or cells x shown_blank) (sym (get_or-set_same old line row [] high))
+          ∙ ap (λ (v : ℕ). cell_or shown_blank (erased_at how (line, column) old) (v, x)) (sym same)
+      | inr other ↦
+          filled y x ∙ rw (ne_eqb y line other) (ap (λ (cells : List Shown). get_or cells x shown_blank) (sym (get_or-set_other old line y row [] other)))
+    ])
+
+pub fill-erases : (how : Erase) (line column lines columns y start end : ℕ) (ends : ℕ × ℕ) (old new : Picture) → HasSize lines columns old → HasSize lines columns new → line < lines → column < columns
+    → y ≡ line → start ≡ ends.0 → end ≡ ends.1 → ends ≡ span how column columns
+    → ((v u : ℕ) → cell_or shown_blank new (v, u) ≡ (if (v == y) && (nat_le start u && nat_lt u end) then shown_blank else cell_or shown_blank old (v, u)))
+    → new ≡ erased_at how (line, column) old
+fill-erases how line column lines columns y start end ends old new h k below left y-is start-is end-is ends-are filled =
+    filled-is how line column lines columns old new h k below left (λ v u.
+    filled v u
+    ∙ ap (λ (n : ℕ). if (v == n) && (nat_le start u && nat_lt u end) then shown_blank else cell_or shown_blank old (v, u)) y-is
+    ∙ ap (λ (n : ℕ). if (v == line) && (nat_le n u && nat_lt u end) then shown_blank else cell_or shown_blank old (v, u)) start-is
+    ∙ ap (λ (n : ℕ). if (v == line) && (nat_le ends.0 u && nat_lt u n) then shown_blank else cell_or shown_blank old (v, u)) end-is
+    ∙ ap (λ (some : ℕ × ℕ). if (v == line) && is_within some u then shown_blank else cell_or shown_blank old (v, u)) ends-are)
+
+-- ---- some lines
+
+-- the lines from first up to end, which is left out, erased
+abbrev pub lines_blanked : ℕ → ℕ → Picture → Picture
+lines_blanked first end picture = take first picture ++ map blanked (take (end - first) (drop first picture)) ++ drop end picture
+
+pub lines_blanked-none : (first : ℕ) (picture : Picture) → picture ≡ lines_blanked first first picture
+lines_blanked-none first picture =
+    let nothing : first - first ≡ 0 = omega arith in
+    rw nothing (rw append-nil (sym (take-append-drop first picture)))
+
+length-front : (first i : ℕ) (picture : Picture) → first ≤ i → i < length picture → length (take first picture ++ map blanked (take (i - first) (drop first picture))) ≡ i
+length-front first i picture h k =
+    let front = length-take-le first picture (omega arith) in
+    let back = length-map (take (i - first) (drop first picture)) blanked in
+    let some = length-take-le (i - first) (drop first picture) (omega (arith, length-drop first picture)) in
+    omega (arith, length-append (take first picture) (map blanked (take (i - first) (drop first picture))))
+
+pub lines_blanked-more : (first i : ℕ) (picture old : Picture) → first ≤ i → i < length old → picture ≡ lines_blanked first i old → erased_at All (i, 0) picture ≡ lines_blanked first (i + 1) old
+lines_blanked-more first i picture old h k is =
+    let front = take first old ++ map blanked (take (i - first) (drop first old)) in
+    let line = line_of old i in
+    let long = length-front first i old h k in
+    let whole : picture ≡ front ++ line ∷ drop (i + 1) old = is ∙ ap (λ (rest : Picture). front ++ rest) (drop_more old i [] k) in
+    let here : line_of picture i ≡ line = ap (λ (p : Picture). line_of p i) whole ∙ get_or_at front line (drop (i + 1) old) [] i long in
+    let more : i - first + 1 ≡ i + 1 - first = omega arith in
+    let place : first + (i - first) ≡ i = omega arith in
+    let there : get_or (drop first old) (i - first) [] ≡ line = get_or-drop first old (i - first) [] ∙ ap (λ (n : ℕ). get_or old n []) place in
+    let taken : take (i + 1 - first) (drop first old) ≡ take (i - first) (drop first old) ++ line ∷ [] =
+    ap (λ (n : ℕ). take n (drop first old)) (sym more)
+    ∙ take_more (drop first old) (i - first) [] (omega (arith, length-drop first old))
+    ∙ ap (λ (last : List Shown). take (i - first) (drop first old) ++ last ∷ []) there in
+    let mapped : map blanked (take (i + 1 - first) (drop first old)) ≡ map blanked (take (i - first) (drop first old)) ++ blanked line ∷ [] = ap (map blanked) taken ∙ map_push blanked (take (i - first) (drop first old)) line in
+    ap (λ (row : List Shown). set picture i (blanked row)) here
+    ∙ ap (λ (p : Picture). set p i (blanked line)) whole
+    ∙ set_at front line (drop (i + 1) old) (blanked line) i long
+    ∙ sym (append_assoc front (blanked line ∷ []) (drop (i + 1) old))
+    ∙ ap (λ (rows : Picture). rows ++ drop (i + 1) old) (append_assoc (take first old) (map blanked (take (i - first) (drop first old))) (blanked line ∷ []) ∙ ap (λ (rows : Picture). take first old ++ rows) (sym mapped))

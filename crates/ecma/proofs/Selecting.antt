@@ -1,0 +1,92 @@
+-- Renditions selected by the parameters of a control sequence.
+use Rattle.std.proofs.Common.{◌≡◌, ℕ, ◌+◌, ◌-◌, ◌<◌, List, [], ◌∷◌, ◌++◌, length, map, take, drop, get_or, Option, Some, None, refl, sym, ap, ◌∙◌, arith}
+use Rattle.std.specs.Option.{option_and_then}
+use Rattle.std.specs.Int.RustNames.{bit_or}
+use Rattle.std.proofs.lemmas.Bool.{ne_eqb}
+use Rattle.std.proofs.lemmas.Nat.{and_mask, or_lt, and_le_l}
+use Rattle.std.proofs.lemmas.List.{append_assoc, map-append, map_push, take-append-drop, take_more}
+use Rattle.cell.specs.Attributes.{known, without}
+use Rattle.cell.specs.Shown.{Rendition, rendition_with}
+use Rattle.cell.specs.declared.colour.ColourPair.{ColourPair}
+use Rattle.ecma.specs.Parameters.{Parameter, parameter_of, number_of}
+use Rattle.ecma.specs.Terminals.{number_or, select, select_all, with_on, with_off}
+use Rattle.ecma.proofs.Numbers.{select_all-append}
+
+-- ---- attributes
+
+known-small : (bits : ℕ) → bits < 64 → known bits ≡ bits
+known-small bits h = and_mask bits 6 ∙ omega arith
+
+abbrev colours_of : Rendition → ColourPair
+colours_of rendition = record { foreground = rendition.foreground; background = rendition.background }
+
+-- a rendition that was made of attributes of the six and the same colours
+made-with : (rendition made : Rendition) (bits attributes : ℕ) (pair : ColourPair) → attributes < 64 → bits ≡ attributes → pair ≡ colours_of rendition → made ≡ rendition_with pair (known bits)
+    → made ≡ record rendition { attributes = attributes }
+made-with rendition made bits attributes pair few same colours is =
+    let kept = ap known same ∙ known-small attributes few in
+    is ∙ ap (λ (p : ColourPair). rendition_with p (known bits)) colours ∙ ap (λ (n : ℕ). rendition_with (colours_of rendition) n) kept
+
+pub with_on-made : (rendition made : Rendition) (old others bits : ℕ) (pair : ColourPair) → rendition.attributes < 64 → others < 64 → old ≡ rendition.attributes → bits ≡ bit_or old others → pair ≡ colours_of rendition
+    → made ≡ rendition_with pair (known bits) → made ≡ with_on others rendition
+with_on-made rendition made old others bits pair few small same either colours is =
+    made-with rendition made bits (bit_or rendition.attributes others) pair (or_lt 6 rendition.attributes others few small) (either ∙ ap (λ (n : ℕ). bit_or n others) same) colours is
+
+pub with_off-made : (rendition made : Rendition) (old others bits : ℕ) (pair : ColourPair) → rendition.attributes < 64 → old ≡ rendition.attributes → bits ≡ without old others → pair ≡ colours_of rendition
+    → made ≡ rendition_with pair (known bits) → made ≡ with_off others rendition
+with_off-made rendition made old others bits pair few same left colours is =
+    let less : without rendition.attributes others < 64 = omega (arith, and_le_l rendition.attributes (255 - others)) in
+    made-with rendition made bits (without rendition.attributes others) pair less (left ∙ ap (λ (n : ℕ). without n others) same) colours is
+
+-- ---- numbers of parameters
+
+pub number_of-parameter_of : (default : ℕ) (digits : List ℕ) → number_of default (parameter_of digits) ≡ number_or default digits
+number_of-parameter_of default [] = refl
+number_of-parameter_of default (digit ∷ digits) = rw (ne_eqb (length (digit ∷ digits)) 0 (λ none. omega arith)) refl
+
+numbers-kept : (digits : List (List ℕ)) → map (number_or 0) digits ≡ map (number_of 0) (map parameter_of digits)
+numbers-kept [] = refl
+numbers-kept (first ∷ digits) =
+    let here = number_of-parameter_of 0 first in
+    let there : map (number_or 0) digits ≡ map (number_of 0) (map parameter_of digits) = numbers-kept digits in
+    cc
+
+-- what the parameters select
+abbrev pub selected_by : List Parameter → Rendition → Option Rendition
+selected_by parameters rendition = select_all (map (number_of 0) parameters) rendition
+
+pub select_all-kept : (digits : List (List ℕ)) (parameters : List Parameter) (rendition : Rendition) → map parameter_of digits ≡ parameters → select_all (map (number_or 0) digits) rendition ≡ selected_by parameters rendition
+select_all-kept digits parameters rendition e =
+    ap (λ (codes : List ℕ). select_all codes rendition) (numbers-kept digits) ∙ ap (λ (kept : List Parameter). selected_by kept rendition) e
+
+then-nothing : (o : Option Rendition) → option_and_then (select_all []) o ≡ o
+then-nothing None = refl
+then-nothing (Some rendition) = refl
+
+selected_by-push : (parameters : List Parameter) (last : Parameter) (rendition selected : Rendition) → selected_by parameters rendition ≡ Some selected → selected_by (parameters ++ last ∷ []) rendition ≡ select (number_of 0 last) selected
+selected_by-push parameters last rendition selected e =
+    ap (λ (codes : List ℕ). select_all codes rendition) (map_push (number_of 0) parameters last)
+    ∙ select_all-append (map (number_of 0) parameters) (number_of 0 last ∷ []) rendition
+    ∙ ap (option_and_then (select_all (number_of 0 last ∷ []))) e
+    ∙ then-nothing (select (number_of 0 last) selected)
+
+pub selected-next : (ended : List Parameter) (i : ℕ) (parameter : Parameter) (rendition selected : Rendition) → i < length ended → parameter ≡ get_or ended i parameter → selected_by (take i ended) rendition ≡ Some selected
+    → selected_by (take (i + 1) ended) rendition ≡ select (number_of 0 parameter) selected
+selected-next ended i parameter rendition selected h is e =
+    ap (λ (kept : List Parameter). selected_by kept rendition) (take_more ended i parameter h ∙ ap (λ (p : Parameter). take i ended ++ p ∷ []) (sym is))
+    ∙ selected_by-push (take i ended) parameter rendition selected e
+
+pub selected-last : (digits : List (List ℕ)) (ended : List Parameter) (last : Parameter) (rendition selected : Rendition) → map parameter_of digits ≡ ended ++ last ∷ [] → selected_by ended rendition ≡ Some selected
+    → select_all (map (number_or 0) digits) rendition ≡ select (number_of 0 last) selected
+selected-last digits ended last rendition selected same e = select_all-kept digits (ended ++ last ∷ []) rendition same ∙ selected_by-push ended last rendition selected e
+
+pub selected-none : (digits : List (List ℕ)) (ended : List Parameter) (last : Parameter) (i : ℕ) (rendition : Rendition) → map parameter_of digits ≡ ended ++ last ∷ [] → i < length ended → selected_by (take (i + 1) ended) rendition ≡ None
+    → select_all (map (number_or 0) digits) rendition ≡ None
+selected-none digits ended last i rendition same h none =
+    let front = take (i + 1) ended in
+    let back = drop (i + 1) ended ++ last ∷ [] in
+    select_all-kept digits (ended ++ last ∷ []) rendition same
+    ∙ ap (λ (kept : List Parameter). selected_by kept rendition) (sym (ap (λ (kept : List Parameter). kept ++ last ∷ []) (take-append-drop (i + 1) ended)) ∙ append_assoc front (drop (i + 1) ended) (last ∷ []))
+    ∙ ap (λ (codes : List ℕ). select_all codes rendition) (map-append (number_of 0) front back)
+    ∙ select_all-append (map (number_of 0) front) (map (number_of 0) back) rendition
+    ∙ ap (option_and_then (select_all (map (number_of 0) back))) none

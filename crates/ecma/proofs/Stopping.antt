@@ -1,0 +1,152 @@
+-- Where no item stands that has an effect, the stream fails, whatever follows.
+use Rattle.std.proofs.Common.{◌≡◌, ℕ, ◌+◌, ◌-◌, ◌<◌, ◌≤◌, List, [], ◌∷◌, ◌++◌, length, Option, Some, None, inl, inr, refl, sym, ap, ◌∙◌, subst, arith, append_assoc, length-append}
+use Rattle.std.proofs.lemmas.Bool.{cases_lt}
+use Rattle.std.proofs.lemmas.List.{append-nil}
+use Rattle.ecma.specs.Items.{Item, Printable, Control, Unfinished, IsItem, IsBeginning, bytes_of, MayPrecede, EndsOrEscapes, Splits}
+use Rattle.ecma.specs.Terminals.{Terminal, effect, effects}
+use Rattle.ecma.specs.Streams.{FailsAt, IsInProfile, LeadsWithBreaks}
+use Rattle.ecma.proofs.Joining.{bytes_of_some, effects_first, effects-then, effects-append, Splits-append, Splits-then_escape, Splits-ends_then}
+use Rattle.ecma.proofs.Unique.{Splits-front}
+
+-- no item at the front of these bytes has an effect on the terminal
+pub record NoEffect (bytes : List ℕ) (t : Terminal) : Type 0 where
+  pub each : (item : Item) (following : List ℕ) → bytes ≡ bytes_of item ++ following → IsItem item → MayPrecede item following → effect item t ≡ None
+
+reaches_less : (rest : List ℕ) (more : List Item) (left : List ℕ) (last u : Terminal) → NoEffect rest last → Splits rest more left → effects more last ≡ Some u → length left < length rest → ⊥
+reaches_less rest [] left last u none h e less = let same : length rest ≡ length left = ap length h in omega arith
+reaches_less rest (item ∷ more) left last u none h e less =
+    let first = effects_first item more last u e in
+    let never : ◌≡◌ {A = Option Terminal} None (Some first.0) = sym (none.each item h.0 h.1 h.2 h.3) ∙ first.1 in
+    absurd cc
+
+-- the stream fails at what is left of it
+pub FailsAt-rest : (stream : List ℕ) (items : List Item) (rest : List ℕ) (offset : ℕ) (first last : Terminal) → Splits stream items rest → effects items first ≡ Some last
+    → offset + length rest ≡ length stream → 0 < length rest → NoEffect rest last → FailsAt stream first offset last
+FailsAt-rest stream items rest offset first last h e at some none = record {
+  reaches = record { items = items; rest = rest; splits = h; at = at; have_effect = e };
+  short = omega arith;
+  greatest = λ further u r. elim (cases_lt offset further) [
+    | inl beyond ↦
+        let there = r.at in
+        let less : length r.rest < length rest = omega arith in
+        let front = Splits-front stream items r.items rest r.rest h r.splits (omega arith) in
+        let both : effects (items ++ front.0) first ≡ Some u = sym (ap (λ (row : List Item). effects row first) front.1) ∙ r.have_effect in
+        let last_part : effects front.0 last ≡ Some u = effects-rest items front.0 first last u e both in
+        absurd (reaches_less rest front.0 r.rest last u none front.2 last_part less)
+    | inr le ↦ le
+  ];
+} where
+  effects-rest : (front back : List Item) (t u v : Terminal) → effects front t ≡ Some u → effects (front ++ back) t ≡ Some v → effects back u ≡ Some v
+  effects-rest front back t u v one both = rw (effects-append front back t, one) at both
+
+-- ---- failing at once
+
+-- behind items of which the last is finished
+pub FailsAt-leads : (stream : List ℕ) (byte : ℕ) (first last : Terminal) → LeadsWithBreaks stream first last → NoEffect (byte ∷ []) last → FailsAt (stream ++ byte ∷ []) first (length stream) last
+FailsAt-leads stream byte first last h none =
+    FailsAt-rest (stream ++ byte ∷ []) h.items (byte ∷ []) (length stream) first last (Splits-ends_then stream h.items (byte ∷ []) h.splits h.ends_finished) h.have_effect
+    (sym (length-append stream (byte ∷ []))) (omega arith) none
+
+-- where an escape begins what has no effect
+pub FailsAt-escape : (front rest : List ℕ) (first last : Terminal) → IsInProfile front first last → EndsOrEscapes rest → 0 < length rest → NoEffect rest last → FailsAt (front ++ rest) first (length front) last
+FailsAt-escape front rest first last h there some none =
+    FailsAt-rest (front ++ rest) h.items rest (length front) first last (Splits-then_escape front h.items [] rest h.splits there) h.have_effect
+    (sym (length-append front rest)) some none
+
+-- ---- once failed, always failed
+
+record Split (a b c d : List ℕ) : Type 0 where
+  between : List ℕ
+  long : a ≡ c ++ between
+  behind : d ≡ between ++ b
+
+-- of two fronts of one text the longer goes on from the shorter
+split : (a b c d : List ℕ) → a ++ b ≡ c ++ d → length c ≤ length a → Split a b c d
+split a b [] d e h = record { between = a; long = refl; behind = sym e }
+split [] b (y ∷ c) d e h = absurd (omega arith)
+split (x ∷ a) b (y ∷ c) d e h =
+    let head : x ≡ y = cc in
+    let tail : a ++ b ≡ c ++ d = cc in
+    let rest = split a b c d tail (omega arith) in
+    let long : a ≡ c ++ rest.between = rest.long in
+    record { between = rest.between; long = cc; behind = rest.behind }
+
+MayPrecede-front : (item : Item) (bytes more : List ℕ) → MayPrecede item (bytes ++ more) → MayPrecede item bytes
+MayPrecede-front (Printable byte) bytes more h = tt
+MayPrecede-front (Control function parameters) bytes more h = tt
+MayPrecede-front (Unfinished begun) [] more h = tt
+MayPrecede-front (Unfinished begun) (byte ∷ bytes) more h = h
+
+-- what is shorter than an item is one itself
+beginning-of : (rest missing : List ℕ) (item : Item) → 0 < length rest → 0 < length missing → IsItem item → rest ++ missing ≡ bytes_of item → IsBeginning rest
+beginning-of rest missing (Printable byte) some more h e =
+    let long : length (rest ++ missing) ≡ 1 = ap length e in absurd (omega (arith, length-append rest missing))
+beginning-of rest missing (Control function parameters) some more h e =
+    record { begun = some; function = function; parameters = parameters; missing = missing; well_formed = h; not_finished = more; goes_on = e }
+beginning-of rest missing (Unfinished begun) some more h e = record {
+  begun = some;
+  function = h.function;
+  parameters = h.parameters;
+  missing = missing ++ h.missing;
+  well_formed = h.well_formed;
+  not_finished = omega (arith, length-append missing h.missing);
+  goes_on = sym (append_assoc rest missing h.missing) ∙ ap (λ (front : List ℕ). front ++ h.missing) e ∙ h.goes_on;
+}
+
+NoEffect-append : (rest more : List ℕ) (t : Terminal) → 0 < length rest → NoEffect rest t → NoEffect (rest ++ more) t
+NoEffect-append rest more t some none = record {
+  each = λ item following e h p. elim (cases_lt (length rest) (length (bytes_of item))) [
+    | inl longer ↦
+        let parts = split (bytes_of item) following rest more (sym e) (omega arith) in
+        let long : length (bytes_of item) ≡ length rest + length parts.between = ap length parts.long ∙ length-append rest parts.between in
+        let begins = beginning-of rest parts.between item some (omega arith) h (sym parts.long) in
+        let never : ◌≡◌ {A = Option Terminal} (Some t) None = none.each (Unfinished rest) [] (sym (append-nil rest)) begins tt in
+        absurd cc
+    | inr le ↦
+        let parts = split rest more (bytes_of item) following e le in
+        none.each item parts.between parts.long h (MayPrecede-front item parts.between more (subst (λ (back : List ℕ). MayPrecede item back) parts.behind p))
+  ];
+}
+
+Splits-more : (bytes : List ℕ) (items : List Item) (rest more : List ℕ) → 0 < length rest → Splits bytes items rest → Splits (bytes ++ more) items (rest ++ more)
+Splits-more bytes [] rest more some h = ap (λ (front : List ℕ). front ++ more) h
+Splits-more bytes (item ∷ items) rest more some h =
+    (h.0 ++ more, ap (λ (front : List ℕ). front ++ more) h.1 ∙ append_assoc (bytes_of item) h.0 more, h.2, MayPrecede-more item h.0 (Splits-some h.0 items rest some h.4) h.3, Splits-more h.0 items rest more some h.4) where
+      Splits-some : (bytes : List ℕ) (items : List Item) (rest : List ℕ) → 0 < length rest → Splits bytes items rest → 0 < length bytes
+      Splits-some bytes [] rest some h = let same : length bytes ≡ length rest = ap length h in omega arith
+      Splits-some bytes (item ∷ items) rest some h = rw h.1 (omega (arith, bytes_of_some item h.2, length-append (bytes_of item) h.0))
+
+      MayPrecede-more : (item : Item) (following : List ℕ) → 0 < length following → MayPrecede item following → MayPrecede item (following ++ more)
+      MayPrecede-more (Printable byte) following some h = tt
+      MayPrecede-more (Control function parameters) following some h = tt
+      MayPrecede-more (Unfinished begun) [] some h = absurd (omega arith)
+      MayPrecede-more (Unfinished begun) (byte ∷ following) some h = h
+
+-- nothing beyond the failure has an effect
+NoEffect-failed : (stream : List ℕ) (offset : ℕ) (first last : Terminal) (h : FailsAt stream first offset last) → NoEffect h.reaches.rest last
+NoEffect-failed stream offset first last h = record {
+  each = λ item following e is p. none_from item following (Splits-append stream h.reaches.items h.reaches.rest (item ∷ []) following h.reaches.splits (following, e, is, p, refl))
+      (let long : length h.reaches.rest ≡ length (bytes_of item) + length following = ap length e ∙ length-append (bytes_of item) following in
+      let at = h.reaches.at in let some = bytes_of_some item is in omega arith)
+      (effect item last) refl;
+} where
+  none_from : (item : Item) (following : List ℕ) → Splits stream (h.reaches.items ++ item ∷ []) following → offset + length following < length stream → (o : Option Terminal) → effect item last ≡ o → o ≡ None
+  none_from item following splits less None e = refl
+  none_from item following splits less (Some u) e =
+      absurd (let beyond = h.greatest (length stream - length following) u (record {
+        items = h.reaches.items ++ item ∷ [];
+        rest = following;
+        splits = splits;
+        at = omega arith;
+        have_effect = effects-then h.reaches.items (item ∷ []) first last u h.reaches.have_effect (rw e refl);
+      }) in omega arith)
+
+pub FailsAt-append : (stream more : List ℕ) (offset : ℕ) (first last : Terminal) → FailsAt stream first offset last → FailsAt (stream ++ more) first offset last
+FailsAt-append stream more offset first last h =
+    let at = h.reaches.at in
+    let short = h.short in
+    let some : 0 < length h.reaches.rest = omega arith in
+    FailsAt-rest (stream ++ more) h.reaches.items (h.reaches.rest ++ more) offset first last (Splits-more stream h.reaches.items h.reaches.rest more some h.reaches.splits) h.reaches.have_effect
+    (omega (arith, length-append h.reaches.rest more, length-append stream more))
+    (omega (arith, length-append h.reaches.rest more))
+    (NoEffect-append h.reaches.rest more last some (NoEffect-failed stream offset first last h))

@@ -1,0 +1,30 @@
+use Rattle.std.proofs.Common.{◌<◌, ◌≡◌, ◌∙◌, ap, arith, length, refl, subst, sym}
+use Rattle.cell.specs.Pictures.{HasSize}
+use Rattle.ecma.specs.declared.token.Erase.TheVariants.{All}
+use Rattle.ecma.proofs.Erasing.{lines_blanked, lines_blanked-none, lines_blanked-more}
+use Rattle.ecma.proofs.Sizes.{size-erased_at}
+use Rattle.ecma.proofs.page.erase_lines.Goals as goal
+
+pub loop-line-init : goal.loop-line-init
+loop-line-init c = record { erased = lines_blanked-none c.args.first c.args.picture.now; height = refl; size = c.requires.size }
+
+pub loop-line-preserved : goal.loop-line-preserved
+loop-line-preserved c =
+    let inside : c.loop-line.line < length c.args.picture.now = omega arith in
+    let size = size-erased_at (length c.args.picture.now) c.args.columns All (c.loop-line.line, 0) c.loop-line.picture c.loop-line.invariant.size in
+    let after : HasSize (length c.args.picture.now) c.args.columns c.erase_in_line.new.picture =
+    subst (λ picture. HasSize (length c.args.picture.now) c.args.columns picture) (sym c.erase_in_line.ensures) size in
+    record {
+      erased = c.erase_in_line.ensures ∙ lines_blanked-more c.args.first c.loop-line.line c.loop-line.picture c.args.picture.now (omega arith) inside c.loop-line.invariant.erased;
+      height = after.height;
+      size = after;
+    }
+
+pub erase_in_line-requires-clause-size : goal.erase_in_line-requires-clause-size
+erase_in_line-requires-clause-size c =
+    subst (λ lines. HasSize lines c.args.columns c.loop-line.picture) (sym c.loop-line.invariant.height) c.loop-line.invariant.size
+
+pub returns-clause-erased : goal.returns-clause-erased
+returns-clause-erased c =
+    let done : c.loop-line.line ≡ c.args.end = omega arith in
+    c.loop-line.invariant.erased ∙ ap (λ end. lines_blanked c.args.first end c.args.picture.now) done
