@@ -59,7 +59,7 @@ one_word_more : faults (codes "run" ∷ codes "--lines" ∷ codes "4" ∷ codes 
 unfolding clap_on_literals
 one_word_more = refl
 
-another_subcommand : faults (codes "show" ∷ []) ≡ kind.UnknownArgument ∷ kind.InvalidSubcommand ∷ []
+another_subcommand : faults (codes "fly" ∷ []) ≡ kind.UnknownArgument ∷ kind.InvalidSubcommand ∷ []
 unfolding clap_on_literals
 another_subcommand = refl
 

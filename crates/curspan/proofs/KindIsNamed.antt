@@ -10,7 +10,7 @@ use Rattle.clap.specs.Walk.{Held, Names, Outcome, Rule, Step, Text, Waiting, Wal
 use Rattle.clap.specs.declared.error.kind.ErrorKind.TheVariants as kind
 use Rattle.curspan.specs.CommandLine.{kind_text}
 use Rattle.curspan.specs.declared.asked.Kind.{Kind}
-use Rattle.curspan.specs.declared.asked.Kind.TheVariants.{Run, Paint}
+use Rattle.curspan.specs.declared.asked.Kind.TheVariants.{Run, Paint, Show}
 use Rattle.curspan.proofs.KeptRows.{both_none}
 
 -- the subcommand that a word was
@@ -49,7 +49,7 @@ other_name c None w position word h = go (bytes_eq word (45 ∷ 45 ∷ []))
 
 -- the subcommands of the program, with the one that clap adds
 abbrev pub program_names : Names
-program_names = (codes "run", []) ∷ (codes "paint", []) ∷ (codes "help", []) ∷ []
+program_names = (codes "run", []) ∷ (codes "paint", []) ∷ (codes "show", []) ∷ (codes "help", []) ∷ []
 
 -- a subcommand of the program
 abbrev pub IsKindsName : Text → Type 0
@@ -60,21 +60,24 @@ abbrev pub StopsAtKind : Option (Text × List Text) → Type 0
 StopsAtKind o = IfSome o (λ p. IsKindsName p.0)
 
 -- by which of the names a word is
-abbrev named : Bool → Bool → Bool → Option Text
-named a b c = option_map {T = Text × List Text} (λ n. n.0) (cond a (Some (codes "run", [])) (cond b (Some (codes "paint", [])) (cond c (Some (codes "help", [])) None)))
+abbrev named : Bool → Bool → Bool → Bool → Option Text
+named a b c d =
+    option_map {T = Text × List Text} (λ n. n.0)
+    (cond a (Some (codes "run", [])) (cond b (Some (codes "paint", [])) (cond c (Some (codes "show", [])) (cond d (Some (codes "help", [])) None))))
 
 module _ (s : Shape) (has_help : s.disable_help_subcommand ≡ false) where
   kind_is_met : (w : Waiting) (word : Text) (h : Held) → other_fault s (subcommand_met program_names w word) word h ≡ []
       → IfSome (subcommand_met program_names w word) IsKindsName
   kind_is_met (option id) word h none = tt
   kind_is_met positional word h none = tt
-  kind_is_met idle word h none = go (answers_to word (codes "run", [])) (answers_to word (codes "paint", [])) (answers_to word (codes "help", [])) none
+  kind_is_met idle word h none = go (answers_to word (codes "run", [])) (answers_to word (codes "paint", [])) (answers_to word (codes "show", [])) (answers_to word (codes "help", [])) none
     where
-      go : (a b c : Bool) → other_fault s (named a b c) word h ≡ [] → IfSome (named a b c) IsKindsName
-      go true b c e = (Run, refl)
-      go false true c e = (Paint, refl)
-      go false false false e = tt
-      go false false true e =
+      go : (a b c d : Bool) → other_fault s (named a b c d) word h ≡ [] → IfSome (named a b c d) IsKindsName
+      go true b c d e = (Run, refl)
+      go false true c d e = (Paint, refl)
+      go false false true d e = (Show, refl)
+      go false false false false e = tt
+      go false false false true e =
           let bad : kind.DisplayHelp ∷ kind.InvalidSubcommand ∷ [] ≡ [] = rw has_help at e in
           cc
 

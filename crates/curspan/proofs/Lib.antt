@@ -7,3 +7,4 @@ pub mod TakenLemmas
 pub mod PrintLemmas
 pub mod PictureLemmas
 pub mod PictureTexts
+pub mod FeedingLemmas

@@ -22,7 +22,7 @@ use Rattle.clap.proofs.ValueTestLemmas.{accepts-Accepts}
 use Rattle.curspan.specs.CommandLine.{Asks, AsksIn, IsNumber, IsSize, IsTaken, ReadsNumber, curspan, kind_text, mode}
 use Rattle.curspan.specs.declared.asked.Job.{Job}
 use Rattle.curspan.specs.declared.asked.Kind.{Kind}
-use Rattle.curspan.specs.declared.asked.Kind.TheVariants.{Run, Paint}
+use Rattle.curspan.specs.declared.asked.Kind.TheVariants.{Run, Paint, Show}
 use Rattle.curspan.proofs.KeptRows.{HasSizes, IsKnownRule, IsSizeRow, found, level_keeps, level_passes, size_parser}
 use Rattle.curspan.proofs.KindIsNamed.{StopsAtKind, program_names, walk_stops}
 
@@ -110,6 +110,7 @@ kind_taken kind words rest is none =
 entered_taken : (kind : Kind) (words rest : List Text) → subcommand_of curspan words ≡ entered program (Some (kind_text kind, rest)) → entered_fault program (Some (kind_text kind, rest)) ≡ [] → NamesKind words
 entered_taken Run words rest is below = kind_taken Run words rest is below
 entered_taken Paint words rest is below = kind_taken Paint words rest is below
+entered_taken Show words rest is below = kind_taken Show words rest is below
 
 -- the subcommand at which the walk over the words stops
 abbrev stop_at : List Text → Option (Text × List Text)

@@ -8,7 +8,7 @@ use Rattle.cell.specs.Limits.{is_no_size}
 use Rattle.cell.specs.declared.limits.TheConstants.{LARGEST_SCREEN}
 use Rattle.curspan.specs.declared.asked.Job.{Job}
 use Rattle.curspan.specs.declared.asked.Kind.{Kind}
-use Rattle.curspan.specs.declared.asked.Kind.TheVariants.{Run, Paint}
+use Rattle.curspan.specs.declared.asked.Kind.TheVariants.{Run, Paint, Show}
 
 -- a required option for a number of lines or columns that a screen may have
 abbrev pub size_rule : Text → Rule
@@ -32,11 +32,12 @@ bare = demanding (new_app (codes "curspan"))
 
 -- the subcommands, and their names
 abbrev pub kinds : List Kind
-kinds = Run ∷ Paint ∷ []
+kinds = Run ∷ Paint ∷ Show ∷ []
 
 abbrev pub kind_text : Kind → Text
 kind_text Run = codes "run"
 kind_text Paint = codes "paint"
+kind_text Show = codes "show"
 
 abbrev pub curspan : App
 curspan = fold (λ app kind. with_subcommand app (mode (kind_text kind)).top) bare kinds

@@ -19,19 +19,12 @@ use Rattle.desk.specs.ScriptEnds.{ScriptEnds, read_failed, write_fault}
 use Rattle.desk.specs.States.{ScreenOver}
 use Rattle.curspan.specs.CommandLine.{Asks, curspan}
 use Rattle.curspan.specs.Printing.{printed_picture}
+use Rattle.curspan.specs.Shows.{Shows}
 use Rattle.curspan.specs.Statuses.{status_of}
-use Rattle.curspan.specs.Written.{IsNotWritten, IsTold, IsWritten}
+use Rattle.curspan.specs.Written.{IsNotWritten, IsTold, IsWritten, Outputs}
 use Rattle.curspan.specs.declared.asked.Job.{Job}
 use Rattle.curspan.specs.declared.asked.Kind.{Kind}
-use Rattle.curspan.specs.declared.asked.Kind.TheVariants.{Run, Paint}
-
--- what has been seen of the output and of the log
-pub record Outputs : Type 0 where
-  pub output : Seen
-  pub log : Seen
-
-abbrev pub outputs : Seen → Seen → Outputs
-outputs output log = record { output = output; log = log }
+use Rattle.curspan.specs.declared.asked.Kind.TheVariants.{Run, Paint, Show}
 
 -- ---- want of memory
 
@@ -130,6 +123,7 @@ module _ {W V : Type 0} (seen : W → Seen) (discarded : V → Seen) where
   abbrev pub Does : Kind → Job → SourceSeen → SourceSeen → Outputs → Outputs → ℕ → Type 0
   Does Run job input rest old new status = Runs seen job input rest old new status
   Does Paint job input rest old new status = Paints discarded job input rest old new status
+  Does Show job input rest old new status = Shows job input rest old new status
 
   -- There was no memory for the screen, and nothing was read, or it was done.
   abbrev pub ServesJob : Job → SourceSeen → SourceSeen → Outputs → Outputs → ℕ → Type 0

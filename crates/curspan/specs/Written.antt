@@ -33,3 +33,13 @@ WritingEnds false old new text = IsNotWritten old new text
 -- A line was written on the log, once, or a failure was counted.
 abbrev pub IsTold : Seen → Seen → List ℕ → Type 0
 IsTold log told line = IsWritten log told line ⊎ IsNotWritten log told line
+
+-- ---- the output and the log
+
+-- what has been seen of the output and of the log
+pub record Outputs : Type 0 where
+  pub output : Seen
+  pub log : Seen
+
+abbrev pub outputs : Seen → Seen → Outputs
+outputs output log = record { output = output; log = log }

@@ -7,6 +7,8 @@ pub enum Kind {
     Run,
     /// Prints the picture that a script leaves.
     Paint,
+    /// Prints the picture that a stream leaves on a terminal.
+    Show,
 }
 
 /// What is asked for, on a screen of that many lines and columns.

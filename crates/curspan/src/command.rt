@@ -41,10 +41,12 @@ fn command<'a>(alloc: Global) -> Result<Command<'a>, AllocError>
 {
     let run = subcommand(alloc, "run")?;
     let paint = subcommand(alloc, "paint")?;
+    let show = subcommand(alloc, "show")?;
     Command::new(alloc, "curspan")
         .subcommand_required(true)
         .subcommand(run)?
-        .subcommand(paint)
+        .subcommand(paint)?
+        .subcommand(show)
 }
 
 /// The subcommand of a name.
@@ -54,6 +56,7 @@ fn kind_of(name: &str) -> Option<Kind>
     match name {
         "run" => Some(Kind::Run),
         "paint" => Some(Kind::Paint),
+        "show" => Some(Kind::Show),
         _ => None,
     }
 }

@@ -6,13 +6,19 @@ mod command;
 mod printing;
 mod put;
 mod serve;
+mod show;
+mod status;
 
 use desk::{Counted, CountedReader, Sink};
 use put::tell;
-use serve::{no_memory, serve};
+use serve::serve;
+use status::no_memory;
 use std::io::{BufReader, BufWriter, ErrorKind};
 use std::process::ExitCode;
 use std::{env, io};
+
+/// How many bytes are read of standard input at once.
+const READ_AT_ONCE: usize = 4096;
 
 fn main(rt: HostRuntime) -> ExitCode {
     let mut log = Counted::new(rt.stderr());
@@ -32,7 +38,7 @@ fn main(rt: HostRuntime) -> ExitCode {
 fn run<L: Sink>(rt: &HostRuntime, log: &mut L) -> io::Result<u8> {
     let alloc = rt.alloc();
     let words: Vec<String> = env::args(rt)?.collect(alloc)?;
-    let mut input = CountedReader::new(BufReader::new(alloc, rt.stdin())?);
+    let mut input = CountedReader::new(BufReader::with_capacity(alloc, READ_AT_ONCE, rt.stdin())?);
     let mut out = Counted::new(BufWriter::new(alloc, rt.stdout())?);
     Ok(serve(alloc, words.as_slice(), &mut input, &mut out, log))
 }

@@ -5,19 +5,19 @@ ghost use Rattle.cell.specs.Shown.{no_rendition};
 ghost use Rattle.clap.specs.Words.{kind_of};
 ghost use Rattle.curspan.specs.CommandLine.{IsSize};
 ghost use Rattle.curspan.specs.Printing.{printed_picture};
-ghost use Rattle.curspan.specs.Serving.{Explains, LacksMemory, Paints, Runs, Serves, Tells, no_memory_line, nothing_seen, outputs};
-ghost use Rattle.curspan.specs.Statuses.{status_of};
-ghost use Rattle.curspan.specs.Written.{IsTold, WritingEnds};
+ghost use Rattle.curspan.specs.Serving.{Explains, LacksMemory, Paints, Runs, Serves, Tells, nothing_seen};
+ghost use Rattle.curspan.specs.Written.{WritingEnds, outputs};
 ghost use Rattle.desk.specs.Desks.{world};
 ghost use Rattle.desk.specs.States.{after, state_of};
 ghost use Rattle.paint.specs.Updates.{first_painter};
-ghost use Rattle.script.specs.Log.{last_line};
 ghost use Rattle.world.specs.World.{first_world};
 
 use crate::asked::{Job, Kind};
 use crate::command::job;
 use crate::printing::print;
 use crate::put::{tell, write_out};
+use crate::show::show;
+use crate::status::{ACCEPTED, BAD_TEXT, failed, no_memory, status_of};
 use cell::Rendition;
 use clap::Error;
 use clap::error::ErrorKind;
@@ -26,35 +26,6 @@ use script::last_line;
 use std::alloc::Global;
 use std::convert::AsStr;
 use streams::Discard;
-
-/// Every call was accepted, or help was asked for.
-const ACCEPTED: u8 = 0;
-/// Some call was refused.
-const REFUSED: u8 = 1;
-/// The command line or the script's text has a fault.
-const BAD_TEXT: u8 = 2;
-/// Reading or writing failed.
-const FAILED: u8 = 3;
-/// There is no memory for the screen.
-const NO_MEMORY: u8 = 4;
-
-/// Says on the log that there is no memory, and answers that status.
-pub fn no_memory<L: Sink>(log: &mut L) -> u8
-    ensures status { result ≡ 4 }
-    ensures told { IsTold (L.seen log.old) (L.seen log.new) no_memory_line }
-{
-    tell(log, b"no memory for the screen\n");
-    NO_MEMORY
-}
-
-/// Says on the log that writing failed, and answers that status.
-fn writing_failed<L: Sink>(log: &mut L) -> u8
-    ensures status { result ≡ 3 }
-    ensures told { IsTold (L.seen log.old) (L.seen log.new) (last_line ScriptFault.Log) }
-{
-    tell(log, last_line(ScriptFault::Log).as_slice());
-    FAILED
-}
 
 /// Prints help on the output and a usage fault on the log, and answers the status.
 fn usage<O: Sink, L: Sink>(alloc: Global, error: &Error, out: &mut O, log: &mut L) -> u8
@@ -73,23 +44,10 @@ fn usage<O: Sink, L: Sink>(alloc: Global, error: &Error, out: &mut O, log: &mut 
             if write_out(out, text.as_bytes()) {
                 ACCEPTED
             } else {
-                writing_failed(log)
+                failed(log, ScriptFault::Log)
             }
         }
         Err(_) => no_memory(log),
-    }
-}
-
-/// The status of a script that ended so.
-fn status_of(end: ScriptEnd) -> u8
-    ensures status { result ≡ status_of end }
-    ensures well { result < 2 → end.fault ≡ None }
-{
-    match end.fault {
-        Some(ScriptFault::Text { .. }) => BAD_TEXT,
-        Some(_) => FAILED,
-        None if end.refused => REFUSED,
-        None => ACCEPTED,
     }
 }
 
@@ -187,7 +145,7 @@ fn paint<R: Source, O: Sink, L: Sink>(
     if print_desk(out, screen.desk()) {
         status_of(end)
     } else {
-        writing_failed(log)
+        failed(log, ScriptFault::Log)
     }
 }
 
@@ -210,6 +168,7 @@ pub fn serve<'a, S: AsStr, R: Source, O: Sink, L: Sink>(
         Ok(job) => match job.kind {
             Kind::Run => run(alloc, job, input, out, log),
             Kind::Paint => paint(alloc, job, input, out, log),
+            Kind::Show => show(alloc, job, input, out, log),
         },
         Err(error) => usage(alloc, &error, out, log),
     }

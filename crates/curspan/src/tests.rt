@@ -498,13 +498,77 @@ fn prints_help(rt: HostRuntime) -> Result<(), Fail> {
     Ok(())
 }
 
+const SHOW_ONE_BY_FOUR: [&str; 6] = ["curspan", "show", "--lines", "1", "--cols", "4"];
+
+#[test]
+fn shows_what_a_stream_leaves(rt: HostRuntime) -> Result<(), Fail> {
+    let cases: [(&[u8], u8, &[u8], &[u8]); 4] = [
+        (b"", 0, b"|    |\ncursor 0 0\nrendition 00\n", b""),
+        (
+            b"\x1b[1;33mab\x1b[1;4H",
+            0,
+            b"|ab  |\n:01010000\n%3-3-----\ncursor 0 3\nrendition 01 3-\n",
+            b"",
+        ),
+        (
+            b"ab\x1b[38mc",
+            1,
+            b"|ab  |\ncursor 0 2\nrendition 00\n",
+            b"offset 2: not in the profile\n",
+        ),
+        (
+            b"abcde",
+            1,
+            b"|abcd|\ncursor unknown\nrendition 00\n",
+            b"offset 4: not in the profile\n",
+        ),
+    ];
+    for (bytes, status, picture, log) in cases {
+        for step in [1, 4, 512] {
+            let fails = false;
+            let end = served(rt.alloc(), &SHOW_ONE_BY_FOUR, Pieces { bytes, step, fails });
+            assert_eq!(rt; end.status, status);
+            assert_eq!(rt; end.out.as_slice(), picture);
+            assert_eq!(rt; end.log.as_slice(), log);
+        }
+    }
+    Ok(())
+}
+
+#[test]
+fn shows_nothing_where_a_read_fails(rt: HostRuntime) -> Result<(), Fail> {
+    for bytes in [b"ab".as_slice(), b"ab\x1b[38mc"] {
+        let (step, fails) = (2, true);
+        let end = served(rt.alloc(), &SHOW_ONE_BY_FOUR, Pieces { bytes, step, fails });
+        assert_eq!(rt; end.status, 3);
+        assert!(rt; end.out.is_empty());
+        assert_eq!(rt; end.log.as_slice(), b"reading failed\n".as_slice());
+    }
+    Ok(())
+}
+
+#[test]
+fn a_failed_write_goes_before_a_stream_that_fails(rt: HostRuntime) -> Result<(), Fail> {
+    let alloc = rt.alloc();
+    let (bytes, step, fails) = (b"ab\x1b[38mc".as_slice(), 512, false);
+    for (room, log_failures, logs) in [(4, 0, b"writing failed\n".as_slice()), (99, 1, b"")] {
+        let mut input = CountedReader::new(Pieces { bytes, step, fails });
+        let mut out = taking(alloc, room, 1);
+        let mut log = taking(alloc, 0, log_failures);
+        let status = serve(alloc, &SHOW_ONE_BY_FOUR, &mut input, &mut out, &mut log);
+        assert_eq!(rt; status, 3);
+        assert_eq!(rt; log.into_inner().taken.as_slice(), logs);
+    }
+    Ok(())
+}
+
 #[test]
 fn refuses_other_command_lines(rt: HostRuntime) -> Result<(), Fail> {
     let alloc = rt.alloc();
     let cases: [&[&str]; 10] = [
         &["curspan"],
         &["curspan", "paint", "--lines", "4"],
-        &["curspan", "show", "--lines", "4", "--cols", "10"],
+        &["curspan", "fly", "--lines", "4", "--cols", "10"],
         &["curspan", "run"],
         &["curspan", "run", "--lines", "4"],
         &["curspan", "run", "--lines", "0", "--cols", "10"],

@@ -5,8 +5,7 @@ use Rattle.desk.specs.Desks.{world}
 use Rattle.desk.specs.States.{State}
 use Rattle.cell.specs.Shown.{no_rendition}
 use Rattle.curspan.specs.Printing.{printed_picture}
-use Rattle.curspan.specs.Serving.{outputs}
-use Rattle.curspan.specs.Written.{IsNotWritten}
+use Rattle.curspan.specs.Written.{IsNotWritten, outputs}
 use Rattle.curspan.proofs.serve.paint.Goals as goal
 
 pub returns-clause-painted : goal.returns-clause-painted
@@ -26,6 +25,6 @@ returns-clause-painted g c =
         runs = c.run_told-end.ensures.ran;
       };
       prints = Prints-failed c.run_told-end.result (world c.run_told-end.new.screen.desk) (g.L.Sink.seen c.run_told-end.new.log)
-          (outputs (g.O.Sink.seen c.args.out.now) (g.L.Sink.seen c.args.log.now)) (outputs (g.O.Sink.seen c.print_desk.new.out) (g.L.Sink.seen c.writing_failed.new.log))
-          c.writing_failed.result fault c.writing_failed.ensures.status not_written c.writing_failed.ensures.told;
+          (outputs (g.O.Sink.seen c.args.out.now) (g.L.Sink.seen c.args.log.now)) (outputs (g.O.Sink.seen c.print_desk.new.out) (g.L.Sink.seen c.failed.new.log))
+          c.failed.result fault c.failed.ensures.status not_written c.failed.ensures.told;
     })

@@ -1,0 +1,39 @@
+-- A stream is read into a terminal piece by piece.
+use Rattle.std.proofs.Common.{◌≡◌, ℕ, Bool, false, true, List, [], ◌++◌, refl, subst, sym, append_assoc, append-nil}
+use Rattle.std.proofs.lemmas.Bool.{ne_eqb}
+use Rattle.std.specs.Prelude.{◌||◌, if◌then◌else◌}
+use Rattle.std.proofs.KnownBytes.{Consumes-nil, Consumes-trans}
+use Rattle.std.specs.Io.KnownBytes.{Consumes}
+use Rattle.streams.specs.Sources.{SourceSeen}
+use Rattle.streams.specs.Counts.{moved_nothing}
+use Rattle.ecma.specs.Standing.{Follows, Reader, StandsAfter}
+
+-- a front of the stream was read
+pub record IsPartlyFed (old new : SourceSeen) (before after : Reader) : Type 0 where
+  pub front : List ℕ
+  pub read : Consumes old.left new.left front
+  pub follows : Follows front before after
+
+pub none_fed : (old : SourceSeen) (before : Reader) → IsPartlyFed old old before before
+none_fed old before = record {
+  front = [];
+  read = Consumes-nil old.left;
+  follows = λ stream first stands. subst (λ s. StandsAfter s first before) (sym (append-nil stream)) stands;
+}
+
+pub more_fed : (old mid new : SourceSeen) (before between after : Reader) (piece : List ℕ) → IsPartlyFed old mid before between
+    → Consumes mid.left new.left piece → Follows piece between after → IsPartlyFed old new before after
+more_fed old mid new before between after piece fed read follows = record {
+  front = fed.front ++ piece;
+  read = Consumes-trans _ _ _ _ _ fed.read read;
+  follows = λ stream first stands. subst (λ s. StandsAfter s first after) (append_assoc stream fed.front piece) (follows (stream ++ fed.front) first (fed.follows stream first stands));
+}
+
+-- ---- a read that gave some bytes
+
+pub not_ended : (n : ℕ) (met : Bool) (buffer : List ℕ) → (n ≡ 0 → ⊥) → (if moved_nothing n buffer then true else met) ≡ met
+not_ended n met buffer h = rw (ne_eqb n 0 h) refl
+
+pub not_past : (past met : Bool) → met ≡ false → (past || met) ≡ past
+not_past true met e = refl
+not_past false met e = e

@@ -1,0 +1,20 @@
+-- What reading a stream into a terminal does: words of contracts of single steps.
+use Rattle.std.specs.Prelude.{◌≡◌, ◌⊎◌, ℕ, Bool, List, Result, Ok, Err}
+use Rattle.ecma.specs.Standing.{Follows, Reader}
+use Rattle.ecma.specs.declared.terminal.NotInProfile.{NotInProfile}
+use Rattle.streams.specs.Sinks.{Seen}
+use Rattle.streams.specs.Sources.{SourceSeen}
+use Rattle.curspan.specs.Shows.{ReadsStream, offset_line}
+use Rattle.curspan.specs.Written.{IsNotWritten, IsWritten}
+
+-- A stream was read, and the terminal stands after it.
+pub record Feeds (old new : SourceSeen) (before after : Reader) (is_whole : Bool) : Type 0 where
+  pub stream : List ℕ
+  pub reads : ReadsStream old new is_whole stream
+  pub follows : Follows stream before after
+
+-- The log tells of an answer of the terminal, if that is a failure.
+abbrev pub TellsAnswer : Result Unit NotInProfile → Seen → Seen → ℕ → Type 0
+TellsAnswer (Ok x) log told status = (status ≡ 0) × (told ≡ log)
+TellsAnswer (Err fault) log told status =
+    ((status ≡ 1) × IsWritten log told (offset_line fault.at)) ⊎ ((status ≡ 3) × IsNotWritten log told (offset_line fault.at))
