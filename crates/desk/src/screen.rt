@@ -92,7 +92,7 @@ impl<W: Sink + Drop> Screen<W> {
             mut painter,
             writer: _,
         } = self;
-        painter.forget();
+        painter.invalidate();
         Screen {
             desk,
             painter,

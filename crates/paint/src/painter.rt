@@ -58,7 +58,7 @@ impl Painter {
     }
 
     /// What it showed last is unknown from now on, as where its terminals are others.
-    pub fn forget(&mut self)
+    pub fn invalidate(&mut self)
         ensures { self.new ≡ record self.old { last = None } }
     {
         self.cursor = None;
@@ -83,7 +83,7 @@ impl Painter {
         ensures painter { self.new ≡ record self.old { last = (if is_ok result then Some (record { picture = picture.now; cursor = cursor }) else None) } }
         ensures same { W.name sink.new ≡ W.name sink.old }
     {
-        self.forget();
+        self.invalidate();
         let sent = send_picture(sink, picture, self.lines, self.columns, cursor)?;
         self.picture.copy_from(picture);
         self.cursor = Some(cursor);

@@ -101,12 +101,12 @@ fn shows_a_bold_cell_in_yellow(rt: HostRuntime) -> Result<(), Fail> {
 }
 
 #[test]
-fn shows_all_after_it_forgot(rt: HostRuntime) -> Result<(), Fail> {
+fn shows_all_after_it_was_invalidated(rt: HostRuntime) -> Result<(), Fail> {
     let picture = greeting(rt.alloc())?;
     let mut painter = Painter::new(rt.alloc(), 4, 10)?;
     let mut first = Counted::new(Vec::new(rt.alloc()));
     painter.doupdate(&picture, (0, 2), false, &mut first)?;
-    painter.forget();
+    painter.invalidate();
     let mut second = Counted::new(Vec::new(rt.alloc()));
     painter.doupdate(&picture, (0, 2), false, &mut second)?;
     assert_eq!(rt; second.get_ref().as_slice(), GREETING);
