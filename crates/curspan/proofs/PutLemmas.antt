@@ -7,7 +7,7 @@ use Rattle.std.specs.Prelude.{is_err, is_ok}
 use Rattle.std.specs.Io.KnownBytes.{Appends, Keeps}
 use Rattle.streams.specs.Counts.{counted, next_count}
 use Rattle.streams.specs.Sinks.{Seen, flushed_after_flush}
-use Rattle.streams.proofs.Sends.{Appends-keeps}
+use Rattle.streams.proofs.Sends.{Appends-keeps, cut-unflushed, whole-flushed}
 use Rattle.streams.specs.Sending.{Sends}
 use Rattle.streams.specs.declared.sending.WriteFault.{WriteFault}
 use Rattle.curspan.specs.Written.{IsNotWritten, IsTold, TakesFront, WritingEnds}
@@ -55,8 +55,14 @@ cut_put old mid new text rest piece after at fault p s front back =
 
 -- ---- a text, and a flush behind it
 
-pub not_put : (old new : Seen) (text : List ℕ) → TakesFront old new text → new.failures ≡ next_count old.failures → IsNotWritten old new text
-not_put old new text front failure = record { sent = front.sent; within = omega (arith, front.within); taken = front.taken; failure = failure }
+pub not_put : (old new : Seen) (text : List ℕ) → TakesFront old new text → new.failures ≡ next_count old.failures → new.flushes ≡ old.flushes → IsNotWritten old new text
+not_put old new text front failure flushes = record {
+  sent = front.sent;
+  within = omega (arith, front.within);
+  taken = front.taken;
+  failure = failure;
+  flushes = flushes ∙ sym (cut-unflushed front.sent text old.flushes front.within);
+}
 
 pub flushed_behind : {T E : Type 0} (old mid new : Seen) (text : List ℕ) (r : Result T E) → Appends old.taken mid.taken text → mid.failures ≡ old.failures
     → mid.flushes ≡ old.flushes → Keeps mid.taken new.taken → new.failures ≡ counted (is_err r) mid.failures → new.flushes ≡ next_count mid.flushes
@@ -72,6 +78,7 @@ flushed_behind old mid new text (Err e) taken failures flushes kept counted flus
   within = omega arith;
   taken = rw (take-length text) (Appends-keeps old.taken mid.taken new.taken text taken kept);
   failure = counted ∙ ap next_count failures;
+  flushes = flush ∙ ap next_count flushes ∙ sym (whole-flushed (length text) text old.flushes refl);
 }
 
 pub told : (old new : Seen) (text : List ℕ) (written : Bool) → WritingEnds written old new text → IsTold old new text

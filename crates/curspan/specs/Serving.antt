@@ -39,11 +39,15 @@ pub record LacksMemory (old new : Outputs) (status : ℕ) : Type 0 where
 
 -- ---- words that are refused
 
--- Help was shown. Its text, which is clap's, went to the output; or writing it failed, and the log is told.
+-- A text was shown: it went to the output; or writing it failed, and the log is told.
+abbrev pub ShowsText : List ℕ → Outputs → Outputs → ℕ → Type 0
+ShowsText text old new status =
+    ((status ≡ 0) × IsWritten old.output new.output text × (new.log ≡ old.log))
+    ⊎ ((status ≡ 3) × IsNotWritten old.output new.output text × IsTold old.log new.log (last_line Log))
+
+-- Help was shown, a text of clap's.
 abbrev pub ShowsHelp : Outputs → Outputs → ℕ → Type 0
-ShowsHelp old new status = (text : List ℕ) ×
-    (((status ≡ 0) × IsWritten old.output new.output text × (new.log ≡ old.log))
-    ⊎ ((status ≡ 3) × IsNotWritten old.output new.output text × IsTold old.log new.log (last_line Log)))
+ShowsHelp old new status = (text : List ℕ) × ShowsText text old new status
 
 -- A usage fault is told on the log, by a text of clap's, and nothing went to the output.
 abbrev pub TellsUsage : Outputs → Outputs → ℕ → Type 0

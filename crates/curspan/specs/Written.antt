@@ -1,8 +1,8 @@
 -- What writing a text of any length does to a sink.
 -- No standard says it; the answers are those of Rust's std::io::Write.
-use Rattle.std.specs.Prelude.{◌≡◌, ◌⊎◌, ◌<◌, ◌≤◌, ℕ, List, length, take, Bool, true, false}
+use Rattle.std.specs.Prelude.{◌≡◌, ◌⊎◌, ◌<◌, ◌≤◌, ◌==◌, ℕ, List, length, take, Bool, true, false}
 use Rattle.std.specs.Io.KnownBytes.{Appends}
-use Rattle.streams.specs.Counts.{next_count}
+use Rattle.streams.specs.Counts.{counted, next_count}
 use Rattle.streams.specs.Sinks.{Seen}
 
 -- The sink took a front of the text, and not all.
@@ -18,12 +18,13 @@ pub record IsWritten (old new : Seen) (text : List ℕ) : Type 0 where
   pub flushes : new.flushes ≡ next_count old.flushes
   pub flushed : new.flushed ≡ true
 
--- The sink took a front of the text, or all of it, and one failure was counted, of a write or of the flush behind it.
+-- The sink took a front of the text, and a write failed; or all of it, and the one flush behind it failed. One failure was counted.
 pub record IsNotWritten (old new : Seen) (text : List ℕ) : Type 0 where
   pub sent : ℕ
   pub within : sent ≤ length text
   pub taken : Appends old.taken new.taken (take sent text)
   pub failure : new.failures ≡ next_count old.failures
+  pub flushes : new.flushes ≡ counted (sent == length text) old.flushes
 
 -- The text was written, or wasn't.
 abbrev pub WritingEnds : Bool → Seen → Seen → List ℕ → Type 0

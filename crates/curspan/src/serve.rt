@@ -5,7 +5,7 @@ ghost use Rattle.cell.specs.Shown.{no_rendition};
 ghost use Rattle.clap.specs.Words.{kind_of};
 ghost use Rattle.curspan.specs.CommandLine.{IsSize};
 ghost use Rattle.curspan.specs.Printing.{printed_picture};
-ghost use Rattle.curspan.specs.Serving.{Explains, LacksMemory, Paints, Runs, Serves, Tells, nothing_seen};
+ghost use Rattle.curspan.specs.Serving.{Explains, LacksMemory, Paints, Runs, Serves, ShowsText, Tells, nothing_seen};
 ghost use Rattle.curspan.specs.Written.{WritingEnds, outputs};
 ghost use Rattle.desk.specs.Desks.{world};
 ghost use Rattle.desk.specs.States.{after, state_of};
@@ -27,6 +27,18 @@ use std::alloc::Global;
 use std::convert::AsStr;
 use streams::Discard;
 
+/// Prints a text on the output, and answers the status.
+fn show_text<O: Sink, L: Sink>(text: &[u8], out: &mut O, log: &mut L) -> u8
+    ensures shown { ShowsText text.now (outputs (O.seen out.old) (L.seen log.old)) (outputs (O.seen out.new) (L.seen log.new)) result }
+    ensures log { result < 2 → log.new ≡ log.old }
+{
+    if write_out(out, text) {
+        ACCEPTED
+    } else {
+        failed(log, ScriptFault::Log)
+    }
+}
+
 /// Prints help on the output and a usage fault on the log, and answers the status.
 fn usage<O: Sink, L: Sink>(alloc: Global, error: &Error, out: &mut O, log: &mut L) -> u8
     ensures explained { Explains (kind_of error.now) (outputs (O.seen out.old) (L.seen log.old)) (outputs (O.seen out.new) (L.seen log.new)) result }
@@ -40,13 +52,7 @@ fn usage<O: Sink, L: Sink>(alloc: Global, error: &Error, out: &mut O, log: &mut 
             tell(log, text.as_bytes());
             BAD_TEXT
         }
-        Ok(text) => {
-            if write_out(out, text.as_bytes()) {
-                ACCEPTED
-            } else {
-                failed(log, ScriptFault::Log)
-            }
-        }
+        Ok(text) => show_text(text.as_bytes(), out, log),
         Err(_) => no_memory(log),
     }
 }

@@ -1,21 +1,13 @@
 -- What a text that was sent means for a painter.
-use Rattle.std.proofs.Common.{◌≡◌, Bool, ℕ, ◌<◌, ◌==◌, length, true, List, Ok, Err, sym, ap, ◌∙◌, arith}
+use Rattle.std.proofs.Common.{◌≡◌, Bool, ℕ, length, true, List, Ok, Err, sym, ap, ◌∙◌, arith}
 use Rattle.std.specs.Io.KnownBytes.{Keeps}
-use Rattle.std.proofs.lemmas.Bool.{eq-eqb, ne_eqb}
 use Rattle.std.proofs.lemmas.List.{take_all}
 use Rattle.streams.specs.declared.sending.WriteFault.{WriteFault}
-use Rattle.streams.specs.Counts.{counted, next_count}
+use Rattle.streams.specs.Counts.{next_count}
 use Rattle.streams.specs.Sinks.{Seen}
 use Rattle.streams.specs.Sending.{Sends}
 use Rattle.paint.specs.Updates.{PainterState, ShownPicture, IsUpdateText, Updates, BreaksOff}
-use Rattle.streams.proofs.Sends.{Appends-keeps}
-
--- the one flush of a text, which is tried where all of it was taken
-whole-flushed : (sent : ℕ) (text : List ℕ) (flushes : ℕ) → sent ≡ length text → counted (sent == length text) flushes ≡ next_count flushes
-whole-flushed sent text flushes e = ap (λ b. counted b flushes) (eq-eqb sent (length text) e)
-
-cut-unflushed : (sent : ℕ) (text : List ℕ) (flushes : ℕ) → sent < length text → counted (sent == length text) flushes ≡ flushes
-cut-unflushed sent text flushes h = ap (λ b. counted b flushes) (ne_eqb sent (length text) (λ e. absurd (omega arith)))
+use Rattle.streams.proofs.Sends.{Appends-keeps, cut-unflushed, whole-flushed}
 
 module _ {painter : PainterState} {clear : Bool} {wanted : ShownPicture} {text : List ℕ} (is_text : IsUpdateText painter clear wanted text) where
   pub updated : {old mid new : Seen} {total : ℕ} → Sends old mid 0 text (Ok total) → Keeps mid.taken new.taken → new.failures ≡ mid.failures

@@ -1,6 +1,6 @@
 -- Texts that are sent one after another.
-use Rattle.std.proofs.lemmas.Bool.{ne_eqb}
-use Rattle.std.proofs.Common.{◌≡◌, ℕ, ◌+◌, ◌≤◌, List, [], ◌++◌, length, take, drop, Option, Some, None, Result, Ok, Err, refl, sym, ap, ◌∙◌, arith, append_assoc, length-append}
+use Rattle.std.proofs.lemmas.Bool.{eq-eqb, ne_eqb}
+use Rattle.std.proofs.Common.{◌≡◌, ℕ, ◌+◌, ◌<◌, ◌≤◌, ◌==◌, List, [], ◌++◌, length, take, drop, Option, Some, None, Result, Ok, Err, refl, sym, ap, ◌∙◌, arith, append_assoc, length-append}
 use Rattle.std.specs.Io.KnownBytes.{Appends, Keeps}
 use Rattle.std.proofs.lemmas.List.{append-nil, take-append-le, take-append-drop, length-take-le}
 use Rattle.std.proofs.Math.Seq.{take-append-add}
@@ -8,6 +8,13 @@ use Rattle.streams.specs.Counts.{next_count, counted, moved_nothing}
 use Rattle.streams.specs.Sinks.{Seen}
 use Rattle.streams.specs.Sending.{Sends}
 use Rattle.streams.specs.declared.sending.WriteFault.{WriteFault}
+
+-- one flush more exactly where all of a text was sent
+pub whole-flushed : (sent : ℕ) (text : List ℕ) (flushes : ℕ) → sent ≡ length text → counted (sent == length text) flushes ≡ next_count flushes
+whole-flushed sent text flushes e = ap (λ b. counted b flushes) (eq-eqb sent (length text) e)
+
+pub cut-unflushed : (sent : ℕ) (text : List ℕ) (flushes : ℕ) → sent < length text → counted (sent == length text) flushes ≡ flushes
+cut-unflushed sent text flushes h = ap (λ b. counted b flushes) (ne_eqb sent (length text) (λ e. absurd (omega arith)))
 
 pub Appends-append : (a b c : Option (List ℕ)) (s t : List ℕ) → Appends a b s → Appends b c t → Appends a c (s ++ t)
 Appends-append None b c s t h k = tt

@@ -1,6 +1,6 @@
 use Rattle.std.proofs.Common.{◌∙◌, [], ap, refl}
 use Rattle.ecma.specs.declared.terminal.State.TheVariants.{Escape, Parameters, Failed}
-use Rattle.ecma.specs.Parameters.{no_digits}
+use Rattle.ecma.specs.steps.Parameters.{no_digits}
 use Rattle.ecma.proofs.Standing.{reader_of, escape-follows, bracket-follows, other-follows, Follows-from}
 use Rattle.ecma.proofs.terminal.Terminal.read_escaped.Goals as goal
 

@@ -1,7 +1,7 @@
 -- The parameters of a control sequence as a reader keeps them, and the byte that ends one.
-use Rattle.std.specs.Prelude.{ℕ, ◌+◌, ◌*◌, ◌-◌, ◌≤◌, ◌<◌, ◌^◌, ◌==◌, if◌then◌else◌, List, length, Option, Some, None}
+use Rattle.std.specs.Prelude.{ℕ, ◌+◌, ◌*◌, ◌-◌, ◌≤◌, ◌<◌, ◌^◌, ◌==◌, if◌then◌else◌, List, [], ◌∷◌, length, find, Option}
 use Rattle.std.specs.Str.Parse.{digits_value}
-use Rattle.ecma.specs.Items.{Function, CUP, ED, EL, SGR, most_digits}
+use Rattle.ecma.specs.Items.{Function, CUP, ED, EL, SGR, final_byte, most_digits}
 
 -- a parameter as it is kept: the number that its digits write, 0 without any, and how many there are
 pub record Parameter : Type 0 where
@@ -28,4 +28,4 @@ pub record IsParameter (parameter : Parameter) : Type 0 where
 
 -- the control function that a byte ends
 abbrev pub function_of : ℕ → Option Function
-function_of byte = if byte == 72 then Some CUP else if byte == 74 then Some ED else if byte == 75 then Some EL else if byte == 109 then Some SGR else None
+function_of byte = find (λ function. byte == final_byte function) (CUP ∷ ED ∷ EL ∷ SGR ∷ [])
