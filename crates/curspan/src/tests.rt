@@ -91,14 +91,6 @@ const FOUR_BY_TEN: [&str; 6] = ["curspan", "run", "--lines", "4", "--cols", "10"
 
 const PAINT_FOUR_BY_TEN: [&str; 6] = ["curspan", "paint", "--lines", "4", "--cols", "10"];
 
-const TWO_BY_TWO: [&str; 6] = ["curspan", "run", "--lines", "2", "--cols", "2"];
-
-/// Runs a script on a screen of 4 by 10.
-fn ran(alloc: Global, bytes: &[u8]) -> Ended {
-    let (step, fails) = (512, false);
-    served(alloc, &FOUR_BY_TEN, Pieces { bytes, step, fails })
-}
-
 /// Runs what is read of a script before a read fails.
 fn ran_until_failure(alloc: Global, bytes: &[u8]) -> Ended {
     let (step, fails) = (7, true);
@@ -123,119 +115,6 @@ fn shows_a_text_however_the_script_is_cut(rt: HostRuntime) -> Result<(), Fail> {
         assert_eq!(rt; end.out.as_slice(), HELLO_SENT);
         assert!(rt; end.log.is_empty());
     }
-    Ok(())
-}
-
-#[test]
-fn a_text_goes_on_in_the_next_line_and_stays_in_the_last_cell(rt: HostRuntime) -> Result<(), Fail> {
-    let script = Pieces {
-        bytes: b"addstr 0 abcde\nupdate_panels\ndoupdate\n",
-        step: 512,
-        fails: false,
-    };
-    let end = served(rt.alloc(), &TWO_BY_TWO, script);
-    assert_eq!(rt; end.status, 0);
-    assert_eq!(rt; end.out.len(), 36);
-    assert_eq!(rt;
-        end.out.as_slice(),
-        b"\x1b[0m\x1b[2J\x1b[1;1H\x1b[1;1Hab\x1b[2;1Hce\x1b[2;2H".as_slice()
-    );
-    Ok(())
-}
-
-#[test]
-fn an_empty_script_sends_nothing(rt: HostRuntime) -> Result<(), Fail> {
-    for script in [b"".as_slice(), b"\n\n", b"# a comment\n", b"addstr 0 \n"] {
-        let end = ran(rt.alloc(), script);
-        assert_eq!(rt; end.status, 0);
-        assert!(rt; end.out.is_empty());
-        assert!(rt; end.log.is_empty());
-    }
-    Ok(())
-}
-
-#[test]
-fn goes_on_after_a_refused_call(rt: HostRuntime) -> Result<(), Fail> {
-    let end = ran(
-        rt.alloc(),
-        b"addstr 1 hi\n\nupdate_panels\ndoupdate\naddstr 2 hi",
-    );
-    assert_eq!(rt; end.status, 1);
-    assert_eq!(rt; end.out.as_slice(), BLANK_SENT);
-    assert_eq!(rt;
-        end.log.as_slice(),
-        b"line 1: E1 NoSuchWindow\nline 5: E1 NoSuchWindow\n".as_slice()
-    );
-    Ok(())
-}
-
-#[test]
-fn names_the_first_fault_of_a_text(rt: HostRuntime) -> Result<(), Fail> {
-    let cases: [(&[u8], &[u8]); 23] = [
-        (b"fly 0", b"line 1: unknown call\n"),
-        (b" doupdate", b"line 1: unknown call\n"),
-        (b"Doupdate\n", b"line 1: unknown call\n"),
-        (b"\n# a\nfly\n", b"line 3: unknown call\n"),
-        (b"addstr 0", b"line 1: wrong number of arguments\n"),
-        (b"addstr", b"line 1: wrong number of arguments\n"),
-        (b"doupdate ", b"line 1: wrong number of arguments\n"),
-        (b"update_panels  ", b"line 1: wrong number of arguments\n"),
-        (b"addstr 00 a", b"line 1: bad argument\n"),
-        (b"addstr 07 a", b"line 1: bad argument\n"),
-        (b"addstr  0 a", b"line 1: bad argument\n"),
-        (b"addstr 65536 a", b"line 1: bad argument\n"),
-        (b"addstr 000000 a", b"line 1: bad argument\n"),
-        (b"addstr -1 a", b"line 1: bad argument\n"),
-        (b"addstr x a", b"line 1: bad argument\n"),
-        (b"addstr 0 a\\t", b"line 1: bad argument\n"),
-        (b"addch 0", b"line 1: wrong number of arguments\n"),
-        (b"addch 0 ab", b"line 1: bad argument\n"),
-        (b"move 0 07 0", b"line 1: bad argument\n"),
-        (b"\n\naddstr 0 a\r\n", b"line 3: bad byte\n"),
-        (b"# a\tb\n", b"line 1: bad byte\n"),
-        (b"#\x7f\n", b"line 1: bad byte\n"),
-        (b"fly\x80 0\n", b"line 1: bad byte\n"),
-    ];
-    for (script, message) in cases {
-        let end = ran(rt.alloc(), script);
-        assert_eq!(rt; end.status, 2);
-        assert_eq!(rt; end.log.as_slice(), message);
-        assert!(rt; end.out.is_empty());
-    }
-    Ok(())
-}
-
-#[test]
-fn makes_the_calls_before_a_fault_and_none_behind(rt: HostRuntime) -> Result<(), Fail> {
-    let end = ran(
-        rt.alloc(),
-        b"addstr 9 a\nupdate_panels\ndoupdate\nfly\ndoupdate\n",
-    );
-    assert_eq!(rt; end.status, 2);
-    assert_eq!(rt; end.out.as_slice(), BLANK_SENT);
-    assert_eq!(rt;
-        end.log.as_slice(),
-        b"line 1: E1 NoSuchWindow\nline 4: unknown call\n".as_slice()
-    );
-    Ok(())
-}
-
-#[test]
-fn lines_have_at_most_512_bytes(rt: HostRuntime) -> Result<(), Fail> {
-    let mut line = [b'a'; 514];
-    line[..9].copy_from_slice(b"addstr 0 ");
-    line[513] = b'\n';
-    let end = ran(rt.alloc(), &line[..512]);
-    assert_eq!(rt; end.status, 0);
-    for length in [513, 514] {
-        let end = ran(rt.alloc(), &line[..length]);
-        assert_eq!(rt; end.status, 2);
-        assert_eq!(rt; end.log.as_slice(), b"line 1: line too long\n".as_slice());
-    }
-    line[512] = b'\n';
-    line[513] = b'x';
-    let end = ran(rt.alloc(), &line);
-    assert_eq!(rt; end.log.as_slice(), b"line 2: unknown call\n".as_slice());
     Ok(())
 }
 
@@ -345,58 +224,8 @@ fn a_log_that_cannot_be_flushed_has_failed(rt: HostRuntime) -> Result<(), Fail> 
     Ok(())
 }
 
-/// Prints the picture that a script leaves on a screen of 4 by 10.
-fn painted(alloc: Global, bytes: &[u8]) -> Ended {
-    let (step, fails) = (512, false);
-    served(alloc, &PAINT_FOUR_BY_TEN, Pieces { bytes, step, fails })
-}
-
 const HELLO_PICTURE: &[u8] =
     b"|hi        |\n|          |\n|          |\n|          |\ncursor 0 2\nrendition 00\n";
-
-#[test]
-fn paints_attributes_below_their_lines(rt: HostRuntime) -> Result<(), Fail> {
-    let script = Pieces {
-        bytes: b"addstr 0 ab\nattrset 0 2a\naddch 0 c\nattrset 0 00\naddstr 0 de\nattron 0 10\naddstr 0  f
-move 0 1 2\n",
-        step: 512,
-        fails: false,
-    };
-    let words = ["curspan", "paint", "--lines", "4", "--cols", "3"];
-    let end = served(rt.alloc(), &words, script);
-    assert_eq!(rt; end.status, 0);
-    assert_eq!(rt;
-        end.out.as_slice(),
-        b"|abc|\n:00002a\n|de |\n:000010\n|f  |\n:100000\n|   |\ncursor 1 2\nrendition 00\n".as_slice()
-    );
-    assert!(rt; end.log.is_empty());
-    Ok(())
-}
-
-#[test]
-fn paints_what_was_written_last_and_sends_no_terminal_bytes(rt: HostRuntime) -> Result<(), Fail> {
-    let scripts: [&[u8]; 3] = [
-        b"addstr 0 hi",
-        HELLO,
-        b"addstr 0 go\nupdate_panels\ndoupdate\nmove 0 0 0\naddstr 0 hi\n",
-    ];
-    for script in scripts {
-        let end = painted(rt.alloc(), script);
-        assert_eq!(rt; end.status, 0);
-        assert_eq!(rt; end.out.as_slice(), HELLO_PICTURE);
-        assert!(rt; end.log.is_empty());
-    }
-    Ok(())
-}
-
-#[test]
-fn paints_also_after_a_refused_call(rt: HostRuntime) -> Result<(), Fail> {
-    let end = painted(rt.alloc(), b"addstr 9 a\naddstr 0 hi\n");
-    assert_eq!(rt; end.status, 1);
-    assert_eq!(rt; end.out.as_slice(), HELLO_PICTURE);
-    assert_eq!(rt; end.log.as_slice(), b"line 1: E1 NoSuchWindow\n".as_slice());
-    Ok(())
-}
 
 #[test]
 fn paints_nothing_after_a_fault(rt: HostRuntime) -> Result<(), Fail> {
@@ -558,33 +387,6 @@ fn a_failed_write_goes_before_a_stream_that_fails(rt: HostRuntime) -> Result<(),
         let status = serve(alloc, &SHOW_ONE_BY_FOUR, &mut input, &mut out, &mut log);
         assert_eq!(rt; status, 3);
         assert_eq!(rt; log.into_inner().taken.as_slice(), logs);
-    }
-    Ok(())
-}
-
-#[test]
-fn refuses_other_command_lines(rt: HostRuntime) -> Result<(), Fail> {
-    let alloc = rt.alloc();
-    let cases: [&[&str]; 10] = [
-        &["curspan"],
-        &["curspan", "paint", "--lines", "4"],
-        &["curspan", "fly", "--lines", "4", "--cols", "10"],
-        &["curspan", "run"],
-        &["curspan", "run", "--lines", "4"],
-        &["curspan", "run", "--lines", "0", "--cols", "10"],
-        &["curspan", "run", "--lines", "4", "--cols", "1000"],
-        &["curspan", "run", "--lines", "four", "--cols", "10"],
-        &["curspan", "run", "--lines", "4", "--cols", "10", "x"],
-        &[
-            "curspan", "run", "--lines", "4", "--lines", "4", "--cols", "10",
-        ],
-    ];
-    for words in cases {
-        let (bytes, step, fails) = (HELLO, 512, false);
-        let end = served(alloc, words, Pieces { bytes, step, fails });
-        assert_eq!(rt; end.status, 2);
-        assert!(rt; end.out.is_empty());
-        assert!(rt; !end.log.is_empty());
     }
     Ok(())
 }

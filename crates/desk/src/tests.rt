@@ -1,9 +1,7 @@
 use crate::{
-    Attr, Call, Cell, Composed, Counted, CountedReader, Desk, Fault, Making, Query, Refresh,
-    Refusal, Reply, RunEnd, Screen, ScriptEnd, ScriptFault, Sent, TextFault, WinId, WriteFault,
-    Writing,
+    Call, Composed, Counted, CountedReader, Desk, Fault, Query, Refresh, Refusal, Reply, RunEnd,
+    Screen, ScriptEnd, ScriptFault, Sent, Sink, TextFault, WinId, WriteFault, Writing,
 };
-use bitflags::Flags;
 use std::alloc::Global;
 use std::io;
 use std::io::{ErrorKind, Read, Write};
@@ -88,6 +86,16 @@ fn screen(alloc: Global, lines: u16, cols: u16) -> Result<Screen<Counted<Vec<u8>
     Screen::new(alloc, lines, cols, Counted::new(Vec::new(alloc)))
 }
 
+/// Makes calls. It has no contract, so that the proof of a test needn't carry along what they do.
+fn run<W: Sink>(screen: &mut Screen<W>, calls: &[Call<'_>]) -> RunEnd {
+    screen.run(calls)
+}
+
+/// Runs a script, likewise.
+fn run_script<W: Sink, L: Sink>(screen: &mut Screen<W>, script: &[u8], log: &mut L) -> ScriptEnd {
+    screen.run_script(&mut CountedReader::new(script), log)
+}
+
 fn addstr(win: u16, text: &[u8]) -> Call<'_> {
     Call::Writing(Writing::Addstr {
         win: WinId(win),
@@ -124,14 +132,19 @@ fn a_desk_takes_the_picture_of_the_standard_screen(rt: HostRuntime) -> Result<()
 #[test]
 fn each_call_answers(rt: HostRuntime) -> Result<(), Fail> {
     let mut screen = screen(rt.alloc(), 1, 4)?;
-    assert_eq!(rt; screen.call(&addstr(0, b"hi")), Ok(Reply::Nothing));
     assert_eq!(rt;
-        screen.call(&UPDATE[0]),
-        Ok(Reply::Composed(Composed { cells: 4 }))
-    );
-    assert_eq!(rt;
-        screen.call(&UPDATE[1]),
-        Ok(Reply::Sent(Sent { bytes: 30 }))
+        [
+            screen.call(&addstr(0, b"hi")),
+            screen.call(&addstr(1, b"a\x07")),
+            screen.call(&UPDATE[0]),
+            screen.call(&UPDATE[1]),
+        ],
+        [
+            Ok(Reply::Nothing),
+            Err(Fault::Refused(Refusal::NoSuchWindow)),
+            Ok(Reply::Composed(Composed { cells: 4 })),
+            Ok(Reply::Sent(Sent { bytes: 30 })),
+        ]
     );
     assert_eq!(rt; screen.writer().get_ref().as_slice(), HI);
     assert_eq!(rt; screen.desk().wanted_cursor(), (0, 2));
@@ -139,38 +152,20 @@ fn each_call_answers(rt: HostRuntime) -> Result<(), Fail> {
 }
 
 #[test]
-fn refusals_come_in_their_order_and_write_nothing(rt: HostRuntime) -> Result<(), Fail> {
-    let mut screen = screen(rt.alloc(), 1, 4)?;
-    assert_eq!(rt;
-        screen.call(&addstr(1, b"a\x07")),
-        Err(Fault::Refused(Refusal::NoSuchWindow))
-    );
-    assert_eq!(rt;
-        screen.call(&addstr(0, b"ab\x7f")),
-        Err(Fault::Refused(Refusal::BadCharacter))
-    );
-    assert_eq!(rt; screen.writer().get_ref().len(), 0);
-    let end = screen.run(&UPDATE);
-    assert_eq!(rt; end.done, 2);
-    assert_eq!(rt;
-        screen.writer().get_ref().as_slice(),
-        b"\x1b[0m\x1b[2J\x1b[1;1H\x1b[1;1H    \x1b[1;1H".as_slice()
-    );
-    Ok(())
-}
-
-#[test]
 fn a_run_counts_its_calls(rt: HostRuntime) -> Result<(), Fail> {
     let mut screen = screen(rt.alloc(), 1, 4)?;
-    let calls = [
-        addstr(0, b"hi"),
-        addstr(9, b"x"),
-        UPDATE[0],
-        UPDATE[0],
-        UPDATE[1],
-    ];
+    let [update_panels, doupdate] = UPDATE;
     assert_eq!(rt;
-        screen.run(&calls),
+        run(
+            &mut screen,
+            &[
+                addstr(0, b"hi"),
+                addstr(9, b"x"),
+                update_panels,
+                update_panels,
+                doupdate,
+            ]
+        ),
         RunEnd {
             done: 4,
             refused: 1,
@@ -183,11 +178,24 @@ fn a_run_counts_its_calls(rt: HostRuntime) -> Result<(), Fail> {
 }
 
 #[test]
+fn sizes_past_the_limits_are_refused(rt: HostRuntime) -> Result<(), Fail> {
+    assert_eq!(rt;
+        [
+            screen(rt.alloc(), 0, 10).err(),
+            screen(rt.alloc(), 4, 1000).err(),
+            screen(rt.alloc(), 999, 999).err(),
+        ],
+        [Some(Refusal::BadSize), Some(Refusal::BadSize), None]
+    );
+    Ok(())
+}
+
+#[test]
 fn a_run_stops_at_a_fault_and_the_next_one_repairs(rt: HostRuntime) -> Result<(), Fail> {
     let mut screen = Screen::new(rt.alloc(), 1, 4, breaking_after(rt.alloc(), 5))?;
     let calls = [addstr(0, b"hi"), UPDATE[0], UPDATE[1], addstr(0, b"!")];
     assert_eq!(rt;
-        screen.run(&calls),
+        run(&mut screen, &calls),
         RunEnd {
             done: 2,
             refused: 0,
@@ -199,7 +207,7 @@ fn a_run_stops_at_a_fault_and_the_next_one_repairs(rt: HostRuntime) -> Result<()
         screen.writer().get_ref().taken.as_slice(),
         b"\x1b[0m\x1b".as_slice()
     );
-    let end = screen.run(&UPDATE);
+    let end = run(&mut screen, &UPDATE);
     assert_eq!(rt; end.done, 2);
     let taken = screen.writer().get_ref().taken.as_slice();
     assert_eq!(rt; taken.len(), 35);
@@ -211,133 +219,11 @@ fn a_run_stops_at_a_fault_and_the_next_one_repairs(rt: HostRuntime) -> Result<()
 fn another_writer_is_shown_all_again(rt: HostRuntime) -> Result<(), Fail> {
     let mut screen = screen(rt.alloc(), 1, 4)?;
     screen.call(&addstr(0, b"hi"))?;
-    screen.run(&UPDATE);
+    run(&mut screen, &UPDATE);
     let mut screen = screen.with_writer(Counted::new(Vec::new(rt.alloc())));
     assert_eq!(rt; screen.writer().get_ref().as_slice(), b"".as_slice());
-    screen.run(&UPDATE);
+    run(&mut screen, &UPDATE);
     assert_eq!(rt; screen.into_writer().into_inner().as_slice(), HI);
-    Ok(())
-}
-
-#[test]
-fn sizes_past_the_limits_are_refused(rt: HostRuntime) -> Result<(), Fail> {
-    for (lines, cols) in [(0, 10), (4, 0), (1000, 10), (4, 1000), (u16::MAX, u16::MAX)] {
-        match screen(rt.alloc(), lines, cols) {
-            Ok(_) => assert!(rt; false),
-            Err(refusal) => assert_eq!(rt; refusal, Refusal::BadSize),
-        }
-    }
-    assert!(rt; screen(rt.alloc(), 999, 999).is_ok());
-    Ok(())
-}
-
-#[test]
-fn windows_are_numbered_and_a_freed_number_is_given_again(rt: HostRuntime) -> Result<(), Fail> {
-    let mut screen = screen(rt.alloc(), 4, 10)?;
-    let newwin = Call::Making(Making::Newwin {
-        lines: 2,
-        columns: 5,
-        y: 1,
-        x: 2,
-    });
-    let subwin = Call::Making(Making::Subwin {
-        win: WinId(1),
-        lines: 1,
-        columns: 2,
-        y: 1,
-        x: 4,
-    });
-    assert_eq!(rt; screen.call(&newwin), Ok(Reply::Number(WinId(1))));
-    assert_eq!(rt; screen.call(&subwin), Ok(Reply::Number(WinId(2))));
-    assert_eq!(rt;
-        screen.call(&Call::Making(Making::Delwin { win: WinId(1) })),
-        Err(Fault::Refused(Refusal::HasDerived))
-    );
-    assert_eq!(rt;
-        screen.call(&Call::Making(Making::Delwin { win: WinId(2) })),
-        Ok(Reply::Nothing)
-    );
-    assert_eq!(rt; screen.call(&subwin), Ok(Reply::Number(WinId(2))));
-    assert_eq!(rt;
-        screen.desk().windows().table.getparyx(WinId(2)),
-        Ok((0, 2))
-    );
-    Ok(())
-}
-
-#[test]
-fn attributes_and_background_are_written(rt: HostRuntime) -> Result<(), Fail> {
-    let mut screen = screen(rt.alloc(), 1, 6)?;
-    let win = WinId(0);
-    let calls = [
-        Call::Writing(Writing::Attrset {
-            win,
-            attrs: Attr::BOLD,
-        }),
-        Call::Writing(Writing::Bkgdset {
-            win,
-            attrs: Attr::UNDERLINE,
-            ch: b'.',
-        }),
-        addstr(0, b"a b"),
-        Call::Writing(Writing::Clrtoeol { win }),
-        UPDATE[0],
-        UPDATE[1],
-        Call::Writing(Writing::Move { win, y: 0, x: 1 }),
-    ];
-    assert_eq!(rt; screen.run(&calls).done, 7);
-    assert_eq!(rt;
-        screen.writer().get_ref().as_slice(),
-        b"\x1b[0m\x1b[2J\x1b[1;1H\x1b[1;1H\x1b[0;1;4ma.b\x1b[0;4m...\x1b[0m\x1b[1;4H".as_slice()
-    );
-    let dot = Cell::new(b'.', Attr::BOLD | Attr::UNDERLINE, 0).ok_or("no cell")?;
-    let inch = Call::Query(Query::Inch { win });
-    assert_eq!(rt; screen.call(&inch), Ok(Reply::Cell(dot)));
-    let getyx = Call::Query(Query::Getyx { win });
-    assert_eq!(rt; screen.call(&getyx), Ok(Reply::Pair(0, 1)));
-    let getmaxyx = Call::Query(Query::Getmaxyx { win });
-    assert_eq!(rt; screen.call(&getmaxyx), Ok(Reply::Pair(1, 6)));
-    Ok(())
-}
-
-#[test]
-fn colours_are_shown_by_the_next_picture(rt: HostRuntime) -> Result<(), Fail> {
-    let win = WinId(0);
-    let mut screen = screen(rt.alloc(), 1, 4)?;
-    let init_pair = |foreground| {
-        Call::Refresh(Refresh::InitPair {
-            pair: 1,
-            foreground,
-            background: 4,
-        })
-    };
-    let calls = [
-        init_pair(1),
-        Call::Writing(Writing::ColorSet { win, pair: 1 }),
-        addstr(0, b"ab"),
-        UPDATE[0],
-        UPDATE[1],
-        init_pair(2),
-        UPDATE[1],
-    ];
-    assert_eq!(rt; screen.run(&calls).done, 7);
-    let red = b"\x1b[0m\x1b[2J\x1b[1;1H\x1b[1;1H\x1b[0;31;44mab\x1b[0m  \x1b[1;3H".as_slice();
-    assert_eq!(rt; screen.writer().get_ref().get(..red.len()), Some(red));
-    assert_eq!(rt; screen.writer().get_ref().get(red.len()..), Some(red));
-    assert_eq!(rt; screen.run(&UPDATE).done, 2);
-    let green = b"\x1b[0m\x1b[2J\x1b[1;1H\x1b[1;1H\x1b[0;32;44mab\x1b[0m  \x1b[1;3H".as_slice();
-    assert_eq!(rt; screen.writer().get_ref().get(2 * red.len()..), Some(green));
-    let cell = Cell::new(b' ', Attr::NONE, 0).ok_or("no cell")?;
-    let inch = Call::Query(Query::Inch { win });
-    assert_eq!(rt; screen.call(&inch), Ok(Reply::Cell(cell)));
-    for (pair, foreground, background) in [(0, 1, 1), (64, 1, 1), (1, 8, 0), (1, 0, 8)] {
-        let call = Call::Refresh(Refresh::InitPair {
-            pair,
-            foreground,
-            background,
-        });
-        assert_eq!(rt; screen.call(&call), Err(Fault::Refused(Refusal::BadPair)));
-    }
     Ok(())
 }
 
@@ -379,7 +265,7 @@ fn a_script_ends_at_the_fault_of_a_line(rt: HostRuntime) -> Result<(), Fail> {
         }
     );
     assert_eq!(rt; log.get_ref().len(), 0);
-    assert_eq!(rt; screen.run(&UPDATE).done, 2);
+    assert_eq!(rt; run(&mut screen, &UPDATE).done, 2);
     assert_eq!(rt; screen.writer().get_ref().as_slice(), HI);
     Ok(())
 }
@@ -423,7 +309,7 @@ fn a_script_ends_at_a_failed_write_and_another_repairs(rt: HostRuntime) -> Resul
     let script = b"addstr 0 hi\nupdate_panels\ndoupdate\naddstr 0 !\n".as_slice();
     let fault = WriteFault { sent: 29 };
     assert_eq!(rt;
-        screen.run_script(&mut CountedReader::new(script), &mut log),
+        run_script(&mut screen, script, &mut log),
         ScriptEnd {
             refused: false,
             fault: Some(ScriptFault::Write { line: 3, fault }),
@@ -431,7 +317,7 @@ fn a_script_ends_at_a_failed_write_and_another_repairs(rt: HostRuntime) -> Resul
     );
     assert_eq!(rt; screen.writer().get_ref().taken.as_slice(), &HI[..29]);
     let script = b"doupdate".as_slice();
-    let end = screen.run_script(&mut CountedReader::new(script), &mut log);
+    let end = run_script(&mut screen, script, &mut log);
     assert_eq!(rt; end.fault, None);
     let taken = screen.writer().get_ref().taken.as_slice();
     assert_eq!(rt; taken.len(), 59);
@@ -446,14 +332,14 @@ fn a_script_ends_where_its_log_fails(rt: HostRuntime) -> Result<(), Fail> {
     let mut log = breaking_after(rt.alloc(), 6);
     let script = b"addstr 0 hi\ngetyx 0\naddstr 0 !\n".as_slice();
     assert_eq!(rt;
-        screen.run_script(&mut CountedReader::new(script), &mut log),
+        run_script(&mut screen, script, &mut log),
         ScriptEnd {
             refused: false,
             fault: Some(ScriptFault::Log),
         }
     );
     assert_eq!(rt; log.get_ref().taken.as_slice(), b"line 2".as_slice());
-    assert_eq!(rt; screen.run(&UPDATE).done, 2);
+    assert_eq!(rt; run(&mut screen, &UPDATE).done, 2);
     assert_eq!(rt; screen.writer().get_ref().as_slice(), HI);
     Ok(())
 }

@@ -24,15 +24,6 @@ fn put(grids: &mut Grids, win: WinId, y: u16, x: u16, cell: Cell) -> Result<(), 
     Ok(())
 }
 
-/// The cell at a place of a window.
-fn cell(grids: &Grids, win: WinId, y: u16, x: u16) -> Result<Cell, Fail> {
-    let (lines, columns) = grids.getmaxyx(win)?;
-    if lines <= y || columns <= x {
-        return Err("no such place".into());
-    }
-    Ok(grids.cell(win, y, x))
-}
-
 /// Copies some cells of a line of the standard screen to a place of it.
 fn copy(
     grids: &mut Grids,
@@ -94,154 +85,6 @@ fn screen_size_is_limited(rt: HostRuntime) -> Result<(), Fail> {
 }
 
 #[test]
-fn windows_derive_at_three_depths(rt: HostRuntime) -> Result<(), Fail> {
-    let mut grids = Grids::new(rt.alloc(), 4, 10)?;
-    assert_eq!(rt; grids.newwin(3, 6, 0, 2), Ok(WinId(1)));
-    assert_eq!(rt; grids.derwin(WinId(1), 2, 4, 1, 1), Ok(WinId(2)));
-    assert_eq!(rt; grids.derwin(WinId(2), 1, 2, 1, 1), Ok(WinId(3)));
-    assert_eq!(rt; grids.getbegyx(WinId(3)), Ok((2, 4)));
-    assert_eq!(rt; grids.mvwin(WinId(1), 1, 3), Ok(()));
-    assert_eq!(rt; grids.getbegyx(WinId(2)), Ok((1, 3)));
-    assert_eq!(rt;
-        grids.subwin(WinId(1), 1, 1, 0, 3),
-        Err(Refusal::OutsideParent)
-    );
-    assert_eq!(rt; grids.subwin(WinId(1), 1, 1, 1, 3), Ok(WinId(4)));
-    assert_eq!(rt; grids.getparyx(WinId(4)), Ok((0, 0)));
-    assert_eq!(rt; grids.getparyx(WinId(1)), Err(Refusal::NotDerived));
-    Ok(())
-}
-
-#[test]
-fn derived_window_follows_its_parent(rt: HostRuntime) -> Result<(), Fail> {
-    let mut grids = Grids::new(rt.alloc(), 4, 10)?;
-    let first = grids.newwin(3, 6, 0, 2)?;
-    let second = grids.derwin(first, 2, 4, 1, 1)?;
-    let third = grids.derwin(second, 1, 2, 1, 1)?;
-    assert_eq!(rt; grids.mvderwin(first, 0, 0), Err(Refusal::NotDerived));
-    assert_eq!(rt; grids.mvderwin(second, 2, 0), Err(Refusal::OutsideParent));
-    assert_eq!(rt; grids.mvderwin(second, 1, 2), Ok(()));
-    write(&mut grids, first, 2, 3, "Q")?;
-    assert!(rt; shows(&grids, third, 0, "Q ")?);
-    Ok(())
-}
-
-#[test]
-fn moved_part_shows_other_cells(rt: HostRuntime) -> Result<(), Fail> {
-    let mut grids = Grids::new(rt.alloc(), 4, 10)?;
-    let first = grids.newwin(1, 6, 0, 0)?;
-    write(&mut grids, first, 0, 0, "abcdef")?;
-    let second = grids.derwin(first, 1, 4, 0, 0)?;
-    let third = grids.derwin(second, 1, 2, 0, 1)?;
-    assert!(rt; shows(&grids, third, 0, "bc")?);
-    assert_eq!(rt; grids.mvderwin(second, 0, 1), Ok(()));
-    assert!(rt; shows(&grids, third, 0, "cd")?);
-    Ok(())
-}
-
-#[test]
-fn pads_lie_nowhere(rt: HostRuntime) -> Result<(), Fail> {
-    let mut grids = Grids::new(rt.alloc(), 4, 10)?;
-    let window = grids.newwin(3, 6, 0, 2)?;
-    let pad = grids.newpad(6, 20)?;
-    let part = grids.subpad(pad, 2, 3, 4, 17)?;
-    assert_eq!(rt; part, WinId(3));
-    assert_eq!(rt; grids.subpad(pad, 2, 3, 5, 17), Err(Refusal::OutsideParent));
-    assert_eq!(rt; grids.getbegyx(part), Err(Refusal::IsPad));
-    assert_eq!(rt; grids.mvwin(pad, 0, 0), Err(Refusal::IsPad));
-    assert_eq!(rt; grids.subpad(window, 1, 1, 0, 0), Err(Refusal::NotPad));
-    assert_eq!(rt; grids.derwin(pad, 1, 1, 0, 0), Err(Refusal::IsPad));
-    assert_eq!(rt; grids.newpad(0, 5), Err(Refusal::BadSize));
-    assert_eq!(rt; grids.newpad(1001, 1), Err(Refusal::BadSize));
-    Ok(())
-}
-
-#[test]
-fn window_stays_where_it_was_when_it_would_leave_the_screen(rt: HostRuntime) -> Result<(), Fail> {
-    let mut grids = Grids::new(rt.alloc(), 4, 10)?;
-    let window = grids.newwin(2, 5, 0, 0)?;
-    assert_eq!(rt; grids.mvwin(window, 3, 6), Err(Refusal::OffScreen));
-    assert_eq!(rt; grids.getbegyx(window), Ok((0, 0)));
-    assert_eq!(rt; grids.mvwin(WinId(0), 0, 0), Err(Refusal::StandardScreen));
-    assert_eq!(rt; grids.newwin(2, 5, 3, 0), Err(Refusal::OffScreen));
-    Ok(())
-}
-
-#[test]
-fn window_is_deleted_after_those_that_derive_from_it(rt: HostRuntime) -> Result<(), Fail> {
-    let mut grids = Grids::new(rt.alloc(), 4, 10)?;
-    let window = grids.newwin(2, 5, 0, 0)?;
-    let part = grids.derwin(window, 1, 1, 0, 0)?;
-    assert_eq!(rt; grids.delwin(window), Err(Refusal::HasDerived));
-    assert_eq!(rt; grids.delwin(part), Ok(()));
-    assert_eq!(rt; grids.delwin(window), Ok(()));
-    assert!(rt; !grids.has_window(window));
-    assert_eq!(rt; grids.delwin(WinId(0)), Err(Refusal::StandardScreen));
-    assert_eq!(rt; grids.newwin(1, 1, 0, 0), Ok(WinId(1)));
-    Ok(())
-}
-
-#[test]
-fn size_of_zero_reaches_to_the_edge(rt: HostRuntime) -> Result<(), Fail> {
-    let mut grids = Grids::new(rt.alloc(), 4, 10)?;
-    let window = grids.newwin(0, 0, 1, 2)?;
-    assert_eq!(rt; grids.getmaxyx(window), Ok((3, 8)));
-    let part = grids.derwin(window, 0, 0, 1, 3)?;
-    assert_eq!(rt; grids.getmaxyx(part), Ok((2, 5)));
-    assert_eq!(rt; grids.newwin(0, 0, 4, 0), Err(Refusal::OffScreen));
-    Ok(())
-}
-
-#[test]
-fn table_holds_a_thousand_windows(rt: HostRuntime) -> Result<(), Fail> {
-    let mut grids = Grids::new(rt.alloc(), 1, 1)?;
-    for n in 1..1001u16 {
-        assert_eq!(rt; grids.newwin(1, 1, 0, 0), Ok(WinId(n)));
-    }
-    assert_eq!(rt; grids.newwin(1, 1, 0, 0), Err(Refusal::TooMany));
-    assert_eq!(rt; grids.delwin(WinId(500)), Ok(()));
-    assert_eq!(rt; grids.newpad(1, 1), Ok(WinId(500)));
-    Ok(())
-}
-
-#[test]
-fn filled_columns_have_the_cell(rt: HostRuntime) -> Result<(), Fail> {
-    let mut grids = Grids::new(rt.alloc(), 4, 10)?;
-    let screen = WinId(0);
-    let star = Cell::new(b'*', Attr::BOLD, 5).ok_or("no cell")?;
-    let (lines, columns) = grids.getmaxyx(screen)?;
-    if lines <= 2 || columns <= 3 {
-        return Err("no such place".into());
-    }
-    grids.fill(screen, 2, 1, 3, star);
-    assert!(rt; shows(&grids, screen, 2, " ***      ")?);
-    assert_eq!(rt; cell(&grids, screen, 2, 1)?, star);
-    assert_eq!(rt; cell(&grids, screen, 2, 4)?, Cell::BLANK);
-    Ok(())
-}
-
-#[test]
-fn overlapping_copy_reads_before_it_writes(rt: HostRuntime) -> Result<(), Fail> {
-    let mut grids = Grids::new(rt.alloc(), 4, 10)?;
-    write(&mut grids, WinId(0), 0, 0, "abcdef")?;
-    copy(&mut grids, (0, 0), (0, 2), 4, false)?;
-    assert!(rt; shows(&grids, WinId(0), 0, "ababcd ")?);
-    copy(&mut grids, (0, 1), (0, 0), 5, false)?;
-    assert!(rt; shows(&grids, WinId(0), 0, "babcdd ")?);
-    Ok(())
-}
-
-#[test]
-fn overlay_leaves_out_spaces(rt: HostRuntime) -> Result<(), Fail> {
-    let mut grids = Grids::new(rt.alloc(), 4, 10)?;
-    write(&mut grids, WinId(0), 0, 0, "a b")?;
-    write(&mut grids, WinId(0), 1, 0, "xyz")?;
-    copy(&mut grids, (0, 0), (1, 0), 3, true)?;
-    assert!(rt; shows(&grids, WinId(0), 1, "ayb")?);
-    Ok(())
-}
-
-#[test]
 fn settings_are_kept(rt: HostRuntime) -> Result<(), Fail> {
     let mut grids = Grids::new(rt.alloc(), 4, 10)?;
     let settings = Settings {
@@ -260,35 +103,121 @@ fn settings_are_kept(rt: HostRuntime) -> Result<(), Fail> {
 }
 
 #[test]
-fn writing_touches_the_window_that_it_goes_through(rt: HostRuntime) -> Result<(), Fail> {
+fn windows_derive_and_are_moved(rt: HostRuntime) -> Result<(), Fail> {
     let mut grids = Grids::new(rt.alloc(), 4, 10)?;
-    let window = grids.newwin(2, 5, 0, 0)?;
-    let part = grids.derwin(window, 1, 2, 1, 2)?;
-    write(&mut grids, part, 0, 1, "x")?;
-    assert_eq!(rt; touched(&grids, part, 0)?, Some((1, 1)));
-    assert_eq!(rt; touched(&grids, window, 1)?, None);
-    write(&mut grids, part, 0, 0, "y")?;
-    assert_eq!(rt; touched(&grids, part, 0)?, Some((0, 1)));
+    assert_eq!(rt;
+        [
+            grids.newwin(3, 6, 0, 2),
+            grids.derwin(WinId(1), 2, 4, 1, 1),
+            grids.subwin(WinId(2), 1, 2, 2, 4),
+            grids.newpad(6, 20),
+            grids.subpad(WinId(4), 2, 3, 4, 17),
+        ],
+        [
+            Ok(WinId(1)),
+            Ok(WinId(2)),
+            Ok(WinId(3)),
+            Ok(WinId(4)),
+            Ok(WinId(5)),
+        ]
+    );
+    assert_eq!(rt;
+        [grids.getbegyx(WinId(3)), grids.getparyx(WinId(3))],
+        [Ok((2, 4)), Ok((1, 1))]
+    );
+    write(&mut grids, WinId(1), 2, 3, "Q")?;
+    assert!(rt; shows(&grids, WinId(3), 0, " Q")?);
+    assert_eq!(rt;
+        [
+            grids.mvderwin(WinId(2), 1, 2),
+            grids.mvwin(WinId(1), 1, 3),
+            grids.delwin(WinId(5)),
+        ],
+        [Ok(()), Ok(()), Ok(())]
+    );
+    assert!(rt; shows(&grids, WinId(2), 1, " Q")?);
+    assert_eq!(rt; grids.getbegyx(WinId(3)), Ok((2, 4)));
+    assert!(rt; grids.has_window(WinId(4)) && !grids.has_window(WinId(5)));
     Ok(())
 }
 
 #[test]
-fn unmarked_window_is_untouched_and_asks_for_no_clear_screen(rt: HostRuntime) -> Result<(), Fail> {
-    let mut grids = Grids::new(rt.alloc(), 2, 3)?;
-    let screen = WinId(0);
-    write(&mut grids, screen, 1, 0, "ab")?;
-    if !grids.has_window(screen) {
-        return Err("no standard screen".into());
+fn refused_calls_change_nothing(rt: HostRuntime) -> Result<(), Fail> {
+    let mut grids = Grids::new(rt.alloc(), 4, 10)?;
+    let window = grids.newwin(3, 6, 0, 2)?;
+    let part = grids.derwin(window, 2, 4, 1, 1)?;
+    assert_eq!(rt;
+        [
+            grids.newwin(2, 5, 3, 0),
+            grids.derwin(window, 1, 1, 3, 0),
+            grids.subpad(window, 1, 1, 0, 0),
+            grids.newpad(1001, 1),
+        ],
+        [
+            Err(Refusal::OffScreen),
+            Err(Refusal::OutsideParent),
+            Err(Refusal::NotPad),
+            Err(Refusal::BadSize),
+        ]
+    );
+    assert_eq!(rt;
+        [
+            grids.mvwin(WinId(0), 0, 0),
+            grids.mvwin(window, 2, 0),
+            grids.mvderwin(window, 0, 0),
+            grids.delwin(window),
+        ],
+        [
+            Err(Refusal::StandardScreen),
+            Err(Refusal::OffScreen),
+            Err(Refusal::NotDerived),
+            Err(Refusal::HasDerived),
+        ]
+    );
+    assert_eq!(rt; grids.getbegyx(part), Ok((1, 3)));
+    Ok(())
+}
+
+#[test]
+fn table_holds_a_thousand_windows(rt: HostRuntime) -> Result<(), Fail> {
+    let mut grids = Grids::new(rt.alloc(), 1, 1)?;
+    for n in 1..1001u16 {
+        if grids.newwin(1, 1, 0, 0)? != WinId(n) {
+            return Err("another number".into());
+        }
     }
-    let settings = Settings {
-        clear: true,
-        ..grids.settings(screen)
-    };
-    grids.set_settings(screen, settings);
-    assert_eq!(rt; touched(&grids, screen, 1)?, Some((0, 1)));
-    grids.unmark(screen);
-    assert_eq!(rt; touched(&grids, screen, 1)?, None);
-    assert!(rt; !grids.settings(screen).clear);
-    assert!(rt; shows(&grids, screen, 1, "ab ")?);
+    assert_eq!(rt; grids.newwin(1, 1, 0, 0), Err(Refusal::TooMany));
+    assert_eq!(rt; grids.delwin(WinId(500)), Ok(()));
+    assert_eq!(rt; grids.newpad(1, 1), Ok(WinId(500)));
+    Ok(())
+}
+
+#[test]
+fn overlapping_copy_reads_before_it_writes(rt: HostRuntime) -> Result<(), Fail> {
+    let mut grids = Grids::new(rt.alloc(), 4, 10)?;
+    write(&mut grids, WinId(0), 0, 0, "ab def")?;
+    copy(&mut grids, (0, 0), (0, 2), 4, false)?;
+    assert!(rt; shows(&grids, WinId(0), 0, "abab d ")?);
+    copy(&mut grids, (0, 3), (0, 2), 4, true)?;
+    assert!(rt; shows(&grids, WinId(0), 0, "abbbdd ")?);
+    Ok(())
+}
+
+#[test]
+fn writing_touches_the_window_that_it_goes_through(rt: HostRuntime) -> Result<(), Fail> {
+    let mut grids = Grids::new(rt.alloc(), 4, 10)?;
+    let window = grids.newwin(2, 5, 0, 0)?;
+    let part = grids.derwin(window, 1, 2, 1, 2)?;
+    write(&mut grids, part, 0, 0, "xy")?;
+    assert_eq!(rt;
+        (touched(&grids, part, 0)?, touched(&grids, window, 1)?),
+        (Some((0, 1)), None)
+    );
+    if !grids.has_window(part) {
+        return Err("no window".into());
+    }
+    grids.unmark(part);
+    assert_eq!(rt; touched(&grids, part, 0)?, None);
+    assert!(rt; shows(&grids, window, 1, "  xy ")?);
     Ok(())
 }
