@@ -1,6 +1,7 @@
 //! Does what the command line asks for, over any reader and writers.
 
 ghost use Rattle.std.specs.Prelude.{◌≡◌, ◌<◌, ◌⊎◌, IfOk, None, Some, map};
+ghost use Rattle.cell.specs.Refusals.{RefusedBy};
 ghost use Rattle.cell.specs.Shown.{no_rendition};
 ghost use Rattle.clap.specs.Words.{kind_of};
 ghost use Rattle.curspan.specs.CommandLine.{IsSize};
@@ -11,6 +12,7 @@ ghost use Rattle.desk.specs.Desks.{world};
 ghost use Rattle.desk.specs.States.{after, state_of};
 ghost use Rattle.paint.specs.Updates.{first_painter};
 ghost use Rattle.world.specs.World.{first_world};
+ghost use Rattle.world.specs.calls.Making.{new_refusal};
 
 use crate::asked::{Job, Kind};
 use crate::command::job;
@@ -63,6 +65,7 @@ fn blank_screen(alloc: Global, job: Job) -> Result<Screen<Discard>, Refusal>
     ensures world { IfOk result (λ screen. world screen.desk ≡ first_world job.lines job.cols) }
     ensures painter { IfOk result (λ screen. screen.painter ≡ first_painter job.lines job.cols) }
     ensures writer { IfOk result (λ screen. ⟦<Discard as Sink>⟧.seen screen.writer ≡ nothing_seen) }
+    ensures refused { RefusedBy (new_refusal job.lines job.cols) result }
 {
     Screen::new(alloc, job.lines, job.cols, Discard::new())
 }
