@@ -7,10 +7,12 @@ use Rattle.world.specs.Settings.{set, with_cursor}
 use Rattle.world.specs.World.{World}
 use Rattle.world.specs.Drawings.{at_place, to_end_of_line, written_glyph}
 use Rattle.world.specs.calls.writing.Characters.{after_addch, after_addstr, drawn_to, region_up, is_last_line, newline, carriage_return, backspace, character_printed, line_ended, to_next_line, scrolls, typed_in}
-use Rattle.world.specs.calls.Dispatch.{after_making, after_writing, world_after}
+use Rattle.world.specs.calls.Dispatch.{after_making, after_copying, after_writing, world_after}
 use Rattle.world.specs.declared.call.Call.{Call}
 use Rattle.world.specs.declared.call.Call.TheVariants as calls
 use Rattle.world.specs.declared.call.Making.{Making}
+use Rattle.world.specs.declared.call.Copying.{Copying}
+use Rattle.world.specs.declared.call.Copying.TheVariants.{Overlay, Overwrite, Copywin, Touchwin, Untouchwin, Touchline, Touchln, Syncup, Syncdown, IsLinetouched, IsWintouched}
 use Rattle.world.specs.declared.call.Making.TheVariants.{Newwin, Subwin, Derwin, Newpad, Subpad, Delwin, Mvwin, Mvderwin}
 use Rattle.world.specs.declared.call.Writing.{Writing}
 use Rattle.world.specs.declared.call.Writing.TheVariants.{Move, Addch, Addstr, Insch, Delch, Insertln, Deleteln, Erase, Clrtoeol, Clrtobot, Scrl, Setscrreg, Scrollok, Attrset, Attron, Attroff, Bkgdset, ColorSet, Bkgdpair}
@@ -103,9 +105,23 @@ size-writing windows (Bkgdset win attributes character) = record { lines = refl;
 size-writing windows (ColorSet win pair) = record { lines = refl; columns = refl }
 size-writing windows (Bkgdpair win pair) = record { lines = refl; columns = refl }
 
+pub size-copying : (windows : Windows) (copying : Copying) → SameSize (after_copying windows copying) windows
+size-copying windows (Overlay src dst) = record { lines = refl; columns = refl }
+size-copying windows (Overwrite src dst) = record { lines = refl; columns = refl }
+size-copying windows (Copywin src dst sminrow smincol dminrow dmincol dmaxrow dmaxcol overlay) = record { lines = refl; columns = refl }
+size-copying windows (Touchwin win) = record { lines = refl; columns = refl }
+size-copying windows (Untouchwin win) = record { lines = refl; columns = refl }
+size-copying windows (Touchline win y n) = record { lines = refl; columns = refl }
+size-copying windows (Touchln win y n flag) = record { lines = refl; columns = refl }
+size-copying windows (Syncup win) = record { lines = refl; columns = refl }
+size-copying windows (Syncdown win) = record { lines = refl; columns = refl }
+size-copying windows (IsLinetouched win y) = record { lines = refl; columns = refl }
+size-copying windows (IsWintouched win) = record { lines = refl; columns = refl }
+
 pub size-call : (world : World) (call : Call) → SameSize (world_after world call).windows world.windows
 size-call world (calls.Making making) = size-making world.windows making
 size-call world (calls.Writing writing) = size-writing world.windows writing
+size-call world (calls.Copying copying) = size-copying world.windows copying
 size-call world (calls.Query query) = record { lines = refl; columns = refl }
 size-call world (calls.Refresh UpdatePanels) = record { lines = refl; columns = refl }
 size-call world (calls.Refresh Doupdate) = record { lines = refl; columns = refl }

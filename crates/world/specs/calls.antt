@@ -1,6 +1,8 @@
 pub mod Missing
 pub mod Making
 pub mod writing
+pub mod Copies
+pub mod Marks
 pub mod Queries
 pub mod Refresh
 pub mod Dispatch

@@ -8,6 +8,7 @@ use streams::Sent;
 pub enum Call<'a> {
     Making(Making),
     Writing(Writing<'a>),
+    Copying(Copying),
     Query(Query),
     Refresh(Refresh),
 }
@@ -112,6 +113,44 @@ pub enum Writing<'a> {
     Bkgdpair { win: WinId, pair: u16 },
 }
 
+/// The calls that copy cells from window to window, and those on what is touched of a window.
+#[derive(Clone, Copy, Debug)]
+pub enum Copying {
+    /// Copies the cells that aren't spaces, where both windows cover the screen.
+    Overlay { src: WinId, dst: WinId },
+    /// Copies all cells, where both windows cover the screen.
+    Overwrite { src: WinId, dst: WinId },
+    /// Copies the cells from a line and a column of the source on to a rectangle, both ends inclusive; with the flag, all but
+    /// the spaces.
+    Copywin {
+        src: WinId,
+        dst: WinId,
+        sminrow: u16,
+        smincol: u16,
+        dminrow: u16,
+        dmincol: u16,
+        dmaxrow: u16,
+        dmaxcol: u16,
+        overlay: bool,
+    },
+    /// Touches all lines.
+    Touchwin { win: WinId },
+    /// Takes all touches away.
+    Untouchwin { win: WinId },
+    /// Touches lines, from one on.
+    Touchline { win: WinId, y: u16, n: u16 },
+    /// Touches lines, from one on, or takes their touches away.
+    Touchln { win: WinId, y: u16, n: u16, flag: bool },
+    /// Touches in each ancestor what is touched of the window.
+    Syncup { win: WinId },
+    /// Touches what is touched of some ancestor.
+    Syncdown { win: WinId },
+    /// Whether a line is touched.
+    IsLinetouched { win: WinId, y: u16 },
+    /// Whether some line is touched.
+    IsWintouched { win: WinId },
+}
+
 /// The calls that ask about a window or pad.
 #[derive(Clone, Copy, Debug)]
 pub enum Query {
@@ -157,6 +196,8 @@ pub enum Reply {
     /// A line and a column, or a number of lines and one of columns.
     Pair(u16, u16),
     Cell(Cell),
+    /// Whether it is so.
+    Flag(bool),
     Composed(Composed),
     Sent(Sent),
 }

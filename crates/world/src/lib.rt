@@ -6,7 +6,7 @@ mod call;
 pub mod laws;
 mod settings;
 
-pub use call::{Call, Composed, Making, Query, Refresh, Reply, Writing};
+pub use call::{Call, Composed, Copying, Making, Query, Refresh, Reply, Writing};
 pub use cell::{Attr, Cell, Frame, Refusal, WinId};
 pub use settings::{Columns, Settings};
 pub use streams::Sent;

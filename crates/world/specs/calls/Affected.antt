@@ -9,11 +9,14 @@ use Rattle.world.specs.World.{World}
 use Rattle.world.specs.Sharing.{shows_part_of}
 use Rattle.world.specs.calls.writing.Characters.{addch_frame, addstr_frame, delch_frame, insch_frame}
 use Rattle.world.specs.calls.writing.Editing.{clrtobot_frame, clrtoeol_frame, deleteln_frame, erase_frame, insertln_frame, scrl_frame}
+use Rattle.world.specs.calls.Copies.{overlay_frame, copywin_frame}
 use Rattle.world.specs.calls.Refresh.{composed_windows}
 use Rattle.world.specs.calls.Dispatch.{is_update_panels, refusal, world_after}
 use Rattle.cell.specs.declared.window.Frame.{Frame}
 use Rattle.world.specs.declared.call.Call.{Call}
 use Rattle.world.specs.declared.call.Call.TheVariants as calls
+use Rattle.world.specs.declared.call.Copying.{Copying}
+use Rattle.world.specs.declared.call.Copying.TheVariants.{Overlay, Overwrite, Copywin, Touchwin, Untouchwin, Touchline, Touchln, Syncup, Syncdown, IsLinetouched, IsWintouched}
 use Rattle.world.specs.declared.call.Making.{Making}
 use Rattle.world.specs.declared.call.Making.TheVariants.{Newwin, Subwin, Derwin, Newpad, Subpad, Delwin, Mvwin, Mvderwin}
 use Rattle.world.specs.declared.call.Refresh.{Refresh}
@@ -65,9 +68,38 @@ writing_frame windows (Bkgdset win attributes character) = None
 writing_frame windows (ColorSet win pair) = None
 writing_frame windows (Bkgdpair win pair) = None
 
+-- of a copy the window is its destination
+abbrev pub copied_window : Copying → ℕ
+copied_window (Overlay src dst) = dst.0
+copied_window (Overwrite src dst) = dst.0
+copied_window (Copywin src dst sminrow smincol dminrow dmincol dmaxrow dmaxcol overlay) = dst.0
+copied_window (Touchwin win) = win.0
+copied_window (Untouchwin win) = win.0
+copied_window (Touchline win y n) = win.0
+copied_window (Touchln win y n flag) = win.0
+copied_window (Syncup win) = win.0
+copied_window (Syncdown win) = win.0
+copied_window (IsLinetouched win y) = win.0
+copied_window (IsWintouched win) = win.0
+
+abbrev pub copying_frame : Windows → Copying → Option Frame
+copying_frame windows (Overlay src dst) = overlay_frame windows src.0 dst.0 true
+copying_frame windows (Overwrite src dst) = overlay_frame windows src.0 dst.0 false
+copying_frame windows (Copywin src dst sminrow smincol dminrow dmincol dmaxrow dmaxcol overlay) =
+    copywin_frame windows src.0 dst.0 sminrow smincol dminrow dmincol dmaxrow dmaxcol overlay
+copying_frame windows (Touchwin win) = None
+copying_frame windows (Untouchwin win) = None
+copying_frame windows (Touchline win y n) = None
+copying_frame windows (Touchln win y n flag) = None
+copying_frame windows (Syncup win) = None
+copying_frame windows (Syncdown win) = None
+copying_frame windows (IsLinetouched win y) = None
+copying_frame windows (IsWintouched win) = None
+
 abbrev pub call_frame : World → Call → Option Frame
 call_frame world (calls.Making making) = None
 call_frame world (calls.Writing writing) = writing_frame world.windows writing
+call_frame world (calls.Copying copying) = copying_frame world.windows copying
 call_frame world (calls.Query query) = None
 call_frame world (calls.Refresh refresh) = None
 
@@ -114,6 +146,7 @@ refresh_affects (InitPair pair foreground background) line = true
 abbrev pub accepted_affects : World → Call → ℕ → Bool
 accepted_affects world (calls.Making making) line = making_affects world making line
 accepted_affects world (calls.Writing writing) line = frame_affects world (written_window writing) (writing_frame world.windows writing) line
+accepted_affects world (calls.Copying copying) line = frame_affects world (copied_window copying) (copying_frame world.windows copying) line
 accepted_affects world (calls.Query query) line = false
 accepted_affects world (calls.Refresh refresh) line = refresh_affects refresh line
 

@@ -1,5 +1,5 @@
 -- Each call: when it is refused, what it answers, and what it changes. A line for each.
--- X/Open Curses Issue 7: newwin to mvderwin, addch to bkgdset, getyx to inch, doupdate. NetBSD panel(3): update_panels.
+-- X/Open Curses Issue 7: newwin to mvderwin, addch to bkgdset, overlay to is_wintouched, getyx to inch, doupdate. NetBSD panel(3): update_panels.
 use Rattle.std.specs.Prelude.{ℕ, Option, None, Bool, true, false, unwrap_or, if◌then◌else◌}
 use Rattle.std.specs.Option.{option_map_or}
 use Rattle.cell.specs.Attributes.{bits_of}
@@ -12,6 +12,8 @@ use Rattle.world.specs.calls.writing.Characters.{addch_refusal, after_addch, add
 use Rattle.world.specs.calls.Missing.{missing_refusal}
 use Rattle.world.specs.calls.writing.Editing.{after_insertln, after_deleteln, after_erase, after_clrtoeol, after_clrtobot, scrl_refusal, after_scrl}
 use Rattle.world.specs.calls.writing.Options.{move_refusal, after_move, setscrreg_refusal, after_setscrreg, after_scrollok, after_attrset, after_attron, after_attroff, bkgdset_refusal, after_bkgdset, pair_refusal, after_color_set, after_bkgdpair}
+use Rattle.world.specs.calls.Copies.{overlay_refusal, after_overlay, copywin_refusal, after_copywin}
+use Rattle.world.specs.calls.Marks.{touchln_refusal, after_touchln, after_touchwin, after_syncup, after_syncdown, is_linetouched_refusal, is_linetouched, is_wintouched}
 use Rattle.world.specs.calls.Queries.{cell_at_cursor}
 use Rattle.world.specs.calls.Queries.{cursor_of, getbegyx_refusal, place_on_screen, window_size, getparyx_refusal, offset_in_parent}
 use Rattle.world.specs.calls.Refresh.{after_update_panels, after_doupdate, init_pair_refusal, after_init_pair}
@@ -22,12 +24,14 @@ use Rattle.world.specs.declared.call.Making.{Making}
 use Rattle.world.specs.declared.call.Making.TheVariants.{Newwin, Subwin, Derwin, Newpad, Subpad, Delwin, Mvwin, Mvderwin}
 use Rattle.world.specs.declared.call.Writing.{Writing}
 use Rattle.world.specs.declared.call.Writing.TheVariants.{Move, Addch, Addstr, Insch, Delch, Insertln, Deleteln, Erase, Clrtoeol, Clrtobot, Scrl, Setscrreg, Scrollok, Attrset, Attron, Attroff, Bkgdset, ColorSet, Bkgdpair}
+use Rattle.world.specs.declared.call.Copying.{Copying}
+use Rattle.world.specs.declared.call.Copying.TheVariants.{Overlay, Overwrite, Copywin, Touchwin, Untouchwin, Touchline, Touchln, Syncup, Syncdown, IsLinetouched, IsWintouched}
 use Rattle.world.specs.declared.call.Query.{Query}
 use Rattle.world.specs.declared.call.Query.TheVariants.{Getyx, Getbegyx, Getmaxyx, Getparyx, Inch}
 use Rattle.world.specs.declared.call.Refresh.{Refresh}
 use Rattle.world.specs.declared.call.Refresh.TheVariants.{UpdatePanels, Doupdate, InitPair}
 use Rattle.world.specs.declared.call.Reply.{Reply}
-use Rattle.world.specs.declared.call.Reply.TheVariants.{Nothing, Number, Pair, Cell}
+use Rattle.world.specs.declared.call.Reply.TheVariants.{Nothing, Number, Pair, Cell, Flag}
 
 -- ---- refusals: the first of a call's tests that holds
 
@@ -63,6 +67,20 @@ writing_refusal windows (Bkgdset win attributes character) = bkgdset_refusal win
 writing_refusal windows (ColorSet win pair) = pair_refusal windows win.0 pair
 writing_refusal windows (Bkgdpair win pair) = pair_refusal windows win.0 pair
 
+abbrev pub copying_refusal : Windows → Copying → Option Refusal
+copying_refusal windows (Overlay src dst) = overlay_refusal windows src.0 dst.0
+copying_refusal windows (Overwrite src dst) = overlay_refusal windows src.0 dst.0
+copying_refusal windows (Copywin src dst sminrow smincol dminrow dmincol dmaxrow dmaxcol overlay) =
+    copywin_refusal windows src.0 dst.0 sminrow smincol dminrow dmincol dmaxrow dmaxcol
+copying_refusal windows (Touchwin win) = missing_refusal windows.window win.0
+copying_refusal windows (Untouchwin win) = missing_refusal windows.window win.0
+copying_refusal windows (Touchline win y n) = touchln_refusal windows win.0 y n
+copying_refusal windows (Touchln win y n flag) = touchln_refusal windows win.0 y n
+copying_refusal windows (Syncup win) = missing_refusal windows.window win.0
+copying_refusal windows (Syncdown win) = missing_refusal windows.window win.0
+copying_refusal windows (IsLinetouched win y) = is_linetouched_refusal windows win.0 y
+copying_refusal windows (IsWintouched win) = missing_refusal windows.window win.0
+
 abbrev pub query_refusal : Windows → Query → Option Refusal
 query_refusal windows (Getyx win) = missing_refusal windows.window win.0
 query_refusal windows (Getbegyx win) = getbegyx_refusal windows.window win.0
@@ -78,6 +96,7 @@ refresh_refusal (InitPair pair foreground background) = init_pair_refusal pair f
 abbrev pub refusal : World → Call → Option Refusal
 refusal world (calls.Making making) = making_refusal world.windows (is_in_panel world.panels) making
 refusal world (calls.Writing writing) = writing_refusal world.windows writing
+refusal world (calls.Copying copying) = copying_refusal world.windows copying
 refusal world (calls.Query query) = query_refusal world.windows query
 refusal world (calls.Refresh refresh) = refresh_refusal refresh
 
@@ -95,6 +114,7 @@ makes_window (Mvderwin win y x) = false
 abbrev pub takes_memory : Call → Bool
 takes_memory (calls.Making making) = makes_window making
 takes_memory (calls.Writing writing) = false
+takes_memory (calls.Copying copying) = false
 takes_memory (calls.Query query) = false
 takes_memory (calls.Refresh refresh) = false
 
@@ -135,10 +155,25 @@ after_writing windows (Bkgdset win attributes character) = after_bkgdset windows
 after_writing windows (ColorSet win pair) = after_color_set windows win.0 pair
 after_writing windows (Bkgdpair win pair) = after_bkgdpair windows win.0 pair
 
+abbrev pub after_copying : Windows → Copying → Windows
+after_copying windows (Overlay src dst) = after_overlay windows src.0 dst.0 true
+after_copying windows (Overwrite src dst) = after_overlay windows src.0 dst.0 false
+after_copying windows (Copywin src dst sminrow smincol dminrow dmincol dmaxrow dmaxcol overlay) =
+    after_copywin windows src.0 dst.0 sminrow smincol dminrow dmincol dmaxrow dmaxcol overlay
+after_copying windows (Touchwin win) = after_touchwin windows win.0 true
+after_copying windows (Untouchwin win) = after_touchwin windows win.0 false
+after_copying windows (Touchline win y n) = after_touchln windows win.0 y n true
+after_copying windows (Touchln win y n flag) = after_touchln windows win.0 y n flag
+after_copying windows (Syncup win) = after_syncup windows win.0
+after_copying windows (Syncdown win) = after_syncdown windows win.0
+after_copying windows (IsLinetouched win y) = windows
+after_copying windows (IsWintouched win) = windows
+
 -- the world after a call that was accepted
 abbrev pub world_after : World → Call → World
 world_after world (calls.Making making) = record world { windows = after_making world.windows making }
 world_after world (calls.Writing writing) = record world { windows = after_writing world.windows writing }
+world_after world (calls.Copying copying) = record world { windows = after_copying world.windows copying }
 world_after world (calls.Query query) = world
 world_after world (calls.Refresh UpdatePanels) = after_update_panels world
 world_after world (calls.Refresh Doupdate) = after_doupdate world
@@ -156,6 +191,19 @@ query_reply windows (Getmaxyx win) = pair (window_size windows.window win.0)
 query_reply windows (Getparyx win) = pair (offset_in_parent windows.window win.0)
 query_reply windows (Inch win) = option_map_or (λ shown. Cell shown) (cell_at_cursor windows.window win.0) Nothing
 
+abbrev pub copying_reply : Windows → Copying → Reply
+copying_reply windows (Overlay src dst) = Nothing
+copying_reply windows (Overwrite src dst) = Nothing
+copying_reply windows (Copywin src dst sminrow smincol dminrow dmincol dmaxrow dmaxcol overlay) = Nothing
+copying_reply windows (Touchwin win) = Nothing
+copying_reply windows (Untouchwin win) = Nothing
+copying_reply windows (Touchline win y n) = Nothing
+copying_reply windows (Touchln win y n flag) = Nothing
+copying_reply windows (Syncup win) = Nothing
+copying_reply windows (Syncdown win) = Nothing
+copying_reply windows (IsLinetouched win y) = Flag (is_linetouched windows.window win.0 y)
+copying_reply windows (IsWintouched win) = Flag (is_wintouched windows.window win.0)
+
 -- a new window answers its number
 abbrev pub making_reply : Windows → Making → Reply
 making_reply windows making = if makes_window making then Number (record { 0 = next_window windows }) else Nothing
@@ -164,6 +212,7 @@ making_reply windows making = if makes_window making then Number (record { 0 = n
 abbrev pub reply_of : World → Call → Reply
 reply_of world (calls.Making making) = making_reply world.windows making
 reply_of world (calls.Writing writing) = Nothing
+reply_of world (calls.Copying copying) = copying_reply world.windows copying
 reply_of world (calls.Query query) = query_reply world.windows query
 reply_of world (calls.Refresh refresh) = Nothing
 
@@ -172,6 +221,7 @@ reply_of world (calls.Refresh refresh) = Nothing
 abbrev pub is_doupdate : Call → Bool
 is_doupdate (calls.Making making) = false
 is_doupdate (calls.Writing writing) = false
+is_doupdate (calls.Copying copying) = false
 is_doupdate (calls.Query query) = false
 is_doupdate (calls.Refresh UpdatePanels) = false
 is_doupdate (calls.Refresh Doupdate) = true
@@ -180,6 +230,7 @@ is_doupdate (calls.Refresh (InitPair pair foreground background)) = false
 abbrev pub is_update_panels : Call → Bool
 is_update_panels (calls.Making making) = false
 is_update_panels (calls.Writing writing) = false
+is_update_panels (calls.Copying copying) = false
 is_update_panels (calls.Query query) = false
 is_update_panels (calls.Refresh UpdatePanels) = true
 is_update_panels (calls.Refresh Doupdate) = false
