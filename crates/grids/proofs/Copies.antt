@@ -7,13 +7,17 @@ use Rattle.std.proofs.lemmas.Bool.Decides.{nat_tests}
 use Rattle.cell.specs.Glyphs.{Glyph}
 use Rattle.world.specs.Windows.{Window, WindowMap, Windows, GridPlace, Drawing, own, onward, over, cell_at, within, moved, put_windows, put, HasPlace}
 use Rattle.world.specs.Rows.{filled, overlaid, copied}
+use Rattle.world.specs.Frames.{joined}
+use Rattle.world.specs.calls.writing.Editing.{drawing_frame}
+use Rattle.cell.specs.declared.window.Frame.{Frame}
+use Rattle.world.proofs.FrameLaws.{drawing_frame-over, drawing_frame-put}
 use Rattle.world.proofs.WindowLaws.{own-onward, put-put, cell_at-kept, put-nothing, HasPlace-put}
 
 by_space : (t : Bool) (c : Glyph) → is_some (if t then None else Some c) ≡ true → (if t then None else Some c) ≡ Some c
 by_space true c h = cc
 by_space false c h = refl
 
-either_none : (t : Bool) → (let o : Option Glyph = None in if t then o else o) ≡ None
+pub either_none : (t : Bool) → (let o : Option Glyph = None in if t then o else o) ≡ None
 either_none true = refl
 either_none false = refl
 
@@ -45,20 +49,12 @@ one-hidden window src sy sx dy dx overlay h y x =
       | inr other ↦ (let ne : x ≡ dx → ⊥ = other in grind (arith, nat_tests))
     ]
 
--- what is copied depends on the cells that are read
-pub copied-same : (v w : WindowMap) (src sy sx dy dx : ℕ) (overlay : Bool) → cell_at v src sy sx ≡ cell_at w src sy sx → copied v src sy sx dy dx 1 overlay ≡ copied w src sy sx dy dx 1 overlay
-copied-same v w src sy sx dy dx overlay h = fun_ext (λ y. fun_ext (λ x.
-    elim (cases_eq x dx) [
-      | inl same ↦ (let e : sx + (x - dx) ≡ sx = omega (arith, same) in rw (e, h) refl)
-      | inr other ↦ (let ne : x ≡ dx → ⊥ = other in grind (arith, nat_tests))
-    ]))
-
-off : (t : Bool) (v u : Option Glyph) → t ≡ false → (if t then v else None) ≡ (if t then u else None)
+pub off : (t : Bool) (v u : Option Glyph) → t ≡ false → (if t then v else None) ≡ (if t then u else None)
 off false v u h = refl
 off true v u h = cc
 
 -- the new cell is taken where it is, and the old ones elsewhere
-pick_new : (t1 t2 t3 : Bool) (v u : Option Glyph) → t1 ≡ t3 → t2 ≡ false → (if is_some (if t1 then v else None) then (if t1 then v else None) else (if t2 then u else None)) ≡ (if t3 then v else None)
+pub pick_new : (t1 t2 t3 : Bool) (v u : Option Glyph) → t1 ≡ t3 → t2 ≡ false → (if is_some (if t1 then v else None) then (if t1 then v else None) else (if t2 then u else None)) ≡ (if t3 then v else None)
 pick_new true false true None u e f = refl
 pick_new true false true (Some c) u e f = refl
 pick_new false false false v u e f = refl
@@ -66,7 +62,7 @@ pick_new true t2 false v u e f = cc
 pick_new false t2 true v u e f = cc
 pick_new t1 true t3 v u e f = cc
 
-pick_old : (t1 t2 t3 : Bool) (v u : Option Glyph) → t1 ≡ false → t2 ≡ t3 → (if is_some (if t1 then v else None) then (if t1 then v else None) else (if t2 then u else None)) ≡ (if t3 then u else None)
+pub pick_old : (t1 t2 t3 : Bool) (v u : Option Glyph) → t1 ≡ false → t2 ≡ t3 → (if is_some (if t1 then v else None) then (if t1 then v else None) else (if t2 then u else None)) ≡ (if t3 then u else None)
 pick_old false t2 t3 v u e f = ap (λ (t : Bool). if t then u else None) f
 pick_old true t2 t3 v u e f = cc
 
@@ -119,10 +115,10 @@ copied-none window src sy sx dy dx n overlay h y x = off ((y == dy) && (nat_le d
 out_test : (y x dy dx n : ℕ) → (x < dx) ⊎ (dx + n ≤ x) → ((y == dy) && (nat_le dx x && nat_lt x (dx + n))) ≡ false
 out_test y x dy dx n h = grind (arith, nat_tests)
 
-left_test : (a b c d : ℕ) → d < c → (nat_le a b && nat_le c d) ≡ false
+pub left_test : (a b c d : ℕ) → d < c → (nat_le a b && nat_le c d) ≡ false
 left_test a b c d h = grind (arith, nat_tests)
 
-none_either : (t : Bool) (o : Option Glyph) → o ≡ None → (if t then o else None) ≡ None
+pub none_either : (t : Bool) (o : Option Glyph) → o ≡ None → (if t then o else None) ≡ None
 none_either true o h = h
 none_either false o h = refl
 
@@ -150,15 +146,41 @@ pub read-kept : (window : WindowMap) (src dst : ℕ) (from to : GridPlace) (a : 
 read-kept window src dst from to a f sy sx e leads_to leads_from h =
     cell_at-kept window dst a to f src sy sx (onward sy sx from) e leads_to (own-onward window src sy sx ∙ ap (option_map (onward sy sx)) leads_from) (missed to a f (from.line + sy) (from.column + sx) h)
 
--- a step of a copy: the cell that is read was not written, and the drawings join
-pub copy-step : (w v next : Windows) (src dst sy sx dy dx : ℕ) (overlay : Bool) (f g : Drawing) →
-    v ≡ put w dst f → cell_at (put_windows w.window dst f) src sy sx ≡ cell_at w.window src sy sx → over (copied w.window src sy sx dy dx 1 overlay) f ≡ g →
-    next ≡ put v dst (copied v.window src sy sx dy dx 1 overlay) → next ≡ put w dst g
-copy-step w v next src dst sy sx dy dx overlay f g is kept join step =
+-- what is copied depends on the cells that are read
+pub copied-same : (v w : WindowMap) (src sy sx dy dx n : ℕ) (overlay : Bool) → ((j : ℕ) → j < n → cell_at v src sy (sx + j) ≡ cell_at w src sy (sx + j)) → copied v src sy sx dy dx n overlay ≡ copied w src sy sx dy dx n overlay
+copied-same v w src sy sx dy dx n overlay h = fun_ext (λ y. fun_ext (λ x.
+    let t = (y == dy) && (nat_le dx x && nat_lt x (dx + n)) in
+    elim (cases_lt (x - dx) n) [
+      | inl read ↦ ap (λ (c : Glyph). if t then overlaid overlay c else None) (h (x - dx) read)
+      | inr past ↦
+          off t (overlaid overlay (cell_at v src sy (sx + (x - dx)))) (overlaid overlay (cell_at w src sy (sx + (x - dx)))) (elim (cases_lt x dx) [
+            | inl before ↦ out_test y x dy dx n (inl before)
+            | inr behind ↦ out_test y x dy dx n (inr (omega arith))
+          ])
+    ]))
+
+-- a step of a copy: it writes what the windows before the copy give, and that is laid over what was written of it before
+pub copy-step : (w v next : Windows) (dst : ℕ) (f now h g : Drawing) → v ≡ put w dst f → now ≡ h → over h f ≡ g → next ≡ put v dst now → next ≡ put w dst g
+copy-step w v next dst f now h g is same join step =
     step
-    ∙ ap (λ (u : Windows). put u dst (copied u.window src sy sx dy dx 1 overlay)) is
-    ∙ ap (λ (d : Drawing). put (put w dst f) dst d) (copied-same (put_windows w.window dst f) w.window src sy sx dy dx overlay kept)
-    ∙ ap (λ (ws : WindowMap). record w { window = ws }) (put-put w.window dst f (copied w.window src sy sx dy dx 1 overlay) ∙ ap (put_windows w.window dst) join)
+    ∙ ap (λ (u : Windows). put u dst now) is
+    ∙ ap (λ (d : Drawing). put (put w dst f) dst d) same
+    ∙ ap (λ (ws : WindowMap). record w { window = ws }) (put-put w.window dst f h ∙ ap (put_windows w.window dst) join)
+
+-- and its rectangle is the smallest that holds both
+pub frame-step : (w v : Windows) (dst : ℕ) (f now h g : Drawing) (before one next : Option Frame) → v ≡ put w dst f → now ≡ h → over h f ≡ g → before ≡ drawing_frame w dst (λ a. f)
+    → one ≡ drawing_frame v dst (λ a. now) → next ≡ joined before one → next ≡ drawing_frame w dst (λ a. g)
+frame-step w v dst f now h g before one next is same join first second both =
+    both
+    ∙ ap (λ (o : Option Frame). joined o one) first
+    ∙ ap (λ (o : Option Frame). joined (drawing_frame w dst (λ a. f)) o)
+    (second ∙ ap (λ (u : Windows). drawing_frame u dst (λ a. now)) is ∙ drawing_frame-put w dst f now ∙ ap (λ (d : Drawing). drawing_frame w dst (λ a. d)) same)
+    ∙ sym (drawing_frame-over w dst f h)
+    ∙ ap (λ (d : Drawing). drawing_frame w dst (λ a. d)) join
+
+-- one cell
+pub one-same : (v w : WindowMap) (src sy sx dy dx : ℕ) (overlay : Bool) → cell_at v src sy sx ≡ cell_at w src sy sx → copied v src sy sx dy dx 1 overlay ≡ copied w src sy sx dy dx 1 overlay
+one-same v w src sy sx dy dx overlay h = copied-same v w src sy sx dy dx 1 overlay (λ j first. let e : sx + j ≡ sx = omega arith in rw e h)
 
 pub HasPlace-below : (w : Windows) (u y x z : ℕ) → HasPlace w.window u y x → z ≤ x → HasPlace w.window u y z
 HasPlace-below w u y x z h le = place_below (w.window u) y x z h le

@@ -9,3 +9,5 @@ pub mod Deletion
 pub mod NewWindows
 pub mod Showing
 pub mod Copies
+pub mod CopyFrames
+pub mod Lines

@@ -2,10 +2,13 @@
 //! is made.
 #![tactic(auto)]
 
+
+pub mod frame;
 mod line;
 mod making;
 mod marks;
 mod queries;
+mod rectangle;
 mod rows;
 mod slot;
 mod slots;

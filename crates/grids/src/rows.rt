@@ -1,23 +1,49 @@
 //! Reading a line of a window, and the two writes of which every write is made.
 
-ghost use Rattle.std.specs.Prelude.{◌≡◌, ℕ, ◌<◌, ◌≤◌, ◌+◌, ◌-◌, is_some, true, false};
+ghost use Rattle.std.specs.Prelude.{◌≡◌, ℕ, ◌<◌, ◌≤◌, ◌+◌, ◌-◌, ◌^◌, is_some, true, false};
 ghost use Rattle.std.specs.List.{AllByRecursion};
 ghost use Rattle.cell.specs.Glyphs.{IsCell};
 ghost use Rattle.world.specs.Windows.{HasPlace, cell_at, put};
 ghost use Rattle.world.specs.Sound.{AreSoundWindows};
 ghost use Rattle.world.specs.Rows.{filled, overlaid, copied, line_shown};
+ghost use Rattle.world.specs.calls.writing.Editing.{drawing_frame};
 ghost use Rattle.grids.specs.Tables.{windows};
 
+use crate::frame::{joined, place};
 use crate::slots::{columns_of, fill_row, origin_of, put_row, row_in, touch_row};
 use crate::table::Grids;
-use cell::{Cell, WinId};
+use cell::{Cell, Frame, WinId};
 
 /// A line and a column of a window.
 #[derive(Clone, Copy)]
-struct Place {
-    win: WinId,
-    line: u16,
-    column: u16,
+pub struct Place {
+    pub win: WinId,
+    pub line: u16,
+    pub column: u16,
+}
+
+impl Place {
+    /// The place some columns on.
+    fn right_by(self, columns: u16) -> Place
+        requires { self.column + columns < 2 ^ 16 }
+        ensures { result ≡ record self { column = self.column + columns } }
+    {
+        Place {
+            column: self.column + columns,
+            ..self
+        }
+    }
+
+    /// The place some lines on.
+    pub fn down_by(self, lines: u16) -> Place
+        requires { self.line + lines < 2 ^ 16 }
+        ensures { result ≡ record self { line = self.line + lines } }
+    {
+        Place {
+            line: self.line + lines,
+            ..self
+        }
+    }
 }
 
 impl Grids {
@@ -98,20 +124,34 @@ impl Grids {
             line: dy,
             column: dx,
         };
-        if n > 0 && overlay {
-            self.overlay_cells(from, to, n);
-        } else if n > 0 {
-            self.copy_cells(from, to, n);
+        if n > 0 {
+            self.copy_line(from, to, n, overlay);
         }
         prove!(self.is_sound());
     }
 
-    /// Copies all cells: it reads them into the spare line, and then writes that.
-    fn copy_cells(&mut self, from: Place, to: Place, n: u16)
+    /// Copies some cells of a line, and answers the smallest rectangle of the destination that holds what it wrote.
+    pub(crate) fn copy_line(&mut self, from: Place, to: Place, n: u16, overlay: bool) -> Option<Frame>
         requires some { 0 < n }
         requires from { HasPlace (windows self.old).window from.win.0 from.line (from.column + n - 1) }
         requires to { HasPlace (windows self.old).window to.win.0 to.line (to.column + n - 1) }
-        ensures { windows self.new ≡ put (windows self.old) to.win.0 (copied (windows self.old).window from.win.0 from.line from.column to.line to.column n false) }
+        ensures written { windows self.new ≡ put (windows self.old) to.win.0 (copied (windows self.old).window from.win.0 from.line from.column to.line to.column n overlay) }
+        ensures frame { result ≡ drawing_frame (windows self.old) to.win.0 (λ a. copied (windows self.old).window from.win.0 from.line from.column to.line to.column n overlay) }
+    {
+        if overlay {
+            self.overlay_cells(from, to, n)
+        } else {
+            self.copy_cells(from, to, n)
+        }
+    }
+
+    /// Copies all cells: it reads them into the spare line, and then writes that.
+    fn copy_cells(&mut self, from: Place, to: Place, n: u16) -> Option<Frame>
+        requires some { 0 < n }
+        requires from { HasPlace (windows self.old).window from.win.0 from.line (from.column + n - 1) }
+        requires to { HasPlace (windows self.old).window to.win.0 to.line (to.column + n - 1) }
+        ensures frame { result ≡ drawing_frame (windows self.old) to.win.0 (λ a. copied (windows self.old).window from.win.0 from.line from.column to.line to.column n false) }
+        ensures written { windows self.new ≡ put (windows self.old) to.win.0 (copied (windows self.old).window from.win.0 from.line from.column to.line to.column n false) }
     {
         let source = origin_of(&self.slots, from.win.0);
         let target = origin_of(&self.slots, to.win.0);
@@ -129,62 +169,54 @@ impl Grids {
             target.column + to.column,
             self.line.cells(),
         );
-        touch_row(
-            &mut self.slots,
-            to.win.0,
-            to.line,
-            to.column,
-            to.column + n - 1,
-        );
+        let right = to.column + n - 1;
+        touch_row(&mut self.slots, to.win.0, to.line, to.column, right);
+        Some(Frame {
+            top: to.line,
+            left: to.column,
+            bottom: to.line,
+            right,
+        })
     }
 
     /// Copies the cells that aren't spaces, from the end at which no cell is written before it is read.
-    fn overlay_cells(&mut self, from: Place, to: Place, n: u16)
+    fn overlay_cells(&mut self, from: Place, to: Place, n: u16) -> Option<Frame>
         requires some { 0 < n }
         requires from { HasPlace (windows self.old).window from.win.0 from.line (from.column + n - 1) }
         requires to { HasPlace (windows self.old).window to.win.0 to.line (to.column + n - 1) }
-        ensures { windows self.new ≡ put (windows self.old) to.win.0 (copied (windows self.old).window from.win.0 from.line from.column to.line to.column n true) }
+        ensures written { windows self.new ≡ put (windows self.old) to.win.0 (copied (windows self.old).window from.win.0 from.line from.column to.line to.column n true) }
+        ensures frame { result ≡ drawing_frame (windows self.old) to.win.0 (λ a. copied (windows self.old).window from.win.0 from.line from.column to.line to.column n true) }
     {
         let source = origin_of(&self.slots, from.win.0);
         let target = origin_of(&self.slots, to.win.0);
+        let mut frame = None;
         if target.column + to.column <= source.column + from.column {
             'forward: for k in 0..n {
-                self.overlay_cell(
-                    Place {
-                        column: from.column + k,
-                        ..from
-                    },
-                    Place {
-                        column: to.column + k,
-                        ..to
-                    },
-                );
+                let copied = self.overlay_cell(from.right_by(k), to.right_by(k));
+                frame = joined(frame, copied);
             }
         } else {
             'backward: for k in (0..n).rev() {
-                self.overlay_cell(
-                    Place {
-                        column: from.column + k,
-                        ..from
-                    },
-                    Place {
-                        column: to.column + k,
-                        ..to
-                    },
-                );
+                let copied = self.overlay_cell(from.right_by(k), to.right_by(k));
+                frame = joined(frame, copied);
             }
         }
+        frame
     }
 
     /// Copies one cell unless it is a space.
-    fn overlay_cell(&mut self, from: Place, to: Place)
+    fn overlay_cell(&mut self, from: Place, to: Place) -> Option<Frame>
         requires from { HasPlace (windows self.old).window from.win.0 from.line from.column }
         requires to { HasPlace (windows self.old).window to.win.0 to.line to.column }
-        ensures { windows self.new ≡ put (windows self.old) to.win.0 (copied (windows self.old).window from.win.0 from.line from.column to.line to.column 1 true) }
+        ensures written { windows self.new ≡ put (windows self.old) to.win.0 (copied (windows self.old).window from.win.0 from.line from.column to.line to.column 1 true) }
+        ensures frame { result ≡ drawing_frame (windows self.old) to.win.0 (λ a. copied (windows self.old).window from.win.0 from.line from.column to.line to.column 1 true) }
     {
         let cell = self.cell(from.win, from.line, from.column);
         if is_visible(cell) {
             self.fill(to.win, to.line, to.column, to.column, cell);
+            Some(place(to.line, to.column))
+        } else {
+            None
         }
     }
 }

@@ -1,8 +1,12 @@
 -- The rectangle of a drawing is the smallest one that holds its places.
 use Rattle.std.proofs.Common.{◌≡◌, ℕ, zero, suc, ◌<◌, ◌≤◌, min, max, Bool, true, false, if◌then◌else◌, Option, Some, None, is_some, arith, refl, sym, ◌∙◌, inl, inr, ◌⊎◌}
+use Rattle.std.specs.Prelude.{option_and_then}
+use Rattle.std.specs.Option.{option_map}
 use Rattle.std.proofs.lemmas.Bool.{cases_lt}
-use Rattle.world.specs.Windows.{Window, Drawing}
+use Rattle.world.specs.Windows.{GridPlace, Window, Windows, Drawing, drawn, over, own, put, put_from}
 use Rattle.world.specs.Frames.{joined, frame_at, frame_in_line, frame_above, frame_of, Covers, IsIn, IsSmallest, IsFrameOf}
+use Rattle.world.specs.calls.writing.Editing.{drawing_frame}
+use Rattle.cell.specs.Glyphs.{Glyph}
 use Rattle.cell.specs.declared.window.Frame.{Frame}
 
 -- ---- there is only one
@@ -149,3 +153,56 @@ frame_of-only a f r h = only_frame (Covers f a.columns a.lines) (frame_of a f) (
 
 pub frame_of-none : (a : Window) (f : Drawing) → ((y x : ℕ) → Covers f a.columns a.lines y x → ⊥) → frame_of a f ≡ None
 frame_of-none a f h = only_frame (Covers f a.columns a.lines) (frame_of a f) None (frame_of-is a f) h
+
+-- ---- one drawing over another
+
+over-some : (g f : Option Glyph) → is_some (if is_some g then g else f) ≡ true → (is_some g ≡ true) ⊎ (is_some f ≡ true)
+over-some None f h = inr h
+over-some (Some c) f h = inl refl
+
+over-first : (g f : Option Glyph) → is_some f ≡ true → is_some (if is_some g then g else f) ≡ true
+over-first None f h = h
+over-first (Some c) f h = refl
+
+over-second : (g f : Option Glyph) → is_some g ≡ true → is_some (if is_some g then g else f) ≡ true
+over-second None f h = cc
+over-second (Some c) f h = refl
+
+pub frame-over : (a : Window) (f g : Drawing) → frame_of a (over g f) ≡ joined (frame_of a f) (frame_of a g)
+frame-over a f g =
+    only_frame (Covers (over g f) a.columns a.lines) (frame_of a (over g f)) (joined (frame_of a f) (frame_of a g)) (frame_of-is a (over g f))
+    (frame-same (λ y x. Covers f a.columns a.lines y x ⊎ Covers g a.columns a.lines y x) (Covers (over g f) a.columns a.lines) (joined (frame_of a f) (frame_of a g))
+    (λ y x there. elim there [
+      | inl first ↦ record { below = first.below; left = first.left; some = over-first (g y x) (f y x) first.some }
+      | inr second ↦ record { below = second.below; left = second.left; some = over-second (g y x) (f y x) second.some }
+    ])
+    (λ y x there. elim (over-some (g y x) (f y x) there.some) [
+      | inl second ↦ inr (record { below = there.below; left = there.left; some = second })
+      | inr first ↦ inl (record { below = there.below; left = there.left; some = first })
+    ])
+    (frame-joined (Covers f a.columns a.lines) (Covers g a.columns a.lines) (frame_of a f) (frame_of a g) (frame_of-is a f) (frame_of-is a g)))
+
+-- the rectangle in the window under a number, if there is one
+drawing_frame-some : (w : ℕ) (o : Option Window) (f g : Drawing)
+    → option_and_then (λ a. frame_of a (over g f)) o ≡ joined (option_and_then (λ a. frame_of a f) o) (option_and_then (λ a. frame_of a g) o)
+drawing_frame-some w None f g = refl
+drawing_frame-some w (Some a) f g = frame-over a f g
+
+pub drawing_frame-over : (windows : Windows) (w : ℕ) (f g : Drawing)
+    → drawing_frame windows w (λ a. over g f) ≡ joined (drawing_frame windows w (λ a. f)) (drawing_frame windows w (λ a. g))
+drawing_frame-over windows w f g = drawing_frame-some w (windows.window w) f g
+
+-- no write changes it
+frame-drawn : (w u : ℕ) (a : Window) (p : GridPlace) (f g : Drawing) (o : Option Window)
+    → option_and_then (λ b. frame_of b g) (option_map (drawn w a p f u) o) ≡ option_and_then (λ b. frame_of b g) o
+frame-drawn w u a p f g None = refl
+frame-drawn w u a p f g (Some b) = refl
+
+frame-from : (windows : Windows) (w : ℕ) (o : Option Window) (s : Option GridPlace) (f g : Drawing)
+    → option_and_then (λ b. frame_of b g) (put_from windows.window w o s f w) ≡ option_and_then (λ b. frame_of b g) (windows.window w)
+frame-from windows w None s f g = refl
+frame-from windows w (Some a) None f g = refl
+frame-from windows w (Some a) (Some p) f g = frame-drawn w w a p f g (windows.window w)
+
+pub drawing_frame-put : (windows : Windows) (w : ℕ) (f g : Drawing) → drawing_frame (put windows w f) w (λ a. g) ≡ drawing_frame windows w (λ a. g)
+drawing_frame-put windows w f g = frame-from windows w (windows.window w) (own windows.window w 0 0) f g

@@ -76,7 +76,7 @@ by_tests n s true false t r h = ap (λ o. widened o n) h
 by_tests n s false true t r h = touched-widened n s t n ∙ ap (λ o. widened o n) h
 by_tests n s false false t r h = h
 
-touched-touched : (n : ℕ) (s t : ℕ → Bool) (r : Option Columns) → touched_below n s (touched_below n t r) ≡ touched_below n (λ x. s x || t x) r
+pub touched-touched : (n : ℕ) (s t : ℕ → Bool) (r : Option Columns) → touched_below n s (touched_below n t r) ≡ touched_below n (λ x. s x || t x) r
 touched-touched zero s t r = refl
 touched-touched (suc n) s t r = by_tests n s (s n) (t n) (touched_below n t r) (touched_below n (λ x. s x || t x) r) (touched-touched n s t r)
 

@@ -13,12 +13,13 @@ ghost use Rattle.grids.specs.Tables.{windows};
 ghost use Rattle.windows.specs.steps.State.{IsStateOf, window_in_state};
 
 use crate::drawing::{clear_rest, delete_cell, insert_cell, move_up, set_cell};
-use crate::frame::{joined, lines_from, place};
+use crate::frame::lines_from;
 use crate::state::{WindowState, set_cursor, state_of};
 use crate::table::Windows;
 use bitflags::Flags;
 use cell::{Cell, Frame, PairId, Refusal, WinId, is_printable};
 use grids::Grids;
+use grids::frame::{joined, place};
 use world::Settings;
 
 const BACKSPACE: u8 = 8;

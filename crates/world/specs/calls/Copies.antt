@@ -6,9 +6,8 @@ use Rattle.cell.specs.Refusals.{first_of}
 use Rattle.world.specs.Windows.{Drawing, WindowMap, Windows, cell_at, is_missing, put}
 use Rattle.world.specs.Panels.{cell_on_screen, holds, place_of}
 use Rattle.world.specs.Rows.{overlaid}
-use Rattle.world.specs.Frames.{frame_of}
 use Rattle.world.specs.calls.Making.{is_pad}
-use Rattle.world.specs.calls.writing.Characters.{frame_if_there}
+use Rattle.world.specs.calls.writing.Editing.{drawing_frame}
 use Rattle.world.specs.calls.writing.Options.{lacks_place}
 use Rattle.cell.specs.declared.window.Frame.{Frame}
 use Rattle.cell.specs.declared.refusal.Refusal.{Refusal}
@@ -40,7 +39,7 @@ abbrev pub after_overlay : Windows → ℕ → ℕ → Bool → Windows
 after_overlay windows src dst overlay = put windows dst (common_copied windows.window src dst overlay)
 
 abbrev pub overlay_frame : Windows → ℕ → ℕ → Bool → Option Frame
-overlay_frame windows src dst overlay = frame_if_there windows dst (λ a. frame_of a (common_copied windows.window src dst overlay))
+overlay_frame windows src dst overlay = drawing_frame windows dst (λ a. common_copied windows.window src dst overlay)
 
 -- ---- copywin
 
@@ -62,4 +61,4 @@ after_copywin windows src dst sy sx top left bottom right overlay =
 
 abbrev pub copywin_frame : Windows → ℕ → ℕ → ℕ → ℕ → ℕ → ℕ → ℕ → ℕ → Bool → Option Frame
 copywin_frame windows src dst sy sx top left bottom right overlay =
-    frame_if_there windows dst (λ a. frame_of a (copywin_drawing windows.window src sy sx top left bottom right overlay))
+    drawing_frame windows dst (λ a. copywin_drawing windows.window src sy sx top left bottom right overlay)

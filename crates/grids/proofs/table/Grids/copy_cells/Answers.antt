@@ -1,12 +1,13 @@
-use Rattle.std.proofs.Common.{◌≡◌, ◌+◌, ◌-◌, length, arith, refl, ap, ◌∙◌}
+use Rattle.std.proofs.Common.{◌≡◌, ◌+◌, ◌-◌, length, arith, refl, ap, sym, ◌∙◌}
 use Rattle.cell.specs.Glyphs.{Glyph}
 use Rattle.world.specs.Rows.{listed}
 use Rattle.grids.specs.contracts.table.Grids.{the_view}
-use Rattle.grids.specs.Tables.{window_map}
+use Rattle.grids.specs.Tables.{window_map, windows}
 use Rattle.grids.specs.steps.Changes.{with_touched, with_drawing}
 use Rattle.grids.proofs.Changes.{IsWindowTable-changed}
 use Rattle.grids.proofs.Showing.{IsPiece, piece-read, column_below}
 use Rattle.grids.proofs.Writes.{windows-copied}
+use Rattle.grids.proofs.CopyFrames.{whole-frame}
 use Rattle.grids.proofs.table.Grids.copy_cells.Goals as goal
 
 pub hold-requires : goal.hold-requires
@@ -45,8 +46,8 @@ invariant_of-self c =
     let s = IsWindowTable-changed t c.put_row.new.slots.items o.grid (with_drawing (listed (o.line + a.to.line) (o.column + a.to.column) c.cells.result.now)) c.self.invariant c.put_row.ensures (λ b. refl) in
     IsWindowTable-changed (record t { slots = c.put_row.new.slots.items }) c.touch_row.new.slots.items a.to.win.0 (with_touched a.to.line a.to.column (a.to.column + a.n - 1)) s c.touch_row.ensures (λ b. refl)
 
-pub returns : goal.returns
-returns c =
+pub returns-clause-written : goal.returns-clause-written
+returns-clause-written c =
     let a = c.args in
     let t = the_view c.self.inside in
     let o = c.origin_of-source in
@@ -60,3 +61,8 @@ returns c =
     rw (← c.self.view_is)
     (windows-copied t c.put_row.new.slots.items c.touch_row.new.slots.items a.from.win.0 a.to.win.0 (record { grid = d.result.grid; line = d.result.line; column = d.result.column }) a.from.line a.from.column a.to.line a.to.column a.n c.cells.result.now
     to c.requires.some leads_to held.all held.each c.put_row.ensures c.touch_row.ensures)
+
+pub returns-clause-frame : goal.returns-clause-frame
+returns-clause-frame c =
+    let a = c.args in
+    sym (whole-frame (windows a.self.now) a.from.win.0 a.to.win.0 a.from.line a.from.column a.to.line a.to.column a.n c.requires.to c.requires.some)

@@ -1,0 +1,79 @@
+-- The rectangle that a copy of a line covers.
+use Rattle.std.proofs.Common.{◌≡◌, ℕ, ◌+◌, ◌-◌, ◌<◌, ◌≤◌, Bool, true, false, if◌then◌else◌, ◌==◌, ◌&&◌, nat_lt, nat_le, Option, Some, None, is_some, IsSomeAnd, ap, arith, refl, sym, ◌∙◌}
+use Rattle.std.proofs.lemmas.Bool.Decides.{nat_tests}
+use Rattle.std.proofs.lemmas.Bool.{and_parts, and_from, eqb-true, eq-eqb, leb-true, le-leb}
+use Rattle.std.specs.Prelude.{option_and_then}
+use Rattle.cell.specs.Glyphs.{Glyph, blank}
+use Rattle.world.specs.Windows.{Window, WindowMap, Windows, Drawing, HasPlace, cell_at}
+use Rattle.world.specs.Rows.{filled, overlaid, copied}
+use Rattle.world.specs.Frames.{Covers, frame_at, frame_of}
+use Rattle.world.specs.calls.Copies.{rectangle_copied}
+use Rattle.world.specs.calls.writing.Editing.{drawing_frame}
+use Rattle.world.proofs.FrameLaws.{frame_of-only, frame_of-none}
+use Rattle.cell.specs.declared.window.Frame.{Frame}
+
+-- a drawing that has just the columns from left to right of a line
+record IsInLine (f : Drawing) (y left right : ℕ) : Type 0 where
+  taken : (v x : ℕ) → is_some (f v x) ≡ ((v == y) && (nat_le left x && nat_le x right))
+
+in_line : (y left right : ℕ) (x : ℕ) → left ≤ x → x ≤ right → ((y == y) && (nat_le left x && nat_le x right)) ≡ true
+in_line y left right x before behind =
+    and_from (y == y) (nat_le left x && nat_le x right) (eq-eqb y y refl) (and_from (nat_le left x) (nat_le x right) (le-leb left x before) (le-leb x right behind))
+
+line-frame : (a : Window) (f : Drawing) (y left right : ℕ) → IsInLine f y left right → y < a.lines → left ≤ right → right < a.columns
+    → frame_of a f ≡ Some (record { top = y; left = left; bottom = y; right = right })
+line-frame a f y left right h below ordered on =
+    let covers : (x : ℕ) → left ≤ x → x ≤ right → Covers f a.columns a.lines y x =
+    λ x before behind. record { below = below; left = omega arith; some = h.taken y x ∙ in_line y left right x before behind } in
+    frame_of-only a f (record { top = y; left = left; bottom = y; right = right })
+    (record {
+      holds = λ v x there.
+          let line = and_parts (v == y) (nat_le left x && nat_le x right) (sym (h.taken v x) ∙ there.some) in
+          let columns = and_parts (nat_le left x) (nat_le x right) line.1 in
+          let same = eqb-true v y line.0 in
+          let first = leb-true left x columns.0 in
+          let last = leb-true x right columns.1 in
+          record { top = omega arith; bottom = omega arith; left = omega arith; right = omega arith };
+      top = (left, covers left (omega arith) ordered);
+      bottom = (left, covers left (omega arith) ordered);
+      left = (y, covers left (omega arith) ordered);
+      right = (y, covers right ordered (omega arith));
+    })
+
+some_if : (t : Bool) (c : Glyph) → is_some (if t then Some c else None) ≡ t
+some_if true c = refl
+some_if false c = refl
+
+none_frame : (o : Option Window) (f : Drawing) → ((y x : ℕ) → f y x ≡ None) → option_and_then (λ a. frame_of a f) o ≡ None
+none_frame None f h = refl
+none_frame (Some a) f h = frame_of-none a f (λ y x there. let some = there.some in let none = h y x in cc)
+
+there_frame : (o : Option Window) (f : Drawing) (y left right : ℕ) → IsInLine f y left right → left ≤ right → IsSomeAnd o (λ a. (y < a.lines) × (right < a.columns))
+    → option_and_then (λ a. frame_of a f) o ≡ Some (record { top = y; left = left; bottom = y; right = right })
+there_frame None f y left right h ordered there = absurd there
+there_frame (Some a) f y left right h ordered there = line-frame a f y left right h there.0 ordered there.1
+
+-- ---- a line copied whole
+
+within_columns : (t : Bool) (dx n x : ℕ) → 0 < n → (t && (nat_le dx x && nat_lt x (dx + n))) ≡ (t && (nat_le dx x && nat_le x (dx + n - 1)))
+within_columns true dx n x some = grind (arith, nat_tests)
+within_columns false dx n x some = refl
+
+pub whole-frame : (w : Windows) (src dst sy sx dy dx n : ℕ) → HasPlace w.window dst dy (dx + n - 1) → 0 < n
+    → drawing_frame w dst (λ a. copied w.window src sy sx dy dx n false) ≡ Some (record { top = dy; left = dx; bottom = dy; right = dx + n - 1 })
+whole-frame w src dst sy sx dy dx n there some =
+    there_frame (w.window dst) (copied w.window src sy sx dy dx n false) dy dx (dx + n - 1)
+    (record {
+      taken = λ v x.
+          some_if ((v == dy) && (nat_le dx x && nat_lt x (dx + n))) (cell_at w.window src sy (sx + (x - dx)))
+          ∙ within_columns (v == dy) dx n x some;
+    }) (omega arith) there
+
+-- ---- one cell
+
+pub shown-frame : (w : Windows) (dst dy dx : ℕ) (c : Glyph) → HasPlace w.window dst dy dx → drawing_frame w dst (λ a. filled dy dx dx c) ≡ frame_at dy dx
+shown-frame w dst dy dx c there =
+    there_frame (w.window dst) (filled dy dx dx c) dy dx dx (record { taken = λ v x. some_if ((v == dy) && (nat_le dx x && nat_le x dx)) c }) (omega arith) there
+
+pub nothing-frame : (w : Windows) (dst : ℕ) (f : Drawing) → ((y x : ℕ) → f y x ≡ None) → drawing_frame w dst (λ a. f) ≡ None
+nothing-frame w dst f h = none_frame (w.window dst) f h

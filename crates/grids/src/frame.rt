@@ -1,0 +1,34 @@
+//! Rectangles of a window.
+
+ghost use Rattle.std.specs.Prelude.{◌≡◌};
+ghost use Rattle.world.specs.Frames.{joined};
+
+use cell::Frame;
+
+/// One place.
+pub fn place(y: u16, x: u16) -> Frame
+    ensures { result ≡ record { top = y; left = x; bottom = y; right = x } }
+{
+    Frame {
+        top: y,
+        left: x,
+        bottom: y,
+        right: x,
+    }
+}
+
+/// The smallest rectangle that holds two.
+pub fn joined(one: Option<Frame>, other: Option<Frame>) -> Option<Frame>
+    ensures { result ≡ joined one other }
+{
+    match (one, other) {
+        (None, _) => other,
+        (Some(_), None) => one,
+        (Some(a), Some(b)) => Some(Frame {
+            top: a.top.min(b.top),
+            left: a.left.min(b.left),
+            bottom: a.bottom.max(b.bottom),
+            right: a.right.max(b.right),
+        }),
+    }
+}
