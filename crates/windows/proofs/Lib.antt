@@ -8,3 +8,4 @@ pub mod Texts
 pub mod OptionLemmas
 pub mod Scrolls
 pub mod Examples
+pub mod CommonParts

@@ -2,6 +2,7 @@
 //! smallest rectangle of the window that holds what it wrote.
 #![tactic(auto)]
 
+mod copying;
 mod drawing;
 mod frame;
 mod queries;

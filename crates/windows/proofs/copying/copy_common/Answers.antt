@@ -1,0 +1,29 @@
+use Rattle.std.proofs.Common.{◌≡◌, Some, None, ap, sym, ◌∙◌}
+use Rattle.std.specs.Prelude.{option_and_then}
+use Rattle.cell.specs.Pictures.{Place}
+use Rattle.world.specs.Windows.{Drawing, Window, WindowMap, put}
+use Rattle.world.specs.Frames.{frame_of}
+use Rattle.world.specs.calls.Copies.{common_copied}
+use Rattle.world.specs.calls.Queries.{place_on_screen}
+use Rattle.world.specs.calls.writing.Editing.{drawing_frame}
+use Rattle.grids.specs.Tables.{windows}
+use Rattle.windows.proofs.CommonParts.{common-put, common-frame}
+use Rattle.windows.proofs.copying.copy_common.Goals as goal
+
+pub returns-clause-written : goal.returns-clause-written
+returns-clause-written c =
+    let a = c.args in
+    let s = c.in_ok-source in
+    let t = c.in_ok-target in
+    common-put (windows a.table.now) a.src.0 a.dst.0 s.ensures.state.window t.ensures.state.window c.in_ok-from.from c.in_ok-to.to s.ensures.state.there t.ensures.state.there
+    c.in_ok-from.ensures.place c.in_ok-to.ensures.place a.overlay (windows c.copy_rectangle.new.self)
+    (rw (s.ensures.state.lines, s.ensures.state.columns, t.ensures.state.lines, t.ensures.state.columns, ← c.overlap-lines.ensures.source, ← c.overlap-lines.ensures.target, ← c.overlap-lines.ensures.len, ← c.overlap-columns.ensures.source, ← c.overlap-columns.ensures.target, ← c.overlap-columns.ensures.len) c.copy_rectangle.ensures.written)
+
+pub returns-clause-frame : goal.returns-clause-frame
+returns-clause-frame c =
+    let a = c.args in
+    let s = c.in_ok-source in
+    let t = c.in_ok-target in
+    (rw (s.ensures.state.lines, s.ensures.state.columns, t.ensures.state.lines, t.ensures.state.columns, ← c.overlap-lines.ensures.source, ← c.overlap-lines.ensures.target, ← c.overlap-lines.ensures.len, ← c.overlap-columns.ensures.source, ← c.overlap-columns.ensures.target, ← c.overlap-columns.ensures.len) c.copy_rectangle.ensures.frame)
+    ∙ common-frame (windows a.table.now) a.src.0 a.dst.0 s.ensures.state.window t.ensures.state.window c.in_ok-from.from c.in_ok-to.to s.ensures.state.there t.ensures.state.there
+    c.in_ok-from.ensures.place c.in_ok-to.ensures.place a.overlay

@@ -1,0 +1,157 @@
+//! The calls that copy cells from window to window.
+
+ghost use Rattle.std.specs.Prelude.{◌≡◌, ◌+◌, ◌-◌, ◌<◌, ◌^◌, max, min, nat_lt, true, false, IfOk, OnOk, OnErr};
+ghost use Rattle.std.specs.Result.{result_err};
+ghost use Rattle.world.specs.calls.Copies.{after_copywin, after_overlay, copywin_frame, copywin_refusal, overlay_frame, overlay_refusal};
+ghost use Rattle.world.specs.Sound.{AreSoundWindows};
+ghost use Rattle.grids.specs.Tables.{windows};
+
+use crate::state::state_of;
+use crate::table::Windows;
+use cell::{Frame, Refusal, WinId};
+use grids::Grids;
+
+impl Windows {
+    /// Copies the cells of `src` that aren't spaces to `dst`, at the places of the screen that both cover.
+    ///
+    /// # Errors
+    /// `NoSuchWindow`, `IsPad`, each for either window.
+    pub fn overlay(&mut self, src: WinId, dst: WinId) -> Result<Option<Frame>, Refusal>
+        ensures refused { result_err result ≡ overlay_refusal (windows self.old.table) src.0 dst.0 }
+        ensures written { OnOk result (windows self.new.table ≡ after_overlay (windows self.old.table) src.0 dst.0 true) }
+        ensures frame { IfOk result (λ frame. frame ≡ overlay_frame (windows self.old.table) src.0 dst.0 true) }
+        ensures unchanged { OnErr result (self.new ≡ self.old) }
+        ensures sound { AreSoundWindows (windows self.new.table) }
+    {
+        copy_common(&mut self.table, src, dst, true)
+    }
+
+    /// Copies all cells of `src` to `dst`, at the places of the screen that both cover.
+    ///
+    /// # Errors
+    /// `NoSuchWindow`, `IsPad`, each for either window.
+    pub fn overwrite(&mut self, src: WinId, dst: WinId) -> Result<Option<Frame>, Refusal>
+        ensures refused { result_err result ≡ overlay_refusal (windows self.old.table) src.0 dst.0 }
+        ensures written { OnOk result (windows self.new.table ≡ after_overlay (windows self.old.table) src.0 dst.0 false) }
+        ensures frame { IfOk result (λ frame. frame ≡ overlay_frame (windows self.old.table) src.0 dst.0 false) }
+        ensures unchanged { OnErr result (self.new ≡ self.old) }
+        ensures sound { AreSoundWindows (windows self.new.table) }
+    {
+        copy_common(&mut self.table, src, dst, false)
+    }
+
+    /// Copies the cells of `src` from line `sminrow` and column `smincol` on to the lines from `dminrow` to `dmaxrow` and the
+    /// columns from `dmincol` to `dmaxcol` of `dst`, all inclusive; with `overlay`, all but the spaces.
+    ///
+    /// # Errors
+    /// `NoSuchWindow` for either window; `BadRectangle` if a last line or column comes before its first; `OutsideWindow` if
+    /// the rectangle isn't in `dst`, or that of the same size not in `src`.
+    pub fn copywin(
+        &mut self,
+        src: WinId,
+        dst: WinId,
+        sminrow: u16,
+        smincol: u16,
+        dminrow: u16,
+        dmincol: u16,
+        dmaxrow: u16,
+        dmaxcol: u16,
+        overlay: bool,
+    ) -> Result<Option<Frame>, Refusal>
+        ensures refused { result_err result ≡ copywin_refusal (windows self.old.table) src.0 dst.0 sminrow smincol dminrow dmincol dmaxrow dmaxcol }
+        ensures written { OnOk result (windows self.new.table ≡ after_copywin (windows self.old.table) src.0 dst.0 sminrow smincol dminrow dmincol dmaxrow dmaxcol overlay) }
+        ensures frame { IfOk result (λ frame. frame ≡ copywin_frame (windows self.old.table) src.0 dst.0 sminrow smincol dminrow dmincol dmaxrow dmaxcol overlay) }
+        ensures unchanged { OnErr result (self.new ≡ self.old) }
+        ensures sound { AreSoundWindows (windows self.new.table) }
+    {
+        let source = state_of(&self.table, src)?;
+        let target = state_of(&self.table, dst)?;
+        if dmaxrow < dminrow || dmaxcol < dmincol {
+            return Err(Refusal::BadRectangle);
+        }
+        let more_lines = dmaxrow - dminrow;
+        let more_columns = dmaxcol - dmincol;
+        if dmaxrow >= target.lines
+            || dmaxcol >= target.columns
+            || !has_behind(source.lines, sminrow, more_lines)
+            || !has_behind(source.columns, smincol, more_columns)
+        {
+            return Err(Refusal::OutsideWindow);
+        }
+        Ok(self.table.copy_rectangle(
+            src,
+            sminrow,
+            smincol,
+            dst,
+            dminrow,
+            dmincol,
+            more_lines + 1,
+            more_columns + 1,
+            overlay,
+        ))
+    }
+}
+
+/// Whether of so many lines or columns there are some more behind one.
+fn has_behind(all: u16, first: u16, more: u16) -> bool
+    ensures { result ≡ nat_lt (first + more) all }
+{
+    more < all && first < all - more
+}
+
+/// Copies at the places of the screen that both windows cover.
+fn copy_common(
+    table: &mut Grids,
+    src: WinId,
+    dst: WinId,
+    overlay: bool,
+) -> Result<Option<Frame>, Refusal>
+    ensures refused { result_err result ≡ overlay_refusal (windows table.old) src.0 dst.0 }
+    ensures written { OnOk result (windows table.new ≡ after_overlay (windows table.old) src.0 dst.0 overlay) }
+    ensures frame { IfOk result (λ frame. frame ≡ overlay_frame (windows table.old) src.0 dst.0 overlay) }
+    ensures unchanged { OnErr result (table.new ≡ table.old) }
+    ensures sound { AreSoundWindows (windows table.new) }
+{
+    let source = state_of(table, src)?;
+    let target = state_of(table, dst)?;
+    let from = table.getbegyx(src)?;
+    let to = table.getbegyx(dst)?;
+    let lines = overlap(from.0, source.lines, to.0, target.lines);
+    let columns = overlap(from.1, source.columns, to.1, target.columns);
+    Ok(table.copy_rectangle(
+        src,
+        lines.source,
+        columns.source,
+        dst,
+        lines.target,
+        columns.target,
+        lines.len,
+        columns.len,
+        overlay,
+    ))
+}
+
+/// The lines or the columns of the screen that two windows share: the first of them as each window counts, and how many.
+#[derive(Clone, Copy)]
+struct Common {
+    source: u16,
+    target: u16,
+    len: u16,
+}
+
+/// What two windows share that begin at these lines or columns of the screen and have so many.
+fn overlap(source: u16, source_len: u16, target: u16, target_len: u16) -> Common
+    requires source { source + source_len < 2 ^ 16 }
+    requires target { target + target_len < 2 ^ 16 }
+    ensures source { result.source ≡ max source target - source }
+    ensures target { result.target ≡ max source target - target }
+    ensures len { result.len ≡ min (source + source_len) (target + target_len) - max source target }
+{
+    let first = source.max(target);
+    let end = (source + source_len).min(target + target_len);
+    Common {
+        source: first - source,
+        target: first - target,
+        len: end.saturating_sub(first),
+    }
+}
