@@ -1,4 +1,5 @@
 -- A window from which none derives is given up.
+use Rattle.std.specs.Prelude.{slice_index_or}
 use Rattle.std.proofs.Common.{◌≡◌, ℕ, zero, suc, ◌+◌, ◌<◌, ◌≤◌, ◌≢◌, Bool, true, false, ◌||◌, Option, Some, None, IsSomeAnd, MatchOption, List, [], ◌∷◌, length, ap, arith, refl, sym, ◌∙◌, subst, inl, inr, eq-eqb}
 use Rattle.std.specs.Prelude.{⊤}
 use Rattle.std.specs.List.{list_any}
@@ -82,12 +83,12 @@ any_below-first : (n : ℕ) (test : ℕ → Bool) → any_below (suc n) test ≡
 any_below-first zero test = refl
 any_below-first (suc n) test = rw (any_below-first n test) (or_swap (test (suc n)) (test 0) (any_below n (λ u. test (suc u))))
 
-any_below-list : (test : Option Kept → Bool) → test None ≡ false → (slots : List (Option Kept)) (n : ℕ) → length slots ≤ n → any_below n (λ u. test (slot_at slots u)) ≡ list_any test slots
+pub any_below-list : {A : Type 0} (test : Option A → Bool) → test None ≡ false → (xs : List (Option A)) (n : ℕ) → length xs ≤ n → any_below n (λ u. test (slice_index_or xs u None)) ≡ list_any test xs
 any_below-list test none [] zero h = refl
 any_below-list test none [] (suc n) h = ap (λ b. b || any_below n (λ u. test None)) none ∙ any_below-list test none [] n (omega arith)
-any_below-list test none (o ∷ slots) zero h = absurd (omega arith)
-any_below-list test none (o ∷ slots) (suc n) h =
-    any_below-first n (λ u. test (slot_at (o ∷ slots) u)) ∙ ap (λ b. test o || b) (any_below-list test none slots n (omega arith))
+any_below-list test none (o ∷ xs) zero h = absurd (omega arith)
+any_below-list test none (o ∷ xs) (suc n) h =
+    any_below-first n (λ u. test (slice_index_or (o ∷ xs) u None)) ∙ ap (λ b. test o || b) (any_below-list test none xs n (omega arith))
 
 pub has_derived-list : (slots : List (Option Kept)) (w : ℕ) → length slots ≤ MOST_WINDOWS + 1 → list_any (names_parent w) slots ≡ has_derived (window_map slots) w
 has_derived-list slots w few = sym (any_below-list (names_parent w) refl slots window_limit (omega (arith, limit-is)))

@@ -1,15 +1,18 @@
 //! What is touched of a window, and whether it asks for a clear screen.
 
-ghost use Rattle.std.specs.Prelude.{◌≡◌, IsSome};
+ghost use Rattle.std.specs.Prelude.{◌≡◌, ◌≤◌, ◌+◌, true, false, IsSome, IsSomeAnd, IfOk, OnOk, OnErr};
+ghost use Rattle.std.specs.Result.{result_err};
 ghost use Rattle.world.specs.Sound.{AreSoundWindows};
 ghost use Rattle.world.specs.Windows.{HasPlace, changed};
+ghost use Rattle.world.specs.calls.Marks.{after_touchln, after_touchwin, is_linetouched, is_linetouched_refusal, is_wintouched, touchln_refusal};
+ghost use Rattle.world.specs.calls.Missing.{missing_refusal};
 ghost use Rattle.world.specs.calls.Queries.{touched_columns};
 ghost use Rattle.world.specs.calls.Refresh.{unmarked};
 ghost use Rattle.grids.specs.Tables.{windows};
 
-use crate::slots::unmark_slot;
+use crate::slots::{mark_slot, unmark_slot};
 use crate::table::Grids;
-use cell::WinId;
+use cell::{Refusal, WinId};
 
 impl Grids {
     /// The first and the last touched column of line `y` of a window, and none without one. The line must be there.
@@ -33,5 +36,110 @@ impl Grids {
     {
         unmark_slot(&mut self.slots, win.0);
         prove!(self.is_sound());
+    }
+
+    /// Touches all of a window.
+    ///
+    /// # Errors
+    /// `NoSuchWindow`.
+    pub fn touchwin(&mut self, win: WinId) -> Result<(), Refusal>
+        ensures refused { result_err result ≡ missing_refusal (windows self.old).window win.0 }
+        ensures touched { OnOk result (windows self.new ≡ after_touchwin (windows self.old) win.0 true) }
+        ensures unchanged { OnErr result (self.new ≡ self.old) }
+        ensures sound { AreSoundWindows (windows self.new) }
+    {
+        prove!(self.is_sound());
+        let lines = self.slot(win)?.lines();
+        self.mark(win, 0, lines, true);
+        Ok(())
+    }
+
+    /// Takes all touches of a window away.
+    ///
+    /// # Errors
+    /// `NoSuchWindow`.
+    pub fn untouchwin(&mut self, win: WinId) -> Result<(), Refusal>
+        ensures refused { result_err result ≡ missing_refusal (windows self.old).window win.0 }
+        ensures touched { OnOk result (windows self.new ≡ after_touchwin (windows self.old) win.0 false) }
+        ensures unchanged { OnErr result (self.new ≡ self.old) }
+        ensures sound { AreSoundWindows (windows self.new) }
+    {
+        prove!(self.is_sound());
+        let lines = self.slot(win)?.lines();
+        self.mark(win, 0, lines, false);
+        Ok(())
+    }
+
+    /// Touches all of `n` lines from line `y` on.
+    ///
+    /// # Errors
+    /// `NoSuchWindow`; `OutsideWindow` if the window hasn't line `y`, or not `n` lines from it on.
+    pub fn touchline(&mut self, win: WinId, y: u16, n: u16) -> Result<(), Refusal>
+        ensures refused { result_err result ≡ touchln_refusal (windows self.old) win.0 y n }
+        ensures touched { OnOk result (windows self.new ≡ after_touchln (windows self.old) win.0 y n true) }
+        ensures unchanged { OnErr result (self.new ≡ self.old) }
+        ensures sound { AreSoundWindows (windows self.new) }
+    {
+        self.wtouchln(win, y, n, true)
+    }
+
+    /// Touches all of `n` lines from line `y` on, or takes their touches away.
+    ///
+    /// # Errors
+    /// `NoSuchWindow`; `OutsideWindow` if the window hasn't line `y`, or not `n` lines from it on.
+    pub fn wtouchln(&mut self, win: WinId, y: u16, n: u16, flag: bool) -> Result<(), Refusal>
+        ensures refused { result_err result ≡ touchln_refusal (windows self.old) win.0 y n }
+        ensures touched { OnOk result (windows self.new ≡ after_touchln (windows self.old) win.0 y n flag) }
+        ensures unchanged { OnErr result (self.new ≡ self.old) }
+        ensures sound { AreSoundWindows (windows self.new) }
+    {
+        prove!(self.is_sound());
+        let lines = self.slot(win)?.lines();
+        if y >= lines || n > lines - y {
+            return Err(Refusal::OutsideWindow);
+        }
+        self.mark(win, y, n, flag);
+        Ok(())
+    }
+
+    /// Touches lines, or takes their touches away. They must be there.
+    fn mark(&mut self, win: WinId, first: u16, n: u16, flag: bool)
+        requires { IsSomeAnd ((windows self.old).window win.0) (λ a. first + n ≤ a.lines) }
+        ensures touched { windows self.new ≡ after_touchln (windows self.old) win.0 first n flag }
+        ensures sound { AreSoundWindows (windows self.new) }
+    {
+        mark_slot(&mut self.slots, win.0, first, n, flag);
+        prove!(self.is_sound());
+    }
+
+    /// Whether line `y` of a window is touched.
+    ///
+    /// # Errors
+    /// `NoSuchWindow`; `OutsideWindow` if the window hasn't line `y`.
+    pub fn is_linetouched(&self, win: WinId, y: u16) -> Result<bool, Refusal>
+        ensures refused { result_err result ≡ is_linetouched_refusal (windows self.now) win.0 y }
+        ensures touched { IfOk result (λ touched. touched ≡ is_linetouched (windows self.now).window win.0 y) }
+        ensures sound { AreSoundWindows (windows self.now) }
+    {
+        prove!(self.is_sound());
+        let slot = self.slot(win)?;
+        if y >= slot.lines() {
+            return Err(Refusal::OutsideWindow);
+        }
+        Ok(slot.touched(y).is_some())
+    }
+
+    /// Whether some line of a window is touched.
+    ///
+    /// # Errors
+    /// `NoSuchWindow`.
+    pub fn is_wintouched(&self, win: WinId) -> Result<bool, Refusal>
+        ensures refused { result_err result ≡ missing_refusal (windows self.now).window win.0 }
+        ensures touched { IfOk result (λ touched. touched ≡ is_wintouched (windows self.now).window win.0) }
+        ensures sound { AreSoundWindows (windows self.now) }
+    {
+        prove!(self.is_sound());
+        let slot = self.slot(win)?;
+        Ok(slot.is_touched())
     }
 }

@@ -1,15 +1,16 @@
 //! What the table keeps of one window.
 
-ghost use Rattle.std.specs.Prelude.{◌≡◌, ℕ, ◌<◌, ◌≤◌, ◌+◌, IfOk, IsSome, Some, None, length, map, replicate};
-ghost use Rattle.std.specs.List.{AllByRecursion, range_with_len};
+ghost use Rattle.std.specs.Prelude.{◌≡◌, ℕ, ◌<◌, ◌≤◌, ◌+◌, ◌&&◌, nat_le, nat_lt, if◌then◌else◌, IfOk, IsSome, is_some, Some, None, length, map, replicate, slice_index_or};
+ghost use Rattle.std.specs.List.{AllByRecursion, list_any, range_with_len};
 ghost use Rattle.cell.specs.Glyphs.{IsCell};
 ghost use Rattle.cell.specs.Pictures.{HasSize, AreCells};
+ghost use Rattle.world.specs.calls.Marks.{lines_marked};
 ghost use Rattle.world.specs.calls.Refresh.{unmarked};
 ghost use Rattle.world.specs.Rows.{filled, listed};
 ghost use Rattle.world.specs.Settings.{with_settings};
 ghost use Rattle.world.specs.calls.Making.{with_place, with_part};
 ghost use Rattle.world.specs.World.{new_window};
-ghost use Rattle.world.specs.Windows.{laid_over, cell_of, part_of};
+ghost use Rattle.world.specs.Windows.{any_below, laid_over, cell_of, part_of};
 ghost use Rattle.world.specs.World.{first_settings, blank_grid};
 ghost use Rattle.grids.specs.Kept.{window_of, backing_of, IsGridOf, IsKept};
 ghost use Rattle.grids.specs.steps.Slots.{part_in, names_parent};
@@ -271,6 +272,33 @@ impl Slot {
         self.settings.clear = false;
     }
 
+    /// Touches lines from their first column to their last, from one on, or takes their touches away.
+    pub fn mark(&mut self, first: u16, n: u16, flag: bool)
+        requires { first + n ≤ self.old.lines }
+        ensures window { window_of self.new ≡ lines_marked first n flag (window_of self.old) }
+        ensures shape { SameShape self.old self.new }
+        ensures part { part_in self.new.cells ≡ part_in self.old.cells }
+        ensures kept { IsKept self.new }
+    {
+        let columns = if flag {
+            Some(Columns {
+                first: 0,
+                last: self.columns - 1,
+            })
+        } else {
+            None
+        };
+        let start = usize::from(first);
+        mark_lines(&mut self.touched, start, start + usize::from(n), columns);
+    }
+
+    /// Whether some line is touched.
+    pub fn is_touched(&self) -> bool
+        ensures { result ≡ any_below self.now.lines (λ y. is_some ((window_of self.now).touched y)) }
+    {
+        has_columns(&self.touched)
+    }
+
     /// Puts cells into a line of the grid, from column `left` on.
     pub fn put_row(&mut self, line: u16, left: u16, row: &[Cell])
         requires own { part_in self.old.cells ≡ None }
@@ -307,6 +335,30 @@ fn none_touched(alloc: Global, lines: u16) -> Result<Vec<Option<Columns>>, Alloc
     ensures { IfOk result (λ lines_touched. lines_touched.items ≡ replicate lines None) }
 {
     vec![in alloc; None; usize::from(lines)]
+}
+
+/// Sets the touched columns of the lines from `start` on, up to `end`, which it leaves out.
+fn mark_lines(
+    touched: &mut Vec<Option<Columns>>,
+    start: usize,
+    end: usize,
+    columns: Option<Columns>,
+)
+    requires ordered { start ≤ end }
+    requires there { end ≤ length touched.old.items }
+    ensures length { length touched.new.items ≡ length touched.old.items }
+    ensures each { (y : ℕ) → slice_index_or touched.new.items y None ≡ (if nat_le start y && nat_lt y end then columns else slice_index_or touched.old.items y None) }
+{
+    for y in start..end {
+        touched[y] = columns;
+    }
+}
+
+/// Whether some line has touched columns.
+fn has_columns(touched: &[Option<Columns>]) -> bool
+    ensures { result ≡ list_any is_some touched.now }
+{
+    touched.iter().any(|columns| columns.is_some())
 }
 
 /// What a new window is set to.

@@ -5,6 +5,7 @@ ghost use Rattle.std.specs.List.{AllByRecursion, list_any, range_with_len};
 ghost use Rattle.cell.specs.Glyphs.{IsCell};
 ghost use Rattle.std.specs.Option.{is_none};
 ghost use Rattle.world.specs.Windows.{own, cell_of};
+ghost use Rattle.world.specs.calls.Marks.{lines_marked};
 ghost use Rattle.world.specs.calls.Refresh.{unmarked};
 ghost use Rattle.world.specs.Rows.{filled, listed};
 ghost use Rattle.world.specs.Settings.{with_settings};
@@ -226,6 +227,17 @@ pub fn unmark_slot(slots: &mut Vec<Option<Slot>>, at: u16)
 {
     if let Some(slot) = &mut slots[usize::from(at)] {
         slot.unmark();
+    }
+}
+
+/// Touches lines of a slot's window from their first column to their last, from one on, or takes their touches away.
+pub fn mark_slot(slots: &mut Vec<Option<Slot>>, at: u16, first: u16, n: u16, flag: bool)
+    requires taken { IsSome (slot_at slots.old.items at) }
+    requires lines { first + n ≤ lines_at slots.old.items at }
+    ensures { Changed slots.old.items slots.new.items at (lines_marked first n flag) }
+{
+    if let Some(slot) = &mut slots[usize::from(at)] {
+        slot.mark(first, n, flag);
     }
 }
 
