@@ -13,15 +13,16 @@ use Rattle.cell.specs.declared.refusal.Refusal.{Refusal}
 use Rattle.cell.specs.declared.refusal.Refusal.TheVariants.{NoMemory}
 use Rattle.grids.specs.Tables.{WindowTable, windows}
 use Rattle.desk.specs.Desks.{DeskTable, world}
-use Rattle.world.specs.calls.Dispatch.{after_making, after_writing, makes_window, making_refusal, making_reply, world_after}
+use Rattle.world.specs.calls.Dispatch.{after_copying, after_making, after_writing, makes_window, making_refusal, making_reply, world_after}
 use Rattle.desk.specs.Runs.{Called, MayLeave, MayRefuse}
 use Rattle.world.specs.declared.call.Call.{Call}
 use Rattle.world.specs.declared.call.Call.TheVariants as calls
+use Rattle.world.specs.declared.call.Copying.{Copying}
 use Rattle.world.specs.declared.call.Making.{Making}
 use Rattle.world.specs.declared.call.Writing.{Writing}
 use Rattle.world.specs.declared.call.Reply.{Reply}
 use Rattle.world.proofs.PanelLaws.{in_panel-none}
-use Rattle.world.proofs.Sizes.{SameSize, size-call, size-making, size-writing}
+use Rattle.world.proofs.Sizes.{SameSize, size-call, size-copying, size-making, size-writing}
 
 -- a desk of these windows and pairs, and this virtual screen
 abbrev pub desk_of : WindowTable → Pairs → VirtualScreen → DeskTable
@@ -71,6 +72,14 @@ module _ (old new : WindowTable) (pairs : Pairs) (virtual : VirtualScreen) where
       record { lines = ap (λ ws. ws.lines) written ∙ size.lines; columns = ap (λ ws. ws.columns) written ∙ size.columns }
   size-written writing (Err e) written unchanged = record { lines = ap (λ u. u.lines) unchanged; columns = ap (λ u. u.columns) unchanged }
 
+  -- ---- copies and marks
+
+  pub size-copied : (copying : Copying) (r : Result Reply Refusal) → OnOk r (windows new ≡ after_copying (windows old) copying) → OnErr r (new ≡ old) → SameSize (windows new) (windows old)
+  size-copied copying (Ok reply) copied unchanged =
+      let size = size-copying (windows old) copying in
+      record { lines = ap (λ ws. ws.lines) copied ∙ size.lines; columns = ap (λ ws. ws.columns) copied ∙ size.columns }
+  size-copied copying (Err e) copied unchanged = record { lines = ap (λ u. u.lines) unchanged; columns = ap (λ u. u.columns) unchanged }
+
 -- a new desk
 pub IsSound-new : (w : WindowTable) (lines columns : ℕ) (pairs : Pairs) (picture : Picture) → AreSoundWindows (windows w) → windows w ≡ (first_world lines columns).windows
     → pairs ≡ first_pairs → picture ≡ blank_picture lines columns → IsSound (world (desk_of w pairs (record { picture = picture; cursor = (0, 0); clear = false })))
@@ -98,6 +107,7 @@ IsSound-pairs w old new virtual h pairs = record {
 world-left : (old new : DeskTable) (call : Call) → MayLeave old call new → world new ≡ world_after (world old) call
 world-left old new (calls.Making making) h = h
 world-left old new (calls.Writing writing) h = h
+world-left old new (calls.Copying copying) h = h
 world-left old new (calls.Query query) h = ap world h
 world-left old new (calls.Refresh refresh) h = h
 

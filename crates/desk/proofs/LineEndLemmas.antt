@@ -13,7 +13,7 @@ use Rattle.script.specs.Readings.{said_by_line}
 use Rattle.script.specs.Log.{log_line}
 use Rattle.desk.specs.ScriptEnds.{LineEnds}
 use Rattle.world.specs.declared.call.Call.{Call}
-use Rattle.world.specs.declared.call.Call.TheVariants.{Making, Writing, Query, Refresh}
+use Rattle.world.specs.declared.call.Call.TheVariants.{Making, Writing, Copying, Query, Refresh}
 use Rattle.world.specs.declared.call.Refresh.TheVariants.{UpdatePanels, Doupdate, InitPair}
 use Rattle.world.specs.declared.call.Reply.{Reply}
 use Rattle.cell.specs.declared.refusal.Refusal.{Refusal}
@@ -26,6 +26,7 @@ use Rattle.desk.specs.declared.screen.Fault.TheVariants.{Write as Cut}
 the_doupdate : (call : Call) → is_doupdate call ≡ true → call ≡ Refresh Doupdate
 the_doupdate (Making m) h = cc
 the_doupdate (Writing w) h = cc
+the_doupdate (Copying w) h = cc
 the_doupdate (Query q) h = cc
 the_doupdate (Refresh UpdatePanels) h = cc
 the_doupdate (Refresh (InitPair pair foreground background)) h = cc

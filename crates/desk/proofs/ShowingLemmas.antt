@@ -47,6 +47,7 @@ pub record HasScreenSize (lines columns : ℕ) (s : State) : Type 0 where
 size-painter : (s : State) (call : Call) → ((after s call).painter.lines ≡ s.painter.lines) × ((after s call).painter.columns ≡ s.painter.columns)
 size-painter s (calls.Making making) = (refl, refl)
 size-painter s (calls.Writing writing) = (refl, refl)
+size-painter s (calls.Copying copying) = (refl, refl)
 size-painter s (calls.Query query) = (refl, refl)
 size-painter s (calls.Refresh UpdatePanels) = (refl, refl)
 size-painter s (calls.Refresh Doupdate) = (refl, refl)
@@ -79,6 +80,7 @@ agrees-call : (lines columns : ℕ) (s : State) (call : Call) (answer : Result R
 agrees-call lines columns s call (Err e) sent stream t size fits may h = nothing-sent s.painter stream sent t may.1 h
 agrees-call lines columns s (calls.Making making) (Ok r) sent stream t size fits may h = nothing-sent s.painter stream sent t may.1.0 h
 agrees-call lines columns s (calls.Writing writing) (Ok r) sent stream t size fits may h = nothing-sent s.painter stream sent t may.1.0 h
+agrees-call lines columns s (calls.Copying copying) (Ok r) sent stream t size fits may h = nothing-sent s.painter stream sent t may.1.0 h
 agrees-call lines columns s (calls.Query query) (Ok r) sent stream t size fits may h = nothing-sent s.painter stream sent t may.1.0 h
 agrees-call lines columns s (calls.Refresh UpdatePanels) (Ok r) sent stream t size fits may h = nothing-sent s.painter stream sent t may.1.0 h
 agrees-call lines columns s (calls.Refresh (InitPair pair foreground background)) (Ok r) sent stream t size fits may h = nothing-sent s.painter stream sent t may.1.0 h
@@ -115,6 +117,7 @@ leads-call : (lines columns : ℕ) (s : State) (call : Call) (answer : Result Re
 leads-call lines columns s call (Err e) sent t size fits may h = leads-nothing lines columns s.painter sent t may.1 fits h
 leads-call lines columns s (calls.Making making) (Ok r) sent t size fits may h = leads-nothing lines columns s.painter sent t may.1.0 fits h
 leads-call lines columns s (calls.Writing writing) (Ok r) sent t size fits may h = leads-nothing lines columns s.painter sent t may.1.0 fits h
+leads-call lines columns s (calls.Copying copying) (Ok r) sent t size fits may h = leads-nothing lines columns s.painter sent t may.1.0 fits h
 leads-call lines columns s (calls.Query query) (Ok r) sent t size fits may h = leads-nothing lines columns s.painter sent t may.1.0 fits h
 leads-call lines columns s (calls.Refresh UpdatePanels) (Ok r) sent t size fits may h = leads-nothing lines columns s.painter sent t may.1.0 fits h
 leads-call lines columns s (calls.Refresh (InitPair pair foreground background)) (Ok r) sent t size fits may h = leads-nothing lines columns s.painter sent t may.1.0 fits h

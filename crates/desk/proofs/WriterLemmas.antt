@@ -61,6 +61,7 @@ module _ {W : Type 0} (seen : W → Seen) where
   pub Writes-refused : (old : ScreenOver W) (call : Call) (e : Refusal) → MayRefuse (world old.desk) call e → Writes seen old old (call ∷ []) []
   Writes-refused old (calls.Making m) e h = quiet old old (calls.Making m) refl refl
   Writes-refused old (calls.Writing w) e h = quiet old old (calls.Writing w) refl refl
+  Writes-refused old (calls.Copying k) e h = quiet old old (calls.Copying k) refl refl
   Writes-refused old (calls.Query q) e h = quiet old old (calls.Query q) refl refl
   Writes-refused old (calls.Refresh UpdatePanels) e h = absurd (never-refused (world old.desk) UpdatePanels e refl h)
   Writes-refused old (calls.Refresh Doupdate) e h = absurd (never-refused (world old.desk) Doupdate e refl h)
@@ -75,6 +76,8 @@ module _ {W : Type 0} (seen : W → Seen) where
       ((λ i. record { world = h.2 i; painter = old.painter }), ([], (h.0, (refl, h.1)), quiet old (record old { desk = desk }) (calls.Making m) refl refl))
   called-ends old desk (calls.Writing w) reply other h =
       ((λ i. record { world = h.2 i; painter = old.painter }), ([], (h.0, (refl, h.1)), quiet old (record old { desk = desk }) (calls.Writing w) refl refl))
+  called-ends old desk (calls.Copying k) reply other h =
+      ((λ i. record { world = h.2 i; painter = old.painter }), ([], (h.0, (refl, h.1)), quiet old (record old { desk = desk }) (calls.Copying k) refl refl))
   called-ends old desk (calls.Query q) reply other h =
       ((λ i. record { world = world (h.2 i); painter = old.painter }), ([], (h.0, (refl, h.1)), quiet old (record old { desk = desk }) (calls.Query q) refl refl))
   called-ends old desk (calls.Refresh UpdatePanels) reply other h =

@@ -19,7 +19,7 @@ ghost use Rattle.world.specs.calls.Dispatch.{is_doupdate};
 ghost use Rattle.desk.specs.Desks.{world};
 ghost use Rattle.desk.specs.Runs.{Called};
 
-use crate::dispatch::{make, query, write};
+use crate::dispatch::{copy, make, query, write};
 use cell::{Cell, Colour, Grid, PairId, Pairs, Refusal, Shown, WinId};
 use grids::Grids;
 use std::alloc::Global;
@@ -97,6 +97,7 @@ impl Desk {
         match *call {
             Call::Making(making) => make(&mut self.windows.table, making),
             Call::Writing(writing) => write(&mut self.windows, writing),
+            Call::Copying(copying) => copy(&mut self.windows, copying),
             Call::Query(asked) => query(&self.windows, asked),
             Call::Refresh(Refresh::UpdatePanels) => Ok(Reply::Composed(self.update_panels())),
             Call::Refresh(Refresh::Doupdate) => unreachable!(),

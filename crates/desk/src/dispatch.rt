@@ -6,12 +6,12 @@ ghost use Rattle.cell.specs.Refusals.{RefusedBy};
 ghost use Rattle.world.specs.Panels.{in_no_panel};
 ghost use Rattle.world.specs.Sound.{AreSoundWindows};
 ghost use Rattle.grids.specs.Tables.{windows as windows_of};
-ghost use Rattle.world.specs.calls.Dispatch.{after_making, after_writing, makes_window, making_refusal, making_reply, query_refusal, query_reply, writing_refusal};
+ghost use Rattle.world.specs.calls.Dispatch.{after_copying, after_making, after_writing, copying_refusal, copying_reply, makes_window, making_refusal, making_reply, query_refusal, query_reply, writing_refusal};
 
 use cell::{Refusal, WinId};
 use grids::Grids;
 use windows::Windows;
-use world::{Making, Query, Reply, Writing};
+use world::{Copying, Making, Query, Reply, Writing};
 
 /// Makes a call of the table of making and placing, where no window is in a panel.
 #[rattlefmt::skip]
@@ -63,6 +63,29 @@ pub fn write(windows: &mut Windows, writing: Writing<'_>) -> Result<Reply, Refus
         Writing::Bkgdset { win, attrs, ch } => nothing(windows.wbkgdset(win, attrs, ch)?),
         Writing::ColorSet { win, pair } => nothing(windows.wcolor_set(win, pair)?),
         Writing::Bkgdpair { win, pair } => nothing(windows.wbkgdpair(win, pair)?),
+    }
+}
+
+/// Makes a call of the table of copies and marks.
+#[rattlefmt::skip]
+pub fn copy(windows: &mut Windows, copying: Copying) -> Result<Reply, Refusal>
+    ensures refused { result_err result ≡ copying_refusal (windows_of windows.old.table) copying }
+    ensures reply { IfOk result (λ reply. reply ≡ copying_reply (windows_of windows.old.table) copying) }
+    ensures copied { OnOk result (windows_of windows.new.table ≡ after_copying (windows_of windows.old.table) copying) }
+    ensures unchanged { OnErr result (windows.new.table ≡ windows.old.table) }
+    ensures sound { AreSoundWindows (windows_of windows.new.table) }
+{
+    match copying {
+        Copying::Overlay { src, dst } => nothing(windows.overlay(src, dst)?),
+        Copying::Overwrite { src, dst } => nothing(windows.overwrite(src, dst)?),
+        Copying::Copywin { src, dst, sminrow, smincol, dminrow, dmincol, dmaxrow, dmaxcol, overlay } =>
+            nothing(windows.copywin(src, dst, sminrow, smincol, dminrow, dmincol, dmaxrow, dmaxcol, overlay)?),
+        Copying::Touchwin { win } => nothing(windows.table.touchwin(win)?),
+        Copying::Untouchwin { win } => nothing(windows.table.untouchwin(win)?),
+        Copying::Touchline { win, y, n } => nothing(windows.table.touchline(win, y, n)?),
+        Copying::Touchln { win, y, n, flag } => nothing(windows.table.wtouchln(win, y, n, flag)?),
+        Copying::IsLinetouched { win, y } => Ok(Reply::Flag(windows.table.is_linetouched(win, y)?)),
+        Copying::IsWintouched { win } => Ok(Reply::Flag(windows.table.is_wintouched(win)?)),
     }
 }
 

@@ -1,5 +1,5 @@
 -- The lines of a script's log. Their form is Curspan's own; docs/curspan.1 tells it under LOG.
-use Rattle.std.specs.Prelude.{ℕ, List, [], ◌∷◌, ◌++◌, codes, decimal, Option, Some, None, Result, Ok, Err}
+use Rattle.std.specs.Prelude.{ℕ, if◌then◌else◌, List, [], ◌∷◌, ◌++◌, codes, decimal, Option, Some, None, Result, Ok, Err}
 use Rattle.std.specs.Option.{option_map_or}
 use Rattle.script.specs.Characters.{newline, space}
 use Rattle.cell.specs.Attributes.{hex_digits}
@@ -10,15 +10,16 @@ use Rattle.script.specs.declared.fault.ScriptFault.TheVariants.{Text, Reading, W
 use Rattle.script.specs.declared.fault.TextFault.{TextFault}
 use Rattle.script.specs.declared.fault.TextFault.TheVariants.{LineTooLong, BadByte, UnknownCall, WrongNumberOfArguments, BadArgument}
 use Rattle.world.specs.declared.call.Reply.{Reply}
-use Rattle.world.specs.declared.call.Reply.TheVariants.{Nothing, Number, Pair, Cell, Composed, Sent}
+use Rattle.world.specs.declared.call.Reply.TheVariants.{Nothing, Number, Pair, Cell, Flag, Composed, Sent}
 
--- what the log says of a reply, if it says something: a number, two numbers, or of a cell the code of its character, its attributes in two
+-- what the log says of a reply, if it says something: a number, two numbers, whether it is so, or of a cell the code of its character, its attributes in two
 -- hexadecimal digits, and its colour pair
 abbrev pub reply_text : Reply → Option (List ℕ)
 reply_text Nothing = None
 reply_text (Number win) = Some (decimal win.0)
 reply_text (Pair y x) = Some (decimal y ++ space ∷ decimal x)
 reply_text (Cell cell) = Some (decimal cell.character ++ space ∷ hex_digits cell.attributes ++ space ∷ decimal cell.pair)
+reply_text (Flag flag) = Some (if flag then codes "true" else codes "false")
 reply_text (Composed composed) = None
 reply_text (Sent sent) = None
 

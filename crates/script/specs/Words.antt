@@ -7,9 +7,10 @@ use Rattle.std.specs.Borrow.{Bor}
 use Rattle.cell.specs.declared.attr.Attr.{Attr}
 use Rattle.cell.specs.declared.window.WinId.{WinId}
 use Rattle.world.specs.declared.call.Call.{Call}
-use Rattle.world.specs.declared.call.Call.TheVariants.{Making, Writing, Query, Refresh}
+use Rattle.world.specs.declared.call.Call.TheVariants.{Making, Writing, Copying, Query, Refresh}
 use Rattle.world.specs.declared.call.Making.TheVariants.{Newwin, Subwin, Derwin, Newpad, Subpad, Delwin, Mvwin, Mvderwin}
 use Rattle.world.specs.declared.call.Writing.TheVariants.{Move, Addch, Addstr, Insch, Delch, Insertln, Deleteln, Erase, Clrtoeol, Clrtobot, Scrl, Setscrreg, Scrollok, Attrset, Attron, Attroff, Bkgdset, ColorSet, Bkgdpair}
+use Rattle.world.specs.declared.call.Copying.TheVariants.{Overlay, Overwrite, Copywin, Touchwin, Untouchwin, Touchline, Touchln, IsLinetouched, IsWintouched}
 use Rattle.world.specs.declared.call.Query.TheVariants.{Getyx, Getbegyx, Getmaxyx, Getparyx, Inch}
 use Rattle.world.specs.declared.call.Refresh.TheVariants.{UpdatePanels, Doupdate, InitPair}
 use Rattle.script.specs.declared.words.TheConstants.{WORDS}
@@ -32,8 +33,11 @@ nothing_said = record { numbers = []; signed = pos 0; attributes = 0; flag = fal
 abbrev pub number : Arguments → ℕ → ℕ
 number a place = slice_index a.numbers place
 
+abbrev pub window_at : Arguments → ℕ → WinId
+window_at a place = record { 0 = number a place }
+
 abbrev pub window : Arguments → WinId
-window a = record { 0 = number a 0 }
+window a = window_at a 0
 
 abbrev pub character : Arguments → ℕ
 character a = slice_index a.text 0
@@ -86,6 +90,16 @@ entry_of word.Attroff = record { word = codes "attroff"; forms = Number ∷ Attr
 entry_of word.Bkgdset = record { word = codes "bkgdset"; forms = Number ∷ Attributes ∷ Character ∷ []; call = λ a. Writing (Bkgdset (window a) (attributes a) (character a)) }
 entry_of word.ColorSet = record { word = codes "color_set"; forms = Number ∷ Number ∷ []; call = λ a. Writing (ColorSet (window a) (number a 1)) }
 entry_of word.Bkgdpair = record { word = codes "bkgdpair"; forms = Number ∷ Number ∷ []; call = λ a. Writing (Bkgdpair (window a) (number a 1)) }
+-- copies and marks
+entry_of word.Overlay = record { word = codes "overlay"; forms = Number ∷ Number ∷ []; call = λ a. Copying (Overlay (window a) (window_at a 1)) }
+entry_of word.Overwrite = record { word = codes "overwrite"; forms = Number ∷ Number ∷ []; call = λ a. Copying (Overwrite (window a) (window_at a 1)) }
+entry_of word.Copywin = record { word = codes "copywin"; forms = Number ∷ Number ∷ Number ∷ Number ∷ Number ∷ Number ∷ Number ∷ Number ∷ Flag ∷ []; call = λ a. Copying (Copywin (window a) (window_at a 1) (number a 2) (number a 3) (number a 4) (number a 5) (number a 6) (number a 7) a.flag) }
+entry_of word.Touchwin = record { word = codes "touchwin"; forms = Number ∷ []; call = λ a. Copying (Touchwin (window a)) }
+entry_of word.Untouchwin = record { word = codes "untouchwin"; forms = Number ∷ []; call = λ a. Copying (Untouchwin (window a)) }
+entry_of word.Touchline = record { word = codes "touchline"; forms = Number ∷ Number ∷ Number ∷ []; call = λ a. Copying (Touchline (window a) (number a 1) (number a 2)) }
+entry_of word.Touchln = record { word = codes "touchln"; forms = Number ∷ Number ∷ Number ∷ Flag ∷ []; call = λ a. Copying (Touchln (window a) (number a 1) (number a 2) a.flag) }
+entry_of word.IsLinetouched = record { word = codes "is_linetouched"; forms = Number ∷ Number ∷ []; call = λ a. Copying (IsLinetouched (window a) (number a 1)) }
+entry_of word.IsWintouched = record { word = codes "is_wintouched"; forms = Number ∷ []; call = λ a. Copying (IsWintouched (window a)) }
 -- queries
 entry_of word.Getyx = record { word = codes "getyx"; forms = Number ∷ []; call = λ a. Query (Getyx (window a)) }
 entry_of word.Getbegyx = record { word = codes "getbegyx"; forms = Number ∷ []; call = λ a. Query (Getbegyx (window a)) }

@@ -38,6 +38,8 @@ fn append_reply(line: &mut LogLine, reply: Reply) -> bool
             append(line, b" ");
             append_decimal(line, u64::from(x));
         }
+        Reply::Flag(true) => append(line, b"true"),
+        Reply::Flag(false) => append(line, b"false"),
         Reply::Cell(cell) => {
             append_decimal(line, u64::from(cell.ch()));
             append(line, b" ");

@@ -71,7 +71,7 @@ fn said(alloc: Global, line: &[u8]) -> Result<String, Fail> {
 
 /// Lines with their calls.
 #[rattlefmt::skip]
-const CALLS: [(&str, &str); 35] = [
+const CALLS: [(&str, &str); 44] = [
     ("newwin 3 6 0 2", "Making(Newwin { lines: 3, columns: 6, y: 0, x: 2 })"),
     ("subwin 1 2 3 4 5", "Making(Subwin { win: WinId(1), lines: 2, columns: 3, y: 4, x: 5 })"),
     ("derwin 1 2 3 4 5", "Making(Derwin { win: WinId(1), lines: 2, columns: 3, y: 4, x: 5 })"),
@@ -100,6 +100,18 @@ const CALLS: [(&str, &str); 35] = [
     ("bkgdpair 0 64", "Writing(Bkgdpair { win: WinId(0), pair: 64 })"),
     ("init_pair 1 7 0", "Refresh(InitPair { pair: 1, foreground: 7, background: 0 })"),
     ("bkgdset 0 10 .", "Writing(Bkgdset { win: WinId(0), attrs: Attr(16), ch: 46 })"),
+    ("overlay 1 2", "Copying(Overlay { src: WinId(1), dst: WinId(2) })"),
+    ("overwrite 1 2", "Copying(Overwrite { src: WinId(1), dst: WinId(2) })"),
+    (
+        "copywin 1 2 3 4 5 6 7 8 on",
+        "Copying(Copywin { src: WinId(1), dst: WinId(2), sminrow: 3, smincol: 4, dminrow: 5, dmincol: 6, dmaxrow: 7, dmaxcol: 8, overlay: true })",
+    ),
+    ("touchwin 1", "Copying(Touchwin { win: WinId(1) })"),
+    ("untouchwin 1", "Copying(Untouchwin { win: WinId(1) })"),
+    ("touchline 1 2 3", "Copying(Touchline { win: WinId(1), y: 2, n: 3 })"),
+    ("touchln 1 2 3 off", "Copying(Touchln { win: WinId(1), y: 2, n: 3, flag: false })"),
+    ("is_linetouched 1 2", "Copying(IsLinetouched { win: WinId(1), y: 2 })"),
+    ("is_wintouched 1", "Copying(IsWintouched { win: WinId(1) })"),
     ("getyx 1", "Query(Getyx { win: WinId(1) })"),
     ("getbegyx 1", "Query(Getbegyx { win: WinId(1) })"),
     ("getmaxyx 1", "Query(Getmaxyx { win: WinId(1) })"),

@@ -6,7 +6,7 @@ ghost use Rattle.script.specs.Words.{entry_of, placeless, word_of};
 use crate::arguments::Arguments;
 use crate::limits::MOST_ARGUMENTS;
 use cell::WinId;
-use world::{Call, Making, Query, Refresh, Writing};
+use world::{Call, Copying, Making, Query, Refresh, Writing};
 
 /// The form of an argument.
 #[derive(Clone, Copy, Debug, PartialEq, Eq)]
@@ -34,6 +34,8 @@ pub enum Word {
     // Writing.
     Move, Addch, Addstr, Insch, Delch, Insertln, Deleteln, Erase, Clrtoeol, Clrtobot, Scrl, Setscrreg, Scrollok,
     Attrset, Attron, Attroff, Bkgdset, ColorSet, Bkgdpair,
+    // Copies and marks.
+    Overlay, Overwrite, Copywin, Touchwin, Untouchwin, Touchline, Touchln, IsLinetouched, IsWintouched,
     // Queries.
     Getyx, Getbegyx, Getmaxyx, Getparyx, Inch,
     // Refresh.
@@ -42,13 +44,16 @@ pub enum Word {
 
 /// Every word.
 #[rattlefmt::skip]
-const WORDS: [Word; 35] = [
+const WORDS: [Word; 44] = [
     // Making and placing.
     Word::Newwin, Word::Subwin, Word::Derwin, Word::Newpad, Word::Subpad, Word::Delwin, Word::Mvwin, Word::Mvderwin,
     // Writing.
     Word::Move, Word::Addch, Word::Addstr, Word::Insch, Word::Delch, Word::Insertln, Word::Deleteln, Word::Erase,
     Word::Clrtoeol, Word::Clrtobot, Word::Scrl, Word::Setscrreg, Word::Scrollok,
     Word::Attrset, Word::Attron, Word::Attroff, Word::Bkgdset, Word::ColorSet, Word::Bkgdpair,
+    // Copies and marks.
+    Word::Overlay, Word::Overwrite, Word::Copywin, Word::Touchwin, Word::Untouchwin, Word::Touchline, Word::Touchln,
+    Word::IsLinetouched, Word::IsWintouched,
     // Queries.
     Word::Getyx, Word::Getbegyx, Word::Getmaxyx, Word::Getparyx, Word::Inch,
     // Refresh.
@@ -114,6 +119,16 @@ impl Word {
             Word::Bkgdset => Row { word: b"bkgdset", forms: &[Number, Attributes, Character] },
             Word::ColorSet => Row { word: b"color_set", forms: &[Number, Number] },
             Word::Bkgdpair => Row { word: b"bkgdpair", forms: &[Number, Number] },
+            // Copies and marks.
+            Word::Overlay => Row { word: b"overlay", forms: &[Number, Number] },
+            Word::Overwrite => Row { word: b"overwrite", forms: &[Number, Number] },
+            Word::Copywin => Row { word: b"copywin", forms: &[Number, Number, Number, Number, Number, Number, Number, Number, Flag] },
+            Word::Touchwin => Row { word: b"touchwin", forms: &[Number] },
+            Word::Untouchwin => Row { word: b"untouchwin", forms: &[Number] },
+            Word::Touchline => Row { word: b"touchline", forms: &[Number, Number, Number] },
+            Word::Touchln => Row { word: b"touchln", forms: &[Number, Number, Number, Flag] },
+            Word::IsLinetouched => Row { word: b"is_linetouched", forms: &[Number, Number] },
+            Word::IsWintouched => Row { word: b"is_wintouched", forms: &[Number] },
             // Queries.
             Word::Getyx => Row { word: b"getyx", forms: &[Number] },
             Word::Getbegyx => Row { word: b"getbegyx", forms: &[Number] },
@@ -164,6 +179,16 @@ impl Word {
             Word::Bkgdset => Call::Writing(Writing::Bkgdset { win, attrs: a.attributes(), ch: a.character() }),
             Word::ColorSet => Call::Writing(Writing::ColorSet { win, pair: a.number(1) }),
             Word::Bkgdpair => Call::Writing(Writing::Bkgdpair { win, pair: a.number(1) }),
+            // Copies and marks.
+            Word::Overlay => Call::Copying(Copying::Overlay { src: win, dst: WinId(a.number(1)) }),
+            Word::Overwrite => Call::Copying(Copying::Overwrite { src: win, dst: WinId(a.number(1)) }),
+            Word::Copywin => Call::Copying(Copying::Copywin { src: win, dst: WinId(a.number(1)), sminrow: a.number(2), smincol: a.number(3), dminrow: a.number(4), dmincol: a.number(5), dmaxrow: a.number(6), dmaxcol: a.number(7), overlay: a.flag() }),
+            Word::Touchwin => Call::Copying(Copying::Touchwin { win }),
+            Word::Untouchwin => Call::Copying(Copying::Untouchwin { win }),
+            Word::Touchline => Call::Copying(Copying::Touchline { win, y: a.number(1), n: a.number(2) }),
+            Word::Touchln => Call::Copying(Copying::Touchln { win, y: a.number(1), n: a.number(2), flag: a.flag() }),
+            Word::IsLinetouched => Call::Copying(Copying::IsLinetouched { win, y: a.number(1) }),
+            Word::IsWintouched => Call::Copying(Copying::IsWintouched { win }),
             // Queries.
             Word::Getyx => Call::Query(Query::Getyx { win }),
             Word::Getbegyx => Call::Query(Query::Getbegyx { win }),

@@ -1,5 +1,5 @@
 use Rattle.world.specs.World.{VirtualScreen}
-use Rattle.desk.proofs.DeskLemmas.{IsSound-desk, made-called, size-written}
+use Rattle.desk.proofs.DeskLemmas.{IsSound-desk, made-called, size-copied, size-written}
 use Rattle.desk.proofs.desk.Desk.call.Goals as goal
 
 pub returns-in-Making : goal.returns-in-Making
@@ -17,3 +17,11 @@ invariant_of-self-in-Writing c =
     let e = c.write.ensures in
     IsSound-desk d.windows.table c.write.new.windows.table d.pairs virtual c.self-in-Writing.invariant e.sound
     (size-written d.windows.table c.write.new.windows.table d.pairs virtual c.in-Writing.writing c.write.result e.written e.unchanged)
+
+pub invariant_of-self-in-Copying : goal.invariant_of-self-in-Copying
+invariant_of-self-in-Copying c =
+    let d = c.self-in-Copying.inside in
+    let virtual : VirtualScreen = record { picture = d.picture; cursor = d.cursor; clear = d.clear } in
+    let e = c.copy.ensures in
+    IsSound-desk d.windows.table c.copy.new.windows.table d.pairs virtual c.self-in-Copying.invariant e.sound
+    (size-copied d.windows.table c.copy.new.windows.table d.pairs virtual c.in-Copying.copying c.copy.result e.copied e.unchanged)
