@@ -11,3 +11,6 @@ pub mod Showing
 pub mod Copies
 pub mod CopyFrames
 pub mod Lines
+pub mod Touches
+pub mod Walks
+pub mod Syncs

@@ -16,7 +16,7 @@ use Rattle.grids.proofs.Changes.{slot_below}
 
 -- touching column after column
 
-touched-none : (n : ℕ) (test : ℕ → Bool) (r : Option Columns) → ((x : ℕ) → x < n → test x ≡ false) → touched_below n test r ≡ r
+pub touched-none : (n : ℕ) (test : ℕ → Bool) (r : Option Columns) → ((x : ℕ) → x < n → test x ≡ false) → touched_below n test r ≡ r
 touched-none zero test r h = refl
 touched-none (suc n) test r h =
     let last : test n ≡ false = h n (omega arith) in
@@ -49,7 +49,7 @@ touched-span left right test r h (suc n) l u =
       | inr up ↦ rw (here, touched-span left right test r h n up (omega arith)) (spread-more r left n up)
     ]
 
-touched-past : (left right : ℕ) (test : ℕ → Bool) (r : Option Columns) → ((x : ℕ) → test x ≡ (nat_le left x && nat_le x right)) → left ≤ right → (d : ℕ) → touched_below (suc right + d) test r ≡ spread r left right
+pub touched-past : (left right : ℕ) (test : ℕ → Bool) (r : Option Columns) → ((x : ℕ) → test x ≡ (nat_le left x && nat_le x right)) → left ≤ right → (d : ℕ) → touched_below (suc right + d) test r ≡ spread r left right
 touched-past left right test r h l zero = rw add-zero (touched-span left right test r h right l (omega arith))
 touched-past left right test r h l (suc d) =
     let past : test (suc right + d) ≡ false = grind (arith, nat_tests, h (suc right + d)) in

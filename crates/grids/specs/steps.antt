@@ -1,2 +1,3 @@
 pub mod Slots
 pub mod Changes
+pub mod Syncs

@@ -12,6 +12,7 @@ mod rectangle;
 mod rows;
 mod slot;
 mod slots;
+mod sync;
 mod table;
 
 pub use cell::{Attr, Cell, Frame, Refusal, WinId};

@@ -12,7 +12,7 @@ use Rattle.world.specs.declared.call.Call.{Call}
 use Rattle.world.specs.declared.call.Call.TheVariants as calls
 use Rattle.world.specs.declared.call.Making.{Making}
 use Rattle.world.specs.declared.call.Copying.{Copying}
-use Rattle.world.specs.declared.call.Copying.TheVariants.{Overlay, Overwrite, Copywin, Touchwin, Untouchwin, Touchline, Touchln, IsLinetouched, IsWintouched}
+use Rattle.world.specs.declared.call.Copying.TheVariants.{Overlay, Overwrite, Copywin, Touchwin, Untouchwin, Touchline, Touchln, Syncup, Syncdown, IsLinetouched, IsWintouched}
 use Rattle.world.specs.declared.call.Making.TheVariants.{Newwin, Subwin, Derwin, Newpad, Subpad, Delwin, Mvwin, Mvderwin}
 use Rattle.world.specs.declared.call.Writing.{Writing}
 use Rattle.world.specs.declared.call.Writing.TheVariants.{Move, Addch, Addstr, Insch, Delch, Insertln, Deleteln, Erase, Clrtoeol, Clrtobot, Scrl, Setscrreg, Scrollok, Attrset, Attron, Attroff, Bkgdset, ColorSet, Bkgdpair}
@@ -113,6 +113,8 @@ size-copying windows (Touchwin win) = record { lines = refl; columns = refl }
 size-copying windows (Untouchwin win) = record { lines = refl; columns = refl }
 size-copying windows (Touchline win y n) = record { lines = refl; columns = refl }
 size-copying windows (Touchln win y n flag) = record { lines = refl; columns = refl }
+size-copying windows (Syncup win) = record { lines = refl; columns = refl }
+size-copying windows (Syncdown win) = record { lines = refl; columns = refl }
 size-copying windows (IsLinetouched win y) = record { lines = refl; columns = refl }
 size-copying windows (IsWintouched win) = record { lines = refl; columns = refl }
 

@@ -141,6 +141,10 @@ pub enum Copying {
     Touchline { win: WinId, y: u16, n: u16 },
     /// Touches lines, from one on, or takes their touches away.
     Touchln { win: WinId, y: u16, n: u16, flag: bool },
+    /// Touches in each ancestor what is touched of the window.
+    Syncup { win: WinId },
+    /// Touches what is touched of some ancestor.
+    Syncdown { win: WinId },
     /// Whether a line is touched.
     IsLinetouched { win: WinId, y: u16 },
     /// Whether some line is touched.

@@ -16,7 +16,7 @@ use Rattle.cell.specs.declared.window.Frame.{Frame}
 use Rattle.world.specs.declared.call.Call.{Call}
 use Rattle.world.specs.declared.call.Call.TheVariants as calls
 use Rattle.world.specs.declared.call.Copying.{Copying}
-use Rattle.world.specs.declared.call.Copying.TheVariants.{Overlay, Overwrite, Copywin, Touchwin, Untouchwin, Touchline, Touchln, IsLinetouched, IsWintouched}
+use Rattle.world.specs.declared.call.Copying.TheVariants.{Overlay, Overwrite, Copywin, Touchwin, Untouchwin, Touchline, Touchln, Syncup, Syncdown, IsLinetouched, IsWintouched}
 use Rattle.world.specs.declared.call.Making.{Making}
 use Rattle.world.specs.declared.call.Making.TheVariants.{Newwin, Subwin, Derwin, Newpad, Subpad, Delwin, Mvwin, Mvderwin}
 use Rattle.world.specs.declared.call.Refresh.{Refresh}
@@ -77,6 +77,8 @@ copied_window (Touchwin win) = win.0
 copied_window (Untouchwin win) = win.0
 copied_window (Touchline win y n) = win.0
 copied_window (Touchln win y n flag) = win.0
+copied_window (Syncup win) = win.0
+copied_window (Syncdown win) = win.0
 copied_window (IsLinetouched win y) = win.0
 copied_window (IsWintouched win) = win.0
 
@@ -89,6 +91,8 @@ copying_frame windows (Touchwin win) = None
 copying_frame windows (Untouchwin win) = None
 copying_frame windows (Touchline win y n) = None
 copying_frame windows (Touchln win y n flag) = None
+copying_frame windows (Syncup win) = None
+copying_frame windows (Syncdown win) = None
 copying_frame windows (IsLinetouched win y) = None
 copying_frame windows (IsWintouched win) = None
 

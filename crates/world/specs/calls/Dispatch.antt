@@ -13,7 +13,7 @@ use Rattle.world.specs.calls.Missing.{missing_refusal}
 use Rattle.world.specs.calls.writing.Editing.{after_insertln, after_deleteln, after_erase, after_clrtoeol, after_clrtobot, scrl_refusal, after_scrl}
 use Rattle.world.specs.calls.writing.Options.{move_refusal, after_move, setscrreg_refusal, after_setscrreg, after_scrollok, after_attrset, after_attron, after_attroff, bkgdset_refusal, after_bkgdset, pair_refusal, after_color_set, after_bkgdpair}
 use Rattle.world.specs.calls.Copies.{overlay_refusal, after_overlay, copywin_refusal, after_copywin}
-use Rattle.world.specs.calls.Marks.{touchln_refusal, after_touchln, after_touchwin, is_linetouched_refusal, is_linetouched, is_wintouched}
+use Rattle.world.specs.calls.Marks.{touchln_refusal, after_touchln, after_touchwin, after_syncup, after_syncdown, is_linetouched_refusal, is_linetouched, is_wintouched}
 use Rattle.world.specs.calls.Queries.{cell_at_cursor}
 use Rattle.world.specs.calls.Queries.{cursor_of, getbegyx_refusal, place_on_screen, window_size, getparyx_refusal, offset_in_parent}
 use Rattle.world.specs.calls.Refresh.{after_update_panels, after_doupdate, init_pair_refusal, after_init_pair}
@@ -25,7 +25,7 @@ use Rattle.world.specs.declared.call.Making.TheVariants.{Newwin, Subwin, Derwin,
 use Rattle.world.specs.declared.call.Writing.{Writing}
 use Rattle.world.specs.declared.call.Writing.TheVariants.{Move, Addch, Addstr, Insch, Delch, Insertln, Deleteln, Erase, Clrtoeol, Clrtobot, Scrl, Setscrreg, Scrollok, Attrset, Attron, Attroff, Bkgdset, ColorSet, Bkgdpair}
 use Rattle.world.specs.declared.call.Copying.{Copying}
-use Rattle.world.specs.declared.call.Copying.TheVariants.{Overlay, Overwrite, Copywin, Touchwin, Untouchwin, Touchline, Touchln, IsLinetouched, IsWintouched}
+use Rattle.world.specs.declared.call.Copying.TheVariants.{Overlay, Overwrite, Copywin, Touchwin, Untouchwin, Touchline, Touchln, Syncup, Syncdown, IsLinetouched, IsWintouched}
 use Rattle.world.specs.declared.call.Query.{Query}
 use Rattle.world.specs.declared.call.Query.TheVariants.{Getyx, Getbegyx, Getmaxyx, Getparyx, Inch}
 use Rattle.world.specs.declared.call.Refresh.{Refresh}
@@ -76,6 +76,8 @@ copying_refusal windows (Touchwin win) = missing_refusal windows.window win.0
 copying_refusal windows (Untouchwin win) = missing_refusal windows.window win.0
 copying_refusal windows (Touchline win y n) = touchln_refusal windows win.0 y n
 copying_refusal windows (Touchln win y n flag) = touchln_refusal windows win.0 y n
+copying_refusal windows (Syncup win) = missing_refusal windows.window win.0
+copying_refusal windows (Syncdown win) = missing_refusal windows.window win.0
 copying_refusal windows (IsLinetouched win y) = is_linetouched_refusal windows win.0 y
 copying_refusal windows (IsWintouched win) = missing_refusal windows.window win.0
 
@@ -162,6 +164,8 @@ after_copying windows (Touchwin win) = after_touchwin windows win.0 true
 after_copying windows (Untouchwin win) = after_touchwin windows win.0 false
 after_copying windows (Touchline win y n) = after_touchln windows win.0 y n true
 after_copying windows (Touchln win y n flag) = after_touchln windows win.0 y n flag
+after_copying windows (Syncup win) = after_syncup windows win.0
+after_copying windows (Syncdown win) = after_syncdown windows win.0
 after_copying windows (IsLinetouched win y) = windows
 after_copying windows (IsWintouched win) = windows
 
@@ -195,6 +199,8 @@ copying_reply windows (Touchwin win) = Nothing
 copying_reply windows (Untouchwin win) = Nothing
 copying_reply windows (Touchline win y n) = Nothing
 copying_reply windows (Touchln win y n flag) = Nothing
+copying_reply windows (Syncup win) = Nothing
+copying_reply windows (Syncdown win) = Nothing
 copying_reply windows (IsLinetouched win y) = Flag (is_linetouched windows.window win.0 y)
 copying_reply windows (IsWintouched win) = Flag (is_wintouched windows.window win.0)
 

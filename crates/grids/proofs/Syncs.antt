@@ -1,0 +1,360 @@
+-- What is touched of a window, handed on from window to window.
+use Rattle.std.proofs.Common.{◌≡◌, ◌≢◌, ℕ, ◌+◌, ◌-◌, ◌<◌, ◌≤◌, Bool, true, false, if◌then◌else◌, ◌==◌, ◌&&◌, ◌||◌, nat_lt, nat_le, Option, Some, None, IsSome, List, [], ◌∷◌, ap, arith, refl, sym, ◌∙◌, subst, inl, inr, eq-eqb, ne_eqb, zero-add}
+use Rattle.std.specs.List.{list_any}
+use Rattle.std.specs.Option.{option_map, option_map_or}
+use mathlib.Core.Path.{fun_ext}
+use Rattle.std.proofs.lemmas.Bool.{and_from, and_parts, cases_eq, cases_lt, cond-true, cond-false, le-leb, leb-true, lt-ltb, le-ltb}
+use Rattle.std.proofs.lemmas.Bool.Decides.{nat_tests}
+use Rattle.cell.specs.declared.limits.TheConstants.{LARGEST_PAD}
+use Rattle.cell.specs.declared.window.Frame.{Frame}
+use Rattle.world.specs.Windows.{Backing, part_of, GridPlace, Window, WindowMap, Windows, ancestors, any_below, changed, onward, own, touched_below}
+use Rattle.world.specs.Frames.{IsIn}
+use Rattle.world.specs.Sharing.{is_same_place, shows_part_of}
+use Rattle.world.specs.Sound.{AreSoundWindows}
+use Rattle.world.specs.calls.Marks.{after_syncdown, after_syncup, in_line, shows_touched_of, touching}
+use Rattle.world.specs.declared.settings.Columns.{Columns}
+use Rattle.world.proofs.Below.{any_below-some, any_below-true, any_in-some, any_in-true}
+use Rattle.world.proofs.SharingLaws.{SamePlace, same-true, true-same}
+use Rattle.world.proofs.WindowLaws.{own-onward, touched-touched}
+use Rattle.grids.specs.declared.slot.Part.{Part}
+use Rattle.grids.specs.steps.Syncs.{EndsWithin, has_column, is_touched_at, part_behind, shows_touched, touched_shown}
+use Rattle.grids.proofs.Touches.{changed-here, changed-nothing, changed-other, changed-same, changed-twice, touching-is, touching-none}
+use Rattle.grids.proofs.Walks.{Walk, Walk-step, ancestors-none, ancestors-parent, behind-none, behind-some, sound-there}
+
+-- ---- the test by numbers
+
+both_ways : (s t : Bool) → (s ≡ true → t ≡ true) → (t ≡ true → s ≡ true) → s ≡ t
+both_ways true true f g = refl
+both_ways true false f g = sym (f refl)
+both_ways false true f g = g refl
+both_ways false false f g = refl
+
+module _ (window : WindowMap) (s t : ℕ) (a : Window) (g : GridPlace) (p0 p1 q0 q1 : ℕ) (there : window s ≡ Some a)
+    (leads_s : own window s 0 0 ≡ Some (onward p0 p1 g)) (leads_t : own window t 0 0 ≡ Some (onward q0 q1 g)) where
+  same-is : (v z y x : ℕ) → is_same_place (own window s v z) (own window t y x) ≡ is_same_place (Some (onward v z (onward p0 p1 g))) (Some (onward y x (onward q0 q1 g)))
+  same-is v z y x =
+      ap (λ o. is_same_place o (own window t y x)) (own-onward window s v z ∙ ap (option_map (onward v z)) leads_s)
+      ∙ ap (λ o. is_same_place (Some (onward v z (onward p0 p1 g))) o) (own-onward window t y x ∙ ap (option_map (onward y x)) leads_t)
+
+  -- on line v of the window
+  in_columns : Option Columns → ℕ → ℕ → ℕ → Bool
+  in_columns o v y x = option_map_or (λ r. shows_part_of window s (in_line v r) t y x) o false
+
+  record Meets (o : Option Columns) (v y x : ℕ) : Type 0 where
+    line : p0 + v ≡ q0 + y
+    column : p1 ≤ q1 + x
+    among : has_column o (q1 + x - p1) ≡ true
+
+  meets : (o : Option Columns) (v y x : ℕ) → in_columns o v y x ≡ true → Meets o v y x
+  unfolding in_columns
+  meets None v y x h = cc
+  meets (Some r) v y x h =
+      let found = any_in-true (in_line v r) (λ k z. is_same_place (own window s k z) (own window t y x)) h in
+      let same = same-true (onward found.line found.column (onward p0 p1 g)) (onward y x (onward q0 q1 g)) (sym (same-is found.line found.column y x) ∙ found.passes) in
+      let line : g.line + p0 + found.line ≡ g.line + q0 + y = same.line in
+      let column : g.column + p1 + found.column ≡ g.column + q1 + x = same.column in
+      let inside = found.inside in
+      let at : found.column ≡ q1 + x - p1 = omega (arith, column) in
+      record {
+        line = omega (arith, line, inside.top, inside.bottom);
+        column = omega (arith, column);
+        among = and_from (nat_le r.first (q1 + x - p1)) (nat_le (q1 + x - p1) r.last) (le-leb r.first (q1 + x - p1) (omega (arith, inside.left, at))) (le-leb (q1 + x - p1) r.last (omega (arith, inside.right, at)));
+      }
+
+  from-meets : (o : Option Columns) (v y x : ℕ) → Meets o v y x → in_columns o v y x ≡ true
+  unfolding in_columns
+  from-meets None v y x h = let among = h.among in cc
+  from-meets (Some r) v y x h =
+      let parts = and_parts (nat_le r.first (q1 + x - p1)) (nat_le (q1 + x - p1) r.last) h.among in
+      let first = leb-true r.first (q1 + x - p1) parts.0 in
+      let last = leb-true (q1 + x - p1) r.last parts.1 in
+      let line : g.line + p0 + v ≡ g.line + q0 + y = omega (arith, h.line) in
+      let column : g.column + p1 + (q1 + x - p1) ≡ g.column + q1 + x = omega (arith, h.column) in
+      any_in-some (in_line v r) (λ k z. is_same_place (own window s k z) (own window t y x)) v (q1 + x - p1)
+      (record { top = omega arith; bottom = omega arith; left = first; right = last })
+      (same-is v (q1 + x - p1) y x ∙ true-same (onward v (q1 + x - p1) (onward p0 p1 g)) (onward y x (onward q0 q1 g)) (record { grid = refl; line = line; column = column }))
+
+  shows-line : (y x : ℕ) → shows_touched_of window s t y x ≡ any_below a.lines (λ v. in_columns (a.touched v) v y x)
+  unfolding in_columns
+  shows-line y x = ap (λ (o : Option Window). option_map_or (λ (b : Window). any_below b.lines (λ v. option_map_or (λ r. shows_part_of window s (in_line v r) t y x) (b.touched v) false)) o false) there
+
+  pub shows-is : (y x : ℕ) → shows_touched_of window s t y x ≡ shows_touched a (p0, p1) (q0, q1) y x
+  shows-is y x = shows-line y x ∙ both_ways (any_below a.lines (λ v. in_columns (a.touched v) v y x)) (shows_touched a (p0, p1) (q0, q1) y x)
+      (λ h.
+          let found = any_below-true a.lines (λ v. in_columns (a.touched v) v y x) h in
+          let m = meets (a.touched found.number) found.number y x found.passes in
+          let at : found.number ≡ q0 + y - p0 = omega (arith, m.line) in
+          and_from (nat_le p0 (q0 + y) && nat_le p1 (q1 + x)) (is_touched_at a (q0 + y - p0) (q1 + x - p1))
+          (and_from (nat_le p0 (q0 + y)) (nat_le p1 (q1 + x)) (le-leb p0 (q0 + y) (omega (arith, m.line))) (le-leb p1 (q1 + x) m.column))
+          (and_from (nat_lt (q0 + y - p0) a.lines) (has_column (a.touched (q0 + y - p0)) (q1 + x - p1)) (lt-ltb (q0 + y - p0) a.lines (omega (arith, found.below, at)))
+          (subst (λ v. has_column (a.touched v) (q1 + x - p1) ≡ true) at m.among)))
+      (λ h.
+          let parts = and_parts (nat_le p0 (q0 + y) && nat_le p1 (q1 + x)) (is_touched_at a (q0 + y - p0) (q1 + x - p1)) h in
+          let starts = and_parts (nat_le p0 (q0 + y)) (nat_le p1 (q1 + x)) parts.0 in
+          let touched = and_parts (nat_lt (q0 + y - p0) a.lines) (has_column (a.touched (q0 + y - p0)) (q1 + x - p1)) parts.1 in
+          let line = leb-true p0 (q0 + y) starts.0 in
+          any_below-some a.lines (λ v. in_columns (a.touched v) v y x) (q0 + y - p0) (let lt : nat_lt (q0 + y - p0) a.lines ≡ true = touched.0 in grind (arith, nat_tests))
+          (from-meets (a.touched (q0 + y - p0)) (q0 + y - p0) y x (record { line = omega (arith, line); column = leb-true p1 (q1 + x) starts.1; among = touched.1 })))
+
+-- ---- of a window and one from which it derives
+
+some_place : (o : Option GridPlace) → IsSome o → (p : GridPlace) × (o ≡ Some p)
+some_place None h = cc
+some_place (Some p) h = (p, refl)
+
+module _ (windows : Windows) (w u line column : ℕ) (sound : AreSoundWindows windows) (h : Walk windows.window w u line column) where
+  end : (p : GridPlace) × (own windows.window u 0 0 ≡ Some p)
+  end = some_place (own windows.window u 0 0) (sound-there windows u h.above sound h.at_is).chain_ends
+
+  leads_u : own windows.window u 0 0 ≡ Some (onward 0 0 end.0)
+  leads_u = own-onward windows.window u 0 0 ∙ ap (option_map (onward 0 0)) end.1
+
+  leads_w : own windows.window w 0 0 ≡ Some (onward line column end.0)
+  leads_w = h.leads 0 0 ∙ (λ i. own windows.window u (zero-add line i) (zero-add column i)) ∙ own-onward windows.window u line column ∙ ap (option_map (onward line column)) end.1
+
+  pub shows-up : (y x : ℕ) → shows_touched_of windows.window w u y x ≡ shows_touched h.below (line, column) (0, 0) y x
+  shows-up y x = shows-is windows.window w u h.below end.0 line column 0 0 h.from_is leads_w leads_u y x
+
+  pub shows-down : (y x : ℕ) → shows_touched_of windows.window u w y x ≡ shows_touched h.above (0, 0) (line, column) y x
+  shows-down y x = shows-is windows.window u w h.above end.0 0 0 line column h.at_is leads_u leads_w y x
+
+-- ---- touching twice
+
+touching-twice : (a : Window) (s t : ℕ → ℕ → Bool) → touching s (touching t a) ≡ touching (λ y x. s y x || t y x) a
+touching-twice a s t =
+    touching-is a (λ z. if nat_lt z a.lines then touched_below a.columns (s z) (if nat_lt z a.lines then touched_below a.columns (t z) (a.touched z) else a.touched z) else (if nat_lt z a.lines then touched_below a.columns (t z) (a.touched z) else a.touched z))
+    (λ y x. s y x || t y x)
+    (λ z. elim (cases_lt z a.lines) [
+      | inl below ↦ let on = lt-ltb z a.lines below in rw on (touched-touched a.columns (s z) (t z) (a.touched z))
+      | inr past ↦ let off = le-ltb z a.lines past in rw off refl
+    ])
+
+or-same : (t : Bool) → (t || t) ≡ t
+or-same true = refl
+or-same false = refl
+
+or-swap : (s t : Bool) → (s || t) ≡ (t || s)
+or-swap true true = refl
+or-swap true false = refl
+or-swap false true = refl
+or-swap false false = refl
+
+touching-again : (a : Window) (t : ℕ → ℕ → Bool) → touching t (touching t a) ≡ touching t a
+touching-again a t = touching-twice a t t ∙ ap (λ (s : ℕ → ℕ → Bool). touching s a) (fun_ext (λ y. fun_ext (λ x. or-same (t y x))))
+
+again : (o : Option Window) (t : ℕ → ℕ → Bool) → option_map (touching t) (option_map (touching t) o) ≡ option_map (touching t) o
+again None t = refl
+again (Some a) t = ap Some (touching-again a t)
+
+-- ---- what is touched doesn't change what else a window is
+
+abbrev pub untouched : Window → Window
+untouched a = record a { touched = λ y. None }
+
+pub record SameBut (o : Option Window) (b : Window) : Type 0 where
+  pub window : Window
+  pub there : o ≡ Some window
+  pub lines : window.lines ≡ b.lines
+  pub columns : window.columns ≡ b.columns
+  pub backing : window.backing ≡ b.backing
+
+same-window : (o p : Option Window) (b : Window) → option_map untouched o ≡ option_map untouched p → p ≡ Some b → SameBut o b
+same-window None None b h e = cc
+same-window None (Some c) b h e = cc
+same-window (Some a) None b h e = cc
+same-window (Some a) (Some c) b h e =
+    let same : untouched a ≡ untouched c = cc in
+    let is : c ≡ b = cc in
+    record {
+      window = a;
+      there = refl;
+      lines = ap (λ (w : Window). w.lines) same ∙ ap (λ (w : Window). w.lines) is;
+      columns = ap (λ (w : Window). w.columns) same ∙ ap (λ (w : Window). w.columns) is;
+      backing = ap (λ (w : Window). w.backing) same ∙ ap (λ (w : Window). w.backing) is;
+    }
+
+untouched_if : (t : Bool) (o : Option Window) (test : ℕ → ℕ → Bool) → option_map untouched (if t then option_map (touching test) o else o) ≡ option_map untouched o
+untouched_if true None test = refl
+untouched_if true (Some a) test = refl
+untouched_if false o test = refl
+
+ends-within : (o p : Option Window) (b : Window) (line column : ℕ) → SameBut o b → line + b.lines ≤ LARGEST_PAD → column + b.columns ≤ LARGEST_PAD → (window : WindowMap) (w : ℕ) → window w ≡ o → EndsWithin window w (line, column)
+ends-within o p b line column h lines columns window w is = rw (is, h.there) (omega (arith, lines, h.lines), omega (arith, columns, h.columns))
+
+-- ---- handed up: window u has been reached, and what is touched was handed to it and to all on the way
+
+pub record IsHandedTo (old cur : Windows) (w u line column : ℕ) : Type 0 where
+  pub walk : Walk old.window w u line column
+  pub size : cur ≡ record old { window = cur.window }
+  pub same : (v : ℕ) → option_map untouched (cur.window v) ≡ option_map untouched (old.window v)
+  pub source : cur.window w ≡ old.window w
+  pub rest : (v : ℕ) → (if list_any (λ p. p == v) (ancestors old.window u) then option_map (touching (shows_touched_of old.window w v)) (cur.window v) else cur.window v) ≡ (after_syncup old w).window v
+
+-- what the reached window is
+pub reached : (old cur : Windows) (w u line column : ℕ) → (walk : Walk old.window w u line column) → ((v : ℕ) → option_map untouched (cur.window v) ≡ option_map untouched (old.window v)) → SameBut (cur.window u) walk.above
+reached old cur w u line column walk same = same-window (cur.window u) (old.window u) walk.above (same u) walk.at_is
+
+derives_if : (t s : Bool) (f : Window → Window) (o : Option Window) → (if t || s then option_map f o else o) ≡ (if s then (if t then option_map f o else option_map f o) else (if t then option_map f o else o))
+derives_if true true f o = refl
+derives_if true false f o = refl
+derives_if false true f o = refl
+derives_if false false f o = refl
+
+agree : (o : Option Window) (f g : Window → Window) → ((a : Window) → f a ≡ g a) → option_map f o ≡ option_map g o
+agree None f g h = refl
+agree (Some a) f g h = ap Some (h a)
+
+module _ (old : Windows) (sound : AreSoundWindows old) (w u line column : ℕ) (part : Part) (walk : Walk old.window w u line column)
+    (behind : part_behind walk.above.backing ≡ Some part) where
+  backing_is : walk.above.backing ≡ part_of part.parent part.line part.column
+  backing_is = behind-some walk.above.backing part behind
+
+  pub next-walk : Walk old.window w part.parent (line + part.line) (column + part.column)
+  next-walk = Walk-step old w u line column part sound walk backing_is
+
+  pub next-ancestors : ancestors old.window u ≡ part.parent ∷ ancestors old.window part.parent
+  next-ancestors = ancestors-parent old.window u walk.above part walk.at_is backing_is (sound-there old u walk.above sound walk.at_is).chain_ends
+
+  -- the window that was reached ends within the limits, and so does the first one in it
+  pub few-above : (0 + next-walk.above.lines ≤ LARGEST_PAD) × (0 + next-walk.above.columns ≤ LARGEST_PAD)
+  few-above =
+      let there = sound-there old part.parent next-walk.above sound next-walk.at_is in
+      (omega (arith, there.few_lines), omega (arith, there.few_columns))
+
+  pub few-below : (line + part.line + next-walk.below.lines ≤ LARGEST_PAD) × (column + part.column + next-walk.below.columns ≤ LARGEST_PAD)
+  few-below =
+      let there = sound-there old part.parent next-walk.above sound next-walk.at_is in
+      (omega (arith, there.few_lines, next-walk.lines), omega (arith, there.few_columns, next-walk.columns))
+
+  -- one window further up
+  module _ (cur next : Windows) (h : IsHandedTo old cur w u line column) (other : part.parent ≢ w)
+      (step : next ≡ record cur { window = changed cur.window part.parent (touching (touched_shown cur.window w (line + part.line, column + part.column) (0, 0))) }) where
+    test : ℕ → ℕ → Bool
+    test = touched_shown cur.window w (line + part.line, column + part.column) (0, 0)
+
+    test-is : test ≡ shows_touched_of old.window w part.parent
+    unfolding test
+    test-is = fun_ext (λ y. fun_ext (λ x.
+        ap (λ (o : Option Window). option_map_or (λ (a : Window). shows_touched a (line + part.line, column + part.column) (0, 0) y x) o false) (h.source ∙ next-walk.from_is)
+        ∙ sym (shows-up old w part.parent (line + part.line) (column + part.column) sound next-walk y x)))
+
+    next_at : (v : ℕ) → next.window v ≡ changed cur.window part.parent (touching test) v
+    unfolding test
+    next_at v = ap (λ (ws : Windows). ws.window v) step
+
+    rest-next : (v : ℕ) → (if list_any (λ p. p == v) (ancestors old.window part.parent) then option_map (touching (shows_touched_of old.window w v)) (next.window v) else next.window v) ≡ (after_syncup old w).window v
+    rest-next v =
+        let further = list_any (λ p. p == v) (ancestors old.window part.parent) in
+        let f = touching (shows_touched_of old.window w v) in
+        let all : list_any (λ p. p == v) (ancestors old.window u) ≡ ((part.parent == v) || further) = ap (list_any (λ p. p == v)) next-ancestors in
+        let target : (if (part.parent == v) || further then option_map f (cur.window v) else cur.window v) ≡ (after_syncup old w).window v =
+            ap (λ (t : Bool). if t then option_map f (cur.window v) else cur.window v) (sym all) ∙ h.rest v in
+        elim (cases_eq v part.parent) [
+          | inl same ↦
+              let here : next.window v ≡ option_map f (cur.window v) =
+                  next_at v ∙ ap (changed cur.window part.parent (touching test)) same ∙ changed-here cur.window part.parent (touching test)
+                  ∙ ap (λ (t : ℕ → ℕ → Bool). option_map (touching t) (cur.window part.parent)) test-is
+                  ∙ ap (λ k. option_map (touching (shows_touched_of old.window w k)) (cur.window k)) (sym same) in
+              let on : (part.parent == v) ≡ true = eq-eqb part.parent v (sym same) in
+              ap (λ (o : Option Window). if further then option_map f o else o) here
+              ∙ either_way further f (cur.window v) (again (cur.window v) (shows_touched_of old.window w v))
+              ∙ sym (ap (λ (t : Bool). if t || further then option_map f (cur.window v) else cur.window v) on)
+              ∙ target
+          | inr apart ↦
+              let here : next.window v ≡ cur.window v = next_at v ∙ changed-other cur.window part.parent (touching test) v apart in
+              let off : (part.parent == v) ≡ false = ne_eqb part.parent v (λ e. apart (sym e)) in
+              ap (λ (o : Option Window). if further then option_map f o else o) here
+              ∙ sym (ap (λ (t : Bool). if t || further then option_map f (cur.window v) else cur.window v) off)
+              ∙ target
+        ] where
+      either_way : (t : Bool) (f : Window → Window) (o : Option Window) → option_map f (option_map f o) ≡ option_map f o → (if t then option_map f (option_map f o) else option_map f o) ≡ option_map f o
+      either_way true f o e = e
+      either_way false f o e = refl
+
+    pub handed-on : IsHandedTo old next w part.parent (line + part.line) (column + part.column)
+    unfolding test
+    handed-on = record {
+      walk = next-walk;
+      size = step ∙ ap (λ (ws : Windows). record ws { window = changed cur.window part.parent (touching test) }) h.size ∙ ap (λ (ws : WindowMap). record old { window = ws }) (sym (ap (λ (ws : Windows). ws.window) step));
+      same = λ v. ap (option_map untouched) (next_at v) ∙ untouched_if (v == part.parent) (cur.window v) test ∙ h.same v;
+      source = next_at w ∙ changed-other cur.window part.parent (touching test) w (λ e. other (sym e)) ∙ h.source;
+      rest = rest-next;
+    }
+
+-- ---- at the last window
+
+pub handed-all : (old cur : Windows) (w u line column : ℕ) → (h : IsHandedTo old cur w u line column) → part_behind h.walk.above.backing ≡ None → cur ≡ after_syncup old w
+handed-all old cur w u line column h last =
+    let grid = behind-none h.walk.above.backing last in
+    let none = ancestors-none old.window u h.walk.above grid.0 h.walk.at_is grid.1 in
+    h.size ∙ ap (λ (ws : WindowMap). record old { window = ws }) (fun_ext (λ v.
+    sym (ap (λ (l : List ℕ). if list_any (λ p. p == v) l then option_map (touching (shows_touched_of old.window w v)) (cur.window v) else cur.window v) none) ∙ h.rest v))
+
+-- ---- taken down: what is touched of window u and of all on the way was taken
+
+pub record IsTakenFrom (old cur : Windows) (w u line column : ℕ) : Type 0 where
+  pub walk : Walk old.window w u line column
+  pub size : cur ≡ record old { window = cur.window }
+  pub same : (v : ℕ) → option_map untouched (cur.window v) ≡ option_map untouched (old.window v)
+  pub others : (v : ℕ) → v ≢ w → cur.window v ≡ old.window v
+  pub rest : changed cur.window w (touching (λ y x. list_any (λ v. shows_touched_of old.window v w y x) (ancestors old.window u))) ≡ (after_syncdown old w).window
+
+module _ (old : Windows) (sound : AreSoundWindows old) (w u line column : ℕ) (part : Part) (walk : Walk old.window w u line column)
+    (behind : part_behind walk.above.backing ≡ Some part) (cur next : Windows) (h : IsTakenFrom old cur w u line column) (other : part.parent ≢ w)
+    (step : next ≡ record cur { window = changed cur.window w (touching (touched_shown cur.window part.parent (0, 0) (line + part.line, column + part.column))) }) where
+  taken : ℕ → ℕ → Bool
+  taken = touched_shown cur.window part.parent (0, 0) (line + part.line, column + part.column)
+
+  further-walk : Walk old.window w part.parent (line + part.line) (column + part.column)
+  further-walk = next-walk old sound w u line column part walk behind
+
+  taken-is : taken ≡ shows_touched_of old.window part.parent w
+  unfolding taken further-walk
+  taken-is = fun_ext (λ y. fun_ext (λ x.
+      ap (λ (o : Option Window). option_map_or (λ (a : Window). shows_touched a (0, 0) (line + part.line, column + part.column) y x) o false) (h.others part.parent other ∙ further-walk.at_is)
+      ∙ sym (shows-down old w part.parent (line + part.line) (column + part.column) sound further-walk y x)))
+
+  further : ℕ → ℕ → Bool
+  further y x = list_any (λ v. shows_touched_of old.window v w y x) (ancestors old.window part.parent)
+
+  of_any : ℕ → ℕ → Bool
+  of_any y x = list_any (λ v. shows_touched_of old.window v w y x) (ancestors old.window u)
+
+  or_further : ℕ → ℕ → Bool
+  or_further y x = further y x || shows_touched_of old.window part.parent w y x
+
+  all-further : of_any ≡ or_further
+  unfolding further of_any or_further
+  all-further = fun_ext (λ y. fun_ext (λ x.
+      ap (list_any (λ v. shows_touched_of old.window v w y x)) (next-ancestors old sound w u line column part walk behind)
+      ∙ or-swap (shows_touched_of old.window part.parent w y x) (list_any (λ v. shows_touched_of old.window v w y x) (ancestors old.window part.parent))))
+
+  taken_at : next.window ≡ changed cur.window w (touching taken)
+  unfolding taken
+  taken_at = ap (λ (ws : Windows). ws.window) step
+
+  pub taken-on : IsTakenFrom old next w part.parent (line + part.line) (column + part.column)
+  unfolding taken further further-walk of_any or_further
+  taken-on = record {
+    walk = next-walk old sound w u line column part walk behind;
+    size = step ∙ ap (λ (ws : Windows). record ws { window = changed cur.window w (touching taken) }) h.size ∙ ap (λ (ws : WindowMap). record old { window = ws }) (sym taken_at);
+    same = λ v. ap (λ (ws : WindowMap). option_map untouched (ws v)) taken_at ∙ untouched_if (v == w) (cur.window v) taken ∙ h.same v;
+    others = λ v apart. ap (λ (ws : WindowMap). ws v) taken_at ∙ changed-other cur.window w (touching taken) v apart ∙ h.others v apart;
+    rest =
+        ap (λ (ws : WindowMap). changed ws w (touching further)) taken_at
+        ∙ changed-twice cur.window w (touching taken) (touching further)
+        ∙ changed-same cur.window w (λ a. touching further (touching taken a)) (touching (λ y x. list_any (λ v. shows_touched_of old.window v w y x) (ancestors old.window u)))
+        (λ a is. touching-twice a further taken
+        ∙ ap (λ (t : ℕ → ℕ → Bool). touching (λ y x. further y x || t y x) a) taken-is
+        ∙ ap (λ (t : ℕ → ℕ → Bool). touching t a) (sym all-further))
+        ∙ h.rest;
+  }
+
+pub taken-all : (old cur : Windows) (w u line column : ℕ) → (h : IsTakenFrom old cur w u line column) → part_behind h.walk.above.backing ≡ None → cur ≡ after_syncdown old w
+taken-all old cur w u line column h last =
+    let grid = behind-none h.walk.above.backing last in
+    let none = ancestors-none old.window u h.walk.above grid.0 h.walk.at_is grid.1 in
+    let nothing : ℕ → ℕ → Bool = λ y x. list_any (λ v. shows_touched_of old.window v w y x) (ancestors old.window u) in
+    h.size ∙ ap (λ (ws : WindowMap). record old { window = ws })
+    (sym (changed-nothing cur.window w (touching nothing) (λ a is. touching-none a nothing (λ y x below on. ap (list_any (λ v. shows_touched_of old.window v w y x)) none)))
+    ∙ h.rest)

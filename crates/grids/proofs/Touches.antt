@@ -1,0 +1,195 @@
+-- A window that is touched line by line.
+use Rattle.std.proofs.Common.{◌≡◌, ◌≢◌, ℕ, zero, suc, ◌+◌, ◌-◌, ◌<◌, ◌≤◌, Bool, true, false, if◌then◌else◌, ◌==◌, ◌&&◌, nat_lt, nat_le, Option, Some, None, IsSomeAnd, ap, arith, refl, sym, ◌∙◌, subst, inl, inr, eq-eqb, ne_eqb}
+use Rattle.std.specs.Option.{option_map, option_map_or}
+use mathlib.Core.Path.{fun_ext}
+use Rattle.std.proofs.lemmas.Bool.{cases_eq, cases_lt, cond-true, cond-false, lt-ltb, le-ltb}
+use Rattle.std.proofs.lemmas.Bool.Decides.{nat_tests}
+use Rattle.std.proofs.lemmas.Iterator.Adapters.{option_map_id}
+use Rattle.world.specs.Windows.{Window, WindowMap, Windows, HasPlace, changed, touched_below}
+use Rattle.world.specs.Sound.{AreColumnsWithin}
+use Rattle.world.specs.calls.Marks.{touching}
+use Rattle.world.specs.declared.settings.Columns.{Columns}
+use Rattle.grids.specs.steps.Changes.{spread, with_touched}
+use Rattle.grids.specs.steps.Syncs.{has_column}
+use Rattle.grids.proofs.Writes.{touched-none, touched-past}
+
+-- ---- one window changed twice, and not at all
+
+both : (o : Option Window) (f g : Window → Window) → option_map g (option_map f o) ≡ option_map (λ a. g (f a)) o
+both None f g = refl
+both (Some a) f g = refl
+
+both_if : (t : Bool) (o : Option Window) (f g : Window → Window) → (if t then option_map g (if t then option_map f o else o) else (if t then option_map f o else o)) ≡ (if t then option_map (λ a. g (f a)) o else o)
+both_if true o f g = both o f g
+both_if false o f g = refl
+
+pub changed-twice : (window : WindowMap) (w : ℕ) (f g : Window → Window) → changed (changed window w f) w g ≡ changed window w (λ a. g (f a))
+changed-twice window w f g = fun_ext (λ u. both_if (u == w) (window u) f g)
+
+agrees_at : (o : Option Window) (f g : Window → Window) → ((a : Window) → o ≡ Some a → f a ≡ g a) → option_map f o ≡ option_map g o
+agrees_at None f g h = refl
+agrees_at (Some a) f g h = ap Some (h a refl)
+
+pub changed-same : (window : WindowMap) (w : ℕ) (f g : Window → Window) → ((a : Window) → window w ≡ Some a → f a ≡ g a) → changed window w f ≡ changed window w g
+changed-same window w f g h = fun_ext (λ u. elim (cases_eq u w) [
+  | inl same ↦
+      let on = eq-eqb u w same in
+      cond-true (u == w) (option_map f (window u)) (window u) on
+      ∙ agrees_at (window u) f g (λ a is. h a (ap window (sym same) ∙ is))
+      ∙ sym (cond-true (u == w) (option_map g (window u)) (window u) on)
+  | inr other ↦
+      let off = ne_eqb u w other in
+      cond-false (u == w) (option_map f (window u)) (window u) off ∙ sym (cond-false (u == w) (option_map g (window u)) (window u) off)
+])
+
+same_if : (t : Bool) (o : Option Window) → (if t then option_map (λ a. a) o else o) ≡ o
+same_if true o = option_map_id o
+same_if false o = refl
+
+pub changed-nothing : (window : WindowMap) (w : ℕ) (f : Window → Window) → ((a : Window) → window w ≡ Some a → f a ≡ a) → changed window w f ≡ window
+changed-nothing window w f h = changed-same window w f (λ a. a) h ∙ fun_ext (λ u. same_if (u == w) (window u))
+
+pub changed-other : (window : WindowMap) (w : ℕ) (f : Window → Window) (u : ℕ) → u ≢ w → changed window w f u ≡ window u
+changed-other window w f u other = cond-false (u == w) (option_map f (window u)) (window u) (ne_eqb u w other)
+
+pub changed-here : (window : WindowMap) (w : ℕ) (f : Window → Window) → changed window w f w ≡ option_map f (window w)
+changed-here window w f = cond-true (w == w) (option_map f (window w)) (window w) (eq-eqb w w refl)
+
+-- ---- touching
+
+pub touched-same : (n : ℕ) (s t : ℕ → Bool) (r : Option Columns) → ((x : ℕ) → x < n → s x ≡ t x) → touched_below n s r ≡ touched_below n t r
+touched-same zero s t r h = refl
+touched-same (suc n) s t r h =
+    let last : s n ≡ t n = h n (omega arith) in
+    let rest = touched-same n s t r (λ x lt. h x (omega arith)) in
+    rw (last, rest) refl
+
+-- what touches each line of a window in the same way
+pub touching-is : (a : Window) (touched : ℕ → Option Columns) (test : ℕ → ℕ → Bool)
+    → ((z : ℕ) → touched z ≡ (if nat_lt z a.lines then touched_below a.columns (test z) (a.touched z) else a.touched z)) → record a { touched = touched } ≡ touching test a
+touching-is a touched test h = λ i. record a { touched = λ z. h z i }
+
+pub touching-same : (a : Window) (s t : ℕ → ℕ → Bool) → ((y x : ℕ) → y < a.lines → x < a.columns → s y x ≡ t y x) → touching s a ≡ touching t a
+touching-same a s t h = touching-is a (λ z. if nat_lt z a.lines then touched_below a.columns (s z) (a.touched z) else a.touched z) t (λ z.
+    elim (cases_lt z a.lines) [
+      | inl below ↦
+          let on = lt-ltb z a.lines below in
+          cond-true (nat_lt z a.lines) (touched_below a.columns (s z) (a.touched z)) (a.touched z) on
+          ∙ touched-same a.columns (s z) (t z) (a.touched z) (λ x lt. h z x below lt)
+          ∙ sym (cond-true (nat_lt z a.lines) (touched_below a.columns (t z) (a.touched z)) (a.touched z) on)
+      | inr past ↦
+          let off = le-ltb z a.lines past in
+          cond-false (nat_lt z a.lines) (touched_below a.columns (s z) (a.touched z)) (a.touched z) off
+          ∙ sym (cond-false (nat_lt z a.lines) (touched_below a.columns (t z) (a.touched z)) (a.touched z) off)
+    ])
+
+-- nothing
+pub touching-none : (a : Window) (test : ℕ → ℕ → Bool) → ((y x : ℕ) → y < a.lines → x < a.columns → test y x ≡ false) → touching test a ≡ a
+touching-none a test h = sym (touching-is a a.touched test (λ z. elim (cases_lt z a.lines) [
+  | inl below ↦
+      let on = lt-ltb z a.lines below in
+      sym (cond-true (nat_lt z a.lines) (touched_below a.columns (test z) (a.touched z)) (a.touched z) on ∙ touched-none a.columns (test z) (a.touched z) (λ x lt. h z x below lt))
+  | inr past ↦ sym (cond-false (nat_lt z a.lines) (touched_below a.columns (test z) (a.touched z)) (a.touched z) (le-ltb z a.lines past))
+]))
+
+-- ---- the lines above line y, and then line y
+
+abbrev pub before : ℕ → (ℕ → ℕ → Bool) → ℕ → ℕ → Bool
+before k test y x = nat_lt y k && test y x
+
+before-off : (k y : ℕ) (t : Bool) → k ≤ y → (nat_lt y k && t) ≡ false
+before-off k y t h = let off = le-ltb y k h in rw off refl
+
+before-on : (k y : ℕ) (t : Bool) → y < k → (nat_lt y k && t) ≡ t
+before-on k y t h = let on = lt-ltb y k h in rw on refl
+
+before-next : (k y : ℕ) (t : Bool) → y ≢ k → (nat_lt y k && t) ≡ (nat_lt y (k + 1) && t)
+before-next k y t other = elim (cases_lt y k) [
+  | inl above ↦ before-on k y t above ∙ sym (before-on (k + 1) y t (omega arith))
+  | inr below ↦ before-off k y t below ∙ sym (before-off (k + 1) y t (omega arith))
+]
+
+module _ (a : Window) (test : ℕ → ℕ → Bool) (y : ℕ) (below : y < a.lines) where
+  on_line : ℕ → ℕ → Option Columns
+  on_line k z = if nat_lt z a.lines then touched_below a.columns (λ x. nat_lt z k && test z x) (a.touched z) else a.touched z
+
+  line-other : (z : ℕ) → z ≢ y → on_line y z ≡ on_line (y + 1) z
+  unfolding on_line
+  line-other z other = ap (λ (t : ℕ → Bool). if nat_lt z a.lines then touched_below a.columns t (a.touched z) else a.touched z) (fun_ext (λ x. before-next y z (test z x) other))
+
+  line-before : on_line y y ≡ a.touched y
+  unfolding on_line
+  line-before =
+      cond-true (nat_lt y a.lines) (touched_below a.columns (λ x. nat_lt y y && test y x) (a.touched y)) (a.touched y) (lt-ltb y a.lines below)
+      ∙ touched-none a.columns (λ x. nat_lt y y && test y x) (a.touched y) (λ x lt. before-off y y (test y x) (omega arith))
+
+  line-after : on_line (y + 1) y ≡ touched_below a.columns (test y) (a.touched y)
+  unfolding on_line
+  line-after =
+      cond-true (nat_lt y a.lines) (touched_below a.columns (λ x. nat_lt y (y + 1) && test y x) (a.touched y)) (a.touched y) (lt-ltb y a.lines below)
+      ∙ touched-same a.columns (λ x. nat_lt y (y + 1) && test y x) (test y) (a.touched y) (λ x lt. before-on (y + 1) y (test y x) (omega arith))
+
+  -- no column of the line passes
+  pub line-none : ((x : ℕ) → x < a.columns → test y x ≡ false) → touching (before y test) a ≡ touching (before (y + 1) test) a
+  unfolding on_line
+  line-none h = touching-is a (on_line y) (before (y + 1) test) (λ z. elim (cases_eq z y) [
+    | inl same ↦
+        ap (on_line y) same ∙ line-before ∙ sym (touched-none a.columns (test y) (a.touched y) h) ∙ sym line-after ∙ ap (on_line (y + 1)) (sym same)
+    | inr other ↦ line-other z other
+  ])
+
+  -- those from first to last pass
+  pub line-some : (first last : ℕ) → first ≤ last → last < a.columns → ((x : ℕ) → x < a.columns → test y x ≡ (nat_le first x && nat_le x last))
+      → with_touched y first last (touching (before y test) a) ≡ touching (before (y + 1) test) a
+  unfolding on_line
+  line-some first last ordered within h = touching-is a (λ z. if z == y then spread (on_line y z) first last else on_line y z) (before (y + 1) test) (λ z. elim (cases_eq z y) [
+    | inl same ↦
+        let all : a.columns ≡ suc last + (a.columns - suc last) = omega arith in
+        cond-true (z == y) (spread (on_line y z) first last) (on_line y z) (eq-eqb z y same)
+        ∙ ap (λ v. spread (on_line y v) first last) same
+        ∙ ap (λ (r : Option Columns). spread r first last) line-before
+        ∙ sym (touched-same a.columns (test y) (λ x. nat_le first x && nat_le x last) (a.touched y) h
+        ∙ ap (λ n. touched_below n (λ x. nat_le first x && nat_le x last) (a.touched y)) all
+        ∙ touched-past first last (λ x. nat_le first x && nat_le x last) (a.touched y) (λ x. refl) ordered (a.columns - suc last))
+        ∙ sym line-after ∙ ap (on_line (y + 1)) (sym same)
+    | inr other ↦ cond-false (z == y) (spread (on_line y z) first last) (on_line y z) (ne_eqb z y other) ∙ line-other z other
+  ])
+
+-- ---- the windows after some lines
+
+module _ (w : Windows) (win : ℕ) (test : ℕ → ℕ → Bool) where
+  abbrev pub touched_before : ℕ → Windows
+  touched_before k = record w { window = changed w.window win (touching (before k test)) }
+
+  pub none-before : w ≡ touched_before 0
+  none-before = ap (λ (ws : WindowMap). record w { window = ws }) (sym (changed-nothing w.window win (touching (before 0 test)) (λ a is. touching-none a (before 0 test) (λ y x below on. before-off 0 y (test y x) (omega arith)))))
+
+  pub all-before : (a : Window) → w.window win ≡ Some a → (k : ℕ) → a.lines ≤ k → touched_before k ≡ record w { window = changed w.window win (touching test) }
+  all-before a there k all = ap (λ (ws : WindowMap). record w { window = ws }) (changed-same w.window win (touching (before k test)) (touching test)
+      (λ b is. touching-same b (before k test) test (λ y x below on. before-on k y (test y x) (let same : b ≡ a = cc in let lines = ap (λ (c : Window). c.lines) same in omega arith))))
+
+  pub next-none : (a : Window) → w.window win ≡ Some a → (y : ℕ) → y < a.lines → ((x : ℕ) → x < a.columns → test y x ≡ false) → touched_before y ≡ touched_before (y + 1)
+  next-none a there y below h = ap (λ (ws : WindowMap). record w { window = ws }) (changed-same w.window win (touching (before y test)) (touching (before (y + 1) test))
+      (λ b is. let same : b ≡ a = cc in subst (λ (c : Window). touching (before y test) c ≡ touching (before (y + 1) test) c) (sym same) (line-none a test y below h)))
+
+  pub next-some : (a : Window) → w.window win ≡ Some a → (y first last : ℕ) → y < a.lines → first ≤ last → last < a.columns → ((x : ℕ) → x < a.columns → test y x ≡ (nat_le first x && nat_le x last))
+      → (now next : Windows) → now ≡ touched_before y → next ≡ record now { window = changed now.window win (with_touched y first last) } → next ≡ touched_before (y + 1)
+  next-some a there y first last below ordered within h now next is step =
+      step
+      ∙ ap (λ (u : Windows). record u { window = changed u.window win (with_touched y first last) }) is
+      ∙ ap (λ (ws : WindowMap). record w { window = ws })
+      (changed-twice w.window win (touching (before y test)) (with_touched y first last)
+      ∙ changed-same w.window win (λ b. with_touched y first last (touching (before y test) b)) (touching (before (y + 1) test))
+      (λ b is. let same : b ≡ a = cc in subst (λ (c : Window). with_touched y first last (touching (before y test) c) ≡ touching (before (y + 1) test) c) (sym same) (line-some a test y below first last ordered within h)))
+
+  -- the window keeps its size, and the others are as they were
+  pub touched-here : (k : ℕ) (cur : Windows) (a : Window) → cur ≡ touched_before k → w.window win ≡ Some a → cur.window win ≡ Some (touching (before k test) a)
+  touched-here k cur a is there = ap (λ (u : Windows). u.window win) is ∙ changed-here w.window win (touching (before k test)) ∙ ap (option_map (touching (before k test))) there
+
+  pub touched-other : (k : ℕ) (cur : Windows) (u : ℕ) → cur ≡ touched_before k → u ≢ win → cur.window u ≡ w.window u
+  touched-other k cur u is other = ap (λ (v : Windows). v.window u) is ∙ changed-other w.window win (touching (before k test)) u other
+
+-- a window that is there
+pub there-and : (o : Option Window) (P : Window → Type 0) → IsSomeAnd o P → (a : Window) × (o ≡ Some a) × P a
+there-and None P h = absurd h
+there-and (Some a) P h = (a, refl, h)

@@ -1,0 +1,13 @@
+use Rattle.std.proofs.Common.{◌≡◌, ℕ}
+use Rattle.grids.specs.Tables.{windows}
+use Rattle.grids.specs.steps.Slots.{depth_at}
+use Rattle.grids.specs.steps.Syncs.{touched_shown}
+use Rattle.grids.proofs.Touches.{touched_before}
+use Rattle.grids.proofs.table.Grids.touch_shown.Given as goal
+
+-- the lines above y are touched
+abbrev pub invariant-loop-y : goal.invariant-loop-y
+invariant-loop-y l = record {
+  touched : windows l.self ≡ touched_before (windows l.fn.self) l.win (touched_shown (windows l.fn.self).window l.source l.source_at l.at) l.y;
+  depths : (u : ℕ) → depth_at l.self.slots u ≡ depth_at l.fn.self.slots u;
+}

@@ -1,0 +1,204 @@
+//! What is touched of a window, handed to its ancestors or taken from them.
+
+ghost use Rattle.std.specs.Prelude.{◌≡◌, ◌≢◌, ℕ, ◌<◌, ◌≤◌, ◌+◌, ◌-◌, ◌&&◌, nat_le, ⊤, IsSome, IsSomeAnd, MatchOption, OnOk, OnErr};
+ghost use Rattle.std.specs.Result.{result_err};
+ghost use Rattle.cell.specs.declared.limits.TheConstants.{LARGEST_PAD};
+ghost use Rattle.world.specs.Sound.{AreColumnsWithin, AreSoundWindows};
+ghost use Rattle.world.specs.Windows.{HasPlace, changed};
+ghost use Rattle.world.specs.calls.Marks.{after_syncdown, after_syncup, touching};
+ghost use Rattle.world.specs.calls.Missing.{missing_refusal};
+ghost use Rattle.grids.specs.Tables.{windows};
+ghost use Rattle.grids.specs.steps.Changes.{with_touched};
+ghost use Rattle.grids.specs.steps.Slots.{depth_at};
+ghost use Rattle.grids.specs.steps.Syncs.{EndsWithin, has_column, part_behind, touched_shown};
+
+use crate::slot::Part;
+use crate::slots::touch_row;
+use crate::table::Grids;
+use cell::{Refusal, WinId};
+use world::Columns;
+
+impl Grids {
+    /// Touches each ancestor of a window where it shows what is touched of the window.
+    ///
+    /// # Errors
+    /// `NoSuchWindow`.
+    pub fn wsyncup(&mut self, win: WinId) -> Result<(), Refusal>
+        ensures refused { result_err result ≡ missing_refusal (windows self.old).window win.0 }
+        ensures touched { OnOk result (windows self.new ≡ after_syncup (windows self.old) win.0) }
+        ensures unchanged { OnErr result (self.new ≡ self.old) }
+        ensures sound { AreSoundWindows (windows self.new) }
+    {
+        prove!(self.is_sound());
+        self.slot(win)?;
+        self.hand_up(win.0);
+        prove!(self.is_sound());
+        Ok(())
+    }
+
+    /// Touches a window where it shows what is touched of an ancestor.
+    ///
+    /// # Errors
+    /// `NoSuchWindow`.
+    pub fn wsyncdown(&mut self, win: WinId) -> Result<(), Refusal>
+        ensures refused { result_err result ≡ missing_refusal (windows self.old).window win.0 }
+        ensures touched { OnOk result (windows self.new ≡ after_syncdown (windows self.old) win.0) }
+        ensures unchanged { OnErr result (self.new ≡ self.old) }
+        ensures sound { AreSoundWindows (windows self.new) }
+    {
+        prove!(self.is_sound());
+        self.slot(win)?;
+        self.take_down(win.0);
+        prove!(self.is_sound());
+        Ok(())
+    }
+
+    /// Hands what is touched of a window to its ancestors, from parent to parent.
+    fn hand_up(&mut self, win: u16)
+        requires { IsSome ((windows self.old).window win) }
+        ensures { windows self.new ≡ after_syncup (windows self.old) win }
+    {
+        prove!(self.is_sound());
+        let mut at = Part {
+            parent: win,
+            line: 0,
+            column: 0,
+        };
+        while let Some(part) = self.parent(at.parent) {
+            at = Part {
+                parent: part.parent,
+                line: at.line + part.line,
+                column: at.column + part.column,
+            };
+            self.touch_shown(at.parent, (0, 0), win, (at.line, at.column));
+        }
+    }
+
+    /// Takes what is touched of a window's ancestors, from parent to parent.
+    fn take_down(&mut self, win: u16)
+        requires { IsSome ((windows self.old).window win) }
+        ensures { windows self.new ≡ after_syncdown (windows self.old) win }
+    {
+        prove!(self.is_sound());
+        let mut at = Part {
+            parent: win,
+            line: 0,
+            column: 0,
+        };
+        while let Some(part) = self.parent(at.parent) {
+            at = Part {
+                parent: part.parent,
+                line: at.line + part.line,
+                column: at.column + part.column,
+            };
+            self.touch_shown(win, (at.line, at.column), at.parent, (0, 0));
+        }
+    }
+
+    /// The parent of a window, and the offset into it. The window must be there.
+    fn parent(&self, win: u16) -> Option<Part>
+        requires { IsSome ((windows self.now).window win) }
+        ensures part { IsSomeAnd ((windows self.now).window win) (λ a. result ≡ part_behind a.backing) }
+        ensures depth { MatchOption result ⊤ (λ part. depth_at self.now.slots part.parent < depth_at self.now.slots win) }
+    {
+        match &self.slots[usize::from(win)] {
+            Some(slot) => slot.part(),
+            None => None,
+        }
+    }
+
+    /// Touches a window where it shows what is touched of another. Both are parts of a third, of which they begin at these places.
+    fn touch_shown(&mut self, win: u16, at: (u16, u16), source: u16, source_at: (u16, u16))
+        requires other { win ≢ source }
+        requires window { EndsWithin (windows self.old).window win at }
+        requires source { EndsWithin (windows self.old).window source source_at }
+        ensures touched { windows self.new ≡ record (windows self.old) { window = changed (windows self.old).window win (touching (touched_shown (windows self.old).window source source_at at)) } }
+        ensures depths { (u : ℕ) → depth_at self.new.slots u ≡ depth_at self.old.slots u }
+    {
+        prove!(self.is_sound());
+        let lines = self.size(win).0;
+        for y in 0..lines {
+            if let Some(columns) = self.shown_columns(win, at, source, source_at, y) {
+                self.touch_columns(win, y, columns);
+            }
+        }
+    }
+
+    /// The columns of a line of a window in which it shows what is touched of another.
+    fn shown_columns(
+        &self,
+        win: u16,
+        at: (u16, u16),
+        source: u16,
+        source_at: (u16, u16),
+        y: u16,
+    ) -> Option<Columns>
+        requires line { HasPlace (windows self.now).window win y 0 }
+        requires window { EndsWithin (windows self.now).window win at }
+        requires source { EndsWithin (windows self.now).window source source_at }
+        ensures shown { IsSomeAnd ((windows self.now).window win) (λ a. (x : ℕ) → x < a.columns → touched_shown (windows self.now).window source source_at at y x ≡ has_column result x) }
+        ensures within { IsSomeAnd ((windows self.now).window win) (λ a. AreColumnsWithin a.columns result) }
+    {
+        let (lines, _) = self.size(source);
+        let (_, columns) = self.size(win);
+        let line = at.0 + y;
+        if line < source_at.0 || line - source_at.0 >= lines {
+            return None;
+        }
+        let touched = self.touched_columns(source, line - source_at.0);
+        clipped(touched, source_at.1, at.1, columns)
+    }
+
+    /// The touched columns of a line of a window. The line must be there.
+    fn touched_columns(&self, win: u16, y: u16) -> Option<Columns>
+        requires { IsSomeAnd ((windows self.now).window win) (λ a. y < a.lines) }
+        ensures columns { IsSomeAnd ((windows self.now).window win) (λ a. result ≡ a.touched y) }
+        ensures within { IsSomeAnd ((windows self.now).window win) (λ a. AreColumnsWithin a.columns result) }
+    {
+        match &self.slots[usize::from(win)] {
+            Some(slot) => slot.touched(y),
+            None => None,
+        }
+    }
+
+    /// The number of lines and of columns of a window, which must be there.
+    fn size(&self, win: u16) -> (u16, u16)
+        requires { IsSome ((windows self.now).window win) }
+        ensures { IsSomeAnd ((windows self.now).window win) (λ a. (result.0 ≡ a.lines) × (result.1 ≡ a.columns)) }
+    {
+        match &self.slots[usize::from(win)] {
+            Some(slot) => (slot.lines(), slot.columns()),
+            None => unreachable!(),
+        }
+    }
+
+    /// Touches columns of a line of a window.
+    fn touch_columns(&mut self, win: u16, y: u16, columns: Columns)
+        requires ordered { columns.first ≤ columns.last }
+        requires there { HasPlace (windows self.old).window win y columns.last }
+        ensures touched { windows self.new ≡ record (windows self.old) { window = changed (windows self.old).window win (with_touched y columns.first columns.last) } }
+        ensures depths { (u : ℕ) → depth_at self.new.slots u ≡ depth_at self.old.slots u }
+    {
+        touch_row(&mut self.slots, win, y, columns.first, columns.last);
+    }
+}
+
+/// Which of a line's columns, where it begins at one place, columns of another line are that begins at another.
+fn clipped(touched: Option<Columns>, from: u16, to: u16, columns: u16) -> Option<Columns>
+    requires some { 0 < columns }
+    requires source { MatchOption touched ⊤ (λ r. (r.first ≤ r.last) × (from + r.last < LARGEST_PAD)) }
+    requires target { to + columns ≤ LARGEST_PAD }
+    ensures shown { (x : ℕ) → x < columns → (nat_le from (to + x) && has_column touched (to + x - from)) ≡ has_column result x }
+    ensures within { AreColumnsWithin columns result }
+{
+    let touched = touched?;
+    let first = (from + touched.first).max(to);
+    let last = (from + touched.last).min(to + columns - 1);
+    if last < first {
+        return None;
+    }
+    Some(Columns {
+        first: first - to,
+        last: last - to,
+    })
+}
