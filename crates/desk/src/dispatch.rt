@@ -84,6 +84,8 @@ pub fn copy(windows: &mut Windows, copying: Copying) -> Result<Reply, Refusal>
         Copying::Untouchwin { win } => nothing(windows.table.untouchwin(win)?),
         Copying::Touchline { win, y, n } => nothing(windows.table.touchline(win, y, n)?),
         Copying::Touchln { win, y, n, flag } => nothing(windows.table.wtouchln(win, y, n, flag)?),
+        Copying::Syncup { win } => nothing(windows.table.wsyncup(win)?),
+        Copying::Syncdown { win } => nothing(windows.table.wsyncdown(win)?),
         Copying::IsLinetouched { win, y } => Ok(Reply::Flag(windows.table.is_linetouched(win, y)?)),
         Copying::IsWintouched { win } => Ok(Reply::Flag(windows.table.is_wintouched(win)?)),
     }

@@ -1,4 +1,4 @@
-use crate::{Attr, Cell, Grids, Refusal, Settings, WinId};
+use crate::{Attr, Cell, Frame, Grids, Refusal, Settings, WinId};
 use cell::PairId;
 use std::test::Fail;
 
@@ -219,5 +219,81 @@ fn writing_touches_the_window_that_it_goes_through(rt: HostRuntime) -> Result<()
     grids.unmark(part);
     assert_eq!(rt; touched(&grids, part, 0)?, None);
     assert!(rt; shows(&grids, window, 1, "  xy ")?);
+    Ok(())
+}
+
+#[test]
+fn lines_are_touched_and_untouched(rt: HostRuntime) -> Result<(), Fail> {
+    let mut grids = Grids::new(rt.alloc(), 4, 10)?;
+    let window = grids.newwin(2, 5, 0, 0)?;
+    assert_eq!(rt; grids.is_wintouched(window), Ok(false));
+    assert_eq!(rt; grids.touchwin(window), Ok(()));
+    assert_eq!(rt; touched(&grids, window, 1)?, Some((0, 4)));
+    assert_eq!(rt; grids.wtouchln(window, 0, 1, false), Ok(()));
+    assert_eq!(rt; grids.is_linetouched(window, 0), Ok(false));
+    assert_eq!(rt; grids.is_linetouched(window, 1), Ok(true));
+    assert_eq!(rt; grids.untouchwin(window), Ok(()));
+    assert_eq!(rt; grids.is_wintouched(window), Ok(false));
+    assert_eq!(rt; grids.touchline(window, 1, 1), Ok(()));
+    assert_eq!(rt; grids.is_wintouched(window), Ok(true));
+    assert_eq!(rt; grids.touchline(window, 2, 0), Err(Refusal::OutsideWindow));
+    assert_eq!(rt; grids.touchline(window, 1, 2), Err(Refusal::OutsideWindow));
+    assert_eq!(rt; grids.is_linetouched(window, 2), Err(Refusal::OutsideWindow));
+    Ok(())
+}
+
+#[test]
+fn touches_are_handed_to_all_ancestors(rt: HostRuntime) -> Result<(), Fail> {
+    let mut grids = Grids::new(rt.alloc(), 4, 10)?;
+    let first = grids.newwin(3, 8, 0, 0)?;
+    let second = grids.derwin(first, 2, 6, 1, 1)?;
+    let third = grids.derwin(second, 1, 3, 1, 2)?;
+    write(&mut grids, second, 1, 5, "s")?;
+    write(&mut grids, third, 0, 1, "t")?;
+    assert_eq!(rt; grids.wsyncup(third), Ok(()));
+    assert_eq!(rt; touched(&grids, second, 1)?, Some((3, 5)));
+    assert_eq!(rt; touched(&grids, first, 2)?, Some((4, 4)));
+    assert_eq!(rt; touched(&grids, first, 1)?, None);
+    assert_eq!(rt; grids.wsyncup(WinId(9)), Err(Refusal::NoSuchWindow));
+    Ok(())
+}
+
+#[test]
+fn touches_are_taken_from_all_ancestors(rt: HostRuntime) -> Result<(), Fail> {
+    let mut grids = Grids::new(rt.alloc(), 4, 10)?;
+    let first = grids.newwin(3, 8, 0, 0)?;
+    let second = grids.derwin(first, 2, 6, 1, 1)?;
+    let third = grids.derwin(second, 1, 3, 1, 2)?;
+    write(&mut grids, first, 2, 0, "abcd")?;
+    write(&mut grids, second, 1, 4, "ef")?;
+    assert_eq!(rt; grids.wsyncdown(third), Ok(()));
+    assert_eq!(rt; touched(&grids, third, 0)?, Some((0, 2)));
+    assert_eq!(rt; touched(&grids, second, 0)?, None);
+    assert_eq!(rt; grids.wsyncdown(WinId(9)), Err(Refusal::NoSuchWindow));
+    Ok(())
+}
+
+#[test]
+fn rectangle_moves_down_and_right_over_itself(rt: HostRuntime) -> Result<(), Fail> {
+    let mut grids = Grids::new(rt.alloc(), 3, 4)?;
+    let screen = WinId(0);
+    write(&mut grids, screen, 0, 0, "abcd")?;
+    write(&mut grids, screen, 1, 0, "efgh")?;
+    let (lines, columns) = grids.getmaxyx(screen)?;
+    if lines < 3 || columns < 4 {
+        return Err("no such place".into());
+    }
+    let frame = grids.copy_rectangle(screen, 0, 0, screen, 1, 1, 2, 3, false);
+    assert_eq!(rt;
+        frame,
+        Some(Frame {
+            top: 1,
+            left: 1,
+            bottom: 2,
+            right: 3
+        })
+    );
+    assert!(rt; shows(&grids, screen, 1, "eabc")?);
+    assert!(rt; shows(&grids, screen, 2, " efg")?);
     Ok(())
 }

@@ -10,7 +10,7 @@ use Rattle.world.specs.declared.call.Call.{Call}
 use Rattle.world.specs.declared.call.Call.TheVariants.{Making, Writing, Copying, Query, Refresh}
 use Rattle.world.specs.declared.call.Making.TheVariants.{Newwin, Subwin, Derwin, Newpad, Subpad, Delwin, Mvwin, Mvderwin}
 use Rattle.world.specs.declared.call.Writing.TheVariants.{Move, Addch, Addstr, Insch, Delch, Insertln, Deleteln, Erase, Clrtoeol, Clrtobot, Scrl, Setscrreg, Scrollok, Attrset, Attron, Attroff, Bkgdset, ColorSet, Bkgdpair}
-use Rattle.world.specs.declared.call.Copying.TheVariants.{Overlay, Overwrite, Copywin, Touchwin, Untouchwin, Touchline, Touchln, IsLinetouched, IsWintouched}
+use Rattle.world.specs.declared.call.Copying.TheVariants.{Overlay, Overwrite, Copywin, Touchwin, Untouchwin, Touchline, Touchln, Syncup, Syncdown, IsLinetouched, IsWintouched}
 use Rattle.world.specs.declared.call.Query.TheVariants.{Getyx, Getbegyx, Getmaxyx, Getparyx, Inch}
 use Rattle.world.specs.declared.call.Refresh.TheVariants.{UpdatePanels, Doupdate, InitPair}
 use Rattle.script.specs.declared.words.TheConstants.{WORDS}
@@ -98,6 +98,8 @@ entry_of word.Touchwin = record { word = codes "touchwin"; forms = Number ∷ []
 entry_of word.Untouchwin = record { word = codes "untouchwin"; forms = Number ∷ []; call = λ a. Copying (Untouchwin (window a)) }
 entry_of word.Touchline = record { word = codes "touchline"; forms = Number ∷ Number ∷ Number ∷ []; call = λ a. Copying (Touchline (window a) (number a 1) (number a 2)) }
 entry_of word.Touchln = record { word = codes "touchln"; forms = Number ∷ Number ∷ Number ∷ Flag ∷ []; call = λ a. Copying (Touchln (window a) (number a 1) (number a 2) a.flag) }
+entry_of word.Syncup = record { word = codes "syncup"; forms = Number ∷ []; call = λ a. Copying (Syncup (window a)) }
+entry_of word.Syncdown = record { word = codes "syncdown"; forms = Number ∷ []; call = λ a. Copying (Syncdown (window a)) }
 entry_of word.IsLinetouched = record { word = codes "is_linetouched"; forms = Number ∷ Number ∷ []; call = λ a. Copying (IsLinetouched (window a) (number a 1)) }
 entry_of word.IsWintouched = record { word = codes "is_wintouched"; forms = Number ∷ []; call = λ a. Copying (IsWintouched (window a)) }
 -- queries

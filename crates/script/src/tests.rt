@@ -71,7 +71,7 @@ fn said(alloc: Global, line: &[u8]) -> Result<String, Fail> {
 
 /// Lines with their calls.
 #[rattlefmt::skip]
-const CALLS: [(&str, &str); 44] = [
+const CALLS: [(&str, &str); 46] = [
     ("newwin 3 6 0 2", "Making(Newwin { lines: 3, columns: 6, y: 0, x: 2 })"),
     ("subwin 1 2 3 4 5", "Making(Subwin { win: WinId(1), lines: 2, columns: 3, y: 4, x: 5 })"),
     ("derwin 1 2 3 4 5", "Making(Derwin { win: WinId(1), lines: 2, columns: 3, y: 4, x: 5 })"),
@@ -110,6 +110,8 @@ const CALLS: [(&str, &str); 44] = [
     ("untouchwin 1", "Copying(Untouchwin { win: WinId(1) })"),
     ("touchline 1 2 3", "Copying(Touchline { win: WinId(1), y: 2, n: 3 })"),
     ("touchln 1 2 3 off", "Copying(Touchln { win: WinId(1), y: 2, n: 3, flag: false })"),
+    ("syncup 1", "Copying(Syncup { win: WinId(1) })"),
+    ("syncdown 1", "Copying(Syncdown { win: WinId(1) })"),
     ("is_linetouched 1 2", "Copying(IsLinetouched { win: WinId(1), y: 2 })"),
     ("is_wintouched 1", "Copying(IsWintouched { win: WinId(1) })"),
     ("getyx 1", "Query(Getyx { win: WinId(1) })"),

@@ -35,7 +35,8 @@ pub enum Word {
     Move, Addch, Addstr, Insch, Delch, Insertln, Deleteln, Erase, Clrtoeol, Clrtobot, Scrl, Setscrreg, Scrollok,
     Attrset, Attron, Attroff, Bkgdset, ColorSet, Bkgdpair,
     // Copies and marks.
-    Overlay, Overwrite, Copywin, Touchwin, Untouchwin, Touchline, Touchln, IsLinetouched, IsWintouched,
+    Overlay, Overwrite, Copywin, Touchwin, Untouchwin, Touchline, Touchln, Syncup, Syncdown, IsLinetouched,
+    IsWintouched,
     // Queries.
     Getyx, Getbegyx, Getmaxyx, Getparyx, Inch,
     // Refresh.
@@ -44,7 +45,7 @@ pub enum Word {
 
 /// Every word.
 #[rattlefmt::skip]
-const WORDS: [Word; 44] = [
+const WORDS: [Word; 46] = [
     // Making and placing.
     Word::Newwin, Word::Subwin, Word::Derwin, Word::Newpad, Word::Subpad, Word::Delwin, Word::Mvwin, Word::Mvderwin,
     // Writing.
@@ -53,7 +54,7 @@ const WORDS: [Word; 44] = [
     Word::Attrset, Word::Attron, Word::Attroff, Word::Bkgdset, Word::ColorSet, Word::Bkgdpair,
     // Copies and marks.
     Word::Overlay, Word::Overwrite, Word::Copywin, Word::Touchwin, Word::Untouchwin, Word::Touchline, Word::Touchln,
-    Word::IsLinetouched, Word::IsWintouched,
+    Word::Syncup, Word::Syncdown, Word::IsLinetouched, Word::IsWintouched,
     // Queries.
     Word::Getyx, Word::Getbegyx, Word::Getmaxyx, Word::Getparyx, Word::Inch,
     // Refresh.
@@ -127,6 +128,8 @@ impl Word {
             Word::Untouchwin => Row { word: b"untouchwin", forms: &[Number] },
             Word::Touchline => Row { word: b"touchline", forms: &[Number, Number, Number] },
             Word::Touchln => Row { word: b"touchln", forms: &[Number, Number, Number, Flag] },
+            Word::Syncup => Row { word: b"syncup", forms: &[Number] },
+            Word::Syncdown => Row { word: b"syncdown", forms: &[Number] },
             Word::IsLinetouched => Row { word: b"is_linetouched", forms: &[Number, Number] },
             Word::IsWintouched => Row { word: b"is_wintouched", forms: &[Number] },
             // Queries.
@@ -187,6 +190,8 @@ impl Word {
             Word::Untouchwin => Call::Copying(Copying::Untouchwin { win }),
             Word::Touchline => Call::Copying(Copying::Touchline { win, y: a.number(1), n: a.number(2) }),
             Word::Touchln => Call::Copying(Copying::Touchln { win, y: a.number(1), n: a.number(2), flag: a.flag() }),
+            Word::Syncup => Call::Copying(Copying::Syncup { win }),
+            Word::Syncdown => Call::Copying(Copying::Syncdown { win }),
             Word::IsLinetouched => Call::Copying(Copying::IsLinetouched { win, y: a.number(1) }),
             Word::IsWintouched => Call::Copying(Copying::IsWintouched { win }),
             // Queries.

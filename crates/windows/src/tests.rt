@@ -150,3 +150,46 @@ fn refused_calls_write_nothing(rt: HostRuntime) -> Result<(), Fail> {
     assert!(rt; shows(&windows, ["          "].as_slice())?);
     Ok(())
 }
+
+/// A window of one line at the first places of the screen, with a text.
+fn line_of(windows: &mut Windows, text: &str) -> Result<WinId, Fail> {
+    let win = windows.table.newwin(1, 6, 0, 0)?;
+    windows.waddstr(win, text.as_bytes())?;
+    Ok(win)
+}
+
+#[test]
+fn copy_goes_on_over_itself(rt: HostRuntime) -> Result<(), Fail> {
+    let mut windows = Windows::new(rt.alloc(), 4, 10)?;
+    let win = line_of(&mut windows, "abcdef")?;
+    assert_eq!(rt;
+        windows.copywin(win, win, 0, 0, 0, 2, 0, 5, false),
+        Ok(lines(0, 0, 2, 5))
+    );
+    assert!(rt; shows(&windows, win, 0, "ababcd")?);
+    assert_eq!(rt;
+        windows.copywin(win, win, 0, 0, 0, 3, 0, 2, false),
+        Err(Refusal::BadRectangle)
+    );
+    assert_eq!(rt;
+        windows.copywin(win, win, 0, 1, 0, 0, 0, 5, false),
+        Err(Refusal::OutsideWindow)
+    );
+    Ok(())
+}
+
+#[test]
+fn windows_are_overlaid_where_both_are(rt: HostRuntime) -> Result<(), Fail> {
+    let mut windows = Windows::new(rt.alloc(), 4, 10)?;
+    let above = line_of(&mut windows, "a b")?;
+    let below = line_of(&mut windows, "xyzuvw")?;
+    windows.table.mvwin(above, 0, 1)?;
+    assert_eq!(rt; windows.overlay(above, below), Ok(lines(0, 0, 1, 3)));
+    assert!(rt; shows(&windows, below, 0, "xazbvw")?);
+    assert_eq!(rt; windows.overwrite(above, below), Ok(lines(0, 0, 1, 5)));
+    assert!(rt; shows(&windows, below, 0, "xa b  ")?);
+    windows.table.mvwin(above, 1, 1)?;
+    assert_eq!(rt; windows.overlay(above, below), Ok(None));
+    assert_eq!(rt; windows.overlay(above, WinId(9)), Err(Refusal::NoSuchWindow));
+    Ok(())
+}
