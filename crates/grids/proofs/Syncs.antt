@@ -81,20 +81,20 @@ module _ (window : WindowMap) (s t : ℕ) (a : Window) (g : GridPlace) (p0 p1 q0
   pub shows-is : (y x : ℕ) → shows_touched_of window s t y x ≡ shows_touched a (p0, p1) (q0, q1) y x
   shows-is y x = shows-line y x ∙ both_ways (any_below a.lines (λ v. in_columns (a.touched v) v y x)) (shows_touched a (p0, p1) (q0, q1) y x)
       (λ h.
-          let found = any_below-true a.lines (λ v. in_columns (a.touched v) v y x) h in
-          let m = meets (a.touched found.number) found.number y x found.passes in
-          let at : found.number ≡ q0 + y - p0 = omega (arith, m.line) in
-          and_from (nat_le p0 (q0 + y) && nat_le p1 (q1 + x)) (is_touched_at a (q0 + y - p0) (q1 + x - p1))
-          (and_from (nat_le p0 (q0 + y)) (nat_le p1 (q1 + x)) (le-leb p0 (q0 + y) (omega (arith, m.line))) (le-leb p1 (q1 + x) m.column))
-          (and_from (nat_lt (q0 + y - p0) a.lines) (has_column (a.touched (q0 + y - p0)) (q1 + x - p1)) (lt-ltb (q0 + y - p0) a.lines (omega (arith, found.below, at)))
-          (subst (λ v. has_column (a.touched v) (q1 + x - p1) ≡ true) at m.among)))
+      let found = any_below-true a.lines (λ v. in_columns (a.touched v) v y x) h in
+      let m = meets (a.touched found.number) found.number y x found.passes in
+      let at : found.number ≡ q0 + y - p0 = omega (arith, m.line) in
+      and_from (nat_le p0 (q0 + y) && nat_le p1 (q1 + x)) (is_touched_at a (q0 + y - p0) (q1 + x - p1))
+      (and_from (nat_le p0 (q0 + y)) (nat_le p1 (q1 + x)) (le-leb p0 (q0 + y) (omega (arith, m.line))) (le-leb p1 (q1 + x) m.column))
+      (and_from (nat_lt (q0 + y - p0) a.lines) (has_column (a.touched (q0 + y - p0)) (q1 + x - p1)) (lt-ltb (q0 + y - p0) a.lines (omega (arith, found.below, at)))
+      (subst (λ v. has_column (a.touched v) (q1 + x - p1) ≡ true) at m.among)))
       (λ h.
-          let parts = and_parts (nat_le p0 (q0 + y) && nat_le p1 (q1 + x)) (is_touched_at a (q0 + y - p0) (q1 + x - p1)) h in
-          let starts = and_parts (nat_le p0 (q0 + y)) (nat_le p1 (q1 + x)) parts.0 in
-          let touched = and_parts (nat_lt (q0 + y - p0) a.lines) (has_column (a.touched (q0 + y - p0)) (q1 + x - p1)) parts.1 in
-          let line = leb-true p0 (q0 + y) starts.0 in
-          any_below-some a.lines (λ v. in_columns (a.touched v) v y x) (q0 + y - p0) (let lt : nat_lt (q0 + y - p0) a.lines ≡ true = touched.0 in grind (arith, nat_tests))
-          (from-meets (a.touched (q0 + y - p0)) (q0 + y - p0) y x (record { line = omega (arith, line); column = leb-true p1 (q1 + x) starts.1; among = touched.1 })))
+      let parts = and_parts (nat_le p0 (q0 + y) && nat_le p1 (q1 + x)) (is_touched_at a (q0 + y - p0) (q1 + x - p1)) h in
+      let starts = and_parts (nat_le p0 (q0 + y)) (nat_le p1 (q1 + x)) parts.0 in
+      let touched = and_parts (nat_lt (q0 + y - p0) a.lines) (has_column (a.touched (q0 + y - p0)) (q1 + x - p1)) parts.1 in
+      let line = leb-true p0 (q0 + y) starts.0 in
+      any_below-some a.lines (λ v. in_columns (a.touched v) v y x) (q0 + y - p0) (let lt : nat_lt (q0 + y - p0) a.lines ≡ true = touched.0 in grind (arith, nat_tests))
+      (from-meets (a.touched (q0 + y - p0)) (q0 + y - p0) y x (record { line = omega (arith, line); column = leb-true p1 (q1 + x) starts.1; among = touched.1 })))
 
 -- ---- of a window and one from which it derives
 
@@ -248,13 +248,13 @@ module _ (old : Windows) (sound : AreSoundWindows old) (w u line column : ℕ) (
         let f = touching (shows_touched_of old.window w v) in
         let all : list_any (λ p. p == v) (ancestors old.window u) ≡ ((part.parent == v) || further) = ap (list_any (λ p. p == v)) next-ancestors in
         let target : (if (part.parent == v) || further then option_map f (cur.window v) else cur.window v) ≡ (after_syncup old w).window v =
-            ap (λ (t : Bool). if t then option_map f (cur.window v) else cur.window v) (sym all) ∙ h.rest v in
+        ap (λ (t : Bool). if t then option_map f (cur.window v) else cur.window v) (sym all) ∙ h.rest v in
         elim (cases_eq v part.parent) [
           | inl same ↦
               let here : next.window v ≡ option_map f (cur.window v) =
-                  next_at v ∙ ap (changed cur.window part.parent (touching test)) same ∙ changed-here cur.window part.parent (touching test)
-                  ∙ ap (λ (t : ℕ → ℕ → Bool). option_map (touching t) (cur.window part.parent)) test-is
-                  ∙ ap (λ k. option_map (touching (shows_touched_of old.window w k)) (cur.window k)) (sym same) in
+              next_at v ∙ ap (changed cur.window part.parent (touching test)) same ∙ changed-here cur.window part.parent (touching test)
+              ∙ ap (λ (t : ℕ → ℕ → Bool). option_map (touching t) (cur.window part.parent)) test-is
+              ∙ ap (λ k. option_map (touching (shows_touched_of old.window w k)) (cur.window k)) (sym same) in
               let on : (part.parent == v) ≡ true = eq-eqb part.parent v (sym same) in
               ap (λ (o : Option Window). if further then option_map f o else o) here
               ∙ either_way further f (cur.window v) (again (cur.window v) (shows_touched_of old.window w v))
@@ -267,9 +267,9 @@ module _ (old : Windows) (sound : AreSoundWindows old) (w u line column : ℕ) (
               ∙ sym (ap (λ (t : Bool). if t || further then option_map f (cur.window v) else cur.window v) off)
               ∙ target
         ] where
-      either_way : (t : Bool) (f : Window → Window) (o : Option Window) → option_map f (option_map f o) ≡ option_map f o → (if t then option_map f (option_map f o) else option_map f o) ≡ option_map f o
-      either_way true f o e = e
-      either_way false f o e = refl
+          either_way : (t : Bool) (f : Window → Window) (o : Option Window) → option_map f (option_map f o) ≡ option_map f o → (if t then option_map f (option_map f o) else option_map f o) ≡ option_map f o
+          either_way true f o e = e
+          either_way false f o e = refl
 
     pub handed-on : IsHandedTo old next w part.parent (line + part.line) (column + part.column)
     unfolding test

@@ -121,8 +121,15 @@ some_window (Some a) h = (a, refl)
 pub Walk-start : (window : WindowMap) (w : ℕ) → IsSome (window w) → Walk window w w 0 0
 Walk-start window w h =
     let a = some_window (window w) h in
-    record { below = a.0; above = a.0; from_is = a.1; at_is = a.1; lines = omega arith; columns = omega arith;
-      leads = λ y x. λ i. own window w ((let e : y ≡ y + 0 = omega arith in e) i) ((let e : x ≡ x + 0 = omega arith in e) i) }
+    record {
+      below = a.0;
+      above = a.0;
+      from_is = a.1;
+      at_is = a.1;
+      lines = omega arith;
+      columns = omega arith;
+      leads = λ y x. λ i. own window w ((let e : y ≡ y + 0 = omega arith in e) i) ((let e : x ≡ x + 0 = omega arith in e) i);
+    }
 
 sound_at : (windows : Windows) (u : ℕ) (b : Window) → AreSoundWindows windows → windows.window u ≡ Some b → IsSoundWindow windows u b
 sound_at windows u b s e = rw e at (s.each u)

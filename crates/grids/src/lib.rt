@@ -2,7 +2,6 @@
 //! is made.
 #![tactic(auto)]
 
-
 pub mod frame;
 mod line;
 mod making;

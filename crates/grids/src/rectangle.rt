@@ -55,7 +55,14 @@ impl Grids {
     }
 
     /// Copies line by line, from the end at which no line is written before it is read.
-    fn copy_lines(&mut self, from: Place, to: Place, lines: u16, columns: u16, overlay: bool) -> Option<Frame>
+    fn copy_lines(
+        &mut self,
+        from: Place,
+        to: Place,
+        lines: u16,
+        columns: u16,
+        overlay: bool,
+    ) -> Option<Frame>
         requires some_line { 0 < lines }
         requires some_column { 0 < columns }
         requires from { HasPlace (windows self.old).window from.win.0 (from.line + lines - 1) (from.column + columns - 1) }

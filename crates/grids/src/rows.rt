@@ -131,7 +131,13 @@ impl Grids {
     }
 
     /// Copies some cells of a line, and answers the smallest rectangle of the destination that holds what it wrote.
-    pub(crate) fn copy_line(&mut self, from: Place, to: Place, n: u16, overlay: bool) -> Option<Frame>
+    pub(crate) fn copy_line(
+        &mut self,
+        from: Place,
+        to: Place,
+        n: u16,
+        overlay: bool,
+    ) -> Option<Frame>
         requires some { 0 < n }
         requires from { HasPlace (windows self.old).window from.win.0 from.line (from.column + n - 1) }
         requires to { HasPlace (windows self.old).window to.win.0 to.line (to.column + n - 1) }

@@ -238,7 +238,10 @@ fn lines_are_touched_and_untouched(rt: HostRuntime) -> Result<(), Fail> {
     assert_eq!(rt; grids.is_wintouched(window), Ok(true));
     assert_eq!(rt; grids.touchline(window, 2, 0), Err(Refusal::OutsideWindow));
     assert_eq!(rt; grids.touchline(window, 1, 2), Err(Refusal::OutsideWindow));
-    assert_eq!(rt; grids.is_linetouched(window, 2), Err(Refusal::OutsideWindow));
+    assert_eq!(rt;
+        grids.is_linetouched(window, 2),
+        Err(Refusal::OutsideWindow)
+    );
     Ok(())
 }
 

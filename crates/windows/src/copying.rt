@@ -78,17 +78,19 @@ impl Windows {
         {
             return Err(Refusal::OutsideWindow);
         }
-        Ok(self.table.copy_rectangle(
-            src,
-            sminrow,
-            smincol,
-            dst,
-            dminrow,
-            dmincol,
-            more_lines + 1,
-            more_columns + 1,
-            overlay,
-        ))
+        Ok(
+            self.table.copy_rectangle(
+                src,
+                sminrow,
+                smincol,
+                dst,
+                dminrow,
+                dmincol,
+                more_lines + 1,
+                more_columns + 1,
+                overlay,
+            ),
+        )
     }
 }
 

@@ -190,6 +190,9 @@ fn windows_are_overlaid_where_both_are(rt: HostRuntime) -> Result<(), Fail> {
     assert!(rt; shows(&windows, below, 0, "xa b  ")?);
     windows.table.mvwin(above, 1, 1)?;
     assert_eq!(rt; windows.overlay(above, below), Ok(None));
-    assert_eq!(rt; windows.overlay(above, WinId(9)), Err(Refusal::NoSuchWindow));
+    assert_eq!(rt;
+        windows.overlay(above, WinId(9)),
+        Err(Refusal::NoSuchWindow)
+    );
     Ok(())
 }

@@ -16,7 +16,7 @@ use Rattle.world.specs.declared.call.Making.TheVariants.{Newwin, Derwin, Delwin,
 use Rattle.world.specs.declared.call.Writing.TheVariants.{Addch, Move}
 use Rattle.world.specs.declared.call.Refresh.TheVariants.{UpdatePanels}
 
-win : ℕ → WinId
+unfoldable pub win : ℕ → WinId
 win w = record { 0 = w }
 
 -- a character written in window w
@@ -28,7 +28,7 @@ update_panels : Call
 update_panels = Refresh UpdatePanels
 
 -- the world that calls leave of a screen of 4 lines and 10 columns
-screen_after : List Call → World
+unfoldable pub screen_after : List Call → World
 screen_after calls = fold world_after (first_world 4 10) calls
 
 -- the affected lines in their order

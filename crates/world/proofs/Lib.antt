@@ -10,3 +10,4 @@ pub mod PictureLaws
 pub mod MoveLaws
 pub mod Sizes
 pub mod Examples
+pub mod CopyExamples

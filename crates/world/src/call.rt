@@ -117,9 +117,15 @@ pub enum Writing<'a> {
 #[derive(Clone, Copy, Debug)]
 pub enum Copying {
     /// Copies the cells that aren't spaces, where both windows cover the screen.
-    Overlay { src: WinId, dst: WinId },
+    Overlay {
+        src: WinId,
+        dst: WinId,
+    },
     /// Copies all cells, where both windows cover the screen.
-    Overwrite { src: WinId, dst: WinId },
+    Overwrite {
+        src: WinId,
+        dst: WinId,
+    },
     /// Copies the cells from a line and a column of the source on to a rectangle, both ends inclusive; with the flag, all but
     /// the spaces.
     Copywin {
@@ -134,21 +140,43 @@ pub enum Copying {
         overlay: bool,
     },
     /// Touches all lines.
-    Touchwin { win: WinId },
+    Touchwin {
+        win: WinId,
+    },
     /// Takes all touches away.
-    Untouchwin { win: WinId },
+    Untouchwin {
+        win: WinId,
+    },
     /// Touches lines, from one on.
-    Touchline { win: WinId, y: u16, n: u16 },
+    Touchline {
+        win: WinId,
+        y: u16,
+        n: u16,
+    },
     /// Touches lines, from one on, or takes their touches away.
-    Touchln { win: WinId, y: u16, n: u16, flag: bool },
+    Touchln {
+        win: WinId,
+        y: u16,
+        n: u16,
+        flag: bool,
+    },
     /// Touches in each ancestor what is touched of the window.
-    Syncup { win: WinId },
+    Syncup {
+        win: WinId,
+    },
     /// Touches what is touched of some ancestor.
-    Syncdown { win: WinId },
+    Syncdown {
+        win: WinId,
+    },
     /// Whether a line is touched.
-    IsLinetouched { win: WinId, y: u16 },
+    IsLinetouched {
+        win: WinId,
+        y: u16,
+    },
     /// Whether some line is touched.
-    IsWintouched { win: WinId },
+    IsWintouched {
+        win: WinId,
+    },
 }
 
 /// The calls that ask about a window or pad.

@@ -49,8 +49,8 @@ downward-preserved c =
     let h = copied w.window a.from.win.0 (a.from.line + k) a.from.column (a.to.line + k) a.to.column a.columns a.overlay in
     let g = rectangle_copied w.window a.from.win.0 a.from.line a.from.column a.to.line a.to.column (k + 1) a.columns a.overlay in
     let same : now ≡ h =
-        ap (λ (u : Windows). copied u.window a.from.win.0 (a.from.line + k) a.from.column (a.to.line + k) a.to.column a.columns a.overlay) c.downward.invariant.written
-        ∙ downward-same w.window a.from.win.0 a.to.win.0 from to there.0 there.1 leads_to leads_from a.from.line a.from.column a.to.line a.to.column k a.columns a.overlay c.if-target-to.true in
+    ap (λ (u : Windows). copied u.window a.from.win.0 (a.from.line + k) a.from.column (a.to.line + k) a.to.column a.columns a.overlay) c.downward.invariant.written
+    ∙ downward-same w.window a.from.win.0 a.to.win.0 from to there.0 there.1 leads_to leads_from a.from.line a.from.column a.to.line a.to.column k a.columns a.overlay c.if-target-to.true in
     let join = line-after w.window a.from.win.0 a.from.column a.to.column a.columns a.overlay a.from.line a.to.line k in
     let written : windows c.copy_line-copied.new.self ≡ put v a.to.win.0 now = rw (c.down_by.ensures, c.down_by-in-downward.ensures) at c.copy_line-copied.ensures.written in
     record {
@@ -100,12 +100,12 @@ upward-preserved c =
     let h = copied w.window a.from.win.0 (a.from.line + k) a.from.column (a.to.line + k) a.to.column a.columns a.overlay in
     let g = rectangle_copied w.window a.from.win.0 (a.from.line + k) a.from.column (a.to.line + k) a.to.column (a.lines - k) a.columns a.overlay in
     let before : v ≡ put w a.to.win.0 f =
-        subst (λ j. v ≡ put w a.to.win.0 (rectangle_copied w.window a.from.win.0 (a.from.line + j) a.from.column (a.to.line + j) a.to.column (a.lines - j) a.columns a.overlay)) one c.upward.invariant.written in
+    subst (λ j. v ≡ put w a.to.win.0 (rectangle_copied w.window a.from.win.0 (a.from.line + j) a.from.column (a.to.line + j) a.to.column (a.lines - j) a.columns a.overlay)) one c.upward.invariant.written in
     let framed : c.upward.frame ≡ drawing_frame w a.to.win.0 (λ b. f) =
-        subst (λ j. c.upward.frame ≡ drawing_frame w a.to.win.0 (λ b. rectangle_copied w.window a.from.win.0 (a.from.line + j) a.from.column (a.to.line + j) a.to.column (a.lines - j) a.columns a.overlay)) one c.upward.invariant.frame in
+    subst (λ j. c.upward.frame ≡ drawing_frame w a.to.win.0 (λ b. rectangle_copied w.window a.from.win.0 (a.from.line + j) a.from.column (a.to.line + j) a.to.column (a.lines - j) a.columns a.overlay)) one c.upward.invariant.frame in
     let same : now ≡ h =
-        ap (λ (u : Windows). copied u.window a.from.win.0 (a.from.line + k) a.from.column (a.to.line + k) a.to.column a.columns a.overlay) before
-        ∙ upward-same w.window a.from.win.0 a.to.win.0 from to there.0 there.1 leads_to leads_from a.from.line a.from.column a.to.line a.to.column k (a.lines - (k + 1)) a.columns a.overlay c.if-target-to.false in
+    ap (λ (u : Windows). copied u.window a.from.win.0 (a.from.line + k) a.from.column (a.to.line + k) a.to.column a.columns a.overlay) before
+    ∙ upward-same w.window a.from.win.0 a.to.win.0 from to there.0 there.1 leads_to leads_from a.from.line a.from.column a.to.line a.to.column k (a.lines - (k + 1)) a.columns a.overlay c.if-target-to.false in
     let join = line-before w.window a.from.win.0 a.from.column a.to.column a.columns a.overlay a.from.line a.to.line k a.lines lt in
     let written : windows c.copy_line-copied-in-upward.new.self ≡ put v a.to.win.0 now = rw (c.down_by-in-upward.ensures, c.down_by-in-upward-2.ensures) at c.copy_line-copied-in-upward.ensures.written in
     record {

@@ -50,8 +50,8 @@ forward-preserved c =
     let h = copied w.window a.from.win.0 a.from.line (a.from.column + k) a.to.line (a.to.column + k) 1 true in
     let g = copied w.window a.from.win.0 a.from.line a.from.column a.to.line a.to.column (k + 1) true in
     let same : now ≡ h = one-same v.window w.window a.from.win.0 a.from.line (a.from.column + k) a.to.line (a.to.column + k) true
-        (ap (λ (u : Windows). cell_at u.window a.from.win.0 a.from.line (a.from.column + k)) c.forward.invariant.written
-        ∙ forward-read w.window a.from.win.0 a.to.win.0 from to there.0 a.from.line a.from.column a.to.line a.to.column k true there.1 leads_to leads_from c.if-target-to.true) in
+    (ap (λ (u : Windows). cell_at u.window a.from.win.0 a.from.line (a.from.column + k)) c.forward.invariant.written
+    ∙ forward-read w.window a.from.win.0 a.to.win.0 from to there.0 a.from.line a.from.column a.to.line a.to.column k true there.1 leads_to leads_from c.if-target-to.true) in
     let join = more-after w.window a.from.win.0 a.from.line a.from.column a.to.line a.to.column k true in
     let written : windows c.overlay_cell-copied.new.self ≡ put v a.to.win.0 now = rw (c.right_by.ensures, c.right_by-in-forward.ensures) at c.overlay_cell-copied.ensures.written in
     record {
@@ -103,12 +103,12 @@ backward-preserved c =
     let h = copied w.window a.from.win.0 a.from.line (a.from.column + k) a.to.line (a.to.column + k) 1 true in
     let g = copied w.window a.from.win.0 a.from.line (a.from.column + k) a.to.line (a.to.column + k) (a.n - k) true in
     let before : v ≡ put w a.to.win.0 f =
-        subst (λ j. v ≡ put w a.to.win.0 (copied w.window a.from.win.0 a.from.line (a.from.column + j) a.to.line (a.to.column + j) (a.n - j) true)) one c.backward.invariant.written in
+    subst (λ j. v ≡ put w a.to.win.0 (copied w.window a.from.win.0 a.from.line (a.from.column + j) a.to.line (a.to.column + j) (a.n - j) true)) one c.backward.invariant.written in
     let framed : c.backward.frame ≡ drawing_frame w a.to.win.0 (λ b. f) =
-        subst (λ j. c.backward.frame ≡ drawing_frame w a.to.win.0 (λ b. copied w.window a.from.win.0 a.from.line (a.from.column + j) a.to.line (a.to.column + j) (a.n - j) true)) one c.backward.invariant.frame in
+    subst (λ j. c.backward.frame ≡ drawing_frame w a.to.win.0 (λ b. copied w.window a.from.win.0 a.from.line (a.from.column + j) a.to.line (a.to.column + j) (a.n - j) true)) one c.backward.invariant.frame in
     let same : now ≡ h = one-same v.window w.window a.from.win.0 a.from.line (a.from.column + k) a.to.line (a.to.column + k) true
-        (ap (λ (u : Windows). cell_at u.window a.from.win.0 a.from.line (a.from.column + k)) before
-        ∙ backward-read w.window a.from.win.0 a.to.win.0 from to there.0 a.from.line a.from.column a.to.line a.to.column k (a.n - (k + 1)) true there.1 leads_to leads_from c.if-target-to.false) in
+    (ap (λ (u : Windows). cell_at u.window a.from.win.0 a.from.line (a.from.column + k)) before
+    ∙ backward-read w.window a.from.win.0 a.to.win.0 from to there.0 a.from.line a.from.column a.to.line a.to.column k (a.n - (k + 1)) true there.1 leads_to leads_from c.if-target-to.false) in
     let join = more-before w.window a.from.win.0 a.from.line a.from.column a.to.line a.to.column k a.n true lt in
     let written : windows c.overlay_cell-copied-in-backward.new.self ≡ put v a.to.win.0 now = rw (c.right_by-in-backward.ensures, c.right_by-in-backward-2.ensures) at c.overlay_cell-copied-in-backward.ensures.written in
     record {

@@ -87,7 +87,7 @@ loop-y-preserved c =
     let here = touched-here w a.win test y cur b.0 c.loop-y.invariant.touched b.1 in
     let source : cur.window a.source ≡ w.window a.source = touched-other w a.win test y cur a.source c.loop-y.invariant.touched (λ e. c.requires.other (sym e)) in
     let same : (x : ℕ) → test y x ≡ touched_shown cur.window a.source a.source_at a.at y x =
-        λ x. ap (λ (o : Option Window). option_map_or (λ (d : Window). shows_touched d a.source_at a.at y x) o false) (sym source) in
+    λ x. ap (λ (o : Option Window). option_map_or (λ (d : Window). shows_touched d a.source_at a.at y x) o false) (sym source) in
     elim c.match-shown_columns.branch [
       | in-Some v ↦
           let r = v.in-Some.columns in
