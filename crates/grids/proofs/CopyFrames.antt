@@ -1,16 +1,14 @@
 -- The rectangle that a copy of a line covers.
-use Rattle.std.proofs.Common.{◌≡◌, ℕ, ◌+◌, ◌-◌, ◌<◌, ◌≤◌, Bool, true, false, if◌then◌else◌, ◌==◌, ◌&&◌, nat_lt, nat_le, Option, Some, None, is_some, IsSomeAnd, ap, arith, refl, sym, ◌∙◌}
+use Rattle.std.proofs.Common.{◌≡◌, ℕ, ◌+◌, ◌-◌, ◌<◌, ◌≤◌, Bool, true, false, if◌then◌else◌, ◌==◌, ◌&&◌, nat_lt, nat_le, Option, Some, None, is_some, IsSomeAnd, arith, refl, sym, ◌∙◌}
 use Rattle.std.proofs.lemmas.Bool.Decides.{nat_tests}
 use Rattle.std.proofs.lemmas.Bool.{and_parts, and_from, eqb-true, eq-eqb, leb-true, le-leb}
 use Rattle.std.specs.Prelude.{option_and_then}
-use Rattle.cell.specs.Glyphs.{Glyph, blank}
-use Rattle.world.specs.Windows.{Window, WindowMap, Windows, Drawing, HasPlace, cell_at}
-use Rattle.world.specs.Rows.{filled, overlaid, copied}
+use Rattle.cell.specs.Glyphs.{Glyph}
+use Rattle.world.specs.Windows.{Window, Windows, Drawing, HasPlace, cell_at}
+use Rattle.world.specs.Rows.{filled, copied}
 use Rattle.world.specs.Frames.{Covers, frame_at, frame_of}
-use Rattle.world.specs.calls.Copies.{rectangle_copied}
 use Rattle.world.specs.calls.writing.Editing.{drawing_frame}
 use Rattle.world.proofs.FrameLaws.{frame_of-only, frame_of-none}
-use Rattle.cell.specs.declared.window.Frame.{Frame}
 
 -- a drawing that has just the columns from left to right of a line
 record IsInLine (f : Drawing) (y left right : ℕ) : Type 0 where

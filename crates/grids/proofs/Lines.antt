@@ -1,5 +1,5 @@
 -- Copies of a rectangle, line by line.
-use Rattle.std.proofs.Common.{◌≡◌, ℕ, ◌+◌, ◌-◌, ◌<◌, ◌≤◌, Bool, if◌then◌else◌, ◌==◌, ◌&&◌, nat_lt, nat_le, false, Option, ◌⊎◌, Some, None, is_some, IsSomeAnd, ap, arith, refl, sym, subst, ◌∙◌, inl, inr}
+use Rattle.std.proofs.Common.{◌≡◌, ℕ, ◌+◌, ◌-◌, ◌<◌, ◌≤◌, Bool, if◌then◌else◌, ◌==◌, ◌&&◌, nat_lt, nat_le, false, Option, ◌⊎◌, Some, None, is_some, IsSomeAnd, ap, arith, sym, subst, ◌∙◌, inl, inr}
 use Rattle.std.specs.Option.{option_map}
 use mathlib.Core.Path.{fun_ext}
 use Rattle.std.proofs.lemmas.Bool.{cases_eq, cases_lt, cases_order}
@@ -9,7 +9,7 @@ use Rattle.world.specs.Windows.{Window, WindowMap, Windows, GridPlace, Drawing, 
 use Rattle.world.specs.Rows.{overlaid, copied}
 use Rattle.world.specs.calls.Copies.{rectangle_copied}
 use Rattle.world.proofs.WindowLaws.{own-onward, cell_at-kept, put-nothing, HasPlace-put}
-use Rattle.grids.proofs.Copies.{either_none, off, pick_new, pick_old, left_test, none_either, copied-same}
+use Rattle.grids.proofs.Copies.{either_none, off, pick_new, pick_old, none_either, copied-same}
 
 -- places that it leaves out
 rectangle_out : (y x dy dx lines columns : ℕ) → (y < dy) ⊎ (dy + lines ≤ y) → ((nat_le dy y && nat_lt y (dy + lines)) && (nat_le dx x && nat_lt x (dx + columns))) ≡ false

@@ -1,20 +1,18 @@
 -- What is touched of a window, handed on from window to window.
-use Rattle.std.proofs.Common.{◌≡◌, ◌≢◌, ℕ, ◌+◌, ◌-◌, ◌<◌, ◌≤◌, Bool, true, false, if◌then◌else◌, ◌==◌, ◌&&◌, ◌||◌, nat_lt, nat_le, Option, Some, None, IsSome, List, [], ◌∷◌, ap, arith, refl, sym, ◌∙◌, subst, inl, inr, eq-eqb, ne_eqb, zero-add}
+use Rattle.std.proofs.Common.{◌≡◌, ◌≢◌, ℕ, ◌+◌, ◌-◌, ◌≤◌, Bool, true, false, if◌then◌else◌, ◌==◌, ◌&&◌, ◌||◌, nat_lt, nat_le, Option, Some, None, IsSome, List, ◌∷◌, ap, arith, refl, sym, ◌∙◌, subst, inl, inr, eq-eqb, ne_eqb, zero-add}
 use Rattle.std.specs.List.{list_any}
 use Rattle.std.specs.Option.{option_map, option_map_or}
 use mathlib.Core.Path.{fun_ext}
-use Rattle.std.proofs.lemmas.Bool.{and_from, and_parts, cases_eq, cases_lt, cond-true, cond-false, le-leb, leb-true, lt-ltb, le-ltb}
+use Rattle.std.proofs.lemmas.Bool.{and_from, and_parts, cases_eq, cases_lt, le-leb, leb-true, lt-ltb, le-ltb}
 use Rattle.std.proofs.lemmas.Bool.Decides.{nat_tests}
 use Rattle.cell.specs.declared.limits.TheConstants.{LARGEST_PAD}
-use Rattle.cell.specs.declared.window.Frame.{Frame}
-use Rattle.world.specs.Windows.{Backing, part_of, GridPlace, Window, WindowMap, Windows, ancestors, any_below, changed, onward, own, touched_below}
-use Rattle.world.specs.Frames.{IsIn}
+use Rattle.world.specs.Windows.{part_of, GridPlace, Window, WindowMap, Windows, ancestors, any_below, changed, onward, own, touched_below}
 use Rattle.world.specs.Sharing.{is_same_place, shows_part_of}
 use Rattle.world.specs.Sound.{AreSoundWindows}
 use Rattle.world.specs.calls.Marks.{after_syncdown, after_syncup, in_line, shows_touched_of, touching}
 use Rattle.world.specs.declared.settings.Columns.{Columns}
 use Rattle.world.proofs.Below.{any_below-some, any_below-true, any_in-some, any_in-true}
-use Rattle.world.proofs.SharingLaws.{SamePlace, same-true, true-same}
+use Rattle.world.proofs.SharingLaws.{same-true, true-same}
 use Rattle.world.proofs.WindowLaws.{own-onward, touched-touched}
 use Rattle.grids.specs.declared.slot.Part.{Part}
 use Rattle.grids.specs.steps.Syncs.{EndsWithin, has_column, is_touched_at, part_behind, shows_touched, touched_shown}

@@ -1,16 +1,13 @@
 -- A window that is touched line by line.
 use Rattle.std.proofs.Common.{◌≡◌, ◌≢◌, ℕ, zero, suc, ◌+◌, ◌-◌, ◌<◌, ◌≤◌, Bool, true, false, if◌then◌else◌, ◌==◌, ◌&&◌, nat_lt, nat_le, Option, Some, None, IsSomeAnd, ap, arith, refl, sym, ◌∙◌, subst, inl, inr, eq-eqb, ne_eqb}
-use Rattle.std.specs.Option.{option_map, option_map_or}
+use Rattle.std.specs.Option.{option_map}
 use mathlib.Core.Path.{fun_ext}
 use Rattle.std.proofs.lemmas.Bool.{cases_eq, cases_lt, cond-true, cond-false, lt-ltb, le-ltb}
-use Rattle.std.proofs.lemmas.Bool.Decides.{nat_tests}
 use Rattle.std.proofs.lemmas.Iterator.Adapters.{option_map_id}
-use Rattle.world.specs.Windows.{Window, WindowMap, Windows, HasPlace, changed, touched_below}
-use Rattle.world.specs.Sound.{AreColumnsWithin}
+use Rattle.world.specs.Windows.{Window, WindowMap, Windows, changed, touched_below}
 use Rattle.world.specs.calls.Marks.{touching}
 use Rattle.world.specs.declared.settings.Columns.{Columns}
 use Rattle.grids.specs.steps.Changes.{spread, with_touched}
-use Rattle.grids.specs.steps.Syncs.{has_column}
 use Rattle.grids.proofs.Writes.{touched-none, touched-past}
 
 -- ---- one window changed twice, and not at all

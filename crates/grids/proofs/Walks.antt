@@ -1,6 +1,6 @@
 -- From parent to parent: which windows are the ancestors of one, and where it begins in each.
-use Rattle.std.proofs.Common.{◌≡◌, ℕ, zero, suc, ◌+◌, ◌-◌, ◌<◌, ◌≤◌, Option, Some, None, IsSome, IsSomeAnd, List, [], ◌∷◌, ap, arith, refl, sym, ◌∙◌, subst}
-use Rattle.std.specs.Prelude.{option_and_then, ⊤, MatchOption}
+use Rattle.std.proofs.Common.{◌≡◌, ℕ, zero, suc, ◌+◌, ◌≤◌, Option, Some, None, IsSome, IsSomeAnd, List, [], ◌∷◌, ap, arith, refl, sym, ◌∙◌, subst}
+use Rattle.std.specs.Prelude.{option_and_then}
 use Rattle.std.specs.Option.{option_map, option_map_or}
 use Rattle.cell.specs.Glyphs.{Glyph}
 use Rattle.world.specs.Windows.{Backing, own_grid, part_of, GridPlace, Window, WindowMap, Windows, ancestors, ancestors_within, leads, onward, own, own_within, parent_number, window_limit}

@@ -1,16 +1,13 @@
 -- The places of the screen that two windows cover are a rectangle of each.
-use Rattle.std.proofs.Common.{◌≡◌, ℕ, ◌+◌, ◌-◌, ◌<◌, ◌≤◌, max, min, Bool, true, false, if◌then◌else◌, ◌&&◌, nat_lt, nat_le, Option, Some, None, is_some, IsSomeAnd, ap, arith, refl, sym, subst, ◌∙◌, inl, inr}
+use Rattle.std.proofs.Common.{◌≡◌, ℕ, ◌+◌, ◌-◌, ◌<◌, ◌≤◌, max, min, Bool, true, false, if◌then◌else◌, ◌&&◌, nat_lt, nat_le, Option, Some, None, is_some, ap, arith, refl, sym, subst, ◌∙◌, inl, inr}
 use Rattle.std.specs.Prelude.{option_and_then}
-use Rattle.std.specs.Option.{option_map_or}
 use Rattle.std.proofs.lemmas.Bool.{cases_lt}
 use Rattle.std.proofs.lemmas.Bool.Decides.{nat_tests}
 use Rattle.cell.specs.Glyphs.{Glyph}
 use Rattle.cell.specs.Pictures.{Place}
-use Rattle.cell.specs.declared.limits.TheConstants.{LARGEST_SCREEN}
-use Rattle.world.specs.Windows.{Window, WindowMap, Windows, Drawing, HasPlace, cell_at, put}
+use Rattle.world.specs.Windows.{Window, WindowMap, Windows, Drawing, cell_at, put}
 use Rattle.world.specs.Rows.{overlaid}
 use Rattle.world.specs.Frames.{Covers, frame_of}
-use Rattle.world.specs.Sound.{AreSoundWindows, IsSoundWindow}
 use Rattle.world.specs.calls.Copies.{common_copied, rectangle_copied}
 use Rattle.world.specs.calls.Queries.{place_on_screen}
 use Rattle.world.specs.calls.writing.Editing.{drawing_frame}

@@ -1,5 +1,5 @@
 -- What copies and marks leave of small windows, for a reader of the definitions.
-use Rattle.std.proofs.Common.{◌≡◌, ℕ, Bool, true, false, List, [], ◌∷◌, Some, None, refl}
+use Rattle.std.proofs.Common.{◌≡◌, ℕ, Bool, true, false, List, ◌∷◌, Some, refl}
 use Rattle.std.specs.Prelude.{codes, map, ◌++◌}
 use Rattle.std.specs.List.{range_with_len}
 use Rattle.world.specs.Windows.{cell_at, window_limit}
@@ -10,7 +10,6 @@ use Rattle.world.specs.calls.Dispatch.{refusal, reply_of, world_after}
 use Rattle.world.specs.calls.Queries.{touched_columns}
 use Rattle.world.proofs.Examples.{screen_after, win}
 use Rattle.cell.specs.declared.refusal.Refusal.TheVariants.{BadRectangle, IsPad, OutsideWindow}
-use Rattle.cell.specs.declared.window.Frame.{Frame}
 use Rattle.world.specs.declared.call.Call.{Call}
 use Rattle.world.specs.declared.call.Call.TheVariants.{Making, Writing, Copying}
 use Rattle.world.specs.declared.call.Making.TheVariants.{Newwin, Derwin, Newpad}

@@ -1,7 +1,7 @@
 -- The calls on what is touched of a window: when they are refused, what they change, and what they answer.
 -- X/Open Curses Issue 7: touchwin, untouchwin, touchline, wtouchln, wsyncup, wsyncdown, is_linetouched, is_wintouched. That 0 lines still
 -- want their line to be there is Curspan's own choice.
-use Rattle.std.specs.Prelude.{ℕ, ◌+◌, ◌-◌, Bool, true, false, not, if◌then◌else◌, nat_lt, nat_le, ◌&&◌, Option, Some, None, is_some, [], ◌∷◌}
+use Rattle.std.specs.Prelude.{ℕ, ◌+◌, ◌-◌, Bool, false, not, if◌then◌else◌, nat_lt, nat_le, ◌&&◌, Option, Some, None, is_some, [], ◌∷◌}
 use Rattle.std.specs.List.{list_any}
 use Rattle.std.specs.Option.{option_map, option_map_or}
 use Rattle.cell.specs.Refusals.{first_of}

@@ -1,11 +1,4 @@
-use Rattle.std.proofs.Common.{◌≡◌, Some, None, ap, sym, ◌∙◌}
-use Rattle.std.specs.Prelude.{option_and_then}
-use Rattle.cell.specs.Pictures.{Place}
-use Rattle.world.specs.Windows.{Drawing, Window, WindowMap, put}
-use Rattle.world.specs.Frames.{frame_of}
-use Rattle.world.specs.calls.Copies.{common_copied}
-use Rattle.world.specs.calls.Queries.{place_on_screen}
-use Rattle.world.specs.calls.writing.Editing.{drawing_frame}
+use Rattle.std.proofs.Common.{◌∙◌}
 use Rattle.grids.specs.Tables.{windows}
 use Rattle.windows.proofs.CommonParts.{common-put, common-frame}
 use Rattle.windows.proofs.copying.copy_common.Goals as goal

@@ -1,8 +1,6 @@
-use Rattle.std.proofs.Common.{◌≡◌, is_some, arith, refl, sym, ap, ◌∙◌}
-use Rattle.std.specs.List.{list_any}
+use Rattle.std.proofs.Common.{is_some, arith, refl, sym, ◌∙◌}
 use Rattle.world.specs.declared.settings.Columns.{Columns}
 use Rattle.grids.proofs.Deletion.{any_below-list}
-use Rattle.grids.specs.Kept.{Kept}
 use Rattle.grids.proofs.slot.Slot.is_touched.Goals as goal
 
 pub returns : goal.returns

@@ -1,4 +1,4 @@
-use Rattle.std.proofs.Common.{◌≡◌, arith, ap, ◌∙◌}
+use Rattle.std.proofs.Common.{arith, ap, ◌∙◌}
 use Rattle.grids.specs.declared.table.Grids.{Grids}
 use Rattle.grids.specs.Tables.{windows}
 use Rattle.grids.proofs.Copies.{start-copy}

@@ -1,5 +1,5 @@
-use Rattle.std.proofs.Common.{◌≡◌, ◌+◌, ◌-◌, ◌<◌, true, Some, None, refl, sym, ap, arith, subst, ◌∙◌}
-use Rattle.world.specs.Windows.{Drawing, GridPlace, Windows, cell_at, own, put}
+use Rattle.std.proofs.Common.{◌≡◌, ◌+◌, ◌-◌, ◌<◌, true, Some, refl, sym, ap, arith, subst, ◌∙◌}
+use Rattle.world.specs.Windows.{GridPlace, Windows, cell_at, own, put}
 use Rattle.world.specs.Rows.{copied}
 use Rattle.world.specs.calls.writing.Editing.{drawing_frame}
 use Rattle.grids.specs.declared.table.Grids.{Grids}

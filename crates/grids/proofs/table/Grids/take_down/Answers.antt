@@ -1,6 +1,4 @@
-use Rattle.std.proofs.Common.{◌≡◌, ◌≢◌, ℕ, ◌+◌, ◌<◌, ◌≤◌, Some, None, arith, ap, sym, ◌∙◌}
-use Rattle.world.specs.Windows.{Windows}
-use Rattle.grids.specs.declared.slot.Part.{Part}
+use Rattle.std.proofs.Common.{◌≡◌, ◌≢◌, ◌<◌, Some, None, arith, ap, sym, ◌∙◌}
 use Rattle.grids.specs.Tables.{windows}
 use Rattle.grids.specs.steps.Slots.{depth_at}
 use Rattle.grids.specs.steps.Syncs.{part_behind}

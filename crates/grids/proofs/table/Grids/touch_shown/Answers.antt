@@ -1,7 +1,7 @@
-use Rattle.std.proofs.Common.{◌≡◌, ℕ, ◌+◌, ◌<◌, ◌≤◌, Bool, false, Option, Some, None, arith, ap, refl, sym, ◌∙◌}
+use Rattle.std.proofs.Common.{◌≡◌, ℕ, ◌+◌, ◌<◌, ◌≤◌, false, Option, arith, ap, refl, sym, ◌∙◌}
 use Rattle.std.specs.Option.{option_map_or}
 use Rattle.cell.specs.declared.limits.TheConstants.{LARGEST_PAD}
-use Rattle.world.specs.Windows.{Window, Windows}
+use Rattle.world.specs.Windows.{Window}
 use Rattle.grids.specs.declared.table.Grids.{Grids}
 use Rattle.grids.specs.Tables.{windows}
 use Rattle.grids.specs.steps.Slots.{depth_at}
