@@ -1,0 +1,292 @@
+-- The order through the nodes, before and after a panel leaves or enters it.
+use Rattle.std.proofs.Common.{◌≡◌, ℕ, suc, ◌<◌, ◌≤◌, ◌==◌, if◌then◌else◌, Option, None, Some, IsSome, List, [], ◌∷◌, ◌++◌, length, reverse, sym, ap, subst, ◌∙◌, refl, inl, inr, arith}
+use mathlib.Core.Path.{fun_ext}
+use Rattle.std.specs.List.{AllByRecursion}
+use Rattle.std.proofs.lemmas.Bool.{cases_eq, eq-eqb, ne_eqb, cases_lt}
+use Rattle.std.proofs.lemmas.List.{get_or_past, length-reverse}
+use Rattle.stack.specs.Calls.{without}
+use Rattle.stack.specs.Nodes.{no_node, node_at, above_at, below_at, window_at, window_in, AreOnce, IsAlone, IsChain, IsOut, IsPanel, IsThreaded, from_bottom, from_top}
+use Rattle.stack.specs.steps.Links.{Linked, Reordered, SameWindows}
+use Rattle.stack.specs.declared.nodes.Node.{Node}
+use Rattle.stack.proofs.Chains.{Inserted, Removed, chain-back, chain-front, chain-pushed, chain-put, chain-removed, chain-reverse, first-each, last-each, not-first, not-last, way-chain}
+use Rattle.stack.proofs.Orders.{Split, each-append, each-back, each-front, each-reverse, each-weaker, length-once, once-after, once-before, once-push, once-without, out-append, out-back, out-each, out-front, out_or_in, without-out, without-split}
+
+-- ---- the order is what is threaded
+
+-- a panel's number is among the nodes'
+pub panel-below : (nodes : List Node) (p : ℕ) → IsPanel nodes p → p < length nodes
+panel-below nodes p h = elim (cases_lt p (length nodes)) [
+  | inl lt ↦ lt
+  | inr ge ↦ let none : IsSome (window_in no_node) = subst (λ (node : Node). IsSome (window_in node)) (get_or_past nodes p no_node ge) h.1 in cc
+]
+
+module _ (nodes : List Node) (order : List ℕ) (h : IsThreaded nodes order) where
+  pub positive : AllByRecursion (λ q. 0 < q) order
+  positive = each-weaker (IsPanel nodes) (λ q. 0 < q) (λ q k. k.0) order h.panels
+
+  -- the end isn't in the order
+  pub out-end : IsOut 0 order
+  out-end = out-each (λ q. 0 < q) 0 (λ lt. omega arith) order positive
+
+  pub few : length order ≤ length nodes
+  few = length-once (length nodes) order h.once (each-weaker (IsPanel nodes) (λ q. q < length nodes) (panel-below nodes) order h.panels)
+
+  pub from_bottom-is : from_bottom nodes ≡ order
+  unfolding from_bottom
+  from_bottom-is = way-chain (above_at nodes) (below_at nodes) 0 order (length nodes) h.chain positive few
+
+  pub from_top-is : from_top nodes ≡ reverse order
+  unfolding from_top
+  from_top-is =
+      way-chain (below_at nodes) (above_at nodes) 0 (reverse order) (length nodes)
+      (chain-reverse (above_at nodes) (below_at nodes) 0 order 0 h.chain)
+      (each-reverse (λ q. 0 < q) order positive)
+      (let e : length (reverse order) ≡ length order = length-reverse order in let le = few in omega arith)
+
+-- the neighbours of each are among the nodes
+module _ (nodes : List Node) (order : List ℕ) (h : IsThreaded nodes order) (some : 0 < length nodes) where
+  each-node : AllByRecursion (λ q. q < length nodes) order
+  each-node = each-weaker (IsPanel nodes) (λ q. q < length nodes) (panel-below nodes) order h.panels
+
+  pub above-below : (p : ℕ) → IsPanel nodes p → above_at nodes p < length nodes
+  above-below p panel = elim (out_or_in p order) [
+    | inl out ↦
+        let alone = (h.others p panel.0 (panel-below nodes p panel) out).0 in
+        let lt = panel-below nodes p panel in
+        subst (λ (k : ℕ). k < length nodes) (sym alone) lt
+    | inr split ↦
+        let ys = split.after in
+        let chain = subst (λ (l : List ℕ). IsChain (above_at nodes) (below_at nodes) 0 l 0) split.is h.chain in
+        let each = subst (λ (l : List ℕ). AllByRecursion (λ q. q < length nodes) l) split.is each-node in
+        first-each (above_at nodes) (below_at nodes) (λ q. q < length nodes) p ys 0
+        (chain-back (above_at nodes) (below_at nodes) 0 p split.before ys 0 chain)
+        (each-back (λ q. q < length nodes) split.before (p ∷ ys) each).1 some
+  ]
+
+  pub below-below : (p : ℕ) → IsPanel nodes p → below_at nodes p < length nodes
+  below-below p panel = elim (out_or_in p order) [
+    | inl out ↦
+        let alone = (h.others p panel.0 (panel-below nodes p panel) out).1 in
+        let lt = panel-below nodes p panel in
+        subst (λ (k : ℕ). k < length nodes) (sym alone) lt
+    | inr split ↦
+        let xs = split.before in
+        let chain = subst (λ (l : List ℕ). IsChain (above_at nodes) (below_at nodes) 0 l 0) split.is h.chain in
+        let each = subst (λ (l : List ℕ). AllByRecursion (λ q. q < length nodes) l) split.is each-node in
+        last-each (above_at nodes) (below_at nodes) (λ q. q < length nodes) 0 xs p
+        (chain-front (above_at nodes) (below_at nodes) 0 p xs split.after 0 chain)
+        (each-front (λ q. q < length nodes) xs (p ∷ split.after) each) some
+  ]
+
+  pub top-below : below_at nodes 0 < length nodes
+  top-below = last-each (above_at nodes) (below_at nodes) (λ q. q < length nodes) 0 order 0 h.chain each-node some
+
+  pub bottom-below : above_at nodes 0 < length nodes
+  bottom-below = first-each (above_at nodes) (below_at nodes) (λ q. q < length nodes) 0 order 0 h.chain each-node some
+
+pub reordered : (old new : List Node) (order : List ℕ) → SameWindows old new → IsThreaded new order → Reordered old new order
+reordered old new order windows h =
+    let is = from_bottom-is new order h in
+    record { threaded = subst (λ (l : List ℕ). IsThreaded new l) (sym is) h; is = is; windows = windows }
+
+-- ---- two links
+
+if-same : (q u x y : ℕ) → q ≡ u → (if q == u then x else y) ≡ x
+if-same q u x y e = rw (eq-eqb q u e) refl
+
+if-other : (q u x y : ℕ) → (q ≡ u → ⊥) → (if q == u then x else y) ≡ y
+if-other q u x y e = rw (ne_eqb q u e) refl
+
+-- lower and upper became neighbours, and then v and w
+pub record Twice (above below above' below' : ℕ → ℕ) (lower upper v w : ℕ) : Type 0 where
+  pub aboves : (q : ℕ) → above' q ≡ (if q == v then w else (if q == lower then upper else above q))
+  pub belows : (q : ℕ) → below' q ≡ (if q == w then v else (if q == upper then lower else below q))
+
+pub twice : (old mid new : List Node) (lower upper v w : ℕ) → Linked old mid lower upper → Linked mid new v w → Twice (above_at old) (below_at old) (above_at new) (below_at new) lower upper v w
+twice old mid new lower upper v w h k = record {
+  aboves = λ q. k.above q ∙ ap (λ (x : ℕ). if q == v then w else x) (h.above q);
+  belows = λ q. k.below q ∙ ap (λ (x : ℕ). if q == w then v else x) (h.below q);
+}
+
+pub twice-windows : (old mid new : List Node) → SameWindows old mid → SameWindows mid new → SameWindows old new
+twice-windows old mid new h k = record { length = k.length ∙ h.length; window = λ q. k.window q ∙ h.window q }
+
+module _ (above below above' below' : ℕ → ℕ) where
+  twice-other : (lower upper v w q : ℕ) → Twice above below above' below' lower upper v w → (q ≡ v → ⊥) → (q ≡ lower → ⊥) → above' q ≡ above q
+  twice-other lower upper v w q t nv nl =
+      t.aboves q ∙ if-other q v w (if q == lower then upper else above q) nv ∙ if-other q lower upper (above q) nl
+
+  twice-other-below : (lower upper v w q : ℕ) → Twice above below above' below' lower upper v w → (q ≡ w → ⊥) → (q ≡ upper → ⊥) → below' q ≡ below q
+  twice-other-below lower upper v w q t nw nu =
+      t.belows q ∙ if-other q w v (if q == upper then lower else below q) nw ∙ if-other q upper lower (below q) nu
+
+  -- the neighbours of p became neighbours, and p alone
+  removed : (p : ℕ) → Twice above below above' below' (below p) (above p) p p → (p ≡ below p → ⊥) → (p ≡ above p → ⊥) → Removed above below above' below' p
+  removed p t nl nu = record {
+    lower = t.aboves (below p) ∙ if-other (below p) p p (if below p == below p then above p else above (below p)) (λ e. nl (sym e)) ∙ if-same (below p) (below p) (above p) (above (below p)) refl;
+    upper = t.belows (above p) ∙ if-other (above p) p p (if above p == above p then below p else below (above p)) (λ e. nu (sym e)) ∙ if-same (above p) (above p) (below p) (below (above p)) refl;
+    aboves = λ q np nb. twice-other (below p) (above p) p p q t np nb;
+    belows = λ q np na. twice-other-below (below p) (above p) p p q t np na;
+  }
+
+  -- p stands between lower and upper
+  inserted : (lower p upper : ℕ) → Twice above below above' below' lower p p upper → (p ≡ lower → ⊥) → (p ≡ upper → ⊥) → Inserted above below above' below' lower p upper
+  inserted lower p upper t nl nu = record {
+    lower_above = t.aboves lower ∙ if-other lower p upper (if lower == lower then p else above lower) (λ e. nl (sym e)) ∙ if-same lower lower p (above lower) refl;
+    lower_below = t.belows p ∙ if-other p upper p (if p == p then lower else below p) nu ∙ if-same p p lower (below p) refl;
+    upper_above = t.aboves p ∙ if-same p p upper (if p == lower then p else above p) refl;
+    upper_below = t.belows upper ∙ if-same upper upper p (if upper == p then lower else below upper) refl;
+    aboves = λ q np nl. twice-other lower p p upper q t np nl;
+    belows = λ q np nu. twice-other-below lower p p upper q t nu np;
+  }
+
+  -- a panel that was alone, was alone already
+  kept-above : (p : ℕ) → Twice above below above' below' (below p) (above p) p p → above p ≡ p → below p ≡ p → (q : ℕ) → above' q ≡ above q
+  kept-above p t ap_is bp_is q = elim (cases_eq q p) [
+    | inl same ↦ t.aboves q ∙ if-same q p p (if q == below p then above p else above q) same ∙ sym (ap above same ∙ ap_is)
+    | inr other ↦ twice-other (below p) (above p) p p q t other (λ e. other (e ∙ bp_is))
+  ]
+
+  kept-below : (p : ℕ) → Twice above below above' below' (below p) (above p) p p → above p ≡ p → below p ≡ p → (q : ℕ) → below' q ≡ below q
+  kept-below p t ap_is bp_is q = elim (cases_eq q p) [
+    | inl same ↦ t.belows q ∙ if-same q p p (if q == above p then below p else below q) same ∙ sym (ap below same ∙ bp_is)
+    | inr other ↦ twice-other-below (below p) (above p) p p q t other (λ e. other (e ∙ ap_is))
+  ]
+
+-- ---- panels with the same windows
+
+module _ (old new : List Node) (same : SameWindows old new) where
+  panel-same : (q : ℕ) → IsPanel old q → IsPanel new q
+  panel-same q h = (h.0, subst (λ (o : Option ℕ). IsSome o) (sym (same.window q)) h.1)
+
+  panels-same : (order : List ℕ) → AllByRecursion (IsPanel old) order → AllByRecursion (IsPanel new) order
+  panels-same order h = each-weaker (IsPanel old) (IsPanel new) panel-same order h
+
+  -- the links are the same too
+  threaded-same : (order : List ℕ) → ((q : ℕ) → above_at new q ≡ above_at old q) → ((q : ℕ) → below_at new q ≡ below_at old q) → IsThreaded old order → IsThreaded new order
+  threaded-same order aboves belows h =
+      let f : above_at old ≡ above_at new = fun_ext (λ q. sym (aboves q)) in
+      let g : below_at old ≡ below_at new = fun_ext (λ q. sym (belows q)) in
+      record {
+        chain = subst (λ (k : ℕ → ℕ). IsChain (above_at new) k 0 order 0) g (subst (λ (k : ℕ → ℕ). IsChain k (below_at old) 0 order 0) f h.chain);
+        once = h.once;
+        panels = panels-same order h.panels;
+        others = λ q lt few out.
+            let alone = h.others q lt (subst (λ (n : ℕ). q < n) same.length few) out in
+            (aboves q ∙ alone.0, belows q ∙ alone.1);
+      }
+
+-- ---- a panel leaves
+
+module _ (old new : List Node) (p : ℕ) (windows : SameWindows old new) (t : Twice (above_at old) (below_at old) (above_at new) (below_at new) (below_at old p) (above_at old p) p p) (panel : IsPanel old p) where
+  alone : IsAlone new p
+  alone =
+      (t.aboves p ∙ if-same p p p (if p == below_at old p then above_at old p else above_at old p) refl,
+       t.belows p ∙ if-same p p p (if p == above_at old p then below_at old p else below_at old p) refl)
+
+  not-end : p ≡ 0 → ⊥
+  not-end e = let lt = panel.0 in omega arith
+
+  left-split : (xs ys : List ℕ) → IsThreaded old (xs ++ p ∷ ys) → IsThreaded new (xs ++ ys)
+  left-split xs ys h =
+      let out_0 = out-end old (xs ++ p ∷ ys) h in
+      let front = chain-front (above_at old) (below_at old) 0 p xs ys 0 h.chain in
+      let back = chain-back (above_at old) (below_at old) 0 p xs ys 0 h.chain in
+      let r = removed (above_at old) (below_at old) (above_at new) (below_at new) p t
+            (not-last (above_at old) (below_at old) p 0 xs p front not-end (once-before p xs ys h.once))
+            (not-first (above_at old) (below_at old) p p ys 0 back not-end (once-after p xs ys h.once)) in
+      record {
+        chain = chain-removed (above_at old) (below_at old) (above_at new) (below_at new) p r 0 xs ys 0 h.chain h.once out_0 out_0;
+        once = once-without p xs ys h.once;
+        panels = panels-same old new windows (xs ++ ys)
+            (each-append (IsPanel old) xs ys (each-front (IsPanel old) xs (p ∷ ys) h.panels) (each-back (IsPanel old) xs (p ∷ ys) h.panels).1);
+        others = λ q lt few out. elim (cases_eq q p) [
+          | inl same ↦ subst (λ (k : ℕ). IsAlone new k) (sym same) alone
+          | inr other ↦
+              let out_xs = out-front q xs ys out in
+              let out_ys = out-back q xs ys out in
+              let was = h.others q lt (subst (λ (n : ℕ). q < n) windows.length few) (out-append q xs (p ∷ ys) out_xs (other, out_ys)) in
+              let q_0 : q ≡ 0 → ⊥ = λ e. omega arith in
+              (r.aboves q other (not-last (above_at old) (below_at old) q 0 xs p front q_0 out_xs) ∙ was.0,
+               r.belows q other (not-first (above_at old) (below_at old) q p ys 0 back q_0 out_ys) ∙ was.1)
+        ];
+      }
+
+  pub left : (order : List ℕ) → IsThreaded old order → IsThreaded new (without p order)
+  left order h = elim (out_or_in p order) [
+    | inl out ↦
+        let is = h.others p panel.0 (panel-below old p panel) out in
+        subst (λ (l : List ℕ). IsThreaded new l) (sym (without-out p order out))
+        (threaded-same old new windows order
+          (kept-above (above_at old) (below_at old) (above_at new) (below_at new) p t is.0 is.1)
+          (kept-below (above_at old) (below_at old) (above_at new) (below_at new) p t is.0 is.1) h)
+    | inr split ↦
+        let xs = split.before in
+        let ys = split.after in
+        let k : IsThreaded old (xs ++ p ∷ ys) = subst (λ (l : List ℕ). IsThreaded old l) split.is h in
+        subst (λ (l : List ℕ). IsThreaded new l) (sym (ap (without p) split.is ∙ without-split p xs ys k.once)) (left-split xs ys k)
+  ]
+
+-- ---- a panel enters
+
+module _ (old new : List Node) (p : ℕ) (windows : SameWindows old new) (panel : IsPanel old p) (order : List ℕ) (h : IsThreaded old order) (out : IsOut p order) where
+  not-0 : p ≡ 0 → ⊥
+  not-0 e = let lt = panel.0 in omega arith
+
+  pub entered-top : Twice (above_at old) (below_at old) (above_at new) (below_at new) (below_at old 0) p p 0 → IsThreaded new (order ++ p ∷ [])
+  entered-top t =
+      let out_0 = out-end old order h in
+      let r = inserted (above_at old) (below_at old) (above_at new) (below_at new) (below_at old 0) p 0 t
+            (not-last (above_at old) (below_at old) p 0 order 0 h.chain not-0 out) not-0 in
+      record {
+        chain = chain-pushed (above_at old) (below_at old) (above_at new) (below_at new) p 0 order 0 r h.chain h.once (λ e. not-0 (sym e)) out_0 out_0 out;
+        once = once-push p order h.once out;
+        panels = panels-same old new windows (order ++ p ∷ []) (each-append (IsPanel old) order (p ∷ []) h.panels (panel, tt));
+        others = λ q lt few out_q.
+            let out_order = out-front q order (p ∷ []) out_q in
+            let other = (out-back q order (p ∷ []) out_q).0 in
+            let was = h.others q lt (subst (λ (n : ℕ). q < n) windows.length few) out_order in
+            let q_0 : q ≡ 0 → ⊥ = λ e. omega arith in
+            (r.aboves q other (not-last (above_at old) (below_at old) q 0 order 0 h.chain q_0 out_order) ∙ was.0,
+             r.belows q other q_0 ∙ was.1);
+      }
+
+  pub entered-bottom : Twice (above_at old) (below_at old) (above_at new) (below_at new) 0 p p (above_at old 0) → IsThreaded new (p ∷ order)
+  entered-bottom t =
+      let out_0 = out-end old order h in
+      let r = inserted (above_at old) (below_at old) (above_at new) (below_at new) 0 p (above_at old 0) t not-0
+            (not-first (above_at old) (below_at old) p 0 order 0 h.chain not-0 out) in
+      record {
+        chain = chain-put (above_at old) (below_at old) (above_at new) (below_at new) p 0 order 0 r h.chain h.once (λ e. not-0 (sym e)) out_0 out_0 out;
+        once = (out, h.once);
+        panels = panels-same old new windows (p ∷ order) (panel, h.panels);
+        others = λ q lt few out_q.
+            let was = h.others q lt (subst (λ (n : ℕ). q < n) windows.length few) out_q.1 in
+            let q_0 : q ≡ 0 → ⊥ = λ e. omega arith in
+            (r.aboves q out_q.0 q_0 ∙ was.0,
+             r.belows q out_q.0 (not-first (above_at old) (below_at old) q 0 order 0 h.chain q_0 out_q.1) ∙ was.1);
+      }
+
+-- ---- by two links
+
+module _ (old mid new : List Node) (p : ℕ) (order : List ℕ) (h : IsThreaded old order) (panel : IsPanel old p) where
+  pub taken_out : (node : Node) → node ≡ node_at old p → Linked old mid node.below node.above → Linked mid new p p → Reordered old new (without p order)
+  taken_out node is first second =
+      let first_is : Linked old mid (below_at old p) (above_at old p) = subst (λ (n : Node). Linked old mid n.below n.above) is first in
+      let windows = twice-windows old mid new first_is.windows second.windows in
+      reordered old new (without p order) windows
+      (left old new p windows (twice old mid new (below_at old p) (above_at old p) p p first_is second) panel order h)
+
+  pub put_on_top : IsOut p order → (node : Node) → node ≡ node_at old 0 → Linked old mid node.below p → Linked mid new p 0 → Reordered old new (order ++ p ∷ [])
+  put_on_top out node is first second =
+      let first_is : Linked old mid (below_at old 0) p = subst (λ (n : Node). Linked old mid n.below p) is first in
+      let windows = twice-windows old mid new first_is.windows second.windows in
+      reordered old new (order ++ p ∷ []) windows
+      (entered-top old new p windows panel order h out (twice old mid new (below_at old 0) p p 0 first_is second))
+
+  pub put_at_bottom : IsOut p order → (node : Node) → node ≡ node_at old 0 → Linked old mid 0 p → Linked mid new p node.above → Reordered old new (p ∷ order)
+  put_at_bottom out node is first second =
+      let second_is : Linked mid new p (above_at old 0) = subst (λ (n : Node). Linked mid new p n.above) is second in
+      let windows = twice-windows old mid new first.windows second_is.windows in
+      reordered old new (p ∷ order) windows
+      (entered-bottom old new p windows panel order h out (twice old mid new 0 p p (above_at old 0) first second_is))

@@ -1,0 +1,113 @@
+-- The calls on panels: when they are refused, what they change and what they answer.
+-- NetBSD panel(3): new_panel, del_panel, show_panel, hide_panel, top_panel, bottom_panel, replace_panel, panel_above, panel_below.
+-- That show_panel puts a visible panel on top too, which window a panel may have, the limit of numbers and the order of the tests are
+-- Curspan's own choice. Whether a window is there, is a pad or is the standard screen, the layer that has windows tests.
+use Rattle.std.specs.Prelude.{◌≡◌, ◌≢◌, ℕ, ◌+◌, ◌-◌, ◌≤◌, Bool, not, if◌then◌else◌, ◌==◌, Option, Some, None, is_none, IsSome, MatchOption, List, [], ◌∷◌, ◌++◌, reverse, All, AllPairs, find, ⊤}
+use Rattle.std.specs.List.{filter, list_any, range_with_len}
+use Rattle.cell.specs.Refusals.{first_of}
+use Rattle.cell.specs.declared.limits.TheConstants.{MOST_PANELS}
+use Rattle.cell.specs.declared.refusal.Refusal.{Refusal}
+use Rattle.cell.specs.declared.refusal.Refusal.TheVariants.{NoSuchPanel, InPanel, Hidden, TooMany}
+use Rattle.world.specs.Panels.{Panels, panel_limit, is_in_panel, topmost}
+
+-- ---- the order
+
+-- a panel is hidden where the visible ones lack it
+abbrev pub is_hidden : Panels → ℕ → Bool
+is_hidden panels p = not (list_any (λ q. q == p) panels.visible)
+
+-- the others, in their order
+abbrev pub without : ℕ → List ℕ → List ℕ
+without p order = filter (λ q. not (q == p)) order
+
+-- the first of a list, and the one behind p
+abbrev pub first_in : List ℕ → Option ℕ
+first_in [] = None
+first_in (q ∷ order) = Some q
+
+abbrev pub next_in : ℕ → List ℕ → Option ℕ
+next_in p [] = None
+next_in p (q ∷ order) = if q == p then first_in order else next_in p order
+
+-- ---- numbers
+
+-- the number of the next panel: the least free one from 1 on
+abbrev pub new_number : Panels → Option ℕ
+new_number panels = find (λ p. is_none (panels.window p)) (range_with_len 1 (panel_limit - 1))
+
+-- another window, or none, for the panel p
+abbrev pub given : (ℕ → Option ℕ) → ℕ → Option ℕ → ℕ → Option ℕ
+given window p w q = if q == p then w else window q
+
+-- ---- refusals
+
+-- the one test of a call that any panel accepts: that it is there
+abbrev pub missing_refusal : Panels → ℕ → Option Refusal
+missing_refusal panels p = first_of ((is_none (panels.window p), NoSuchPanel) ∷ [])
+
+-- the tests of a call that only a visible panel accepts
+abbrev pub hidden_refusal : Panels → ℕ → Option Refusal
+hidden_refusal panels p = first_of ((is_none (panels.window p), NoSuchPanel) ∷ (is_hidden panels p, Hidden) ∷ [])
+
+-- that of the neighbours of a panel, or of the ends, which always are
+abbrev pub neighbour_refusal : Panels → Option ℕ → Option Refusal
+neighbour_refusal panels None = None
+neighbour_refusal panels (Some p) = hidden_refusal panels p
+
+abbrev pub new_panel_refusal : Panels → ℕ → Option Refusal
+new_panel_refusal panels w = first_of ((is_in_panel panels w, InPanel) ∷ (is_none (new_number panels), TooMany) ∷ [])
+
+abbrev pub replace_refusal : Panels → ℕ → ℕ → Option Refusal
+replace_refusal panels p w = first_of ((is_none (panels.window p), NoSuchPanel) ∷ (is_in_panel panels w, InPanel) ∷ [])
+
+-- ---- changes
+
+-- window w is in the panel p, on top
+abbrev pub after_new_panel : Panels → ℕ → ℕ → Panels
+after_new_panel panels p w = record { visible = panels.visible ++ p ∷ []; window = given panels.window p (Some w) }
+
+abbrev pub after_del : Panels → ℕ → Panels
+after_del panels p = record { visible = without p panels.visible; window = given panels.window p None }
+
+-- on top, whether it was visible or hidden
+abbrev pub after_show : Panels → ℕ → Panels
+after_show panels p = record panels { visible = without p panels.visible ++ p ∷ [] }
+
+abbrev pub after_hide : Panels → ℕ → Panels
+after_hide panels p = record panels { visible = without p panels.visible }
+
+abbrev pub after_top : Panels → ℕ → Panels
+after_top = after_show
+
+abbrev pub after_bottom : Panels → ℕ → Panels
+after_bottom panels p = record panels { visible = p ∷ without p panels.visible }
+
+-- another window, and the same depth
+abbrev pub after_replace : Panels → ℕ → ℕ → Panels
+after_replace panels p w = record panels { window = given panels.window p (Some w) }
+
+-- ---- answers
+
+-- the panel right above, or without a panel the bottom one
+abbrev pub panel_above : Panels → Option ℕ → Option ℕ
+panel_above panels None = first_in panels.visible
+panel_above panels (Some p) = next_in p panels.visible
+
+-- the panel right below, or without a panel the top one
+abbrev pub panel_below : Panels → Option ℕ → Option ℕ
+panel_below panels None = topmost panels
+panel_below panels (Some p) = next_in p (reverse panels.visible)
+
+-- ---- soundness
+
+-- the panel p, which has window w: its number, and that no other panel has that window
+pub record IsSoundEntry (panels : Panels) (p w : ℕ) : Type 0 where
+  pub from_one : 1 ≤ p
+  pub number : p ≤ MOST_PANELS
+  pub alone : (q : ℕ) → panels.window q ≡ Some w → q ≡ p
+
+-- what is sound in panels of windows that may not be there
+pub record IsSoundOrder (panels : Panels) : Type 0 where
+  pub once : AllPairs (λ p q. p ≢ q) panels.visible
+  pub visible : All (λ p. IsSome (panels.window p)) panels.visible
+  pub each : (p : ℕ) → MatchOption (panels.window p) ⊤ (IsSoundEntry panels p)

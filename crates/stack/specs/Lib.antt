@@ -1,0 +1,4 @@
+pub mod Calls
+pub mod Nodes
+pub mod Tables
+pub mod steps

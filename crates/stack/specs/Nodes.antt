@@ -1,0 +1,70 @@
+-- The nodes through which the order is threaded, by the numbers of their panels. Each names the panels right above and below. The
+-- node 0 is the end of both ways, where the standard screen stands: above it is the bottom panel, below it the top one.
+use Rattle.std.specs.Prelude.{◌≡◌, ℕ, zero, suc, ◌<◌, Bool, if◌then◌else◌, ◌==◌, Option, None, IsSome, List, [], ◌∷◌, length, slice_index_or, ⊤}
+use Rattle.std.specs.Option.{option_map}
+use Rattle.std.specs.List.{AllByRecursion}
+use Rattle.stack.specs.declared.nodes.Node.{Node}
+
+-- a node that stands for nothing
+abbrev pub no_node : Node
+no_node = record { window = None; above = 0; below = 0 }
+
+abbrev pub node_at : List Node → ℕ → Node
+node_at nodes p = slice_index_or nodes p no_node
+
+abbrev pub above_at : List Node → ℕ → ℕ
+above_at nodes p = (node_at nodes p).above
+
+abbrev pub below_at : List Node → ℕ → ℕ
+below_at nodes p = (node_at nodes p).below
+
+-- the window of a node's panel; a node that no panel has, has none
+abbrev pub window_in : Node → Option ℕ
+window_in node = option_map (λ w. w.0) node.window
+
+abbrev pub window_at : List Node → ℕ → Option ℕ
+window_at nodes p = window_in (node_at nodes p)
+
+-- the way from p on, up to the end 0, of n nodes at most
+abbrev pub way : ℕ → (ℕ → ℕ) → ℕ → List ℕ
+way zero next p = []
+way (suc n) next p = if p == 0 then [] else p ∷ way n next (next p)
+
+-- the way from the bottom up, and from the top down
+unfoldable pub from_bottom : List Node → List ℕ
+from_bottom nodes = way (length nodes) (above_at nodes) (above_at nodes 0)
+
+unfoldable pub from_top : List Node → List ℕ
+from_top nodes = way (length nodes) (below_at nodes) (below_at nodes 0)
+
+-- ---- what is threaded
+
+-- p is none of the order
+abbrev pub IsOut : ℕ → List ℕ → Type 0
+IsOut p [] = ⊤
+IsOut p (q ∷ order) = (p ≡ q → ⊥) × IsOut p order
+
+-- none stands twice
+abbrev pub AreOnce : List ℕ → Type 0
+AreOnce [] = ⊤
+AreOnce (p ∷ order) = IsOut p order × AreOnce order
+
+-- from a through the order to z, each node and the next name one another
+abbrev pub IsChain : (ℕ → ℕ) → (ℕ → ℕ) → ℕ → List ℕ → ℕ → Type 0
+IsChain above below a [] z = (above a ≡ z) × (below z ≡ a)
+IsChain above below a (p ∷ order) z = ((above a ≡ p) × (below p ≡ a)) × IsChain above below p order z
+
+-- a panel's number
+abbrev pub IsPanel : List Node → ℕ → Type 0
+IsPanel nodes p = (0 < p) × IsSome (window_at nodes p)
+
+-- the node names itself
+abbrev pub IsAlone : List Node → ℕ → Type 0
+IsAlone nodes p = (above_at nodes p ≡ p) × (below_at nodes p ≡ p)
+
+-- the order is threaded through the nodes, and the nodes outside it are alone
+pub record IsThreaded (nodes : List Node) (order : List ℕ) : Type 0 where
+  pub chain : IsChain (above_at nodes) (below_at nodes) 0 order 0
+  pub once : AreOnce order
+  pub panels : AllByRecursion (IsPanel nodes) order
+  pub others : (p : ℕ) → 0 < p → p < length nodes → IsOut p order → IsAlone nodes p

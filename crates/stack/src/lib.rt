@@ -1,0 +1,19 @@
+//! The order of panels: which are visible, one above another, which are hidden, and the window of each. It knows windows by
+//! their numbers alone.
+#![tactic(auto)]
+
+//mod calls;
+mod links;
+mod nodes;
+mod panel;
+//mod queries;
+mod table;
+//mod visible;
+
+pub use cell::{Refusal, WinId};
+pub use panel::PanelId;
+pub use table::Stack;
+//pub use visible::Visible;
+
+//#[cfg(test)]
+//mod tests;

@@ -1,0 +1,45 @@
+//! The panels of a screen.
+
+ghost use Rattle.std.specs.Prelude.{◌≡◌, true};
+ghost use Rattle.stack.specs.Calls.{IsSoundOrder};
+ghost use Rattle.stack.specs.Tables.{panels};
+ghost use Rattle.world.specs.Panels.{no_panels};
+
+use crate::nodes::Nodes;
+use std::alloc::Global;
+use std::marker::Model;
+
+/// Panels by number, each with its window. The visible ones stand in one order of depth, the hidden ones outside it.
+#[derive(Drop)]
+pub struct Stack {
+    pub(crate) nodes: Nodes,
+}
+
+impl Model for Stack {
+    ghost use Rattle.stack.specs.Tables.{PanelTable, table_of, IsPanelTable};
+
+    ghost Value = { PanelTable };
+
+    ghost view = { λ a. table_of a.nodes };
+
+    ghost invariant = { λ a. IsPanelTable a.nodes };
+}
+
+impl Stack {
+    /// No panels. It takes no memory.
+    pub fn new(alloc: Global) -> Stack
+        ensures { panels result ≡ no_panels }
+    {
+        Stack {
+            nodes: Nodes::new(alloc),
+        }
+    }
+
+    /// Always true: what it ensures is what is known of each stack.
+    pub(crate) fn is_sound(&self) -> bool
+        ensures yes { result ≡ true }
+        ensures sound { IsSoundOrder (panels self.now) }
+    {
+        self.nodes.len() > 0
+    }
+}
