@@ -70,7 +70,7 @@ same-each old new u v same [] hu hv = tt
 same-each old new u v same (x ∷ xs) hu hv = (same x (λ e. hu.0 (sym e)) (λ e. hv.0 (sym e)), same-each old new u v same xs hu.1 hv.1)
 
 module _ (above below above' below' : ℕ → ℕ) where
-  chain-same : (a : ℕ) (xs : List ℕ) (z : ℕ) → above' a ≡ above a → AllByRecursion (λ q. above' q ≡ above q) xs → AllByRecursion (λ q. below' q ≡ below q) xs → below' z ≡ below z → IsChain above below a xs z → IsChain above' below' a xs z
+  pub chain-same : (a : ℕ) (xs : List ℕ) (z : ℕ) → above' a ≡ above a → AllByRecursion (λ q. above' q ≡ above q) xs → AllByRecursion (λ q. below' q ≡ below q) xs → below' z ≡ below z → IsChain above below a xs z → IsChain above' below' a xs z
   chain-same a [] z first aboves belows last h = (first ∙ h.0, last ∙ h.1)
   chain-same a (x ∷ xs) z first aboves belows last h =
       ((first ∙ h.0.0, belows.0 ∙ h.0.1), chain-same x xs z aboves.0 aboves.1 belows.1 last h.1)
@@ -93,19 +93,24 @@ module _ (above below above' below' : ℕ → ℕ) where
       let below_p : below p ≡ a = h.0.1 in
       let above_p : above p ≡ y = h.1.0.0 in
       let first : above' y ≡ above y = r.aboves y (λ e. once.0.0 (sym e)) (λ e. oa.1.0 (sym (e ∙ below_p))) in
-      let last : below' z ≡ below z = r.belows z oz.0 (λ e. oz.1.0 (e ∙ above_p)) in
-      ((cc, cc), chain-same y ys z first
-        (same-each above above' p (below p) r.aboves ys once.0.1 (subst (λ q. IsOut q ys) (sym below_p) oa.1.1))
-        (same-each below below' p (above p) r.belows ys once.0.1 (subst (λ q. IsOut q ys) (sym above_p) once.1.0))
-        last h.1.1)
+      let last : below' z ≡ below z = r.belows z oz.0 (λ e. oz.1.0 (e ∙ above_p)) in (
+        (cc, cc),
+        chain-same y ys z first
+            (same-each above above' p (below p) r.aboves ys once.0.1 (subst (λ q. IsOut q ys) (sym below_p) oa.1.1))
+            (same-each below below' p (above p) r.belows ys once.0.1 (subst (λ q. IsOut q ys) (sym above_p) once.1.0))
+            last h.1.1,
+      )
   chain-removed p r a (x ∷ xs) ys z h once oa oz =
       let front = chain-front above below x p xs ys z h.1 in
       let back = chain-back above below x p xs ys z h.1 in
       let oap = out-back a xs (p ∷ ys) oa.1 in
-      let oxp = out-back x xs (p ∷ ys) once.0 in
-      ((r.aboves a oap.0 (not-last above below a x xs p front oa.0 (out-front a xs (p ∷ ys) oa.1)) ∙ h.0.0,
-        r.belows x oxp.0 (not-first above below x p ys z back (λ e. oz.0 (sym e)) oxp.1) ∙ h.0.1),
-       chain-removed p r x xs ys z h.1 once.1 once.0 oz.1)
+      let oxp = out-back x xs (p ∷ ys) once.0 in (
+        (
+          r.aboves a oap.0 (not-last above below a x xs p front oa.0 (out-front a xs (p ∷ ys) oa.1)) ∙ h.0.0,
+          r.belows x oxp.0 (not-first above below x p ys z back (λ e. oz.0 (sym e)) oxp.1) ∙ h.0.1,
+        ),
+        chain-removed p r x xs ys z h.1 once.1 once.0 oz.1,
+      )
 
   -- p stands between lower and upper now
   pub record Inserted (lower p upper : ℕ) : Type 0 where
@@ -121,10 +126,13 @@ module _ (above below above' below' : ℕ → ℕ) where
       let lower_above = r.lower_above in
       let lower_below = r.lower_below in
       ((cc, cc), (r.upper_above, r.upper_below))
-  chain-pushed p a (x ∷ xs) z r h once ap oa oz op =
-      ((r.aboves a ap (not-last above below a x xs z h.1 oa.0 oa.1) ∙ h.0.0,
-        r.belows x (λ e. op.0 (sym e)) (λ e. oz.0 (sym e)) ∙ h.0.1),
-       chain-pushed p x xs z r h.1 once.1 (λ e. op.0 (sym e)) once.0 oz.1 op.1)
+  chain-pushed p a (x ∷ xs) z r h once ap oa oz op = (
+    (
+      r.aboves a ap (not-last above below a x xs z h.1 oa.0 oa.1) ∙ h.0.0,
+      r.belows x (λ e. op.0 (sym e)) (λ e. oz.0 (sym e)) ∙ h.0.1,
+    ),
+    chain-pushed p x xs z r h.1 once.1 (λ e. op.0 (sym e)) once.0 oz.1 op.1,
+  )
 
   pub chain-put : (p a : ℕ) (xs : List ℕ) (z : ℕ) → Inserted a p (above a) → IsChain above below a xs z → AreOnce xs → (z ≡ p → ⊥) → IsOut a xs → IsOut z xs → IsOut p xs → IsChain above' below' a (p ∷ xs) z
   chain-put p a [] z r h once zp oa oz op =
@@ -136,8 +144,13 @@ module _ (above below above' below' : ℕ → ℕ) where
       let upper_below = r.upper_below in
       let above_a : above a ≡ y = h.0.0 in
       let first : above' y ≡ above y = r.aboves y (λ e. op.0 (sym e)) (λ e. oa.0 (sym e)) in
-      let last : below' z ≡ below z = r.belows z zp (λ e. oz.0 (e ∙ above_a)) in
-      ((r.lower_above, r.lower_below), ((cc, cc), chain-same y ys z first
-        (same-each above above' p a r.aboves ys op.1 oa.1)
-        (same-each below below' p (above a) r.belows ys op.1 (subst (λ q. IsOut q ys) (sym above_a) once.0))
-        last h.1))
+      let last : below' z ≡ below z = r.belows z zp (λ e. oz.0 (e ∙ above_a)) in (
+        (r.lower_above, r.lower_below),
+        (
+          (cc, cc),
+          chain-same y ys z first
+              (same-each above above' p a r.aboves ys op.1 oa.1)
+              (same-each below below' p (above a) r.belows ys op.1 (subst (λ q. IsOut q ys) (sym above_a) once.0))
+              last h.1,
+        ),
+      )

@@ -108,7 +108,7 @@ differs-each : (p : ℕ) (xs : List ℕ) → IsOut p xs → AllByRecursion (λ q
 differs-each p [] h = tt
 differs-each p (x ∷ xs) h = (ne_eqb p x h.0, differs-each p xs h.1)
 
-distinct-once : (xs : List ℕ) → AreOnce xs → IsDistinct eqb xs
+pub distinct-once : (xs : List ℕ) → AreOnce xs → IsDistinct eqb xs
 unfolding IsDistinct
 distinct-once [] h = tt
 distinct-once (x ∷ xs) h = (differs-each x xs h.0, distinct-once xs h.1)

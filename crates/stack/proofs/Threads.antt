@@ -156,7 +156,7 @@ module _ (above below above' below' : ℕ → ℕ) where
 -- ---- panels with the same windows
 
 module _ (old new : List Node) (same : SameWindows old new) where
-  panel-same : (q : ℕ) → IsPanel old q → IsPanel new q
+  pub panel-same : (q : ℕ) → IsPanel old q → IsPanel new q
   panel-same q h = (h.0, subst (λ (o : Option ℕ). IsSome o) (sym (same.window q)) h.1)
 
   panels-same : (order : List ℕ) → AllByRecursion (IsPanel old) order → AllByRecursion (IsPanel new) order
@@ -180,9 +180,10 @@ module _ (old new : List Node) (same : SameWindows old new) where
 
 module _ (old new : List Node) (p : ℕ) (windows : SameWindows old new) (t : Twice (above_at old) (below_at old) (above_at new) (below_at new) (below_at old p) (above_at old p) p p) (panel : IsPanel old p) where
   alone : IsAlone new p
-  alone =
-      (t.aboves p ∙ if-same p p p (if p == below_at old p then above_at old p else above_at old p) refl,
-       t.belows p ∙ if-same p p p (if p == above_at old p then below_at old p else below_at old p) refl)
+  alone = (
+    t.aboves p ∙ if-same p p p (if p == below_at old p then above_at old p else above_at old p) refl,
+    t.belows p ∙ if-same p p p (if p == above_at old p then below_at old p else below_at old p) refl,
+  )
 
   not-end : p ≡ 0 → ⊥
   not-end e = let lt = panel.0 in omega arith
@@ -193,8 +194,8 @@ module _ (old new : List Node) (p : ℕ) (windows : SameWindows old new) (t : Tw
       let front = chain-front (above_at old) (below_at old) 0 p xs ys 0 h.chain in
       let back = chain-back (above_at old) (below_at old) 0 p xs ys 0 h.chain in
       let r = removed (above_at old) (below_at old) (above_at new) (below_at new) p t
-            (not-last (above_at old) (below_at old) p 0 xs p front not-end (once-before p xs ys h.once))
-            (not-first (above_at old) (below_at old) p p ys 0 back not-end (once-after p xs ys h.once)) in
+      (not-last (above_at old) (below_at old) p 0 xs p front not-end (once-before p xs ys h.once))
+      (not-first (above_at old) (below_at old) p p ys 0 back not-end (once-after p xs ys h.once)) in
       record {
         chain = chain-removed (above_at old) (below_at old) (above_at new) (below_at new) p r 0 xs ys 0 h.chain h.once out_0 out_0;
         once = once-without p xs ys h.once;
@@ -206,9 +207,10 @@ module _ (old new : List Node) (p : ℕ) (windows : SameWindows old new) (t : Tw
               let out_xs = out-front q xs ys out in
               let out_ys = out-back q xs ys out in
               let was = h.others q lt (subst (λ (n : ℕ). q < n) windows.length few) (out-append q xs (p ∷ ys) out_xs (other, out_ys)) in
-              let q_0 : q ≡ 0 → ⊥ = λ e. omega arith in
-              (r.aboves q other (not-last (above_at old) (below_at old) q 0 xs p front q_0 out_xs) ∙ was.0,
-               r.belows q other (not-first (above_at old) (below_at old) q p ys 0 back q_0 out_ys) ∙ was.1)
+              let q_0 : q ≡ 0 → ⊥ = λ e. omega arith in (
+                r.aboves q other (not-last (above_at old) (below_at old) q 0 xs p front q_0 out_xs) ∙ was.0,
+                r.belows q other (not-first (above_at old) (below_at old) q p ys 0 back q_0 out_ys) ∙ was.1,
+              )
         ];
       }
 
@@ -218,8 +220,8 @@ module _ (old new : List Node) (p : ℕ) (windows : SameWindows old new) (t : Tw
         let is = h.others p panel.0 (panel-below old p panel) out in
         subst (λ (l : List ℕ). IsThreaded new l) (sym (without-out p order out))
         (threaded-same old new windows order
-          (kept-above (above_at old) (below_at old) (above_at new) (below_at new) p t is.0 is.1)
-          (kept-below (above_at old) (below_at old) (above_at new) (below_at new) p t is.0 is.1) h)
+        (kept-above (above_at old) (below_at old) (above_at new) (below_at new) p t is.0 is.1)
+        (kept-below (above_at old) (below_at old) (above_at new) (below_at new) p t is.0 is.1) h)
     | inr split ↦
         let xs = split.before in
         let ys = split.after in
@@ -237,7 +239,7 @@ module _ (old new : List Node) (p : ℕ) (windows : SameWindows old new) (panel 
   entered-top t =
       let out_0 = out-end old order h in
       let r = inserted (above_at old) (below_at old) (above_at new) (below_at new) (below_at old 0) p 0 t
-            (not-last (above_at old) (below_at old) p 0 order 0 h.chain not-0 out) not-0 in
+      (not-last (above_at old) (below_at old) p 0 order 0 h.chain not-0 out) not-0 in
       record {
         chain = chain-pushed (above_at old) (below_at old) (above_at new) (below_at new) p 0 order 0 r h.chain h.once (λ e. not-0 (sym e)) out_0 out_0 out;
         once = once-push p order h.once out;
@@ -246,25 +248,27 @@ module _ (old new : List Node) (p : ℕ) (windows : SameWindows old new) (panel 
             let out_order = out-front q order (p ∷ []) out_q in
             let other = (out-back q order (p ∷ []) out_q).0 in
             let was = h.others q lt (subst (λ (n : ℕ). q < n) windows.length few) out_order in
-            let q_0 : q ≡ 0 → ⊥ = λ e. omega arith in
-            (r.aboves q other (not-last (above_at old) (below_at old) q 0 order 0 h.chain q_0 out_order) ∙ was.0,
-             r.belows q other q_0 ∙ was.1);
+            let q_0 : q ≡ 0 → ⊥ = λ e. omega arith in (
+              r.aboves q other (not-last (above_at old) (below_at old) q 0 order 0 h.chain q_0 out_order) ∙ was.0,
+              r.belows q other q_0 ∙ was.1,
+            );
       }
 
   pub entered-bottom : Twice (above_at old) (below_at old) (above_at new) (below_at new) 0 p p (above_at old 0) → IsThreaded new (p ∷ order)
   entered-bottom t =
       let out_0 = out-end old order h in
       let r = inserted (above_at old) (below_at old) (above_at new) (below_at new) 0 p (above_at old 0) t not-0
-            (not-first (above_at old) (below_at old) p 0 order 0 h.chain not-0 out) in
+      (not-first (above_at old) (below_at old) p 0 order 0 h.chain not-0 out) in
       record {
         chain = chain-put (above_at old) (below_at old) (above_at new) (below_at new) p 0 order 0 r h.chain h.once (λ e. not-0 (sym e)) out_0 out_0 out;
         once = (out, h.once);
         panels = panels-same old new windows (p ∷ order) (panel, h.panels);
         others = λ q lt few out_q.
             let was = h.others q lt (subst (λ (n : ℕ). q < n) windows.length few) out_q.1 in
-            let q_0 : q ≡ 0 → ⊥ = λ e. omega arith in
-            (r.aboves q out_q.0 q_0 ∙ was.0,
-             r.belows q out_q.0 (not-first (above_at old) (below_at old) q 0 order 0 h.chain q_0 out_q.1) ∙ was.1);
+            let q_0 : q ≡ 0 → ⊥ = λ e. omega arith in (
+              r.aboves q out_q.0 q_0 ∙ was.0,
+              r.belows q out_q.0 (not-first (above_at old) (below_at old) q 0 order 0 h.chain q_0 out_q.1) ∙ was.1,
+            );
       }
 
 -- ---- by two links

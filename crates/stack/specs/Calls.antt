@@ -32,8 +32,8 @@ next_in p (q ∷ order) = if q == p then first_in order else next_in p order
 -- ---- numbers
 
 -- the number of the next panel: the least free one from 1 on
-abbrev pub new_number : Panels → Option ℕ
-new_number panels = find (λ p. is_none (panels.window p)) (range_with_len 1 (panel_limit - 1))
+abbrev pub new_panel_number : Panels → Option ℕ
+new_panel_number panels = find (λ p. is_none (panels.window p)) (range_with_len 1 (panel_limit - 1))
 
 -- another window, or none, for the panel p
 abbrev pub given : (ℕ → Option ℕ) → ℕ → Option ℕ → ℕ → Option ℕ
@@ -55,7 +55,7 @@ neighbour_refusal panels None = None
 neighbour_refusal panels (Some p) = hidden_refusal panels p
 
 abbrev pub new_panel_refusal : Panels → ℕ → Option Refusal
-new_panel_refusal panels w = first_of ((is_in_panel panels w, InPanel) ∷ (is_none (new_number panels), TooMany) ∷ [])
+new_panel_refusal panels w = first_of ((is_in_panel panels w, InPanel) ∷ (is_none (new_panel_number panels), TooMany) ∷ [])
 
 abbrev pub replace_refusal : Panels → ℕ → ℕ → Option Refusal
 replace_refusal panels p w = first_of ((is_none (panels.window p), NoSuchPanel) ∷ (is_in_panel panels w, InPanel) ∷ [])

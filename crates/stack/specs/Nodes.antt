@@ -30,6 +30,10 @@ abbrev pub way : ℕ → (ℕ → ℕ) → ℕ → List ℕ
 way zero next p = []
 way (suc n) next p = if p == 0 then [] else p ∷ way n next (next p)
 
+-- the next one on the way up, or on the way down
+abbrev pub neighbour_at : Bool → List Node → ℕ → ℕ
+neighbour_at upwards nodes p = if upwards then above_at nodes p else below_at nodes p
+
 -- the way from the bottom up, and from the top down
 unfoldable pub from_bottom : List Node → List ℕ
 from_bottom nodes = way (length nodes) (above_at nodes) (above_at nodes 0)

@@ -2,18 +2,16 @@
 //! their numbers alone.
 #![tactic(auto)]
 
-//mod calls;
+mod calls;
+mod entries;
 mod links;
 mod nodes;
 mod panel;
-//mod queries;
+mod queries;
 mod table;
-//mod visible;
+mod visible;
 
 pub use cell::{Refusal, WinId};
 pub use panel::PanelId;
 pub use table::Stack;
-//pub use visible::Visible;
-
-//#[cfg(test)]
-//mod tests;
+pub use visible::Visible;

@@ -10,8 +10,8 @@ link-requires-2-clause-upper c =
     let few = panel-below nodes c.args.panel c.requires.panel in
     let same = c.link.ensures.windows.length in
     let lt : c.get-bottom.result.above < length nodes =
-      subst (λ (n : Node). n.above < length nodes) (sym c.get-bottom.ensures)
-      (bottom-below nodes (from_bottom nodes) c.requires.threaded (omega arith)) in
+    subst (λ (n : Node). n.above < length nodes) (sym c.get-bottom.ensures)
+    (bottom-below nodes (from_bottom nodes) c.requires.threaded (omega arith)) in
     omega arith
 
 pub returns : goal.returns

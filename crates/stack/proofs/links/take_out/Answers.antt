@@ -27,5 +27,5 @@ returns-clause-order c =
 pub returns-clause-out : goal.returns-clause-out
 returns-clause-out c =
     let taken = taken_out c.args.nodes.now c.link.new.nodes c.link-2.new.nodes c.args.panel (from_bottom c.args.nodes.now)
-          c.requires.threaded c.requires.panel c.get-node.result c.get-node.ensures c.link.ensures c.link-2.ensures in
+    c.requires.threaded c.requires.panel c.get-node.result c.get-node.ensures c.link.ensures c.link-2.ensures in
     subst (λ (l : List ℕ). IsOut c.args.panel l) (sym taken.is) (out-without c.args.panel (from_bottom c.args.nodes.now))

@@ -1,0 +1,10 @@
+use Rattle.std.proofs.Common.{◌≡◌, ℕ, ◌<◌, Some}
+use Rattle.stack.specs.Calls.{new_panel_number}
+use Rattle.stack.specs.Tables.{panels, table_of}
+use Rattle.stack.specs.Nodes.{window_at}
+use Rattle.stack.proofs.Numbers.{search_from}
+use Rattle.stack.proofs.entries.free_number.Given as goal
+
+-- the search goes on from n
+abbrev pub invariant-loop-n : goal.invariant-loop-n
+invariant-loop-n l = search_from l.nodes l.n ≡ new_panel_number (panels (table_of l.nodes))

@@ -1,0 +1,10 @@
+use Rattle.std.proofs.Common.{◌≡◌, ℕ, ◌<◌, Some}
+use Rattle.stack.specs.Calls.{new_panel_number}
+use Rattle.stack.specs.Tables.{panels, table_of}
+use Rattle.stack.specs.Nodes.{window_at}
+use Rattle.stack.proofs.Numbers.{search_from}
+use Rattle.stack.proofs.entries.holder.Given as goal
+
+-- none below n has the window
+abbrev pub invariant-loop-n : goal.invariant-loop-n
+invariant-loop-n l = (p : ℕ) → p < l.n → window_at l.nodes p ≡ Some l.win.0 → ⊥

@@ -1,0 +1,17 @@
+use Rattle.std.proofs.Common.{◌∙◌, ap, sym, Option, Some, None}
+use Rattle.stack.specs.Nodes.{from_bottom}
+use Rattle.stack.specs.Calls.{panel_above}
+use Rattle.stack.specs.Tables.{number, panels, PanelTable}
+use Rattle.stack.specs.declared.nodes.Node.{Node}
+use Rattle.stack.specs.declared.panel.PanelId.{PanelId}
+use Rattle.stack.proofs.Neighbours.{above-is, panel_or_none}
+use Rattle.stack.proofs.table.Stack.above.Goals as goal
+
+pub returns-in_ok-visible-in-Some-clause-answer : goal.returns-in_ok-visible-in-Some-clause-answer
+returns-in_ok-visible-in-Some-clause-answer c =
+    let nodes = c.self.inside.nodes in
+    let p = c.in-Some.panel.0 in
+    c.panel_at.ensures ∙ ap (λ (n : Node). panel_or_none n.above) c.get.ensures
+    ∙ above-is nodes (from_bottom nodes) c.self.invariant.threaded p c.in_ok-visible-in-Some.ensures.shown
+    ∙ ap (λ (t : PanelTable). panel_above (panels t) (Some p)) c.self.view_is
+    ∙ ap (λ (o : Option PanelId). panel_above (panels c.args.self.now) (number o)) (sym c.in-Some.is)

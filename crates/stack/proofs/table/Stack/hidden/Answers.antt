@@ -1,0 +1,15 @@
+use Rattle.std.proofs.Common.{◌≡◌, ◌∙◌, ap, sym, subst, Bool, nat_eq}
+use Rattle.stack.specs.Nodes.{node_at, from_bottom}
+use Rattle.stack.specs.Calls.{is_hidden}
+use Rattle.stack.specs.Tables.{panels, PanelTable}
+use Rattle.stack.specs.declared.nodes.Node.{Node}
+use Rattle.stack.proofs.Neighbours.{hidden-is}
+use Rattle.stack.proofs.table.Stack.hidden.Goals as goal
+
+pub returns-clause-answer : goal.returns-clause-answer
+returns-clause-answer c =
+    let nodes = c.self.inside.nodes in
+    let p = c.args.panel.0 in
+    ap (λ (n : Node). nat_eq n.above p) c.get.ensures
+    ∙ subst (λ (t : PanelTable). nat_eq (node_at nodes p).above p ≡ is_hidden (panels t) p) c.self.view_is
+      (hidden-is nodes (from_bottom nodes) c.self.invariant.threaded p c.in_ok-present.ensures.panel)

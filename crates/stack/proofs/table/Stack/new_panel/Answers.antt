@@ -1,0 +1,25 @@
+use Rattle.std.proofs.Common.{ap, arith, rules, ◌∙◌}
+use Rattle.stack.specs.Calls.{after_new_panel}
+use Rattle.stack.specs.Tables.{panels, PanelTable}
+use Rattle.stack.specs.steps.Entries.{IsFree}
+use Rattle.stack.proofs.Numbers.{none-has}
+use Rattle.stack.proofs.Tables.{made-panels, made-table}
+use Rattle.stack.proofs.table.Stack.new_panel.Goals as goal
+
+pub invariant_of-self-2 : goal.invariant_of-self-2
+invariant_of-self-2 c =
+    let old = c.self.inside.nodes in
+    let number = c.in_ok-number.number in
+    let w = c.args.win.0 in
+    let free : IsFree old number = search rules in
+    let none = none-has old c.self.invariant w (grind (arith, c.holder.ensures.some)) in
+    made-table old c.enter.new.nodes c.put_on_top.new.nodes number w c.self.invariant free c.in_ok-enter.ensures.entered c.put_on_top.ensures none
+
+pub returns-clause-made : goal.returns-clause-made
+returns-clause-made c =
+    let old = c.self.inside.nodes in
+    let number = c.in_ok-number.number in
+    let w = c.args.win.0 in
+    let free : IsFree old number = search rules in
+    made-panels old c.enter.new.nodes c.put_on_top.new.nodes number w c.self.invariant free c.in_ok-enter.ensures.entered c.put_on_top.ensures
+    ∙ ap (λ (t : PanelTable). after_new_panel (panels t) number w) c.self.view_is

@@ -1,0 +1,106 @@
+//! What the stack is asked. No query changes it.
+
+ghost use Rattle.std.specs.Prelude.{◌≡◌, ◌==◌, if◌then◌else◌, Some, None, IfOk, IfSome, is_some, reverse};
+ghost use Rattle.std.specs.Option.{option_map};
+ghost use Rattle.std.specs.Result.{result_err};
+ghost use Rattle.world.specs.Panels.{is_in_panel};
+ghost use Rattle.stack.specs.Calls.{is_hidden, missing_refusal, neighbour_refusal, panel_above, panel_below, IsSoundOrder};
+ghost use Rattle.stack.specs.Tables.{number, panels};
+
+use crate::entries::{holder, present, visible};
+use crate::panel::PanelId;
+use crate::table::Stack;
+use crate::visible::Visible;
+use cell::{Refusal, WinId};
+
+impl Stack {
+    /// The panel right above a visible one, or without a panel the bottom one.
+    ///
+    /// # Errors
+    /// `NoSuchPanel`, `Hidden`.
+    pub fn above(&self, panel: Option<PanelId>) -> Result<Option<PanelId>, Refusal>
+        ensures refused { result_err result ≡ neighbour_refusal (panels self.now) (number panel) }
+        ensures answer { IfOk result (λ q. number q ≡ panel_above (panels self.now) (number panel)) }
+    {
+        match panel {
+            Some(panel) => {
+                visible(&self.nodes, panel)?;
+                Ok(panel_at(self.nodes.get(panel.0).above))
+            }
+            None => Ok(panel_at(self.nodes.get(0).above)),
+        }
+    }
+
+    /// The panel right below a visible one, or without a panel the top one.
+    ///
+    /// # Errors
+    /// `NoSuchPanel`, `Hidden`.
+    pub fn below(&self, panel: Option<PanelId>) -> Result<Option<PanelId>, Refusal>
+        ensures refused { result_err result ≡ neighbour_refusal (panels self.now) (number panel) }
+        ensures answer { IfOk result (λ q. number q ≡ panel_below (panels self.now) (number panel)) }
+    {
+        match panel {
+            Some(panel) => {
+                visible(&self.nodes, panel)?;
+                Ok(panel_at(self.nodes.get(panel.0).below))
+            }
+            None => Ok(panel_at(self.nodes.get(0).below)),
+        }
+    }
+
+    /// The window of a panel.
+    ///
+    /// # Errors
+    /// `NoSuchPanel`.
+    pub fn window(&self, panel: PanelId) -> Result<WinId, Refusal>
+        ensures refused { result_err result ≡ missing_refusal (panels self.now) panel.0 }
+        ensures answer { IfOk result (λ w. (panels self.now).window panel.0 ≡ Some w.0) }
+    {
+        self.nodes.get(panel.0).window.ok_or(Refusal::NoSuchPanel)
+    }
+
+    /// Whether a panel is hidden.
+    ///
+    /// # Errors
+    /// `NoSuchPanel`.
+    pub fn hidden(&self, panel: PanelId) -> Result<bool, Refusal>
+        ensures refused { result_err result ≡ missing_refusal (panels self.now) panel.0 }
+        ensures answer { IfOk result (λ b. b ≡ is_hidden (panels self.now) panel.0) }
+    {
+        present(&self.nodes, panel)?;
+        Ok(self.nodes.get(panel.0).above == panel.0)
+    }
+
+    /// The panel that a window is in, if it is in one. It is looked for among all panels.
+    pub fn panel_of(&self, win: WinId) -> Option<PanelId>
+        ensures some { is_some result ≡ is_in_panel (panels self.now) win.0 }
+        ensures panel { IfSome result (λ p. (panels self.now).window p.0 ≡ Some win.0) }
+    {
+        holder(&self.nodes, win)
+    }
+
+    /// The visible panels from bottom to top.
+    pub fn visible(&self) -> Visible<'_>
+        ensures all { result ≡ (panels self.now).visible }
+        ensures sound { IsSoundOrder (panels self.now) }
+    {
+        prove!(self.is_sound());
+        Visible::from_bottom(&self.nodes)
+    }
+
+    /// The visible panels from top to bottom.
+    pub fn visible_from_top(&self) -> Visible<'_>
+        ensures all { result ≡ reverse (panels self.now).visible }
+        ensures sound { IsSoundOrder (panels self.now) }
+    {
+        prove!(self.is_sound());
+        Visible::from_top(&self.nodes)
+    }
+}
+
+/// The panel of a node, but for the end of the order.
+fn panel_at(node: u16) -> Option<PanelId>
+    ensures { number result ≡ (if node == 0 then None else Some node) }
+{
+    if node == 0 { None } else { Some(PanelId(node)) }
+}
