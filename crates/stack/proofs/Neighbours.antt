@@ -85,7 +85,7 @@ module _ (nodes : List Node) (order : List ℕ) (h : IsThreaded nodes order) whe
       (chain-reverse (above_at nodes) (below_at nodes) 0 xs p (chain-front (above_at nodes) (below_at nodes) 0 p xs ys 0 chain))
       (each-reverse (λ q. 0 < q) xs (each-front (λ q. 0 < q) xs (p ∷ ys) each))
       ∙ sym (ap (λ l. next_in p (reverse l)) split.is ∙ ap (next_in p) (reverse-split p xs ys)
-        ∙ next_in-split p (reverse ys) (reverse xs) (out-reverse p ys (once-after p xs ys once)))
+      ∙ next_in-split p (reverse ys) (reverse xs) (out-reverse p ys (once-after p xs ys once)))
 
   -- a hidden panel's node names itself, and no other panel's does
   pub hidden-is : (p : ℕ) → IsPanel nodes p → (above_at nodes p == p) ≡ not (list_any (λ q. q == p) order)
@@ -100,7 +100,7 @@ module _ (nodes : List Node) (order : List ℕ) (h : IsThreaded nodes order) whe
         let once = subst AreOnce split.is h.once in
         let lt = panel.0 in
         let other = not-first (above_at nodes) (below_at nodes) p p ys 0
-              (chain-back (above_at nodes) (below_at nodes) 0 p xs ys 0 chain) (λ e. omega arith) (once-after p xs ys once) in
+        (chain-back (above_at nodes) (below_at nodes) 0 p xs ys 0 chain) (λ e. omega arith) (once-after p xs ys once) in
         ne_eqb (above_at nodes p) p (λ e. other (sym e))
         ∙ sym (ap not (ap (list_any (λ q. q == p)) split.is ∙ any-split p xs ys))
   ]

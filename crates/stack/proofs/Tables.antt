@@ -191,8 +191,8 @@ module _ (old mid new : List Node) (p w : ℕ) (table : IsPanelTable old) (free 
   made-panels =
       reordered-panels mid new (from_bottom mid ++ p ∷ []) order
       ∙ ap (λ (a : Panels). record { visible = a.visible ++ p ∷ []; window = a.window })
-        (panels-are mid (from_bottom old) (given ((panels (table_of old)).window) p (Some w)) entered.is
-         (λ q. entered.window q ∙ ap (λ (o : Option ℕ). if q == p then Some w else o) (sym (window-is old q))))
+      (panels-are mid (from_bottom old) (given ((panels (table_of old)).window) p (Some w)) entered.is
+      (λ q. entered.window q ∙ ap (λ (o : Option ℕ). if q == p then Some w else o) (sym (window-is old q))))
 
 -- a number is a panel's
 module _ (old new : List Node) (p w : ℕ) (table : IsPanelTable old) (free : IsFree old p) where

@@ -28,12 +28,19 @@ module _ (nodes : List Node) (order : List ℕ) (h : IsThreaded nodes order) whe
   pub out-end : IsOut 0 order
   out-end = out-each (λ q. 0 < q) 0 (λ lt. omega arith) order positive
 
-  pub few : length order ≤ length nodes
-  few = length-once (length nodes) order h.once (each-weaker (IsPanel nodes) (λ q. q < length nodes) (panel-below nodes) order h.panels)
+  -- no more than there are nodes behind the end
+  pub few : 0 < length nodes → length order < length nodes
+  few some =
+      let each = each-weaker (IsPanel nodes) (λ q. q < length nodes) (panel-below nodes) order h.panels in
+      let le = length-once (length nodes) (0 ∷ order) (out-end, h.once) (some, each) in
+      omega arith
+
+  few-order : length order ≤ length nodes
+  few-order = length-once (length nodes) order h.once (each-weaker (IsPanel nodes) (λ q. q < length nodes) (panel-below nodes) order h.panels)
 
   pub from_bottom-is : from_bottom nodes ≡ order
   unfolding from_bottom
-  from_bottom-is = way-chain (above_at nodes) (below_at nodes) 0 order (length nodes) h.chain positive few
+  from_bottom-is = way-chain (above_at nodes) (below_at nodes) 0 order (length nodes) h.chain positive few-order
 
   pub from_top-is : from_top nodes ≡ reverse order
   unfolding from_top
@@ -41,7 +48,7 @@ module _ (nodes : List Node) (order : List ℕ) (h : IsThreaded nodes order) whe
       way-chain (below_at nodes) (above_at nodes) 0 (reverse order) (length nodes)
       (chain-reverse (above_at nodes) (below_at nodes) 0 order 0 h.chain)
       (each-reverse (λ q. 0 < q) order positive)
-      (let e : length (reverse order) ≡ length order = length-reverse order in let le = few in omega arith)
+      (let e : length (reverse order) ≡ length order = length-reverse order in let le = few-order in omega arith)
 
 -- the neighbours of each are among the nodes
 module _ (nodes : List Node) (order : List ℕ) (h : IsThreaded nodes order) (some : 0 < length nodes) where

@@ -118,9 +118,10 @@ module _ (nodes : List Node) (node : Node) where
         once = h.once;
         panels = given-panels nodes (nodes ++ node ∷ []) (length nodes) (window_in node) window-pushed order (inl has) h.panels;
         others = λ q lt few out. elim (cases_eq q (length nodes)) [
-          | inl same ↦
-              (ap (λ (n : Node). n.above) (node-last q same) ∙ above ∙ sym same,
-               ap (λ (n : Node). n.below) (node-last q same) ∙ below ∙ sym same)
+          | inl same ↦ (
+            ap (λ (n : Node). n.above) (node-last q same) ∙ above ∙ sym same,
+            ap (λ (n : Node). n.below) (node-last q same) ∙ below ∙ sym same,
+          )
           | inr other ↦
               let less : q < length nodes = omega (arith, length_push nodes node) in
               let alone = h.others q lt less out in

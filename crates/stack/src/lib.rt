@@ -15,3 +15,6 @@ pub use cell::{Refusal, WinId};
 pub use panel::PanelId;
 pub use table::Stack;
 pub use visible::Visible;
+
+#[cfg(test)]
+mod tests;

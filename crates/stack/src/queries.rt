@@ -1,8 +1,9 @@
 //! What the stack is asked. No query changes it.
 
-ghost use Rattle.std.specs.Prelude.{◌≡◌, ◌==◌, if◌then◌else◌, Some, None, IfOk, IfSome, is_some, reverse};
+ghost use Rattle.std.specs.Prelude.{◌≡◌, ◌==◌, if◌then◌else◌, Some, None, IfOk, IfSome, is_some, reverse, length, ◌≤◌};
 ghost use Rattle.std.specs.Option.{option_map};
 ghost use Rattle.std.specs.Result.{result_err};
+ghost use Rattle.cell.specs.declared.limits.TheConstants.{MOST_PANELS};
 ghost use Rattle.world.specs.Panels.{is_in_panel};
 ghost use Rattle.stack.specs.Calls.{is_hidden, missing_refusal, neighbour_refusal, panel_above, panel_below, IsSoundOrder};
 ghost use Rattle.stack.specs.Tables.{number, panels};
@@ -82,6 +83,7 @@ impl Stack {
     /// The visible panels from bottom to top.
     pub fn visible(&self) -> Visible<'_>
         ensures all { result ≡ (panels self.now).visible }
+        ensures few { length result ≤ MOST_PANELS }
         ensures sound { IsSoundOrder (panels self.now) }
     {
         prove!(self.is_sound());
@@ -91,6 +93,7 @@ impl Stack {
     /// The visible panels from top to bottom.
     pub fn visible_from_top(&self) -> Visible<'_>
         ensures all { result ≡ reverse (panels self.now).visible }
+        ensures few { length result ≤ MOST_PANELS }
         ensures sound { IsSoundOrder (panels self.now) }
     {
         prove!(self.is_sound());

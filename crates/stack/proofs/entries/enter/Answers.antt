@@ -15,4 +15,4 @@ returns-in_ok-push-clause-entered c =
     let last : c.args.number ≡ length nodes = omega arith in
     subst (λ (new : List Node). Entered nodes new c.args.number c.args.win.0) (sym c.in_ok-push.ensures)
     (entered-pushed nodes c.args.number c.args.win.0 c.requires.table c.requires.free
-     (record { window = Some c.args.win; above = c.args.number; below = c.args.number }) last refl refl refl)
+    (record { window = Some c.args.win; above = c.args.number; below = c.args.number }) last refl refl refl)

@@ -13,7 +13,7 @@ returns-then-node-panel-clause-refused c =
     let p = c.args.panel.0 in
     let panel = panel-from nodes c.requires p c.get-node.result c.get-node.ensures (c.is_none.ensures ∙ ap not c.if-is_none.false) in
     let hidden = sym (hidden-is nodes (from_bottom nodes) c.requires.threaded p panel)
-          ∙ eq-eqb (above_at nodes p) p (ap (λ (n : Node). n.above) (sym c.get-node.ensures) ∙ c.if-node-panel.true) in
+    ∙ eq-eqb (above_at nodes p) p (ap (λ (n : Node). n.above) (sym c.get-node.ensures) ∙ c.if-node-panel.true) in
     sym (refused-hidden (panels (table_of nodes)) p (taken nodes p panel) hidden)
 
 pub returns-clause-refused : goal.returns-clause-refused
@@ -22,7 +22,7 @@ returns-clause-refused c =
     let p = c.args.panel.0 in
     let panel = panel-from nodes c.requires p c.get-node.result c.get-node.ensures (c.is_none.ensures ∙ ap not c.if-is_none.false) in
     let shown = sym (hidden-is nodes (from_bottom nodes) c.requires.threaded p panel)
-          ∙ ne_eqb (above_at nodes p) p (λ e. c.if-node-panel.false (ap (λ (n : Node). n.above) c.get-node.ensures ∙ e)) in
+    ∙ ne_eqb (above_at nodes p) p (λ e. c.if-node-panel.false (ap (λ (n : Node). n.above) c.get-node.ensures ∙ e)) in
     sym (accepted-visible (panels (table_of nodes)) p (taken nodes p panel) shown)
 
 pub returns-clause-shown : goal.returns-clause-shown
