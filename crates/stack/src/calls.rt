@@ -7,7 +7,7 @@ ghost use Rattle.stack.specs.Calls.{new_panel_number, missing_refusal, hidden_re
 ghost use Rattle.stack.specs.Tables.{panels};
 
 use crate::entries::{enter, free_number, holder, present, set_window, visible};
-use crate::links::{put_at_bottom, put_on_top, take_out};
+use crate::links::{move_to_bottom, move_to_top, put_on_top, take_out};
 use crate::panel::PanelId;
 use crate::table::Stack;
 use cell::{Refusal, WinId};
@@ -65,8 +65,7 @@ impl Stack {
     {
         prove!(self.is_sound());
         present(&self.nodes, panel)?;
-        take_out(&mut self.nodes, panel.0);
-        put_on_top(&mut self.nodes, panel.0);
+        move_to_top(&mut self.nodes, panel.0);
         prove!(self.is_sound());
         Ok(())
     }
@@ -100,10 +99,7 @@ impl Stack {
     {
         prove!(self.is_sound());
         visible(&self.nodes, panel)?;
-        take_out(&mut self.nodes, panel.0);
-        put_on_top(&mut self.nodes, panel.0);
-        prove!(self.is_sound());
-        Ok(())
+        self.show(panel)
     }
 
     /// Moves a visible panel to the bottom.
@@ -118,8 +114,7 @@ impl Stack {
     {
         prove!(self.is_sound());
         visible(&self.nodes, panel)?;
-        take_out(&mut self.nodes, panel.0);
-        put_at_bottom(&mut self.nodes, panel.0);
+        move_to_bottom(&mut self.nodes, panel.0);
         prove!(self.is_sound());
         Ok(())
     }

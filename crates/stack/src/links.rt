@@ -47,8 +47,28 @@ pub fn put_on_top(nodes: &mut Nodes, panel: u16)
     link(nodes, panel, 0);
 }
 
+/// Moves a panel to the top, or puts it there if it isn't in the order.
+pub fn move_to_top(nodes: &mut Nodes, panel: u16)
+    requires threaded { IsThreaded nodes.old (from_bottom nodes.old) }
+    requires panel { IsPanel nodes.old panel }
+    ensures { Reordered nodes.old nodes.new (without panel (from_bottom nodes.old) ++ panel ∷ []) }
+{
+    take_out(nodes, panel);
+    put_on_top(nodes, panel);
+}
+
+/// Moves a panel to the bottom, or puts it there if it isn't in the order.
+pub fn move_to_bottom(nodes: &mut Nodes, panel: u16)
+    requires threaded { IsThreaded nodes.old (from_bottom nodes.old) }
+    requires panel { IsPanel nodes.old panel }
+    ensures { Reordered nodes.old nodes.new (panel ∷ without panel (from_bottom nodes.old)) }
+{
+    take_out(nodes, panel);
+    put_at_bottom(nodes, panel);
+}
+
 /// Puts a panel that isn't in the order at the bottom.
-pub fn put_at_bottom(nodes: &mut Nodes, panel: u16)
+fn put_at_bottom(nodes: &mut Nodes, panel: u16)
     requires threaded { IsThreaded nodes.old (from_bottom nodes.old) }
     requires panel { IsPanel nodes.old panel }
     requires out { IsOut panel (from_bottom nodes.old) }
