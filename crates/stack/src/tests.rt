@@ -120,3 +120,23 @@ fn thousand_panels_are_the_most(rt: HostRuntime) -> Result<(), Fail> {
     assert_eq!(rt; stack.below(None), Ok(Some(PanelId(500))));
     Ok(())
 }
+
+/// Passes with each allocation refused too.
+#[test]
+fn refused_panel_leaves_the_others(rt: HostRuntime) -> Result<(), Fail> {
+    let mut stack = Stack::new(rt.alloc());
+    let mut made: u16 = 0;
+    for n in 1..=20 {
+        match stack.new_panel(WinId(n)) {
+            Ok(panel) => made = panel.0,
+            Err(refusal) => assert_eq!(rt; refusal, Refusal::NoMemory),
+        }
+        assert_eq!(rt; stack.visible().count(), usize::from(made));
+        assert_eq!(rt;
+            stack.below(None).map(|panel| panel.map_or(0, |p| p.0)),
+            Ok(made)
+        );
+    }
+    assert!(rt; made >= 19);
+    Ok(())
+}
