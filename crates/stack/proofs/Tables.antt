@@ -9,7 +9,7 @@ use Rattle.cell.specs.declared.refusal.Refusal.TheVariants.{Hidden}
 use Rattle.cell.specs.declared.window.WinId.{WinId}
 use Rattle.cell.specs.declared.limits.TheConstants.{MOST_PANELS}
 use Rattle.world.specs.Panels.{Panels, no_panels}
-use Rattle.stack.specs.Calls.{after_del, after_new_panel, after_replace, given, hidden_refusal, is_hidden, without, IsSoundEntry, IsSoundOrder}
+use Rattle.stack.specs.Calls.{after_del_panel, after_new_panel, after_replace_panel, given, hidden_panel_refusal, is_hidden, without, IsSoundEntry, IsSoundOrder}
 use Rattle.stack.specs.Nodes.{no_node, node_at, above_at, window_at, window_in, from_bottom, way, IsOut, IsPanel, IsThreaded}
 use Rattle.stack.specs.Tables.{panels, table_of, IsPanelTable}
 use Rattle.stack.specs.steps.Entries.{Entered, IsFree, Windowed}
@@ -158,7 +158,7 @@ module _ (old mid new : List Node) (p : ℕ) (table : IsPanelTable old) (panel :
   pub deleted-table : IsPanelTable new
   deleted-table = windowed-table mid new p None mid-table mid-panel windowed (inr out) (λ q w none is. cc)
 
-  pub deleted-panels : panels (table_of new) ≡ after_del (panels (table_of old)) p
+  pub deleted-panels : panels (table_of new) ≡ after_del_panel (panels (table_of old)) p
   deleted-panels =
       windowed-panels mid new p None mid-table mid-panel windowed (inr out)
       ∙ ap (λ (a : Panels). record { visible = a.visible; window = given a.window p None }) (reordered-panels old mid (without p (from_bottom old)) order)
@@ -168,7 +168,7 @@ module _ (old new : List Node) (p w : ℕ) (table : IsPanelTable old) (panel : I
   pub replaced-table : ((q : ℕ) → window_at old q ≡ Some w → ⊥) → IsPanelTable new
   replaced-table none = windowed-table old new p (Some w) table panel windowed (inl refl) (λ q v same is. none q (is ∙ sym same))
 
-  pub replaced-panels : panels (table_of new) ≡ after_replace (panels (table_of old)) p w
+  pub replaced-panels : panels (table_of new) ≡ after_replace_panel (panels (table_of old)) p w
   replaced-panels = windowed-panels old new p (Some w) table panel windowed (inl refl)
 
 -- a panel is made
@@ -250,8 +250,8 @@ is_none-some (Some w) h = refl
 pub taken : (nodes : List Node) (p : ℕ) → IsPanel nodes p → is_none ((panels (table_of nodes)).window p) ≡ false
 taken nodes p panel = is_none-some ((panels (table_of nodes)).window p) (subst (λ (o : Option ℕ). IsSome o) (sym (window-is nodes p)) panel.1)
 
-pub refused-hidden : (a : Panels) (p : ℕ) → is_none (a.window p) ≡ false → is_hidden a p ≡ true → hidden_refusal a p ≡ Some Hidden
+pub refused-hidden : (a : Panels) (p : ℕ) → is_none (a.window p) ≡ false → is_hidden a p ≡ true → hidden_panel_refusal a p ≡ Some Hidden
 refused-hidden a p there hidden = rw there (rw hidden refl)
 
-pub accepted-visible : (a : Panels) (p : ℕ) → is_none (a.window p) ≡ false → is_hidden a p ≡ false → hidden_refusal a p ≡ None
+pub accepted-visible : (a : Panels) (p : ℕ) → is_none (a.window p) ≡ false → is_hidden a p ≡ false → hidden_panel_refusal a p ≡ None
 accepted-visible a p there shown = rw there (rw shown refl)

@@ -42,23 +42,24 @@ given window p w q = if q == p then w else window q
 -- ---- refusals
 
 -- the one test of a call that any panel accepts: that it is there
-abbrev pub missing_refusal : Panels → ℕ → Option Refusal
-missing_refusal panels p = first_of ((is_none (panels.window p), NoSuchPanel) ∷ [])
+abbrev pub missing_panel_refusal : Panels → ℕ → Option Refusal
+missing_panel_refusal panels p = first_of ((is_none (panels.window p), NoSuchPanel) ∷ [])
 
 -- the tests of a call that only a visible panel accepts
-abbrev pub hidden_refusal : Panels → ℕ → Option Refusal
-hidden_refusal panels p = first_of ((is_none (panels.window p), NoSuchPanel) ∷ (is_hidden panels p, Hidden) ∷ [])
+abbrev pub hidden_panel_refusal : Panels → ℕ → Option Refusal
+hidden_panel_refusal panels p = first_of ((is_none (panels.window p), NoSuchPanel) ∷ (is_hidden panels p, Hidden) ∷ [])
 
 -- that of the neighbours of a panel, or of the ends, which always are
 abbrev pub neighbour_refusal : Panels → Option ℕ → Option Refusal
 neighbour_refusal panels None = None
-neighbour_refusal panels (Some p) = hidden_refusal panels p
+neighbour_refusal panels (Some p) = hidden_panel_refusal panels p
 
-abbrev pub new_panel_refusal : Panels → ℕ → Option Refusal
-new_panel_refusal panels w = first_of ((is_in_panel panels w, InPanel) ∷ (is_none (new_panel_number panels), TooMany) ∷ [])
+-- those tests of new_panel and of replace_panel that speak of panels alone
+abbrev pub new_panel_tests : Panels → ℕ → List (Bool × Refusal)
+new_panel_tests panels w = (is_in_panel panels w, InPanel) ∷ (is_none (new_panel_number panels), TooMany) ∷ []
 
-abbrev pub replace_refusal : Panels → ℕ → ℕ → Option Refusal
-replace_refusal panels p w = first_of ((is_none (panels.window p), NoSuchPanel) ∷ (is_in_panel panels w, InPanel) ∷ [])
+abbrev pub replace_panel_tests : Panels → ℕ → ℕ → List (Bool × Refusal)
+replace_panel_tests panels p w = (is_none (panels.window p), NoSuchPanel) ∷ (is_in_panel panels w, InPanel) ∷ []
 
 -- ---- changes
 
@@ -66,25 +67,25 @@ replace_refusal panels p w = first_of ((is_none (panels.window p), NoSuchPanel) 
 abbrev pub after_new_panel : Panels → ℕ → ℕ → Panels
 after_new_panel panels p w = record { visible = panels.visible ++ p ∷ []; window = given panels.window p (Some w) }
 
-abbrev pub after_del : Panels → ℕ → Panels
-after_del panels p = record { visible = without p panels.visible; window = given panels.window p None }
+abbrev pub after_del_panel : Panels → ℕ → Panels
+after_del_panel panels p = record { visible = without p panels.visible; window = given panels.window p None }
 
 -- on top, whether it was visible or hidden
-abbrev pub after_show : Panels → ℕ → Panels
-after_show panels p = record panels { visible = without p panels.visible ++ p ∷ [] }
+abbrev pub after_show_panel : Panels → ℕ → Panels
+after_show_panel panels p = record panels { visible = without p panels.visible ++ p ∷ [] }
 
-abbrev pub after_hide : Panels → ℕ → Panels
-after_hide panels p = record panels { visible = without p panels.visible }
+abbrev pub after_hide_panel : Panels → ℕ → Panels
+after_hide_panel panels p = record panels { visible = without p panels.visible }
 
-abbrev pub after_top : Panels → ℕ → Panels
-after_top = after_show
+abbrev pub after_top_panel : Panels → ℕ → Panels
+after_top_panel = after_show_panel
 
-abbrev pub after_bottom : Panels → ℕ → Panels
-after_bottom panels p = record panels { visible = p ∷ without p panels.visible }
+abbrev pub after_bottom_panel : Panels → ℕ → Panels
+after_bottom_panel panels p = record panels { visible = p ∷ without p panels.visible }
 
 -- another window, and the same depth
-abbrev pub after_replace : Panels → ℕ → ℕ → Panels
-after_replace panels p w = record panels { window = given panels.window p (Some w) }
+abbrev pub after_replace_panel : Panels → ℕ → ℕ → Panels
+after_replace_panel panels p w = record panels { window = given panels.window p (Some w) }
 
 -- ---- answers
 

@@ -2,11 +2,11 @@
 
 ghost use Rattle.std.specs.Prelude.{◌≡◌, Some, IfOk, OnOk, OnErr};
 ghost use Rattle.std.specs.Result.{result_err};
-ghost use Rattle.cell.specs.Refusals.{RefusedBy};
-ghost use Rattle.stack.specs.Calls.{new_panel_number, missing_refusal, hidden_refusal, new_panel_refusal, replace_refusal, after_new_panel, after_del, after_show, after_hide, after_top, after_bottom, after_replace, IsSoundOrder};
+ghost use Rattle.cell.specs.Refusals.{RefusedBy, first_of};
+ghost use Rattle.stack.specs.Calls.{new_panel_number, missing_panel_refusal, hidden_panel_refusal, new_panel_tests, replace_panel_tests, after_new_panel, after_del_panel, after_show_panel, after_hide_panel, after_top_panel, after_bottom_panel, after_replace_panel, IsSoundOrder};
 ghost use Rattle.stack.specs.Tables.{panels};
 
-use crate::entries::{enter, free_number, holder, present, set_window, visible};
+use crate::entries::{enter, free_number, holder, require_panel, require_visible, set_window};
 use crate::links::{move_to_bottom, move_to_top, put_on_top, take_out};
 use crate::panel::PanelId;
 use crate::table::Stack;
@@ -18,7 +18,7 @@ impl Stack {
     /// # Errors
     /// `InPanel`, `TooMany`, `NoMemory`.
     pub fn new_panel(&mut self, win: WinId) -> Result<PanelId, Refusal>
-        ensures refused { RefusedBy (new_panel_refusal (panels self.old) win.0) result }
+        ensures refused { RefusedBy (first_of (new_panel_tests (panels self.old) win.0)) result }
         ensures number { IfOk result (λ p. new_panel_number (panels self.old) ≡ Some p.0) }
         ensures made { IfOk result (λ p. panels self.new ≡ after_new_panel (panels self.old) p.0 win.0) }
         ensures unchanged { OnErr result (self.new ≡ self.old) }
@@ -40,13 +40,13 @@ impl Stack {
     /// # Errors
     /// `NoSuchPanel`.
     pub fn del(&mut self, panel: PanelId) -> Result<(), Refusal>
-        ensures refused { result_err result ≡ missing_refusal (panels self.old) panel.0 }
-        ensures deleted { OnOk result (panels self.new ≡ after_del (panels self.old) panel.0) }
+        ensures refused { result_err result ≡ missing_panel_refusal (panels self.old) panel.0 }
+        ensures deleted { OnOk result (panels self.new ≡ after_del_panel (panels self.old) panel.0) }
         ensures unchanged { OnErr result (self.new ≡ self.old) }
         ensures sound { IsSoundOrder (panels self.new) }
     {
         prove!(self.is_sound());
-        present(&self.nodes, panel)?;
+        require_panel(&self.nodes, panel)?;
         take_out(&mut self.nodes, panel.0);
         set_window(&mut self.nodes, panel.0, None);
         prove!(self.is_sound());
@@ -58,13 +58,13 @@ impl Stack {
     /// # Errors
     /// `NoSuchPanel`.
     pub fn show(&mut self, panel: PanelId) -> Result<(), Refusal>
-        ensures refused { result_err result ≡ missing_refusal (panels self.old) panel.0 }
-        ensures shown { OnOk result (panels self.new ≡ after_show (panels self.old) panel.0) }
+        ensures refused { result_err result ≡ missing_panel_refusal (panels self.old) panel.0 }
+        ensures shown { OnOk result (panels self.new ≡ after_show_panel (panels self.old) panel.0) }
         ensures unchanged { OnErr result (self.new ≡ self.old) }
         ensures sound { IsSoundOrder (panels self.new) }
     {
         prove!(self.is_sound());
-        present(&self.nodes, panel)?;
+        require_panel(&self.nodes, panel)?;
         move_to_top(&mut self.nodes, panel.0);
         prove!(self.is_sound());
         Ok(())
@@ -75,13 +75,13 @@ impl Stack {
     /// # Errors
     /// `NoSuchPanel`, `Hidden`.
     pub fn hide(&mut self, panel: PanelId) -> Result<(), Refusal>
-        ensures refused { result_err result ≡ hidden_refusal (panels self.old) panel.0 }
-        ensures hidden { OnOk result (panels self.new ≡ after_hide (panels self.old) panel.0) }
+        ensures refused { result_err result ≡ hidden_panel_refusal (panels self.old) panel.0 }
+        ensures hidden { OnOk result (panels self.new ≡ after_hide_panel (panels self.old) panel.0) }
         ensures unchanged { OnErr result (self.new ≡ self.old) }
         ensures sound { IsSoundOrder (panels self.new) }
     {
         prove!(self.is_sound());
-        visible(&self.nodes, panel)?;
+        require_visible(&self.nodes, panel)?;
         take_out(&mut self.nodes, panel.0);
         prove!(self.is_sound());
         Ok(())
@@ -92,13 +92,13 @@ impl Stack {
     /// # Errors
     /// `NoSuchPanel`, `Hidden`.
     pub fn top(&mut self, panel: PanelId) -> Result<(), Refusal>
-        ensures refused { result_err result ≡ hidden_refusal (panels self.old) panel.0 }
-        ensures moved { OnOk result (panels self.new ≡ after_top (panels self.old) panel.0) }
+        ensures refused { result_err result ≡ hidden_panel_refusal (panels self.old) panel.0 }
+        ensures moved { OnOk result (panels self.new ≡ after_top_panel (panels self.old) panel.0) }
         ensures unchanged { OnErr result (self.new ≡ self.old) }
         ensures sound { IsSoundOrder (panels self.new) }
     {
         prove!(self.is_sound());
-        visible(&self.nodes, panel)?;
+        require_visible(&self.nodes, panel)?;
         self.show(panel)
     }
 
@@ -107,13 +107,13 @@ impl Stack {
     /// # Errors
     /// `NoSuchPanel`, `Hidden`.
     pub fn bottom(&mut self, panel: PanelId) -> Result<(), Refusal>
-        ensures refused { result_err result ≡ hidden_refusal (panels self.old) panel.0 }
-        ensures moved { OnOk result (panels self.new ≡ after_bottom (panels self.old) panel.0) }
+        ensures refused { result_err result ≡ hidden_panel_refusal (panels self.old) panel.0 }
+        ensures moved { OnOk result (panels self.new ≡ after_bottom_panel (panels self.old) panel.0) }
         ensures unchanged { OnErr result (self.new ≡ self.old) }
         ensures sound { IsSoundOrder (panels self.new) }
     {
         prove!(self.is_sound());
-        visible(&self.nodes, panel)?;
+        require_visible(&self.nodes, panel)?;
         move_to_bottom(&mut self.nodes, panel.0);
         prove!(self.is_sound());
         Ok(())
@@ -124,13 +124,13 @@ impl Stack {
     /// # Errors
     /// `NoSuchPanel`, `InPanel`.
     pub fn replace(&mut self, panel: PanelId, win: WinId) -> Result<(), Refusal>
-        ensures refused { result_err result ≡ replace_refusal (panels self.old) panel.0 win.0 }
-        ensures replaced { OnOk result (panels self.new ≡ after_replace (panels self.old) panel.0 win.0) }
+        ensures refused { result_err result ≡ first_of (replace_panel_tests (panels self.old) panel.0 win.0) }
+        ensures replaced { OnOk result (panels self.new ≡ after_replace_panel (panels self.old) panel.0 win.0) }
         ensures unchanged { OnErr result (self.new ≡ self.old) }
         ensures sound { IsSoundOrder (panels self.new) }
     {
         prove!(self.is_sound());
-        present(&self.nodes, panel)?;
+        require_panel(&self.nodes, panel)?;
         if holder(&self.nodes, win).is_some() {
             return Err(Refusal::InPanel);
         }

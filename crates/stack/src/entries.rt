@@ -1,11 +1,10 @@
 //! Which numbers are panels', and the window of each.
 
-ghost use Rattle.std.specs.Prelude.{◌≡◌, ℕ, ◌<◌, ◌≤◌, ◌+◌, Some, IfSome, MatchOption, OnOk, OnErr, length, is_some, false, ⊤};
+ghost use Rattle.std.specs.Prelude.{◌≡◌, ◌<◌, Some, IfSome, MatchOption, OnOk, OnErr, length, is_some, false, ⊤};
 ghost use Rattle.std.specs.Option.{option_map};
 ghost use Rattle.std.specs.Result.{result_err};
-ghost use Rattle.cell.specs.declared.limits.TheConstants.{MOST_PANELS};
 ghost use Rattle.world.specs.Panels.{is_in_panel};
-ghost use Rattle.stack.specs.Calls.{hidden_refusal, is_hidden, missing_refusal, new_panel_number};
+ghost use Rattle.stack.specs.Calls.{hidden_panel_refusal, is_hidden, missing_panel_refusal, new_panel_number};
 ghost use Rattle.stack.specs.Nodes.{window_at, IsPanel};
 ghost use Rattle.stack.specs.Tables.{panels, table_of, IsPanelTable};
 ghost use Rattle.stack.specs.steps.Entries.{Entered, IsFree, Windowed};
@@ -16,9 +15,9 @@ use cell::{MOST_PANELS, Refusal, WinId};
 use std::alloc::AllocError;
 
 /// Tests that there is such a panel.
-pub fn present(nodes: &Nodes, panel: PanelId) -> Result<(), Refusal>
+pub fn require_panel(nodes: &Nodes, panel: PanelId) -> Result<(), Refusal>
     requires { IsPanelTable nodes.now }
-    ensures refused { result_err result ≡ missing_refusal (panels (table_of nodes.now)) panel.0 }
+    ensures refused { result_err result ≡ missing_panel_refusal (panels (table_of nodes.now)) panel.0 }
     ensures panel { OnOk result (IsPanel nodes.now panel.0) }
 {
     if nodes.get(panel.0).window.is_none() {
@@ -28,9 +27,9 @@ pub fn present(nodes: &Nodes, panel: PanelId) -> Result<(), Refusal>
 }
 
 /// Tests that there is such a panel, and that it is visible.
-pub fn visible(nodes: &Nodes, panel: PanelId) -> Result<(), Refusal>
+pub fn require_visible(nodes: &Nodes, panel: PanelId) -> Result<(), Refusal>
     requires { IsPanelTable nodes.now }
-    ensures refused { result_err result ≡ hidden_refusal (panels (table_of nodes.now)) panel.0 }
+    ensures refused { result_err result ≡ hidden_panel_refusal (panels (table_of nodes.now)) panel.0 }
     ensures panel { OnOk result (IsPanel nodes.now panel.0) }
     ensures shown { OnOk result (is_hidden (panels (table_of nodes.now)) panel.0 ≡ false) }
 {

@@ -1,13 +1,11 @@
 //! Changes of the order: two nodes become neighbours, a panel leaves the order, a panel enters it.
 
-ghost use Rattle.std.specs.Prelude.{◌≡◌, ℕ, ◌<◌, ◌≤◌, ◌++◌, ◌∷◌, [], length};
-ghost use Rattle.cell.specs.declared.limits.TheConstants.{MOST_PANELS};
+ghost use Rattle.std.specs.Prelude.{◌<◌, ◌++◌, ◌∷◌, [], length};
 ghost use Rattle.stack.specs.Calls.{without};
-ghost use Rattle.stack.specs.Nodes.{from_bottom, window_at, IsThreaded, IsPanel, IsOut};
+ghost use Rattle.stack.specs.Nodes.{from_bottom, IsThreaded, IsPanel, IsOut};
 ghost use Rattle.stack.specs.steps.Links.{Linked, Reordered};
 
 use crate::nodes::Nodes;
-use cell::WinId;
 
 /// Makes two nodes neighbours.
 fn link(nodes: &mut Nodes, lower: u16, upper: u16)
@@ -47,6 +45,18 @@ pub fn put_on_top(nodes: &mut Nodes, panel: u16)
     link(nodes, panel, 0);
 }
 
+/// Puts a panel that isn't in the order at the bottom.
+fn put_at_bottom(nodes: &mut Nodes, panel: u16)
+    requires threaded { IsThreaded nodes.old (from_bottom nodes.old) }
+    requires panel { IsPanel nodes.old panel }
+    requires out { IsOut panel (from_bottom nodes.old) }
+    ensures { Reordered nodes.old nodes.new (panel ∷ from_bottom nodes.old) }
+{
+    let bottom = nodes.get(0).above;
+    link(nodes, 0, panel);
+    link(nodes, panel, bottom);
+}
+
 /// Moves a panel to the top, or puts it there if it isn't in the order.
 pub fn move_to_top(nodes: &mut Nodes, panel: u16)
     requires threaded { IsThreaded nodes.old (from_bottom nodes.old) }
@@ -65,16 +75,4 @@ pub fn move_to_bottom(nodes: &mut Nodes, panel: u16)
 {
     take_out(nodes, panel);
     put_at_bottom(nodes, panel);
-}
-
-/// Puts a panel that isn't in the order at the bottom.
-fn put_at_bottom(nodes: &mut Nodes, panel: u16)
-    requires threaded { IsThreaded nodes.old (from_bottom nodes.old) }
-    requires panel { IsPanel nodes.old panel }
-    requires out { IsOut panel (from_bottom nodes.old) }
-    ensures { Reordered nodes.old nodes.new (panel ∷ from_bottom nodes.old) }
-{
-    let bottom = nodes.get(0).above;
-    link(nodes, 0, panel);
-    link(nodes, panel, bottom);
 }

@@ -1,6 +1,6 @@
 //! The nodes through which the order of the visible panels is threaded.
 
-ghost use Rattle.std.specs.Prelude.{◌≡◌, ℕ, ◌<◌, ◌≤◌, ◌++◌, ◌∷◌, [], length, slice_set, is_ok, if◌then◌else◌};
+ghost use Rattle.std.specs.Prelude.{◌≡◌, ◌<◌, ◌++◌, ◌∷◌, [], length, slice_set, is_ok, if◌then◌else◌};
 ghost use Rattle.stack.specs.Nodes.{no_node, node_at};
 
 use cell::WinId;
@@ -9,7 +9,7 @@ use std::marker::Model;
 
 /// The window of a panel, and the panels right above and below. A node that no panel has, has no window, and one that isn't
 /// in the order names itself.
-#[derive(Clone, Copy, Debug, PartialEq, Eq)]
+#[derive(Clone, Copy)]
 pub struct Node {
     pub window: Option<WinId>,
     pub above: u16,

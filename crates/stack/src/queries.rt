@@ -1,14 +1,13 @@
 //! What the stack is asked. No query changes it.
 
 ghost use Rattle.std.specs.Prelude.{◌≡◌, ◌==◌, if◌then◌else◌, Some, None, IfOk, IfSome, is_some, reverse, length, ◌≤◌};
-ghost use Rattle.std.specs.Option.{option_map};
 ghost use Rattle.std.specs.Result.{result_err};
 ghost use Rattle.cell.specs.declared.limits.TheConstants.{MOST_PANELS};
 ghost use Rattle.world.specs.Panels.{is_in_panel};
-ghost use Rattle.stack.specs.Calls.{is_hidden, missing_refusal, neighbour_refusal, panel_above, panel_below, IsSoundOrder};
+ghost use Rattle.stack.specs.Calls.{is_hidden, missing_panel_refusal, neighbour_refusal, panel_above, panel_below, IsSoundOrder};
 ghost use Rattle.stack.specs.Tables.{number, panels};
 
-use crate::entries::{holder, present, visible};
+use crate::entries::{holder, require_panel, require_visible};
 use crate::panel::PanelId;
 use crate::table::Stack;
 use crate::visible::Visible;
@@ -25,7 +24,7 @@ impl Stack {
     {
         match panel {
             Some(panel) => {
-                visible(&self.nodes, panel)?;
+                require_visible(&self.nodes, panel)?;
                 Ok(panel_at(self.nodes.get(panel.0).above))
             }
             None => Ok(panel_at(self.nodes.get(0).above)),
@@ -42,7 +41,7 @@ impl Stack {
     {
         match panel {
             Some(panel) => {
-                visible(&self.nodes, panel)?;
+                require_visible(&self.nodes, panel)?;
                 Ok(panel_at(self.nodes.get(panel.0).below))
             }
             None => Ok(panel_at(self.nodes.get(0).below)),
@@ -54,7 +53,7 @@ impl Stack {
     /// # Errors
     /// `NoSuchPanel`.
     pub fn window(&self, panel: PanelId) -> Result<WinId, Refusal>
-        ensures refused { result_err result ≡ missing_refusal (panels self.now) panel.0 }
+        ensures refused { result_err result ≡ missing_panel_refusal (panels self.now) panel.0 }
         ensures answer { IfOk result (λ w. (panels self.now).window panel.0 ≡ Some w.0) }
     {
         self.nodes.get(panel.0).window.ok_or(Refusal::NoSuchPanel)
@@ -65,10 +64,10 @@ impl Stack {
     /// # Errors
     /// `NoSuchPanel`.
     pub fn hidden(&self, panel: PanelId) -> Result<bool, Refusal>
-        ensures refused { result_err result ≡ missing_refusal (panels self.now) panel.0 }
+        ensures refused { result_err result ≡ missing_panel_refusal (panels self.now) panel.0 }
         ensures answer { IfOk result (λ b. b ≡ is_hidden (panels self.now) panel.0) }
     {
-        present(&self.nodes, panel)?;
+        require_panel(&self.nodes, panel)?;
         Ok(self.nodes.get(panel.0).above == panel.0)
     }
 

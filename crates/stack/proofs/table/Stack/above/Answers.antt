@@ -7,11 +7,11 @@ use Rattle.stack.specs.declared.panel.PanelId.{PanelId}
 use Rattle.stack.proofs.Neighbours.{above-is, panel_or_none}
 use Rattle.stack.proofs.table.Stack.above.Goals as goal
 
-pub returns-in_ok-visible-in-Some-clause-answer : goal.returns-in_ok-visible-in-Some-clause-answer
-returns-in_ok-visible-in-Some-clause-answer c =
+pub returns-in_ok-require_visible-in-Some-clause-answer : goal.returns-in_ok-require_visible-in-Some-clause-answer
+returns-in_ok-require_visible-in-Some-clause-answer c =
     let nodes = c.self.inside.nodes in
     let p = c.in-Some.panel.0 in
     c.panel_at.ensures ∙ ap (λ (n : Node). panel_or_none n.above) c.get.ensures
-    ∙ above-is nodes (from_bottom nodes) c.self.invariant.threaded p c.in_ok-visible-in-Some.ensures.shown
+    ∙ above-is nodes (from_bottom nodes) c.self.invariant.threaded p c.in_ok-require_visible-in-Some.ensures.shown
     ∙ ap (λ (t : PanelTable). panel_above (panels t) (Some p)) c.self.view_is
     ∙ ap (λ (o : Option PanelId). panel_above (panels c.args.self.now) (number o)) (sym c.in-Some.is)

@@ -7,12 +7,12 @@ use Rattle.stack.specs.declared.panel.PanelId.{PanelId}
 use Rattle.stack.proofs.Neighbours.{below-is, last-is, panel_or_none}
 use Rattle.stack.proofs.table.Stack.below.Goals as goal
 
-pub returns-in_ok-visible-in-Some-clause-answer : goal.returns-in_ok-visible-in-Some-clause-answer
-returns-in_ok-visible-in-Some-clause-answer c =
+pub returns-in_ok-require_visible-in-Some-clause-answer : goal.returns-in_ok-require_visible-in-Some-clause-answer
+returns-in_ok-require_visible-in-Some-clause-answer c =
     let nodes = c.self.inside.nodes in
     let p = c.in-Some.panel.0 in
     c.panel_at.ensures ∙ ap (λ (n : Node). panel_or_none n.below) c.get.ensures
-    ∙ below-is nodes (from_bottom nodes) c.self.invariant.threaded p c.in_ok-visible-in-Some.ensures.shown
+    ∙ below-is nodes (from_bottom nodes) c.self.invariant.threaded p c.in_ok-require_visible-in-Some.ensures.shown
     ∙ ap (λ (t : PanelTable). panel_below (panels t) (Some p)) c.self.view_is
     ∙ ap (λ (o : Option PanelId). panel_below (panels c.args.self.now) (number o)) (sym c.in-Some.is)
 

@@ -1,5 +1,5 @@
 use Rattle.std.proofs.Common.{[], ◌∷◌, ◌++◌, ap, ◌∙◌}
-use Rattle.stack.specs.Calls.{after_bottom, without}
+use Rattle.stack.specs.Calls.{after_bottom_panel, without}
 use Rattle.stack.specs.Nodes.{from_bottom}
 use Rattle.stack.specs.Tables.{panels, PanelTable}
 use Rattle.stack.proofs.Tables.{reordered-panels}
@@ -11,4 +11,4 @@ returns-clause-moved c =
     let p = c.args.panel.0 in
     let order = without p (from_bottom old) in
     reordered-panels old c.move_to_bottom.new.nodes (p ∷ order) c.move_to_bottom.ensures
-    ∙ ap (λ (t : PanelTable). after_bottom (panels t) p) c.self.view_is
+    ∙ ap (λ (t : PanelTable). after_bottom_panel (panels t) p) c.self.view_is

@@ -12,4 +12,4 @@ returns-clause-answer c =
     let p = c.args.panel.0 in
     ap (λ (n : Node). nat_eq n.above p) c.get.ensures
     ∙ subst (λ (t : PanelTable). nat_eq (node_at nodes p).above p ≡ is_hidden (panels t) p) c.self.view_is
-    (hidden-is nodes (from_bottom nodes) c.self.invariant.threaded p c.in_ok-present.ensures.panel)
+    (hidden-is nodes (from_bottom nodes) c.self.invariant.threaded p c.in_ok-require_panel.ensures.panel)

@@ -1,5 +1,5 @@
 use Rattle.std.proofs.Common.{ap, ◌∙◌}
-use Rattle.stack.specs.Calls.{after_hide, without}
+use Rattle.stack.specs.Calls.{after_hide_panel, without}
 use Rattle.stack.specs.Nodes.{from_bottom}
 use Rattle.stack.specs.Tables.{panels, PanelTable}
 use Rattle.stack.proofs.Tables.{reordered-panels}
@@ -10,4 +10,4 @@ returns-clause-hidden c =
     let old = c.self.inside.nodes in
     let p = c.args.panel.0 in
     reordered-panels old c.take_out.new.nodes (without p (from_bottom old)) c.take_out.ensures.order
-    ∙ ap (λ (t : PanelTable). after_hide (panels t) p) c.self.view_is
+    ∙ ap (λ (t : PanelTable). after_hide_panel (panels t) p) c.self.view_is

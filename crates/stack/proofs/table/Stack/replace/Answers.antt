@@ -1,5 +1,5 @@
 use Rattle.std.proofs.Common.{ap, sym, arith, ◌∙◌}
-use Rattle.stack.specs.Calls.{after_replace}
+use Rattle.stack.specs.Calls.{after_replace_panel}
 use Rattle.stack.specs.Tables.{panels, PanelTable}
 use Rattle.stack.proofs.Numbers.{none-has}
 use Rattle.stack.proofs.Tables.{replaced-panels, replaced-table}
@@ -10,10 +10,10 @@ invariant_of-self c =
     let old = c.self.inside.nodes in
     let free = none-has old c.self.invariant c.args.win.0 (grind (arith, c.holder.ensures.some)) in
     replaced-table old c.set_window.new.nodes c.args.panel.0 c.args.win.0
-    c.self.invariant c.in_ok-present.ensures.panel c.set_window.ensures free
+    c.self.invariant c.in_ok-require_panel.ensures.panel c.set_window.ensures free
 
 pub returns-clause-replaced : goal.returns-clause-replaced
 returns-clause-replaced c =
     replaced-panels c.self.inside.nodes c.set_window.new.nodes c.args.panel.0 c.args.win.0
-    c.self.invariant c.in_ok-present.ensures.panel c.set_window.ensures
-    ∙ ap (λ (t : PanelTable). after_replace (panels t) c.args.panel.0 c.args.win.0) c.self.view_is
+    c.self.invariant c.in_ok-require_panel.ensures.panel c.set_window.ensures
+    ∙ ap (λ (t : PanelTable). after_replace_panel (panels t) c.args.panel.0 c.args.win.0) c.self.view_is

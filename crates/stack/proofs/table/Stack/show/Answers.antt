@@ -1,5 +1,5 @@
 use Rattle.std.proofs.Common.{[], ◌∷◌, ◌++◌, ap, ◌∙◌}
-use Rattle.stack.specs.Calls.{after_show, without}
+use Rattle.stack.specs.Calls.{after_show_panel, without}
 use Rattle.stack.specs.Nodes.{from_bottom}
 use Rattle.stack.specs.Tables.{panels, PanelTable}
 use Rattle.stack.proofs.Tables.{reordered-panels}
@@ -11,4 +11,4 @@ returns-clause-shown c =
     let p = c.args.panel.0 in
     let order = without p (from_bottom old) in
     reordered-panels old c.move_to_top.new.nodes (order ++ p ∷ []) c.move_to_top.ensures
-    ∙ ap (λ (t : PanelTable). after_show (panels t) p) c.self.view_is
+    ∙ ap (λ (t : PanelTable). after_show_panel (panels t) p) c.self.view_is

@@ -5,7 +5,7 @@ use Rattle.stack.specs.Tables.{panels, table_of}
 use Rattle.stack.specs.declared.nodes.Node.{Node}
 use Rattle.stack.proofs.Neighbours.{hidden-is}
 use Rattle.stack.proofs.Tables.{accepted-visible, panel-from, refused-hidden, taken}
-use Rattle.stack.proofs.entries.visible.Goals as goal
+use Rattle.stack.proofs.entries.require_visible.Goals as goal
 
 pub returns-then-node-panel-clause-refused : goal.returns-then-node-panel-clause-refused
 returns-then-node-panel-clause-refused c =
