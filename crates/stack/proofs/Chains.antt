@@ -1,10 +1,10 @@
 -- Chains of nodes that name one another, over the two functions that say which is above and which below.
-use Rattle.std.proofs.Common.{◌≡◌, ℕ, zero, suc, ◌<◌, ◌≤◌, ◌==◌, if◌then◌else◌, List, [], ◌∷◌, ◌++◌, length, reverse, sym, ap, subst, ◌∙◌, refl, arith}
+use Rattle.std.proofs.Common.{◌≡◌, ℕ, zero, suc, ◌<◌, ◌≤◌, List, [], ◌∷◌, ◌++◌, length, reverse, sym, ap, subst, ◌∙◌, refl, arith}
 use mathlib.Core.List.{reverse_aux}
 use Rattle.std.specs.List.{AllByRecursion}
 use Rattle.std.proofs.lemmas.Bool.{ne_eqb}
 use Rattle.stack.specs.Nodes.{AreOnce, IsChain, IsOut, way}
-use Rattle.stack.proofs.Orders.{out-back, out-front, once-without}
+use Rattle.stack.proofs.Orders.{out-back, out-front}
 
 -- ---- a chain alone
 

@@ -1,5 +1,5 @@
 -- What the nodes say of the neighbours of a panel is what the order says.
-use Rattle.std.proofs.Common.{◌≡◌, ℕ, ◌<◌, Bool, true, false, not, ◌==◌, if◌then◌else◌, Option, None, Some, List, [], ◌∷◌, ◌++◌, reverse, sym, ap, subst, ◌∙◌, refl, inl, inr, arith}
+use Rattle.std.proofs.Common.{◌≡◌, ℕ, ◌<◌, true, false, not, ◌==◌, if◌then◌else◌, Option, None, Some, List, [], ◌∷◌, ◌++◌, reverse, sym, ap, subst, ◌∙◌, refl, inl, inr, arith}
 use mathlib.Core.List.{reverse_aux}
 use Rattle.std.specs.List.{AllByRecursion, last_or, list_any}
 use Rattle.std.proofs.lemmas.Bool.{eq-eqb, ne_eqb}
@@ -49,9 +49,6 @@ module _ (nodes : List Node) (order : List ℕ) (h : IsThreaded nodes order) whe
     | inl out ↦ let any = any_is-out p order out in let t : true ≡ false = sym (ap not any) ∙ shown in cc
     | inr split ↦ split
   ]
-
-  pub first-is : panel_or_none (above_at nodes 0) ≡ first_in order
-  first-is = chain-first (above_at nodes) (below_at nodes) 0 order h.chain (positive nodes order h)
 
   pub last-is : panel_or_none (below_at nodes 0) ≡ last_or None order
   last-is =

@@ -1,15 +1,14 @@
 -- The search for the number of the next panel, and for the panel of a window, step by step.
-use Rattle.std.proofs.Common.{◌≡◌, ℕ, zero, suc, ◌+◌, ◌-◌, ◌<◌, ◌≤◌, Bool, true, false, not, Option, Some, None, is_none, List, length, find, sym, ap, ◌∙◌, refl, arith}
+use Rattle.std.proofs.Common.{◌≡◌, ℕ, suc, ◌+◌, ◌-◌, ◌<◌, ◌≤◌, Bool, true, false, not, Option, Some, None, is_none, List, length, find, sym, ap, ◌∙◌, refl, arith}
 use Rattle.std.specs.List.{range_with_len}
 use Rattle.std.specs.Option.{is_some, option_map}
 use Rattle.cell.specs.declared.window.WinId.{WinId}
-use Rattle.std.proofs.lemmas.Bool.{cases_lt, or_from, ne_eqb, false_from_ne_true}
+use Rattle.std.proofs.lemmas.Bool.{false_from_ne_true}
 use Rattle.std.proofs.lemmas.List.{get_or_past}
 use Rattle.cell.specs.declared.limits.TheConstants.{MOST_PANELS}
 use Rattle.world.specs.Panels.{is_in_panel, panel_limit}
-use Rattle.world.specs.Windows.{any_below}
 use Rattle.world.proofs.PanelLaws.{in_panel-some, in_panel-true}
-use Rattle.stack.specs.Nodes.{no_node, node_at, window_at, window_in, IsPanel}
+use Rattle.stack.specs.Nodes.{no_node, node_at, window_at, window_in}
 use Rattle.stack.specs.Tables.{panels, table_of, IsPanelTable}
 use Rattle.stack.specs.declared.nodes.Node.{Node}
 use Rattle.stack.proofs.Tables.{is-panel}

@@ -1,8 +1,8 @@
 -- Lists of numbers of which none stands twice.
-use Rattle.std.proofs.Common.{◌≡◌, ℕ, zero, suc, ◌+◌, ◌<◌, ◌≤◌, Bool, true, false, not, cond, ◌==◌, ◌||◌, List, [], ◌∷◌, ◌++◌, length, reverse, sym, ap, subst, ◌∙◌, ◌⊎◌, inl, inr, refl, arith, eqb}
+use Rattle.std.proofs.Common.{◌≡◌, ℕ, ◌<◌, ◌≤◌, Bool, true, false, ◌==◌, ◌||◌, List, [], ◌∷◌, ◌++◌, length, reverse, sym, ap, subst, ◌⊎◌, inl, inr, refl, eqb}
 use mathlib.Core.List.{reverse_aux}
-use Rattle.std.specs.List.{AllByRecursion, IsDistinct, filter, list_any}
-use Rattle.std.proofs.lemmas.Bool.{cases_eq, eq-eqb, ne_eqb, or_cases, eqb-true, cond-true, cond-false}
+use Rattle.std.specs.List.{AllByRecursion, IsDistinct, list_any}
+use Rattle.std.proofs.lemmas.Bool.{cases_eq, eq-eqb, ne_eqb, or_cases, eqb-true}
 use Rattle.std.proofs.lemmas.Map.Steps.{length-le_from_distinct_below}
 use Rattle.stack.specs.Calls.{without, first_in, next_in}
 use Rattle.stack.specs.Nodes.{AreOnce, IsOut}
@@ -38,10 +38,6 @@ out_or_in p (x ∷ xs) = elim (cases_eq p x) [
 ]
 
 -- ---- none twice
-
-pub once-front : (xs ys : List ℕ) → AreOnce (xs ++ ys) → AreOnce xs
-once-front [] ys h = tt
-once-front (x ∷ xs) ys h = (out-front x xs ys h.0, once-front xs ys h.1)
 
 pub once-back : (xs ys : List ℕ) → AreOnce (xs ++ ys) → AreOnce ys
 once-back [] ys h = h

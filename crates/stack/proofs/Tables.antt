@@ -1,23 +1,22 @@
 -- Tables of panels: what is known of each, and each call's table.
-use Rattle.std.proofs.Common.{◌≡◌, ◌≢◌, ℕ, zero, suc, true, false, ◌+◌, ◌<◌, ◌≤◌, ◌==◌, if◌then◌else◌, ◌⊎◌, Option, None, Some, IsSome, MatchOption, List, [], ◌∷◌, ◌++◌, length, map, slice_index_or, sym, ap, subst, ◌∙◌, refl, inl, inr, arith, lit≤, eqb, All, AllPairs}
+use Rattle.std.proofs.Common.{◌≡◌, ℕ, zero, suc, true, false, ◌<◌, ◌==◌, if◌then◌else◌, ◌⊎◌, Option, None, Some, IsSome, MatchOption, List, [], ◌∷◌, ◌++◌, length, slice_index_or, sym, ap, subst, ◌∙◌, refl, inl, inr, arith, lit≤, eqb, All}
 use Rattle.std.specs.List.{AllByRecursion}
 use Rattle.std.specs.Option.{is_none, is_some, option_map}
 use Rattle.std.proofs.lemmas.Bool.{eqb-false}
-use Rattle.std.proofs.lemmas.List.{get_or_past, length_push}
+use Rattle.std.proofs.lemmas.List.{length_push}
 use Rattle.std.proofs.lemmas.Map.Keys.{apart_from_distinct}
 use Rattle.cell.specs.declared.refusal.Refusal.TheVariants.{Hidden}
 use Rattle.cell.specs.declared.window.WinId.{WinId}
-use Rattle.cell.specs.declared.limits.TheConstants.{MOST_PANELS}
 use Rattle.world.specs.Panels.{Panels, no_panels}
 use Rattle.stack.specs.Calls.{after_del_panel, after_new_panel, after_replace_panel, given, hidden_panel_refusal, is_hidden, without, IsSoundEntry, IsSoundOrder}
-use Rattle.stack.specs.Nodes.{no_node, node_at, above_at, window_at, window_in, from_bottom, way, IsOut, IsPanel, IsThreaded}
+use Rattle.stack.specs.Nodes.{no_node, node_at, window_at, window_in, from_bottom, IsOut, IsPanel, IsThreaded}
 use Rattle.stack.specs.Tables.{panels, table_of, IsPanelTable}
 use Rattle.stack.specs.steps.Entries.{Entered, IsFree, Windowed}
 use Rattle.stack.specs.steps.Links.{Reordered}
 use Rattle.stack.specs.declared.nodes.Node.{Node}
 use Rattle.stack.proofs.Orders.{distinct-once, out-each}
 use Rattle.stack.proofs.Threads.{from_bottom-is, panel-below, panel-same, twice-windows}
-use Rattle.stack.proofs.Windows.{AreApart, apart-given, given-other, panels-are, threaded-windowed, window-is, threaded-pushed, window-pushed}
+use Rattle.stack.proofs.Windows.{apart-given, given-other, panels-are, threaded-windowed, window-is, threaded-pushed, window-pushed}
 
 -- ---- what is known of each
 

@@ -1,15 +1,15 @@
 -- The order through the nodes, before and after a panel leaves or enters it.
-use Rattle.std.proofs.Common.{◌≡◌, ℕ, suc, ◌<◌, ◌≤◌, ◌==◌, if◌then◌else◌, Option, None, Some, IsSome, List, [], ◌∷◌, ◌++◌, length, reverse, sym, ap, subst, ◌∙◌, refl, inl, inr, arith}
+use Rattle.std.proofs.Common.{◌≡◌, ℕ, ◌<◌, ◌≤◌, ◌==◌, if◌then◌else◌, Option, IsSome, List, [], ◌∷◌, ◌++◌, length, reverse, sym, ap, subst, ◌∙◌, refl, inl, inr, arith}
 use mathlib.Core.Path.{fun_ext}
 use Rattle.std.specs.List.{AllByRecursion}
 use Rattle.std.proofs.lemmas.Bool.{cases_eq, eq-eqb, ne_eqb, cases_lt}
 use Rattle.std.proofs.lemmas.List.{get_or_past, length-reverse}
 use Rattle.stack.specs.Calls.{without}
-use Rattle.stack.specs.Nodes.{no_node, node_at, above_at, below_at, window_at, window_in, AreOnce, IsAlone, IsChain, IsOut, IsPanel, IsThreaded, from_bottom, from_top}
+use Rattle.stack.specs.Nodes.{no_node, node_at, above_at, below_at, window_in, IsAlone, IsChain, IsOut, IsPanel, IsThreaded, from_bottom, from_top}
 use Rattle.stack.specs.steps.Links.{Linked, Reordered, SameWindows}
 use Rattle.stack.specs.declared.nodes.Node.{Node}
 use Rattle.stack.proofs.Chains.{Inserted, Removed, chain-back, chain-front, chain-pushed, chain-put, chain-removed, chain-reverse, first-each, last-each, not-first, not-last, way-chain}
-use Rattle.stack.proofs.Orders.{Split, each-append, each-back, each-front, each-reverse, each-weaker, length-once, once-after, once-before, once-push, once-without, out-append, out-back, out-each, out-front, out_or_in, without-out, without-split}
+use Rattle.stack.proofs.Orders.{each-append, each-back, each-front, each-reverse, each-weaker, length-once, once-after, once-before, once-push, once-without, out-append, out-back, out-each, out-front, out_or_in, without-out, without-split}
 
 -- ---- the order is what is threaded
 

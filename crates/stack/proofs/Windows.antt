@@ -1,12 +1,11 @@
 -- The windows of panels, and where one of them changes.
-use Rattle.std.proofs.Common.{◌≡◌, ℕ, zero, suc, ◌+◌, ◌<◌, ◌≤◌, ◌==◌, if◌then◌else◌, Option, None, Some, IsSome, List, [], ◌∷◌, ◌++◌, length, map, slice_index_or, sym, ap, subst, ◌∙◌, ◌⊎◌, refl, inl, inr, arith}
+use Rattle.std.proofs.Common.{◌≡◌, ℕ, zero, suc, ◌<◌, Option, None, Some, IsSome, List, [], ◌∷◌, ◌++◌, length, map, slice_index_or, sym, ap, subst, ◌∙◌, ◌⊎◌, refl, inl, inr, arith}
 use mathlib.Core.Path.{fun_ext}
 use Rattle.std.specs.List.{AllByRecursion}
-use Rattle.std.proofs.lemmas.Bool.{cases_eq, cases_lt, cases_order, eq-eqb, ne_eqb}
+use Rattle.std.proofs.lemmas.Bool.{cases_eq, cases_order, eq-eqb, ne_eqb}
 use Rattle.std.proofs.lemmas.List.{get_or_append_left, get_or_past, get_or_push, length_push}
-use Rattle.world.specs.Panels.{Panels}
 use Rattle.stack.specs.Calls.{given}
-use Rattle.stack.specs.Nodes.{no_node, node_at, above_at, below_at, window_at, window_in, from_bottom, AreOnce, IsAlone, IsChain, IsOut, IsPanel, IsThreaded}
+use Rattle.stack.specs.Nodes.{no_node, node_at, above_at, below_at, window_at, window_in, from_bottom, IsChain, IsOut, IsPanel, IsThreaded}
 use Rattle.stack.specs.Tables.{panels, table_of}
 use Rattle.stack.specs.steps.Entries.{Windowed}
 use Rattle.stack.specs.declared.nodes.Node.{Node}

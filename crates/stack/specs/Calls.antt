@@ -2,7 +2,7 @@
 -- NetBSD panel(3): new_panel, del_panel, show_panel, hide_panel, top_panel, bottom_panel, replace_panel, panel_above, panel_below.
 -- That show_panel puts a visible panel on top too, which window a panel may have, the limit of numbers and the order of the tests are
 -- Curspan's own choice. Whether a window is there, is a pad or is the standard screen, the layer that has windows tests.
-use Rattle.std.specs.Prelude.{◌≡◌, ◌≢◌, ℕ, ◌+◌, ◌-◌, ◌≤◌, Bool, not, if◌then◌else◌, ◌==◌, Option, Some, None, is_none, IsSome, MatchOption, List, [], ◌∷◌, ◌++◌, reverse, All, AllPairs, find, ⊤}
+use Rattle.std.specs.Prelude.{◌≡◌, ◌≢◌, ℕ, ◌-◌, ◌≤◌, Bool, not, if◌then◌else◌, ◌==◌, Option, Some, None, is_none, IsSome, MatchOption, List, [], ◌∷◌, ◌++◌, reverse, All, AllPairs, find, ⊤}
 use Rattle.std.specs.List.{filter, list_any, range_with_len}
 use Rattle.cell.specs.Refusals.{first_of}
 use Rattle.cell.specs.declared.limits.TheConstants.{MOST_PANELS}

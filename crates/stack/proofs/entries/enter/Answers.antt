@@ -1,4 +1,4 @@
-use Rattle.std.proofs.Common.{Some, ◌≡◌, ◌∷◌, ◌++◌, [], List, length, refl, sym, subst, arith}
+use Rattle.std.proofs.Common.{Some, ◌≡◌, List, length, refl, sym, subst, arith}
 use Rattle.stack.specs.steps.Entries.{Entered}
 use Rattle.stack.specs.declared.nodes.Node.{Node}
 use Rattle.stack.proofs.Tables.{entered-pushed, entered-windowed}

@@ -1,4 +1,4 @@
-use Rattle.std.proofs.Common.{◌≡◌, ◌<◌, Some, length, sym, rules, arith}
+use Rattle.std.proofs.Common.{◌≡◌, Some, sym, rules, arith}
 use Rattle.stack.specs.Nodes.{window_at}
 use Rattle.stack.proofs.Numbers.{in-no-panel, in-panel}
 use Rattle.stack.proofs.entries.holder.Goals as goal

@@ -1,8 +1,5 @@
 use Rattle.std.proofs.Common.{◌≡◌, ℕ, ◌<◌, Some}
-use Rattle.stack.specs.Calls.{new_panel_number}
-use Rattle.stack.specs.Tables.{panels, table_of}
 use Rattle.stack.specs.Nodes.{window_at}
-use Rattle.stack.proofs.Numbers.{search_from}
 use Rattle.stack.proofs.entries.holder.Given as goal
 
 -- none below n has the window

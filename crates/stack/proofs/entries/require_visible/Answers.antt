@@ -1,4 +1,4 @@
-use Rattle.std.proofs.Common.{false, true, not, sym, ap, ◌∙◌}
+use Rattle.std.proofs.Common.{not, sym, ap, ◌∙◌}
 use Rattle.std.proofs.lemmas.Bool.{eq-eqb, ne_eqb}
 use Rattle.stack.specs.Nodes.{above_at, from_bottom}
 use Rattle.stack.specs.Tables.{panels, table_of}

@@ -1,4 +1,4 @@
-use Rattle.std.proofs.Common.{[], ◌∷◌, ◌++◌}
+use Rattle.std.proofs.Common.{◌∷◌}
 use Rattle.stack.specs.Calls.{without}
 use Rattle.stack.specs.Nodes.{from_bottom}
 use Rattle.stack.proofs.Tables.{reordered-twice}

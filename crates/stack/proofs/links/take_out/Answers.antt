@@ -1,4 +1,4 @@
-use Rattle.std.proofs.Common.{◌<◌, ◌≤◌, length, List, ℕ, sym, subst, arith}
+use Rattle.std.proofs.Common.{◌<◌, length, List, ℕ, sym, subst, arith}
 use Rattle.stack.specs.Nodes.{from_bottom, IsOut}
 use Rattle.stack.specs.declared.nodes.Node.{Node}
 use Rattle.stack.proofs.Orders.{out-without}

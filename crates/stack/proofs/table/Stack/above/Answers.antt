@@ -1,4 +1,4 @@
-use Rattle.std.proofs.Common.{◌∙◌, ap, sym, Option, Some, None}
+use Rattle.std.proofs.Common.{◌∙◌, ap, sym, Option, Some}
 use Rattle.stack.specs.Nodes.{from_bottom}
 use Rattle.stack.specs.Calls.{panel_above}
 use Rattle.stack.specs.Tables.{number, panels, PanelTable}

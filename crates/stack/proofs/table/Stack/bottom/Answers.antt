@@ -1,4 +1,4 @@
-use Rattle.std.proofs.Common.{[], ◌∷◌, ◌++◌, ap, ◌∙◌}
+use Rattle.std.proofs.Common.{◌∷◌, ap, ◌∙◌}
 use Rattle.stack.specs.Calls.{after_bottom_panel, without}
 use Rattle.stack.specs.Nodes.{from_bottom}
 use Rattle.stack.specs.Tables.{panels, PanelTable}

@@ -1,4 +1,4 @@
-use Rattle.std.proofs.Common.{◌≡◌, ◌∙◌, ap, sym, subst, Bool, nat_eq}
+use Rattle.std.proofs.Common.{◌≡◌, ◌∙◌, ap, subst, nat_eq}
 use Rattle.stack.specs.Nodes.{node_at, from_bottom}
 use Rattle.stack.specs.Calls.{is_hidden}
 use Rattle.stack.specs.Tables.{panels, PanelTable}
