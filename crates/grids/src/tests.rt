@@ -226,22 +226,27 @@ fn writing_touches_the_window_that_it_goes_through(rt: HostRuntime) -> Result<()
 fn lines_are_touched_and_untouched(rt: HostRuntime) -> Result<(), Fail> {
     let mut grids = Grids::new(rt.alloc(), 4, 10)?;
     let window = grids.newwin(2, 5, 0, 0)?;
-    assert_eq!(rt; grids.is_wintouched(window), Ok(false));
-    assert_eq!(rt; grids.touchwin(window), Ok(()));
+    assert_eq!(rt;
+        [
+            grids.touchwin(window),
+            grids.wtouchln(window, 0, 1, false),
+            grids.touchline(window, 1, 1),
+            grids.touchline(window, 2, 0),
+        ],
+        [Ok(()), Ok(()), Ok(()), Err(Refusal::OutsideWindow)]
+    );
+    assert_eq!(rt;
+        [
+            grids.is_linetouched(window, 0),
+            grids.is_linetouched(window, 1),
+            grids.is_linetouched(window, 2),
+            grids.is_wintouched(window),
+        ],
+        [Ok(false), Ok(true), Err(Refusal::OutsideWindow), Ok(true)]
+    );
     assert_eq!(rt; touched(&grids, window, 1)?, Some((0, 4)));
-    assert_eq!(rt; grids.wtouchln(window, 0, 1, false), Ok(()));
-    assert_eq!(rt; grids.is_linetouched(window, 0), Ok(false));
-    assert_eq!(rt; grids.is_linetouched(window, 1), Ok(true));
     assert_eq!(rt; grids.untouchwin(window), Ok(()));
     assert_eq!(rt; grids.is_wintouched(window), Ok(false));
-    assert_eq!(rt; grids.touchline(window, 1, 1), Ok(()));
-    assert_eq!(rt; grids.is_wintouched(window), Ok(true));
-    assert_eq!(rt; grids.touchline(window, 2, 0), Err(Refusal::OutsideWindow));
-    assert_eq!(rt; grids.touchline(window, 1, 2), Err(Refusal::OutsideWindow));
-    assert_eq!(rt;
-        grids.is_linetouched(window, 2),
-        Err(Refusal::OutsideWindow)
-    );
     Ok(())
 }
 

@@ -4,13 +4,13 @@ use std::test::Fail;
 
 const SCREEN: WinId = WinId(0);
 
-/// Whether a line of the standard screen is a text.
-fn is_line(windows: &Windows, y: u16, text: &str) -> Result<bool, Fail> {
-    let (lines, _) = windows.table.getmaxyx(SCREEN)?;
+/// Whether a line of a window is a text.
+fn is_line(windows: &Windows, win: WinId, y: u16, text: &str) -> Result<bool, Fail> {
+    let (lines, _) = windows.table.getmaxyx(win)?;
     if lines <= y {
         return Err("no such line".into());
     }
-    let row = windows.table.row(SCREEN, y);
+    let row = windows.table.row(win, y);
     Ok(
         row.iter()
             .zip(text.as_bytes())
@@ -23,7 +23,7 @@ fn is_line(windows: &Windows, y: u16, text: &str) -> Result<bool, Fail> {
 fn shows(windows: &Windows, texts: &[&str]) -> Result<bool, Fail> {
     let mut y = 0;
     for text in texts {
-        if !is_line(windows, y, text)? {
+        if !is_line(windows, SCREEN, y, text)? {
             return Ok(false);
         }
         y = y.saturating_add(1);
@@ -166,7 +166,7 @@ fn copy_goes_on_over_itself(rt: HostRuntime) -> Result<(), Fail> {
         windows.copywin(win, win, 0, 0, 0, 2, 0, 5, false),
         Ok(lines(0, 0, 2, 5))
     );
-    assert!(rt; shows(&windows, win, 0, "ababcd")?);
+    assert!(rt; is_line(&windows, win, 0, "ababcd")?);
     assert_eq!(rt;
         windows.copywin(win, win, 0, 0, 0, 3, 0, 2, false),
         Err(Refusal::BadRectangle)
@@ -185,9 +185,9 @@ fn windows_are_overlaid_where_both_are(rt: HostRuntime) -> Result<(), Fail> {
     let below = line_of(&mut windows, "xyzuvw")?;
     windows.table.mvwin(above, 0, 1)?;
     assert_eq!(rt; windows.overlay(above, below), Ok(lines(0, 0, 1, 3)));
-    assert!(rt; shows(&windows, below, 0, "xazbvw")?);
+    assert!(rt; is_line(&windows, below, 0, "xazbvw")?);
     assert_eq!(rt; windows.overwrite(above, below), Ok(lines(0, 0, 1, 5)));
-    assert!(rt; shows(&windows, below, 0, "xa b  ")?);
+    assert!(rt; is_line(&windows, below, 0, "xa b  ")?);
     windows.table.mvwin(above, 1, 1)?;
     assert_eq!(rt; windows.overlay(above, below), Ok(None));
     assert_eq!(rt;
