@@ -4,7 +4,7 @@ use mathlib.Core.List.{reverse_aux}
 use Rattle.std.specs.List.{AllByRecursion, last_or, list_any}
 use Rattle.std.proofs.lemmas.Bool.{eq-eqb, ne_eqb}
 use Rattle.std.proofs.lemmas.List.{append_assoc, reverse-append}
-use Rattle.stack.specs.Calls.{first_in, next_in}
+use Rattle.world.specs.calls.Stacking.{first_in, next_in}
 use Rattle.stack.specs.Nodes.{above_at, below_at, AreOnce, IsChain, IsPanel, IsThreaded}
 use Rattle.stack.specs.declared.nodes.Node.{Node}
 use Rattle.stack.proofs.Chains.{chain-back, chain-front, chain-reverse, not-first}

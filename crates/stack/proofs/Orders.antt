@@ -4,7 +4,7 @@ use mathlib.Core.List.{reverse_aux}
 use Rattle.std.specs.List.{AllByRecursion, IsDistinct, list_any}
 use Rattle.std.proofs.lemmas.Bool.{cases_eq, eq-eqb, ne_eqb, or_cases, eqb-true}
 use Rattle.std.proofs.lemmas.Map.Steps.{length-le_from_distinct_below}
-use Rattle.stack.specs.Calls.{without, first_in, next_in}
+use Rattle.world.specs.calls.Stacking.{without, first_in, next_in}
 use Rattle.stack.specs.Nodes.{AreOnce, IsOut}
 
 -- ---- outside a list

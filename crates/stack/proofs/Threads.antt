@@ -4,7 +4,7 @@ use mathlib.Core.Path.{fun_ext}
 use Rattle.std.specs.List.{AllByRecursion}
 use Rattle.std.proofs.lemmas.Bool.{cases_eq, eq-eqb, ne_eqb, cases_lt}
 use Rattle.std.proofs.lemmas.List.{get_or_past, length-reverse}
-use Rattle.stack.specs.Calls.{without}
+use Rattle.world.specs.calls.Stacking.{without}
 use Rattle.stack.specs.Nodes.{no_node, node_at, above_at, below_at, window_in, IsAlone, IsChain, IsOut, IsPanel, IsThreaded, from_bottom, from_top}
 use Rattle.stack.specs.steps.Links.{Linked, Reordered, SameWindows}
 use Rattle.stack.specs.declared.nodes.Node.{Node}

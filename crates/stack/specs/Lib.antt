@@ -1,4 +1,3 @@
-pub mod Calls
 pub mod Nodes
 pub mod Tables
 pub mod steps

@@ -5,7 +5,7 @@ use Rattle.cell.specs.declared.limits.TheConstants.{MOST_PANELS}
 use Rattle.world.specs.Panels.{Panels}
 use Rattle.stack.specs.Nodes.{from_bottom, IsThreaded, window_at, window_in}
 use Rattle.stack.specs.declared.nodes.Node.{Node}
-use Rattle.stack.specs.declared.panel.PanelId.{PanelId}
+use Rattle.world.specs.declared.panel.PanelId.{PanelId}
 
 -- the visible panels from bottom to top, and each panel's window by the panel's number
 pub record PanelTable : Type 0 where

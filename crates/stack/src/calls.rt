@@ -3,14 +3,14 @@
 ghost use Rattle.std.specs.Prelude.{◌≡◌, Some, IfOk, OnOk, OnErr};
 ghost use Rattle.std.specs.Result.{result_err};
 ghost use Rattle.cell.specs.Refusals.{RefusedBy, first_of};
-ghost use Rattle.stack.specs.Calls.{new_panel_number, missing_panel_refusal, hidden_panel_refusal, new_panel_tests, replace_panel_tests, after_new_panel, after_del_panel, after_show_panel, after_hide_panel, after_top_panel, after_bottom_panel, after_replace_panel, IsSoundOrder};
+ghost use Rattle.world.specs.calls.Stacking.{new_panel_number, missing_panel_refusal, hidden_panel_refusal, new_panel_tests, replace_panel_tests, after_new_panel, after_del_panel, after_show_panel, after_hide_panel, after_top_panel, after_bottom_panel, after_replace_panel, IsSoundOrder};
 ghost use Rattle.stack.specs.Tables.{panels};
 
 use crate::entries::{enter, free_number, holder, require_panel, require_visible, set_window};
 use crate::links::{move_to_bottom, move_to_top, put_on_top, take_out};
-use crate::panel::PanelId;
 use crate::table::Stack;
 use cell::{Refusal, WinId};
+use world::PanelId;
 
 impl Stack {
     /// Puts a window into a new panel, visible on top. The number is the least free one from 1 on.

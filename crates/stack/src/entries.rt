@@ -4,15 +4,15 @@ ghost use Rattle.std.specs.Prelude.{◌≡◌, ◌<◌, Some, IfSome, MatchOptio
 ghost use Rattle.std.specs.Option.{option_map};
 ghost use Rattle.std.specs.Result.{result_err};
 ghost use Rattle.world.specs.Panels.{is_in_panel};
-ghost use Rattle.stack.specs.Calls.{hidden_panel_refusal, is_hidden, missing_panel_refusal, new_panel_number};
+ghost use Rattle.world.specs.calls.Stacking.{hidden_panel_refusal, is_hidden, missing_panel_refusal, new_panel_number};
 ghost use Rattle.stack.specs.Nodes.{window_at, IsPanel};
 ghost use Rattle.stack.specs.Tables.{panels, table_of, IsPanelTable};
 ghost use Rattle.stack.specs.steps.Entries.{Entered, IsFree, Windowed};
 
 use crate::nodes::{Node, Nodes};
-use crate::panel::PanelId;
 use cell::{MOST_PANELS, Refusal, WinId};
 use std::alloc::AllocError;
+use world::PanelId;
 
 /// Tests that there is such a panel.
 pub fn require_panel(nodes: &Nodes, panel: PanelId) -> Result<(), Refusal>

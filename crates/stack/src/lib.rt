@@ -6,15 +6,14 @@ mod calls;
 mod entries;
 mod links;
 mod nodes;
-mod panel;
 mod queries;
 mod table;
 mod visible;
 
 pub use cell::{Refusal, WinId};
-pub use panel::PanelId;
 pub use table::Stack;
 pub use visible::Visible;
+pub use world::PanelId;
 
 #[cfg(test)]
 mod tests;

@@ -4,14 +4,14 @@ ghost use Rattle.std.specs.Prelude.{◌≡◌, ◌==◌, if◌then◌else◌, So
 ghost use Rattle.std.specs.Result.{result_err};
 ghost use Rattle.cell.specs.declared.limits.TheConstants.{MOST_PANELS};
 ghost use Rattle.world.specs.Panels.{is_in_panel};
-ghost use Rattle.stack.specs.Calls.{is_hidden, missing_panel_refusal, neighbour_refusal, panel_above, panel_below, IsSoundOrder};
+ghost use Rattle.world.specs.calls.Stacking.{is_hidden, missing_panel_refusal, neighbour_refusal, panel_above, panel_below, IsSoundOrder};
 ghost use Rattle.stack.specs.Tables.{number, panels};
 
 use crate::entries::{holder, require_panel, require_visible};
-use crate::panel::PanelId;
 use crate::table::Stack;
 use crate::visible::Visible;
 use cell::{Refusal, WinId};
+use world::PanelId;
 
 impl Stack {
     /// The panel right above a visible one, or without a panel the bottom one.

@@ -1,7 +1,7 @@
 //! The panels of a screen.
 
 ghost use Rattle.std.specs.Prelude.{◌≡◌, true};
-ghost use Rattle.stack.specs.Calls.{IsSoundOrder};
+ghost use Rattle.world.specs.calls.Stacking.{IsSoundOrder};
 ghost use Rattle.stack.specs.Tables.{panels};
 ghost use Rattle.world.specs.Panels.{no_panels};
 

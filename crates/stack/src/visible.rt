@@ -5,8 +5,8 @@ ghost use Rattle.std.specs.Iterator.{YieldsFirstBy, item_count};
 ghost use Rattle.stack.specs.Nodes.{from_bottom, from_top};
 
 use crate::nodes::Nodes;
-use crate::panel::PanelId;
 use std::marker::Model;
+use world::PanelId;
 
 /// The visible panels, one after another. Contracts see those that are left.
 #[derive(Drop)]

@@ -10,4 +10,5 @@ pub mod PictureLaws
 pub mod MoveLaws
 pub mod Sizes
 pub mod Examples
+pub mod PanelExamples
 pub mod CopyExamples

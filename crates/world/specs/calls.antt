@@ -3,6 +3,7 @@ pub mod Making
 pub mod writing
 pub mod Copies
 pub mod Marks
+pub mod Stacking
 pub mod Queries
 pub mod Refresh
 pub mod Dispatch

@@ -1,5 +1,5 @@
 use Rattle.std.proofs.Common.{◌≡◌}
-use Rattle.stack.specs.Calls.{new_panel_number}
+use Rattle.world.specs.calls.Stacking.{new_panel_number}
 use Rattle.stack.specs.Tables.{panels, table_of}
 use Rattle.stack.proofs.Numbers.{search_from}
 use Rattle.stack.proofs.entries.free_number.Given as goal

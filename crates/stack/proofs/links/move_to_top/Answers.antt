@@ -1,5 +1,5 @@
 use Rattle.std.proofs.Common.{[], ◌∷◌, ◌++◌}
-use Rattle.stack.specs.Calls.{without}
+use Rattle.world.specs.calls.Stacking.{without}
 use Rattle.stack.specs.Nodes.{from_bottom}
 use Rattle.stack.proofs.Tables.{reordered-twice}
 use Rattle.stack.proofs.links.move_to_top.Goals as goal

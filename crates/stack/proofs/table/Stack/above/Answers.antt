@@ -1,9 +1,9 @@
 use Rattle.std.proofs.Common.{◌∙◌, ap, sym, Option, Some}
 use Rattle.stack.specs.Nodes.{from_bottom}
-use Rattle.stack.specs.Calls.{panel_above}
+use Rattle.world.specs.calls.Stacking.{panel_above}
 use Rattle.stack.specs.Tables.{number, panels, PanelTable}
 use Rattle.stack.specs.declared.nodes.Node.{Node}
-use Rattle.stack.specs.declared.panel.PanelId.{PanelId}
+use Rattle.world.specs.declared.panel.PanelId.{PanelId}
 use Rattle.stack.proofs.Neighbours.{above-is, panel_or_none}
 use Rattle.stack.proofs.table.Stack.above.Goals as goal
 

@@ -1,9 +1,9 @@
 use Rattle.std.proofs.Common.{◌∙◌, ap, sym, Option, Some, None}
 use Rattle.stack.specs.Nodes.{from_bottom}
-use Rattle.stack.specs.Calls.{panel_below}
+use Rattle.world.specs.calls.Stacking.{panel_below}
 use Rattle.stack.specs.Tables.{number, panels, PanelTable}
 use Rattle.stack.specs.declared.nodes.Node.{Node}
-use Rattle.stack.specs.declared.panel.PanelId.{PanelId}
+use Rattle.world.specs.declared.panel.PanelId.{PanelId}
 use Rattle.stack.proofs.Neighbours.{below-is, last-is, panel_or_none}
 use Rattle.stack.proofs.table.Stack.below.Goals as goal
 

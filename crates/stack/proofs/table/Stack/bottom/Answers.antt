@@ -1,5 +1,5 @@
 use Rattle.std.proofs.Common.{◌∷◌, ap, ◌∙◌}
-use Rattle.stack.specs.Calls.{after_bottom_panel, without}
+use Rattle.world.specs.calls.Stacking.{after_bottom_panel, without}
 use Rattle.stack.specs.Nodes.{from_bottom}
 use Rattle.stack.specs.Tables.{panels, PanelTable}
 use Rattle.stack.proofs.Tables.{reordered-panels}

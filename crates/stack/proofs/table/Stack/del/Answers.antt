@@ -1,5 +1,5 @@
 use Rattle.std.proofs.Common.{ap, ◌∙◌}
-use Rattle.stack.specs.Calls.{after_del_panel}
+use Rattle.world.specs.calls.Stacking.{after_del_panel}
 use Rattle.stack.specs.Tables.{panels, PanelTable}
 use Rattle.stack.proofs.Tables.{deleted-panels, deleted-table}
 use Rattle.stack.proofs.table.Stack.del.Goals as goal

@@ -1,6 +1,6 @@
 use Rattle.std.proofs.Common.{◌≡◌, ◌∙◌, ap, subst, nat_eq}
 use Rattle.stack.specs.Nodes.{node_at, from_bottom}
-use Rattle.stack.specs.Calls.{is_hidden}
+use Rattle.world.specs.calls.Stacking.{is_hidden}
 use Rattle.stack.specs.Tables.{panels, PanelTable}
 use Rattle.stack.specs.declared.nodes.Node.{Node}
 use Rattle.stack.proofs.Neighbours.{hidden-is}

@@ -1,5 +1,5 @@
 use Rattle.std.proofs.Common.{subst}
-use Rattle.stack.specs.Calls.{IsSoundOrder}
+use Rattle.world.specs.calls.Stacking.{IsSoundOrder}
 use Rattle.stack.specs.Tables.{panels, PanelTable}
 use Rattle.stack.proofs.Tables.{sound}
 use Rattle.stack.proofs.table.Stack.is_sound.Goals as goal

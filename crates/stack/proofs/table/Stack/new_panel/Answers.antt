@@ -1,5 +1,5 @@
 use Rattle.std.proofs.Common.{ap, arith, rules, ◌∙◌}
-use Rattle.stack.specs.Calls.{after_new_panel}
+use Rattle.world.specs.calls.Stacking.{after_new_panel}
 use Rattle.stack.specs.Tables.{panels, PanelTable}
 use Rattle.stack.specs.steps.Entries.{IsFree}
 use Rattle.stack.proofs.Numbers.{none-has}

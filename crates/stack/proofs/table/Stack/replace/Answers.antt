@@ -1,5 +1,5 @@
 use Rattle.std.proofs.Common.{ap, arith, ◌∙◌}
-use Rattle.stack.specs.Calls.{after_replace_panel}
+use Rattle.world.specs.calls.Stacking.{after_replace_panel}
 use Rattle.stack.specs.Tables.{panels, PanelTable}
 use Rattle.stack.proofs.Numbers.{none-has}
 use Rattle.stack.proofs.Tables.{replaced-panels, replaced-table}

@@ -1,14 +1,20 @@
 -- The calls on panels: when they are refused, what they change and what they answer.
--- NetBSD panel(3): new_panel, del_panel, show_panel, hide_panel, top_panel, bottom_panel, replace_panel, panel_above, panel_below.
+-- NetBSD panel(3): new_panel, del_panel, show_panel, hide_panel, top_panel, bottom_panel, move_panel, replace_panel, panel_above,
+-- panel_below, panel_window, panel_hidden.
 -- That show_panel puts a visible panel on top too, which window a panel may have, the limit of numbers and the order of the tests are
--- Curspan's own choice. Whether a window is there, is a pad or is the standard screen, the layer that has windows tests.
-use Rattle.std.specs.Prelude.{◌≡◌, ◌≢◌, ℕ, ◌-◌, ◌≤◌, Bool, not, if◌then◌else◌, ◌==◌, Option, Some, None, is_none, IsSome, MatchOption, List, [], ◌∷◌, ◌++◌, reverse, All, AllPairs, find, ⊤}
+-- Curspan's own choice.
+use Rattle.std.specs.Prelude.{◌≡◌, ◌≢◌, ℕ, ◌-◌, ◌≤◌, Bool, false, not, if◌then◌else◌, ◌==◌, ◌&&◌, ◌||◌, Option, Some, None, is_none, IsSome, MatchOption, List, [], ◌∷◌, ◌++◌, reverse, All, AllPairs, find, ⊤}
+use Rattle.std.specs.Option.{option_map_or}
 use Rattle.std.specs.List.{filter, list_any, range_with_len}
 use Rattle.cell.specs.Refusals.{first_of}
 use Rattle.cell.specs.declared.limits.TheConstants.{MOST_PANELS}
 use Rattle.cell.specs.declared.refusal.Refusal.{Refusal}
-use Rattle.cell.specs.declared.refusal.Refusal.TheVariants.{NoSuchPanel, InPanel, Hidden, TooMany}
-use Rattle.world.specs.Panels.{Panels, panel_limit, is_in_panel, topmost}
+use Rattle.cell.specs.declared.refusal.Refusal.TheVariants.{NoSuchWindow, NoSuchPanel, OffScreen, IsPad, InPanel, Hidden, StandardScreen, TooMany}
+use Rattle.world.specs.Windows.{WindowMap, is_missing}
+use Rattle.world.specs.Panels.{Panels, panel_limit, is_in_panel, standard_screen, topmost, window_or_standard}
+use Rattle.world.specs.World.{World}
+use Rattle.world.specs.calls.Making.{after_mvwin, is_off_screen, is_pad}
+use Rattle.world.specs.calls.Affected.{has_line}
 
 -- ---- the order
 
@@ -61,6 +67,27 @@ new_panel_tests panels w = (is_in_panel panels w, InPanel) ∷ (is_none (new_pan
 abbrev pub replace_panel_tests : Panels → ℕ → ℕ → List (Bool × Refusal)
 replace_panel_tests panels p w = (is_none (panels.window p), NoSuchPanel) ∷ (is_in_panel panels w, InPanel) ∷ []
 
+-- A window that is to be put into a panel: it is there, and neither the standard screen nor a pad.
+abbrev pub window_tests : WindowMap → ℕ → List (Bool × Refusal)
+window_tests window w = (is_missing window w, NoSuchWindow) ∷ (w == standard_screen, StandardScreen) ∷ (is_pad window w, IsPad) ∷ []
+
+abbrev pub new_panel_refusal : World → ℕ → Option Refusal
+new_panel_refusal world w = first_of (window_tests world.windows.window w ++ new_panel_tests world.panels w)
+
+abbrev pub replace_panel_refusal : World → ℕ → ℕ → Option Refusal
+replace_panel_refusal world p w = first_of (
+    (is_none (world.panels.window p), NoSuchPanel)
+    ∷ window_tests world.windows.window w
+    ++ (is_in_panel world.panels w, InPanel)
+    ∷ [])
+
+-- the panel's window is moved, and lies on the screen then
+abbrev pub move_panel_refusal : World → ℕ → ℕ → ℕ → Option Refusal
+move_panel_refusal world p y x = first_of (
+    (is_none (world.panels.window p), NoSuchPanel)
+    ∷ (is_off_screen world.windows (window_or_standard world.panels (Some p)) y x, OffScreen)
+    ∷ [])
+
 -- ---- changes
 
 -- window w is in the panel p, on top
@@ -86,6 +113,26 @@ after_bottom_panel panels p = record panels { visible = p ∷ without p panels.v
 -- another window, and the same depth
 abbrev pub after_replace_panel : Panels → ℕ → ℕ → Panels
 after_replace_panel panels p w = record panels { window = given panels.window p (Some w) }
+
+-- the panel's window has another place, and the panel the same depth
+abbrev pub after_move_panel : World → ℕ → ℕ → ℕ → World
+after_move_panel world p y x = record world { windows = after_mvwin world.windows (window_or_standard world.panels (Some p)) y x }
+
+-- a call that changes panels alone
+abbrev pub with_panels : World → Panels → World
+with_panels world panels = record world { panels = panels }
+
+-- ---- lines of the screen
+
+-- the panel is visible, and its window has the line
+abbrev pub shows_line : World → ℕ → ℕ → Bool
+shows_line world p line =
+    list_any (λ q. q == p) world.panels.visible && option_map_or (has_line line) (world.windows.window (window_or_standard world.panels (Some p))) false
+
+-- The lines that an accepted call on the panel p affects: those of its window's rectangle before and after, each if the panel is visible
+-- then.
+abbrev pub panel_affects : World → World → ℕ → ℕ → Bool
+panel_affects old new p line = shows_line old p line || shows_line new p line
 
 -- ---- answers
 

@@ -1,0 +1,93 @@
+-- What the calls on panels leave and answer, and which lines they affect, for a reader of the definitions.
+use Rattle.std.proofs.Common.{◌≡◌, ℕ, true, List, [], ◌∷◌, Some, None, if◌then◌else◌, ◌==◌, ◌||◌, refl}
+use Rattle.std.specs.Prelude.{filter}
+use Rattle.std.specs.List.{range_with_len}
+use Rattle.world.specs.Windows.{window_limit}
+use Rattle.world.specs.Panels.{Panels, panel_limit}
+use Rattle.world.specs.World.{World}
+use Rattle.world.specs.calls.Stacking.{after_bottom_panel, after_del_panel, after_hide_panel, after_move_panel, after_replace_panel, after_show_panel, hidden_panel_refusal, is_hidden, move_panel_refusal, new_panel_number, new_panel_refusal, panel_above, panel_affects, panel_below, replace_panel_refusal, with_panels}
+use Rattle.cell.specs.declared.refusal.Refusal.TheVariants.{NoSuchPanel, NoSuchWindow, OffScreen, IsPad, InPanel, Hidden, StandardScreen}
+use Rattle.world.specs.declared.call.Call.TheVariants.{Making}
+use Rattle.world.specs.declared.call.Making.TheVariants.{Newwin, Newpad}
+use Rattle.world.proofs.Examples.{screen_after, win}
+
+-- windows 1 and 2 of two lines, on lines 0 and 1, and window 3 of one line, on line 3; number 4 is a pad
+unfoldable windows : World
+unfolding screen_after
+windows = screen_after (Making (Newwin 2 5 0 0) ∷ Making (Newwin 2 5 0 3) ∷ Making (Newwin 1 5 3 0) ∷ Making (Newpad 2 2) ∷ [])
+
+-- panels 1, 2 and 3 with the windows of their numbers; 3 is hidden
+three : Panels
+three = record { visible = 1 ∷ 2 ∷ []; window = λ p. if (p == 1) || ((p == 2) || (p == 3)) then Some p else None }
+
+screen : World
+screen = with_panels windows three
+
+-- ---- the order
+
+shown_on_top : ((after_show_panel three 3).visible ≡ 1 ∷ 2 ∷ 3 ∷ []) × ((after_show_panel three 1).visible ≡ 2 ∷ 1 ∷ [])
+unfolding three
+shown_on_top = (refl, refl)
+
+hidden_leaves : ((after_hide_panel three 1).visible ≡ 2 ∷ []) × (is_hidden (after_hide_panel three 1) 1 ≡ true) × ((after_hide_panel three 1).window 1 ≡ Some 1)
+unfolding three
+hidden_leaves = (refl, refl, refl)
+
+at_bottom : (after_bottom_panel three 2).visible ≡ 2 ∷ 1 ∷ []
+unfolding three
+at_bottom = refl
+
+replaced_keeps_depth : ((after_replace_panel three 1 9).visible ≡ 1 ∷ 2 ∷ []) × ((after_replace_panel three 1 9).window 1 ≡ Some 9)
+unfolding three
+replaced_keeps_depth = (refl, refl)
+
+-- a deleted panel's number is the next one
+number_again : (new_panel_number three ≡ Some 4) × (new_panel_number (after_del_panel three 2) ≡ Some 2)
+unfolding three panel_limit
+number_again = (refl, refl)
+
+neighbours : (panel_above three (Some 1) ≡ Some 2) × (panel_above three (Some 2) ≡ None) × (panel_below three (Some 1) ≡ None) × (panel_below three (Some 2) ≡ Some 1)
+unfolding three
+neighbours = (refl, refl, refl, refl)
+
+ends : (panel_above three None ≡ Some 1) × (panel_below three None ≡ Some 2)
+unfolding three
+ends = (refl, refl)
+
+-- ---- refusals
+
+hidden_has_no_depth : (hidden_panel_refusal three 3 ≡ Some Hidden) × (hidden_panel_refusal three 4 ≡ Some NoSuchPanel) × (hidden_panel_refusal three 1 ≡ None)
+unfolding three
+hidden_has_no_depth = (refl, refl, refl)
+
+no_new_panel : (new_panel_refusal screen 9 ≡ Some NoSuchWindow) × (new_panel_refusal screen 0 ≡ Some StandardScreen) × (new_panel_refusal screen 4 ≡ Some IsPad) × (new_panel_refusal screen 3 ≡ Some InPanel)
+unfolding screen windows three screen_after win window_limit panel_limit
+no_new_panel = (refl, refl, refl, refl)
+
+-- the panel is looked for before the window; a window in this very panel is in a panel
+not_replaced : (replace_panel_refusal screen 4 9 ≡ Some NoSuchPanel) × (replace_panel_refusal screen 1 9 ≡ Some NoSuchWindow) × (replace_panel_refusal screen 1 4 ≡ Some IsPad) × (replace_panel_refusal screen 1 1 ≡ Some InPanel)
+unfolding screen windows three screen_after win window_limit panel_limit
+not_replaced = (refl, refl, refl, refl)
+
+-- a hidden panel's window is moved too
+moved : (move_panel_refusal screen 3 3 5 ≡ None) × (move_panel_refusal screen 3 3 6 ≡ Some OffScreen) × (move_panel_refusal screen 4 0 0 ≡ Some NoSuchPanel)
+unfolding screen windows three screen_after win window_limit
+moved = (refl, refl, refl)
+
+-- ---- lines
+
+lines : World → World → ℕ → List ℕ
+lines old new p = filter (panel_affects old new p) (range_with_len 0 4)
+
+-- the lines of its rectangle where it was, and where it is
+lines_of_move : lines screen (after_move_panel screen 1 2 0) 1 ≡ 0 ∷ 1 ∷ 2 ∷ 3 ∷ []
+unfolding lines screen windows three screen_after win window_limit
+lines_of_move = refl
+
+no_line_of_hidden : lines screen (after_move_panel screen 3 0 0) 3 ≡ []
+unfolding lines screen windows three screen_after win window_limit
+no_line_of_hidden = refl
+
+lines_of_show : lines screen (with_panels screen (after_show_panel screen.panels 3)) 3 ≡ 3 ∷ []
+unfolding lines screen windows three screen_after win window_limit
+lines_of_show = refl
