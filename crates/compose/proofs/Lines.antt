@@ -1,0 +1,53 @@
+-- A picture is made line by line, and a line column by column.
+use Rattle.std.proofs.Common.{◌≡◌, ℕ, ◌+◌, ◌<◌, ◌≤◌, Bool, true, false, ◌==◌, ◌&&◌, nat_le, nat_lt, if◌then◌else◌, length, inl, inr, refl, sym, ap, ◌∙◌, arith}
+use Rattle.std.proofs.lemmas.Bool.{cases_eq, eq-eqb, ne_eqb, le-leb, lt-ltb}
+use Rattle.cell.specs.Shown.{Shown, shown_blank}
+use Rattle.cell.specs.Pictures.{Picture, HasSize, picture_of, line_of, shown_at, with_cell}
+use Rattle.cell.proofs.PictureLemmas.{HasSize-lines_from, HasSize-with_cell, same_pictures, cell_or-lines_from}
+use Rattle.cell.proofs.Fills.{filled-more}
+
+-- the columns before x of line y are made, and all others are those of the old picture
+pub record LineShown (f : ℕ → Shown) (lines columns y x : ℕ) (old picture : Picture) : Type 0 where
+  pub shown : (v u : ℕ) → shown_at picture (v, u) ≡ (if (v == y) && (nat_le 0 u && nat_lt u x) then f u else shown_at old (v, u))
+  pub size : HasSize lines columns picture
+
+-- the lines before y are made
+pub record ShownAbove (f : ℕ → ℕ → Shown) (lines columns y : ℕ) (picture : Picture) : Type 0 where
+  pub size : HasSize lines columns picture
+  pub shown : (v u : ℕ) → v < y → u < columns → shown_at picture (v, u) ≡ f v u
+
+-- one column more
+pub LineShown-more : (f : ℕ → Shown) (lines columns y x : ℕ) (old now : Picture) → LineShown f lines columns y x old now → y < length now → x < length (line_of now y)
+    → LineShown f lines columns y (x + 1) old (with_cell now (y, x) (f x))
+LineShown-more f lines columns y x old now so_far below left = record {
+  shown = filled-more shown_blank now old y 0 x f below left (omega arith) so_far.shown;
+  size = HasSize-with_cell (y, x) (f x) so_far.size;
+}
+
+inside-piece : (line left right : Bool) (one other : Shown) → line ≡ true → left ≡ true → right ≡ true → (if line && (left && right) then one else other) ≡ one
+inside-piece line left right one other l c r = rw (l, c, r) refl
+
+outside-line : (line rest : Bool) (one other : Shown) → line ≡ false → (if line && rest then one else other) ≡ other
+outside-line line rest one other l = rw l refl
+
+-- one line more
+pub ShownAbove-more : (f : ℕ → ℕ → Shown) (lines columns y : ℕ) (picture now : Picture) → ShownAbove f lines columns y picture
+    → ((v u : ℕ) → shown_at now (v, u) ≡ (if (v == y) && (nat_le 0 u && nat_lt u columns) then f y u else shown_at picture (v, u)))
+    → HasSize lines columns now → ShownAbove f lines columns (y + 1) now
+ShownAbove-more f lines columns y picture now so_far line size = record {
+  size = size;
+  shown = λ v u before left. elim (cases_eq v y) [
+    | inl same ↦
+        let from : 0 ≤ u = omega arith in
+        line v u ∙ inside-piece (v == y) (nat_le 0 u) (nat_lt u columns) (f y u) (shown_at picture (v, u)) (eq-eqb v y same) (le-leb 0 u from) (lt-ltb u columns left)
+        ∙ ap (λ k. f k u) (sym same)
+    | inr other ↦
+        line v u ∙ outside-line (v == y) (nat_le 0 u && nat_lt u columns) (f y u) (shown_at picture (v, u)) (ne_eqb v y other)
+        ∙ so_far.shown v u (omega arith) left
+  ];
+}
+
+pub shown-all : (f : ℕ → ℕ → Shown) (lines columns y : ℕ) (picture : Picture) → lines ≤ y → ShownAbove f lines columns y picture → picture ≡ picture_of lines columns f
+shown-all f lines columns y picture all so_far =
+    same_pictures shown_blank so_far.size (HasSize-lines_from lines columns f) (λ v u below left.
+    so_far.shown v u (omega arith) left ∙ sym (cell_or-lines_from shown_blank lines columns f v u below left))

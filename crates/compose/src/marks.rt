@@ -1,0 +1,58 @@
+//! The marks and clear flags of the windows that make up the picture.
+
+ghost use Rattle.std.specs.Prelude.{◌≡◌, ◌∷◌, []};
+ghost use Rattle.std.specs.List.{list_any};
+ghost use Rattle.world.specs.Panels.{standard_screen, windows_from_top};
+ghost use Rattle.world.specs.Sound.{AreSoundWindows};
+ghost use Rattle.world.specs.calls.Refresh.{asks_for_clear, with_unmarked};
+ghost use Rattle.grids.specs.Tables.{windows as windows_of};
+ghost use Rattle.stack.specs.Tables.{panels};
+
+use crate::search::STANDARD;
+use cell::WinId;
+use grids::Grids;
+use stack::Stack;
+
+/// Whether the standard screen or a visible panel's window asks for a clear screen.
+pub fn clear_asked(table: &Grids, stack: &Stack) -> bool
+    ensures { result ≡ list_any (asks_for_clear (windows_of table.now).window) (standard_screen ∷ windows_from_top (panels stack.now)) }
+{
+    for panel in stack.visible_from_top() {
+        if let Ok(win) = stack.window(panel) {
+            if asks(table, win) {
+                return true;
+            }
+        }
+    }
+    asks(table, STANDARD)
+}
+
+/// Takes the marks and clear flags of the standard screen and of the windows of visible panels away.
+pub fn unmark_composed(table: &mut Grids, stack: &Stack)
+    ensures unmarked { windows_of table.new ≡ record (windows_of table.old) { window = with_unmarked (windows_of table.old).window (standard_screen ∷ windows_from_top (panels stack.now)) } }
+    ensures sound { AreSoundWindows (windows_of table.new) }
+{
+    unmark(table, STANDARD);
+    for panel in stack.visible_from_top() {
+        if let Ok(win) = stack.window(panel) {
+            unmark(table, win);
+        }
+    }
+}
+
+/// Whether a window is there and asks for a clear screen.
+fn asks(table: &Grids, win: WinId) -> bool
+    ensures { result ≡ asks_for_clear (windows_of table.now).window win.0 }
+{
+    table.has_window(win) && table.settings(win).clear
+}
+
+/// Takes the marks and the clear flag of a window away, if it is there.
+fn unmark(table: &mut Grids, win: WinId)
+    ensures unmarked { windows_of table.new ≡ record (windows_of table.old) { window = with_unmarked (windows_of table.old).window (win.0 ∷ []) } }
+    ensures sound { AreSoundWindows (windows_of table.new) }
+{
+    if table.has_window(win) {
+        table.unmark(win);
+    }
+}
