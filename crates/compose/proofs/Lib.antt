@@ -1,3 +1,4 @@
+pub mod SoundPanels
 pub mod Standard
 pub mod Lines
 pub mod Unmarking

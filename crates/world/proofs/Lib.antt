@@ -9,6 +9,7 @@ pub mod AncestorLaws
 pub mod PictureLaws
 pub mod MoveLaws
 pub mod Sizes
+pub mod PlaceLaws
 pub mod Examples
 pub mod PanelExamples
 pub mod CopyExamples

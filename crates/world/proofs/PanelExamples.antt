@@ -5,7 +5,7 @@ use Rattle.std.specs.List.{range_with_len}
 use Rattle.world.specs.Windows.{window_limit}
 use Rattle.world.specs.Panels.{Panels, panel_limit}
 use Rattle.world.specs.World.{World}
-use Rattle.world.specs.calls.Stacking.{after_bottom_panel, after_del_panel, after_hide_panel, after_move_panel, after_replace_panel, after_show_panel, hidden_panel_refusal, is_hidden, move_panel_refusal, new_panel_number, new_panel_refusal, panel_above, panel_affects, panel_below, replace_panel_refusal, with_panels}
+use Rattle.world.specs.calls.Stacking.{after_bottom_panel, after_del_panel, after_hide_panel, after_move_panel, after_replace_panel, after_show_panel, hidden_panel_refusal, is_hidden, move_panel_refusal, new_panel_number, new_panel_refusal, panel_above, panel_affects, panel_below, replace_panel_refusal}
 use Rattle.cell.specs.declared.refusal.Refusal.TheVariants.{NoSuchPanel, NoSuchWindow, OffScreen, IsPad, InPanel, Hidden, StandardScreen}
 use Rattle.world.specs.declared.call.Call.TheVariants.{Making}
 use Rattle.world.specs.declared.call.Making.TheVariants.{Newwin, Newpad}
@@ -21,7 +21,7 @@ three : Panels
 three = record { visible = 1 ∷ 2 ∷ []; window = λ p. if (p == 1) || ((p == 2) || (p == 3)) then Some p else None }
 
 screen : World
-screen = with_panels windows three
+screen = record windows { panels = three }
 
 -- ---- the order
 
@@ -60,17 +60,17 @@ hidden_has_no_depth : (hidden_panel_refusal three 3 ≡ Some Hidden) × (hidden_
 unfolding three
 hidden_has_no_depth = (refl, refl, refl)
 
-no_new_panel : (new_panel_refusal screen 9 ≡ Some NoSuchWindow) × (new_panel_refusal screen 0 ≡ Some StandardScreen) × (new_panel_refusal screen 4 ≡ Some IsPad) × (new_panel_refusal screen 3 ≡ Some InPanel)
+no_new_panel : (new_panel_refusal screen.windows.window three 9 ≡ Some NoSuchWindow) × (new_panel_refusal screen.windows.window three 0 ≡ Some StandardScreen) × (new_panel_refusal screen.windows.window three 4 ≡ Some IsPad) × (new_panel_refusal screen.windows.window three 3 ≡ Some InPanel)
 unfolding screen windows three screen_after win window_limit panel_limit
 no_new_panel = (refl, refl, refl, refl)
 
 -- the panel is looked for before the window; a window in this very panel is in a panel
-not_replaced : (replace_panel_refusal screen 4 9 ≡ Some NoSuchPanel) × (replace_panel_refusal screen 1 9 ≡ Some NoSuchWindow) × (replace_panel_refusal screen 1 4 ≡ Some IsPad) × (replace_panel_refusal screen 1 1 ≡ Some InPanel)
+not_replaced : (replace_panel_refusal screen.windows.window three 4 9 ≡ Some NoSuchPanel) × (replace_panel_refusal screen.windows.window three 1 9 ≡ Some NoSuchWindow) × (replace_panel_refusal screen.windows.window three 1 4 ≡ Some IsPad) × (replace_panel_refusal screen.windows.window three 1 1 ≡ Some InPanel)
 unfolding screen windows three screen_after win window_limit panel_limit
 not_replaced = (refl, refl, refl, refl)
 
 -- a hidden panel's window is moved too
-moved : (move_panel_refusal screen 3 3 5 ≡ None) × (move_panel_refusal screen 3 3 6 ≡ Some OffScreen) × (move_panel_refusal screen 4 0 0 ≡ Some NoSuchPanel)
+moved : (move_panel_refusal screen.windows three 3 3 5 ≡ None) × (move_panel_refusal screen.windows three 3 3 6 ≡ Some OffScreen) × (move_panel_refusal screen.windows three 4 0 0 ≡ Some NoSuchPanel)
 unfolding screen windows three screen_after win window_limit
 moved = (refl, refl, refl)
 
@@ -80,14 +80,14 @@ lines : World → World → ℕ → List ℕ
 lines old new p = filter (panel_affects old new p) (range_with_len 0 4)
 
 -- the lines of its rectangle where it was, and where it is
-lines_of_move : lines screen (after_move_panel screen 1 2 0) 1 ≡ 0 ∷ 1 ∷ 2 ∷ 3 ∷ []
+lines_of_move : lines screen (record screen { windows = after_move_panel screen.windows three 1 2 0 }) 1 ≡ 0 ∷ 1 ∷ 2 ∷ 3 ∷ []
 unfolding lines screen windows three screen_after win window_limit
 lines_of_move = refl
 
-no_line_of_hidden : lines screen (after_move_panel screen 3 0 0) 3 ≡ []
+no_line_of_hidden : lines screen (record screen { windows = after_move_panel screen.windows three 3 0 0 }) 3 ≡ []
 unfolding lines screen windows three screen_after win window_limit
 no_line_of_hidden = refl
 
-lines_of_show : lines screen (with_panels screen (after_show_panel screen.panels 3)) 3 ≡ 3 ∷ []
+lines_of_show : lines screen (record screen { panels = after_show_panel three 3 }) 3 ≡ 3 ∷ []
 unfolding lines screen windows three screen_after win window_limit
 lines_of_show = refl

@@ -10,7 +10,7 @@ use Rattle.cell.specs.Refusals.{first_of}
 use Rattle.cell.specs.declared.limits.TheConstants.{MOST_PANELS}
 use Rattle.cell.specs.declared.refusal.Refusal.{Refusal}
 use Rattle.cell.specs.declared.refusal.Refusal.TheVariants.{NoSuchWindow, NoSuchPanel, OffScreen, IsPad, InPanel, Hidden, StandardScreen, TooMany}
-use Rattle.world.specs.Windows.{WindowMap, is_missing}
+use Rattle.world.specs.Windows.{WindowMap, Windows, is_missing}
 use Rattle.world.specs.Panels.{Panels, panel_limit, is_in_panel, standard_screen, topmost, window_or_standard}
 use Rattle.world.specs.World.{World}
 use Rattle.world.specs.calls.Making.{after_mvwin, is_off_screen, is_pad}
@@ -71,21 +71,21 @@ replace_panel_tests panels p w = (is_none (panels.window p), NoSuchPanel) ∷ (i
 abbrev pub window_tests : WindowMap → ℕ → List (Bool × Refusal)
 window_tests window w = (is_missing window w, NoSuchWindow) ∷ (w == standard_screen, StandardScreen) ∷ (is_pad window w, IsPad) ∷ []
 
-abbrev pub new_panel_refusal : World → ℕ → Option Refusal
-new_panel_refusal world w = first_of (window_tests world.windows.window w ++ new_panel_tests world.panels w)
+abbrev pub new_panel_refusal : WindowMap → Panels → ℕ → Option Refusal
+new_panel_refusal window panels w = first_of (window_tests window w ++ new_panel_tests panels w)
 
-abbrev pub replace_panel_refusal : World → ℕ → ℕ → Option Refusal
-replace_panel_refusal world p w = first_of (
-    (is_none (world.panels.window p), NoSuchPanel)
-    ∷ window_tests world.windows.window w
-    ++ (is_in_panel world.panels w, InPanel)
+abbrev pub replace_panel_refusal : WindowMap → Panels → ℕ → ℕ → Option Refusal
+replace_panel_refusal window panels p w = first_of (
+    (is_none (panels.window p), NoSuchPanel)
+    ∷ window_tests window w
+    ++ (is_in_panel panels w, InPanel)
     ∷ [])
 
 -- the panel's window is moved, and lies on the screen then
-abbrev pub move_panel_refusal : World → ℕ → ℕ → ℕ → Option Refusal
-move_panel_refusal world p y x = first_of (
-    (is_none (world.panels.window p), NoSuchPanel)
-    ∷ (is_off_screen world.windows (window_or_standard world.panels (Some p)) y x, OffScreen)
+abbrev pub move_panel_refusal : Windows → Panels → ℕ → ℕ → ℕ → Option Refusal
+move_panel_refusal windows panels p y x = first_of (
+    (is_none (panels.window p), NoSuchPanel)
+    ∷ (is_off_screen windows (window_or_standard panels (Some p)) y x, OffScreen)
     ∷ [])
 
 -- ---- changes
@@ -115,12 +115,8 @@ abbrev pub after_replace_panel : Panels → ℕ → ℕ → Panels
 after_replace_panel panels p w = record panels { window = given panels.window p (Some w) }
 
 -- the panel's window has another place, and the panel the same depth
-abbrev pub after_move_panel : World → ℕ → ℕ → ℕ → World
-after_move_panel world p y x = record world { windows = after_mvwin world.windows (window_or_standard world.panels (Some p)) y x }
-
--- a call that changes panels alone
-abbrev pub with_panels : World → Panels → World
-with_panels world panels = record world { panels = panels }
+abbrev pub after_move_panel : Windows → Panels → ℕ → ℕ → ℕ → Windows
+after_move_panel windows panels p y x = after_mvwin windows (window_or_standard panels (Some p)) y x
 
 -- ---- lines of the screen
 

@@ -1,0 +1,81 @@
+-- Panels stay sound: each has a window that is there, and is neither a pad nor the standard screen.
+use Rattle.std.proofs.Common.{◌≡◌, ◌≢◌, ℕ, Bool, true, false, if◌then◌else◌, ◌==◌, Option, Some, None, Result, Ok, Err, [], ◌∷◌, refl, sym, ap, subst, ◌∙◌}
+use Rattle.std.specs.Prelude.{IfOk, OnErr, OnOk, IsSome, IsSomeAnd, MatchOption, is_none, ⊤}
+use Rattle.std.specs.Option.{option_map_or}
+use Rattle.cell.specs.Pictures.{Place}
+use Rattle.cell.specs.Refusals.{first_of}
+use Rattle.cell.specs.declared.refusal.Refusal.{Refusal}
+use Rattle.cell.specs.declared.refusal.Refusal.TheVariants.{NoSuchWindow, StandardScreen, IsPad}
+use Rattle.world.specs.Windows.{Window, WindowMap}
+use Rattle.world.specs.Panels.{Panels, standard_screen}
+use Rattle.world.specs.Sound.{AreSoundPanels, IsSoundPanel}
+use Rattle.world.specs.calls.Stacking.{IsSoundEntry, IsSoundOrder, after_new_panel, after_replace_panel, given, window_tests}
+use Rattle.world.specs.declared.panel.PanelId.{PanelId}
+use Rattle.stack.specs.Tables.{PanelTable, panels}
+
+-- a window that may be in a panel
+abbrev pub MayBeIn : WindowMap → ℕ → Type 0
+MayBeIn window w = IsSomeAnd (window w) (λ a. IsSome a.place) × (w ≢ standard_screen)
+
+module _ (window : WindowMap) where
+  pub window-of : (ps : Panels) (p w : ℕ) → AreSoundPanels window ps → ps.window p ≡ Some w → MayBeIn window w
+  window-of ps p w h is =
+      let entry : IsSoundPanel window ps p w = subst (λ o. MatchOption o ⊤ (IsSoundPanel window ps p)) is (h.each p) in
+      (entry.window_is, entry.not_standard)
+
+  sound-entry : (ps : Panels) (p : ℕ) (o : Option ℕ) → ps.window p ≡ o → ((w : ℕ) → ps.window p ≡ Some w → MayBeIn window w)
+      → MatchOption o ⊤ (IsSoundEntry ps p) → MatchOption o ⊤ (IsSoundPanel window ps p)
+  sound-entry ps p None is may h = h
+  sound-entry ps p (Some w) is may h = record {
+    from_one = h.from_one;
+    number = h.number;
+    window_is = (may w is).0;
+    not_standard = (may w is).1;
+    alone = h.alone;
+  }
+
+  -- an order of panels whose windows may be in panels
+  pub sound-order : (ps : Panels) → IsSoundOrder ps → ((p w : ℕ) → ps.window p ≡ Some w → MayBeIn window w) → AreSoundPanels window ps
+  sound-order ps h may = record { once = h.once; visible = h.visible; each = λ p. sound-entry ps p (ps.window p) refl (may p) (h.each p) }
+
+  -- another order of the same panels
+  pub sound-reordered : (old new : Panels) → AreSoundPanels window old → IsSoundOrder new → new.window ≡ old.window → AreSoundPanels window new
+  sound-reordered old new h order same = sound-order new order (λ p w is. window-of old p w h (ap (λ (f : ℕ → Option ℕ). f p) (sym same) ∙ is))
+
+  given-case : (b : Bool) (o given : Option ℕ) (v : ℕ) → (if b then given else o) ≡ Some v → (given ≡ Some v → MayBeIn window v) → (o ≡ Some v → MayBeIn window v) → MayBeIn window v
+  given-case true o given v is new old = new is
+  given-case false o given v is new old = old is
+
+  -- the panel p has another window, or none
+  pub sound-given : (old new : Panels) (p : ℕ) (w : Option ℕ) → AreSoundPanels window old → IsSoundOrder new → new.window ≡ given old.window p w
+      → ((v : ℕ) → w ≡ Some v → MayBeIn window v) → AreSoundPanels window new
+  sound-given old new p w h order same may = sound-order new order (λ q v is.
+      given-case (q == p) (old.window q) w v (ap (λ (f : ℕ → Option ℕ). f q) (sym same) ∙ is) (may v) (window-of old q v h))
+
+  place-there : (place : Option Place) (e : Refusal) → (if is_none place then Some e else None) ≡ None → IsSome place
+  place-there None e h = cc
+  place-there (Some p) e h = refl
+
+  tests-passed : (o : Option Window) (b : Bool) → first_of ((is_none o, NoSuchWindow) ∷ (b, StandardScreen) ∷ (option_map_or (λ a. is_none a.place) o false, IsPad) ∷ []) ≡ None
+      → (b ≡ false) × IsSomeAnd o (λ a. IsSome a.place)
+  tests-passed None b h = cc
+  tests-passed (Some a) true h = cc
+  tests-passed (Some a) false h = (refl, place-there a.place IsPad h)
+
+  pub may-be-in : (w : ℕ) → first_of (window_tests window w) ≡ None → MayBeIn window w
+  may-be-in w h = let both = tests-passed (window w) (w == standard_screen) h in (both.1, λ same. let off = both.0 in cc)
+
+  some-is : (w v : ℕ) → MayBeIn window w → Some w ≡ Some v → MayBeIn window v
+  some-is w v may is = let same : w ≡ v = cc in subst (MayBeIn window) same may
+
+  pub sound-new : (old new : PanelTable) (w : ℕ) (r : Result PanelId Refusal) → AreSoundPanels window (panels old) → IsSoundOrder (panels new) → MayBeIn window w
+      → IfOk r (λ p. panels new ≡ after_new_panel (panels old) p.0 w) → OnErr r (new ≡ old) → AreSoundPanels window (panels new)
+  sound-new old new w (Ok p) h order may made unchanged =
+      sound-given (panels old) (panels new) p.0 (Some w) h order (ap (λ ps. ps.window) made) (λ v is. some-is w v may is)
+  sound-new old new w (Err e) h order may made unchanged = subst (λ t. AreSoundPanels window (panels t)) (sym unchanged) h
+
+  pub sound-replaced : {T : Type 0} (old new : PanelTable) (p w : ℕ) (r : Result T Refusal) → AreSoundPanels window (panels old) → IsSoundOrder (panels new) → MayBeIn window w
+      → OnOk r (panels new ≡ after_replace_panel (panels old) p w) → OnErr r (new ≡ old) → AreSoundPanels window (panels new)
+  sound-replaced old new p w (Ok done) h order may replaced unchanged =
+      sound-given (panels old) (panels new) p (Some w) h order (ap (λ ps. ps.window) replaced) (λ v is. some-is w v may is)
+  sound-replaced old new p w (Err e) h order may replaced unchanged = subst (λ t. AreSoundPanels window (panels t)) (sym unchanged) h

@@ -1,0 +1,132 @@
+//! The calls for which windows and panels have to be looked at together.
+
+ghost use Rattle.std.specs.Prelude.{◌≡◌, Some, IfOk, OnOk, OnErr};
+ghost use Rattle.std.specs.Result.{result_err};
+ghost use Rattle.cell.specs.Refusals.{RefusedBy, first_of};
+ghost use Rattle.world.specs.Panels.{is_in_panel};
+ghost use Rattle.world.specs.Sound.{AreSoundPanels, AreSoundWindows};
+ghost use Rattle.world.specs.calls.Making.{after_delwin, after_mvwin, delwin_refusal, mvwin_refusal};
+ghost use Rattle.world.specs.calls.Stacking.{after_move_panel, after_new_panel, after_replace_panel, move_panel_refusal, new_panel_number, new_panel_refusal, replace_panel_refusal, window_tests};
+ghost use Rattle.grids.specs.Tables.{windows as windows_of};
+ghost use Rattle.stack.specs.Tables.{panels};
+
+use crate::search::STANDARD;
+use cell::{Refusal, WinId};
+use grids::Grids;
+use stack::Stack;
+use world::PanelId;
+
+/// Puts a window into a new panel, visible on top. The number is the least free one from 1 on.
+///
+/// # Errors
+/// `NoSuchWindow`, `StandardScreen`, `IsPad`, `InPanel`, `TooMany`, `NoMemory`.
+pub fn new_panel(table: &Grids, stack: &mut Stack, win: WinId) -> Result<PanelId, Refusal>
+    requires { AreSoundPanels (windows_of table.now).window (panels stack.old) }
+    ensures refused { RefusedBy (new_panel_refusal (windows_of table.now).window (panels stack.old) win.0) result }
+    ensures number { IfOk result (λ p. new_panel_number (panels stack.old) ≡ Some p.0) }
+    ensures made { IfOk result (λ p. panels stack.new ≡ after_new_panel (panels stack.old) p.0 win.0) }
+    ensures unchanged { OnErr result (stack.new ≡ stack.old) }
+    ensures sound { AreSoundPanels (windows_of table.now).window (panels stack.new) }
+{
+    require_window(table, win)?;
+    stack.new_panel(win)
+}
+
+/// Gives a panel another window. The panel keeps its depth, or stays hidden.
+///
+/// # Errors
+/// `NoSuchPanel`, `NoSuchWindow`, `StandardScreen`, `IsPad`, `InPanel`.
+pub fn replace_panel(
+    table: &Grids,
+    stack: &mut Stack,
+    panel: PanelId,
+    win: WinId,
+) -> Result<(), Refusal>
+    requires { AreSoundPanels (windows_of table.now).window (panels stack.old) }
+    ensures refused { result_err result ≡ replace_panel_refusal (windows_of table.now).window (panels stack.old) panel.0 win.0 }
+    ensures replaced { OnOk result (panels stack.new ≡ after_replace_panel (panels stack.old) panel.0 win.0) }
+    ensures unchanged { OnErr result (stack.new ≡ stack.old) }
+    ensures sound { AreSoundPanels (windows_of table.now).window (panels stack.new) }
+{
+    stack.window(panel)?;
+    require_window(table, win)?;
+    stack.replace(panel, win)
+}
+
+/// Moves the window of a panel, visible or hidden, to a place of the screen.
+///
+/// # Errors
+/// `NoSuchPanel`, `OffScreen`.
+pub fn move_panel(
+    table: &mut Grids,
+    stack: &Stack,
+    panel: PanelId,
+    y: u16,
+    x: u16,
+) -> Result<(), Refusal>
+    requires { AreSoundPanels (windows_of table.old).window (panels stack.now) }
+    ensures refused { result_err result ≡ move_panel_refusal (windows_of table.old) (panels stack.now) panel.0 y x }
+    ensures moved { OnOk result (windows_of table.new ≡ after_move_panel (windows_of table.old) (panels stack.now) panel.0 y x) }
+    ensures unchanged { OnErr result (table.new ≡ table.old) }
+    ensures sound { AreSoundWindows (windows_of table.new) }
+{
+    prove!(table.has_window(STANDARD));
+    let win = stack.window(panel)?;
+    table.mvwin(win, y, x)
+}
+
+/// Moves a window that is in no panel to a place of the screen.
+///
+/// # Errors
+/// `NoSuchWindow`, `StandardScreen`, `IsPad`, `InPanel`, `OffScreen`.
+pub fn move_window(
+    table: &mut Grids,
+    stack: &Stack,
+    win: WinId,
+    y: u16,
+    x: u16,
+) -> Result<(), Refusal>
+    requires { AreSoundPanels (windows_of table.old).window (panels stack.now) }
+    ensures refused { result_err result ≡ mvwin_refusal (windows_of table.old) (is_in_panel (panels stack.now) win.0) win.0 y x }
+    ensures moved { OnOk result (windows_of table.new ≡ after_mvwin (windows_of table.old) win.0 y x) }
+    ensures unchanged { OnErr result (table.new ≡ table.old) }
+    ensures sound { AreSoundWindows (windows_of table.new) }
+{
+    prove!(table.has_window(STANDARD));
+    if stack.panel_of(win).is_some() {
+        return Err(Refusal::InPanel);
+    }
+    table.mvwin(win, y, x)
+}
+
+/// Deletes a window or pad that is in no panel.
+///
+/// # Errors
+/// `NoSuchWindow`, `StandardScreen`, `InPanel`, `HasDerived`.
+pub fn delete_window(table: &mut Grids, stack: &Stack, win: WinId) -> Result<(), Refusal>
+    requires { AreSoundPanels (windows_of table.old).window (panels stack.now) }
+    ensures refused { result_err result ≡ delwin_refusal (windows_of table.old) (is_in_panel (panels stack.now) win.0) win.0 }
+    ensures deleted { OnOk result (windows_of table.new ≡ after_delwin (windows_of table.old) win.0) }
+    ensures unchanged { OnErr result (table.new ≡ table.old) }
+    ensures sound { AreSoundWindows (windows_of table.new) }
+{
+    prove!(table.has_window(STANDARD));
+    if stack.panel_of(win).is_some() {
+        return Err(Refusal::InPanel);
+    }
+    table.delwin(win)
+}
+
+/// Tests that there is such a window, and that it may be in a panel.
+fn require_window(table: &Grids, win: WinId) -> Result<(), Refusal>
+    ensures { result_err result ≡ first_of (window_tests (windows_of table.now).window win.0) }
+{
+    if !table.has_window(win) {
+        return Err(Refusal::NoSuchWindow);
+    }
+    if win == STANDARD {
+        return Err(Refusal::StandardScreen);
+    }
+    table.getbegyx(win)?;
+    Ok(())
+}
