@@ -1,3 +1,5 @@
+pub mod DeskLemmas
+pub mod Composed
 pub mod SoundPanels
 pub mod Standard
 pub mod Lines

@@ -1,11 +1,14 @@
 //! Panels over windows: what a search from the top finds at each place of the screen, and the picture that it makes.
 #![tactic(auto)]
 
+mod desk;
+mod dispatch;
 mod marks;
 mod panels;
 mod picture;
 mod search;
 
+pub use desk::Desk;
 pub use marks::{clear_asked, unmark_composed};
 pub use panels::{delete_window, move_panel, move_window, new_panel, replace_panel};
 pub use picture::show_picture;

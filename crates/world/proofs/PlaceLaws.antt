@@ -33,7 +33,7 @@ same_mapped : (o : Option Window) (change : Window → Window) → ((a : Window)
 same_mapped None change h = refl
 same_mapped (Some a) change h = h a
 
-same_if : (b : Bool) (o : Option Window) (change : Window → Window) → ((a : Window) → is_some (change a).place ≡ is_some a.place)
+pub same_if : (b : Bool) (o : Option Window) (change : Window → Window) → ((a : Window) → is_some (change a).place ≡ is_some a.place)
     → has_place (if b then option_map change o else o) ≡ has_place o
 same_if true o change h = same_mapped o change h
 same_if false o change h = refl

@@ -1,0 +1,73 @@
+-- The virtual screen stays sound where it takes the picture of windows and panels.
+use Rattle.std.proofs.Common.{◌≡◌, ℕ, ◌+◌, ◌<◌, ◌≤◌, Bool, true, ◌==◌, Option, Some, None, List, refl, ap, ◌∙◌, arith}
+use Rattle.std.specs.Prelude.{IsSomeAnd, MatchOption, is_some, unwrap_or, ⊤}
+use Rattle.std.specs.List.{list_any}
+use Rattle.std.specs.Option.{option_map_or}
+use Rattle.cell.specs.Pictures.{Picture, Place, origin, AreShown, picture_of}
+use Rattle.cell.specs.Shown.{Pairs, Shown}
+use Rattle.cell.proofs.PictureLemmas.{HasSize-lines_from}
+use Rattle.world.specs.Windows.{Window, Windows}
+use Rattle.world.specs.Panels.{Panels, cursor_from, cursor_of_topmost, screen_place, standard_screen, topmost, window_or_standard}
+use Rattle.world.specs.World.{VirtualScreen}
+use Rattle.world.specs.Sound.{AreSoundPanels, AreSoundWindows, IsSound, IsSoundPanel, IsSoundWindow, IsStandardScreen}
+use Rattle.world.specs.calls.Refresh.{unmarked, with_unmarked}
+use Rattle.world.proofs.PlaceLaws.{has_place, panels-kept, same_if, there-true}
+use Rattle.grids.specs.Tables.{WindowTable, windows}
+use Rattle.stack.specs.Tables.{PanelTable, panels}
+use Rattle.compose.specs.Desks.{world}
+use Rattle.compose.proofs.DeskLemmas.{desk_of}
+
+-- ---- the cursor
+
+standard-there : (ws : Windows) (o : Option Window) → IsSomeAnd o (IsStandardScreen ws) → has_place o ≡ true
+standard-there ws None h = elim h [ ]
+standard-there ws (Some a) h = ap (λ p. is_some p) h.place
+
+panel-there : (ws : Windows) (ps : Panels) (p : ℕ) (o : Option ℕ) → AreSoundWindows ws → MatchOption o ⊤ (IsSoundPanel ws.window ps p) → has_place (ws.window (unwrap_or o standard_screen)) ≡ true
+panel-there ws ps p None sound h = standard-there ws (ws.window standard_screen) sound.standard
+panel-there ws ps p (Some w) sound h = there-true (ws.window w) h.window_is
+
+top-there : (ws : Windows) (ps : Panels) (o : Option ℕ) → AreSoundWindows ws → AreSoundPanels ws.window ps → has_place (ws.window (window_or_standard ps o)) ≡ true
+top-there ws ps None sound h = standard-there ws (ws.window standard_screen) sound.standard
+top-there ws ps (Some p) sound h = panel-there ws ps p (ps.window p) sound (h.each p)
+
+placed-cursor : (lines columns : ℕ) (place : Option Place) (height width : ℕ) (cursor : Place) → MatchOption place ⊤ (λ p. (p.0 + height ≤ lines) × (p.1 + width ≤ columns))
+    → is_some place ≡ true → cursor.0 < height → cursor.1 < width → ((unwrap_or place origin).0 + cursor.0 < lines) × ((unwrap_or place origin).1 + cursor.1 < columns)
+placed-cursor lines columns None height width cursor on there line column = cc
+placed-cursor lines columns (Some p) height width cursor on there line column =
+    let down = on.0 in
+    let right = on.1 in
+    (omega arith, omega arith)
+
+cursor-in : (ws : Windows) (w : ℕ) (o : Option Window) → MatchOption o ⊤ (IsSoundWindow ws w) → has_place o ≡ true
+    → ((option_map_or (cursor_from (option_map_or screen_place o origin)) o origin).0 < ws.lines) × ((option_map_or (cursor_from (option_map_or screen_place o origin)) o origin).1 < ws.columns)
+cursor-in ws w None h there = cc
+cursor-in ws w (Some a) h there = placed-cursor ws.lines ws.columns a.place a.lines a.columns a.settings.cursor h.on_screen there h.settings.cursor_line h.settings.cursor_column
+
+pub cursor-within : (ws : Windows) (ps : Panels) → AreSoundWindows ws → AreSoundPanels ws.window ps → ((cursor_of_topmost ws.window ps).0 < ws.lines) × ((cursor_of_topmost ws.window ps).1 < ws.columns)
+cursor-within ws ps sound h =
+    let w : ℕ = window_or_standard ps (topmost ps) in
+    cursor-in ws w (ws.window w) (sound.each w) (top-there ws ps (topmost ps) sound h)
+
+-- ---- the desk
+
+pub IsSound-composed : (old new : WindowTable) (ps : PanelTable) (pairs : Pairs) (virtual : VirtualScreen) (picture : Picture) (f : ℕ → ℕ → Shown) (cursor : Place) (clear : Bool) (composed : List ℕ)
+    → IsSound (world (desk_of old ps pairs virtual)) → AreSoundWindows (windows new) → windows new ≡ record (windows old) { window = with_unmarked (windows old).window composed }
+    → picture ≡ picture_of old.lines old.columns f → AreShown picture → cursor ≡ cursor_of_topmost (windows old).window (panels ps)
+    → IsSound (world (desk_of new ps pairs (record { picture = picture; cursor = cursor; clear = clear })))
+IsSound-composed old new ps pairs virtual picture f cursor clear composed h sound are shown cells cursor_is =
+    let within = cursor-within (windows old) (panels ps) h.windows h.panels in
+    let lines : new.lines ≡ old.lines = ap (λ ws. ws.lines) are in
+    let columns : new.columns ≡ old.columns = ap (λ ws. ws.columns) are in
+    record {
+      windows = sound;
+      panels = panels-kept (panels ps) (windows old).window (windows new).window
+          (λ p w is other there. ap (λ ws. has_place (ws.window w)) are ∙ same_if (list_any (λ v. v == w) composed) ((windows old).window w) unmarked (λ a. refl) ∙ there) h.panels;
+      pairs = h.pairs;
+      virtual = record {
+        size = rw (lines, columns, shown) (HasSize-lines_from old.lines old.columns f);
+        cells = cells;
+        line = rw (lines, cursor_is) within.0;
+        column = rw (columns, cursor_is) within.1;
+      };
+    }

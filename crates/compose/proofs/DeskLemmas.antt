@@ -1,0 +1,160 @@
+-- What a desk keeps, and the world that it stands for, call by call.
+use Rattle.std.proofs.Common.{rules, ◌≡◌, ◌≢◌, ℕ, Bool, true, false, ◌⊎◌, Option, Some, None, [], ◌∷◌, ◌==◌, Result, Ok, Err, inl, inr, refl, sym, ap, subst, ◌∙◌}
+use Rattle.std.specs.Prelude.{IfOk, MatchOption, OnErr, OnOk, is_none, ⊤}
+use Rattle.std.specs.Result.{result_err}
+use Rattle.cell.specs.Refusals.{RefusedBy, first_of}
+use Rattle.cell.specs.Shown.{Pairs, ArePairs, IsShown, first_pairs, shown_blank}
+use Rattle.cell.specs.Pictures.{Picture, blank_picture}
+use Rattle.cell.proofs.PictureLemmas.{ArePairs-first, EachCell-all_of, HasSize-all_of, IsShown-blank}
+use Rattle.world.specs.Windows.{Window, Windows}
+use Rattle.world.specs.Panels.{Panels, is_in_panel, no_panels, standard_screen}
+use Rattle.world.specs.World.{VirtualScreen, first_world}
+use Rattle.world.specs.Sound.{AreSoundPanels, AreSoundWindows, IsSound, IsSoundPanel}
+use Rattle.cell.specs.declared.refusal.Refusal.{Refusal}
+use Rattle.cell.specs.declared.refusal.Refusal.TheVariants.{HasDerived, InPanel, NoMemory, NoSuchWindow, StandardScreen}
+use Rattle.cell.specs.declared.window.WinId.{WinId}
+use Rattle.grids.specs.Tables.{WindowTable, windows}
+use Rattle.stack.specs.Tables.{PanelTable, panels}
+use Rattle.compose.specs.Desks.{DeskTable, world}
+use Rattle.world.specs.calls.Dispatch.{after_copying, after_making, after_writing, makes_window, making_refusal, making_reply, world_after}
+use Rattle.world.specs.calls.Making.{delwin_refusal, has_derived}
+use Rattle.compose.specs.Calling.{Called, MayLeave, MayRefuse}
+use Rattle.world.specs.declared.call.Call.{Call}
+use Rattle.world.specs.declared.call.Call.TheVariants as calls
+use Rattle.world.specs.declared.call.Copying.{Copying}
+use Rattle.world.specs.declared.call.Making.{Making}
+use Rattle.world.specs.declared.call.Making.TheVariants.{Delwin}
+use Rattle.world.specs.declared.call.Writing.{Writing}
+use Rattle.world.specs.declared.call.Reply.{Reply}
+use Rattle.world.proofs.PanelLaws.{in_panel-some}
+use Rattle.world.proofs.PlaceLaws.{has_place, keeps-making, panels-kept, places-copying, places-writing}
+use Rattle.world.proofs.Sizes.{SameSize, size-call, size-copying, size-making, size-writing}
+
+-- a desk of these windows, panels and pairs, and this virtual screen
+abbrev pub desk_of : WindowTable → PanelTable → Pairs → VirtualScreen → DeskTable
+desk_of w ps pairs virtual = record { windows = w; panels = ps; pairs = pairs; virtual = virtual }
+
+-- each window of a panel keeps its place
+abbrev pub KeepsPlaces : Panels → Windows → Windows → Type 0
+KeepsPlaces ps old new = (p w : ℕ) → ps.window p ≡ Some w → w ≢ standard_screen → has_place (old.window w) ≡ true → has_place (new.window w) ≡ true
+
+no-panels-sound : (ws : Windows) (ps : Panels) → ps ≡ no_panels → AreSoundPanels ws.window ps
+no-panels-sound ws ps none = subst (λ ps. AreSoundPanels ws.window ps) (sym none) (search rules)
+
+-- a window of a panel isn't deleted
+not-deleted-from : (o : Option Window) (in_panel : Bool) (standard derived : Bool) → in_panel ≡ true
+    → first_of ((is_none o, NoSuchWindow) ∷ (standard, StandardScreen) ∷ (in_panel, InPanel) ∷ (derived, HasDerived) ∷ []) ≡ None → ⊥
+not-deleted-from None in_panel standard derived h none = cc
+not-deleted-from (Some a) true true derived h none = cc
+not-deleted-from (Some a) true false derived h none = cc
+not-deleted-from (Some a) false standard derived h none = cc
+
+not-deleted : (ws : Windows) (ps : Panels) (p w : ℕ) → AreSoundPanels ws.window ps → ps.window p ≡ Some w → delwin_refusal ws (is_in_panel ps w) w ≡ None → ⊥
+not-deleted ws ps p w h is none =
+    let entry : IsSoundPanel ws.window ps p w = subst (λ o. MatchOption o ⊤ (IsSoundPanel ws.window ps p)) is (h.each p) in
+    not-deleted-from (ws.window w) (is_in_panel ps w) (w == standard_screen) (has_derived ws.window w) (in_panel-some ps w p entry.number is) none
+
+module _ (old new : WindowTable) (ps : PanelTable) (pairs : Pairs) (virtual : VirtualScreen) where
+  pub IsSound-desk : IsSound (world (desk_of old ps pairs virtual)) → AreSoundWindows (windows new) → SameSize (windows new) (windows old) → KeepsPlaces (panels ps) (windows old) (windows new)
+      → IsSound (world (desk_of new ps pairs virtual))
+  IsSound-desk h sound size keeps = record {
+    windows = sound;
+    panels = panels-kept (panels ps) (windows old).window (windows new).window keeps h.panels;
+    pairs = h.pairs;
+    virtual = rw (size.lines, size.columns) h.virtual;
+  }
+
+  -- ---- making
+
+  pub size-made : (making : Making) (r : Result Reply Refusal) → OnOk r (windows new ≡ after_making (windows old) making) → OnErr r (new ≡ old) → SameSize (windows new) (windows old)
+  size-made making (Ok reply) made unchanged =
+      let size = size-making (windows old) making in
+      record { lines = ap (λ ws. ws.lines) made ∙ size.lines; columns = ap (λ ws. ws.columns) made ∙ size.columns }
+  size-made making (Err e) made unchanged = record { lines = ap (λ u. u.lines) unchanged; columns = ap (λ u. u.columns) unchanged }
+
+  -- no window of a panel was deleted
+  stays : (making : Making) (p w : ℕ) → AreSoundPanels (windows old).window (panels ps) → (panels ps).window p ≡ Some w → making_refusal (windows old) (is_in_panel (panels ps)) making ≡ None
+      → (win : WinId) → making ≡ Delwin win → w ≢ win.0
+  stays making p w h is accepted win deleted same =
+      let refused = not-deleted (windows old) (panels ps) p w h is in
+      let none : delwin_refusal (windows old) (is_in_panel (panels ps) win.0) win.0 ≡ None = subst (λ m. making_refusal (windows old) (is_in_panel (panels ps)) m ≡ None) deleted accepted in
+      refused (subst (λ v. delwin_refusal (windows old) (is_in_panel (panels ps) v) v ≡ None) (sym same) none)
+
+  pub keeps-made : (making : Making) (r : Result Reply Refusal) → AreSoundPanels (windows old).window (panels ps) → RefusedBy (making_refusal (windows old) (is_in_panel (panels ps)) making) r
+      → OnOk r (windows new ≡ after_making (windows old) making) → OnErr r (new ≡ old) → KeepsPlaces (panels ps) (windows old) (windows new)
+  keeps-made making (Ok reply) sound refused made unchanged p w is other h =
+      subst (λ ws. has_place (ws.window w) ≡ true) (sym made) (keeps-making (windows old) making w other (stays making p w sound is refused) h)
+  keeps-made making (Err e) sound refused made unchanged p w is other h = subst (λ t. has_place ((windows t).window w) ≡ true) (sym unchanged) h
+
+  may-refuse : (making : Making) (e : Refusal) (takes : Bool) → takes ≡ makes_window making
+      → (making_refusal (windows old) (is_in_panel (panels ps)) making ≡ Some e) ⊎ ((making_refusal (windows old) (is_in_panel (panels ps)) making ≡ None) × (e ≡ NoMemory))
+      → (takes ≡ false → Some e ≡ making_refusal (windows old) (is_in_panel (panels ps)) making) → MayRefuse (world (desk_of old ps pairs virtual)) (calls.Making making) e
+  may-refuse making e true is (inl h) exact = inl h
+  may-refuse making e true is (inr h) exact = inr (h.0, sym is, h.1)
+  may-refuse making e false is h exact = inl (sym (exact refl))
+
+  pub made-called : (making : Making) (r : Result Reply Refusal) → RefusedBy (making_refusal (windows old) (is_in_panel (panels ps)) making) r
+      → (makes_window making ≡ false → result_err r ≡ making_refusal (windows old) (is_in_panel (panels ps)) making) → IfOk r (λ reply. reply ≡ making_reply (windows old) making)
+      → OnOk r (windows new ≡ after_making (windows old) making) → OnErr r (new ≡ old) → Called (desk_of old ps pairs virtual) (calls.Making making) r (desk_of new ps pairs virtual)
+  made-called making (Ok reply) refused exact answers made unchanged =
+      (refused, answers, ap (λ (ws : Windows). record (world (desk_of old ps pairs virtual)) { windows = ws }) made)
+  made-called making (Err e) refused exact answers made unchanged =
+      (may-refuse making e (makes_window making) refl refused exact, ap (λ w. desk_of w ps pairs virtual) unchanged)
+
+  -- ---- writing
+
+  pub size-written : (writing : Writing) (r : Result Reply Refusal) → OnOk r (windows new ≡ after_writing (windows old) writing) → OnErr r (new ≡ old) → SameSize (windows new) (windows old)
+  size-written writing (Ok reply) written unchanged =
+      let size = size-writing (windows old) writing in
+      record { lines = ap (λ ws. ws.lines) written ∙ size.lines; columns = ap (λ ws. ws.columns) written ∙ size.columns }
+  size-written writing (Err e) written unchanged = record { lines = ap (λ u. u.lines) unchanged; columns = ap (λ u. u.columns) unchanged }
+
+  pub keeps-written : (writing : Writing) (r : Result Reply Refusal) → OnOk r (windows new ≡ after_writing (windows old) writing) → OnErr r (new ≡ old) → KeepsPlaces (panels ps) (windows old) (windows new)
+  keeps-written writing (Ok reply) written unchanged p w is other h = ap (λ ws. has_place (ws.window w)) written ∙ places-writing (windows old) writing w ∙ h
+  keeps-written writing (Err e) written unchanged p w is other h = ap (λ t. has_place ((windows t).window w)) unchanged ∙ h
+
+  -- ---- copies and marks
+
+  pub size-copied : (copying : Copying) (r : Result Reply Refusal) → OnOk r (windows new ≡ after_copying (windows old) copying) → OnErr r (new ≡ old) → SameSize (windows new) (windows old)
+  size-copied copying (Ok reply) copied unchanged =
+      let size = size-copying (windows old) copying in
+      record { lines = ap (λ ws. ws.lines) copied ∙ size.lines; columns = ap (λ ws. ws.columns) copied ∙ size.columns }
+  size-copied copying (Err e) copied unchanged = record { lines = ap (λ u. u.lines) unchanged; columns = ap (λ u. u.columns) unchanged }
+
+  pub keeps-copied : (copying : Copying) (r : Result Reply Refusal) → OnOk r (windows new ≡ after_copying (windows old) copying) → OnErr r (new ≡ old) → KeepsPlaces (panels ps) (windows old) (windows new)
+  keeps-copied copying (Ok reply) copied unchanged p w is other h = ap (λ ws. has_place (ws.window w)) copied ∙ places-copying (windows old) copying w ∙ h
+  keeps-copied copying (Err e) copied unchanged p w is other h = ap (λ t. has_place ((windows t).window w)) unchanged ∙ h
+
+-- a new desk
+pub IsSound-new : (w : WindowTable) (ps : PanelTable) (lines columns : ℕ) (pairs : Pairs) (picture : Picture) → AreSoundWindows (windows w) → windows w ≡ (first_world lines columns).windows
+    → panels ps ≡ no_panels → pairs ≡ first_pairs → picture ≡ blank_picture lines columns → IsSound (world (desk_of w ps pairs (record { picture = picture; cursor = (0, 0); clear = false })))
+IsSound-new w ps lines columns pairs picture sound is none pairs_are blank = record {
+  windows = sound;
+  panels = no-panels-sound (windows w) (panels ps) none;
+  pairs = rw pairs_are ArePairs-first;
+  virtual = record {
+    size = rw (ap (λ ws. ws.lines) is, ap (λ ws. ws.columns) is, blank) (HasSize-all_of shown_blank lines columns);
+    cells = rw blank (EachCell-all_of IsShown shown_blank lines columns IsShown-blank);
+    line = sound.has_line;
+    column = sound.has_column;
+  };
+}
+
+-- other colours of a pair
+pub IsSound-pairs : (w : WindowTable) (ps : PanelTable) (old new : Pairs) (virtual : VirtualScreen) → IsSound (world (desk_of w ps old virtual)) → ArePairs new → IsSound (world (desk_of w ps new virtual))
+IsSound-pairs w ps old new virtual h pairs = record { windows = h.windows; panels = h.panels; pairs = pairs; virtual = h.virtual }
+
+world-left : (old new : DeskTable) (call : Call) → MayLeave old call new → world new ≡ world_after (world old) call
+world-left old new (calls.Making making) h = h
+world-left old new (calls.Writing writing) h = h
+world-left old new (calls.Copying copying) h = h
+world-left old new (calls.Query query) h = ap world h
+world-left old new (calls.Refresh refresh) h = h
+
+-- no call changes the size of a desk
+pub size-called : (old new : DeskTable) (call : Call) (r : Result Reply Refusal) → Called old call r new → (new.windows.lines ≡ old.windows.lines) × (new.windows.columns ≡ old.windows.columns)
+size-called old new call (Ok reply) h =
+    let size = size-call (world old) call in
+    let left = world-left old new call h.2 in
+    (ap (λ w. w.windows.lines) left ∙ size.lines, ap (λ w. w.windows.columns) left ∙ size.columns)
+size-called old new call (Err e) h = (ap (λ t. t.windows.lines) h.1, ap (λ t. t.windows.columns) h.1)

@@ -1,0 +1,32 @@
+-- A call that sends nothing, made on a desk: what it answers, and what it leaves.
+use Rattle.std.specs.Prelude.{◌≡◌, ◌⊎◌, ℕ, true, Some, None, Result, Ok, Err}
+use Rattle.world.specs.World.{World}
+use Rattle.cell.specs.declared.refusal.Refusal.{Refusal}
+use Rattle.cell.specs.declared.refusal.Refusal.TheVariants.{NoMemory}
+use Rattle.compose.specs.Desks.{DeskTable, world}
+use Rattle.world.specs.calls.Dispatch.{refusal, reply_of, takes_memory, world_after}
+use Rattle.world.specs.calls.Refresh.{MayRead}
+use Rattle.world.specs.declared.call.Call.{Call}
+use Rattle.world.specs.declared.call.Call.TheVariants as calls
+use Rattle.world.specs.declared.call.Refresh.TheVariants.{UpdatePanels}
+use Rattle.world.specs.declared.call.Reply.{Reply}
+use Rattle.world.specs.declared.call.Reply.TheVariants.{Composed}
+
+-- What an accepted call may answer that sends nothing: update_panels how many cells it read, another what the tables say.
+abbrev pub MayTell : World → Call → Reply → Type 0
+MayTell world (calls.Refresh UpdatePanels) reply = (cells : ℕ) × MayRead world cells × (reply ≡ Composed (record { cells = cells }))
+MayTell world call reply = reply ≡ reply_of world call
+
+-- The call may be refused so: as its tests have it, or, where none of them holds, for want of the memory that it takes.
+abbrev pub MayRefuse : World → Call → Refusal → Type 0
+MayRefuse world call e = (refusal world call ≡ Some e) ⊎ ((refusal world call ≡ None) × (takes_memory call ≡ true) × (e ≡ NoMemory))
+
+-- What an accepted call, which sends nothing, may leave of a desk. A query leaves all of it.
+abbrev pub MayLeave : DeskTable → Call → DeskTable → Type 0
+MayLeave old (calls.Query query) new = new ≡ old
+MayLeave old call new = world new ≡ world_after (world old) call
+
+-- The call, which sends nothing, was made on a desk. A refused one changed nothing.
+abbrev pub Called : DeskTable → Call → Result Reply Refusal → DeskTable → Type 0
+Called old call (Ok reply) new = (refusal (world old) call ≡ None) × MayTell (world old) call reply × MayLeave old call new
+Called old call (Err e) new = MayRefuse (world old) call e × (new ≡ old)

@@ -1,0 +1,239 @@
+//! The windows and panels under a virtual screen.
+
+ghost use Rattle.std.specs.Prelude.{◌≡◌, ◌<◌, ◌≤◌, ◌==◌, ◌&&◌, ℕ, Ok, Some, IfOk, false, if◌then◌else◌, length, nat_le, nat_lt, slice_index_or};
+ghost use Rattle.std.specs.Result.{result_err};
+ghost use Rattle.cell.specs.Pictures.{AreShown, HasSize, line_of, picture_of, shown_at};
+ghost use Rattle.cell.specs.Glyphs.{blank};
+ghost use Rattle.cell.specs.Shown.{shown};
+ghost use Rattle.world.specs.Windows.{cell_at};
+ghost use Rattle.world.specs.Panels.{standard_screen};
+ghost use Rattle.world.specs.World.{first_world};
+ghost use Rattle.world.specs.Sound.{AreSoundWindows, IsSound};
+ghost use Rattle.world.specs.calls.Making.{new_refusal};
+ghost use Rattle.cell.specs.Refusals.{RefusedBy};
+ghost use Rattle.world.specs.calls.Refresh.{after_update_panels, init_pair_refusal};
+ghost use Rattle.grids.specs.Tables.{windows as windows_of};
+ghost use Rattle.world.specs.declared.call.Call.{Call};
+ghost use Rattle.world.specs.declared.call.Refresh.{Refresh};
+ghost use Rattle.world.specs.calls.Dispatch.{is_doupdate};
+ghost use Rattle.compose.specs.Desks.{world};
+ghost use Rattle.compose.specs.Calling.{Called};
+
+use crate::dispatch::{copy, make, query, write};
+use crate::marks::{clear_asked, unmark_composed};
+use crate::picture::show_picture;
+use crate::search::{STANDARD, wanted_cursor};
+use cell::{Colour, Grid, PairId, Pairs, Refusal, Shown};
+use grids::Grids;
+use stack::Stack;
+use std::alloc::Global;
+use std::marker::Model;
+use windows::Windows;
+use world::{Call, Composed, Refresh, Reply};
+
+/// A screen's windows and pads, its panels, its colour pairs, and its virtual screen: a picture, where the cursor is wanted, and whether the terminal is
+/// to be cleared first.
+#[derive(Drop)]
+pub struct Desk {
+    windows: Windows,
+    stack: Stack,
+    pairs: Pairs,
+    picture: Grid<Shown>,
+    cursor: (u16, u16),
+    clear: bool,
+}
+
+impl Model for Desk {
+    ghost use Rattle.world.specs.Sound.{IsSound};
+    ghost use Rattle.compose.specs.Desks.{DeskTable, world};
+
+    ghost Value = { DeskTable };
+
+    ghost view = { λ d. record {
+      windows = d.windows.table;
+      panels = d.stack;
+      pairs = d.pairs;
+      virtual = record { picture = d.picture; cursor = d.cursor; clear = d.clear };
+    } };
+
+    ghost invariant = { λ d. IsSound (world (record {
+      windows = d.windows.table;
+      panels = d.stack;
+      pairs = d.pairs;
+      virtual = record { picture = d.picture; cursor = d.cursor; clear = d.clear };
+    })) };
+}
+
+impl Desk {
+    /// The blank standard screen of 1 to `LARGEST_SCREEN` lines and columns, under a blank virtual screen.
+    ///
+    /// # Errors
+    /// `BadSize` for a size out of these limits, `NoMemory`.
+    pub fn new(alloc: Global, lines: u16, cols: u16) -> Result<Desk, Refusal>
+        ensures world { IfOk result (λ desk. world desk ≡ first_world lines cols) }
+        ensures refused { RefusedBy (new_refusal lines cols) result }
+    {
+        let windows = Windows::new(alloc, lines, cols)?;
+        match Grid::new(alloc, lines, cols) {
+            Ok(picture) => Ok(Desk {
+                windows,
+                stack: Stack::new(alloc),
+                pairs: Pairs::new(),
+                picture,
+                cursor: (0, 0),
+                clear: false,
+            }),
+            Err(_) => Err(Refusal::NoMemory),
+        }
+    }
+
+    /// The windows and pads.
+    pub fn windows(&self) -> &Windows
+        ensures { result.now.table ≡ self.now.windows }
+    {
+        &self.windows
+    }
+
+    /// Makes a call that sends nothing, which is any but `doupdate`.
+    pub fn call(&mut self, call: &Call<'_>) -> Result<Reply, Refusal>
+        requires { is_doupdate call.now ≡ false }
+        ensures { Called self.old call.now result self.new }
+    {
+        match *call {
+            Call::Making(making) => make(&mut self.windows.table, &self.stack, making),
+            Call::Writing(writing) => write(&mut self.windows, writing),
+            Call::Copying(copying) => copy(&mut self.windows, copying),
+            Call::Query(asked) => query(&self.windows, asked),
+            Call::Refresh(Refresh::UpdatePanels) => Ok(Reply::Composed(self.update_panels())),
+            Call::Refresh(Refresh::Doupdate) => unreachable!(),
+            Call::Refresh(
+                Refresh::InitPair {
+                    pair,
+                    foreground,
+                    background,
+                },
+            ) => self.init_pair(pair, foreground, background),
+        }
+    }
+
+    /// Takes the picture of windows and panels, and the topmost's cursor, into the virtual screen. It tells how many cells it read.
+    pub fn update_panels(&mut self) -> Composed
+        ensures { Called self.old (Call.Refresh Refresh.UpdatePanels) (Ok (Reply.Composed result)) self.new }
+    {
+        let (lines, columns) = size_of_screen(&self.windows.table);
+        show_picture(
+            &self.windows.table,
+            &self.stack,
+            &self.pairs,
+            lines,
+            columns,
+            &mut self.picture,
+        );
+        self.cursor = wanted_cursor(&self.windows.table, &self.stack);
+        self.clear |= clear_asked(&self.windows.table, &self.stack);
+        unmark_composed(&mut self.windows.table, &self.stack);
+        Composed {
+            cells: u32::from(lines) * u32::from(columns),
+        }
+    }
+
+    /// Gives a colour pair a foreground and a background. What is shown already stays.
+    ///
+    /// # Errors
+    /// `BadPair` for pair 0, for one past `LAST_PAIR`, and for a colour past `LAST_COLOUR`.
+    pub fn init_pair(
+        &mut self,
+        pair: u16,
+        foreground: u16,
+        background: u16,
+    ) -> Result<Reply, Refusal>
+        ensures { Called self.old (Call.Refresh (Refresh.InitPair pair foreground background)) result self.new }
+    {
+        let (at, foreground, background) = colours_for(pair, foreground, background)?;
+        self.pairs.set(at, foreground, background);
+        prove!(self.pairs.is_sound());
+        Ok(Reply::Nothing)
+    }
+
+    /// The panels.
+    pub fn stack(&self) -> &Stack
+        ensures { result.now ≡ self.now.panels }
+    {
+        &self.stack
+    }
+
+    /// How many lines and columns the screen has.
+    pub fn size(&self) -> (u16, u16)
+        ensures size { result ≡ (self.now.windows.lines, self.now.windows.columns) }
+        ensures sound { IsSound (world self.now) }
+    {
+        size_of_screen(&self.windows.table)
+    }
+
+    /// The cells of a line of the virtual screen.
+    pub fn virtual_row(&self, y: u16) -> &[Shown]
+        requires { y < self.now.windows.lines }
+        ensures { result.now ≡ line_of self.now.virtual.picture y }
+    {
+        self.picture.row(usize::from(y))
+    }
+
+    /// Where the cursor is wanted: its line and its column.
+    pub fn wanted_cursor(&self) -> (u16, u16)
+        ensures place { result ≡ self.now.virtual.cursor }
+        ensures sound { IsSound (world self.now) }
+    {
+        self.cursor
+    }
+
+    /// Whether the terminal is to be cleared first.
+    pub fn clear_wanted(&self) -> bool
+        ensures { result ≡ self.now.virtual.clear }
+    {
+        self.clear
+    }
+
+    /// All of the virtual screen.
+    pub fn virtual_screen(&self) -> &Grid<Shown>
+        ensures picture { result.now ≡ self.now.virtual.picture }
+        ensures sound { IsSound (world self.now) }
+    {
+        &self.picture
+    }
+
+    /// The terminal needn't be cleared any more.
+    pub fn clear_done(&mut self)
+        ensures { self.new ≡ record self.old { virtual = record self.old.virtual { clear = false } } }
+    {
+        self.clear = false;
+    }
+}
+
+/// How many lines and columns the standard screen has.
+fn size_of_screen(table: &Grids) -> (u16, u16)
+    requires { AreSoundWindows (windows_of table.now) }
+    ensures { result ≡ (table.now.lines, table.now.columns) }
+{
+    match table.getmaxyx(STANDARD) {
+        Ok(size) => size,
+        Err(_) => unreachable!(),
+    }
+}
+
+/// A pair that can be set, and two colours.
+fn colours_for(
+    pair: u16,
+    foreground: u16,
+    background: u16,
+) -> Result<(PairId, Colour, Colour), Refusal>
+    ensures refused { result_err result ≡ init_pair_refusal pair foreground background }
+    ensures made { IfOk result (λ made. made ≡ (pair, foreground, background)) }
+{
+    if pair == 0 {
+        return Err(Refusal::BadPair);
+    }
+    let at = PairId::new(pair).ok_or(Refusal::BadPair)?;
+    let foreground = Colour::new(foreground).ok_or(Refusal::BadPair)?;
+    let background = Colour::new(background).ok_or(Refusal::BadPair)?;
+    Ok((at, foreground, background))
+}
