@@ -1,13 +1,14 @@
--- A picture that could not be written.
-use Rattle.std.proofs.Common.{◌≡◌, ℕ, false, Option, Some, None, inr}
+-- A picture that was written, or could not be.
+use Rattle.std.proofs.Common.{◌≡◌, ℕ, false, Option, Some, None, inl, inr}
 use Rattle.std.specs.Prelude.{is_some, MatchOption}
 use Rattle.streams.specs.Sinks.{Seen}
 use Rattle.world.specs.World.{World}
 use Rattle.script.specs.declared.fault.ScriptEnd.{ScriptEnd}
 use Rattle.script.specs.Log.{last_line}
 use Rattle.script.specs.declared.fault.ScriptFault.TheVariants.{Log}
+use Rattle.curspan.specs.Statuses.{status_of}
 use Rattle.curspan.specs.Serving.{Prints, picture_text}
-use Rattle.curspan.specs.Written.{IsNotWritten, IsTold, Outputs}
+use Rattle.curspan.specs.Written.{IsNotWritten, IsTold, IsWritten, Outputs}
 
 without : {X : Type 0} {A : Type 0} (B : X → Type 0) (o : Option X) → is_some o ≡ false → A → MatchOption o A B
 without B None none a = a
@@ -17,3 +18,8 @@ without B (Some x) none a = cc
 pub Prints-failed : (end : ScriptEnd) (world : World) (told : Seen) (old new : Outputs) (status : ℕ) → is_some end.fault ≡ false → status ≡ 3
     → IsNotWritten old.output new.output (picture_text world) → IsTold told new.log (last_line Log) → Prints end world told old new status
 Prints-failed end world told old new status none failed output log = without _ end.fault none (inr (failed, output, log))
+
+-- Behind a script without a fault the picture was written, and the log has nothing more.
+pub Prints-written : (end : ScriptEnd) (world : World) (told : Seen) (old new : Outputs) (status : ℕ) → is_some end.fault ≡ false → status ≡ status_of end
+    → IsWritten old.output new.output (picture_text world) → new.log ≡ told → Prints end world told old new status
+Prints-written end world told old new status none is output log = without _ end.fault none (inl (is, output, log))

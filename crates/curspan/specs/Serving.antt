@@ -14,7 +14,7 @@ use Rattle.script.specs.Log.{last_line}
 use Rattle.script.specs.declared.fault.ScriptEnd.{ScriptEnd}
 use Rattle.script.specs.declared.fault.ScriptFault.TheVariants.{Log}
 use Rattle.paint.specs.Updates.{first_painter}
-use Rattle.desk.specs.Desks.{world}
+use Rattle.compose.specs.Desks.{world}
 use Rattle.desk.specs.ScriptEnds.{ScriptEnds, read_failed, write_fault}
 use Rattle.desk.specs.States.{ScreenOver}
 use Rattle.curspan.specs.CommandLine.{Asks, curspan}

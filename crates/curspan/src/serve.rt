@@ -8,7 +8,7 @@ ghost use Rattle.curspan.specs.CommandLine.{IsSize};
 ghost use Rattle.curspan.specs.Printing.{printed_picture};
 ghost use Rattle.curspan.specs.Serving.{Explains, LacksMemory, Paints, Runs, Serves, ShowsText, Tells, nothing_seen};
 ghost use Rattle.curspan.specs.Written.{WritingEnds, outputs};
-ghost use Rattle.desk.specs.Desks.{world};
+ghost use Rattle.compose.specs.Desks.{world};
 ghost use Rattle.desk.specs.States.{after, state_of};
 ghost use Rattle.paint.specs.Updates.{first_painter};
 ghost use Rattle.world.specs.World.{first_world};

@@ -1,5 +1,3 @@
-pub mod Composing
-pub mod DeskLemmas
 pub mod WriterLemmas
 pub mod RunLemmas
 pub mod ShowingLemmas

@@ -22,7 +22,7 @@ use Rattle.paint.proofs.Repair.{Agrees-update, Agrees-fault}
 use Rattle.desk.specs.States.{State, after, wanted}
 use Rattle.desk.specs.Runs.{Outcome, MayAnswer, Run, all_sent, state_after, state_at_end}
 use Rattle.world.proofs.Sizes.{size-call}
-use Rattle.desk.specs.Desks.{DeskTable, world}
+use Rattle.compose.specs.Desks.{DeskTable, world}
 use Rattle.desk.specs.Ends.{CallEnds, IsCut, Makes, RunEnds, Stops, Writes, cut_of}
 use Rattle.desk.specs.States.{state_of}
 use Rattle.desk.specs.Showing.{EndsInDoupdate, EndsInUpdate, ShowsWorld, RunShows, showing_virtual}

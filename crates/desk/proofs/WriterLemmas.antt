@@ -16,9 +16,10 @@ use Rattle.world.specs.declared.call.Refresh.{Refresh}
 use Rattle.world.specs.declared.call.Refresh.TheVariants.{UpdatePanels, Doupdate, InitPair}
 use Rattle.world.specs.declared.call.Reply.{Reply}
 use Rattle.world.specs.declared.call.Reply.TheVariants.{Sent}
-use Rattle.desk.specs.Desks.{DeskTable, world}
+use Rattle.compose.specs.Desks.{DeskTable, world}
 use Rattle.desk.specs.States.{ScreenOver, wanted}
-use Rattle.desk.specs.Runs.{Called, MayRefuse, flushes_after}
+use Rattle.compose.specs.Calling.{Called, MayRefuse}
+use Rattle.desk.specs.Runs.{flushes_after}
 use Rattle.desk.specs.Ends.{CallEnds, Writes}
 use Rattle.desk.specs.declared.screen.Fault.TheVariants.{Refused, Write}
 

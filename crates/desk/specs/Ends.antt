@@ -6,10 +6,11 @@ use Rattle.streams.specs.Counts.{counted}
 use Rattle.streams.specs.Sinks.{Seen}
 use Rattle.paint.specs.Updates.{IsUpdateText}
 use Rattle.streams.specs.declared.sending.WriteFault.{WriteFault}
-use Rattle.desk.specs.Desks.{world}
+use Rattle.compose.specs.Calling.{MayRefuse}
+use Rattle.compose.specs.Desks.{world}
 use Rattle.world.specs.calls.Dispatch.{is_doupdate}
 use Rattle.desk.specs.States.{ScreenOver, after, state_of, wanted}
-use Rattle.desk.specs.Runs.{Outcome, MayAnswer, MayRefuse, Run, all_sent, cells_read, flushes_after, is_accepted, is_refused, state_at_end}
+use Rattle.desk.specs.Runs.{Outcome, MayAnswer, Run, all_sent, cells_read, flushes_after, is_accepted, is_refused, state_at_end}
 use Rattle.world.specs.declared.call.Call.{Call}
 use Rattle.world.specs.declared.call.Reply.{Reply}
 use Rattle.desk.specs.declared.screen.Fault.{Fault}

@@ -1,4 +1,3 @@
-pub mod Desks
 pub mod States
 pub mod Runs
 pub mod Ends

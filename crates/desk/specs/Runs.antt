@@ -1,18 +1,15 @@
 -- A run of calls: one outcome after another.
-use Rattle.std.specs.Prelude.{◌≡◌, ◌⊎◌, ℕ, List, [], ◌∷◌, Bool, true, length, Some, None, Result, Ok, Err, ⊤, is_ok, not}
+use Rattle.std.specs.Prelude.{◌≡◌, ℕ, List, [], ◌∷◌, Bool, length, None, Result, Ok, Err, ⊤, is_ok, not}
 use Rattle.std.specs.List.{flat_map}
-use Rattle.world.specs.World.{World}
 use Rattle.cell.specs.declared.refusal.Refusal.{Refusal}
-use Rattle.cell.specs.declared.refusal.Refusal.TheVariants.{NoMemory}
 use Rattle.paint.specs.Updates.{IsUpdateText}
 use Rattle.streams.specs.Counts.{counted}
-use Rattle.desk.specs.Desks.{DeskTable, world}
-use Rattle.world.specs.calls.Dispatch.{is_doupdate, refusal, reply_of, takes_memory, world_after}
-use Rattle.world.specs.calls.Refresh.{MayRead}
+use Rattle.compose.specs.Calling.{MayRefuse, MayTell}
+use Rattle.world.specs.calls.Dispatch.{is_doupdate, refusal}
 use Rattle.desk.specs.States.{State, after, wanted}
 use Rattle.world.specs.declared.call.Call.{Call}
 use Rattle.world.specs.declared.call.Call.TheVariants as calls
-use Rattle.world.specs.declared.call.Refresh.TheVariants.{UpdatePanels, Doupdate}
+use Rattle.world.specs.declared.call.Refresh.TheVariants.{Doupdate}
 use Rattle.world.specs.declared.call.Reply.{Reply}
 use Rattle.world.specs.declared.call.Reply.TheVariants.{Composed, Sent}
 
@@ -21,35 +18,16 @@ pub record Outcome : Type 0 where
   pub answer : Result Reply Refusal
   pub sent : List ℕ
 
--- What an accepted call may answer that sends nothing: update_panels how many cells it read, another what the tables say.
-abbrev pub MayTell : World → Call → Reply → Type 0
-MayTell world (calls.Refresh UpdatePanels) reply = (cells : ℕ) × MayRead world cells × (reply ≡ Composed (record { cells = cells }))
-MayTell world call reply = reply ≡ reply_of world call
-
 -- What an accepted call may answer and send: doupdate a text that shows the virtual screen, the others nothing.
 abbrev pub MayReply : State → Call → Reply → List ℕ → Type 0
 MayReply s (calls.Refresh Doupdate) reply sent =
     IsUpdateText s.painter s.world.virtual.clear (wanted s.world) sent × (reply ≡ Sent (record { bytes = length sent }))
 MayReply s call reply sent = (sent ≡ []) × MayTell s.world call reply
 
--- The call may be refused so: as its tests have it, or, where none of them holds, for want of the memory that it takes.
-abbrev pub MayRefuse : World → Call → Refusal → Type 0
-MayRefuse world call e = (refusal world call ≡ Some e) ⊎ ((refusal world call ≡ None) × (takes_memory call ≡ true) × (e ≡ NoMemory))
-
 -- The call may answer this and send these bytes, while writes and flushes succeed. A refused call sends nothing.
 abbrev pub MayAnswer : State → Call → Result Reply Refusal → List ℕ → Type 0
 MayAnswer s call (Err e) sent = MayRefuse s.world call e × (sent ≡ [])
 MayAnswer s call (Ok reply) sent = (refusal s.world call ≡ None) × MayReply s call reply sent
-
--- What an accepted call, which sends nothing, may leave of a desk. A query leaves all of it.
-abbrev pub MayLeave : DeskTable → Call → DeskTable → Type 0
-MayLeave old (calls.Query query) new = new ≡ old
-MayLeave old call new = world new ≡ world_after (world old) call
-
--- The call, which sends nothing, was made on a desk. A refused one changed nothing.
-abbrev pub Called : DeskTable → Call → Result Reply Refusal → DeskTable → Type 0
-Called old call (Ok reply) new = (refusal (world old) call ≡ None) × MayTell (world old) call reply × MayLeave old call new
-Called old call (Err e) new = MayRefuse (world old) call e × (new ≡ old)
 
 abbrev pub MayCome : State → Call → Outcome → Type 0
 MayCome s call outcome = MayAnswer s call outcome.answer outcome.sent

@@ -9,7 +9,7 @@ use Rattle.ecma.specs.Streams.{Leads, LeadsWithBreaks, showing}
 use Rattle.streams.specs.Sinks.{Seen}
 use Rattle.paint.specs.Updates.{Agrees}
 use Rattle.streams.specs.declared.sending.WriteFault.{WriteFault}
-use Rattle.desk.specs.Desks.{world}
+use Rattle.compose.specs.Desks.{world}
 use Rattle.world.specs.declared.call.Call.{Call}
 use Rattle.world.specs.declared.call.Call.TheVariants.{Refresh}
 use Rattle.world.specs.declared.call.Refresh.TheVariants.{UpdatePanels, Doupdate}

@@ -5,7 +5,7 @@ use Rattle.world.specs.World.{World}
 use Rattle.world.specs.calls.Dispatch.{is_doupdate, world_after}
 use Rattle.world.specs.declared.call.Call.{Call}
 use Rattle.paint.specs.Updates.{PainterState, ShownPicture}
-use Rattle.desk.specs.Desks.{DeskTable, world}
+use Rattle.compose.specs.Desks.{DeskTable, world}
 
 -- its world, and what its painter knows
 pub record State : Type 0 where

@@ -1,13 +1,11 @@
 //! A screen over a writer: runs of calls and of script lines, with what they send and log.
 #![tactic(auto)]
 
-mod desk;
-mod dispatch;
 mod run_script;
 mod screen;
 
 pub use cell::{Attr, Cell, Refusal, WinId};
-pub use desk::Desk;
+pub use compose::Desk;
 pub use screen::{Fault, RunEnd, Screen};
 pub use script::{ScriptEnd, ScriptFault, TextFault};
 pub use streams::{Counted, CountedReader, Sent, Sink, Source, WriteFault};

@@ -6,7 +6,7 @@ ghost use Rattle.script.specs.Words.{placeless};
 ghost use Rattle.desk.specs.Ends.{CallEnds};
 ghost use Rattle.desk.specs.steps.Answers.{joined};
 ghost use Rattle.streams.specs.Counts.{counted};
-ghost use Rattle.desk.specs.Desks.{world};
+ghost use Rattle.compose.specs.Desks.{world};
 ghost use Rattle.desk.specs.ScriptEnds.{LineEnds, RunsLines, ScriptEnds, log_failed, read_failed, write_fault};
 ghost use Rattle.desk.specs.States.{KeepsSize};
 

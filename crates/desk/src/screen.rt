@@ -8,12 +8,12 @@ ghost use Rattle.world.specs.World.{first_world};
 ghost use Rattle.world.specs.calls.Dispatch.{is_doupdate};
 ghost use Rattle.streams.specs.Counts.{counted};
 ghost use Rattle.paint.specs.Updates.{first_painter};
-ghost use Rattle.desk.specs.Desks.{world};
+ghost use Rattle.compose.specs.Desks.{world};
 ghost use Rattle.desk.specs.Runs.{cells_of_reply};
 ghost use Rattle.desk.specs.declared.screen.Fault.TheVariants.{Refused};
 
-use crate::desk::Desk;
 use cell::Refusal;
+use compose::Desk;
 use paint::Painter;
 use std::alloc::Global;
 use std::marker::Model;

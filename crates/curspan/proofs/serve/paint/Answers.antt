@@ -1,11 +1,11 @@
-use Rattle.std.proofs.Common.{◌≡◌, false, Some, ap, inr, subst, sym, ◌∙◌}
+use Rattle.std.proofs.Common.{◌≡◌, false, Some, ap, inr, refl, subst, sym, ◌∙◌}
 use Rattle.std.specs.Prelude.{is_some}
-use Rattle.curspan.proofs.PictureLemmas.{Prints-failed}
-use Rattle.desk.specs.Desks.{world}
+use Rattle.curspan.proofs.PictureLemmas.{Prints-failed, Prints-written}
+use Rattle.compose.specs.Desks.{world}
 use Rattle.desk.specs.States.{State}
 use Rattle.cell.specs.Shown.{no_rendition}
 use Rattle.curspan.specs.Printing.{printed_picture}
-use Rattle.curspan.specs.Written.{IsNotWritten, outputs}
+use Rattle.curspan.specs.Written.{IsNotWritten, IsWritten, outputs}
 use Rattle.curspan.proofs.serve.paint.Goals as goal
 
 pub returns-clause-painted : goal.returns-clause-painted
@@ -27,4 +27,25 @@ returns-clause-painted g c =
       prints = Prints-failed c.run_told-end.result (world c.run_told-end.new.screen.desk) (g.L.Sink.seen c.run_told-end.new.log)
           (outputs (g.O.Sink.seen c.args.out.now) (g.L.Sink.seen c.args.log.now)) (outputs (g.O.Sink.seen c.print_desk.new.out) (g.L.Sink.seen c.failed.new.log))
           c.failed.result fault c.failed.ensures.status not_written c.failed.ensures.told;
+    })
+
+pub returns-then-print_desk-clause-painted : goal.returns-then-print_desk-clause-painted
+returns-then-print_desk-clause-painted g c =
+    let fault : is_some c.run_told-end.result.fault ≡ false = sym c.is_some.ensures ∙ c.if-is_some.false in
+    let text = ap (λ (s : State). printed_picture s.world.virtual.picture (Some s.world.virtual.cursor) no_rendition) c.take_picture.ensures in
+    let written = subst (IsWritten (g.O.Sink.seen c.args.out.now) (g.O.Sink.seen c.print_desk.new.out)) text (rw (c.desk.ensures, c.if-print_desk.true) at c.print_desk.ensures) in
+    inr (record {
+      last = c.run_told-end.new.screen;
+      end = c.run_told-end.result;
+      told = g.L.Sink.seen c.run_told-end.new.log;
+      script = record {
+        first = c.in-Ok.screen;
+        blank = c.in-Ok.ensures.world;
+        unpainted = c.in-Ok.ensures.painter;
+        over = c.in-Ok.ensures.writer;
+        runs = c.run_told-end.ensures.ran;
+      };
+      prints = Prints-written c.run_told-end.result (world c.run_told-end.new.screen.desk) (g.L.Sink.seen c.run_told-end.new.log)
+          (outputs (g.O.Sink.seen c.args.out.now) (g.L.Sink.seen c.args.log.now)) (outputs (g.O.Sink.seen c.print_desk.new.out) (g.L.Sink.seen c.run_told-end.new.log))
+          c.status_of-then-print_desk.result fault c.status_of-then-print_desk.ensures.status written refl;
     })

@@ -1,5 +1,5 @@
 use Rattle.std.proofs.Common.{◌∙◌, sym}
-use Rattle.desk.proofs.DeskLemmas.{size-called}
+use Rattle.compose.proofs.DeskLemmas.{size-called}
 use Rattle.desk.proofs.WriterLemmas.{called-ends}
 use Rattle.desk.proofs.screen.Screen.call_desk.Goals as goal
 

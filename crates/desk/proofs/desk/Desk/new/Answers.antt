@@ -1,6 +1,0 @@
-use Rattle.desk.proofs.DeskLemmas.{IsSound-new}
-use Rattle.desk.proofs.desk.Desk.new.Goals as goal
-
-pub invariant_of-result : goal.invariant_of-result
-invariant_of-result c =
-    IsSound-new c.in_ok-windows.windows.table c.args.lines c.args.cols c.new-in-Ok.result c.in-Ok.picture c.in_ok-windows.ensures.sound c.in_ok-windows.ensures.made c.new-in-Ok.ensures c.in-Ok.ensures
