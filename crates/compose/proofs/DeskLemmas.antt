@@ -158,3 +158,8 @@ size-called old new call (Ok reply) h =
     let left = world-left old new call h.2 in
     (ap (λ w. w.windows.lines) left ∙ size.lines, ap (λ w. w.windows.columns) left ∙ size.columns)
 size-called old new call (Err e) h = (ap (λ t. t.windows.lines) h.1, ap (λ t. t.windows.columns) h.1)
+
+-- other panels
+pub IsSound-stack : (w : WindowTable) (old new : PanelTable) (pairs : Pairs) (virtual : VirtualScreen) → IsSound (world (desk_of w old pairs virtual)) → AreSoundPanels (windows w).window (panels new)
+    → IsSound (world (desk_of w new pairs virtual))
+IsSound-stack w old new pairs virtual h sound = record { windows = h.windows; panels = sound; pairs = h.pairs; virtual = h.virtual }

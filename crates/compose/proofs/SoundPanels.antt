@@ -9,7 +9,7 @@ use Rattle.cell.specs.declared.refusal.Refusal.TheVariants.{NoSuchWindow, Standa
 use Rattle.world.specs.Windows.{Window, WindowMap}
 use Rattle.world.specs.Panels.{Panels, standard_screen}
 use Rattle.world.specs.Sound.{AreSoundPanels, IsSoundPanel}
-use Rattle.world.specs.calls.Stacking.{IsSoundEntry, IsSoundOrder, after_new_panel, after_replace_panel, given, window_tests}
+use Rattle.world.specs.calls.Stacking.{IsSoundEntry, IsSoundOrder, after_del_panel, after_new_panel, after_replace_panel, given, window_tests}
 use Rattle.world.specs.declared.panel.PanelId.{PanelId}
 use Rattle.stack.specs.Tables.{PanelTable, panels}
 
@@ -79,3 +79,15 @@ module _ (window : WindowMap) where
   sound-replaced old new p w (Ok done) h order may replaced unchanged =
       sound-given (panels old) (panels new) p (Some w) h order (ap (λ ps. ps.window) replaced) (λ v is. some-is w v may is)
   sound-replaced old new p w (Err e) h order may replaced unchanged = subst (λ t. AreSoundPanels window (panels t)) (sym unchanged) h
+
+  -- the same panels with the same windows
+  pub sound-kept : {T : Type 0} (old new : PanelTable) (after : Panels) (r : Result T Refusal) → AreSoundPanels window (panels old) → IsSoundOrder (panels new) → after.window ≡ (panels old).window
+      → OnOk r (panels new ≡ after) → OnErr r (new ≡ old) → AreSoundPanels window (panels new)
+  sound-kept old new after (Ok done) h order same is unchanged = sound-reordered (panels old) (panels new) h order (ap (λ ps. ps.window) is ∙ same)
+  sound-kept old new after (Err e) h order same is unchanged = subst (λ t. AreSoundPanels window (panels t)) (sym unchanged) h
+
+  -- one panel less
+  pub sound-deleted : {T : Type 0} (old new : PanelTable) (p : ℕ) (r : Result T Refusal) → AreSoundPanels window (panels old) → IsSoundOrder (panels new)
+      → OnOk r (panels new ≡ after_del_panel (panels old) p) → OnErr r (new ≡ old) → AreSoundPanels window (panels new)
+  sound-deleted old new p (Ok done) h order is unchanged = sound-given (panels old) (panels new) p None h order (ap (λ ps. ps.window) is) (λ v none. cc)
+  sound-deleted old new p (Err e) h order is unchanged = subst (λ t. AreSoundPanels window (panels t)) (sym unchanged) h

@@ -35,12 +35,12 @@ use world::{Call, Composed, Refresh, Reply};
 /// to be cleared first.
 #[derive(Drop)]
 pub struct Desk {
-    windows: Windows,
-    stack: Stack,
-    pairs: Pairs,
-    picture: Grid<Shown>,
-    cursor: (u16, u16),
-    clear: bool,
+    pub(crate) windows: Windows,
+    pub(crate) stack: Stack,
+    pub(crate) pairs: Pairs,
+    pub(crate) picture: Grid<Shown>,
+    pub(crate) cursor: (u16, u16),
+    pub(crate) clear: bool,
 }
 
 impl Model for Desk {

@@ -2,6 +2,7 @@
 #![tactic(auto)]
 
 mod desk;
+mod desk_panels;
 mod dispatch;
 mod marks;
 mod panels;

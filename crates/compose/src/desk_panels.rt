@@ -1,0 +1,99 @@
+//! The calls on panels.
+
+ghost use Rattle.std.specs.Prelude.{◌≡◌, Some, IfOk, OnOk, OnErr};
+ghost use Rattle.std.specs.Result.{result_err};
+ghost use Rattle.cell.specs.Refusals.{RefusedBy};
+ghost use Rattle.world.specs.calls.Stacking.{after_bottom_panel, after_del_panel, after_hide_panel, after_new_panel, after_replace_panel, after_show_panel, after_top_panel, hidden_panel_refusal, missing_panel_refusal, new_panel_number, new_panel_refusal, replace_panel_refusal};
+ghost use Rattle.compose.specs.Desks.{world};
+
+use crate::desk::Desk;
+use crate::panels::{new_panel, replace_panel};
+use cell::{Refusal, WinId};
+use world::PanelId;
+
+impl Desk {
+    /// Puts a window into a new panel, visible on top. The number is the least free one from 1 on.
+    ///
+    /// # Errors
+    /// `NoSuchWindow`, `StandardScreen`, `IsPad`, `InPanel`, `TooMany`, `NoMemory`.
+    pub fn new_panel(&mut self, win: WinId) -> Result<PanelId, Refusal>
+        ensures refused { RefusedBy (new_panel_refusal (world self.old).windows.window (world self.old).panels win.0) result }
+        ensures number { IfOk result (λ p. new_panel_number (world self.old).panels ≡ Some p.0) }
+        ensures made { IfOk result (λ p. world self.new ≡ record (world self.old) { panels = after_new_panel (world self.old).panels p.0 win.0 }) }
+        ensures unchanged { OnErr result (self.new ≡ self.old) }
+    {
+        new_panel(&self.windows.table, &mut self.stack, win)
+    }
+
+    /// Deletes a panel. Its window stays, and is in no panel any more.
+    ///
+    /// # Errors
+    /// `NoSuchPanel`.
+    pub fn del_panel(&mut self, panel: PanelId) -> Result<(), Refusal>
+        ensures refused { result_err result ≡ missing_panel_refusal (world self.old).panels panel.0 }
+        ensures deleted { OnOk result (world self.new ≡ record (world self.old) { panels = after_del_panel (world self.old).panels panel.0 }) }
+        ensures unchanged { OnErr result (self.new ≡ self.old) }
+    {
+        self.stack.del(panel)
+    }
+
+    /// Puts a panel on top, whether it was hidden or visible.
+    ///
+    /// # Errors
+    /// `NoSuchPanel`.
+    pub fn show_panel(&mut self, panel: PanelId) -> Result<(), Refusal>
+        ensures refused { result_err result ≡ missing_panel_refusal (world self.old).panels panel.0 }
+        ensures shown { OnOk result (world self.new ≡ record (world self.old) { panels = after_show_panel (world self.old).panels panel.0 }) }
+        ensures unchanged { OnErr result (self.new ≡ self.old) }
+    {
+        self.stack.show(panel)
+    }
+
+    /// Takes a visible panel out of the order.
+    ///
+    /// # Errors
+    /// `NoSuchPanel`, `Hidden`.
+    pub fn hide_panel(&mut self, panel: PanelId) -> Result<(), Refusal>
+        ensures refused { result_err result ≡ hidden_panel_refusal (world self.old).panels panel.0 }
+        ensures hidden { OnOk result (world self.new ≡ record (world self.old) { panels = after_hide_panel (world self.old).panels panel.0 }) }
+        ensures unchanged { OnErr result (self.new ≡ self.old) }
+    {
+        self.stack.hide(panel)
+    }
+
+    /// Moves a visible panel to the top.
+    ///
+    /// # Errors
+    /// `NoSuchPanel`, `Hidden`.
+    pub fn top_panel(&mut self, panel: PanelId) -> Result<(), Refusal>
+        ensures refused { result_err result ≡ hidden_panel_refusal (world self.old).panels panel.0 }
+        ensures moved { OnOk result (world self.new ≡ record (world self.old) { panels = after_top_panel (world self.old).panels panel.0 }) }
+        ensures unchanged { OnErr result (self.new ≡ self.old) }
+    {
+        self.stack.top(panel)
+    }
+
+    /// Moves a visible panel to the bottom.
+    ///
+    /// # Errors
+    /// `NoSuchPanel`, `Hidden`.
+    pub fn bottom_panel(&mut self, panel: PanelId) -> Result<(), Refusal>
+        ensures refused { result_err result ≡ hidden_panel_refusal (world self.old).panels panel.0 }
+        ensures moved { OnOk result (world self.new ≡ record (world self.old) { panels = after_bottom_panel (world self.old).panels panel.0 }) }
+        ensures unchanged { OnErr result (self.new ≡ self.old) }
+    {
+        self.stack.bottom(panel)
+    }
+
+    /// Gives a panel another window. The panel keeps its depth, or stays hidden.
+    ///
+    /// # Errors
+    /// `NoSuchPanel`, `NoSuchWindow`, `StandardScreen`, `IsPad`, `InPanel`.
+    pub fn replace_panel(&mut self, panel: PanelId, win: WinId) -> Result<(), Refusal>
+        ensures refused { result_err result ≡ replace_panel_refusal (world self.old).windows.window (world self.old).panels panel.0 win.0 }
+        ensures replaced { OnOk result (world self.new ≡ record (world self.old) { panels = after_replace_panel (world self.old).panels panel.0 win.0 }) }
+        ensures unchanged { OnErr result (self.new ≡ self.old) }
+    {
+        replace_panel(&self.windows.table, &mut self.stack, panel, win)
+    }
+}
