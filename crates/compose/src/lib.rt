@@ -8,6 +8,8 @@ mod marks;
 mod panels;
 mod picture;
 mod search;
+#[cfg(test)]
+mod tests;
 
 pub use desk::Desk;
 pub use marks::{clear_asked, unmark_composed};

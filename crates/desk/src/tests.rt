@@ -1,6 +1,6 @@
 use crate::{
-    Call, Composed, Counted, CountedReader, Desk, Fault, Query, Refresh, Refusal, Reply, RunEnd,
-    Screen, ScriptEnd, ScriptFault, Sent, Sink, TextFault, WinId, WriteFault, Writing,
+    Call, Composed, Counted, CountedReader, Fault, Refresh, Refusal, Reply, RunEnd, Screen,
+    ScriptEnd, ScriptFault, Sent, Sink, TextFault, WinId, WriteFault, Writing,
 };
 use std::alloc::Global;
 use std::io;
@@ -101,32 +101,6 @@ fn addstr(win: u16, text: &[u8]) -> Call<'_> {
         win: WinId(win),
         text,
     })
-}
-
-#[test]
-fn a_desk_takes_the_picture_of_the_standard_screen(rt: HostRuntime) -> Result<(), Fail> {
-    let mut desk = Desk::new(rt.alloc(), 2, 3)?;
-    assert_eq!(rt; desk.size(), (2, 3));
-    let (win, text) = (WinId(0), b"abcd".as_slice());
-    let addstr = Call::Writing(Writing::Addstr { win, text });
-    assert_eq!(rt; desk.call(&addstr), Ok(Reply::Nothing));
-    assert_eq!(rt; desk.windows().table.getyx(WinId(0)), Ok((1, 1)));
-    assert_eq!(rt; desk.wanted_cursor(), (0, 0));
-    assert_eq!(rt; desk.update_panels(), Composed { cells: 6 });
-    assert_eq!(rt; desk.wanted_cursor(), (1, 1));
-    desk.clear_done();
-    let mut shown = Vec::new(rt.alloc());
-    for y in 0..desk.size().0 {
-        for cell in desk.virtual_row(y) {
-            shown.push(cell.ch())?;
-        }
-    }
-    assert_eq!(rt; shown.as_slice(), b"abcd  ".as_slice());
-    assert_eq!(rt;
-        desk.call(&Call::Query(Query::Getbegyx { win: WinId(1) })),
-        Err(Refusal::NoSuchWindow)
-    );
-    Ok(())
 }
 
 #[test]
