@@ -7,7 +7,7 @@ use Rattle.cell.specs.Shown.{Pairs, ArePairs, IsShown, first_pairs, shown_blank}
 use Rattle.cell.specs.Pictures.{Picture, blank_picture}
 use Rattle.cell.proofs.PictureLemmas.{ArePairs-first, EachCell-all_of, HasSize-all_of, IsShown-blank}
 use Rattle.world.specs.Windows.{Window, Windows}
-use Rattle.world.specs.Panels.{Panels, is_in_panel, no_panels, standard_screen}
+use Rattle.world.specs.Panels.{Panels, is_in_panel, first_panels, standard_screen}
 use Rattle.world.specs.World.{VirtualScreen, first_world}
 use Rattle.world.specs.Sound.{AreSoundPanels, AreSoundWindows, IsSound, IsSoundPanel}
 use Rattle.cell.specs.declared.refusal.Refusal.{Refusal}
@@ -38,7 +38,7 @@ desk_of w ps pairs virtual = record { windows = w; panels = ps; pairs = pairs; v
 abbrev pub KeepsPlaces : Panels → Windows → Windows → Type 0
 KeepsPlaces ps old new = (p w : ℕ) → ps.window p ≡ Some w → w ≢ standard_screen → has_place (old.window w) ≡ true → has_place (new.window w) ≡ true
 
-no-panels-sound : (ws : Windows) (ps : Panels) → ps ≡ no_panels → AreSoundPanels ws.window ps
+no-panels-sound : (ws : Windows) (ps : Panels) → ps ≡ first_panels → AreSoundPanels ws.window ps
 no-panels-sound ws ps none = subst (λ ps. AreSoundPanels ws.window ps) (sym none) (search rules)
 
 -- a window of a panel isn't deleted
@@ -127,7 +127,7 @@ module _ (old new : WindowTable) (ps : PanelTable) (pairs : Pairs) (virtual : Vi
 
 -- a new desk
 pub IsSound-new : (w : WindowTable) (ps : PanelTable) (lines columns : ℕ) (pairs : Pairs) (picture : Picture) → AreSoundWindows (windows w) → windows w ≡ (first_world lines columns).windows
-    → panels ps ≡ no_panels → pairs ≡ first_pairs → picture ≡ blank_picture lines columns → IsSound (world (desk_of w ps pairs (record { picture = picture; cursor = (0, 0); clear = false })))
+    → panels ps ≡ first_panels → pairs ≡ first_pairs → picture ≡ blank_picture lines columns → IsSound (world (desk_of w ps pairs (record { picture = picture; cursor = (0, 0); clear = false })))
 IsSound-new w ps lines columns pairs picture sound is none pairs_are blank = record {
   windows = sound;
   panels = no-panels-sound (windows w) (panels ps) none;

@@ -1,9 +1,8 @@
 //! Making, moving and deleting windows and pads. The table knows no panels: it moves and deletes as where no window is in one.
 
-ghost use Rattle.std.specs.Prelude.{◌≡◌, ℕ, ◌<◌, ◌≤◌, ◌+◌, ◌^◌, ◌||◌, Some, None, IsSome, IsSomeAnd, MatchOption, ⊤, IfOk, OnOk, OnErr, nat_le, if◌then◌else◌, true};
+ghost use Rattle.std.specs.Prelude.{◌≡◌, ℕ, ◌<◌, ◌≤◌, ◌+◌, ◌^◌, ◌||◌, false, Some, None, IsSome, IsSomeAnd, MatchOption, ⊤, IfOk, OnOk, OnErr, nat_le, if◌then◌else◌, true};
 ghost use Rattle.std.specs.Result.{result_err};
 ghost use Rattle.cell.specs.Refusals.{RefusedBy, first_of};
-ghost use Rattle.world.specs.Panels.{in_no_panel};
 ghost use Rattle.world.specs.Sound.{AreSoundWindows};
 ghost use Rattle.world.specs.calls.Making.{is_inside, extent, new_number, place_from, numbered, newwin_refusal, after_newwin, newpad_refusal, after_newpad, part_tests, derwin_refusal, after_derwin, subpad_refusal, after_subpad, subwin_refusal, after_subwin, mvwin_refusal, after_mvwin, mvderwin_refusal, after_mvderwin, delwin_refusal, after_delwin};
 ghost use Rattle.grids.specs.Tables.{windows};
@@ -178,7 +177,7 @@ impl Grids {
     /// # Errors
     /// `NoSuchWindow`, `StandardScreen`, `IsPad`, `OffScreen`.
     pub fn mvwin(&mut self, win: WinId, y: u16, x: u16) -> Result<(), Refusal>
-        ensures refused { result_err result ≡ mvwin_refusal (windows self.old) (in_no_panel win.0) win.0 y x }
+        ensures refused { result_err result ≡ mvwin_refusal (windows self.old) false win.0 y x }
         ensures moved { OnOk result (windows self.new ≡ after_mvwin (windows self.old) win.0 y x) }
         ensures unchanged { OnErr result (self.new ≡ self.old) }
         ensures sound { AreSoundWindows (windows self.new) }
@@ -229,7 +228,7 @@ impl Grids {
     /// # Errors
     /// `NoSuchWindow`, `StandardScreen`, `HasDerived`.
     pub fn delwin(&mut self, win: WinId) -> Result<(), Refusal>
-        ensures refused { result_err result ≡ delwin_refusal (windows self.old) (in_no_panel win.0) win.0 }
+        ensures refused { result_err result ≡ delwin_refusal (windows self.old) false win.0 }
         ensures deleted { OnOk result (windows self.new ≡ after_delwin (windows self.old) win.0) }
         ensures unchanged { OnErr result (self.new ≡ self.old) }
         ensures sound { AreSoundWindows (windows self.new) }

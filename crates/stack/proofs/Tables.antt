@@ -7,7 +7,7 @@ use Rattle.std.proofs.lemmas.List.{length_push}
 use Rattle.std.proofs.lemmas.Map.Keys.{apart_from_distinct}
 use Rattle.cell.specs.declared.refusal.Refusal.TheVariants.{Hidden}
 use Rattle.cell.specs.declared.window.WinId.{WinId}
-use Rattle.world.specs.Panels.{Panels, no_panels}
+use Rattle.world.specs.Panels.{Panels, first_panels}
 use Rattle.world.specs.calls.Stacking.{after_del_panel, after_new_panel, after_replace_panel, given, hidden_panel_refusal, is_hidden, without, IsSoundEntry, IsSoundOrder}
 use Rattle.stack.specs.Nodes.{no_node, node_at, window_at, window_in, from_bottom, IsOut, IsPanel, IsThreaded}
 use Rattle.stack.specs.Tables.{panels, table_of, IsPanelTable}
@@ -86,7 +86,7 @@ first-table = record {
   threaded = subst (λ (l : List ℕ). IsThreaded (no_node ∷ []) l) (sym first-is) first-threaded;
 }
 
-pub first-panels : panels (table_of (no_node ∷ [])) ≡ no_panels
+pub first-panels : panels (table_of (no_node ∷ [])) ≡ first_panels
 first-panels = panels-are (no_node ∷ []) [] (λ p. None) first-is first-window
 
 -- ---- the order changed

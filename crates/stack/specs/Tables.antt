@@ -1,11 +1,9 @@
 -- The panels as the stack shows them, and the panels of the world that they stand for.
 use Rattle.std.specs.Prelude.{◌≡◌, ℕ, ◌+◌, ◌<◌, ◌≤◌, Option, Some, None, List, length, map, slice_index_or}
-use Rattle.std.specs.Option.{option_map}
 use Rattle.cell.specs.declared.limits.TheConstants.{MOST_PANELS}
 use Rattle.world.specs.Panels.{Panels}
 use Rattle.stack.specs.Nodes.{from_bottom, IsThreaded, window_at, window_in}
 use Rattle.stack.specs.declared.nodes.Node.{Node}
-use Rattle.world.specs.declared.panel.PanelId.{PanelId}
 
 -- the visible panels from bottom to top, and each panel's window by the panel's number
 pub record PanelTable : Type 0 where
@@ -14,10 +12,6 @@ pub record PanelTable : Type 0 where
 
 abbrev pub panels : PanelTable → Panels
 panels t = record { visible = t.visible; window = λ p. slice_index_or t.windows p None }
-
--- the number of a panel, if it is one
-abbrev pub number : Option PanelId → Option ℕ
-number panel = option_map (λ p. p.0) panel
 
 abbrev pub table_of : List Node → PanelTable
 table_of nodes = record { visible = from_bottom nodes; windows = map window_in nodes }

@@ -4,8 +4,8 @@ ghost use Rattle.std.specs.Prelude.{◌≡◌, ◌==◌, if◌then◌else◌, So
 ghost use Rattle.std.specs.Result.{result_err};
 ghost use Rattle.cell.specs.declared.limits.TheConstants.{MOST_PANELS};
 ghost use Rattle.world.specs.Panels.{is_in_panel};
-ghost use Rattle.world.specs.calls.Stacking.{is_hidden, missing_panel_refusal, neighbour_refusal, panel_above, panel_below, IsSoundOrder};
-ghost use Rattle.stack.specs.Tables.{number, panels};
+ghost use Rattle.world.specs.calls.Stacking.{is_hidden, missing_panel_refusal, neighbour_refusal, panel_above, panel_below, panel_number, IsSoundOrder};
+ghost use Rattle.stack.specs.Tables.{panels};
 
 use crate::entries::{holder, require_panel, require_visible};
 use crate::table::Stack;
@@ -19,8 +19,8 @@ impl Stack {
     /// # Errors
     /// `NoSuchPanel`, `Hidden`.
     pub fn above(&self, panel: Option<PanelId>) -> Result<Option<PanelId>, Refusal>
-        ensures refused { result_err result ≡ neighbour_refusal (panels self.now) (number panel) }
-        ensures answer { IfOk result (λ q. number q ≡ panel_above (panels self.now) (number panel)) }
+        ensures refused { result_err result ≡ neighbour_refusal (panels self.now) (panel_number panel) }
+        ensures answer { IfOk result (λ q. panel_number q ≡ panel_above (panels self.now) (panel_number panel)) }
     {
         match panel {
             Some(panel) => {
@@ -36,8 +36,8 @@ impl Stack {
     /// # Errors
     /// `NoSuchPanel`, `Hidden`.
     pub fn below(&self, panel: Option<PanelId>) -> Result<Option<PanelId>, Refusal>
-        ensures refused { result_err result ≡ neighbour_refusal (panels self.now) (number panel) }
-        ensures answer { IfOk result (λ q. number q ≡ panel_below (panels self.now) (number panel)) }
+        ensures refused { result_err result ≡ neighbour_refusal (panels self.now) (panel_number panel) }
+        ensures answer { IfOk result (λ q. panel_number q ≡ panel_below (panels self.now) (panel_number panel)) }
     {
         match panel {
             Some(panel) => {
@@ -102,7 +102,7 @@ impl Stack {
 
 /// The panel of a node, but for the end of the order.
 fn panel_at(node: u16) -> Option<PanelId>
-    ensures { number result ≡ (if node == 0 then None else Some node) }
+    ensures { panel_number result ≡ (if node == 0 then None else Some node) }
 {
     if node == 0 { None } else { Some(PanelId(node)) }
 }

@@ -3,7 +3,7 @@
 ghost use Rattle.std.specs.Prelude.{◌≡◌, true};
 ghost use Rattle.world.specs.calls.Stacking.{IsSoundOrder};
 ghost use Rattle.stack.specs.Tables.{panels};
-ghost use Rattle.world.specs.Panels.{no_panels};
+ghost use Rattle.world.specs.Panels.{first_panels};
 
 use crate::nodes::Nodes;
 use std::alloc::Global;
@@ -28,7 +28,7 @@ impl Model for Stack {
 impl Stack {
     /// No panels. It takes no memory.
     pub fn new(alloc: Global) -> Stack
-        ensures { panels result ≡ no_panels }
+        ensures { panels result ≡ first_panels }
     {
         Stack {
             nodes: Nodes::new(alloc),

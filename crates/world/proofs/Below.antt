@@ -1,5 +1,5 @@
 -- Tests of the numbers below a number, and of the places of a rectangle.
-use Rattle.std.proofs.Common.{◌≡◌, ℕ, zero, suc, ◌+◌, ◌<◌, Bool, true, false, ◌&&◌, nat_le, subst, inl, inr, arith, refl}
+use Rattle.std.proofs.Common.{◌≡◌, ℕ, zero, suc, ◌+◌, ◌<◌, Bool, true, ◌&&◌, nat_le, subst, inl, inr, arith}
 use Rattle.std.proofs.lemmas.Bool.{cases_eq, and_parts, and_from, or_cases, or_left, or_right, leb-true, le-leb}
 use Rattle.world.specs.Windows.{any_below}
 use Rattle.world.specs.Frames.{IsIn}
@@ -57,7 +57,3 @@ any_in-some r test y x inside is =
     (and_from (nat_le r.top y) (any_below (r.right + 1) (λ z. nat_le r.left z && test y z)) (le-leb r.top y inside.top)
     (any_below-some (r.right + 1) (λ z. nat_le r.left z && test y z) x (omega arith)
     (and_from (nat_le r.left x) (test y x) (le-leb r.left x inside.left) is)))
-
-pub none-below : (n : ℕ) → any_below n (λ k. false) ≡ false
-none-below zero = refl
-none-below (suc n) = none-below n

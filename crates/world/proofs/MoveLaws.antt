@@ -8,11 +8,11 @@ use Rattle.std.proofs.lemmas.Bool.{and_from, eqb-false, or_parts, false_from_ne_
 use Rattle.cell.specs.Pictures.{origin}
 use Rattle.cell.specs.declared.refusal.Refusal.{Refusal}
 use Rattle.world.specs.Windows.{Window, WindowMap, ancestors_within, cell_at, changed, derives, parent_number, parent_of, window_limit}
-use Rattle.world.specs.Panels.{Panels, cell_on_screen, found_from_top, holds_place, owner, panel_holds, place_of, screen_place, standard_screen, window_or_standard, windows_from_top}
+use Rattle.world.specs.Panels.{Panels, cell_on_screen, found_from_top, has_line, holds_place, owner, panel_holds, place_of, screen_place, standard_screen, window_or_standard, windows_from_top}
 use Rattle.world.specs.Sound.{AreSoundWindows, IsStandardScreen}
 use Rattle.world.specs.World.{World}
 use Rattle.world.specs.calls.Making.{after_mvderwin, has_no_parent, is_own, mvderwin_refusal, with_part}
-use Rattle.world.specs.calls.Affected.{follows_on_line, has_line, move_affects}
+use Rattle.world.specs.calls.Affected.{follows_on_line, move_affects}
 use Rattle.world.proofs.AncestorLaws.{cell_at-beside}
 use Rattle.world.proofs.PictureLaws.{found-in, holds-line}
 

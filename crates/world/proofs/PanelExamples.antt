@@ -1,20 +1,29 @@
 -- What the calls on panels leave and answer, and which lines they affect, for a reader of the definitions.
-use Rattle.std.proofs.Common.{◌≡◌, ℕ, true, List, [], ◌∷◌, Some, None, if◌then◌else◌, ◌==◌, ◌||◌, refl}
+use Rattle.std.proofs.Common.{◌≡◌, ℕ, true, List, [], ◌∷◌, Option, Some, None, if◌then◌else◌, ◌==◌, ◌||◌, refl}
 use Rattle.std.specs.Prelude.{filter}
 use Rattle.std.specs.List.{range_with_len}
 use Rattle.world.specs.Windows.{window_limit}
 use Rattle.world.specs.Panels.{Panels, panel_limit}
 use Rattle.world.specs.World.{World}
-use Rattle.world.specs.calls.Stacking.{after_bottom_panel, after_del_panel, after_hide_panel, after_move_panel, after_replace_panel, after_show_panel, hidden_panel_refusal, is_hidden, move_panel_refusal, new_panel_number, new_panel_refusal, panel_above, panel_affects, panel_below, replace_panel_refusal}
+use Rattle.world.specs.calls.Stacking.{after_bottom_panel, after_del_panel, after_hide_panel, after_new_panel, after_replace_panel, after_show_panel, hidden_panel_refusal, is_hidden, move_panel_refusal, new_panel_number, new_panel_refusal, panel_above, panel_below, replace_panel_refusal}
+use Rattle.world.specs.calls.Dispatch.{refusal, reply_of, world_after}
+use Rattle.world.specs.calls.Affected.{affected_lines}
+use Rattle.cell.specs.declared.refusal.Refusal.{Refusal}
 use Rattle.cell.specs.declared.refusal.Refusal.TheVariants.{NoSuchPanel, NoSuchWindow, OffScreen, IsPad, InPanel, Hidden, StandardScreen}
-use Rattle.world.specs.declared.call.Call.TheVariants.{Making}
+use Rattle.world.specs.declared.panel.PanelId.{PanelId}
+use Rattle.world.specs.declared.call.Call.TheVariants.{Making, Stacking}
 use Rattle.world.specs.declared.call.Making.TheVariants.{Newwin, Newpad}
+use Rattle.world.specs.declared.call.Stacking.{Stacking as Stack_call}
+use Rattle.world.specs.declared.call.Stacking.TheVariants.{NewPanel, DelPanel, ShowPanel, TopPanel, BottomPanel, MovePanel, ReplacePanel, PanelAbove, PanelBelow, PanelWindow, PanelHidden}
+use Rattle.world.specs.declared.call.Reply.{Reply}
+use Rattle.world.specs.declared.call.Reply.TheVariants.{Flag, Nothing, Number, Panel}
 use Rattle.world.proofs.Examples.{screen_after, win}
 
--- windows 1 and 2 of two lines, on lines 0 and 1, and window 3 of one line, on line 3; number 4 is a pad
+-- windows 1 and 2 of two lines, on lines 0 and 1, window 3 of one line, on line 3, and window 5 of two lines, on lines 2 and 3; number 4
+-- is a pad
 unfoldable windows : World
 unfolding screen_after
-windows = screen_after (Making (Newwin 2 5 0 0) ∷ Making (Newwin 2 5 0 3) ∷ Making (Newwin 1 5 3 0) ∷ Making (Newpad 2 2) ∷ [])
+windows = screen_after (Making (Newwin 2 5 0 0) ∷ Making (Newwin 2 5 0 3) ∷ Making (Newwin 1 5 3 0) ∷ Making (Newpad 2 2) ∷ Making (Newwin 2 5 2 0) ∷ [])
 
 -- panels 1, 2 and 3 with the windows of their numbers; 3 is hidden
 three : Panels
@@ -74,20 +83,46 @@ moved : (move_panel_refusal screen.windows three 3 3 5 ≡ None) × (move_panel_
 unfolding screen windows three screen_after win window_limit
 moved = (refl, refl, refl)
 
--- ---- lines
+-- ---- calls as data
 
-lines : World → World → ℕ → List ℕ
-lines old new p = filter (panel_affects old new p) (range_with_len 0 4)
+panel : ℕ → PanelId
+panel p = record { 0 = p }
+
+reply : Stack_call → Reply
+reply call = reply_of screen (Stacking call)
+
+refused : Stack_call → Option Refusal
+refused call = refusal screen (Stacking call)
+
+lines : Stack_call → List ℕ
+lines call = filter (affected_lines screen (Stacking call)) (range_with_len 0 4)
+
+answers : (reply (PanelAbove (Some (panel 1))) ≡ Panel (Some (panel 2))) × (reply (PanelBelow (Some (panel 1))) ≡ Panel None) × (reply (PanelBelow None) ≡ Panel (Some (panel 2))) × (reply (PanelWindow (panel 3)) ≡ Number (win 3)) × (reply (PanelHidden (panel 3)) ≡ Flag true) × (reply (ShowPanel (panel 3)) ≡ Nothing)
+unfolding reply screen windows three panel win screen_after window_limit panel_limit
+answers = (refl, refl, refl, refl, refl, refl)
+
+made : (reply (NewPanel (win 5)) ≡ Panel (Some (panel 4))) × ((world_after screen (Stacking (NewPanel (win 5)))).panels ≡ after_new_panel three 4 5)
+unfolding reply screen windows three panel win screen_after window_limit panel_limit
+made = (refl, refl)
+
+hidden_refused : (refused (TopPanel (panel 3)) ≡ Some Hidden) × (refused (PanelAbove (Some (panel 3))) ≡ Some Hidden) × (refused (PanelAbove None) ≡ None) × (refused (PanelHidden (panel 3)) ≡ None)
+unfolding refused screen windows three panel win screen_after window_limit panel_limit
+hidden_refused = (refl, refl, refl, refl)
 
 -- the lines of its rectangle where it was, and where it is
-lines_of_move : lines screen (record screen { windows = after_move_panel screen.windows three 1 2 0 }) 1 ≡ 0 ∷ 1 ∷ 2 ∷ 3 ∷ []
-unfolding lines screen windows three screen_after win window_limit
+lines_of_move : lines (MovePanel (panel 1) 2 0) ≡ 0 ∷ 1 ∷ 2 ∷ 3 ∷ []
+unfolding lines screen windows three panel screen_after win window_limit
 lines_of_move = refl
 
-no_line_of_hidden : lines screen (record screen { windows = after_move_panel screen.windows three 3 0 0 }) 3 ≡ []
-unfolding lines screen windows three screen_after win window_limit
+no_line_of_hidden : lines (MovePanel (panel 3) 0 0) ≡ []
+unfolding lines screen windows three panel screen_after win window_limit
 no_line_of_hidden = refl
 
-lines_of_show : lines screen (record screen { panels = after_show_panel three 3 }) 3 ≡ 3 ∷ []
-unfolding lines screen windows three screen_after win window_limit
-lines_of_show = refl
+lines_of_order : (lines (ShowPanel (panel 3)) ≡ 3 ∷ []) × (lines (BottomPanel (panel 1)) ≡ 0 ∷ 1 ∷ []) × (lines (DelPanel (panel 2)) ≡ 0 ∷ 1 ∷ []) × (lines (TopPanel (panel 3)) ≡ [])
+unfolding lines screen windows three panel screen_after win window_limit
+lines_of_order = (refl, refl, refl, refl)
+
+-- windows 1 and 5, which is on lines 2 and 3
+lines_of_windows : (lines (NewPanel (win 5)) ≡ 2 ∷ 3 ∷ []) × (lines (ReplacePanel (panel 1) (win 5)) ≡ 0 ∷ 1 ∷ 2 ∷ 3 ∷ []) × (lines (PanelWindow (panel 1)) ≡ [])
+unfolding lines screen windows three panel screen_after win window_limit panel_limit
+lines_of_windows = (refl, refl, refl)

@@ -1,15 +1,10 @@
 -- Which windows are in panels.
 use Rattle.std.proofs.Common.{◌≡◌, ℕ, ◌≤◌, true, false, ◌==◌, Option, Some, None, ap, arith, eq-eqb}
 use Rattle.std.specs.Option.{option_map_or}
-use mathlib.Core.Path.{fun_ext}
 use Rattle.std.proofs.lemmas.Bool.{eqb-true}
 use Rattle.cell.specs.declared.limits.TheConstants.{MOST_PANELS}
-use Rattle.world.specs.Panels.{Panels, in_no_panel, is_in_panel, no_panels, panel_limit}
-use Rattle.world.proofs.Below.{any_below-some, any_below-true, none-below}
-
--- without panels no window is
-pub in_panel-none : is_in_panel no_panels ≡ in_no_panel
-in_panel-none = fun_ext (λ w. none-below panel_limit)
+use Rattle.world.specs.Panels.{Panels, is_in_panel, panel_limit}
+use Rattle.world.proofs.Below.{any_below-some, any_below-true}
 
 names : (o : Option ℕ) (w : ℕ) → option_map_or (λ u. u == w) o false ≡ true → o ≡ Some w
 names None w h = cc

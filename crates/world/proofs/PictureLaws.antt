@@ -8,11 +8,11 @@ use Rattle.std.proofs.lemmas.Bool.{and_parts, and_from, or_parts, leb-true, ltb-
 use Rattle.cell.specs.Pictures.{Place, origin}
 use Rattle.world.specs.Windows.{Drawing, GridPlace, HasPlace, Window, WindowMap, any_below, cell_at, drawn, onward, own, put_from, put_windows}
 use Rattle.world.specs.Frames.{Covers, IsFrameOf, frame_of}
-use Rattle.world.specs.Panels.{Panels, cell_on_screen, found_from_top, holds, holds_place, owner, panel_holds, place_of, screen_place, standard_screen, window_or_standard, windows_from_top}
+use Rattle.world.specs.Panels.{Panels, cell_on_screen, found_from_top, has_line, holds, holds_place, owner, panel_holds, place_of, screen_place, standard_screen, window_or_standard, windows_from_top}
 use Rattle.world.specs.Sharing.{is_same_place, shows_part_of}
 use Rattle.world.specs.Sound.{AreSoundWindows, IsSoundWindow, IsStandardScreen}
 use Rattle.world.specs.World.{World}
-use Rattle.world.specs.calls.Affected.{frame_affects, has_line, shows_on_line}
+use Rattle.world.specs.calls.Affected.{frame_affects, shows_on_line}
 use Rattle.world.proofs.Below.{any_below-some, any_in-some}
 use Rattle.world.proofs.FrameLaws.{frame_of-is}
 use Rattle.world.proofs.SharingLaws.{true-same}

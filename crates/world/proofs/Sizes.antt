@@ -7,7 +7,7 @@ use Rattle.world.specs.Settings.{set, with_cursor}
 use Rattle.world.specs.World.{World}
 use Rattle.world.specs.Drawings.{at_place, to_end_of_line, written_glyph}
 use Rattle.world.specs.calls.writing.Characters.{after_addch, after_addstr, drawn_to, region_up, is_last_line, newline, carriage_return, backspace, character_printed, line_ended, to_next_line, scrolls, typed_in}
-use Rattle.world.specs.calls.Dispatch.{after_making, after_copying, after_writing, world_after}
+use Rattle.world.specs.calls.Dispatch.{after_making, after_copying, after_writing, after_stacking, world_after}
 use Rattle.world.specs.declared.call.Call.{Call}
 use Rattle.world.specs.declared.call.Call.TheVariants as calls
 use Rattle.world.specs.declared.call.Making.{Making}
@@ -16,6 +16,8 @@ use Rattle.world.specs.declared.call.Copying.TheVariants.{Overlay, Overwrite, Co
 use Rattle.world.specs.declared.call.Making.TheVariants.{Newwin, Subwin, Derwin, Newpad, Subpad, Delwin, Mvwin, Mvderwin}
 use Rattle.world.specs.declared.call.Writing.{Writing}
 use Rattle.world.specs.declared.call.Writing.TheVariants.{Move, Addch, Addstr, Insch, Delch, Insertln, Deleteln, Erase, Clrtoeol, Clrtobot, Scrl, Setscrreg, Scrollok, Attrset, Attron, Attroff, Bkgdset, ColorSet, Bkgdpair}
+use Rattle.world.specs.declared.call.Stacking.{Stacking}
+use Rattle.world.specs.declared.call.Stacking.TheVariants.{NewPanel, DelPanel, ShowPanel, HidePanel, TopPanel, BottomPanel, MovePanel, ReplacePanel, PanelAbove, PanelBelow, PanelWindow, PanelHidden}
 use Rattle.world.specs.declared.call.Refresh.TheVariants.{UpdatePanels, Doupdate, InitPair}
 
 pub record SameSize (one other : Windows) : Type 0 where
@@ -118,11 +120,26 @@ size-copying windows (Syncdown win) = record { lines = refl; columns = refl }
 size-copying windows (IsLinetouched win y) = record { lines = refl; columns = refl }
 size-copying windows (IsWintouched win) = record { lines = refl; columns = refl }
 
+pub size-stacking : (world : World) (stacking : Stacking) → SameSize (after_stacking world stacking).windows world.windows
+size-stacking world (NewPanel win) = record { lines = refl; columns = refl }
+size-stacking world (DelPanel panel) = record { lines = refl; columns = refl }
+size-stacking world (ShowPanel panel) = record { lines = refl; columns = refl }
+size-stacking world (HidePanel panel) = record { lines = refl; columns = refl }
+size-stacking world (TopPanel panel) = record { lines = refl; columns = refl }
+size-stacking world (BottomPanel panel) = record { lines = refl; columns = refl }
+size-stacking world (MovePanel panel y x) = record { lines = refl; columns = refl }
+size-stacking world (ReplacePanel panel win) = record { lines = refl; columns = refl }
+size-stacking world (PanelAbove panel) = record { lines = refl; columns = refl }
+size-stacking world (PanelBelow panel) = record { lines = refl; columns = refl }
+size-stacking world (PanelWindow panel) = record { lines = refl; columns = refl }
+size-stacking world (PanelHidden panel) = record { lines = refl; columns = refl }
+
 pub size-call : (world : World) (call : Call) → SameSize (world_after world call).windows world.windows
 size-call world (calls.Making making) = size-making world.windows making
 size-call world (calls.Writing writing) = size-writing world.windows writing
 size-call world (calls.Copying copying) = size-copying world.windows copying
 size-call world (calls.Query query) = record { lines = refl; columns = refl }
+size-call world (calls.Stacking stacking) = size-stacking world stacking
 size-call world (calls.Refresh UpdatePanels) = record { lines = refl; columns = refl }
 size-call world (calls.Refresh Doupdate) = record { lines = refl; columns = refl }
 size-call world (calls.Refresh (InitPair pair foreground background)) = record { lines = refl; columns = refl }

@@ -13,8 +13,9 @@ pub record Panels : Type 0 where
   pub visible : List ℕ
   pub window : ℕ → Option ℕ
 
-abbrev pub no_panels : Panels
-no_panels = record { visible = []; window = λ p. None }
+-- those of a new screen: there are none
+abbrev pub first_panels : Panels
+first_panels = record { visible = []; window = λ p. None }
 
 -- more than the number of any panel
 unfoldable pub panel_limit : ℕ
@@ -23,10 +24,6 @@ panel_limit = MOST_PANELS + 1
 -- window w is in a panel, visible or hidden
 abbrev pub is_in_panel : Panels → ℕ → Bool
 is_in_panel panels w = any_below panel_limit (λ p. option_map_or (λ u. u == w) (panels.window p) false)
-
--- no window is in a panel
-abbrev pub in_no_panel : ℕ → Bool
-in_no_panel w = false
 
 -- the number of the standard screen
 abbrev pub standard_screen : ℕ
@@ -42,6 +39,10 @@ window_or_standard panels None = standard_screen
 window_or_standard panels (Some p) = unwrap_or (panels.window p) standard_screen
 
 -- ---- the picture
+
+-- the line is one of the window's rectangle; a pad has none
+abbrev pub has_line : ℕ → Window → Bool
+has_line line a = option_map_or (λ p. nat_le p.0 line && nat_lt line (p.0 + a.lines)) a.place false
 
 -- whether the window's rectangle holds the place (y, x) of the screen; a pad's holds none
 abbrev pub holds_place : ℕ → ℕ → Window → Bool

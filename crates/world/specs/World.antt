@@ -5,7 +5,7 @@ use Rattle.cell.specs.Glyphs.{blank}
 use Rattle.cell.specs.Pictures.{Picture, Place, origin, blank_picture}
 use Rattle.cell.specs.Shown.{Shown, Pairs, shown, first_pairs}
 use Rattle.world.specs.Windows.{Backing, own_grid, Window, Windows, no_windows, replaced}
-use Rattle.world.specs.Panels.{Panels, no_panels, standard_screen, found_from_top, cursor_of_topmost}
+use Rattle.world.specs.Panels.{Panels, first_panels, standard_screen, found_from_top, cursor_of_topmost}
 use Rattle.world.specs.declared.settings.Settings.{Settings}
 
 -- a picture, where the cursor is wanted, and whether the terminal is to be cleared first
@@ -19,10 +19,6 @@ pub record World : Type 0 where
   pub panels : Panels
   pub pairs : Pairs
   pub virtual : VirtualScreen
-
--- windows under a virtual screen, without panels
-abbrev pub without_panels : Windows → Pairs → VirtualScreen → World
-without_panels windows pairs virtual = record { windows = windows; panels = no_panels; pairs = pairs; virtual = virtual }
 
 -- the picture of the world: what the search from the top finds at (y, x), in the colours that its pair has
 abbrev pub picture : World → ℕ → ℕ → Shown
@@ -47,7 +43,9 @@ new_window lines columns place backing = record { lines = lines; columns = colum
 
 -- the standard screen alone, under a blank virtual screen
 abbrev pub first_world : ℕ → ℕ → World
-first_world lines columns = without_panels
-    (record { lines = lines; columns = columns; window = replaced no_windows standard_screen (Some (new_window lines columns (Some origin) blank_grid)) })
-    first_pairs
-    (record { picture = blank_picture lines columns; cursor = origin; clear = false })
+first_world lines columns = record {
+  windows = record { lines = lines; columns = columns; window = replaced no_windows standard_screen (Some (new_window lines columns (Some origin) blank_grid)) };
+  panels = first_panels;
+  pairs = first_pairs;
+  virtual = record { picture = blank_picture lines columns; cursor = origin; clear = false };
+}

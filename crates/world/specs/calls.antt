@@ -3,8 +3,8 @@ pub mod Making
 pub mod writing
 pub mod Copies
 pub mod Marks
-pub mod Stacking
 pub mod Queries
+pub mod Stacking
 pub mod Refresh
 pub mod Dispatch
 pub mod Affected

@@ -1,5 +1,6 @@
 //! The calls and what they answer.
 
+use crate::panel::PanelId;
 use cell::{Attr, Cell, WinId};
 use streams::Sent;
 
@@ -10,6 +11,7 @@ pub enum Call<'a> {
     Writing(Writing<'a>),
     Copying(Copying),
     Query(Query),
+    Stacking(Stacking),
     Refresh(Refresh),
 }
 
@@ -194,6 +196,35 @@ pub enum Query {
     Inch { win: WinId },
 }
 
+/// The calls that make panels, delete them, order them and move them, and those that ask about them.
+#[derive(Clone, Copy, Debug)]
+pub enum Stacking {
+    /// Puts a window into a new panel, visible on top.
+    NewPanel { win: WinId },
+    /// Deletes a panel. Its window stays.
+    DelPanel { panel: PanelId },
+    /// Puts a panel on top, whether it was hidden or visible.
+    ShowPanel { panel: PanelId },
+    /// Takes a visible panel out of the order.
+    HidePanel { panel: PanelId },
+    /// Moves a visible panel to the top.
+    TopPanel { panel: PanelId },
+    /// Moves a visible panel to the bottom.
+    BottomPanel { panel: PanelId },
+    /// Moves the window of a panel, visible or hidden, to a line and a column of the screen.
+    MovePanel { panel: PanelId, y: u16, x: u16 },
+    /// Gives a panel another window. The panel keeps its depth, or stays hidden.
+    ReplacePanel { panel: PanelId, win: WinId },
+    /// The panel right above a visible one, or without a panel the bottom one.
+    PanelAbove { panel: Option<PanelId> },
+    /// The panel right below a visible one, or without a panel the top one.
+    PanelBelow { panel: Option<PanelId> },
+    /// The window of a panel.
+    PanelWindow { panel: PanelId },
+    /// Whether a panel is hidden.
+    PanelHidden { panel: PanelId },
+}
+
 /// The calls that refresh, and the one that sets the colours of a pair.
 #[derive(Clone, Copy, Debug)]
 pub enum Refresh {
@@ -219,13 +250,15 @@ pub struct Composed {
 #[derive(Clone, Copy, PartialEq, Eq, Debug)]
 pub enum Reply {
     Nothing,
-    /// The number of a new window or pad.
+    /// The number of a new window or pad, or of a panel's window.
     Number(WinId),
     /// A line and a column, or a number of lines and one of columns.
     Pair(u16, u16),
     Cell(Cell),
     /// Whether it is so.
     Flag(bool),
+    /// A new panel, or a panel's neighbour, if it has one.
+    Panel(Option<PanelId>),
     Composed(Composed),
     Sent(Sent),
 }

@@ -7,7 +7,7 @@ pub mod laws;
 mod panel;
 mod settings;
 
-pub use call::{Call, Composed, Copying, Making, Query, Refresh, Reply, Writing};
+pub use call::{Call, Composed, Copying, Making, Query, Refresh, Reply, Stacking, Writing};
 pub use cell::{Attr, Cell, Frame, Refusal, WinId};
 pub use panel::PanelId;
 pub use settings::{Columns, Settings};

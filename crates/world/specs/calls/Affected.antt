@@ -1,17 +1,18 @@
 -- The screen lines on which a call can change the picture, and how many cells of windows an update_panels may read for them.
 -- X/Open Curses Issue 7 and NetBSD panel(3) say nothing of what a refresh reads: these bounds are Curspan's own.
-use Rattle.std.specs.Prelude.{ℕ, ◌+◌, ◌-◌, ◌*◌, Bool, true, false, if◌then◌else◌, ◌==◌, ◌&&◌, ◌||◌, nat_lt, nat_le, Option, None, is_none, List, [], ◌∷◌}
+use Rattle.std.specs.Prelude.{ℕ, ◌+◌, ◌-◌, ◌*◌, Bool, true, false, if◌then◌else◌, ◌==◌, ◌&&◌, ◌||◌, Option, Some, None, is_none, List, [], ◌∷◌}
 use Rattle.std.specs.List.{count_by, list_any, range_with_len}
 use Rattle.std.specs.Option.{option_map_or}
-use Rattle.world.specs.Windows.{Window, WindowMap, Windows, any_below, derives}
-use Rattle.world.specs.Panels.{screen_place, windows_from_top}
+use Rattle.world.specs.Windows.{WindowMap, Windows, any_below, derives}
+use Rattle.world.specs.Panels.{Panels, has_line, screen_place, windows_from_top}
 use Rattle.world.specs.World.{World}
 use Rattle.world.specs.Sharing.{shows_part_of}
 use Rattle.world.specs.calls.writing.Characters.{addch_frame, addstr_frame, delch_frame, insch_frame}
 use Rattle.world.specs.calls.writing.Editing.{clrtobot_frame, clrtoeol_frame, deleteln_frame, erase_frame, insertln_frame, scrl_frame}
 use Rattle.world.specs.calls.Copies.{overlay_frame, copywin_frame}
+use Rattle.world.specs.calls.Stacking.{new_panel_number, panel_affects}
 use Rattle.world.specs.calls.Refresh.{composed_windows}
-use Rattle.world.specs.calls.Dispatch.{is_update_panels, refusal, world_after}
+use Rattle.world.specs.calls.Dispatch.{after_stacking, is_update_panels, refusal, world_after}
 use Rattle.cell.specs.declared.window.Frame.{Frame}
 use Rattle.world.specs.declared.call.Call.{Call}
 use Rattle.world.specs.declared.call.Call.TheVariants as calls
@@ -19,6 +20,8 @@ use Rattle.world.specs.declared.call.Copying.{Copying}
 use Rattle.world.specs.declared.call.Copying.TheVariants.{Overlay, Overwrite, Copywin, Touchwin, Untouchwin, Touchline, Touchln, Syncup, Syncdown, IsLinetouched, IsWintouched}
 use Rattle.world.specs.declared.call.Making.{Making}
 use Rattle.world.specs.declared.call.Making.TheVariants.{Newwin, Subwin, Derwin, Newpad, Subpad, Delwin, Mvwin, Mvderwin}
+use Rattle.world.specs.declared.call.Stacking.{Stacking}
+use Rattle.world.specs.declared.call.Stacking.TheVariants.{NewPanel, DelPanel, ShowPanel, HidePanel, TopPanel, BottomPanel, MovePanel, ReplacePanel, PanelAbove, PanelBelow, PanelWindow, PanelHidden}
 use Rattle.world.specs.declared.call.Refresh.{Refresh}
 use Rattle.world.specs.declared.call.Refresh.TheVariants.{UpdatePanels, Doupdate, InitPair}
 use Rattle.world.specs.declared.call.Writing.{Writing}
@@ -101,13 +104,10 @@ call_frame world (calls.Making making) = None
 call_frame world (calls.Writing writing) = writing_frame world.windows writing
 call_frame world (calls.Copying copying) = copying_frame world.windows copying
 call_frame world (calls.Query query) = None
+call_frame world (calls.Stacking stacking) = None
 call_frame world (calls.Refresh refresh) = None
 
 -- ---- lines of the screen
-
--- the line is one of the window's rectangle; a pad has none
-abbrev pub has_line : ℕ → Window → Bool
-has_line line a = option_map_or (λ p. nat_le p.0 line && nat_lt line (p.0 + a.lines)) a.place false
 
 -- on the line window u, covered or not, shows a cell that window w shows in a rectangle of it
 abbrev pub shows_on_line : WindowMap → ℕ → Frame → ℕ → ℕ → Bool
@@ -136,6 +136,26 @@ making_affects world (Delwin win) line = false
 making_affects world (Mvwin win y x) line = false
 making_affects world (Mvderwin win y x) line = move_affects world win.0 line
 
+-- the panel that a call makes, deletes, orders, moves or gives a window, if it does so
+abbrev pub changed_panel : Panels → Stacking → Option ℕ
+changed_panel panels (NewPanel win) = new_panel_number panels
+changed_panel panels (DelPanel panel) = Some panel.0
+changed_panel panels (ShowPanel panel) = Some panel.0
+changed_panel panels (HidePanel panel) = Some panel.0
+changed_panel panels (TopPanel panel) = Some panel.0
+changed_panel panels (BottomPanel panel) = Some panel.0
+changed_panel panels (MovePanel panel y x) = Some panel.0
+changed_panel panels (ReplacePanel panel win) = Some panel.0
+changed_panel panels (PanelAbove panel) = None
+changed_panel panels (PanelBelow panel) = None
+changed_panel panels (PanelWindow panel) = None
+changed_panel panels (PanelHidden panel) = None
+
+-- the lines of its window's rectangle, before the call and after it
+abbrev pub stacking_affects : World → Stacking → ℕ → Bool
+stacking_affects world stacking line =
+    option_map_or (λ p. panel_affects world (after_stacking world stacking) p line) (changed_panel world.panels stacking) false
+
 -- other colours of a pair show on every line
 abbrev pub refresh_affects : Refresh → ℕ → Bool
 refresh_affects UpdatePanels line = false
@@ -148,6 +168,7 @@ accepted_affects world (calls.Making making) line = making_affects world making 
 accepted_affects world (calls.Writing writing) line = frame_affects world (written_window writing) (writing_frame world.windows writing) line
 accepted_affects world (calls.Copying copying) line = frame_affects world (copied_window copying) (copying_frame world.windows copying) line
 accepted_affects world (calls.Query query) line = false
+accepted_affects world (calls.Stacking stacking) line = stacking_affects world stacking line
 accepted_affects world (calls.Refresh refresh) line = refresh_affects refresh line
 
 -- The lines that a call affects: none if it is refused.

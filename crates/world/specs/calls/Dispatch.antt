@@ -1,11 +1,12 @@
 -- Each call: when it is refused, what it answers, and what it changes. A line for each.
--- X/Open Curses Issue 7: newwin to mvderwin, addch to bkgdset, overlay to is_wintouched, getyx to inch, doupdate. NetBSD panel(3): update_panels.
-use Rattle.std.specs.Prelude.{ℕ, Option, None, Bool, true, false, unwrap_or, if◌then◌else◌}
+-- X/Open Curses Issue 7: newwin to mvderwin, addch to bkgdset, overlay to is_wintouched, getyx to inch, doupdate. NetBSD panel(3): new_panel
+-- to panel_hidden, update_panels.
+use Rattle.std.specs.Prelude.{ℕ, Option, Some, None, Bool, true, false, unwrap_or, if◌then◌else◌}
 use Rattle.std.specs.Option.{option_map_or}
 use Rattle.cell.specs.Attributes.{bits_of}
 use Rattle.cell.specs.Pictures.{Place}
 use Rattle.world.specs.Windows.{Windows}
-use Rattle.world.specs.Panels.{is_in_panel, standard_screen}
+use Rattle.world.specs.Panels.{Panels, is_in_panel, standard_screen, window_or_standard}
 use Rattle.world.specs.World.{World}
 use Rattle.world.specs.calls.Making.{new_number, newwin_refusal, after_newwin, subwin_refusal, after_subwin, derwin_refusal, after_derwin, newpad_refusal, after_newpad, subpad_refusal, after_subpad, delwin_refusal, after_delwin, mvwin_refusal, after_mvwin, mvderwin_refusal, after_mvderwin}
 use Rattle.world.specs.calls.writing.Characters.{addch_refusal, after_addch, addstr_refusal, after_addstr, insch_refusal, after_insch, after_delch}
@@ -16,6 +17,7 @@ use Rattle.world.specs.calls.Copies.{overlay_refusal, after_overlay, copywin_ref
 use Rattle.world.specs.calls.Marks.{touchln_refusal, after_touchln, after_touchwin, after_syncup, after_syncdown, is_linetouched_refusal, is_linetouched, is_wintouched}
 use Rattle.world.specs.calls.Queries.{cell_at_cursor}
 use Rattle.world.specs.calls.Queries.{cursor_of, getbegyx_refusal, place_on_screen, window_size, getparyx_refusal, offset_in_parent}
+use Rattle.world.specs.calls.Stacking.{panel_number, numbered_panel, new_panel_number, new_panel_refusal, missing_panel_refusal, hidden_panel_refusal, move_panel_refusal, replace_panel_refusal, neighbour_refusal, after_new_panel, after_del_panel, after_show_panel, after_hide_panel, after_top_panel, after_bottom_panel, after_move_panel, after_replace_panel, panel_above, panel_below, is_hidden}
 use Rattle.world.specs.calls.Refresh.{after_update_panels, after_doupdate, init_pair_refusal, after_init_pair}
 use Rattle.cell.specs.declared.refusal.Refusal.{Refusal}
 use Rattle.world.specs.declared.call.Call.{Call}
@@ -28,10 +30,12 @@ use Rattle.world.specs.declared.call.Copying.{Copying}
 use Rattle.world.specs.declared.call.Copying.TheVariants.{Overlay, Overwrite, Copywin, Touchwin, Untouchwin, Touchline, Touchln, Syncup, Syncdown, IsLinetouched, IsWintouched}
 use Rattle.world.specs.declared.call.Query.{Query}
 use Rattle.world.specs.declared.call.Query.TheVariants.{Getyx, Getbegyx, Getmaxyx, Getparyx, Inch}
+use Rattle.world.specs.declared.call.Stacking.{Stacking}
+use Rattle.world.specs.declared.call.Stacking.TheVariants.{NewPanel, DelPanel, ShowPanel, HidePanel, TopPanel, BottomPanel, MovePanel, ReplacePanel, PanelAbove, PanelBelow, PanelWindow, PanelHidden}
 use Rattle.world.specs.declared.call.Refresh.{Refresh}
 use Rattle.world.specs.declared.call.Refresh.TheVariants.{UpdatePanels, Doupdate, InitPair}
 use Rattle.world.specs.declared.call.Reply.{Reply}
-use Rattle.world.specs.declared.call.Reply.TheVariants.{Nothing, Number, Pair, Cell, Flag}
+use Rattle.world.specs.declared.call.Reply.TheVariants.{Nothing, Number, Pair, Cell, Flag, Panel}
 
 -- ---- refusals: the first of a call's tests that holds
 
@@ -88,6 +92,20 @@ query_refusal windows (Getmaxyx win) = missing_refusal windows.window win.0
 query_refusal windows (Getparyx win) = getparyx_refusal windows.window win.0
 query_refusal windows (Inch win) = missing_refusal windows.window win.0
 
+abbrev pub stacking_refusal : Windows → Panels → Stacking → Option Refusal
+stacking_refusal windows panels (NewPanel win) = new_panel_refusal windows.window panels win.0
+stacking_refusal windows panels (DelPanel panel) = missing_panel_refusal panels panel.0
+stacking_refusal windows panels (ShowPanel panel) = missing_panel_refusal panels panel.0
+stacking_refusal windows panels (HidePanel panel) = hidden_panel_refusal panels panel.0
+stacking_refusal windows panels (TopPanel panel) = hidden_panel_refusal panels panel.0
+stacking_refusal windows panels (BottomPanel panel) = hidden_panel_refusal panels panel.0
+stacking_refusal windows panels (MovePanel panel y x) = move_panel_refusal windows panels panel.0 y x
+stacking_refusal windows panels (ReplacePanel panel win) = replace_panel_refusal windows.window panels panel.0 win.0
+stacking_refusal windows panels (PanelAbove panel) = neighbour_refusal panels (panel_number panel)
+stacking_refusal windows panels (PanelBelow panel) = neighbour_refusal panels (panel_number panel)
+stacking_refusal windows panels (PanelWindow panel) = missing_panel_refusal panels panel.0
+stacking_refusal windows panels (PanelHidden panel) = missing_panel_refusal panels panel.0
+
 abbrev pub refresh_refusal : Refresh → Option Refusal
 refresh_refusal UpdatePanels = None
 refresh_refusal Doupdate = None
@@ -98,9 +116,10 @@ refusal world (calls.Making making) = making_refusal world.windows (is_in_panel 
 refusal world (calls.Writing writing) = writing_refusal world.windows writing
 refusal world (calls.Copying copying) = copying_refusal world.windows copying
 refusal world (calls.Query query) = query_refusal world.windows query
+refusal world (calls.Stacking stacking) = stacking_refusal world.windows world.panels stacking
 refusal world (calls.Refresh refresh) = refresh_refusal refresh
 
--- The calls that make a window or pad take memory. Where there is none of it, they are refused for that.
+-- The calls that make a window, a pad or a panel take memory. Where there is none of it, they are refused for that.
 abbrev pub makes_window : Making → Bool
 makes_window (Newwin nlines ncols y x) = true
 makes_window (Subwin win nlines ncols y x) = true
@@ -111,11 +130,26 @@ makes_window (Delwin win) = false
 makes_window (Mvwin win y x) = false
 makes_window (Mvderwin win y x) = false
 
+abbrev pub makes_panel : Stacking → Bool
+makes_panel (NewPanel win) = true
+makes_panel (DelPanel panel) = false
+makes_panel (ShowPanel panel) = false
+makes_panel (HidePanel panel) = false
+makes_panel (TopPanel panel) = false
+makes_panel (BottomPanel panel) = false
+makes_panel (MovePanel panel y x) = false
+makes_panel (ReplacePanel panel win) = false
+makes_panel (PanelAbove panel) = false
+makes_panel (PanelBelow panel) = false
+makes_panel (PanelWindow panel) = false
+makes_panel (PanelHidden panel) = false
+
 abbrev pub takes_memory : Call → Bool
 takes_memory (calls.Making making) = makes_window making
 takes_memory (calls.Writing writing) = false
 takes_memory (calls.Copying copying) = false
 takes_memory (calls.Query query) = false
+takes_memory (calls.Stacking stacking) = makes_panel stacking
 takes_memory (calls.Refresh refresh) = false
 
 -- ---- changes
@@ -169,12 +203,31 @@ after_copying windows (Syncdown win) = after_syncdown windows win.0
 after_copying windows (IsLinetouched win y) = windows
 after_copying windows (IsWintouched win) = windows
 
+-- the number of the next panel
+abbrev pub next_panel : Panels → ℕ
+next_panel panels = unwrap_or (new_panel_number panels) 0
+
+abbrev pub after_stacking : World → Stacking → World
+after_stacking world (NewPanel win) = record world { panels = after_new_panel world.panels (next_panel world.panels) win.0 }
+after_stacking world (DelPanel panel) = record world { panels = after_del_panel world.panels panel.0 }
+after_stacking world (ShowPanel panel) = record world { panels = after_show_panel world.panels panel.0 }
+after_stacking world (HidePanel panel) = record world { panels = after_hide_panel world.panels panel.0 }
+after_stacking world (TopPanel panel) = record world { panels = after_top_panel world.panels panel.0 }
+after_stacking world (BottomPanel panel) = record world { panels = after_bottom_panel world.panels panel.0 }
+after_stacking world (MovePanel panel y x) = record world { windows = after_move_panel world.windows world.panels panel.0 y x }
+after_stacking world (ReplacePanel panel win) = record world { panels = after_replace_panel world.panels panel.0 win.0 }
+after_stacking world (PanelAbove panel) = world
+after_stacking world (PanelBelow panel) = world
+after_stacking world (PanelWindow panel) = world
+after_stacking world (PanelHidden panel) = world
+
 -- the world after a call that was accepted
 abbrev pub world_after : World → Call → World
 world_after world (calls.Making making) = record world { windows = after_making world.windows making }
 world_after world (calls.Writing writing) = record world { windows = after_writing world.windows writing }
 world_after world (calls.Copying copying) = record world { windows = after_copying world.windows copying }
 world_after world (calls.Query query) = world
+world_after world (calls.Stacking stacking) = after_stacking world stacking
 world_after world (calls.Refresh UpdatePanels) = after_update_panels world
 world_after world (calls.Refresh Doupdate) = after_doupdate world
 world_after world (calls.Refresh (InitPair pair foreground background)) = after_init_pair world pair foreground background
@@ -208,12 +261,28 @@ copying_reply windows (IsWintouched win) = Flag (is_wintouched windows.window wi
 abbrev pub making_reply : Windows → Making → Reply
 making_reply windows making = if makes_window making then Number (record { 0 = next_window windows }) else Nothing
 
+-- a new panel answers its number
+abbrev pub stacking_reply : Panels → Stacking → Reply
+stacking_reply panels (NewPanel win) = Panel (numbered_panel (new_panel_number panels))
+stacking_reply panels (DelPanel panel) = Nothing
+stacking_reply panels (ShowPanel panel) = Nothing
+stacking_reply panels (HidePanel panel) = Nothing
+stacking_reply panels (TopPanel panel) = Nothing
+stacking_reply panels (BottomPanel panel) = Nothing
+stacking_reply panels (MovePanel panel y x) = Nothing
+stacking_reply panels (ReplacePanel panel win) = Nothing
+stacking_reply panels (PanelAbove panel) = Panel (numbered_panel (panel_above panels (panel_number panel)))
+stacking_reply panels (PanelBelow panel) = Panel (numbered_panel (panel_below panels (panel_number panel)))
+stacking_reply panels (PanelWindow panel) = Number (record { 0 = window_or_standard panels (Some panel.0) })
+stacking_reply panels (PanelHidden panel) = Flag (is_hidden panels panel.0)
+
 -- what a call answers that is neither refused nor one of those that refresh
 abbrev pub reply_of : World → Call → Reply
 reply_of world (calls.Making making) = making_reply world.windows making
 reply_of world (calls.Writing writing) = Nothing
 reply_of world (calls.Copying copying) = copying_reply world.windows copying
 reply_of world (calls.Query query) = query_reply world.windows query
+reply_of world (calls.Stacking stacking) = stacking_reply world.panels stacking
 reply_of world (calls.Refresh refresh) = Nothing
 
 -- ---- kinds of calls
@@ -223,6 +292,7 @@ is_doupdate (calls.Making making) = false
 is_doupdate (calls.Writing writing) = false
 is_doupdate (calls.Copying copying) = false
 is_doupdate (calls.Query query) = false
+is_doupdate (calls.Stacking stacking) = false
 is_doupdate (calls.Refresh UpdatePanels) = false
 is_doupdate (calls.Refresh Doupdate) = true
 is_doupdate (calls.Refresh (InitPair pair foreground background)) = false
@@ -232,6 +302,7 @@ is_update_panels (calls.Making making) = false
 is_update_panels (calls.Writing writing) = false
 is_update_panels (calls.Copying copying) = false
 is_update_panels (calls.Query query) = false
+is_update_panels (calls.Stacking stacking) = false
 is_update_panels (calls.Refresh UpdatePanels) = true
 is_update_panels (calls.Refresh Doupdate) = false
 is_update_panels (calls.Refresh (InitPair pair foreground background)) = false

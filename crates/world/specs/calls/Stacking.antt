@@ -4,17 +4,17 @@
 -- That show_panel puts a visible panel on top too, which window a panel may have, the limit of numbers and the order of the tests are
 -- Curspan's own choice.
 use Rattle.std.specs.Prelude.{◌≡◌, ◌≢◌, ℕ, ◌-◌, ◌≤◌, Bool, false, not, if◌then◌else◌, ◌==◌, ◌&&◌, ◌||◌, Option, Some, None, is_none, IsSome, MatchOption, List, [], ◌∷◌, ◌++◌, reverse, All, AllPairs, find, ⊤}
-use Rattle.std.specs.Option.{option_map_or}
+use Rattle.std.specs.Option.{option_map, option_map_or}
 use Rattle.std.specs.List.{filter, list_any, range_with_len}
 use Rattle.cell.specs.Refusals.{first_of}
 use Rattle.cell.specs.declared.limits.TheConstants.{MOST_PANELS}
 use Rattle.cell.specs.declared.refusal.Refusal.{Refusal}
 use Rattle.cell.specs.declared.refusal.Refusal.TheVariants.{NoSuchWindow, NoSuchPanel, OffScreen, IsPad, InPanel, Hidden, StandardScreen, TooMany}
 use Rattle.world.specs.Windows.{WindowMap, Windows, is_missing}
-use Rattle.world.specs.Panels.{Panels, panel_limit, is_in_panel, standard_screen, topmost, window_or_standard}
+use Rattle.world.specs.Panels.{Panels, has_line, panel_limit, is_in_panel, standard_screen, topmost, window_or_standard}
 use Rattle.world.specs.World.{World}
 use Rattle.world.specs.calls.Making.{after_mvwin, is_off_screen, is_pad}
-use Rattle.world.specs.calls.Affected.{has_line}
+use Rattle.world.specs.declared.panel.PanelId.{PanelId}
 
 -- ---- the order
 
@@ -36,6 +36,13 @@ next_in p [] = None
 next_in p (q ∷ order) = if q == p then first_in order else next_in p order
 
 -- ---- numbers
+
+-- the number of a panel, if there is one, and the panel of a number
+abbrev pub panel_number : Option PanelId → Option ℕ
+panel_number panel = option_map (λ p. p.0) panel
+
+abbrev pub numbered_panel : Option ℕ → Option PanelId
+numbered_panel p = option_map (λ n. record { 0 = n }) p
 
 -- the number of the next panel: the least free one from 1 on
 abbrev pub new_panel_number : Panels → Option ℕ

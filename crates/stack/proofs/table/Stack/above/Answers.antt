@@ -1,7 +1,7 @@
 use Rattle.std.proofs.Common.{◌∙◌, ap, sym, Option, Some}
 use Rattle.stack.specs.Nodes.{from_bottom}
-use Rattle.world.specs.calls.Stacking.{panel_above}
-use Rattle.stack.specs.Tables.{number, panels, PanelTable}
+use Rattle.world.specs.calls.Stacking.{panel_above, panel_number}
+use Rattle.stack.specs.Tables.{panels, PanelTable}
 use Rattle.stack.specs.declared.nodes.Node.{Node}
 use Rattle.world.specs.declared.panel.PanelId.{PanelId}
 use Rattle.stack.proofs.Neighbours.{above-is, panel_or_none}
@@ -14,4 +14,4 @@ returns-in_ok-require_visible-in-Some-clause-answer c =
     c.panel_at.ensures ∙ ap (λ (n : Node). panel_or_none n.above) c.get.ensures
     ∙ above-is nodes (from_bottom nodes) c.self.invariant.threaded p c.in_ok-require_visible-in-Some.ensures.shown
     ∙ ap (λ (t : PanelTable). panel_above (panels t) (Some p)) c.self.view_is
-    ∙ ap (λ (o : Option PanelId). panel_above (panels c.args.self.now) (number o)) (sym c.in-Some.is)
+    ∙ ap (λ (o : Option PanelId). panel_above (panels c.args.self.now) (panel_number o)) (sym c.in-Some.is)

@@ -1,7 +1,7 @@
 use Rattle.std.proofs.Common.{◌∙◌, ap, sym, Option, Some, None}
 use Rattle.stack.specs.Nodes.{from_bottom}
-use Rattle.world.specs.calls.Stacking.{panel_below}
-use Rattle.stack.specs.Tables.{number, panels, PanelTable}
+use Rattle.world.specs.calls.Stacking.{panel_below, panel_number}
+use Rattle.stack.specs.Tables.{panels, PanelTable}
 use Rattle.stack.specs.declared.nodes.Node.{Node}
 use Rattle.world.specs.declared.panel.PanelId.{PanelId}
 use Rattle.stack.proofs.Neighbours.{below-is, last-is, panel_or_none}
@@ -14,7 +14,7 @@ returns-in_ok-require_visible-in-Some-clause-answer c =
     c.panel_at.ensures ∙ ap (λ (n : Node). panel_or_none n.below) c.get.ensures
     ∙ below-is nodes (from_bottom nodes) c.self.invariant.threaded p c.in_ok-require_visible-in-Some.ensures.shown
     ∙ ap (λ (t : PanelTable). panel_below (panels t) (Some p)) c.self.view_is
-    ∙ ap (λ (o : Option PanelId). panel_below (panels c.args.self.now) (number o)) (sym c.in-Some.is)
+    ∙ ap (λ (o : Option PanelId). panel_below (panels c.args.self.now) (panel_number o)) (sym c.in-Some.is)
 
 pub returns-in-None-clause-answer : goal.returns-in-None-clause-answer
 returns-in-None-clause-answer c =
@@ -22,4 +22,4 @@ returns-in-None-clause-answer c =
     c.panel_at-in-None.ensures ∙ ap (λ (n : Node). panel_or_none n.below) c.get-in-None.ensures
     ∙ last-is nodes (from_bottom nodes) c.self.invariant.threaded
     ∙ ap (λ (t : PanelTable). panel_below (panels t) None) c.self.view_is
-    ∙ ap (λ (o : Option PanelId). panel_below (panels c.args.self.now) (number o)) (sym c.in-None.is)
+    ∙ ap (λ (o : Option PanelId). panel_below (panels c.args.self.now) (panel_number o)) (sym c.in-None.is)
