@@ -8,7 +8,7 @@ use Rattle.cell.specs.Pictures.{Picture, blank_picture}
 use Rattle.cell.proofs.PictureLemmas.{ArePairs-first, EachCell-all_of, HasSize-all_of, IsShown-blank}
 use Rattle.world.specs.Windows.{Window, Windows}
 use Rattle.world.specs.Panels.{Panels, is_in_panel, first_panels, standard_screen}
-use Rattle.world.specs.World.{VirtualScreen, first_world}
+use Rattle.world.specs.World.{VirtualScreen, World, first_world}
 use Rattle.world.specs.Sound.{AreSoundPanels, AreSoundWindows, IsSound, IsSoundPanel}
 use Rattle.cell.specs.declared.refusal.Refusal.{Refusal}
 use Rattle.cell.specs.declared.refusal.Refusal.TheVariants.{HasDerived, InPanel, NoMemory, NoSuchWindow, StandardScreen}
@@ -16,19 +16,18 @@ use Rattle.cell.specs.declared.window.WinId.{WinId}
 use Rattle.grids.specs.Tables.{WindowTable, windows}
 use Rattle.stack.specs.Tables.{PanelTable, panels}
 use Rattle.compose.specs.Desks.{DeskTable, world}
-use Rattle.world.specs.calls.Dispatch.{after_copying, after_making, after_writing, makes_window, making_refusal, making_reply, world_after}
+use Rattle.world.specs.calls.Dispatch.{after_making, after_stacking, makes_panel, makes_window, making_refusal, making_reply, refusal, stacking_refusal, stacking_reply, takes_memory, world_after}
 use Rattle.world.specs.calls.Making.{delwin_refusal, has_derived}
 use Rattle.compose.specs.Calling.{Called, MayLeave, MayRefuse}
 use Rattle.world.specs.declared.call.Call.{Call}
 use Rattle.world.specs.declared.call.Call.TheVariants as calls
-use Rattle.world.specs.declared.call.Copying.{Copying}
 use Rattle.world.specs.declared.call.Making.{Making}
 use Rattle.world.specs.declared.call.Making.TheVariants.{Delwin}
-use Rattle.world.specs.declared.call.Writing.{Writing}
+use Rattle.world.specs.declared.call.Stacking.{Stacking}
 use Rattle.world.specs.declared.call.Reply.{Reply}
 use Rattle.world.proofs.PanelLaws.{in_panel-some}
-use Rattle.world.proofs.PlaceLaws.{has_place, keeps-making, panels-kept, places-copying, places-writing}
-use Rattle.world.proofs.Sizes.{SameSize, size-call, size-copying, size-making, size-writing}
+use Rattle.world.proofs.PlaceLaws.{has_place, keeps-making, panels-kept}
+use Rattle.world.proofs.Sizes.{SameSize, size-call}
 
 -- a desk of these windows, panels and pairs, and this virtual screen
 abbrev pub desk_of : WindowTable → PanelTable → Pairs → VirtualScreen → DeskTable
@@ -54,6 +53,13 @@ not-deleted ws ps p w h is none =
     let entry : IsSoundPanel ws.window ps p w = subst (λ o. MatchOption o ⊤ (IsSoundPanel ws.window ps p)) is (h.each p) in
     not-deleted-from (ws.window w) (is_in_panel ps w) (w == standard_screen) (has_derived ws.window w) (in_panel-some ps w p entry.number is) none
 
+-- a refusal of a call that may take memory
+may-refuse : (w : World) (call : Call) (e : Refusal) (takes : Bool) → takes ≡ takes_memory call → (refusal w call ≡ Some e) ⊎ ((refusal w call ≡ None) × (e ≡ NoMemory))
+    → (takes ≡ false → Some e ≡ refusal w call) → MayRefuse w call e
+may-refuse w call e true is (inl h) exact = inl h
+may-refuse w call e true is (inr h) exact = inr (h.0, sym is, h.1)
+may-refuse w call e false is h exact = inl (sym (exact refl))
+
 module _ (old new : WindowTable) (ps : PanelTable) (pairs : Pairs) (virtual : VirtualScreen) where
   pub IsSound-desk : IsSound (world (desk_of old ps pairs virtual)) → AreSoundWindows (windows new) → SameSize (windows new) (windows old) → KeepsPlaces (panels ps) (windows old) (windows new)
       → IsSound (world (desk_of new ps pairs virtual))
@@ -64,13 +70,15 @@ module _ (old new : WindowTable) (ps : PanelTable) (pairs : Pairs) (virtual : Vi
     virtual = rw (size.lines, size.columns) h.virtual;
   }
 
-  -- ---- making
+  -- a call that changes windows alone, and leaves each that a panel has its place
+  pub IsSound-after : {T : Type 0} (after : Windows) (r : Result T Refusal) → IsSound (world (desk_of old ps pairs virtual)) → AreSoundWindows (windows new) → SameSize after (windows old)
+      → ((done : T) → r ≡ Ok done → KeepsPlaces (panels ps) (windows old) after) → OnOk r (windows new ≡ after) → OnErr r (new ≡ old) → IsSound (world (desk_of new ps pairs virtual))
+  IsSound-after after (Ok done) h sound size keeps is unchanged =
+      IsSound-desk h sound (record { lines = ap (λ ws. ws.lines) is ∙ size.lines; columns = ap (λ ws. ws.columns) is ∙ size.columns })
+      (λ p w has other there. subst (λ ws. has_place (ws.window w) ≡ true) (sym is) (keeps done refl p w has other there))
+  IsSound-after after (Err e) h sound size keeps is unchanged = subst (λ t. IsSound (world (desk_of t ps pairs virtual))) (sym unchanged) h
 
-  pub size-made : (making : Making) (r : Result Reply Refusal) → OnOk r (windows new ≡ after_making (windows old) making) → OnErr r (new ≡ old) → SameSize (windows new) (windows old)
-  size-made making (Ok reply) made unchanged =
-      let size = size-making (windows old) making in
-      record { lines = ap (λ ws. ws.lines) made ∙ size.lines; columns = ap (λ ws. ws.columns) made ∙ size.columns }
-  size-made making (Err e) made unchanged = record { lines = ap (λ u. u.lines) unchanged; columns = ap (λ u. u.columns) unchanged }
+  -- ---- making
 
   -- no window of a panel was deleted
   stays : (making : Making) (p w : ℕ) → AreSoundPanels (windows old).window (panels ps) → (panels ps).window p ≡ Some w → making_refusal (windows old) (is_in_panel (panels ps)) making ≡ None
@@ -81,17 +89,9 @@ module _ (old new : WindowTable) (ps : PanelTable) (pairs : Pairs) (virtual : Vi
       refused (subst (λ v. delwin_refusal (windows old) (is_in_panel (panels ps) v) v ≡ None) (sym same) none)
 
   pub keeps-made : (making : Making) (r : Result Reply Refusal) → AreSoundPanels (windows old).window (panels ps) → RefusedBy (making_refusal (windows old) (is_in_panel (panels ps)) making) r
-      → OnOk r (windows new ≡ after_making (windows old) making) → OnErr r (new ≡ old) → KeepsPlaces (panels ps) (windows old) (windows new)
-  keeps-made making (Ok reply) sound refused made unchanged p w is other h =
-      subst (λ ws. has_place (ws.window w) ≡ true) (sym made) (keeps-making (windows old) making w other (stays making p w sound is refused) h)
-  keeps-made making (Err e) sound refused made unchanged p w is other h = subst (λ t. has_place ((windows t).window w) ≡ true) (sym unchanged) h
-
-  may-refuse : (making : Making) (e : Refusal) (takes : Bool) → takes ≡ makes_window making
-      → (making_refusal (windows old) (is_in_panel (panels ps)) making ≡ Some e) ⊎ ((making_refusal (windows old) (is_in_panel (panels ps)) making ≡ None) × (e ≡ NoMemory))
-      → (takes ≡ false → Some e ≡ making_refusal (windows old) (is_in_panel (panels ps)) making) → MayRefuse (world (desk_of old ps pairs virtual)) (calls.Making making) e
-  may-refuse making e true is (inl h) exact = inl h
-  may-refuse making e true is (inr h) exact = inr (h.0, sym is, h.1)
-  may-refuse making e false is h exact = inl (sym (exact refl))
+      → (reply : Reply) → r ≡ Ok reply → KeepsPlaces (panels ps) (windows old) (after_making (windows old) making)
+  keeps-made making (Ok reply) sound refused done is p w has other there = keeps-making (windows old) making w other (stays making p w sound has refused) there
+  keeps-made making (Err e) sound refused done is p w has other there = cc
 
   pub made-called : (making : Making) (r : Result Reply Refusal) → RefusedBy (making_refusal (windows old) (is_in_panel (panels ps)) making) r
       → (makes_window making ≡ false → result_err r ≡ making_refusal (windows old) (is_in_panel (panels ps)) making) → IfOk r (λ reply. reply ≡ making_reply (windows old) making)
@@ -99,31 +99,7 @@ module _ (old new : WindowTable) (ps : PanelTable) (pairs : Pairs) (virtual : Vi
   made-called making (Ok reply) refused exact answers made unchanged =
       (refused, answers, ap (λ (ws : Windows). record (world (desk_of old ps pairs virtual)) { windows = ws }) made)
   made-called making (Err e) refused exact answers made unchanged =
-      (may-refuse making e (makes_window making) refl refused exact, ap (λ w. desk_of w ps pairs virtual) unchanged)
-
-  -- ---- writing
-
-  pub size-written : (writing : Writing) (r : Result Reply Refusal) → OnOk r (windows new ≡ after_writing (windows old) writing) → OnErr r (new ≡ old) → SameSize (windows new) (windows old)
-  size-written writing (Ok reply) written unchanged =
-      let size = size-writing (windows old) writing in
-      record { lines = ap (λ ws. ws.lines) written ∙ size.lines; columns = ap (λ ws. ws.columns) written ∙ size.columns }
-  size-written writing (Err e) written unchanged = record { lines = ap (λ u. u.lines) unchanged; columns = ap (λ u. u.columns) unchanged }
-
-  pub keeps-written : (writing : Writing) (r : Result Reply Refusal) → OnOk r (windows new ≡ after_writing (windows old) writing) → OnErr r (new ≡ old) → KeepsPlaces (panels ps) (windows old) (windows new)
-  keeps-written writing (Ok reply) written unchanged p w is other h = ap (λ ws. has_place (ws.window w)) written ∙ places-writing (windows old) writing w ∙ h
-  keeps-written writing (Err e) written unchanged p w is other h = ap (λ t. has_place ((windows t).window w)) unchanged ∙ h
-
-  -- ---- copies and marks
-
-  pub size-copied : (copying : Copying) (r : Result Reply Refusal) → OnOk r (windows new ≡ after_copying (windows old) copying) → OnErr r (new ≡ old) → SameSize (windows new) (windows old)
-  size-copied copying (Ok reply) copied unchanged =
-      let size = size-copying (windows old) copying in
-      record { lines = ap (λ ws. ws.lines) copied ∙ size.lines; columns = ap (λ ws. ws.columns) copied ∙ size.columns }
-  size-copied copying (Err e) copied unchanged = record { lines = ap (λ u. u.lines) unchanged; columns = ap (λ u. u.columns) unchanged }
-
-  pub keeps-copied : (copying : Copying) (r : Result Reply Refusal) → OnOk r (windows new ≡ after_copying (windows old) copying) → OnErr r (new ≡ old) → KeepsPlaces (panels ps) (windows old) (windows new)
-  keeps-copied copying (Ok reply) copied unchanged p w is other h = ap (λ ws. has_place (ws.window w)) copied ∙ places-copying (windows old) copying w ∙ h
-  keeps-copied copying (Err e) copied unchanged p w is other h = ap (λ t. has_place ((windows t).window w)) unchanged ∙ h
+      (may-refuse (world (desk_of old ps pairs virtual)) (calls.Making making) e (makes_window making) refl refused exact, ap (λ w. desk_of w ps pairs virtual) unchanged)
 
 -- a new desk
 pub IsSound-new : (w : WindowTable) (ps : PanelTable) (lines columns : ℕ) (pairs : Pairs) (picture : Picture) → AreSoundWindows (windows w) → windows w ≡ (first_world lines columns).windows
@@ -149,6 +125,7 @@ world-left old new (calls.Making making) h = h
 world-left old new (calls.Writing writing) h = h
 world-left old new (calls.Copying copying) h = h
 world-left old new (calls.Query query) h = ap world h
+world-left old new (calls.Stacking stacking) h = h
 world-left old new (calls.Refresh refresh) h = h
 
 -- no call changes the size of a desk
@@ -163,3 +140,12 @@ size-called old new call (Err e) h = (ap (λ t. t.windows.lines) h.1, ap (λ t. 
 pub IsSound-stack : (w : WindowTable) (old new : PanelTable) (pairs : Pairs) (virtual : VirtualScreen) → IsSound (world (desk_of w old pairs virtual)) → AreSoundPanels (windows w).window (panels new)
     → IsSound (world (desk_of w new pairs virtual))
 IsSound-stack w old new pairs virtual h sound = record { windows = h.windows; panels = sound; pairs = h.pairs; virtual = h.virtual }
+
+-- ---- panels
+
+pub arranged-called : (old new : DeskTable) (stacking : Stacking) (r : Result Reply Refusal) → RefusedBy (stacking_refusal (world old).windows (world old).panels stacking) r
+    → (makes_panel stacking ≡ false → result_err r ≡ stacking_refusal (world old).windows (world old).panels stacking) → IfOk r (λ reply. reply ≡ stacking_reply (world old).panels stacking)
+    → OnOk r (world new ≡ after_stacking (world old) stacking) → OnErr r (new ≡ old) → Called old (calls.Stacking stacking) r new
+arranged-called old new stacking (Ok reply) refused exact answers arranged unchanged = (refused, answers, arranged)
+arranged-called old new stacking (Err e) refused exact answers arranged unchanged =
+    (may-refuse (world old) (calls.Stacking stacking) e (makes_panel stacking) refl refused exact, unchanged)

@@ -7,7 +7,7 @@ ghost use Rattle.cell.specs.Glyphs.{blank};
 ghost use Rattle.cell.specs.Shown.{shown};
 ghost use Rattle.world.specs.Windows.{cell_at};
 ghost use Rattle.world.specs.Panels.{standard_screen};
-ghost use Rattle.world.specs.World.{first_world};
+ghost use Rattle.world.specs.World.{first_world, picture};
 ghost use Rattle.world.specs.Sound.{AreSoundWindows, IsSound};
 ghost use Rattle.world.specs.calls.Making.{new_refusal};
 ghost use Rattle.cell.specs.Refusals.{RefusedBy};
@@ -19,10 +19,10 @@ ghost use Rattle.world.specs.calls.Dispatch.{is_doupdate};
 ghost use Rattle.compose.specs.Desks.{world};
 ghost use Rattle.compose.specs.Calling.{Called};
 
-use crate::dispatch::{copy, make, query, write};
+use crate::dispatch::{arrange, copy, make, query, write};
 use crate::marks::{clear_asked, unmark_composed};
 use crate::picture::show_picture;
-use crate::search::{STANDARD, wanted_cursor};
+use crate::search::{STANDARD, cell_found, wanted_cursor};
 use cell::{Colour, Grid, PairId, Pairs, Refusal, Shown};
 use grids::Grids;
 use stack::Stack;
@@ -104,6 +104,7 @@ impl Desk {
             Call::Writing(writing) => write(&mut self.windows, writing),
             Call::Copying(copying) => copy(&mut self.windows, copying),
             Call::Query(asked) => query(&self.windows, asked),
+            Call::Stacking(stacking) => arrange(self, stacking),
             Call::Refresh(Refresh::UpdatePanels) => Ok(Reply::Composed(self.update_panels())),
             Call::Refresh(Refresh::Doupdate) => unreachable!(),
             Call::Refresh(
@@ -160,6 +161,16 @@ impl Desk {
         ensures { result.now ≡ self.now.panels }
     {
         &self.stack
+    }
+
+    /// What the search from the top finds at line `y` and column `x` of the screen, in the colours of its pair.
+    pub fn picture(&self, y: u16, x: u16) -> Shown
+        requires line { y < self.now.windows.lines }
+        requires column { x < self.now.windows.columns }
+        ensures { result ≡ picture (world self.now) y x }
+    {
+        self.pairs
+            .shown(cell_found(&self.windows.table, &self.stack, y, x))
     }
 
     /// How many lines and columns the screen has.

@@ -3,11 +3,11 @@
 ghost use Rattle.std.specs.Prelude.{◌≡◌, Some, IfOk, OnOk, OnErr};
 ghost use Rattle.std.specs.Result.{result_err};
 ghost use Rattle.cell.specs.Refusals.{RefusedBy};
-ghost use Rattle.world.specs.calls.Stacking.{after_bottom_panel, after_del_panel, after_hide_panel, after_new_panel, after_replace_panel, after_show_panel, after_top_panel, hidden_panel_refusal, missing_panel_refusal, new_panel_number, new_panel_refusal, replace_panel_refusal};
+ghost use Rattle.world.specs.calls.Stacking.{after_bottom_panel, after_del_panel, after_hide_panel, after_move_panel, after_new_panel, after_replace_panel, after_show_panel, after_top_panel, hidden_panel_refusal, is_hidden, missing_panel_refusal, move_panel_refusal, neighbour_refusal, new_panel_number, new_panel_refusal, panel_above, panel_below, panel_number, replace_panel_refusal};
 ghost use Rattle.compose.specs.Desks.{world};
 
 use crate::desk::Desk;
-use crate::panels::{new_panel, replace_panel};
+use crate::panels::{move_panel, new_panel, replace_panel};
 use cell::{Refusal, WinId};
 use world::PanelId;
 
@@ -85,6 +85,18 @@ impl Desk {
         self.stack.bottom(panel)
     }
 
+    /// Moves the window of a panel, visible or hidden, to a place of the screen.
+    ///
+    /// # Errors
+    /// `NoSuchPanel`, `OffScreen`.
+    pub fn move_panel(&mut self, panel: PanelId, y: u16, x: u16) -> Result<(), Refusal>
+        ensures refused { result_err result ≡ move_panel_refusal (world self.old).windows (world self.old).panels panel.0 y x }
+        ensures moved { OnOk result (world self.new ≡ record (world self.old) { windows = after_move_panel (world self.old).windows (world self.old).panels panel.0 y x }) }
+        ensures unchanged { OnErr result (self.new ≡ self.old) }
+    {
+        move_panel(&mut self.windows.table, &self.stack, panel, y, x)
+    }
+
     /// Gives a panel another window. The panel keeps its depth, or stays hidden.
     ///
     /// # Errors
@@ -95,5 +107,49 @@ impl Desk {
         ensures unchanged { OnErr result (self.new ≡ self.old) }
     {
         replace_panel(&self.windows.table, &mut self.stack, panel, win)
+    }
+
+    /// The panel right above a visible one, or without a panel the bottom one.
+    ///
+    /// # Errors
+    /// `NoSuchPanel`, `Hidden`.
+    pub fn panel_above(&self, panel: Option<PanelId>) -> Result<Option<PanelId>, Refusal>
+        ensures refused { result_err result ≡ neighbour_refusal (world self.now).panels (panel_number panel) }
+        ensures answer { IfOk result (λ q. panel_number q ≡ panel_above (world self.now).panels (panel_number panel)) }
+    {
+        self.stack.above(panel)
+    }
+
+    /// The panel right below a visible one, or without a panel the top one.
+    ///
+    /// # Errors
+    /// `NoSuchPanel`, `Hidden`.
+    pub fn panel_below(&self, panel: Option<PanelId>) -> Result<Option<PanelId>, Refusal>
+        ensures refused { result_err result ≡ neighbour_refusal (world self.now).panels (panel_number panel) }
+        ensures answer { IfOk result (λ q. panel_number q ≡ panel_below (world self.now).panels (panel_number panel)) }
+    {
+        self.stack.below(panel)
+    }
+
+    /// The window of a panel.
+    ///
+    /// # Errors
+    /// `NoSuchPanel`.
+    pub fn panel_window(&self, panel: PanelId) -> Result<WinId, Refusal>
+        ensures refused { result_err result ≡ missing_panel_refusal (world self.now).panels panel.0 }
+        ensures answer { IfOk result (λ w. (world self.now).panels.window panel.0 ≡ Some w.0) }
+    {
+        self.stack.window(panel)
+    }
+
+    /// Whether a panel is hidden.
+    ///
+    /// # Errors
+    /// `NoSuchPanel`.
+    pub fn panel_hidden(&self, panel: PanelId) -> Result<bool, Refusal>
+        ensures refused { result_err result ≡ missing_panel_refusal (world self.now).panels panel.0 }
+        ensures answer { IfOk result (λ hidden. hidden ≡ is_hidden (world self.now).panels panel.0) }
+    {
+        self.stack.hidden(panel)
     }
 }

@@ -7,18 +7,20 @@ ghost use Rattle.world.specs.Panels.{is_in_panel};
 ghost use Rattle.world.specs.Sound.{AreSoundPanels, AreSoundWindows};
 ghost use Rattle.grids.specs.Tables.{windows as windows_of};
 ghost use Rattle.stack.specs.Tables.{panels};
-ghost use Rattle.world.specs.calls.Dispatch.{after_copying, after_making, after_writing, copying_refusal, copying_reply, makes_window, making_refusal, making_reply, query_refusal, query_reply, writing_refusal};
+ghost use Rattle.world.specs.calls.Dispatch.{after_copying, after_making, after_stacking, after_writing, copying_refusal, copying_reply, makes_panel, makes_window, making_refusal, making_reply, query_refusal, query_reply, stacking_refusal, stacking_reply, writing_refusal};
+ghost use Rattle.compose.specs.Desks.{world};
 
+use crate::desk::Desk;
 use crate::panels::{delete_window, move_window};
 use cell::{Refusal, WinId};
 use grids::Grids;
 use stack::Stack;
 use windows::Windows;
-use world::{Copying, Making, Query, Reply, Writing};
+use world::{Copying, Making, PanelId, Query, Reply, Stacking, Writing};
 
 /// Makes a call of the table of making and placing.
 #[rattlefmt::skip]
-pub fn make(table: &mut Grids, stack: &Stack, making: Making) -> Result<Reply, Refusal>
+pub(crate) fn make(table: &mut Grids, stack: &Stack, making: Making) -> Result<Reply, Refusal>
     requires { AreSoundPanels (windows_of table.old).window (panels stack.now) }
     ensures refused { RefusedBy (making_refusal (windows_of table.old) (is_in_panel (panels stack.now)) making) result }
     ensures exact { makes_window making ≡ false → result_err result ≡ making_refusal (windows_of table.old) (is_in_panel (panels stack.now)) making }
@@ -40,7 +42,7 @@ pub fn make(table: &mut Grids, stack: &Stack, making: Making) -> Result<Reply, R
 }
 
 /// Makes a call of the table of writing.
-pub fn write(windows: &mut Windows, writing: Writing<'_>) -> Result<Reply, Refusal>
+pub(crate) fn write(windows: &mut Windows, writing: Writing<'_>) -> Result<Reply, Refusal>
     ensures refused { result_err result ≡ writing_refusal (windows_of windows.old.table) writing.entry }
     ensures reply { IfOk result (λ reply. reply ≡ Reply.Nothing) }
     ensures written { OnOk result (windows_of windows.new.table ≡ after_writing (windows_of windows.old.table) writing.entry) }
@@ -72,7 +74,7 @@ pub fn write(windows: &mut Windows, writing: Writing<'_>) -> Result<Reply, Refus
 
 /// Makes a call of the table of copies and marks.
 #[rattlefmt::skip]
-pub fn copy(windows: &mut Windows, copying: Copying) -> Result<Reply, Refusal>
+pub(crate) fn copy(windows: &mut Windows, copying: Copying) -> Result<Reply, Refusal>
     ensures refused { result_err result ≡ copying_refusal (windows_of windows.old.table) copying }
     ensures reply { IfOk result (λ reply. reply ≡ copying_reply (windows_of windows.old.table) copying) }
     ensures copied { OnOk result (windows_of windows.new.table ≡ after_copying (windows_of windows.old.table) copying) }
@@ -96,7 +98,7 @@ pub fn copy(windows: &mut Windows, copying: Copying) -> Result<Reply, Refusal>
 }
 
 /// Makes a call of the table of queries.
-pub fn query(windows: &Windows, query: Query) -> Result<Reply, Refusal>
+pub(crate) fn query(windows: &Windows, query: Query) -> Result<Reply, Refusal>
     ensures refused { result_err result ≡ query_refusal (windows_of windows.now.table) query }
     ensures reply { IfOk result (λ reply. reply ≡ query_reply (windows_of windows.now.table) query) }
 {
@@ -109,6 +111,30 @@ pub fn query(windows: &Windows, query: Query) -> Result<Reply, Refusal>
     }
 }
 
+/// Makes a call of the table of panels.
+pub(crate) fn arrange(desk: &mut Desk, stacking: Stacking) -> Result<Reply, Refusal>
+    ensures refused { RefusedBy (stacking_refusal (world desk.old).windows (world desk.old).panels stacking) result }
+    ensures exact { makes_panel stacking ≡ false → result_err result ≡ stacking_refusal (world desk.old).windows (world desk.old).panels stacking }
+    ensures reply { IfOk result (λ reply. reply ≡ stacking_reply (world desk.old).panels stacking) }
+    ensures arranged { OnOk result (world desk.new ≡ after_stacking (world desk.old) stacking) }
+    ensures unchanged { OnErr result (desk.new ≡ desk.old) }
+{
+    match stacking {
+        Stacking::NewPanel { win } => panel(Some(desk.new_panel(win)?)),
+        Stacking::DelPanel { panel } => nothing(desk.del_panel(panel)?),
+        Stacking::ShowPanel { panel } => nothing(desk.show_panel(panel)?),
+        Stacking::HidePanel { panel } => nothing(desk.hide_panel(panel)?),
+        Stacking::TopPanel { panel } => nothing(desk.top_panel(panel)?),
+        Stacking::BottomPanel { panel } => nothing(desk.bottom_panel(panel)?),
+        Stacking::MovePanel { panel, y, x } => nothing(desk.move_panel(panel, y, x)?),
+        Stacking::ReplacePanel { panel, win } => nothing(desk.replace_panel(panel, win)?),
+        Stacking::PanelAbove { panel: above } => panel(desk.panel_above(above)?),
+        Stacking::PanelBelow { panel: below } => panel(desk.panel_below(below)?),
+        Stacking::PanelWindow { panel } => number(desk.panel_window(panel)?),
+        Stacking::PanelHidden { panel } => Ok(Reply::Flag(desk.panel_hidden(panel)?)),
+    }
+}
+
 /// The answer of a call that answers nothing.
 fn nothing<T: Copy>(_answer: T) -> Result<Reply, Refusal>
     ensures { result ≡ Ok Reply.Nothing }
@@ -116,11 +142,18 @@ fn nothing<T: Copy>(_answer: T) -> Result<Reply, Refusal>
     Ok(Reply::Nothing)
 }
 
-/// The answer of a call that made a window.
+/// The answer of a call that made a window, or asked for a panel's.
 fn number(win: WinId) -> Result<Reply, Refusal>
     ensures { result ≡ Ok (Reply.Number win) }
 {
     Ok(Reply::Number(win))
+}
+
+/// The answer of a call that made a panel, or asked for one.
+fn panel(panel: Option<PanelId>) -> Result<Reply, Refusal>
+    ensures { result ≡ Ok (Reply.Panel panel) }
+{
+    Ok(Reply::Panel(panel))
 }
 
 /// The answer of a call that answers two numbers.

@@ -12,7 +12,3 @@ mod search;
 mod tests;
 
 pub use desk::Desk;
-pub use marks::{clear_asked, unmark_composed};
-pub use panels::{delete_window, move_panel, move_window, new_panel, replace_panel};
-pub use picture::show_picture;
-pub use search::{cell_found, wanted_cursor};

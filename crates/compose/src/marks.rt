@@ -14,7 +14,7 @@ use grids::Grids;
 use stack::Stack;
 
 /// Whether the standard screen or a visible panel's window asks for a clear screen.
-pub fn clear_asked(table: &Grids, stack: &Stack) -> bool
+pub(crate) fn clear_asked(table: &Grids, stack: &Stack) -> bool
     ensures { result ≡ list_any (asks_for_clear (windows_of table.now).window) (standard_screen ∷ windows_from_top (panels stack.now)) }
 {
     for panel in stack.visible_from_top() {
@@ -28,7 +28,7 @@ pub fn clear_asked(table: &Grids, stack: &Stack) -> bool
 }
 
 /// Takes the marks and clear flags of the standard screen and of the windows of visible panels away.
-pub fn unmark_composed(table: &mut Grids, stack: &Stack)
+pub(crate) fn unmark_composed(table: &mut Grids, stack: &Stack)
     ensures unmarked { windows_of table.new ≡ record (windows_of table.old) { window = with_unmarked (windows_of table.old).window (standard_screen ∷ windows_from_top (panels stack.now)) } }
     ensures sound { AreSoundWindows (windows_of table.new) }
 {

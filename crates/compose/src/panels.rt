@@ -20,7 +20,7 @@ use world::PanelId;
 ///
 /// # Errors
 /// `NoSuchWindow`, `StandardScreen`, `IsPad`, `InPanel`, `TooMany`, `NoMemory`.
-pub fn new_panel(table: &Grids, stack: &mut Stack, win: WinId) -> Result<PanelId, Refusal>
+pub(crate) fn new_panel(table: &Grids, stack: &mut Stack, win: WinId) -> Result<PanelId, Refusal>
     requires { AreSoundPanels (windows_of table.now).window (panels stack.old) }
     ensures refused { RefusedBy (new_panel_refusal (windows_of table.now).window (panels stack.old) win.0) result }
     ensures number { IfOk result (λ p. new_panel_number (panels stack.old) ≡ Some p.0) }
@@ -36,7 +36,7 @@ pub fn new_panel(table: &Grids, stack: &mut Stack, win: WinId) -> Result<PanelId
 ///
 /// # Errors
 /// `NoSuchPanel`, `NoSuchWindow`, `StandardScreen`, `IsPad`, `InPanel`.
-pub fn replace_panel(
+pub(crate) fn replace_panel(
     table: &Grids,
     stack: &mut Stack,
     panel: PanelId,
@@ -57,7 +57,7 @@ pub fn replace_panel(
 ///
 /// # Errors
 /// `NoSuchPanel`, `OffScreen`.
-pub fn move_panel(
+pub(crate) fn move_panel(
     table: &mut Grids,
     stack: &Stack,
     panel: PanelId,
@@ -79,7 +79,7 @@ pub fn move_panel(
 ///
 /// # Errors
 /// `NoSuchWindow`, `StandardScreen`, `IsPad`, `InPanel`, `OffScreen`.
-pub fn move_window(
+pub(crate) fn move_window(
     table: &mut Grids,
     stack: &Stack,
     win: WinId,
@@ -103,7 +103,7 @@ pub fn move_window(
 ///
 /// # Errors
 /// `NoSuchWindow`, `StandardScreen`, `InPanel`, `HasDerived`.
-pub fn delete_window(table: &mut Grids, stack: &Stack, win: WinId) -> Result<(), Refusal>
+pub(crate) fn delete_window(table: &mut Grids, stack: &Stack, win: WinId) -> Result<(), Refusal>
     requires { AreSoundPanels (windows_of table.old).window (panels stack.now) }
     ensures refused { result_err result ≡ delwin_refusal (windows_of table.old) (is_in_panel (panels stack.now) win.0) win.0 }
     ensures deleted { OnOk result (windows_of table.new ≡ after_delwin (windows_of table.old) win.0) }

@@ -14,7 +14,7 @@ use grids::Grids;
 use stack::Stack;
 
 /// Puts the picture of windows and panels into a grid of the screen's size: at each place what a search from the top finds.
-pub fn show_picture(
+pub(crate) fn show_picture(
     table: &Grids,
     stack: &Stack,
     pairs: &Pairs,

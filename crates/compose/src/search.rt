@@ -13,7 +13,7 @@ use stack::Stack;
 pub(crate) const STANDARD: WinId = WinId(0);
 
 /// The cell that a search from the top visible panel down to the standard screen finds at line `y` and column `x` of the screen.
-pub fn cell_found(table: &Grids, stack: &Stack, y: u16, x: u16) -> Cell
+pub(crate) fn cell_found(table: &Grids, stack: &Stack, y: u16, x: u16) -> Cell
     requires line { y < table.now.lines }
     requires column { x < table.now.columns }
     ensures { result ≡ found_from_top (windows_of table.now).window (panels stack.now) y x }
@@ -24,7 +24,7 @@ pub fn cell_found(table: &Grids, stack: &Stack, y: u16, x: u16) -> Cell
 }
 
 /// Where the cursor of the top visible panel's window stands on the screen, or the standard screen's if no panel is visible.
-pub fn wanted_cursor(table: &Grids, stack: &Stack) -> (u16, u16)
+pub(crate) fn wanted_cursor(table: &Grids, stack: &Stack) -> (u16, u16)
     ensures { result ≡ cursor_of_topmost (windows_of table.now).window (panels stack.now) }
 {
     let win = window_on_top(stack);
