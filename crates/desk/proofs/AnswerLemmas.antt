@@ -7,7 +7,7 @@ use Rattle.desk.proofs.WriterLemmas.{Writes-refused}
 use Rattle.desk.specs.States.{state_of}
 use Rattle.script.specs.Words.{placeless}
 use Rattle.world.specs.declared.call.Call.{Call}
-use Rattle.world.specs.declared.call.Call.TheVariants.{Making, Writing, Copying, Query, Refresh}
+use Rattle.world.specs.declared.call.Call.TheVariants.{Making, Writing, Copying, Query, Stacking, Refresh}
 use Rattle.world.specs.declared.call.Writing.TheVariants.{Move, Addch, Addstr, Insch, Delch, Insertln, Deleteln, Erase, Clrtoeol, Clrtobot, Scrl, Setscrreg, Scrollok, Attrset, Attron, Attroff, Bkgdset, ColorSet, Bkgdpair}
 use Rattle.world.specs.declared.call.Reply.{Reply}
 use Rattle.desk.specs.declared.screen.Fault.TheVariants.{Refused, Write}
@@ -21,6 +21,7 @@ module _ {W : Type 0} (seen : W → Seen) where
   placeless_ends old (Making m) r new h = h
   placeless_ends old (Copying k) r new h = h
   placeless_ends old (Query q) r new h = h
+  placeless_ends old (Stacking s) r new h = h
   placeless_ends old (Refresh q) r new h = h
   placeless_ends old (Writing (Move win y x)) r new h = h
   placeless_ends old (Writing (Addch win ch)) r new h = h

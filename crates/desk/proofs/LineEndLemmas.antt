@@ -13,7 +13,7 @@ use Rattle.script.specs.Readings.{said_by_line}
 use Rattle.script.specs.Log.{log_line}
 use Rattle.desk.specs.ScriptEnds.{LineEnds}
 use Rattle.world.specs.declared.call.Call.{Call}
-use Rattle.world.specs.declared.call.Call.TheVariants.{Making, Writing, Copying, Query, Refresh}
+use Rattle.world.specs.declared.call.Call.TheVariants.{Making, Writing, Copying, Query, Stacking, Refresh}
 use Rattle.world.specs.declared.call.Refresh.TheVariants.{UpdatePanels, Doupdate, InitPair}
 use Rattle.world.specs.declared.call.Reply.{Reply}
 use Rattle.cell.specs.declared.refusal.Refusal.{Refusal}
@@ -28,6 +28,7 @@ the_doupdate (Making m) h = cc
 the_doupdate (Writing w) h = cc
 the_doupdate (Copying w) h = cc
 the_doupdate (Query q) h = cc
+the_doupdate (Stacking s) h = cc
 the_doupdate (Refresh UpdatePanels) h = cc
 the_doupdate (Refresh (InitPair pair foreground background)) h = cc
 the_doupdate (Refresh Doupdate) h = refl

@@ -64,6 +64,7 @@ module _ {W : Type 0} (seen : W → Seen) where
   Writes-refused old (calls.Writing w) e h = quiet old old (calls.Writing w) refl refl
   Writes-refused old (calls.Copying k) e h = quiet old old (calls.Copying k) refl refl
   Writes-refused old (calls.Query q) e h = quiet old old (calls.Query q) refl refl
+  Writes-refused old (calls.Stacking s) e h = quiet old old (calls.Stacking s) refl refl
   Writes-refused old (calls.Refresh UpdatePanels) e h = absurd (never-refused (world old.desk) UpdatePanels e refl h)
   Writes-refused old (calls.Refresh Doupdate) e h = absurd (never-refused (world old.desk) Doupdate e refl h)
   Writes-refused old (calls.Refresh (InitPair pair foreground background)) e h = quiet old old (calls.Refresh (InitPair pair foreground background)) refl refl
@@ -81,6 +82,8 @@ module _ {W : Type 0} (seen : W → Seen) where
       ((λ i. record { world = h.2 i; painter = old.painter }), ([], (h.0, (refl, h.1)), quiet old (record old { desk = desk }) (calls.Copying k) refl refl))
   called-ends old desk (calls.Query q) reply other h =
       ((λ i. record { world = world (h.2 i); painter = old.painter }), ([], (h.0, (refl, h.1)), quiet old (record old { desk = desk }) (calls.Query q) refl refl))
+  called-ends old desk (calls.Stacking s) reply other h =
+      ((λ i. record { world = h.2 i; painter = old.painter }), ([], (h.0, (refl, h.1)), quiet old (record old { desk = desk }) (calls.Stacking s) refl refl))
   called-ends old desk (calls.Refresh UpdatePanels) reply other h =
       ((λ i. record { world = h.2 i; painter = old.painter }), ([], (h.0, (refl, h.1)), quiet old (record old { desk = desk }) (calls.Refresh UpdatePanels) refl refl))
   called-ends old desk (calls.Refresh Doupdate) reply other h = cc

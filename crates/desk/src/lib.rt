@@ -10,7 +10,9 @@ pub use screen::{Fault, RunEnd, Screen};
 pub use script::{ScriptEnd, ScriptFault, TextFault};
 pub use streams::{Counted, CountedReader, Sent, Sink, Source, WriteFault};
 pub use windows::Windows;
-pub use world::{Call, Composed, Making, Query, Refresh, Reply, Writing};
+pub use world::{
+    Call, Composed, Copying, Making, PanelId, Query, Refresh, Reply, Stacking, Writing,
+};
 
 #[cfg(test)]
 mod tests;
