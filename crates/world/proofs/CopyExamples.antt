@@ -18,7 +18,7 @@ use Rattle.world.specs.declared.call.Copying.TheVariants.{Overlay, Overwrite, Co
 use Rattle.world.specs.declared.call.Reply.TheVariants.{Flag}
 
 -- the characters of a text written in window w
-typed : ℕ → List ℕ → List Call
+unfoldable pub typed : ℕ → List ℕ → List Call
 unfolding win
 typed w text = map (λ character. Writing (Addch (win w) character)) text
 

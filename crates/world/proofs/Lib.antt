@@ -13,3 +13,4 @@ pub mod PlaceLaws
 pub mod Examples
 pub mod PanelExamples
 pub mod CopyExamples
+pub mod RefreshExamples

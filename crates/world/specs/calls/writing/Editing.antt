@@ -1,6 +1,6 @@
 -- The calls that clear a window or a part of it, and that insert, delete and scroll lines: when they are refused, and what they change.
--- X/Open Curses Issue 7: erase, clrtoeol, clrtobot, insertln, deleteln, scrl. Each clears to the background.
-use Rattle.std.specs.Prelude.{ℕ, zero, suc, ℤ, pos, negsuc, ◌-◌, Bool, false, not, Option, None, [], ◌∷◌}
+-- X/Open Curses Issue 7: erase, clear, clrtoeol, clrtobot, insertln, deleteln, scrl. Each clears to the background.
+use Rattle.std.specs.Prelude.{ℕ, zero, suc, ℤ, pos, negsuc, ◌-◌, Bool, true, false, not, Option, None, [], ◌∷◌}
 use Rattle.std.specs.Option.{option_map_or}
 use Rattle.cell.specs.Pictures.{origin}
 use Rattle.cell.specs.Refusals.{first_of}
@@ -8,6 +8,7 @@ use Rattle.world.specs.Windows.{Drawing, Window, WindowMap, Windows, put}
 use Rattle.world.specs.Drawings.{to_end_of_line, to_bottom, everywhere, lines_up, lines_down}
 use Rattle.world.specs.Frames.{frame_of}
 use Rattle.world.specs.calls.writing.Characters.{drawn_to, frame_if_there}
+use Rattle.world.specs.calls.writing.Options.{after_clearok}
 use Rattle.world.specs.Windows.{is_missing, if_there}
 use Rattle.cell.specs.declared.window.Frame.{Frame}
 use Rattle.cell.specs.declared.refusal.Refusal.{Refusal}
@@ -20,7 +21,7 @@ after_drawing windows w drawing = if_there windows w (λ a. put windows w (drawi
 abbrev pub drawing_frame : Windows → ℕ → (Window → Drawing) → Option Frame
 drawing_frame windows w drawing = frame_if_there windows w (λ a. frame_of a (drawing a))
 
--- ---- erase: all of the window, and the cursor goes to its origin
+-- ---- erase, clear: all of the window, and the cursor goes to its origin; clear asks for a clear screen too
 
 abbrev pub erase_drawing : Window → Drawing
 erase_drawing a = everywhere a.settings.background
@@ -30,6 +31,9 @@ after_erase windows w = if_there windows w (λ a. drawn_to windows w (erase_draw
 
 abbrev pub erase_frame : Windows → ℕ → Option Frame
 erase_frame windows w = drawing_frame windows w erase_drawing
+
+abbrev pub after_clear : Windows → ℕ → Windows
+after_clear windows w = after_clearok (after_erase windows w) w true
 
 -- ---- clrtoeol, clrtobot: from the cursor on
 

@@ -1,6 +1,6 @@
--- The calls that set a window's cursor, attributes, colours, background and scroll region: when they are refused, and what they change.
--- They write no cell.
--- X/Open Curses Issue 7: move, attrset, attron, attroff, color_set, bkgdset, setscrreg, scrollok. `bkgdpair` is Curspan's own.
+-- The calls that set a window's cursor, attributes, colours, background, scroll region and flags: when they are refused, and what they
+-- change. They write no cell.
+-- X/Open Curses Issue 7: move, attrset, attron, attroff, color_set, bkgdset, setscrreg, scrollok, clearok. `bkgdpair` is Curspan's own.
 use Rattle.std.specs.Prelude.{ℕ, Bool, false, not, ◌&&◌, ◌||◌, nat_lt, nat_le, Option, [], ◌∷◌}
 use Rattle.std.specs.Option.{option_map_or}
 use Rattle.std.specs.Int.RustNames.{bit_or}
@@ -85,7 +85,7 @@ with_background_pair pair settings = record settings { background = record setti
 abbrev pub after_bkgdpair : Windows → ℕ → ℕ → Windows
 after_bkgdpair windows w pair = set windows w (with_background_pair pair)
 
--- ---- setscrreg, scrollok
+-- ---- setscrreg, scrollok, clearok
 
 -- upside down, or past the window's last line
 abbrev pub is_bad_region : WindowMap → ℕ → ℕ → ℕ → Bool
@@ -108,3 +108,10 @@ with_scrolling flag settings = record settings { scrolling = flag }
 
 abbrev pub after_scrollok : Windows → ℕ → Bool → Windows
 after_scrollok windows w flag = set windows w (with_scrolling flag)
+
+-- whether the window asks for a clear screen where it is next taken into the virtual screen
+abbrev pub with_clear : Bool → Settings → Settings
+with_clear flag settings = record settings { clear = flag }
+
+abbrev pub after_clearok : Windows → ℕ → Bool → Windows
+after_clearok windows w flag = set windows w (with_clear flag)
