@@ -8,7 +8,7 @@ use Rattle.cell.specs.declared.limits.TheConstants.{LAST_PAIR}
 use Rattle.std.specs.Prelude.{◌&&◌, nat_le}
 use Rattle.world.specs.Windows.{Windows}
 use Rattle.world.specs.Settings.{after_set_settings, set}
-use Rattle.world.specs.calls.writing.Options.{with_attributes, with_background, with_background_pair, with_pair, with_region, with_scrolling, after_attron, after_attroff, after_bkgdset, after_color_set, after_bkgdpair, after_setscrreg, after_scrollok}
+use Rattle.world.specs.calls.writing.Options.{with_attributes, with_background, with_background_pair, with_pair, with_region, with_clear, with_scrolling, after_attron, after_attroff, after_bkgdset, after_color_set, after_bkgdpair, after_setscrreg, after_scrollok, after_clearok}
 use Rattle.cell.specs.Attributes.{without}
 use Rattle.cell.specs.declared.attr.Attr.{Attr}
 use Rattle.world.specs.declared.settings.Settings.{Settings}
@@ -26,6 +26,9 @@ module _ (windows new : Windows) (w : ℕ) (s : WindowState) (h : IsStateOf wind
 
   pub scrolling_set : (flag : Bool) → new ≡ after_set_settings windows w (record s.settings { scrolling = flag }) → new ≡ after_scrollok windows w flag
   scrolling_set flag is = set-known (record s.settings { scrolling = flag }) (with_scrolling flag) h.within.attributes refl is
+
+  pub clear_set : (flag : Bool) → new ≡ after_set_settings windows w (record s.settings { clear = flag }) → new ≡ after_clearok windows w flag
+  clear_set flag is = set-known (record s.settings { clear = flag }) (with_clear flag) h.within.attributes refl is
 
   pub region_set : (top bottom : ℕ) → new ≡ after_set_settings windows w (record s.settings { region = (top, bottom) }) → new ≡ after_setscrreg windows w top bottom
   region_set top bottom is = set-known (record s.settings { region = (top, bottom) }) (with_region top bottom) h.within.attributes refl is

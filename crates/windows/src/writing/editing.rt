@@ -2,7 +2,7 @@
 
 ghost use Rattle.std.specs.Prelude.{◌≡◌, IfOk, OnOk, OnErr};
 ghost use Rattle.std.specs.Result.{result_err};
-ghost use Rattle.world.specs.calls.writing.Editing.{after_erase, erase_frame, after_clrtoeol, clrtoeol_frame, after_clrtobot, clrtobot_frame, after_insertln, insertln_frame, after_deleteln, deleteln_frame};
+ghost use Rattle.world.specs.calls.writing.Editing.{after_clear, after_erase, erase_frame, after_clrtoeol, clrtoeol_frame, after_clrtobot, clrtobot_frame, after_insertln, insertln_frame, after_deleteln, deleteln_frame};
 ghost use Rattle.world.specs.calls.Missing.{missing_refusal};
 ghost use Rattle.world.specs.Sound.{AreSoundWindows};
 ghost use Rattle.grids.specs.Tables.{windows};
@@ -29,6 +29,25 @@ impl Windows {
         clear_all(&mut self.table, win, &state);
         set_cursor(&mut self.table, win, &state, 0, 0);
         Ok(Some(lines_from(&state, 0, state.lines - 1, 0)))
+    }
+
+    /// Sets all cells of a window to its background, and its cursor to line 0 and column 0, and asks for a clear screen where the
+    /// window is next taken into the virtual screen.
+    ///
+    /// # Errors
+    /// `NoSuchWindow`.
+    pub fn wclear(&mut self, win: WinId) -> Result<Option<Frame>, Refusal>
+        ensures refused { result_err result ≡ missing_refusal (windows self.old.table).window win.0 }
+        ensures written { OnOk result (windows self.new.table ≡ after_clear (windows self.old.table) win.0) }
+        ensures frame { IfOk result (λ frame. frame ≡ erase_frame (windows self.old.table) win.0) }
+        ensures unchanged { OnErr result (self.new ≡ self.old) }
+        ensures sound { AreSoundWindows (windows self.new.table) }
+    {
+        let frame = self.werase(win)?;
+        match self.clearok(win, true) {
+            Ok(()) => Ok(frame),
+            Err(_) => unreachable!(),
+        }
     }
 
     /// Sets the cells from the cursor to the end of its line to the background.

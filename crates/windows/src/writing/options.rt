@@ -1,9 +1,9 @@
-//! The cursor, the attributes, the colours and the background of a window.
+//! The cursor, the attributes, the colours and the background of a window, and whether it asks for a clear screen.
 
 ghost use Rattle.std.specs.Prelude.{◌≡◌, OnOk, OnErr};
 ghost use Rattle.std.specs.Result.{result_err};
 ghost use Rattle.cell.specs.Attributes.{bits_of};
-ghost use Rattle.world.specs.calls.writing.Options.{move_refusal, after_move, after_attrset, after_attron, after_attroff, bkgdset_refusal, after_bkgdset, pair_refusal, after_color_set, after_bkgdpair};
+ghost use Rattle.world.specs.calls.writing.Options.{move_refusal, after_move, after_clearok, after_attrset, after_attron, after_attroff, bkgdset_refusal, after_bkgdset, pair_refusal, after_color_set, after_bkgdpair};
 ghost use Rattle.world.specs.calls.Missing.{missing_refusal};
 ghost use Rattle.world.specs.Sound.{AreSoundWindows};
 ghost use Rattle.grids.specs.Tables.{windows};
@@ -30,6 +30,25 @@ impl Windows {
             return Err(Refusal::OutsideWindow);
         }
         set_cursor(&mut self.table, win, &state, y, x);
+        Ok(())
+    }
+
+    /// Sets whether the window asks for a clear screen where it is next taken into the virtual screen.
+    ///
+    /// # Errors
+    /// `NoSuchWindow`.
+    pub fn clearok(&mut self, win: WinId, flag: bool) -> Result<(), Refusal>
+        ensures refused { result_err result ≡ missing_refusal (windows self.old.table).window win.0 }
+        ensures set { OnOk result (windows self.new.table ≡ after_clearok (windows self.old.table) win.0 flag) }
+        ensures unchanged { OnErr result (self.new ≡ self.old) }
+        ensures sound { AreSoundWindows (windows self.new.table) }
+    {
+        let state = state_of(&self.table, win)?;
+        let settings = Settings {
+            clear: flag,
+            ..state.settings
+        };
+        self.table.set_settings(win, settings);
         Ok(())
     }
 
