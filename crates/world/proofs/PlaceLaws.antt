@@ -12,6 +12,7 @@ use Rattle.world.specs.Sound.{AreSoundPanels, IsSoundPanel}
 use Rattle.world.specs.calls.Making.{after_mvwin, free_among, new_number, numbered, with_part, with_place}
 use Rattle.world.specs.calls.Marks.{lines_marked, all_marked, touching, shows_touched_of}
 use Rattle.world.specs.calls.writing.Characters.{after_addch, after_addstr, drawn_to, region_up, is_last_line, newline, carriage_return, backspace, character_printed, line_ended, to_next_line, scrolls, typed_in}
+use Rattle.world.specs.calls.writing.Editing.{after_erase}
 use Rattle.world.specs.calls.Dispatch.{after_making, after_copying, after_writing, next_window}
 use Rattle.cell.specs.declared.window.WinId.{WinId}
 use Rattle.world.specs.declared.call.Making.{Making}
@@ -19,7 +20,7 @@ use Rattle.world.specs.declared.call.Making.TheVariants.{Newwin, Subwin, Derwin,
 use Rattle.world.specs.declared.call.Copying.{Copying}
 use Rattle.world.specs.declared.call.Copying.TheVariants.{Overlay, Overwrite, Copywin, Touchwin, Untouchwin, Touchline, Touchln, Syncup, Syncdown, IsLinetouched, IsWintouched}
 use Rattle.world.specs.declared.call.Writing.{Writing}
-use Rattle.world.specs.declared.call.Writing.TheVariants.{Move, Addch, Addstr, Insch, Delch, Insertln, Deleteln, Erase, Clrtoeol, Clrtobot, Scrl, Setscrreg, Scrollok, Attrset, Attron, Attroff, Bkgdset, ColorSet, Bkgdpair}
+use Rattle.world.specs.declared.call.Writing.TheVariants.{Move, Addch, Addstr, Insch, Delch, Insertln, Deleteln, Erase, Clear, Clrtoeol, Clrtobot, Scrl, Setscrreg, Scrollok, Clearok, Attrset, Attron, Attroff, Bkgdset, ColorSet, Bkgdpair}
 use Rattle.world.specs.declared.settings.Settings.{Settings}
 
 abbrev pub has_place : Option Window → Bool
@@ -116,11 +117,13 @@ places-writing windows (Delch win) = in_window windows (windows.window win.0) _ 
 places-writing windows (Insertln win) = in_window windows (windows.window win.0) _ (λ a. places-put windows win.0 _)
 places-writing windows (Deleteln win) = in_window windows (windows.window win.0) _ (λ a. places-put windows win.0 _)
 places-writing windows (Erase win) = in_window windows (windows.window win.0) _ (λ a. places-drawn_to windows win.0 _ _)
+places-writing windows (Clear win) = λ u. places-set (after_erase windows win.0) win.0 _ u ∙ in_window windows (windows.window win.0) _ (λ a. places-drawn_to windows win.0 _ _) u
 places-writing windows (Clrtoeol win) = in_window windows (windows.window win.0) _ (λ a. places-put windows win.0 _)
 places-writing windows (Clrtobot win) = in_window windows (windows.window win.0) _ (λ a. places-put windows win.0 _)
 places-writing windows (Scrl win n) = in_window windows (windows.window win.0) _ (λ a. places-put windows win.0 _)
 places-writing windows (Setscrreg win top bottom) = places-set windows win.0 _
 places-writing windows (Scrollok win flag) = places-set windows win.0 _
+places-writing windows (Clearok win flag) = places-set windows win.0 _
 places-writing windows (Attrset win attributes) = places-set windows win.0 _
 places-writing windows (Attron win attributes) = places-set windows win.0 _
 places-writing windows (Attroff win attributes) = places-set windows win.0 _

@@ -1,10 +1,11 @@
 -- What noutrefresh and pnoutrefresh leave of small screens, for a reader of the definitions.
 use Rattle.std.proofs.Common.{◌≡◌, ℕ, true, false, List, [], ◌∷◌, Some, None, refl}
-use Rattle.std.specs.Prelude.{codes, map}
+use Rattle.std.specs.Prelude.{codes, filter, map}
 use Rattle.std.specs.List.{range_with_len}
 use Rattle.cell.specs.Pictures.{shown_at}
 use Rattle.world.specs.Windows.{window_limit}
 use Rattle.world.specs.World.{World}
+use Rattle.world.specs.calls.Affected.{affected_lines}
 use Rattle.world.specs.calls.Dispatch.{reply_of, world_after}
 use Rattle.world.specs.calls.Queries.{touched_columns}
 use Rattle.world.specs.calls.Refresh.{after_noutrefresh, after_pnoutrefresh, after_update_panels, noutrefresh_refusal, pnoutrefresh_refusal}
@@ -12,10 +13,12 @@ use Rattle.world.specs.calls.writing.Editing.{after_clear}
 use Rattle.world.proofs.CopyExamples.{typed}
 use Rattle.world.proofs.Examples.{screen_after, win}
 use Rattle.cell.specs.declared.refusal.Refusal.TheVariants.{BadRectangle, IsPad, NoSuchWindow, NotPad, OffScreen, OutsideWindow}
-use Rattle.world.specs.declared.call.Call.TheVariants.{Copying, Making, Writing}
+use Rattle.world.specs.declared.call.Call.{Call}
+use Rattle.world.specs.declared.call.Call.TheVariants.{Copying, Making, Refresh, Writing}
 use Rattle.world.specs.declared.call.Copying.TheVariants.{IsWintouched, Syncup}
 use Rattle.world.specs.declared.call.Making.TheVariants.{Derwin, Newpad, Newwin}
 use Rattle.world.specs.declared.call.Writing.TheVariants.{Addch, Move}
+use Rattle.world.specs.declared.call.Refresh.TheVariants.{Noutrefresh, Pnoutrefresh}
 use Rattle.world.specs.declared.call.Reply.TheVariants.{Flag}
 
 -- the characters of a line of the virtual screen
@@ -87,6 +90,19 @@ end_shown = (refl, refl, refl)
 lines_untouched : (touched_columns pad.windows.window 1 5 ≡ Some (17, 19)) × (touched_columns end.windows.window 1 5 ≡ None) × (touched_columns (after_pnoutrefresh pad 1 4 17 0 0 0 2).windows.window 1 5 ≡ Some (17, 19))
 unfolding end pad screen_after win typed window_limit
 lines_untouched = (refl, refl, refl)
+
+-- ---- the lines to which cells are copied
+
+lines : World → Call → List ℕ
+lines world call = filter (affected_lines world call) (range_with_len 0 4)
+
+copied_lines : (lines (world_after part (Copying (Syncup (win 2)))) (Refresh (Noutrefresh (win 1))) ≡ 1 ∷ []) × (lines part (Refresh (Noutrefresh (win 1))) ≡ [])
+unfolding lines part screen_after win window_limit
+copied_lines = (refl, refl)
+
+lines_of_the_rectangle : (lines pad (Refresh (Pnoutrefresh (win 1) 0 0 1 0 2 0)) ≡ 1 ∷ 2 ∷ []) × (lines pad (Refresh (Pnoutrefresh (win 1) 0 0 1 0 4 0)) ≡ [])
+unfolding lines pad screen_after win typed window_limit
+lines_of_the_rectangle = (refl, refl)
 
 -- ---- refusals, in the order of the tests
 

@@ -1,12 +1,13 @@
 -- No call changes the size of the screen.
 use Rattle.std.proofs.Common.{◌≡◌, ℕ, Bool, true, false, if◌then◌else◌, Option, Some, None, List, [], ◌∷◌, ◌==◌, ◌+◌, ◌-◌, nat_lt, refl, ◌∙◌}
 use Rattle.std.specs.Option.{option_map_or}
-use Rattle.cell.specs.Pictures.{Place}
+use Rattle.cell.specs.Pictures.{Place, origin}
 use Rattle.world.specs.Windows.{Window, Windows, Drawing, put}
 use Rattle.world.specs.Settings.{set, with_cursor}
 use Rattle.world.specs.World.{World}
 use Rattle.world.specs.Drawings.{at_place, to_end_of_line, written_glyph}
 use Rattle.world.specs.calls.writing.Characters.{after_addch, after_addstr, drawn_to, region_up, is_last_line, newline, carriage_return, backspace, character_printed, line_ended, to_next_line, scrolls, typed_in}
+use Rattle.world.specs.calls.writing.Editing.{erase_drawing}
 use Rattle.world.specs.calls.Dispatch.{after_making, after_copying, after_writing, after_stacking, world_after}
 use Rattle.world.specs.declared.call.Call.{Call}
 use Rattle.world.specs.declared.call.Call.TheVariants as calls
@@ -15,10 +16,10 @@ use Rattle.world.specs.declared.call.Copying.{Copying}
 use Rattle.world.specs.declared.call.Copying.TheVariants.{Overlay, Overwrite, Copywin, Touchwin, Untouchwin, Touchline, Touchln, Syncup, Syncdown, IsLinetouched, IsWintouched}
 use Rattle.world.specs.declared.call.Making.TheVariants.{Newwin, Subwin, Derwin, Newpad, Subpad, Delwin, Mvwin, Mvderwin}
 use Rattle.world.specs.declared.call.Writing.{Writing}
-use Rattle.world.specs.declared.call.Writing.TheVariants.{Move, Addch, Addstr, Insch, Delch, Insertln, Deleteln, Erase, Clrtoeol, Clrtobot, Scrl, Setscrreg, Scrollok, Attrset, Attron, Attroff, Bkgdset, ColorSet, Bkgdpair}
+use Rattle.world.specs.declared.call.Writing.TheVariants.{Move, Addch, Addstr, Insch, Delch, Insertln, Deleteln, Erase, Clear, Clrtoeol, Clrtobot, Scrl, Setscrreg, Scrollok, Clearok, Attrset, Attron, Attroff, Bkgdset, ColorSet, Bkgdpair}
 use Rattle.world.specs.declared.call.Stacking.{Stacking}
 use Rattle.world.specs.declared.call.Stacking.TheVariants.{NewPanel, DelPanel, ShowPanel, HidePanel, TopPanel, BottomPanel, MovePanel, ReplacePanel, PanelAbove, PanelBelow, PanelWindow, PanelHidden}
-use Rattle.world.specs.declared.call.Refresh.TheVariants.{UpdatePanels, Doupdate, InitPair}
+use Rattle.world.specs.declared.call.Refresh.TheVariants.{Noutrefresh, Pnoutrefresh, UpdatePanels, Doupdate, InitPair}
 
 pub record SameSize (one other : Windows) : Type 0 where
   pub lines : one.lines ≡ other.lines
@@ -95,11 +96,15 @@ size-writing windows (Delch win) = in_window windows (windows.window win.0) _ (�
 size-writing windows (Insertln win) = in_window windows (windows.window win.0) _ (λ a. record { lines = refl; columns = refl })
 size-writing windows (Deleteln win) = in_window windows (windows.window win.0) _ (λ a. record { lines = refl; columns = refl })
 size-writing windows (Erase win) = in_window windows (windows.window win.0) _ (λ a. record { lines = refl; columns = refl })
+size-writing windows (Clear win) =
+    let erased = in_window windows (windows.window win.0) (λ a. drawn_to windows win.0 (erase_drawing a) origin) (λ a. record { lines = refl; columns = refl }) in
+    record { lines = erased.lines; columns = erased.columns }
 size-writing windows (Clrtoeol win) = in_window windows (windows.window win.0) _ (λ a. record { lines = refl; columns = refl })
 size-writing windows (Clrtobot win) = in_window windows (windows.window win.0) _ (λ a. record { lines = refl; columns = refl })
 size-writing windows (Scrl win n) = in_window windows (windows.window win.0) _ (λ a. record { lines = refl; columns = refl })
 size-writing windows (Setscrreg win top bottom) = record { lines = refl; columns = refl }
 size-writing windows (Scrollok win flag) = record { lines = refl; columns = refl }
+size-writing windows (Clearok win flag) = record { lines = refl; columns = refl }
 size-writing windows (Attrset win attributes) = record { lines = refl; columns = refl }
 size-writing windows (Attron win attributes) = record { lines = refl; columns = refl }
 size-writing windows (Attroff win attributes) = record { lines = refl; columns = refl }
@@ -140,6 +145,8 @@ size-call world (calls.Writing writing) = size-writing world.windows writing
 size-call world (calls.Copying copying) = size-copying world.windows copying
 size-call world (calls.Query query) = record { lines = refl; columns = refl }
 size-call world (calls.Stacking stacking) = size-stacking world stacking
+size-call world (calls.Refresh (Noutrefresh win)) = record { lines = refl; columns = refl }
+size-call world (calls.Refresh (Pnoutrefresh pad pminrow pmincol sminrow smincol smaxrow smaxcol)) = record { lines = refl; columns = refl }
 size-call world (calls.Refresh UpdatePanels) = record { lines = refl; columns = refl }
 size-call world (calls.Refresh Doupdate) = record { lines = refl; columns = refl }
 size-call world (calls.Refresh (InitPair pair foreground background)) = record { lines = refl; columns = refl }

@@ -91,6 +91,8 @@ pub enum Writing<'a> {
     Deleteln { win: WinId },
     /// Clears the window, and moves the cursor to its first place.
     Erase { win: WinId },
+    /// Clears the window, moves the cursor to its first place, and asks for a clear screen.
+    Clear { win: WinId },
     /// Clears from the cursor to the end of the line.
     Clrtoeol { win: WinId },
     /// Clears from the cursor to the end of the window.
@@ -101,6 +103,8 @@ pub enum Writing<'a> {
     Setscrreg { win: WinId, top: u16, bottom: u16 },
     /// Sets whether the window scrolls.
     Scrollok { win: WinId, flag: bool },
+    /// Sets whether the window asks for a clear screen where it is next taken into the virtual screen.
+    Clearok { win: WinId, flag: bool },
     /// Sets the attributes.
     Attrset { win: WinId, attrs: Attr },
     /// Adds attributes.
@@ -228,6 +232,20 @@ pub enum Stacking {
 /// The calls that refresh, and the one that sets the colours of a pair.
 #[derive(Clone, Copy, Debug)]
 pub enum Refresh {
+    /// Takes what is touched of a window, and its cursor, into the virtual screen.
+    Noutrefresh {
+        win: WinId,
+    },
+    /// Takes the cells from a line and a column of a pad on into a rectangle of the virtual screen, both ends inclusive.
+    Pnoutrefresh {
+        pad: WinId,
+        pminrow: u16,
+        pmincol: u16,
+        sminrow: u16,
+        smincol: u16,
+        smaxrow: u16,
+        smaxcol: u16,
+    },
     /// Takes the picture of the windows and panels into the virtual screen.
     UpdatePanels,
     /// Shows the virtual screen on the terminal.

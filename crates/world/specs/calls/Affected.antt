@@ -1,17 +1,17 @@
 -- The screen lines on which a call can change the picture, and how many cells of windows an update_panels may read for them.
 -- X/Open Curses Issue 7 and NetBSD panel(3) say nothing of what a refresh reads: these bounds are Curspan's own.
-use Rattle.std.specs.Prelude.{ℕ, ◌+◌, ◌-◌, ◌*◌, Bool, true, false, if◌then◌else◌, ◌==◌, ◌&&◌, ◌||◌, Option, Some, None, is_none, List, [], ◌∷◌}
+use Rattle.std.specs.Prelude.{ℕ, ◌+◌, ◌-◌, ◌*◌, Bool, true, false, if◌then◌else◌, ◌==◌, ◌&&◌, ◌||◌, Option, Some, None, is_some, is_none, List, [], ◌∷◌}
 use Rattle.std.specs.List.{count_by, list_any, range_with_len}
 use Rattle.std.specs.Option.{option_map_or}
-use Rattle.world.specs.Windows.{WindowMap, Windows, any_below, derives}
+use Rattle.world.specs.Windows.{Drawing, WindowMap, Windows, any_below, derives}
 use Rattle.world.specs.Panels.{Panels, has_line, screen_place, windows_from_top}
 use Rattle.world.specs.World.{World}
 use Rattle.world.specs.Sharing.{shows_part_of}
 use Rattle.world.specs.calls.writing.Characters.{addch_frame, addstr_frame, delch_frame, insch_frame}
 use Rattle.world.specs.calls.writing.Editing.{clrtobot_frame, clrtoeol_frame, deleteln_frame, erase_frame, insertln_frame, scrl_frame}
-use Rattle.world.specs.calls.Copies.{overlay_frame, copywin_frame}
+use Rattle.world.specs.calls.Copies.{overlay_frame, copywin_drawing, copywin_frame}
 use Rattle.world.specs.calls.Stacking.{new_panel_number, panel_affects}
-use Rattle.world.specs.calls.Refresh.{composed_windows}
+use Rattle.world.specs.calls.Refresh.{composed_windows, touched_cells}
 use Rattle.world.specs.calls.Dispatch.{after_stacking, is_update_panels, refusal, world_after}
 use Rattle.cell.specs.declared.window.Frame.{Frame}
 use Rattle.world.specs.declared.call.Call.{Call}
@@ -23,9 +23,9 @@ use Rattle.world.specs.declared.call.Making.TheVariants.{Newwin, Subwin, Derwin,
 use Rattle.world.specs.declared.call.Stacking.{Stacking}
 use Rattle.world.specs.declared.call.Stacking.TheVariants.{NewPanel, DelPanel, ShowPanel, HidePanel, TopPanel, BottomPanel, MovePanel, ReplacePanel, PanelAbove, PanelBelow, PanelWindow, PanelHidden}
 use Rattle.world.specs.declared.call.Refresh.{Refresh}
-use Rattle.world.specs.declared.call.Refresh.TheVariants.{UpdatePanels, Doupdate, InitPair}
+use Rattle.world.specs.declared.call.Refresh.TheVariants.{Noutrefresh, Pnoutrefresh, UpdatePanels, Doupdate, InitPair}
 use Rattle.world.specs.declared.call.Writing.{Writing}
-use Rattle.world.specs.declared.call.Writing.TheVariants.{Move, Addch, Addstr, Insch, Delch, Insertln, Deleteln, Erase, Clrtoeol, Clrtobot, Scrl, Setscrreg, Scrollok, Attrset, Attron, Attroff, Bkgdset, ColorSet, Bkgdpair}
+use Rattle.world.specs.declared.call.Writing.TheVariants.{Move, Addch, Addstr, Insch, Delch, Insertln, Deleteln, Erase, Clear, Clrtoeol, Clrtobot, Scrl, Setscrreg, Scrollok, Clearok, Attrset, Attron, Attroff, Bkgdset, ColorSet, Bkgdpair}
 
 -- ---- what a call writes: the window, and the frame in it
 
@@ -38,11 +38,13 @@ written_window (Delch win) = win.0
 written_window (Insertln win) = win.0
 written_window (Deleteln win) = win.0
 written_window (Erase win) = win.0
+written_window (Clear win) = win.0
 written_window (Clrtoeol win) = win.0
 written_window (Clrtobot win) = win.0
 written_window (Scrl win n) = win.0
 written_window (Setscrreg win top bottom) = win.0
 written_window (Scrollok win flag) = win.0
+written_window (Clearok win flag) = win.0
 written_window (Attrset win attributes) = win.0
 written_window (Attron win attributes) = win.0
 written_window (Attroff win attributes) = win.0
@@ -59,11 +61,13 @@ writing_frame windows (Delch win) = delch_frame windows win.0
 writing_frame windows (Insertln win) = insertln_frame windows win.0
 writing_frame windows (Deleteln win) = deleteln_frame windows win.0
 writing_frame windows (Erase win) = erase_frame windows win.0
+writing_frame windows (Clear win) = erase_frame windows win.0
 writing_frame windows (Clrtoeol win) = clrtoeol_frame windows win.0
 writing_frame windows (Clrtobot win) = clrtobot_frame windows win.0
 writing_frame windows (Scrl win n) = scrl_frame windows win.0 n
 writing_frame windows (Setscrreg win top bottom) = None
 writing_frame windows (Scrollok win flag) = None
+writing_frame windows (Clearok win flag) = None
 writing_frame windows (Attrset win attributes) = None
 writing_frame windows (Attron win attributes) = None
 writing_frame windows (Attroff win attributes) = None
@@ -156,11 +160,18 @@ abbrev pub stacking_affects : World → Stacking → ℕ → Bool
 stacking_affects world stacking line =
     option_map_or (λ p. panel_affects world (after_stacking world stacking) p line) (changed_panel world.panels stacking) false
 
--- other colours of a pair show on every line
-abbrev pub refresh_affects : Refresh → ℕ → Bool
-refresh_affects UpdatePanels line = false
-refresh_affects Doupdate line = false
-refresh_affects (InitPair pair foreground background) line = true
+-- a drawing has a cell on the line
+abbrev pub draws_on_line : ℕ → Drawing → ℕ → Bool
+draws_on_line columns f line = any_below columns (λ x. is_some (f line x))
+
+-- the lines of the virtual screen to which cells are copied; and other colours of a pair show on every line
+abbrev pub refresh_affects : Windows → Refresh → ℕ → Bool
+refresh_affects windows (Noutrefresh win) line = draws_on_line windows.columns (touched_cells windows.window win.0) line
+refresh_affects windows (Pnoutrefresh pad pminrow pmincol sminrow smincol smaxrow smaxcol) line =
+    draws_on_line windows.columns (copywin_drawing windows.window pad.0 pminrow pmincol sminrow smincol smaxrow smaxcol false) line
+refresh_affects windows UpdatePanels line = false
+refresh_affects windows Doupdate line = false
+refresh_affects windows (InitPair pair foreground background) line = true
 
 -- of an accepted call
 abbrev pub accepted_affects : World → Call → ℕ → Bool
@@ -169,7 +180,7 @@ accepted_affects world (calls.Writing writing) line = frame_affects world (writt
 accepted_affects world (calls.Copying copying) line = frame_affects world (copied_window copying) (copying_frame world.windows copying) line
 accepted_affects world (calls.Query query) line = false
 accepted_affects world (calls.Stacking stacking) line = stacking_affects world stacking line
-accepted_affects world (calls.Refresh refresh) line = refresh_affects refresh line
+accepted_affects world (calls.Refresh refresh) line = refresh_affects world.windows refresh line
 
 -- The lines that a call affects: none if it is refused.
 abbrev pub affected_lines : World → Call → ℕ → Bool

@@ -11,21 +11,21 @@ use Rattle.world.specs.World.{World}
 use Rattle.world.specs.calls.Making.{new_number, newwin_refusal, after_newwin, subwin_refusal, after_subwin, derwin_refusal, after_derwin, newpad_refusal, after_newpad, subpad_refusal, after_subpad, delwin_refusal, after_delwin, mvwin_refusal, after_mvwin, mvderwin_refusal, after_mvderwin}
 use Rattle.world.specs.calls.writing.Characters.{addch_refusal, after_addch, addstr_refusal, after_addstr, insch_refusal, after_insch, after_delch}
 use Rattle.world.specs.calls.Missing.{missing_refusal}
-use Rattle.world.specs.calls.writing.Editing.{after_insertln, after_deleteln, after_erase, after_clrtoeol, after_clrtobot, scrl_refusal, after_scrl}
-use Rattle.world.specs.calls.writing.Options.{move_refusal, after_move, setscrreg_refusal, after_setscrreg, after_scrollok, after_attrset, after_attron, after_attroff, bkgdset_refusal, after_bkgdset, pair_refusal, after_color_set, after_bkgdpair}
+use Rattle.world.specs.calls.writing.Editing.{after_insertln, after_deleteln, after_erase, after_clear, after_clrtoeol, after_clrtobot, scrl_refusal, after_scrl}
+use Rattle.world.specs.calls.writing.Options.{move_refusal, after_move, setscrreg_refusal, after_setscrreg, after_scrollok, after_clearok, after_attrset, after_attron, after_attroff, bkgdset_refusal, after_bkgdset, pair_refusal, after_color_set, after_bkgdpair}
 use Rattle.world.specs.calls.Copies.{overlay_refusal, after_overlay, copywin_refusal, after_copywin}
 use Rattle.world.specs.calls.Marks.{touchln_refusal, after_touchln, after_touchwin, after_syncup, after_syncdown, is_linetouched_refusal, is_linetouched, is_wintouched}
 use Rattle.world.specs.calls.Queries.{cell_at_cursor}
 use Rattle.world.specs.calls.Queries.{cursor_of, getbegyx_refusal, place_on_screen, window_size, getparyx_refusal, offset_in_parent}
 use Rattle.world.specs.calls.Stacking.{panel_number, numbered_panel, new_panel_number, new_panel_refusal, missing_panel_refusal, hidden_panel_refusal, move_panel_refusal, replace_panel_refusal, neighbour_refusal, after_new_panel, after_del_panel, after_show_panel, after_hide_panel, after_top_panel, after_bottom_panel, after_move_panel, after_replace_panel, panel_above, panel_below, is_hidden}
-use Rattle.world.specs.calls.Refresh.{after_update_panels, after_doupdate, init_pair_refusal, after_init_pair}
+use Rattle.world.specs.calls.Refresh.{noutrefresh_refusal, after_noutrefresh, pnoutrefresh_refusal, after_pnoutrefresh, after_update_panels, after_doupdate, init_pair_refusal, after_init_pair}
 use Rattle.cell.specs.declared.refusal.Refusal.{Refusal}
 use Rattle.world.specs.declared.call.Call.{Call}
 use Rattle.world.specs.declared.call.Call.TheVariants as calls
 use Rattle.world.specs.declared.call.Making.{Making}
 use Rattle.world.specs.declared.call.Making.TheVariants.{Newwin, Subwin, Derwin, Newpad, Subpad, Delwin, Mvwin, Mvderwin}
 use Rattle.world.specs.declared.call.Writing.{Writing}
-use Rattle.world.specs.declared.call.Writing.TheVariants.{Move, Addch, Addstr, Insch, Delch, Insertln, Deleteln, Erase, Clrtoeol, Clrtobot, Scrl, Setscrreg, Scrollok, Attrset, Attron, Attroff, Bkgdset, ColorSet, Bkgdpair}
+use Rattle.world.specs.declared.call.Writing.TheVariants.{Move, Addch, Addstr, Insch, Delch, Insertln, Deleteln, Erase, Clear, Clrtoeol, Clrtobot, Scrl, Setscrreg, Scrollok, Clearok, Attrset, Attron, Attroff, Bkgdset, ColorSet, Bkgdpair}
 use Rattle.world.specs.declared.call.Copying.{Copying}
 use Rattle.world.specs.declared.call.Copying.TheVariants.{Overlay, Overwrite, Copywin, Touchwin, Untouchwin, Touchline, Touchln, Syncup, Syncdown, IsLinetouched, IsWintouched}
 use Rattle.world.specs.declared.call.Query.{Query}
@@ -33,7 +33,7 @@ use Rattle.world.specs.declared.call.Query.TheVariants.{Getyx, Getbegyx, Getmaxy
 use Rattle.world.specs.declared.call.Stacking.{Stacking}
 use Rattle.world.specs.declared.call.Stacking.TheVariants.{NewPanel, DelPanel, ShowPanel, HidePanel, TopPanel, BottomPanel, MovePanel, ReplacePanel, PanelAbove, PanelBelow, PanelWindow, PanelHidden}
 use Rattle.world.specs.declared.call.Refresh.{Refresh}
-use Rattle.world.specs.declared.call.Refresh.TheVariants.{UpdatePanels, Doupdate, InitPair}
+use Rattle.world.specs.declared.call.Refresh.TheVariants.{Noutrefresh, Pnoutrefresh, UpdatePanels, Doupdate, InitPair}
 use Rattle.world.specs.declared.call.Reply.{Reply}
 use Rattle.world.specs.declared.call.Reply.TheVariants.{Nothing, Number, Pair, Cell, Flag, Panel}
 
@@ -59,11 +59,13 @@ writing_refusal windows (Delch win) = missing_refusal windows.window win.0
 writing_refusal windows (Insertln win) = missing_refusal windows.window win.0
 writing_refusal windows (Deleteln win) = missing_refusal windows.window win.0
 writing_refusal windows (Erase win) = missing_refusal windows.window win.0
+writing_refusal windows (Clear win) = missing_refusal windows.window win.0
 writing_refusal windows (Clrtoeol win) = missing_refusal windows.window win.0
 writing_refusal windows (Clrtobot win) = missing_refusal windows.window win.0
 writing_refusal windows (Scrl win n) = scrl_refusal windows win.0
 writing_refusal windows (Setscrreg win top bottom) = setscrreg_refusal windows win.0 top bottom
 writing_refusal windows (Scrollok win flag) = missing_refusal windows.window win.0
+writing_refusal windows (Clearok win flag) = missing_refusal windows.window win.0
 writing_refusal windows (Attrset win attributes) = missing_refusal windows.window win.0
 writing_refusal windows (Attron win attributes) = missing_refusal windows.window win.0
 writing_refusal windows (Attroff win attributes) = missing_refusal windows.window win.0
@@ -106,10 +108,13 @@ stacking_refusal windows panels (PanelBelow panel) = neighbour_refusal panels (p
 stacking_refusal windows panels (PanelWindow panel) = missing_panel_refusal panels panel.0
 stacking_refusal windows panels (PanelHidden panel) = missing_panel_refusal panels panel.0
 
-abbrev pub refresh_refusal : Refresh → Option Refusal
-refresh_refusal UpdatePanels = None
-refresh_refusal Doupdate = None
-refresh_refusal (InitPair pair foreground background) = init_pair_refusal pair foreground background
+abbrev pub refresh_refusal : Windows → Refresh → Option Refusal
+refresh_refusal windows (Noutrefresh win) = noutrefresh_refusal windows win.0
+refresh_refusal windows (Pnoutrefresh pad pminrow pmincol sminrow smincol smaxrow smaxcol) =
+    pnoutrefresh_refusal windows pad.0 pminrow pmincol sminrow smincol smaxrow smaxcol
+refresh_refusal windows UpdatePanels = None
+refresh_refusal windows Doupdate = None
+refresh_refusal windows (InitPair pair foreground background) = init_pair_refusal pair foreground background
 
 abbrev pub refusal : World → Call → Option Refusal
 refusal world (calls.Making making) = making_refusal world.windows (is_in_panel world.panels) making
@@ -117,7 +122,7 @@ refusal world (calls.Writing writing) = writing_refusal world.windows writing
 refusal world (calls.Copying copying) = copying_refusal world.windows copying
 refusal world (calls.Query query) = query_refusal world.windows query
 refusal world (calls.Stacking stacking) = stacking_refusal world.windows world.panels stacking
-refusal world (calls.Refresh refresh) = refresh_refusal refresh
+refusal world (calls.Refresh refresh) = refresh_refusal world.windows refresh
 
 -- The calls that make a window, a pad or a panel take memory. Where there is none of it, they are refused for that.
 abbrev pub makes_window : Making → Bool
@@ -177,11 +182,13 @@ after_writing windows (Delch win) = after_delch windows win.0
 after_writing windows (Insertln win) = after_insertln windows win.0
 after_writing windows (Deleteln win) = after_deleteln windows win.0
 after_writing windows (Erase win) = after_erase windows win.0
+after_writing windows (Clear win) = after_clear windows win.0
 after_writing windows (Clrtoeol win) = after_clrtoeol windows win.0
 after_writing windows (Clrtobot win) = after_clrtobot windows win.0
 after_writing windows (Scrl win n) = after_scrl windows win.0 n
 after_writing windows (Setscrreg win top bottom) = after_setscrreg windows win.0 top bottom
 after_writing windows (Scrollok win flag) = after_scrollok windows win.0 flag
+after_writing windows (Clearok win flag) = after_clearok windows win.0 flag
 after_writing windows (Attrset win attributes) = after_attrset windows win.0 (bits_of attributes)
 after_writing windows (Attron win attributes) = after_attron windows win.0 (bits_of attributes)
 after_writing windows (Attroff win attributes) = after_attroff windows win.0 (bits_of attributes)
@@ -228,6 +235,9 @@ world_after world (calls.Writing writing) = record world { windows = after_writi
 world_after world (calls.Copying copying) = record world { windows = after_copying world.windows copying }
 world_after world (calls.Query query) = world
 world_after world (calls.Stacking stacking) = after_stacking world stacking
+world_after world (calls.Refresh (Noutrefresh win)) = after_noutrefresh world win.0
+world_after world (calls.Refresh (Pnoutrefresh pad pminrow pmincol sminrow smincol smaxrow smaxcol)) =
+    after_pnoutrefresh world pad.0 pminrow pmincol sminrow smincol smaxrow smaxcol
 world_after world (calls.Refresh UpdatePanels) = after_update_panels world
 world_after world (calls.Refresh Doupdate) = after_doupdate world
 world_after world (calls.Refresh (InitPair pair foreground background)) = after_init_pair world pair foreground background
@@ -293,6 +303,8 @@ is_doupdate (calls.Writing writing) = false
 is_doupdate (calls.Copying copying) = false
 is_doupdate (calls.Query query) = false
 is_doupdate (calls.Stacking stacking) = false
+is_doupdate (calls.Refresh (Noutrefresh win)) = false
+is_doupdate (calls.Refresh (Pnoutrefresh pad pminrow pmincol sminrow smincol smaxrow smaxcol)) = false
 is_doupdate (calls.Refresh UpdatePanels) = false
 is_doupdate (calls.Refresh Doupdate) = true
 is_doupdate (calls.Refresh (InitPair pair foreground background)) = false
@@ -303,6 +315,8 @@ is_update_panels (calls.Writing writing) = false
 is_update_panels (calls.Copying copying) = false
 is_update_panels (calls.Query query) = false
 is_update_panels (calls.Stacking stacking) = false
+is_update_panels (calls.Refresh (Noutrefresh win)) = false
+is_update_panels (calls.Refresh (Pnoutrefresh pad pminrow pmincol sminrow smincol smaxrow smaxcol)) = false
 is_update_panels (calls.Refresh UpdatePanels) = true
 is_update_panels (calls.Refresh Doupdate) = false
 is_update_panels (calls.Refresh (InitPair pair foreground background)) = false
