@@ -1,21 +1,25 @@
 -- The virtual screen stays sound where it takes the picture of windows and panels.
-use Rattle.std.proofs.Common.{◌≡◌, ℕ, ◌+◌, ◌<◌, ◌≤◌, Bool, true, ◌==◌, Option, Some, None, List, refl, ap, ◌∙◌, arith}
-use Rattle.std.specs.Prelude.{IsSomeAnd, MatchOption, is_some, unwrap_or, ⊤}
+use Rattle.std.proofs.Common.{◌≡◌, ℕ, ◌+◌, ◌<◌, ◌≤◌, Bool, true, false, ◌==◌, Option, Some, None, List, refl, ap, ◌∙◌, arith}
+use Rattle.std.specs.Prelude.{IsSomeAnd, MatchOption, is_some, option_and_then, unwrap_or, ⊤}
 use Rattle.std.specs.List.{list_any}
 use Rattle.std.specs.Option.{option_map_or}
 use Rattle.cell.specs.Pictures.{Picture, Place, origin, AreShown, picture_of}
 use Rattle.cell.specs.Shown.{Pairs, Shown}
 use Rattle.cell.proofs.PictureLemmas.{HasSize-lines_from}
-use Rattle.world.specs.Windows.{Window, Windows}
-use Rattle.world.specs.Panels.{Panels, cursor_from, cursor_of_topmost, screen_place, standard_screen, topmost, window_or_standard}
+use Rattle.world.specs.Windows.{Window, Windows, changed}
+use Rattle.world.specs.Panels.{Panels, cursor_from, cursor_of_topmost, cursor_on_screen, screen_place, standard_screen, topmost, window_or_standard}
 use Rattle.world.specs.World.{VirtualScreen}
 use Rattle.world.specs.Sound.{AreSoundPanels, AreSoundWindows, IsSound, IsSoundPanel, IsSoundWindow, IsStandardScreen}
+use Rattle.world.specs.calls.Marks.{after_touchln, lines_marked}
+use Rattle.world.specs.calls.Queries.{place_on_screen}
 use Rattle.world.specs.calls.Refresh.{unmarked, with_unmarked}
-use Rattle.world.proofs.PlaceLaws.{has_place, panels-kept, same_if, there-true}
+use Rattle.world.specs.calls.writing.Options.{after_clearok, with_clear}
+use Rattle.world.proofs.PlaceLaws.{has_place, panels-kept, places-changed, places-set, same_if, there-true}
+use Rattle.world.proofs.Sizes.{SameSize}
 use Rattle.grids.specs.Tables.{WindowTable, windows}
 use Rattle.stack.specs.Tables.{PanelTable, panels}
 use Rattle.compose.specs.Desks.{world}
-use Rattle.compose.proofs.DeskLemmas.{desk_of}
+use Rattle.compose.proofs.DeskLemmas.{KeepsPlaces, desk_of}
 
 -- ---- the cursor
 
@@ -49,25 +53,59 @@ cursor-within ws ps sound h =
     let w : ℕ = window_or_standard ps (topmost ps) in
     cursor-in ws w (ws.window w) (sound.each w) (top-there ws ps (topmost ps) sound h)
 
+-- the cursor of a window that is on the screen
+pub window-cursor-within : (ws : Windows) (w : ℕ) → AreSoundWindows ws → has_place (ws.window w) ≡ true → ((cursor_on_screen ws.window w).0 < ws.lines) × ((cursor_on_screen ws.window w).1 < ws.columns)
+window-cursor-within ws w sound there = cursor-in ws w (ws.window w) (sound.each w) there
+
 -- ---- the desk
+
+-- other windows of the same size and places, and another virtual screen
+pub IsSound-shown : (old new : WindowTable) (ps : PanelTable) (pairs : Pairs) (virtual : VirtualScreen) (picture : Picture) (f : ℕ → ℕ → Shown) (cursor : Place) (clear : Bool)
+    → IsSound (world (desk_of old ps pairs virtual)) → AreSoundWindows (windows new) → SameSize (windows new) (windows old) → KeepsPlaces (panels ps) (windows old) (windows new)
+    → picture ≡ picture_of old.lines old.columns f → AreShown picture → (cursor.0 < old.lines) × (cursor.1 < old.columns)
+    → IsSound (world (desk_of new ps pairs (record { picture = picture; cursor = cursor; clear = clear })))
+IsSound-shown old new ps pairs virtual picture f cursor clear h sound same keeps shown cells within =
+    record {
+      windows = sound;
+      panels = panels-kept (panels ps) (windows old).window (windows new).window keeps h.panels;
+      pairs = h.pairs;
+      virtual = record {
+        size = rw (same.lines, same.columns, shown) (HasSize-lines_from old.lines old.columns f);
+        cells = cells;
+        line = rw same.lines within.0;
+        column = rw same.columns within.1;
+      };
+    }
 
 pub IsSound-composed : (old new : WindowTable) (ps : PanelTable) (pairs : Pairs) (virtual : VirtualScreen) (picture : Picture) (f : ℕ → ℕ → Shown) (cursor : Place) (clear : Bool) (composed : List ℕ)
     → IsSound (world (desk_of old ps pairs virtual)) → AreSoundWindows (windows new) → windows new ≡ record (windows old) { window = with_unmarked (windows old).window composed }
     → picture ≡ picture_of old.lines old.columns f → AreShown picture → cursor ≡ cursor_of_topmost (windows old).window (panels ps)
     → IsSound (world (desk_of new ps pairs (record { picture = picture; cursor = cursor; clear = clear })))
 IsSound-composed old new ps pairs virtual picture f cursor clear composed h sound are shown cells cursor_is =
-    let within = cursor-within (windows old) (panels ps) h.windows h.panels in
-    let lines : new.lines ≡ old.lines = ap (λ ws. ws.lines) are in
-    let columns : new.columns ≡ old.columns = ap (λ ws. ws.columns) are in
-    record {
-      windows = sound;
-      panels = panels-kept (panels ps) (windows old).window (windows new).window
-          (λ p w is other there. ap (λ ws. has_place (ws.window w)) are ∙ same_if (list_any (λ v. v == w) composed) ((windows old).window w) unmarked (λ a. refl) ∙ there) h.panels;
-      pairs = h.pairs;
-      virtual = record {
-        size = rw (lines, columns, shown) (HasSize-lines_from old.lines old.columns f);
-        cells = cells;
-        line = rw (lines, cursor_is) within.0;
-        column = rw (columns, cursor_is) within.1;
-      };
-    }
+    IsSound-shown old new ps pairs virtual picture f cursor clear h sound (record { lines = ap (λ ws. ws.lines) are; columns = ap (λ ws. ws.columns) are })
+    (λ p w is other there. ap (λ ws. has_place (ws.window w)) are ∙ same_if (list_any (λ v. v == w) composed) ((windows old).window w) unmarked (λ a. refl) ∙ there)
+    shown cells (rw cursor_is (cursor-within (windows old) (panels ps) h.windows h.panels))
+
+-- one window that is on the screen was taken into the virtual screen, with its cursor
+pub IsSound-refreshed : (old new : WindowTable) (ps : PanelTable) (pairs : Pairs) (virtual : VirtualScreen) (w : ℕ) (place : Place) (picture : Picture) (f : ℕ → ℕ → Shown) (cursor : Place) (clear : Bool)
+    → IsSound (world (desk_of old ps pairs virtual)) → AreSoundWindows (windows new) → windows new ≡ record (windows old) { window = changed (windows old).window w unmarked }
+    → place_on_screen (windows old).window w ≡ Some place → picture ≡ picture_of old.lines old.columns f → AreShown picture → cursor ≡ cursor_on_screen (windows old).window w
+    → IsSound (world (desk_of new ps pairs (record { picture = picture; cursor = cursor; clear = clear })))
+IsSound-refreshed old new ps pairs virtual w place picture f cursor clear h sound are place_is shown cells cursor_is =
+    IsSound-shown old new ps pairs virtual picture f cursor clear h sound (record { lines = ap (λ ws. ws.lines) are; columns = ap (λ ws. ws.columns) are })
+    (λ p u is other there. ap (λ ws. has_place (ws.window u)) are ∙ places-changed (windows old) w unmarked (λ a. refl) u ∙ there)
+    shown cells (rw cursor_is (window-cursor-within (windows old) w h.windows (placed ((windows old).window w) place place_is))) where
+  placed : (o : Option Window) (place : Place) → option_and_then (λ (a : Window). a.place) o ≡ Some place → has_place o ≡ true
+  placed None place e = cc
+  placed (Some a) place e = ap (λ (p : Option Place). is_some p) e
+
+-- a rectangle of a pad was, and the cursor stayed
+pub IsSound-pad : (old new : WindowTable) (ps : PanelTable) (pairs : Pairs) (virtual : VirtualScreen) (w first n : ℕ) (picture : Picture) (f : ℕ → ℕ → Shown) (clear : Bool)
+    → IsSound (world (desk_of old ps pairs virtual)) → AreSoundWindows (windows new) → windows new ≡ after_clearok (after_touchln (windows old) w first n false) w false
+    → picture ≡ picture_of old.lines old.columns f → AreShown picture
+    → IsSound (world (desk_of new ps pairs (record { picture = picture; cursor = virtual.cursor; clear = clear })))
+IsSound-pad old new ps pairs virtual w first n picture f clear h sound are shown cells =
+    IsSound-shown old new ps pairs virtual picture f virtual.cursor clear h sound (record { lines = ap (λ ws. ws.lines) are; columns = ap (λ ws. ws.columns) are })
+    (λ p u is other there. ap (λ ws. has_place (ws.window u)) are ∙ places-set (after_touchln (windows old) w first n false) w (with_clear false) u
+    ∙ places-changed (windows old) w (lines_marked first n false) (λ a. refl) u ∙ there)
+    shown cells (h.virtual.line, h.virtual.column)

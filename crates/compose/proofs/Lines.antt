@@ -6,9 +6,9 @@ use Rattle.cell.specs.Pictures.{Picture, HasSize, picture_of, line_of, shown_at,
 use Rattle.cell.proofs.PictureLemmas.{HasSize-lines_from, HasSize-with_cell, same_pictures, cell_or-lines_from}
 use Rattle.cell.proofs.Fills.{filled-more}
 
--- the columns before x of line y are made, and all others are those of the old picture
-pub record LineShown (f : ℕ → Shown) (lines columns y x : ℕ) (old picture : Picture) : Type 0 where
-  pub shown : (v u : ℕ) → shown_at picture (v, u) ≡ (if (v == y) && (nat_le 0 u && nat_lt u x) then f u else shown_at old (v, u))
+-- the columns of line y from a first one on and before x are made, and all others are those of the old picture
+pub record LineShown (f : ℕ → Shown) (lines columns y start x : ℕ) (old picture : Picture) : Type 0 where
+  pub shown : (v u : ℕ) → shown_at picture (v, u) ≡ (if (v == y) && (nat_le start u && nat_lt u x) then f u else shown_at old (v, u))
   pub size : HasSize lines columns picture
 
 -- the lines before y are made
@@ -17,10 +17,10 @@ pub record ShownAbove (f : ℕ → ℕ → Shown) (lines columns y : ℕ) (pictu
   pub shown : (v u : ℕ) → v < y → u < columns → shown_at picture (v, u) ≡ f v u
 
 -- one column more
-pub LineShown-more : (f : ℕ → Shown) (lines columns y x : ℕ) (old now : Picture) → LineShown f lines columns y x old now → y < length now → x < length (line_of now y)
-    → LineShown f lines columns y (x + 1) old (with_cell now (y, x) (f x))
-LineShown-more f lines columns y x old now so_far below left = record {
-  shown = filled-more shown_blank now old y 0 x f below left (omega arith) so_far.shown;
+pub LineShown-more : (f : ℕ → Shown) (lines columns y start x : ℕ) (old now : Picture) → LineShown f lines columns y start x old now → y < length now → x < length (line_of now y) → start ≤ x
+    → LineShown f lines columns y start (x + 1) old (with_cell now (y, x) (f x))
+LineShown-more f lines columns y start x old now so_far below left from = record {
+  shown = filled-more shown_blank now old y start x f below left from so_far.shown;
   size = HasSize-with_cell (y, x) (f x) so_far.size;
 }
 

@@ -1,10 +1,16 @@
 -- Windows are unmarked one after another.
 use Rattle.std.proofs.Common.{◌≡◌, ℕ, Bool, true, false, ◌||◌, ◌==◌, if◌then◌else◌, Option, Some, None, List, [], ◌∷◌, refl, ap, sym, ◌∙◌}
+use Rattle.std.specs.Prelude.{IsSomeAnd, is_none}
 use Rattle.std.specs.Option.{option_map}
 use Rattle.std.specs.List.{list_any}
 use mathlib.Core.Path.{fun_ext}
 use Rattle.world.specs.Windows.{Window, WindowMap, Windows}
+use Rattle.world.specs.calls.Marks.{after_touchln, lines_marked}
+use Rattle.world.specs.calls.Missing.{missing_refusal}
 use Rattle.world.specs.calls.Refresh.{unmarked, with_unmarked}
+use Rattle.cell.specs.Refusals.{first_of}
+use Rattle.cell.specs.declared.refusal.Refusal.TheVariants.{NoSuchWindow}
+use Rattle.windows.proofs.Erased.{none-if}
 
 twice : (first others : Bool) (o : Option Window)
     → (if first || others then option_map unmarked o else o)
@@ -28,3 +34,14 @@ pub still-left : (old new : Windows) (w : ℕ) (ws : List ℕ) → new ≡ recor
 still-left old new w ws is =
     ap (λ (window : WindowMap). record old { window = window }) (unmarked-first old.window w ws)
     ∙ ap (λ (all : Windows). record all { window = with_unmarked all.window ws }) (sym is)
+
+-- ---- some lines of one window
+
+there-missing : (o : Option Window) (P : Window → Type 0) → IsSomeAnd o P → first_of ((is_none o, NoSuchWindow) ∷ []) ≡ None
+there-missing None P h = absurd h
+there-missing (Some a) P h = refl
+
+-- a window whose lines were marked is still there
+pub still-there : (windows : Windows) (w first n : ℕ) (P : Window → Type 0) → IsSomeAnd (windows.window w) P → missing_refusal (after_touchln windows w first n false).window w ≡ None
+still-there windows w first n P h =
+    ap (λ b. first_of ((b, NoSuchWindow) ∷ [])) (none-if (w == w) (windows.window w) (lines_marked first n false)) ∙ there-missing (windows.window w) P h

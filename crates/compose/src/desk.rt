@@ -221,7 +221,7 @@ impl Desk {
 }
 
 /// How many lines and columns the standard screen has.
-fn size_of_screen(table: &Grids) -> (u16, u16)
+pub(crate) fn size_of_screen(table: &Grids) -> (u16, u16)
     requires { AreSoundWindows (windows_of table.now) }
     ensures { result ≡ (table.now.lines, table.now.columns) }
 {

@@ -7,6 +7,7 @@ mod dispatch;
 mod marks;
 mod panels;
 mod picture;
+mod refresh;
 mod search;
 #[cfg(test)]
 mod tests;

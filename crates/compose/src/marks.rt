@@ -41,7 +41,7 @@ pub(crate) fn unmark_composed(table: &mut Grids, stack: &Stack)
 }
 
 /// Whether a window is there and asks for a clear screen.
-fn asks(table: &Grids, win: WinId) -> bool
+pub(crate) fn asks(table: &Grids, win: WinId) -> bool
     ensures { result ≡ asks_for_clear (windows_of table.now).window win.0 }
 {
     table.has_window(win) && table.settings(win).clear

@@ -1,7 +1,7 @@
 //! The search from the top visible panel down to the standard screen, and the topmost's cursor.
 
 ghost use Rattle.std.specs.Prelude.{◌≡◌, ◌<◌, true};
-ghost use Rattle.world.specs.Panels.{cursor_of_topmost, found_from_top, holds, owner, place_of, topmost, window_or_standard};
+ghost use Rattle.world.specs.Panels.{cursor_of_topmost, cursor_on_screen, found_from_top, holds, owner, place_of, topmost, window_or_standard};
 ghost use Rattle.grids.specs.Tables.{windows as windows_of};
 ghost use Rattle.stack.specs.Tables.{panels};
 
@@ -27,7 +27,13 @@ pub(crate) fn cell_found(table: &Grids, stack: &Stack, y: u16, x: u16) -> Cell
 pub(crate) fn wanted_cursor(table: &Grids, stack: &Stack) -> (u16, u16)
     ensures { result ≡ cursor_of_topmost (windows_of table.now).window (panels stack.now) }
 {
-    let win = window_on_top(stack);
+    cursor_on_screen(table, window_on_top(stack))
+}
+
+/// Where a window's cursor stands on the screen.
+pub(crate) fn cursor_on_screen(table: &Grids, win: WinId) -> (u16, u16)
+    ensures { result ≡ cursor_on_screen (windows_of table.now).window win.0 }
+{
     let (top, left) = place(table, win);
     match table.getyx(win) {
         Ok((y, x)) => (top + y, left + x),

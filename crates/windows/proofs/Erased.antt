@@ -15,7 +15,7 @@ none-mapped : (o : Option Window) (change : Window → Window) → is_none (opti
 none-mapped None change = refl
 none-mapped (Some a) change = refl
 
-none-if : (b : Bool) (o : Option Window) (change : Window → Window) → is_none (if b then option_map change o else o) ≡ is_none o
+pub none-if : (b : Bool) (o : Option Window) (change : Window → Window) → is_none (if b then option_map change o else o) ≡ is_none o
 none-if true o change = none-mapped o change
 none-if false o change = refl
 

@@ -53,7 +53,7 @@ pub places-changed : (windows : Windows) (w : ℕ) (change : Window → Window) 
     → SamePlaces (record windows { window = changed windows.window w change }) windows
 places-changed windows w change h u = same_if (u == w) (windows.window u) change h
 
-places-set : (windows : Windows) (w : ℕ) (change : Settings → Settings) → SamePlaces (set windows w change) windows
+pub places-set : (windows : Windows) (w : ℕ) (change : Settings → Settings) → SamePlaces (set windows w change) windows
 places-set windows w change = places-changed windows w (set_in change) (λ a. refl)
 
 places-drawn_to : (windows : Windows) (w : ℕ) (f : Drawing) (place : Place) → SamePlaces (drawn_to windows w f place) windows

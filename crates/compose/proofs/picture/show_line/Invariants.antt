@@ -7,4 +7,4 @@ use Rattle.compose.proofs.picture.show_line.Given as goal
 
 abbrev pub invariant-loop-x : goal.invariant-loop-x
 invariant-loop-x l =
-    LineShown (λ u. shown l.pairs (found_from_top (windows l.table).window (panels l.stack) l.y u)) l.table.lines l.table.columns l.y l.x l.fn.picture l.picture
+    LineShown (λ u. shown l.pairs (found_from_top (windows l.table).window (panels l.stack) l.y u)) l.table.lines l.table.columns l.y 0 l.x l.fn.picture l.picture

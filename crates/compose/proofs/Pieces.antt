@@ -1,0 +1,251 @@
+-- What noutrefresh and pnoutrefresh draw on each line of the screen.
+use Rattle.std.proofs.Common.{◌≡◌, ℕ, ◌+◌, ◌-◌, ◌<◌, ◌≤◌, Bool, true, false, ◌==◌, ◌&&◌, ◌||◌, not, [], ◌∷◌, nat_le, nat_lt, if◌then◌else◌, Option, Some, None, inl, inr, refl, sym, ap, subst, ◌∙◌, arith}
+use Rattle.std.specs.Prelude.{IsSomeAnd, MatchOption, unwrap_or, ⊤, option_and_then, is_none}
+use Rattle.std.specs.Option.{option_map, option_map_or}
+use Rattle.std.proofs.lemmas.Bool.{leb-true, ltb-true, ltb-false, not-false, and_parts, or_parts}
+use Rattle.std.proofs.lemmas.Bool.Decides.{nat_tests}
+use Rattle.cell.specs.Glyphs.{Glyph}
+use Rattle.cell.specs.Pictures.{Place, origin}
+use Rattle.cell.specs.declared.limits.TheConstants.{LARGEST_PAD, LARGEST_SCREEN}
+use Rattle.world.specs.Windows.{HasPlace, Window, WindowMap, Windows, cell_at}
+use Rattle.world.specs.Sound.{AreColumnsWithin, AreSoundWindows, IsSoundWindow}
+use Rattle.cell.specs.Refusals.{first_of}
+use Rattle.cell.specs.declared.refusal.Refusal.TheVariants.{BadRectangle, NoSuchWindow, NotPad, OffScreen, OutsideWindow}
+use Rattle.world.specs.calls.Copies.{copywin_drawing}
+use Rattle.world.specs.calls.Making.{is_pad}
+use Rattle.world.specs.calls.writing.Options.{lacks_place}
+use Rattle.world.specs.calls.Queries.{place_on_screen, touched_columns, window_size}
+use Rattle.world.specs.calls.Refresh.{among, is_beyond, pnoutrefresh_refusal, touched_cells}
+use Rattle.world.specs.declared.settings.Columns.{Columns}
+use Rattle.compose.proofs.Laying.{HasPiece, IsBare}
+
+-- ---- one window
+
+-- a window of so many lines and columns, at a place of the screen, with these touched columns and cells: what is drawn at (v, u)
+abbrev drawn_at : Option Place → ℕ → ℕ → (ℕ → Option Columns) → (ℕ → ℕ → Glyph) → ℕ → ℕ → Option Glyph
+drawn_at place lines columns touched cells v u =
+    if option_map_or (λ p. (nat_le p.0 v && nat_lt v (p.0 + lines)) && (nat_le p.1 u && nat_lt u (p.1 + columns))) place false
+        && among (touched (v - (unwrap_or place origin).0)) (u - (unwrap_or place origin).1)
+    then Some (cells (v - (unwrap_or place origin).0) (u - (unwrap_or place origin).1)) else None
+
+-- the window is there, at this place of the screen
+pub record StandsAt (windows : Windows) (w : ℕ) (place : Place) (lines : ℕ) : Type 0 where
+  pub window : Window
+  pub there : windows.window w ≡ Some window
+  pub height : window.lines ≡ lines
+  pub at : window.place ≡ Some place
+  pub down : place.0 + window.lines ≤ windows.lines
+  pub right : place.1 + window.columns ≤ windows.columns
+  pub few_lines : windows.lines ≤ LARGEST_SCREEN
+  pub few_columns : windows.columns ≤ LARGEST_SCREEN
+  pub has_column : 0 < window.columns
+  pub touched : (y : ℕ) → AreColumnsWithin window.columns (window.touched y)
+
+stands : (windows : Windows) (w : ℕ) (place : Place) (lines : ℕ) (o : Option Window) → windows.window w ≡ o → AreSoundWindows windows
+    → option_and_then (λ (a : Window). a.place) o ≡ Some place → (size : Option (ℕ × ℕ)) → option_map (λ (a : Window). (a.lines, a.columns)) o ≡ size
+    → (columns : ℕ) → size ≡ Some (lines, columns) → StandsAt windows w place lines
+stands windows w place lines None e sound place_is size size_is columns known = cc
+stands windows w place lines (Some a) e sound place_is size size_is columns known =
+    let window : IsSoundWindow windows w a = subst (λ (o : Option Window). MatchOption o ⊤ (IsSoundWindow windows w)) e (sound.each w) in
+    let on : MatchOption (Some place) ⊤ (λ p. (p.0 + a.lines ≤ windows.lines) × (p.1 + a.columns ≤ windows.columns)) =
+        subst (λ (o : Option Place). MatchOption o ⊤ (λ p. (p.0 + a.lines ≤ windows.lines) × (p.1 + a.columns ≤ windows.columns))) place_is window.on_screen in
+    let both : (a.lines, a.columns) ≡ (lines, columns) = cc in
+    let height : a.lines ≡ lines = ap (λ (p : ℕ × ℕ). p.0) both in
+    record {
+      window = a;
+      there = e;
+      height = height;
+      at = place_is;
+      down = on.0;
+      right = on.1;
+      few_lines = sound.few_lines;
+      few_columns = sound.few_columns;
+      has_column = window.has_column;
+      touched = window.touched;
+    }
+
+pub stands-at : (windows : Windows) (w : ℕ) (place : Place) (lines columns : ℕ) → AreSoundWindows windows → place_on_screen windows.window w ≡ Some place → window_size windows.window w ≡ Some (lines, columns)
+    → StandsAt windows w place lines
+stands-at windows w place lines columns sound place_is size_is = stands windows w place lines (windows.window w) refl sound place_is (window_size windows.window w) refl columns size_is
+
+same-if : (t s : Bool) (one other : Glyph) → t ≡ s → (s ≡ true → one ≡ other) → (if t then Some one else None) ≡ (if s then Some other else None)
+same-if t true one other same h = rw same (ap (λ (g : Glyph). Some g) (h refl))
+same-if t false one other same h = rw same refl
+
+module _ (windows : Windows) (w : ℕ) (place : Place) (lines : ℕ) (h : StandsAt windows w place lines) where
+  drawn-is : (v u : ℕ) → touched_cells windows.window w v u ≡ drawn_at (Some place) h.window.lines h.window.columns h.window.touched (λ y x. cell_at windows.window w y x) v u
+  drawn-is v u =
+      ap (λ (o : Option Window). let p = option_map_or (λ (a : Window). unwrap_or a.place origin) o origin in
+          if option_map_or (λ (a : Window). option_map_or (λ q. (nat_le q.0 v && nat_lt v (q.0 + a.lines)) && (nat_le q.1 u && nat_lt u (q.1 + a.columns))) a.place false) o false
+              && option_map_or (λ (a : Window). among (a.touched (v - p.0)) (u - p.1)) o false
+          then Some (cell_at windows.window w (v - p.0) (u - p.1)) else None) h.there
+      ∙ ap (λ (p : Option Place). drawn_at p h.window.lines h.window.columns h.window.touched (λ y x. cell_at windows.window w y x) v u) h.at
+
+  off : (v u : ℕ) (t : Bool) (cell : Glyph) → ((nat_le place.0 v && nat_lt v (place.0 + h.window.lines)) && (nat_le place.1 u && nat_lt u (place.1 + h.window.columns))) ≡ false
+      → (if ((nat_le place.0 v && nat_lt v (place.0 + h.window.lines)) && (nat_le place.1 u && nat_lt u (place.1 + h.window.columns))) && t then Some cell else None) ≡ None
+  off v u t cell outside = rw outside refl
+
+  -- above the window, and below it
+  pub bare-above : (v : ℕ) → v < place.0 → IsBare (touched_cells windows.window w) windows.columns v
+  bare-above v before u left = drawn-is v u ∙ off v u _ _ (grind (arith, nat_tests))
+
+  pub bare-below : (v : ℕ) → place.0 + lines ≤ v → IsBare (touched_cells windows.window w) windows.columns v
+  bare-below v from u left = let height = h.height in drawn-is v u ∙ off v u _ _ (grind (arith, nat_tests))
+
+  -- on its lines
+  on-line : (y u : ℕ) → touched_cells windows.window w (place.0 + y) u
+      ≡ (if ((nat_le place.0 (place.0 + y) && nat_lt (place.0 + y) (place.0 + h.window.lines)) && (nat_le place.1 u && nat_lt u (place.1 + h.window.columns))) && among (h.window.touched y) (u - place.1)
+      then Some (cell_at windows.window w y (u - place.1)) else None)
+  on-line y u =
+      drawn-is (place.0 + y) u
+      ∙ ap (λ k. if ((nat_le place.0 (place.0 + y) && nat_lt (place.0 + y) (place.0 + h.window.lines)) && (nat_le place.1 u && nat_lt u (place.1 + h.window.columns))) && among (h.window.touched k) (u - place.1)
+      then Some (cell_at windows.window w k (u - place.1)) else None) (let e : place.0 + y - place.0 ≡ y = omega arith in e)
+
+  none-there : (t : Bool) (cell : Glyph) → (if t && false then Some cell else None) ≡ None
+  none-there true cell = refl
+  none-there false cell = refl
+
+  pub bare-line : (y : ℕ) → h.window.touched y ≡ None → IsBare (touched_cells windows.window w) windows.columns (place.0 + y)
+  bare-line y none u left =
+      on-line y u
+      ∙ ap (λ (o : Option Columns). if ((nat_le place.0 (place.0 + y) && nat_lt (place.0 + y) (place.0 + h.window.lines)) && (nat_le place.1 u && nat_lt u (place.1 + h.window.columns))) && among o (u - place.1)
+      then Some (cell_at windows.window w y (u - place.1)) else None) none
+      ∙ none-there ((nat_le place.0 (place.0 + y) && nat_lt (place.0 + y) (place.0 + h.window.lines)) && (nat_le place.1 u && nat_lt u (place.1 + h.window.columns))) (cell_at windows.window w y (u - place.1))
+
+  pub touched-piece : (y : ℕ) (r : Columns) → y < lines → h.window.touched y ≡ Some r
+      → HasPiece (touched_cells windows.window w) windows.columns (place.0 + y) (place.1 + r.first) (r.last - r.first + 1) (λ u. cell_at windows.window w y (r.first + (u - (place.1 + r.first))))
+  touched-piece y r below some u left =
+      let height = h.height in
+      let within : (r.first ≤ r.last) × (r.last < h.window.columns) = subst (λ (o : Option Columns). AreColumnsWithin h.window.columns o) some (h.touched y) in
+      let ordered = within.0 in
+      let inside = within.1 in
+      on-line y u
+      ∙ ap (λ (o : Option Columns). if ((nat_le place.0 (place.0 + y) && nat_lt (place.0 + y) (place.0 + h.window.lines)) && (nat_le place.1 u && nat_lt u (place.1 + h.window.columns))) && among o (u - place.1)
+      then Some (cell_at windows.window w y (u - place.1)) else None) some
+      ∙ same-if (((nat_le place.0 (place.0 + y) && nat_lt (place.0 + y) (place.0 + h.window.lines)) && (nat_le place.1 u && nat_lt u (place.1 + h.window.columns))) && (nat_le r.first (u - place.1) && nat_le (u - place.1) r.last))
+          (nat_le (place.1 + r.first) u && nat_lt u (place.1 + r.first + (r.last - r.first + 1)))
+          (cell_at windows.window w y (u - place.1)) (cell_at windows.window w y (r.first + (u - (place.1 + r.first))))
+          (grind (arith, nat_tests))
+          (λ s. let from : place.1 + r.first ≤ u = leb-true (place.1 + r.first) u (and_parts (nat_le (place.1 + r.first) u) (nat_lt u (place.1 + r.first + (r.last - r.first + 1))) s).0 in
+          ap (λ k. cell_at windows.window w y k) (let e : u - place.1 ≡ r.first + (u - (place.1 + r.first)) = omega arith in e))
+
+  columns-of : (y : ℕ) → touched_columns windows.window w y ≡ option_map {U = ℕ × ℕ} (λ (r : Columns). (r.first, r.last)) (h.window.touched y)
+  columns-of y = ap (λ (o : Option Window). option_and_then (λ (a : Window). option_map {U = ℕ × ℕ} (λ (r : Columns). (r.first, r.last)) (a.touched y)) o) h.there
+
+  none-touched : (o : Option Columns) → option_map {U = ℕ × ℕ} (λ (r : Columns). (r.first, r.last)) o ≡ None → o ≡ None
+  none-touched None e = refl
+  none-touched (Some r) e = cc
+
+  some-touched : (o : Option Columns) (columns : ℕ × ℕ) → option_map {U = ℕ × ℕ} (λ (r : Columns). (r.first, r.last)) o ≡ Some columns → o ≡ Some (record { first = columns.0; last = columns.1 })
+  some-touched None columns e = cc
+  some-touched (Some r) columns e =
+      let both : (r.first, r.last) ≡ columns = cc in
+      λ i. Some (record { first = (both i).0; last = (both i).1 })
+
+  -- by what the table says of the line
+  pub bare-untouched : (y : ℕ) → touched_columns windows.window w y ≡ None → IsBare (touched_cells windows.window w) windows.columns (place.0 + y)
+  bare-untouched y none = bare-line y (none-touched (h.window.touched y) (sym (columns-of y) ∙ none))
+
+  pub piece-touched : (y : ℕ) (columns : ℕ × ℕ) → y < lines → touched_columns windows.window w y ≡ Some columns
+      → HasPiece (touched_cells windows.window w) windows.columns (place.0 + y) (place.1 + columns.0) (columns.1 - columns.0 + 1)
+      (λ u. cell_at windows.window w y (columns.0 + (u - (place.1 + columns.0))))
+  piece-touched y columns below some =
+      touched-piece y (record { first = columns.0; last = columns.1 }) below (some-touched (h.window.touched y) columns (sym (columns-of y) ∙ some))
+
+-- ---- a pad
+
+-- a rectangle of a pad that is there, for one of the screen
+pub record IsOfPad (windows : Windows) (w py px top left bottom right : ℕ) : Type 0 where
+  pub window : Window
+  pub there : windows.window w ≡ Some window
+  pub down : top ≤ bottom
+  pub across : left ≤ right
+  pub last_line : py + (bottom - top) < window.lines
+  pub last_column : px + (right - left) < window.columns
+  pub on_line : bottom < windows.lines
+  pub on_column : right < windows.columns
+  pub few_lines : (window.lines ≤ LARGEST_PAD) × (windows.lines ≤ LARGEST_SCREEN)
+  pub few_columns : (window.columns ≤ LARGEST_PAD) × (windows.columns ≤ LARGEST_SCREEN)
+
+all-passed : (a b c d e : Bool) → first_of ((a, NoSuchWindow) ∷ (b, NotPad) ∷ (c, BadRectangle) ∷ (d, OutsideWindow) ∷ (e, OffScreen) ∷ []) ≡ None
+    → (a ≡ false) × (b ≡ false) × (c ≡ false) × (d ≡ false) × (e ≡ false)
+all-passed true b c d e h = cc
+all-passed false true c d e h = cc
+all-passed false false true d e h = cc
+all-passed false false false true e h = cc
+all-passed false false false false true h = cc
+all-passed false false false false false h = (refl, refl, refl, refl, refl)
+
+both-left : (n m k l : ℕ) → not (nat_lt n m && nat_lt k l) ≡ false → (n < m) × (k < l)
+both-left n m k l h =
+    let both : (nat_lt n m && nat_lt k l) ≡ true = not-false (nat_lt n m && nat_lt k l) h in
+    let parts = and_parts (nat_lt n m) (nat_lt k l) both in
+    (ltb-true n m parts.0, ltb-true k l parts.1)
+
+of_pad : (windows : Windows) (w py px top left bottom right : ℕ) (o : Option Window) → windows.window w ≡ o → is_none o ≡ false → (nat_lt bottom top || nat_lt right left) ≡ false
+    → option_map_or (λ (a : Window). not (nat_lt (py + (bottom - top)) a.lines && nat_lt (px + (right - left)) a.columns)) o false ≡ false
+    → not (nat_lt bottom windows.lines && nat_lt right windows.columns) ≡ false → AreSoundWindows windows → IsOfPad windows w py px top left bottom right
+of_pad windows w py px top left bottom right None e there ordered inside on sound = cc
+of_pad windows w py px top left bottom right (Some a) e there ordered inside on sound =
+    let window : IsSoundWindow windows w a = subst (λ (o : Option Window). MatchOption o ⊤ (IsSoundWindow windows w)) e (sound.each w) in
+    let order = or_parts (nat_lt bottom top) (nat_lt right left) ordered in
+    let last = both-left (py + (bottom - top)) a.lines (px + (right - left)) a.columns inside in
+    let within = both-left bottom windows.lines right windows.columns on in
+    record {
+      window = a;
+      there = e;
+      down = ltb-false bottom top order.0;
+      across = ltb-false right left order.1;
+      last_line = last.0;
+      last_column = last.1;
+      on_line = within.0;
+      on_column = within.1;
+      few_lines = (window.few_lines, sound.few_lines);
+      few_columns = (window.few_columns, sound.few_columns);
+    }
+
+pub of-pad : (windows : Windows) (w py px top left bottom right : ℕ) → AreSoundWindows windows → pnoutrefresh_refusal windows w py px top left bottom right ≡ None → IsOfPad windows w py px top left bottom right
+of-pad windows w py px top left bottom right sound h =
+    let passed = all-passed (is_none (windows.window w)) (not (is_pad windows.window w)) (nat_lt bottom top || nat_lt right left)
+        (lacks_place windows.window w (py + (bottom - top)) (px + (right - left))) (is_beyond windows bottom right) h in
+    of_pad windows w py px top left bottom right (windows.window w) refl passed.0 passed.2 passed.3 passed.4 sound
+
+module _ (windows : Windows) (w py px top left bottom right : ℕ) (h : IsOfPad windows w py px top left bottom right) where
+  -- the pad has each place of the rectangle
+  pub pad-place : (y x : ℕ) → y < bottom - top + 1 → x < right - left + 1 → HasPlace windows.window w (py + y) (px + x)
+  pad-place y x below before =
+      let line = h.last_line in
+      let column = h.last_column in
+      rw h.there (omega arith, omega arith)
+
+  not-drawn : (t s : Bool) (cell : Glyph) → t ≡ false → (if t && s then Some cell else None) ≡ None
+  not-drawn t s cell is = rw is refl
+
+  pub pad-above : (v : ℕ) → v < top → IsBare (copywin_drawing windows.window w py px top left bottom right false) windows.columns v
+  pad-above v before u on =
+      not-drawn (nat_le top v && nat_lt v (top + (bottom - top + 1))) (nat_le left u && nat_lt u (left + (right - left + 1)))
+      (cell_at windows.window w (py + (v - top)) (px + (u - left))) (grind (arith, nat_tests))
+
+  pub pad-below : (v : ℕ) → top + (bottom - top + 1) ≤ v → IsBare (copywin_drawing windows.window w py px top left bottom right false) windows.columns v
+  pad-below v from u on =
+      not-drawn (nat_le top v && nat_lt v (top + (bottom - top + 1))) (nat_le left u && nat_lt u (left + (right - left + 1)))
+      (cell_at windows.window w (py + (v - top)) (px + (u - left))) (grind (arith, nat_tests))
+
+  drawn : (t s : Bool) (one other : Glyph) → t ≡ true → one ≡ other → (if t && s then Some one else None) ≡ (if s then Some other else None)
+  drawn t s one other is same = rw (is, same) refl
+
+  pub pad-piece : (y : ℕ) → y < bottom - top + 1
+      → HasPiece (copywin_drawing windows.window w py px top left bottom right false) windows.columns (top + y) left (right - left + 1) (λ u. cell_at windows.window w (py + y) (px + (u - left)))
+  pad-piece y below u on =
+      drawn (nat_le top (top + y) && nat_lt (top + y) (top + (bottom - top + 1))) (nat_le left u && nat_lt u (left + (right - left + 1)))
+      (cell_at windows.window w (py + (top + y - top)) (px + (u - left))) (cell_at windows.window w (py + y) (px + (u - left)))
+      (grind (arith, nat_tests)) (ap (λ k. cell_at windows.window w (py + k) (px + (u - left))) (let e : top + y - top ≡ y = omega arith in e))
+
+-- ---- a piece of a line
+
+place_before : (o : Option Window) (y x z : ℕ) → IsSomeAnd o (λ a. (y < a.lines) × (x < a.columns)) → z ≤ x → IsSomeAnd o (λ a. (y < a.lines) × (z < a.columns))
+place_before None y x z h before = absurd h
+place_before (Some a) y x z h before = let left = h.1 in (h.0, omega arith)
+
+pub place-before : (window : WindowMap) (w y x z : ℕ) → HasPlace window w y x → z ≤ x → HasPlace window w y z
+place-before window w y x z h before = place_before (window w) y x z h before

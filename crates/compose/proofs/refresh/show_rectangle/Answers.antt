@@ -1,0 +1,52 @@
+use Rattle.std.proofs.Common.{◌≡◌, ◌+◌, ◌-◌, ◌<◌, ℕ, false, arith, subst}
+use Rattle.world.specs.Windows.{Drawing, cell_at}
+use Rattle.world.specs.calls.Copies.{copywin_drawing}
+use Rattle.grids.specs.Tables.{windows}
+use Rattle.compose.proofs.Laying.{LaidAbove, laid-all, laid-more}
+use Rattle.compose.proofs.Pieces.{of-pad, pad-below, pad-piece}
+use Rattle.compose.proofs.refresh.show_rectangle.Goals as goal
+
+pub overflow_add-columns : goal.overflow_add-columns
+overflow_add-columns c =
+    let a = c.args in
+    let h = of-pad (windows a.table.now) a.source.win.0 a.source.line a.source.column a.frame.top a.frame.left a.frame.bottom a.frame.right c.requires.windows c.requires.accepted in
+    omega (arith, h.on_column, h.few_columns.1)
+
+pub overflow_add-y-end : goal.overflow_add-y-end
+overflow_add-y-end c =
+    let a = c.args in
+    let h = of-pad (windows a.table.now) a.source.win.0 a.source.line a.source.column a.frame.top a.frame.left a.frame.bottom a.frame.right c.requires.windows c.requires.accepted in
+    omega (arith, h.on_line, h.few_lines.1)
+
+pub overflow_add-line : goal.overflow_add-line
+overflow_add-line c =
+    let a = c.args in
+    let h = of-pad (windows a.table.now) a.source.win.0 a.source.line a.source.column a.frame.top a.frame.left a.frame.bottom a.frame.right c.requires.windows c.requires.accepted in
+    omega (arith, h.last_line, h.few_lines.0, c.loop-y-test.true)
+
+pub loop-y-preserved : goal.loop-y-preserved
+loop-y-preserved c =
+    let a = c.args in
+    let table = a.table.now in
+    let ws = windows table in
+    let w = a.source.win.0 in
+    let y = c.loop-y.y in
+    let h = of-pad ws w a.source.line a.source.column a.frame.top a.frame.left a.frame.bottom a.frame.right c.requires.windows c.requires.accepted in
+    let f : Drawing = copywin_drawing ws.window w a.source.line a.source.column a.frame.top a.frame.left a.frame.bottom a.frame.right false in
+    let next : a.frame.top + y + 1 ≡ a.frame.top + (y + 1) = omega arith in
+    subst (λ n. LaidAbove a.pairs.now f table.lines table.columns a.picture.now n c.show_piece.new.picture) next
+    (laid-more a.pairs.now f table.lines table.columns a.picture.now (a.frame.top + y) a.frame.left (a.frame.right - a.frame.left + 1)
+    (λ u. cell_at ws.window w (a.source.line + y) (a.source.column + (u - a.frame.left))) c.loop-y.picture c.show_piece.new.picture c.loop-y.invariant
+    (pad-piece ws w a.source.line a.source.column a.frame.top a.frame.left a.frame.bottom a.frame.right h y c.loop-y-test.true)
+    c.show_piece.ensures.shown c.show_piece.ensures.size)
+
+pub returns-clause-shown : goal.returns-clause-shown
+returns-clause-shown c =
+    let a = c.args in
+    let table = a.table.now in
+    let ws = windows table in
+    let w = a.source.win.0 in
+    let h = of-pad ws w a.source.line a.source.column a.frame.top a.frame.left a.frame.bottom a.frame.right c.requires.windows c.requires.accepted in
+    laid-all a.pairs.now (copywin_drawing ws.window w a.source.line a.source.column a.frame.top a.frame.left a.frame.bottom a.frame.right false) table.lines table.columns
+    a.picture.now (a.frame.top + c.loop-y.y) c.loop-y.picture c.loop-y.invariant
+    (λ v from below. pad-below ws w a.source.line a.source.column a.frame.top a.frame.left a.frame.bottom a.frame.right h v (omega (arith, c.loop-y-test.false)))

@@ -1,0 +1,225 @@
+//! The calls that lay what is touched of a window, or a rectangle of a pad, over the virtual screen.
+
+ghost use Rattle.std.specs.Prelude.{◌≡◌, ◌<◌, ◌≤◌, ◌+◌, ◌-◌, ◌==◌, ◌&&◌, ◌^◌, ℕ, None, Some, IsSomeAnd, OnErr, OnOk, false, if◌then◌else◌, nat_le, nat_lt};
+ghost use Rattle.std.specs.Result.{result_err};
+ghost use Rattle.cell.specs.Pictures.{AreShown, HasSize, picture_of, shown_at};
+ghost use Rattle.cell.specs.Shown.{shown};
+ghost use Rattle.world.specs.Sound.{AreSoundWindows};
+ghost use Rattle.world.specs.Windows.{HasPlace, cell_at};
+ghost use Rattle.world.specs.calls.Copies.{copywin_drawing};
+ghost use Rattle.world.specs.calls.Queries.{place_on_screen};
+ghost use Rattle.world.specs.calls.Refresh.{after_noutrefresh, after_pnoutrefresh, noutrefresh_refusal, pnoutrefresh_refusal, shown_over, touched_cells};
+ghost use Rattle.world.specs.calls.Marks.{after_touchln};
+ghost use Rattle.world.specs.calls.writing.Options.{after_clearok};
+ghost use Rattle.grids.specs.Tables.{windows as windows_of};
+ghost use Rattle.compose.specs.Desks.{world};
+
+use crate::desk::{Desk, size_of_screen};
+use crate::marks::asks;
+use crate::search::cursor_on_screen;
+use cell::{Frame, Grid, Pairs, Refusal, Shown, WinId};
+use grids::Grids;
+use windows::Windows;
+
+impl Desk {
+    /// Takes what is touched of a window into the virtual screen, at the window's place, with its cursor. Then no place of it is touched;
+    /// and if it asked for a clear screen, the virtual screen does so in its stead.
+    ///
+    /// # Errors
+    /// `NoSuchWindow`, `IsPad`.
+    pub fn wnoutrefresh(&mut self, win: WinId) -> Result<(), Refusal>
+        ensures refused { result_err result ≡ noutrefresh_refusal (world self.old).windows win.0 }
+        ensures refreshed { OnOk result (world self.new ≡ after_noutrefresh (world self.old) win.0) }
+        ensures unchanged { OnErr result (self.new ≡ self.old) }
+    {
+        let (top, left) = self.windows.table.getbegyx(win)?;
+        show_touched(
+            &self.windows.table,
+            &self.pairs,
+            win,
+            top,
+            left,
+            &mut self.picture,
+        );
+        self.cursor = cursor_on_screen(&self.windows.table, win);
+        self.clear |= asks(&self.windows.table, win);
+        self.windows.table.unmark(win);
+        Ok(())
+    }
+
+    /// Takes the cells of a pad from line `pminrow` and column `pmincol` on into the lines from `sminrow` to `smaxrow` and the columns
+    /// from `smincol` to `smaxcol` of the virtual screen, all inclusive, whether they are touched or not. The wanted cursor stays. Then
+    /// the lines of the pad that were copied from are untouched; and if it asked for a clear screen, the virtual screen does so in its
+    /// stead.
+    ///
+    /// # Errors
+    /// `NoSuchWindow`, `NotPad`; `BadRectangle` if a last line or column comes before its first; `OutsideWindow` if the rectangle isn't
+    /// in the pad; `OffScreen` if it isn't on the screen.
+    pub fn pnoutrefresh(
+        &mut self,
+        pad: WinId,
+        pminrow: u16,
+        pmincol: u16,
+        sminrow: u16,
+        smincol: u16,
+        smaxrow: u16,
+        smaxcol: u16,
+    ) -> Result<(), Refusal>
+        ensures refused { result_err result ≡ pnoutrefresh_refusal (world self.old).windows pad.0 pminrow pmincol sminrow smincol smaxrow smaxcol }
+        ensures refreshed { OnOk result (world self.new ≡ after_pnoutrefresh (world self.old) pad.0 pminrow pmincol sminrow smincol smaxrow smaxcol) }
+        ensures unchanged { OnErr result (self.new ≡ self.old) }
+    {
+        let source = Source {
+            win: pad,
+            line: pminrow,
+            column: pmincol,
+        };
+        let frame = Frame {
+            top: sminrow,
+            left: smincol,
+            bottom: smaxrow,
+            right: smaxcol,
+        };
+        require_rectangle(&self.windows.table, source, frame)?;
+        show_rectangle(
+            &self.windows.table,
+            &self.pairs,
+            source,
+            frame,
+            &mut self.picture,
+        );
+        self.clear |= asks(&self.windows.table, pad);
+        unmark_lines(&mut self.windows, pad, pminrow, smaxrow - sminrow + 1);
+        Ok(())
+    }
+}
+
+/// A line and a column of a window.
+#[derive(Clone, Copy)]
+struct Source {
+    win: WinId,
+    line: u16,
+    column: u16,
+}
+
+/// Lays the touched cells of a window, which begins at this place of the screen, over a picture of the screen's size.
+fn show_touched(
+    table: &Grids,
+    pairs: &Pairs,
+    win: WinId,
+    top: u16,
+    left: u16,
+    picture: &mut Grid<Shown>,
+)
+    requires windows { AreSoundWindows (windows_of table.now) }
+    requires place { place_on_screen (windows_of table.now).window win.0 ≡ Some (top, left) }
+    requires size { HasSize table.now.lines table.now.columns picture.old }
+    ensures shown { picture.new ≡ picture_of table.now.lines table.now.columns (shown_over pairs.now picture.old (touched_cells (windows_of table.now).window win.0)) }
+    ensures cells { AreShown picture.new }
+{
+    let Ok((lines, _)) = table.getmaxyx(win) else {
+        unreachable!();
+    };
+    for y in 0..lines {
+        if let Some((first, last)) = table.touched(win, y) {
+            let source = Source {
+                win,
+                line: y,
+                column: first,
+            };
+            show_piece(table, pairs, source, last - first + 1, top + y, left + first, picture);
+        }
+    }
+    // Reading a line tells the proof that each cell can be printed.
+    prove!(!picture.row(0).is_empty());
+}
+
+/// Lays a rectangle of a pad over the same lines and columns of a picture of the screen's size.
+fn show_rectangle(
+    table: &Grids,
+    pairs: &Pairs,
+    source: Source,
+    frame: Frame,
+    picture: &mut Grid<Shown>,
+)
+    requires windows { AreSoundWindows (windows_of table.now) }
+    requires accepted { pnoutrefresh_refusal (windows_of table.now) source.win.0 source.line source.column frame.top frame.left frame.bottom frame.right ≡ None }
+    requires size { HasSize table.now.lines table.now.columns picture.old }
+    ensures shown { picture.new ≡ picture_of table.now.lines table.now.columns (shown_over pairs.now picture.old (copywin_drawing (windows_of table.now).window source.win.0 source.line source.column frame.top frame.left frame.bottom frame.right false)) }
+    ensures cells { AreShown picture.new }
+{
+    let columns = frame.right - frame.left + 1;
+    for y in 0..frame.bottom - frame.top + 1 {
+        let line = Source {
+            line: source.line + y,
+            ..source
+        };
+        show_piece(table, pairs, line, columns, frame.top + y, frame.left, picture);
+    }
+    prove!(!picture.row(0).is_empty());
+}
+
+/// Puts so many cells of a line of a window, from a place of it on, into line `y` of a picture from column `x` on.
+fn show_piece(
+    table: &Grids,
+    pairs: &Pairs,
+    source: Source,
+    n: u16,
+    y: u16,
+    x: u16,
+    picture: &mut Grid<Shown>,
+)
+    requires some { 0 < n }
+    requires from { HasPlace (windows_of table.now).window source.win.0 source.line (source.column + n - 1) }
+    requires line { y < table.now.lines }
+    requires columns { x + n ≤ table.now.columns }
+    requires size { HasSize table.now.lines table.now.columns picture.old }
+    ensures shown { (v u : ℕ) → shown_at picture.new (v, u) ≡ (if (v == y) && (nat_le x u && nat_lt u (x + n)) then shown pairs.now (cell_at (windows_of table.now).window source.win.0 source.line (source.column + (u - x))) else shown_at picture.old (v, u)) }
+    ensures size { HasSize table.now.lines table.now.columns picture.new }
+{
+    let cells = table.row(source.win, source.line);
+    for k in 0..n {
+        let cell = cells[usize::from(source.column + k)];
+        picture.set(usize::from(y), usize::from(x + k), pairs.shown(cell));
+    }
+}
+
+/// Tests that a rectangle of a pad may be laid over these lines and columns of the screen.
+fn require_rectangle(table: &Grids, source: Source, frame: Frame) -> Result<(), Refusal>
+    requires { AreSoundWindows (windows_of table.now) }
+    ensures { result_err result ≡ pnoutrefresh_refusal (windows_of table.now) source.win.0 source.line source.column frame.top frame.left frame.bottom frame.right }
+{
+    let (lines, columns) = table.getmaxyx(source.win)?;
+    if table.getbegyx(source.win).is_ok() {
+        return Err(Refusal::NotPad);
+    }
+    if frame.bottom < frame.top || frame.right < frame.left {
+        return Err(Refusal::BadRectangle);
+    }
+    let bottom = u32::from(source.line) + u32::from(frame.bottom - frame.top);
+    let right = u32::from(source.column) + u32::from(frame.right - frame.left);
+    if bottom >= u32::from(lines) || right >= u32::from(columns) {
+        return Err(Refusal::OutsideWindow);
+    }
+    let (lines, columns) = size_of_screen(table);
+    if frame.bottom >= lines || frame.right >= columns {
+        return Err(Refusal::OffScreen);
+    }
+    Ok(())
+}
+
+/// Takes the touches of some lines of a window away, and its clear flag. They must be there.
+fn unmark_lines(windows: &mut Windows, win: WinId, first: u16, n: u16)
+    requires { IsSomeAnd ((windows_of windows.old.table).window win.0) (λ a. (first < a.lines) × (first + n ≤ a.lines)) }
+    ensures unmarked { windows_of windows.new.table ≡ after_clearok (after_touchln (windows_of windows.old.table) win.0 first n false) win.0 false }
+    ensures sound { AreSoundWindows (windows_of windows.new.table) }
+{
+    match windows.table.wtouchln(win, first, n, false) {
+        Ok(()) => {}
+        Err(_) => unreachable!(),
+    }
+    match windows.clearok(win, false) {
+        Ok(()) => {}
+        Err(_) => unreachable!(),
+    }
+}
