@@ -95,9 +95,9 @@ IsSound-refreshed old new ps pairs virtual w place picture f cursor clear h soun
     IsSound-shown old new ps pairs virtual picture f cursor clear h sound (record { lines = ap (λ ws. ws.lines) are; columns = ap (λ ws. ws.columns) are })
     (λ p u is other there. ap (λ ws. has_place (ws.window u)) are ∙ places-changed (windows old) w unmarked (λ a. refl) u ∙ there)
     shown cells (rw cursor_is (window-cursor-within (windows old) w h.windows (placed ((windows old).window w) place place_is))) where
-  placed : (o : Option Window) (place : Place) → option_and_then (λ (a : Window). a.place) o ≡ Some place → has_place o ≡ true
-  placed None place e = cc
-  placed (Some a) place e = ap (λ (p : Option Place). is_some p) e
+      placed : (o : Option Window) (place : Place) → option_and_then (λ (a : Window). a.place) o ≡ Some place → has_place o ≡ true
+      placed None place e = cc
+      placed (Some a) place e = ap (λ (p : Option Place). is_some p) e
 
 -- a rectangle of a pad was, and the cursor stayed
 pub IsSound-pad : (old new : WindowTable) (ps : PanelTable) (pairs : Pairs) (virtual : VirtualScreen) (w first n : ℕ) (picture : Picture) (f : ℕ → ℕ → Shown) (clear : Bool)

@@ -1,5 +1,5 @@
 -- A drawing is laid over a picture line by line.
-use Rattle.std.proofs.Common.{◌≡◌, ℕ, ◌+◌, ◌-◌, ◌<◌, ◌≤◌, Bool, true, false, ◌==◌, ◌&&◌, nat_le, nat_lt, if◌then◌else◌, Option, Some, None, inl, inr, refl, sym, ap, ◌∙◌, arith}
+use Rattle.std.proofs.Common.{◌≡◌, ℕ, ◌+◌, ◌<◌, ◌≤◌, Bool, true, false, ◌==◌, ◌&&◌, nat_le, nat_lt, if◌then◌else◌, Option, Some, None, inl, inr, refl, sym, ap, ◌∙◌, arith}
 use Rattle.std.specs.Option.{option_map_or}
 use Rattle.std.proofs.lemmas.Bool.{cases_eq, cases_lt, eq-eqb, ne_eqb}
 use Rattle.cell.specs.Glyphs.{Glyph}
@@ -86,8 +86,8 @@ module _ (pairs : Pairs) (f : Drawing) (lines columns : ℕ) (old : Picture) whe
   laid-all y picture h bare =
       same_pictures shown_blank h.size (HasSize-lines_from lines columns (shown_over pairs old f)) (λ v u below left.
       laid-at v u below left ∙ sym (cell_or-lines_from shown_blank lines columns (shown_over pairs old f) v u below left)) where
-    laid-at : (v u : ℕ) → v < lines → u < columns → shown_at picture (v, u) ≡ shown_over pairs old f v u
-    laid-at v u below left = elim (cases_lt v y) [
-      | inl before ↦ h.above v u before left
-      | inr from ↦ h.below v u from left ∙ shown-bare pairs (shown_at old (v, u)) (f v u) (bare v from below u left)
-    ]
+        laid-at : (v u : ℕ) → v < lines → u < columns → shown_at picture (v, u) ≡ shown_over pairs old f v u
+        laid-at v u below left = elim (cases_lt v y) [
+          | inl before ↦ h.above v u before left
+          | inr from ↦ h.below v u from left ∙ shown-bare pairs (shown_at old (v, u)) (f v u) (bare v from below u left)
+        ]

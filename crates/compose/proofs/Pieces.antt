@@ -1,5 +1,5 @@
 -- What noutrefresh and pnoutrefresh draw on each line of the screen.
-use Rattle.std.proofs.Common.{◌≡◌, ℕ, ◌+◌, ◌-◌, ◌<◌, ◌≤◌, Bool, true, false, ◌==◌, ◌&&◌, ◌||◌, not, [], ◌∷◌, nat_le, nat_lt, if◌then◌else◌, Option, Some, None, inl, inr, refl, sym, ap, subst, ◌∙◌, arith}
+use Rattle.std.proofs.Common.{◌≡◌, ℕ, ◌+◌, ◌-◌, ◌<◌, ◌≤◌, Bool, true, false, ◌&&◌, ◌||◌, not, [], ◌∷◌, nat_le, nat_lt, if◌then◌else◌, Option, Some, None, refl, sym, ap, subst, ◌∙◌, arith}
 use Rattle.std.specs.Prelude.{IsSomeAnd, MatchOption, unwrap_or, ⊤, option_and_then, is_none}
 use Rattle.std.specs.Option.{option_map, option_map_or}
 use Rattle.std.proofs.lemmas.Bool.{leb-true, ltb-true, ltb-false, not-false, and_parts, or_parts}
@@ -25,7 +25,7 @@ use Rattle.compose.proofs.Laying.{HasPiece, IsBare}
 abbrev drawn_at : Option Place → ℕ → ℕ → (ℕ → Option Columns) → (ℕ → ℕ → Glyph) → ℕ → ℕ → Option Glyph
 drawn_at place lines columns touched cells v u =
     if option_map_or (λ p. (nat_le p.0 v && nat_lt v (p.0 + lines)) && (nat_le p.1 u && nat_lt u (p.1 + columns))) place false
-        && among (touched (v - (unwrap_or place origin).0)) (u - (unwrap_or place origin).1)
+    && among (touched (v - (unwrap_or place origin).0)) (u - (unwrap_or place origin).1)
     then Some (cells (v - (unwrap_or place origin).0) (u - (unwrap_or place origin).1)) else None
 
 -- the window is there, at this place of the screen
@@ -48,7 +48,7 @@ stands windows w place lines None e sound place_is size size_is columns known = 
 stands windows w place lines (Some a) e sound place_is size size_is columns known =
     let window : IsSoundWindow windows w a = subst (λ (o : Option Window). MatchOption o ⊤ (IsSoundWindow windows w)) e (sound.each w) in
     let on : MatchOption (Some place) ⊤ (λ p. (p.0 + a.lines ≤ windows.lines) × (p.1 + a.columns ≤ windows.columns)) =
-        subst (λ (o : Option Place). MatchOption o ⊤ (λ p. (p.0 + a.lines ≤ windows.lines) × (p.1 + a.columns ≤ windows.columns))) place_is window.on_screen in
+    subst (λ (o : Option Place). MatchOption o ⊤ (λ p. (p.0 + a.lines ≤ windows.lines) × (p.1 + a.columns ≤ windows.columns))) place_is window.on_screen in
     let both : (a.lines, a.columns) ≡ (lines, columns) = cc in
     let height : a.lines ≡ lines = ap (λ (p : ℕ × ℕ). p.0) both in
     record {
@@ -76,9 +76,9 @@ module _ (windows : Windows) (w : ℕ) (place : Place) (lines : ℕ) (h : Stands
   drawn-is : (v u : ℕ) → touched_cells windows.window w v u ≡ drawn_at (Some place) h.window.lines h.window.columns h.window.touched (λ y x. cell_at windows.window w y x) v u
   drawn-is v u =
       ap (λ (o : Option Window). let p = option_map_or (λ (a : Window). unwrap_or a.place origin) o origin in
-          if option_map_or (λ (a : Window). option_map_or (λ q. (nat_le q.0 v && nat_lt v (q.0 + a.lines)) && (nat_le q.1 u && nat_lt u (q.1 + a.columns))) a.place false) o false
-              && option_map_or (λ (a : Window). among (a.touched (v - p.0)) (u - p.1)) o false
-          then Some (cell_at windows.window w (v - p.0) (u - p.1)) else None) h.there
+      if option_map_or (λ (a : Window). option_map_or (λ q. (nat_le q.0 v && nat_lt v (q.0 + a.lines)) && (nat_le q.1 u && nat_lt u (q.1 + a.columns))) a.place false) o false
+      && option_map_or (λ (a : Window). among (a.touched (v - p.0)) (u - p.1)) o false
+      then Some (cell_at windows.window w (v - p.0) (u - p.1)) else None) h.there
       ∙ ap (λ (p : Option Place). drawn_at p h.window.lines h.window.columns h.window.touched (λ y x. cell_at windows.window w y x) v u) h.at
 
   off : (v u : ℕ) (t : Bool) (cell : Glyph) → ((nat_le place.0 v && nat_lt v (place.0 + h.window.lines)) && (nat_le place.1 u && nat_lt u (place.1 + h.window.columns))) ≡ false
@@ -123,11 +123,11 @@ module _ (windows : Windows) (w : ℕ) (place : Place) (lines : ℕ) (h : Stands
       ∙ ap (λ (o : Option Columns). if ((nat_le place.0 (place.0 + y) && nat_lt (place.0 + y) (place.0 + h.window.lines)) && (nat_le place.1 u && nat_lt u (place.1 + h.window.columns))) && among o (u - place.1)
       then Some (cell_at windows.window w y (u - place.1)) else None) some
       ∙ same-if (((nat_le place.0 (place.0 + y) && nat_lt (place.0 + y) (place.0 + h.window.lines)) && (nat_le place.1 u && nat_lt u (place.1 + h.window.columns))) && (nat_le r.first (u - place.1) && nat_le (u - place.1) r.last))
-          (nat_le (place.1 + r.first) u && nat_lt u (place.1 + r.first + (r.last - r.first + 1)))
-          (cell_at windows.window w y (u - place.1)) (cell_at windows.window w y (r.first + (u - (place.1 + r.first))))
-          (grind (arith, nat_tests))
-          (λ s. let from : place.1 + r.first ≤ u = leb-true (place.1 + r.first) u (and_parts (nat_le (place.1 + r.first) u) (nat_lt u (place.1 + r.first + (r.last - r.first + 1))) s).0 in
-          ap (λ k. cell_at windows.window w y k) (let e : u - place.1 ≡ r.first + (u - (place.1 + r.first)) = omega arith in e))
+      (nat_le (place.1 + r.first) u && nat_lt u (place.1 + r.first + (r.last - r.first + 1)))
+      (cell_at windows.window w y (u - place.1)) (cell_at windows.window w y (r.first + (u - (place.1 + r.first))))
+      (grind (arith, nat_tests))
+      (λ s. let from : place.1 + r.first ≤ u = leb-true (place.1 + r.first) u (and_parts (nat_le (place.1 + r.first) u) (nat_lt u (place.1 + r.first + (r.last - r.first + 1))) s).0 in
+      ap (λ k. cell_at windows.window w y k) (let e : u - place.1 ≡ r.first + (u - (place.1 + r.first)) = omega arith in e))
 
   columns-of : (y : ℕ) → touched_columns windows.window w y ≡ option_map {U = ℕ × ℕ} (λ (r : Columns). (r.first, r.last)) (h.window.touched y)
   columns-of y = ap (λ (o : Option Window). option_and_then (λ (a : Window). option_map {U = ℕ × ℕ} (λ (r : Columns). (r.first, r.last)) (a.touched y)) o) h.there
@@ -207,7 +207,7 @@ of_pad windows w py px top left bottom right (Some a) e there ordered inside on 
 pub of-pad : (windows : Windows) (w py px top left bottom right : ℕ) → AreSoundWindows windows → pnoutrefresh_refusal windows w py px top left bottom right ≡ None → IsOfPad windows w py px top left bottom right
 of-pad windows w py px top left bottom right sound h =
     let passed = all-passed (is_none (windows.window w)) (not (is_pad windows.window w)) (nat_lt bottom top || nat_lt right left)
-        (lacks_place windows.window w (py + (bottom - top)) (px + (right - left))) (is_beyond windows bottom right) h in
+    (lacks_place windows.window w (py + (bottom - top)) (px + (right - left))) (is_beyond windows bottom right) h in
     of_pad windows w py px top left bottom right (windows.window w) refl passed.0 passed.2 passed.3 passed.4 sound
 
 module _ (windows : Windows) (w py px top left bottom right : ℕ) (h : IsOfPad windows w py px top left bottom right) where

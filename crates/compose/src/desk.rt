@@ -19,7 +19,7 @@ ghost use Rattle.world.specs.calls.Dispatch.{is_doupdate};
 ghost use Rattle.compose.specs.Desks.{world};
 ghost use Rattle.compose.specs.Calling.{Called};
 
-use crate::dispatch::{arrange, copy, make, query, write};
+use crate::dispatch::{arrange, copy, make, query, refresh, write};
 use crate::marks::{clear_asked, unmark_composed};
 use crate::picture::show_picture;
 use crate::search::{STANDARD, cell_found, wanted_cursor};
@@ -29,7 +29,7 @@ use stack::Stack;
 use std::alloc::Global;
 use std::marker::Model;
 use windows::Windows;
-use world::{Call, Composed, Refresh, Reply};
+use world::{Call, Composed, Reply};
 
 /// A screen's windows and pads, its panels, its colour pairs, and its virtual screen: a picture, where the cursor is wanted, and whether the terminal is
 /// to be cleared first.
@@ -105,15 +105,7 @@ impl Desk {
             Call::Copying(copying) => copy(&mut self.windows, copying),
             Call::Query(asked) => query(&self.windows, asked),
             Call::Stacking(stacking) => arrange(self, stacking),
-            Call::Refresh(Refresh::UpdatePanels) => Ok(Reply::Composed(self.update_panels())),
-            Call::Refresh(Refresh::Doupdate) => unreachable!(),
-            Call::Refresh(
-                Refresh::InitPair {
-                    pair,
-                    foreground,
-                    background,
-                },
-            ) => self.init_pair(pair, foreground, background),
+            Call::Refresh(asked) => refresh(self, asked),
         }
     }
 

@@ -8,6 +8,9 @@ ghost use Rattle.world.specs.Sound.{AreSoundPanels, AreSoundWindows};
 ghost use Rattle.grids.specs.Tables.{windows as windows_of};
 ghost use Rattle.stack.specs.Tables.{panels};
 ghost use Rattle.world.specs.calls.Dispatch.{after_copying, after_making, after_stacking, after_writing, copying_refusal, copying_reply, makes_panel, makes_window, making_refusal, making_reply, query_refusal, query_reply, stacking_refusal, stacking_reply, writing_refusal};
+ghost use Rattle.world.specs.calls.Dispatch.{is_doupdate};
+ghost use Rattle.world.specs.declared.call.Call.{Call};
+ghost use Rattle.compose.specs.Calling.{Called};
 ghost use Rattle.compose.specs.Desks.{world};
 
 use crate::desk::Desk;
@@ -16,7 +19,7 @@ use cell::{Refusal, WinId};
 use grids::Grids;
 use stack::Stack;
 use windows::Windows;
-use world::{Copying, Making, PanelId, Query, Reply, Stacking, Writing};
+use world::{Copying, Making, PanelId, Query, Refresh, Reply, Stacking, Writing};
 
 /// Makes a call of the table of making and placing.
 #[rattlefmt::skip]
@@ -134,6 +137,22 @@ pub(crate) fn arrange(desk: &mut Desk, stacking: Stacking) -> Result<Reply, Refu
         Stacking::PanelBelow { panel: below } => panel(desk.panel_below(below)?),
         Stacking::PanelWindow { panel } => number(desk.panel_window(panel)?),
         Stacking::PanelHidden { panel } => Ok(Reply::Flag(desk.panel_hidden(panel)?)),
+    }
+}
+
+/// Makes a call of the table of refreshing, which is any but `doupdate`.
+#[rattlefmt::skip]
+pub(crate) fn refresh(desk: &mut Desk, refresh: Refresh) -> Result<Reply, Refusal>
+    requires { is_doupdate (Call.Refresh refresh) ≡ false }
+    ensures { Called desk.old (Call.Refresh refresh) result desk.new }
+{
+    match refresh {
+        Refresh::Noutrefresh { win } => nothing(desk.wnoutrefresh(win)?),
+        Refresh::Pnoutrefresh { pad, pminrow, pmincol, sminrow, smincol, smaxrow, smaxcol } =>
+            nothing(desk.pnoutrefresh(pad, pminrow, pmincol, sminrow, smincol, smaxrow, smaxcol)?),
+        Refresh::UpdatePanels => Ok(Reply::Composed(desk.update_panels())),
+        Refresh::Doupdate => unreachable!(),
+        Refresh::InitPair { pair, foreground, background } => desk.init_pair(pair, foreground, background),
     }
 }
 

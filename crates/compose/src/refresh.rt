@@ -127,7 +127,15 @@ fn show_touched(
                 line: y,
                 column: first,
             };
-            show_piece(table, pairs, source, last - first + 1, top + y, left + first, picture);
+            show_piece(
+                table,
+                pairs,
+                source,
+                last - first + 1,
+                top + y,
+                left + first,
+                picture,
+            );
         }
     }
     // Reading a line tells the proof that each cell can be printed.
@@ -154,7 +162,15 @@ fn show_rectangle(
             line: source.line + y,
             ..source
         };
-        show_piece(table, pairs, line, columns, frame.top + y, frame.left, picture);
+        show_piece(
+            table,
+            pairs,
+            line,
+            columns,
+            frame.top + y,
+            frame.left,
+            picture,
+        );
     }
     prove!(!picture.row(0).is_empty());
 }

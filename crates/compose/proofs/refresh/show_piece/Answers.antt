@@ -1,10 +1,10 @@
-use Rattle.std.proofs.Common.{rules, ◌≡◌, ◌<◌, ◌≤◌, ◌+◌, ◌-◌, ℕ, length, arith, ap, subst, sym, ◌∙◌}
+use Rattle.std.proofs.Common.{◌≡◌, ◌<◌, ◌≤◌, ◌+◌, ◌-◌, ℕ, length, arith, ap, subst, sym, ◌∙◌}
 use Rattle.std.proofs.lemmas.List.{get_or_read}
-use Rattle.cell.specs.Glyphs.{Glyph, blank}
+use Rattle.cell.specs.Glyphs.{blank}
 use Rattle.cell.specs.Pictures.{line_of, with_cell}
 use Rattle.cell.specs.Shown.{Shown, shown}
 use Rattle.cell.proofs.PictureLemmas.{length-line}
-use Rattle.world.specs.Windows.{HasPlace, cell_at}
+use Rattle.world.specs.Windows.{cell_at}
 use Rattle.grids.specs.Tables.{windows}
 use Rattle.grids.proofs.Showing.{line-has}
 use Rattle.compose.proofs.Lines.{LineShown, LineShown-more}
@@ -33,12 +33,12 @@ loop-k-preserved c =
     let there = place-before window a.source.win.0 a.source.line _ _ c.requires.from at in
     let has = line-has window a.source.win.0 a.source.line (a.source.column + k) there c.row-cells.result.now c.row-cells.ensures.row in
     let read : c.index-cells-from.result ≡ cell_at window a.source.win.0 a.source.line (a.source.column + k) =
-        get_or_read c.row-cells.result.now c.from.result _ (rw c.from.ensures has.0) c.index-cells-from.is blank ∙ rw c.from.ensures (has.1 blank) in
+    get_or_read c.row-cells.result.now c.from.result _ (rw c.from.ensures has.0) c.index-cells-from.is blank ∙ rw c.from.ensures (has.1 blank) in
     let back : a.x + k - a.x ≡ k = omega arith in
     let cell : shown a.pairs.now c.index-cells-from.result ≡ f (a.x + k) =
-        ap (shown a.pairs.now) (read ∙ ap (λ j. cell_at window a.source.win.0 a.source.line (a.source.column + j)) (sym back)) in
+    ap (shown a.pairs.now) (read ∙ ap (λ j. cell_at window a.source.win.0 a.source.line (a.source.column + j)) (sym back)) in
     let is : c.set.new.self ≡ with_cell now (a.y, a.x + k) (f (a.x + k)) =
-        c.set.ensures ∙ (λ i. with_cell now (c.from-in-loop-k.ensures i, c.from-in-loop-k-2.ensures i) (c.shown.ensures i)) ∙ ap (λ s. with_cell now (a.y, a.x + k) s) cell in
+    c.set.ensures ∙ (λ i. with_cell now (c.from-in-loop-k.ensures i, c.from-in-loop-k-2.ensures i) (c.shown.ensures i)) ∙ ap (λ s. with_cell now (a.y, a.x + k) s) cell in
     let below : a.y < length now = omega (arith, old.size.height, c.requires.line) in
     let width = length-line a.y old.size c.requires.line in
     let left : a.x + k < length (line_of now a.y) = omega (arith, width, c.requires.columns, c.loop-k-test.true) in

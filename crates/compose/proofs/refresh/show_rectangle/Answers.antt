@@ -1,4 +1,4 @@
-use Rattle.std.proofs.Common.{◌≡◌, ◌+◌, ◌-◌, ◌<◌, ℕ, false, arith, subst}
+use Rattle.std.proofs.Common.{◌≡◌, ◌+◌, ◌-◌, false, arith, subst}
 use Rattle.world.specs.Windows.{Drawing, cell_at}
 use Rattle.world.specs.calls.Copies.{copywin_drawing}
 use Rattle.grids.specs.Tables.{windows}

@@ -10,6 +10,6 @@ unreachable-requires-in-Err-clearok c =
     let a = c.args in
     let w = a.win.0 in
     let never : Some c.in-Err-clearok.field-0 ≡ None =
-        c.in-Err-clearok.ensures.refused ∙ ap (λ (v : Windows). missing_refusal v.window w) c.in-Ok.ensures.touched
-        ∙ still-there (windows a.windows.now.table) w a.first a.n (λ b. (a.first < b.lines) × (a.first + a.n ≤ b.lines)) c.requires in
+    c.in-Err-clearok.ensures.refused ∙ ap (λ (v : Windows). missing_refusal v.window w) c.in-Ok.ensures.touched
+    ∙ still-there (windows a.windows.now.table) w a.first a.n (λ b. (a.first < b.lines) × (a.first + a.n ≤ b.lines)) c.requires in
     cc

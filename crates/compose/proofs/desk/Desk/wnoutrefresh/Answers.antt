@@ -1,4 +1,3 @@
-use Rattle.cell.specs.Shown.{Shown}
 use Rattle.world.specs.calls.Refresh.{shown_over, touched_cells}
 use Rattle.grids.specs.Tables.{windows}
 use Rattle.compose.proofs.Composed.{IsSound-refreshed}
