@@ -2,8 +2,21 @@
 use Rattle.std.proofs.Common.{◌≡◌, Some, refl}
 use Rattle.script.specs.Words.{entry_of, word_of}
 use Rattle.script.specs.declared.words.Word.{Word}
-use Rattle.script.specs.declared.words.Word.TheVariants.{Newwin}
+use Rattle.script.specs.declared.words.Word.TheVariants.{Making, Writing, Copying, Query, Refresh}
+use Rattle.script.specs.declared.words.making.MakingWord.TheVariants.{Newwin}
+use Rattle.script.specs.declared.words.writing.WritingWord.TheVariants.{Move}
+use Rattle.script.specs.declared.words.copying.CopyingWord.TheVariants.{Overlay}
+use Rattle.script.specs.declared.words.query.QueryWord.TheVariants.{Getyx}
+use Rattle.script.specs.declared.words.refresh.RefreshWord.TheVariants.{UpdatePanels}
 
 pub word_read : (word : Word) → word_of (entry_of word).word ≡ Some word
-word_read Newwin = refl
-word_read _ = refl
+word_read (Making Newwin) = refl
+word_read (Making _) = refl
+word_read (Writing Move) = refl
+word_read (Writing _) = refl
+word_read (Copying Overlay) = refl
+word_read (Copying _) = refl
+word_read (Query Getyx) = refl
+word_read (Query _) = refl
+word_read (Refresh UpdatePanels) = refl
+word_read (Refresh _) = refl

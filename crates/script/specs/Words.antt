@@ -1,7 +1,7 @@
 -- The calls by their script words, with the forms of their arguments: one line for each call. The words are the names of the calls in X/Open
 -- Curses Issue 7, and of `update_panels` in NetBSD's panel(3), without the `w` that stands in front of some; their arguments come in the order
 -- that they have there. That a window is named by its number, and a character with attributes by both, is Curspan's own (docs/curspan.1).
-use Rattle.std.specs.Prelude.{ℕ, ℤ, pos, Bool, false, List, [], ◌∷◌, codes, slice_index, Option, find}
+use Rattle.std.specs.Prelude.{ℕ, ℤ, pos, Bool, false, List, [], ◌∷◌, ◌++◌, codes, slice_index, Option, find}
 use Rattle.std.specs.Str.{bytes_eq}
 use Rattle.std.specs.Borrow.{Bor}
 use Rattle.cell.specs.declared.attr.Attr.{Attr}
@@ -13,11 +13,25 @@ use Rattle.world.specs.declared.call.Writing.TheVariants.{Move, Addch, Addstr, I
 use Rattle.world.specs.declared.call.Copying.TheVariants.{Overlay, Overwrite, Copywin, Touchwin, Untouchwin, Touchline, Touchln, Syncup, Syncdown, IsLinetouched, IsWintouched}
 use Rattle.world.specs.declared.call.Query.TheVariants.{Getyx, Getbegyx, Getmaxyx, Getparyx, Inch}
 use Rattle.world.specs.declared.call.Refresh.TheVariants.{UpdatePanels, Doupdate, InitPair}
-use Rattle.script.specs.declared.words.TheConstants.{WORDS}
+use Rattle.script.specs.declared.words.making.TheConstants.{WORDS as making_words}
+use Rattle.script.specs.declared.words.writing.TheConstants.{WORDS as writing_words}
+use Rattle.script.specs.declared.words.copying.TheConstants.{WORDS as copying_words}
+use Rattle.script.specs.declared.words.query.TheConstants.{WORDS as query_words}
+use Rattle.script.specs.declared.words.refresh.TheConstants.{WORDS as refresh_words}
 use Rattle.script.specs.declared.words.Form.{Form}
 use Rattle.script.specs.declared.words.Form.TheVariants.{Number, Signed, Attributes, Flag, Character, Text}
 use Rattle.script.specs.declared.words.Word.{Word}
-use Rattle.script.specs.declared.words.Word.TheVariants as word
+use Rattle.script.specs.declared.words.Word.TheVariants.{Making as Making_word, Writing as Writing_word, Copying as Copying_word, Query as Query_word, Refresh as Refresh_word}
+use Rattle.script.specs.declared.words.making.MakingWord.{MakingWord}
+use Rattle.script.specs.declared.words.making.MakingWord.TheVariants as making
+use Rattle.script.specs.declared.words.writing.WritingWord.{WritingWord}
+use Rattle.script.specs.declared.words.writing.WritingWord.TheVariants as writing
+use Rattle.script.specs.declared.words.copying.CopyingWord.{CopyingWord}
+use Rattle.script.specs.declared.words.copying.CopyingWord.TheVariants as copying
+use Rattle.script.specs.declared.words.query.QueryWord.{QueryWord}
+use Rattle.script.specs.declared.words.query.QueryWord.TheVariants as query
+use Rattle.script.specs.declared.words.refresh.RefreshWord.{RefreshWord}
+use Rattle.script.specs.declared.words.refresh.RefreshWord.TheVariants as refresh
 
 -- What the arguments of a call say. Its numbers stand in their order.
 pub record Arguments : Type 0 where
@@ -60,59 +74,78 @@ pub record Entry : Type 0 where
   pub forms : List Form
   pub call : Arguments → Call
 
-abbrev pub entry_of : Word → Entry
 -- making and placing
-entry_of word.Newwin = record { word = codes "newwin"; forms = Number ∷ Number ∷ Number ∷ Number ∷ []; call = λ a. Making (Newwin (number a 0) (number a 1) (number a 2) (number a 3)) }
-entry_of word.Subwin = record { word = codes "subwin"; forms = Number ∷ Number ∷ Number ∷ Number ∷ Number ∷ []; call = λ a. Making (Subwin (window a) (number a 1) (number a 2) (number a 3) (number a 4)) }
-entry_of word.Derwin = record { word = codes "derwin"; forms = Number ∷ Number ∷ Number ∷ Number ∷ Number ∷ []; call = λ a. Making (Derwin (window a) (number a 1) (number a 2) (number a 3) (number a 4)) }
-entry_of word.Newpad = record { word = codes "newpad"; forms = Number ∷ Number ∷ []; call = λ a. Making (Newpad (number a 0) (number a 1)) }
-entry_of word.Subpad = record { word = codes "subpad"; forms = Number ∷ Number ∷ Number ∷ Number ∷ Number ∷ []; call = λ a. Making (Subpad (window a) (number a 1) (number a 2) (number a 3) (number a 4)) }
-entry_of word.Delwin = record { word = codes "delwin"; forms = Number ∷ []; call = λ a. Making (Delwin (window a)) }
-entry_of word.Mvwin = record { word = codes "mvwin"; forms = Number ∷ Number ∷ Number ∷ []; call = λ a. Making (Mvwin (window a) (number a 1) (number a 2)) }
-entry_of word.Mvderwin = record { word = codes "mvderwin"; forms = Number ∷ Number ∷ Number ∷ []; call = λ a. Making (Mvderwin (window a) (number a 1) (number a 2)) }
+abbrev pub making_entry : MakingWord → Entry
+making_entry making.Newwin = record { word = codes "newwin"; forms = Number ∷ Number ∷ Number ∷ Number ∷ []; call = λ a. Making (Newwin (number a 0) (number a 1) (number a 2) (number a 3)) }
+making_entry making.Subwin = record { word = codes "subwin"; forms = Number ∷ Number ∷ Number ∷ Number ∷ Number ∷ []; call = λ a. Making (Subwin (window a) (number a 1) (number a 2) (number a 3) (number a 4)) }
+making_entry making.Derwin = record { word = codes "derwin"; forms = Number ∷ Number ∷ Number ∷ Number ∷ Number ∷ []; call = λ a. Making (Derwin (window a) (number a 1) (number a 2) (number a 3) (number a 4)) }
+making_entry making.Newpad = record { word = codes "newpad"; forms = Number ∷ Number ∷ []; call = λ a. Making (Newpad (number a 0) (number a 1)) }
+making_entry making.Subpad = record { word = codes "subpad"; forms = Number ∷ Number ∷ Number ∷ Number ∷ Number ∷ []; call = λ a. Making (Subpad (window a) (number a 1) (number a 2) (number a 3) (number a 4)) }
+making_entry making.Delwin = record { word = codes "delwin"; forms = Number ∷ []; call = λ a. Making (Delwin (window a)) }
+making_entry making.Mvwin = record { word = codes "mvwin"; forms = Number ∷ Number ∷ Number ∷ []; call = λ a. Making (Mvwin (window a) (number a 1) (number a 2)) }
+making_entry making.Mvderwin = record { word = codes "mvderwin"; forms = Number ∷ Number ∷ Number ∷ []; call = λ a. Making (Mvderwin (window a) (number a 1) (number a 2)) }
+
 -- writing
-entry_of word.Move = record { word = codes "move"; forms = Number ∷ Number ∷ Number ∷ []; call = λ a. Writing (Move (window a) (number a 1) (number a 2)) }
-entry_of word.Addch = record { word = codes "addch"; forms = Number ∷ Character ∷ []; call = λ a. Writing (Addch (window a) (character a)) }
-entry_of word.Addstr = record { word = codes "addstr"; forms = Number ∷ Text ∷ []; call = λ a. Writing (Addstr (window a) (somewhere a.text)) }
-entry_of word.Insch = record { word = codes "insch"; forms = Number ∷ Character ∷ []; call = λ a. Writing (Insch (window a) (character a)) }
-entry_of word.Delch = record { word = codes "delch"; forms = Number ∷ []; call = λ a. Writing (Delch (window a)) }
-entry_of word.Insertln = record { word = codes "insertln"; forms = Number ∷ []; call = λ a. Writing (Insertln (window a)) }
-entry_of word.Deleteln = record { word = codes "deleteln"; forms = Number ∷ []; call = λ a. Writing (Deleteln (window a)) }
-entry_of word.Erase = record { word = codes "erase"; forms = Number ∷ []; call = λ a. Writing (Erase (window a)) }
-entry_of word.Clrtoeol = record { word = codes "clrtoeol"; forms = Number ∷ []; call = λ a. Writing (Clrtoeol (window a)) }
-entry_of word.Clrtobot = record { word = codes "clrtobot"; forms = Number ∷ []; call = λ a. Writing (Clrtobot (window a)) }
-entry_of word.Scrl = record { word = codes "scrl"; forms = Number ∷ Signed ∷ []; call = λ a. Writing (Scrl (window a) a.signed) }
-entry_of word.Setscrreg = record { word = codes "setscrreg"; forms = Number ∷ Number ∷ Number ∷ []; call = λ a. Writing (Setscrreg (window a) (number a 1) (number a 2)) }
-entry_of word.Scrollok = record { word = codes "scrollok"; forms = Number ∷ Flag ∷ []; call = λ a. Writing (Scrollok (window a) a.flag) }
-entry_of word.Attrset = record { word = codes "attrset"; forms = Number ∷ Attributes ∷ []; call = λ a. Writing (Attrset (window a) (attributes a)) }
-entry_of word.Attron = record { word = codes "attron"; forms = Number ∷ Attributes ∷ []; call = λ a. Writing (Attron (window a) (attributes a)) }
-entry_of word.Attroff = record { word = codes "attroff"; forms = Number ∷ Attributes ∷ []; call = λ a. Writing (Attroff (window a) (attributes a)) }
-entry_of word.Bkgdset = record { word = codes "bkgdset"; forms = Number ∷ Attributes ∷ Character ∷ []; call = λ a. Writing (Bkgdset (window a) (attributes a) (character a)) }
-entry_of word.ColorSet = record { word = codes "color_set"; forms = Number ∷ Number ∷ []; call = λ a. Writing (ColorSet (window a) (number a 1)) }
-entry_of word.Bkgdpair = record { word = codes "bkgdpair"; forms = Number ∷ Number ∷ []; call = λ a. Writing (Bkgdpair (window a) (number a 1)) }
+abbrev pub writing_entry : WritingWord → Entry
+writing_entry writing.Move = record { word = codes "move"; forms = Number ∷ Number ∷ Number ∷ []; call = λ a. Writing (Move (window a) (number a 1) (number a 2)) }
+writing_entry writing.Addch = record { word = codes "addch"; forms = Number ∷ Character ∷ []; call = λ a. Writing (Addch (window a) (character a)) }
+writing_entry writing.Addstr = record { word = codes "addstr"; forms = Number ∷ Text ∷ []; call = λ a. Writing (Addstr (window a) (somewhere a.text)) }
+writing_entry writing.Insch = record { word = codes "insch"; forms = Number ∷ Character ∷ []; call = λ a. Writing (Insch (window a) (character a)) }
+writing_entry writing.Delch = record { word = codes "delch"; forms = Number ∷ []; call = λ a. Writing (Delch (window a)) }
+writing_entry writing.Insertln = record { word = codes "insertln"; forms = Number ∷ []; call = λ a. Writing (Insertln (window a)) }
+writing_entry writing.Deleteln = record { word = codes "deleteln"; forms = Number ∷ []; call = λ a. Writing (Deleteln (window a)) }
+writing_entry writing.Erase = record { word = codes "erase"; forms = Number ∷ []; call = λ a. Writing (Erase (window a)) }
+writing_entry writing.Clrtoeol = record { word = codes "clrtoeol"; forms = Number ∷ []; call = λ a. Writing (Clrtoeol (window a)) }
+writing_entry writing.Clrtobot = record { word = codes "clrtobot"; forms = Number ∷ []; call = λ a. Writing (Clrtobot (window a)) }
+writing_entry writing.Scrl = record { word = codes "scrl"; forms = Number ∷ Signed ∷ []; call = λ a. Writing (Scrl (window a) a.signed) }
+writing_entry writing.Setscrreg = record { word = codes "setscrreg"; forms = Number ∷ Number ∷ Number ∷ []; call = λ a. Writing (Setscrreg (window a) (number a 1) (number a 2)) }
+writing_entry writing.Scrollok = record { word = codes "scrollok"; forms = Number ∷ Flag ∷ []; call = λ a. Writing (Scrollok (window a) a.flag) }
+writing_entry writing.Attrset = record { word = codes "attrset"; forms = Number ∷ Attributes ∷ []; call = λ a. Writing (Attrset (window a) (attributes a)) }
+writing_entry writing.Attron = record { word = codes "attron"; forms = Number ∷ Attributes ∷ []; call = λ a. Writing (Attron (window a) (attributes a)) }
+writing_entry writing.Attroff = record { word = codes "attroff"; forms = Number ∷ Attributes ∷ []; call = λ a. Writing (Attroff (window a) (attributes a)) }
+writing_entry writing.Bkgdset = record { word = codes "bkgdset"; forms = Number ∷ Attributes ∷ Character ∷ []; call = λ a. Writing (Bkgdset (window a) (attributes a) (character a)) }
+writing_entry writing.ColorSet = record { word = codes "color_set"; forms = Number ∷ Number ∷ []; call = λ a. Writing (ColorSet (window a) (number a 1)) }
+writing_entry writing.Bkgdpair = record { word = codes "bkgdpair"; forms = Number ∷ Number ∷ []; call = λ a. Writing (Bkgdpair (window a) (number a 1)) }
+
 -- copies and marks
-entry_of word.Overlay = record { word = codes "overlay"; forms = Number ∷ Number ∷ []; call = λ a. Copying (Overlay (window a) (window_at a 1)) }
-entry_of word.Overwrite = record { word = codes "overwrite"; forms = Number ∷ Number ∷ []; call = λ a. Copying (Overwrite (window a) (window_at a 1)) }
-entry_of word.Copywin = record { word = codes "copywin"; forms = Number ∷ Number ∷ Number ∷ Number ∷ Number ∷ Number ∷ Number ∷ Number ∷ Flag ∷ []; call = λ a. Copying (Copywin (window a) (window_at a 1) (number a 2) (number a 3) (number a 4) (number a 5) (number a 6) (number a 7) a.flag) }
-entry_of word.Touchwin = record { word = codes "touchwin"; forms = Number ∷ []; call = λ a. Copying (Touchwin (window a)) }
-entry_of word.Untouchwin = record { word = codes "untouchwin"; forms = Number ∷ []; call = λ a. Copying (Untouchwin (window a)) }
-entry_of word.Touchline = record { word = codes "touchline"; forms = Number ∷ Number ∷ Number ∷ []; call = λ a. Copying (Touchline (window a) (number a 1) (number a 2)) }
-entry_of word.Touchln = record { word = codes "touchln"; forms = Number ∷ Number ∷ Number ∷ Flag ∷ []; call = λ a. Copying (Touchln (window a) (number a 1) (number a 2) a.flag) }
-entry_of word.Syncup = record { word = codes "syncup"; forms = Number ∷ []; call = λ a. Copying (Syncup (window a)) }
-entry_of word.Syncdown = record { word = codes "syncdown"; forms = Number ∷ []; call = λ a. Copying (Syncdown (window a)) }
-entry_of word.IsLinetouched = record { word = codes "is_linetouched"; forms = Number ∷ Number ∷ []; call = λ a. Copying (IsLinetouched (window a) (number a 1)) }
-entry_of word.IsWintouched = record { word = codes "is_wintouched"; forms = Number ∷ []; call = λ a. Copying (IsWintouched (window a)) }
+abbrev pub copying_entry : CopyingWord → Entry
+copying_entry copying.Overlay = record { word = codes "overlay"; forms = Number ∷ Number ∷ []; call = λ a. Copying (Overlay (window a) (window_at a 1)) }
+copying_entry copying.Overwrite = record { word = codes "overwrite"; forms = Number ∷ Number ∷ []; call = λ a. Copying (Overwrite (window a) (window_at a 1)) }
+copying_entry copying.Copywin = record { word = codes "copywin"; forms = Number ∷ Number ∷ Number ∷ Number ∷ Number ∷ Number ∷ Number ∷ Number ∷ Flag ∷ []; call = λ a. Copying (Copywin (window a) (window_at a 1) (number a 2) (number a 3) (number a 4) (number a 5) (number a 6) (number a 7) a.flag) }
+copying_entry copying.Touchwin = record { word = codes "touchwin"; forms = Number ∷ []; call = λ a. Copying (Touchwin (window a)) }
+copying_entry copying.Untouchwin = record { word = codes "untouchwin"; forms = Number ∷ []; call = λ a. Copying (Untouchwin (window a)) }
+copying_entry copying.Touchline = record { word = codes "touchline"; forms = Number ∷ Number ∷ Number ∷ []; call = λ a. Copying (Touchline (window a) (number a 1) (number a 2)) }
+copying_entry copying.Touchln = record { word = codes "touchln"; forms = Number ∷ Number ∷ Number ∷ Flag ∷ []; call = λ a. Copying (Touchln (window a) (number a 1) (number a 2) a.flag) }
+copying_entry copying.Syncup = record { word = codes "syncup"; forms = Number ∷ []; call = λ a. Copying (Syncup (window a)) }
+copying_entry copying.Syncdown = record { word = codes "syncdown"; forms = Number ∷ []; call = λ a. Copying (Syncdown (window a)) }
+copying_entry copying.IsLinetouched = record { word = codes "is_linetouched"; forms = Number ∷ Number ∷ []; call = λ a. Copying (IsLinetouched (window a) (number a 1)) }
+copying_entry copying.IsWintouched = record { word = codes "is_wintouched"; forms = Number ∷ []; call = λ a. Copying (IsWintouched (window a)) }
+
 -- queries
-entry_of word.Getyx = record { word = codes "getyx"; forms = Number ∷ []; call = λ a. Query (Getyx (window a)) }
-entry_of word.Getbegyx = record { word = codes "getbegyx"; forms = Number ∷ []; call = λ a. Query (Getbegyx (window a)) }
-entry_of word.Getmaxyx = record { word = codes "getmaxyx"; forms = Number ∷ []; call = λ a. Query (Getmaxyx (window a)) }
-entry_of word.Getparyx = record { word = codes "getparyx"; forms = Number ∷ []; call = λ a. Query (Getparyx (window a)) }
-entry_of word.Inch = record { word = codes "inch"; forms = Number ∷ []; call = λ a. Query (Inch (window a)) }
+abbrev pub query_entry : QueryWord → Entry
+query_entry query.Getyx = record { word = codes "getyx"; forms = Number ∷ []; call = λ a. Query (Getyx (window a)) }
+query_entry query.Getbegyx = record { word = codes "getbegyx"; forms = Number ∷ []; call = λ a. Query (Getbegyx (window a)) }
+query_entry query.Getmaxyx = record { word = codes "getmaxyx"; forms = Number ∷ []; call = λ a. Query (Getmaxyx (window a)) }
+query_entry query.Getparyx = record { word = codes "getparyx"; forms = Number ∷ []; call = λ a. Query (Getparyx (window a)) }
+query_entry query.Inch = record { word = codes "inch"; forms = Number ∷ []; call = λ a. Query (Inch (window a)) }
+
 -- refresh
-entry_of word.UpdatePanels = record { word = codes "update_panels"; forms = []; call = λ a. Refresh UpdatePanels }
-entry_of word.Doupdate = record { word = codes "doupdate"; forms = []; call = λ a. Refresh Doupdate }
-entry_of word.InitPair = record { word = codes "init_pair"; forms = Number ∷ Number ∷ Number ∷ []; call = λ a. Refresh (InitPair (number a 0) (number a 1) (number a 2)) }
+abbrev pub refresh_entry : RefreshWord → Entry
+refresh_entry refresh.UpdatePanels = record { word = codes "update_panels"; forms = []; call = λ a. Refresh UpdatePanels }
+refresh_entry refresh.Doupdate = record { word = codes "doupdate"; forms = []; call = λ a. Refresh Doupdate }
+refresh_entry refresh.InitPair = record { word = codes "init_pair"; forms = Number ∷ Number ∷ Number ∷ []; call = λ a. Refresh (InitPair (number a 0) (number a 1) (number a 2)) }
+
+abbrev pub entry_of : Word → Entry
+entry_of (Making_word w) = making_entry w
+entry_of (Writing_word w) = writing_entry w
+entry_of (Copying_word w) = copying_entry w
+entry_of (Query_word w) = query_entry w
+entry_of (Refresh_word w) = refresh_entry w
+
+-- every word
+abbrev pub words : List Word
+words = making_words ++ writing_words ++ copying_words ++ query_words ++ refresh_words
 
 -- the call of a script word
 abbrev pub word_of : List ℕ → Option Word
-word_of text = find (λ w. bytes_eq text (entry_of w).word) WORDS
+word_of text = find (λ w. bytes_eq text (entry_of w).word) words

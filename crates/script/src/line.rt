@@ -129,11 +129,11 @@ pub fn read_line(line: &[u8], taken: &mut Arguments) -> Result<Option<Word>, Tex
     let Some(word) = Word::of(name) else {
         return Err(TextFault::UnknownCall);
     };
-    if !has_count(word.row().forms, text) {
+    if !has_count(word.forms(), text) {
         return Err(TextFault::WrongNumberOfArguments);
     }
     *taken = Arguments::new();
-    if take_all(word.row().forms, text, taken) {
+    if take_all(word.forms(), text, taken) {
         Ok(Some(word))
     } else {
         Err(TextFault::BadArgument)

@@ -1,8 +1,11 @@
-use Rattle.std.proofs.Common.{ap, sym, ◌∙◌}
-use Rattle.std.specs.Str.{bytes_eq}
-use Rattle.script.proofs.WordLemmas.{find-next}
+use Rattle.std.proofs.Common.{ap, sym, ◌∙◌, is_some}
+use Rattle.script.proofs.WordLemmas.{found_in_group, next_group}
 use Rattle.script.proofs.words.Word.of.Goals as goal
 
-pub loop-word-preserved : goal.loop-word-preserved
-loop-word-preserved c =
-    find-next _ _ c.loop-word.word-index _ _ c.loop-word-test.true (sym (c.if-eq.ensures ∙ ap (λ word. bytes_eq c.args.text.now word) c.row.ensures.word)) c.loop-word.invariant
+pub returns-then-is_some : goal.returns-then-is_some
+returns-then-is_some c =
+    c.first_named-found.ensures ∙ found_in_group _ _ c.loop-words.words-index _ _ c.loop-words-test.true (ap is_some (sym c.first_named-found.ensures) ∙ sym c.if-is_some.ensures) c.loop-words.invariant
+
+pub loop-words-preserved : goal.loop-words-preserved
+loop-words-preserved c =
+    next_group _ _ c.loop-words.words-index _ _ c.loop-words-test.true (ap is_some (sym c.first_named-found.ensures) ∙ sym c.if-is_some.ensures) c.loop-words.invariant

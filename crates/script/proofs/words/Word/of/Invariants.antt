@@ -1,7 +1,8 @@
-use Rattle.std.proofs.Common.{◌≡◌, drop, find}
-use Rattle.std.specs.Str.{bytes_eq}
-use Rattle.script.specs.Words.{entry_of, word_of}
+use Rattle.std.proofs.Common.{◌≡◌, drop}
+use Rattle.script.specs.Words.{word_of}
+use Rattle.script.specs.steps.Rows.{first_named}
+use Rattle.script.proofs.WordLemmas.{all_of}
 use Rattle.script.proofs.words.Word.of.Given as goal
 
-abbrev pub invariant-loop-word : goal.invariant-loop-word
-invariant-loop-word l = find (λ w. bytes_eq l.text (entry_of w).word) (drop l.word-index l.word-items) ≡ word_of l.text
+abbrev pub invariant-loop-words : goal.invariant-loop-words
+invariant-loop-words l = first_named (all_of (drop l.words-index l.words-items)) l.text ≡ word_of l.text

@@ -1,0 +1,18 @@
+-- What the tables of words tell: words of their own contracts.
+use Rattle.std.specs.Prelude.{◌≡◌, ◌≤◌, ℕ, List, length, Option, find}
+use Rattle.std.specs.Str.{bytes_eq}
+use Rattle.script.specs.Words.{Arguments, Entry, entry_of, placeless}
+use Rattle.script.specs.declared.limits.TheConstants.{MOST_ARGUMENTS}
+use Rattle.script.specs.declared.words.Row.{Row}
+use Rattle.script.specs.declared.words.Word.{Word}
+
+-- The row has the word and the forms of the entry, and the call that its arguments make.
+pub record IsRow (row : Row) (entry : Entry) (a : Arguments) : Type 0 where
+  pub word : row.word.now ≡ entry.word
+  pub forms : row.forms.now ≡ entry.forms
+  pub count : length row.forms.now ≤ MOST_ARGUMENTS
+  pub call : placeless row.call ≡ entry.call a
+
+-- the first of some words that is written so
+abbrev pub first_named : List Word → List ℕ → Option Word
+first_named words text = find (λ w. bytes_eq text (entry_of w).word) words

@@ -1,0 +1,38 @@
+//! The words of the calls that refresh, and of the one that sets a pair.
+
+ghost use Rattle.script.specs.Words.{refresh_entry};
+ghost use Rattle.script.specs.steps.Rows.{IsRow};
+
+use super::Form::Number;
+use super::{Row, Word};
+use crate::arguments::Arguments;
+use world::{Call, Refresh};
+
+/// A call that refreshes or sets the colours of a pair, by its word.
+#[rattlefmt::skip]
+#[derive(Clone, Copy, Debug, PartialEq, Eq)]
+pub enum RefreshWord {
+    UpdatePanels, Doupdate, InitPair,
+}
+
+/// Each of these words.
+#[rattlefmt::skip]
+pub(super) const WORDS: [Word; 3] = [
+    Word::Refresh(RefreshWord::UpdatePanels), Word::Refresh(RefreshWord::Doupdate),
+    Word::Refresh(RefreshWord::InitPair),
+];
+
+impl RefreshWord {
+    /// The word's row, with the call that the arguments make.
+    #[rattlefmt::skip]
+    #[inline(always)]
+    pub(super) fn row(self, a: &Arguments) -> Row<'_>
+        ensures { IsRow result (refresh_entry self) a.now }
+    {
+        match self {
+            Self::UpdatePanels => Row { word: b"update_panels", forms: &[], call: Call::Refresh(Refresh::UpdatePanels) },
+            Self::Doupdate => Row { word: b"doupdate", forms: &[], call: Call::Refresh(Refresh::Doupdate) },
+            Self::InitPair => Row { word: b"init_pair", forms: &[Number, Number, Number], call: Call::Refresh(Refresh::InitPair { pair: a.number(0), foreground: a.number(1), background: a.number(2) }) },
+        }
+    }
+}
