@@ -9,7 +9,7 @@ use Rattle.script.specs.Words.{Entry, entry_of, nothing_said, word_of}
 use Rattle.script.specs.Texts.{all_said}
 use Rattle.world.specs.declared.call.Call.{Call}
 use Rattle.script.specs.declared.words.Form.{Form}
-use Rattle.script.specs.declared.words.Form.TheVariants.{Number, Signed, Attributes, Flag, Character, Text}
+use Rattle.script.specs.declared.words.Form.TheVariants.{Number, NumberOrNone, Signed, Attributes, Flag, Character, Text}
 use Rattle.script.specs.declared.fault.ScriptFault.{ScriptFault}
 use Rattle.script.specs.declared.fault.ScriptFault.TheVariants.{Text as Text_fault, Reading as Reading_fault}
 use Rattle.script.specs.declared.fault.TextFault.{TextFault}
@@ -18,6 +18,7 @@ use Rattle.script.specs.declared.fault.TextFault.TheVariants.{LineTooLong, BadBy
 -- an argument that is everything to the end of the line
 abbrev pub is_text : Form → Bool
 is_text Number = false
+is_text NumberOrNone = false
 is_text Signed = false
 is_text Attributes = false
 is_text Flag = false

@@ -9,7 +9,7 @@ use Rattle.script.specs.Characters.{backslash, backspace, carriage_return, digit
 use Rattle.script.specs.declared.limits.TheConstants.{ALL_ATTRIBUTES, GREATEST_NUMBER, GREATEST_SIGNED, MOST_DIGITS}
 use Rattle.script.specs.Words.{Arguments}
 use Rattle.script.specs.declared.words.Form.{Form}
-use Rattle.script.specs.declared.words.Form.TheVariants.{Number, Signed, Attributes, Flag, Character, Text}
+use Rattle.script.specs.declared.words.Form.TheVariants.{Number, NumberOrNone, Signed, Attributes, Flag, Character, Text}
 
 -- one digit or more, but no more than the most, with no leading zero but `0` itself
 abbrev pub is_plain_number : List ℕ → Bool
@@ -20,6 +20,10 @@ is_plain_number piece = nat_le 1 (length piece) && (nat_le (length piece) MOST_D
 abbrev pub number_up_to : ℕ → List ℕ → Option ℕ
 number_up_to most piece =
     if is_plain_number piece && nat_le (digits_value 10 piece) most then Some (digits_value 10 piece) else None
+
+-- a number, or `none` for none
+abbrev pub number_or_none : List ℕ → Option (Option ℕ)
+number_or_none piece = if bytes_eq piece (codes "none") then Some None else option_map Some (number_up_to GREATEST_NUMBER piece)
 
 -- the number with a minus in front of it, which 0 has not
 abbrev pub negative : ℕ → Option ℤ
@@ -82,6 +86,7 @@ only _ = None
 -- what an argument of a form says
 abbrev pub said : Form → List ℕ → Arguments → Option Arguments
 said Number piece a = option_map (λ n. record a { numbers = a.numbers ++ n ∷ [] }) (number_up_to GREATEST_NUMBER piece)
+said NumberOrNone piece a = option_map (λ n. record a { number_or_none = n }) (number_or_none piece)
 said Signed piece a = option_map (λ n. record a { signed = n }) (signed_number piece)
 said Attributes piece a = option_map (λ n. record a { attributes = n }) (attributes_of piece)
 said Flag piece a = option_map (λ b. record a { flag = b }) (flag_of piece)

@@ -1,23 +1,25 @@
 //! The arguments of a call, as a script has them.
 
-ghost use Rattle.std.specs.Prelude.{◌≡◌, ◌≤◌, ◌<◌, ◌+◌, length, Some, None, false};
+ghost use Rattle.std.specs.Prelude.{◌≡◌, ◌≤◌, ◌<◌, ◌+◌, length, is_some, IfSome, Some, None, false};
 ghost use Rattle.std.specs.Bool.{OnTrue};
-ghost use Rattle.script.specs.Words.{attributes, character, nothing_said, number};
+ghost use Rattle.script.specs.Words.{attributes, character, nothing_said, number, panel_or_none};
 ghost use Rattle.script.specs.Texts.{said};
 
 use crate::limits::{GREATEST_NUMBER, LONGEST_LINE, MOST_ARGUMENTS};
-use crate::numbers::{attributes_of, flag_of, number_up_to, signed_number};
+use crate::numbers::{attributes_of, flag_of, number_or_none, number_up_to, signed_number};
 use crate::text::read_text;
 use crate::words::Form;
 use arrayvec::ArrayVec;
 use bitflags::Flags;
 use cell::Attr;
 use std::marker::Model;
+use world::PanelId;
 
 /// What the arguments of a call say. Its numbers stand in their order.
 #[derive(Drop)]
 pub struct Arguments {
     numbers: ArrayVec<u16, MOST_ARGUMENTS>,
+    number_or_none: Option<u16>,
     signed: i16,
     attributes: u8,
     flag: bool,
@@ -31,11 +33,26 @@ impl Model for Arguments {
 
     ghost view = { λ a. record {
       numbers = a.numbers.items;
+      number_or_none = a.number_or_none;
       signed = a.signed;
       attributes = a.attributes;
       flag = a.flag;
       text = a.text.items;
     } };
+}
+
+/// Puts what was said in its place, and answers whether something was.
+fn put<T: Copy>(place: &mut T, said: Option<T>) -> bool
+    ensures put { IfSome said (λ x. place.new ≡ x) }
+    ensures some { result ≡ is_some said }
+{
+    match said {
+        Some(x) => {
+            *place = x;
+            true
+        }
+        None => false,
+    }
 }
 
 impl Arguments {
@@ -45,6 +62,7 @@ impl Arguments {
     {
         Arguments {
             numbers: ArrayVec::new(),
+            number_or_none: None,
             signed: 0,
             attributes: 0,
             flag: false,
@@ -60,6 +78,13 @@ impl Arguments {
             Some(number) => *number,
             None => 0,
         }
+    }
+
+    /// The panel that an argument names, if it isn't `none`.
+    pub(crate) fn panel_or_none(&self) -> Option<PanelId>
+        ensures { result ≡ panel_or_none self.now }
+    {
+        self.number_or_none.map(PanelId)
     }
 
     pub(crate) fn signed(&self) -> i16
@@ -112,27 +137,10 @@ impl Arguments {
                 }
                 None => false,
             },
-            Form::Signed => match signed_number(piece) {
-                Some(signed) => {
-                    self.signed = signed;
-                    true
-                }
-                None => false,
-            },
-            Form::Attributes => match attributes_of(piece) {
-                Some(attributes) => {
-                    self.attributes = attributes;
-                    true
-                }
-                None => false,
-            },
-            Form::Flag => match flag_of(piece) {
-                Some(flag) => {
-                    self.flag = flag;
-                    true
-                }
-                None => false,
-            },
+            Form::NumberOrNone => put(&mut self.number_or_none, number_or_none(piece)),
+            Form::Signed => put(&mut self.signed, signed_number(piece)),
+            Form::Attributes => put(&mut self.attributes, attributes_of(piece)),
+            Form::Flag => put(&mut self.flag, flag_of(piece)),
             Form::Character => read_text(piece, &mut self.text) && self.text.len() == 1,
             Form::Text => read_text(piece, &mut self.text),
         }

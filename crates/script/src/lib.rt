@@ -18,7 +18,7 @@ pub use fault::{ScriptEnd, ScriptFault, TextFault};
 pub use limits::LONGEST_LINE;
 pub use line::read_line;
 pub use log::{LogLine, last_line, log_answer};
-pub use words::{CopyingWord, MakingWord, QueryWord, RefreshWord, Word, WritingWord};
+pub use words::{CopyingWord, MakingWord, QueryWord, RefreshWord, StackingWord, Word, WritingWord};
 
 #[cfg(test)]
 mod tests;

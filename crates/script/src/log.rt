@@ -5,14 +5,14 @@ ghost use Rattle.std.specs.Option.{option_map_or};
 ghost use Rattle.std.specs.Io.KnownBytes.{Appends};
 ghost use Rattle.std.specs.Prelude.{codes, decimal, [], ◌∷◌};
 ghost use Rattle.script.specs.Characters.{newline};
-ghost use Rattle.script.specs.Log.{last_line, log_line, reply_text};
+ghost use Rattle.script.specs.Log.{last_line, log_line, panel_text, reply_text};
 ghost use Rattle.streams.specs.Counts.{counted};
 
 use crate::fault::ScriptFault;
 use arrayvec::ArrayVec;
 use cell::Refusal;
 use streams::{MOST_DECIMAL_DIGITS, Sink, WriteFault, append, append_decimal, send};
-use world::Reply;
+use world::{PanelId, Reply};
 
 /// Room for a line of the log.
 const LINE_ROOM: usize = 128;
@@ -22,6 +22,18 @@ pub type LogLine = ArrayVec<u8, LINE_ROOM>;
 
 /// The most bytes that the log says of a reply: two numbers, and between them two spaces and two digits.
 const LONGEST_REPLY: usize = 2 * MOST_DECIMAL_DIGITS + 4;
+
+/// Puts the number of a panel at the end, or that there is none.
+fn append_panel(line: &mut LogLine, panel: Option<PanelId>)
+    requires { length line.old.items + MOST_DECIMAL_DIGITS ≤ LINE_ROOM }
+    ensures text { line.new.items ≡ line.old.items ++ panel_text panel }
+    ensures short { length line.new.items ≤ length line.old.items + MOST_DECIMAL_DIGITS }
+{
+    match panel {
+        Some(panel) => append_decimal(line, u64::from(panel.0)),
+        None => append(line, b"none"),
+    }
+}
 
 /// Puts what the log says of a reply at the end, and answers whether it says something.
 fn append_reply(line: &mut LogLine, reply: Reply) -> bool
@@ -38,6 +50,7 @@ fn append_reply(line: &mut LogLine, reply: Reply) -> bool
             append(line, b" ");
             append_decimal(line, u64::from(x));
         }
+        Reply::Panel(panel) => append_panel(line, panel),
         Reply::Flag(true) => append(line, b"true"),
         Reply::Flag(false) => append(line, b"false"),
         Reply::Cell(cell) => {

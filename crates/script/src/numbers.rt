@@ -4,9 +4,9 @@ ghost use Rattle.std.specs.Prelude.{◌≡◌, ◌≤◌, length, true};
 ghost use Rattle.std.specs.Char.{is_ascii_digit};
 ghost use Rattle.std.specs.List.{list_all};
 ghost use Rattle.std.specs.Str.Parse.{digits_value};
-ghost use Rattle.script.specs.Texts.{attributes_of, flag_of, hex_byte, hex_value, is_plain_number, negative, number_up_to, signed_number};
+ghost use Rattle.script.specs.Texts.{attributes_of, flag_of, hex_byte, hex_value, is_plain_number, negative, number_or_none, number_up_to, signed_number};
 
-use crate::limits::{ALL_ATTRIBUTES, GREATEST_SIGNED, MOST_DIGITS};
+use crate::limits::{ALL_ATTRIBUTES, GREATEST_NUMBER, GREATEST_SIGNED, MOST_DIGITS};
 
 fn has_digits_alone(piece: &[u8]) -> bool
     ensures { result ≡ list_all is_ascii_digit piece.now }
@@ -52,6 +52,17 @@ pub fn number_up_to(most: u16, piece: &[u8]) -> Option<u16>
         return None;
     }
     Some(value as u16)
+}
+
+/// A number, or `none` for none.
+pub fn number_or_none(piece: &[u8]) -> Option<Option<u16>>
+    ensures { result ≡ number_or_none piece.now }
+{
+    if piece == b"none".as_slice() {
+        Some(None)
+    } else {
+        number_up_to(GREATEST_NUMBER, piece).map(Some)
+    }
 }
 
 /// The number with a minus in front of it, which 0 has not.

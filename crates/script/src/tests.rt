@@ -9,7 +9,7 @@ use std::io;
 use std::io::{ErrorKind, Read, Write};
 use std::test::Fail;
 use streams::{Counted, CountedReader, Sent, WriteFault};
-use world::{Composed, Reply};
+use world::{Composed, PanelId, Reply};
 
 /// A reader that gives at most so many bytes at once, and behind the last one fails or is at its end.
 #[derive(Drop)]
@@ -71,7 +71,7 @@ fn said(alloc: Global, line: &[u8]) -> Result<String, Fail> {
 
 /// Lines with their calls.
 #[rattlefmt::skip]
-const CALLS: [(&str, &str); 46] = [
+const CALLS: [(&str, &str); 62] = [
     ("newwin 3 6 0 2", "Making(Newwin { lines: 3, columns: 6, y: 0, x: 2 })"),
     ("subwin 1 2 3 4 5", "Making(Subwin { win: WinId(1), lines: 2, columns: 3, y: 4, x: 5 })"),
     ("derwin 1 2 3 4 5", "Making(Derwin { win: WinId(1), lines: 2, columns: 3, y: 4, x: 5 })"),
@@ -88,11 +88,13 @@ const CALLS: [(&str, &str); 46] = [
     ("insertln 10", "Writing(Insertln { win: WinId(10) })"),
     ("deleteln 10", "Writing(Deleteln { win: WinId(10) })"),
     ("erase 10", "Writing(Erase { win: WinId(10) })"),
+    ("clear 10", "Writing(Clear { win: WinId(10) })"),
     ("clrtoeol 10", "Writing(Clrtoeol { win: WinId(10) })"),
     ("clrtobot 10", "Writing(Clrtobot { win: WinId(10) })"),
     ("scrl 0 -32767", "Writing(Scrl { win: WinId(0), n: -32767 })"),
     ("setscrreg 0 1 2", "Writing(Setscrreg { win: WinId(0), top: 1, bottom: 2 })"),
     ("scrollok 0 on", "Writing(Scrollok { win: WinId(0), flag: true })"),
+    ("clearok 0 off", "Writing(Clearok { win: WinId(0), flag: false })"),
     ("attrset 0 00", "Writing(Attrset { win: WinId(0), attrs: Attr(0) })"),
     ("attron 0 2a", "Writing(Attron { win: WinId(0), attrs: Attr(42) })"),
     ("attroff 0 3f", "Writing(Attroff { win: WinId(0), attrs: Attr(63) })"),
@@ -119,18 +121,36 @@ const CALLS: [(&str, &str); 46] = [
     ("getmaxyx 1", "Query(Getmaxyx { win: WinId(1) })"),
     ("getparyx 1", "Query(Getparyx { win: WinId(1) })"),
     ("inch 1", "Query(Inch { win: WinId(1) })"),
+    ("new_panel 3", "Stacking(NewPanel { win: WinId(3) })"),
+    ("del_panel 1", "Stacking(DelPanel { panel: PanelId(1) })"),
+    ("show_panel 1", "Stacking(ShowPanel { panel: PanelId(1) })"),
+    ("hide_panel 1", "Stacking(HidePanel { panel: PanelId(1) })"),
+    ("top_panel 1", "Stacking(TopPanel { panel: PanelId(1) })"),
+    ("bottom_panel 1", "Stacking(BottomPanel { panel: PanelId(1) })"),
+    ("move_panel 1 2 3", "Stacking(MovePanel { panel: PanelId(1), y: 2, x: 3 })"),
+    ("replace_panel 1 3", "Stacking(ReplacePanel { panel: PanelId(1), win: WinId(3) })"),
+    ("panel_above 1", "Stacking(PanelAbove { panel: Some(PanelId(1)) })"),
+    ("panel_below none", "Stacking(PanelBelow { panel: None })"),
+    ("panel_window 1", "Stacking(PanelWindow { panel: PanelId(1) })"),
+    ("panel_hidden 1", "Stacking(PanelHidden { panel: PanelId(1) })"),
+    ("noutrefresh 4", "Refresh(Noutrefresh { win: WinId(4) })"),
+    (
+        "pnoutrefresh 5 1 2 3 4 6 7",
+        "Refresh(Pnoutrefresh { pad: WinId(5), pminrow: 1, pmincol: 2, sminrow: 3, smincol: 4, smaxrow: 6, smaxcol: 7 })",
+    ),
     ("update_panels", "Refresh(UpdatePanels)"),
     ("doupdate", "Refresh(Doupdate)"),
 ];
 
 /// Lines each with an argument that lacks its form.
 #[rattlefmt::skip]
-const BAD_ARGUMENTS: [&str; 25] = [
+const BAD_ARGUMENTS: [&str; 29] = [
     "getyx 65536", "getyx 00", "getyx 01", "getyx -1", "getyx 123456", "getyx 1a",
     "scrl 0 32768", "scrl 0 -0", "scrl 0 -32768", "scrl 0 --1", "scrl 0 -",
     "attron 0 40", "attroff 0 1", "attrset 0 0A", "attrset 0 001",
     "scrollok 0 yes", "scrollok 0 ON", "addch 0 ab", "insch 0 ", "bkgdset 0 00 \\xAB",
     "addstr 0 a\\", "addstr 0 \\q", "addstr 0 \\N", "addstr 0 \\x4", "addstr 0 \\x4g",
+    "panel_above None", "panel_below 01", "panel_window none", "getyx none",
 ];
 
 #[test]
@@ -280,6 +300,8 @@ fn answers_have_their_lines(rt: HostRuntime) -> Result<(), Fail> {
     let cell = Cell::new(b'A', Attr::REVERSE, 63).ok_or("no cell")?;
     let answers = [
         (1, Ok(Reply::Number(WinId(2))), "line 1: 2\n"),
+        (5, Ok(Reply::Panel(Some(PanelId(2)))), "line 5: 2\n"),
+        (6, Ok(Reply::Panel(None)), "line 6: none\n"),
         (12, Ok(Reply::Pair(3, 0)), "line 12: 3 0\n"),
         (7, Ok(Reply::Cell(cell)), "line 7: 65 10 63\n"),
         (9, Err(Refusal::NoSuchWindow), "line 9: E1 NoSuchWindow\n"),

@@ -8,6 +8,7 @@ mod copying;
 mod making;
 mod query;
 mod refresh;
+mod stacking;
 mod writing;
 
 use crate::arguments::Arguments;
@@ -16,6 +17,7 @@ pub use copying::CopyingWord;
 pub use making::MakingWord;
 pub use query::QueryWord;
 pub use refresh::RefreshWord;
+pub use stacking::StackingWord;
 use world::Call;
 pub use writing::WritingWord;
 
@@ -24,6 +26,8 @@ pub use writing::WritingWord;
 pub(crate) enum Form {
     /// A number up to the greatest.
     Number,
+    /// A number up to the greatest, or `none`.
+    NumberOrNone,
     /// A number up to the greatest signed one, with or without a minus.
     Signed,
     /// Two hexadecimal digits up to `3f`.
@@ -43,6 +47,7 @@ pub enum Word {
     Writing(WritingWord),
     Copying(CopyingWord),
     Query(QueryWord),
+    Stacking(StackingWord),
     Refresh(RefreshWord),
 }
 
@@ -71,11 +76,12 @@ impl Word {
     pub(crate) fn of(text: &[u8]) -> Option<Word>
         ensures { result ≡ word_of text.now }
     {
-        let groups: [&[Word]; 5] = [
+        let groups: [&[Word]; 6] = [
             &making::WORDS,
             &writing::WORDS,
             &copying::WORDS,
             &query::WORDS,
+            &stacking::WORDS,
             &refresh::WORDS,
         ];
         for words in groups {
@@ -98,6 +104,7 @@ impl Word {
             Word::Writing(word) => word.row(arguments),
             Word::Copying(word) => word.row(arguments),
             Word::Query(word) => word.row(arguments),
+            Word::Stacking(word) => word.row(arguments),
             Word::Refresh(word) => word.row(arguments),
         }
     }

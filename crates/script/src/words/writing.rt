@@ -13,20 +13,20 @@ use world::{Call, Writing};
 #[rattlefmt::skip]
 #[derive(Clone, Copy, Debug, PartialEq, Eq)]
 pub enum WritingWord {
-    Move, Addch, Addstr, Insch, Delch, Insertln, Deleteln, Erase, Clrtoeol, Clrtobot, Scrl, Setscrreg, Scrollok,
-    Attrset, Attron, Attroff, Bkgdset, ColorSet, Bkgdpair,
+    Move, Addch, Addstr, Insch, Delch, Insertln, Deleteln, Erase, Clear, Clrtoeol, Clrtobot, Scrl, Setscrreg, Scrollok,
+    Clearok, Attrset, Attron, Attroff, Bkgdset, ColorSet, Bkgdpair,
 }
 
 /// Each of these words.
 #[rattlefmt::skip]
-pub(super) const WORDS: [Word; 19] = [
+pub(super) const WORDS: [Word; 21] = [
     Word::Writing(WritingWord::Move), Word::Writing(WritingWord::Addch), Word::Writing(WritingWord::Addstr),
     Word::Writing(WritingWord::Insch), Word::Writing(WritingWord::Delch), Word::Writing(WritingWord::Insertln),
-    Word::Writing(WritingWord::Deleteln), Word::Writing(WritingWord::Erase), Word::Writing(WritingWord::Clrtoeol),
-    Word::Writing(WritingWord::Clrtobot), Word::Writing(WritingWord::Scrl), Word::Writing(WritingWord::Setscrreg),
-    Word::Writing(WritingWord::Scrollok), Word::Writing(WritingWord::Attrset), Word::Writing(WritingWord::Attron),
-    Word::Writing(WritingWord::Attroff), Word::Writing(WritingWord::Bkgdset), Word::Writing(WritingWord::ColorSet),
-    Word::Writing(WritingWord::Bkgdpair),
+    Word::Writing(WritingWord::Deleteln), Word::Writing(WritingWord::Erase), Word::Writing(WritingWord::Clear),
+    Word::Writing(WritingWord::Clrtoeol), Word::Writing(WritingWord::Clrtobot), Word::Writing(WritingWord::Scrl),
+    Word::Writing(WritingWord::Setscrreg), Word::Writing(WritingWord::Scrollok), Word::Writing(WritingWord::Clearok),
+    Word::Writing(WritingWord::Attrset), Word::Writing(WritingWord::Attron), Word::Writing(WritingWord::Attroff),
+    Word::Writing(WritingWord::Bkgdset), Word::Writing(WritingWord::ColorSet), Word::Writing(WritingWord::Bkgdpair),
 ];
 
 impl WritingWord {
@@ -46,11 +46,13 @@ impl WritingWord {
             Self::Insertln => Row { word: b"insertln", forms: &[Number], call: Call::Writing(Writing::Insertln { win }) },
             Self::Deleteln => Row { word: b"deleteln", forms: &[Number], call: Call::Writing(Writing::Deleteln { win }) },
             Self::Erase => Row { word: b"erase", forms: &[Number], call: Call::Writing(Writing::Erase { win }) },
+            Self::Clear => Row { word: b"clear", forms: &[Number], call: Call::Writing(Writing::Clear { win }) },
             Self::Clrtoeol => Row { word: b"clrtoeol", forms: &[Number], call: Call::Writing(Writing::Clrtoeol { win }) },
             Self::Clrtobot => Row { word: b"clrtobot", forms: &[Number], call: Call::Writing(Writing::Clrtobot { win }) },
             Self::Scrl => Row { word: b"scrl", forms: &[Number, Signed], call: Call::Writing(Writing::Scrl { win, n: a.signed() }) },
             Self::Setscrreg => Row { word: b"setscrreg", forms: &[Number, Number, Number], call: Call::Writing(Writing::Setscrreg { win, top: a.number(1), bottom: a.number(2) }) },
             Self::Scrollok => Row { word: b"scrollok", forms: &[Number, Flag], call: Call::Writing(Writing::Scrollok { win, flag: a.flag() }) },
+            Self::Clearok => Row { word: b"clearok", forms: &[Number, Flag], call: Call::Writing(Writing::Clearok { win, flag: a.flag() }) },
             Self::Attrset => Row { word: b"attrset", forms: &[Number, Attributes], call: Call::Writing(Writing::Attrset { win, attrs: a.attributes() }) },
             Self::Attron => Row { word: b"attron", forms: &[Number, Attributes], call: Call::Writing(Writing::Attron { win, attrs: a.attributes() }) },
             Self::Attroff => Row { word: b"attroff", forms: &[Number, Attributes], call: Call::Writing(Writing::Attroff { win, attrs: a.attributes() }) },
