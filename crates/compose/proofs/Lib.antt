@@ -6,3 +6,4 @@ pub mod Lines
 pub mod Laying
 pub mod Pieces
 pub mod Unmarking
+pub mod Spans

@@ -1,6 +1,7 @@
 -- A picture is made line by line, and a line column by column.
 use Rattle.std.proofs.Common.{◌≡◌, ℕ, ◌+◌, ◌<◌, ◌≤◌, Bool, true, false, ◌==◌, ◌&&◌, nat_le, nat_lt, if◌then◌else◌, length, inl, inr, refl, sym, ap, ◌∙◌, arith}
-use Rattle.std.proofs.lemmas.Bool.{cases_eq, eq-eqb, ne_eqb, le-leb, lt-ltb}
+use Rattle.std.proofs.lemmas.Bool.{cases_eq, cases_lt, eq-eqb, ne_eqb, le-leb, lt-ltb}
+use Rattle.std.proofs.lemmas.Bool.Decides.{nat_tests}
 use Rattle.cell.specs.Shown.{Shown, shown_blank}
 use Rattle.cell.specs.Pictures.{Picture, HasSize, picture_of, line_of, shown_at, with_cell}
 use Rattle.cell.proofs.PictureLemmas.{HasSize-lines_from, HasSize-with_cell, same_pictures, cell_or-lines_from}
@@ -22,6 +23,30 @@ pub LineShown-more : (f : ℕ → Shown) (lines columns y start x : ℕ) (old no
 LineShown-more f lines columns y start x old now so_far below left from = record {
   shown = filled-more shown_blank now old y start x f below left from so_far.shown;
   size = HasSize-with_cell (y, x) (f x) so_far.size;
+}
+
+-- What is made from x on, up to an end, follows what was made before x.
+joined : (line : Bool) (x end u : ℕ) (made new old : Shown) → x ≤ end → (x ≤ u → u < end → new ≡ made)
+    → (if line && (nat_le x u && nat_lt u end) then new else (if line && (nat_le 0 u && nat_lt u x) then made else old)) ≡ (if line && (nat_le 0 u && nat_lt u end) then made else old)
+joined false x end u made new old ordered same = refl
+joined true x end u made new old ordered same = elim (cases_lt u x) [
+  | inl before ↦ grind (arith, nat_tests)
+  | inr from ↦ elim (cases_lt u end) [
+    | inl inside ↦ rw (same (omega arith) inside) (grind (arith, nat_tests))
+    | inr behind ↦ grind (arith, nat_tests)
+  ]
+]
+
+-- a span more
+pub LineShown-span : (f g : ℕ → Shown) (lines columns y x end : ℕ) (old now new : Picture) → LineShown f lines columns y 0 x old now → x ≤ end → ((u : ℕ) → x ≤ u → u < end → g u ≡ f u)
+    → ((v u : ℕ) → shown_at new (v, u) ≡ (if (v == y) && (nat_le x u && nat_lt u end) then g u else shown_at now (v, u))) → HasSize lines columns new
+    → LineShown f lines columns y 0 end old new
+LineShown-span f g lines columns y x end old now new so_far ordered same span size = record {
+  shown = λ v u.
+      span v u
+      ∙ ap (λ (rest : Shown). if (v == y) && (nat_le x u && nat_lt u end) then g u else rest) (so_far.shown v u)
+      ∙ joined (v == y) x end u (f u) (g u) (shown_at old (v, u)) ordered (same u);
+  size = size;
 }
 
 inside-piece : (line left right : Bool) (one other : Shown) → line ≡ true → left ≡ true → right ≡ true → (if line && (left && right) then one else other) ≡ one

@@ -161,8 +161,8 @@ impl Desk {
         requires column { x < self.now.windows.columns }
         ensures { result ≡ picture (world self.now) y x }
     {
-        self.pairs
-            .shown(cell_found(&self.windows.table, &self.stack, y, x))
+        let (_, columns) = self.size();
+        self.pairs.shown(cell_found(&self.windows.table, &self.stack, y, x, columns))
     }
 
     /// How many lines and columns the screen has.

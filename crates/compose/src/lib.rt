@@ -7,8 +7,10 @@ mod dispatch;
 mod marks;
 mod panels;
 mod picture;
+mod piece;
 mod refresh;
 mod search;
+mod span;
 #[cfg(test)]
 mod tests;
 

@@ -8,7 +8,9 @@ ghost use Rattle.world.specs.Sound.{AreSoundWindows};
 ghost use Rattle.grids.specs.Tables.{windows as windows_of};
 ghost use Rattle.stack.specs.Tables.{panels};
 
-use crate::search::cell_found;
+use crate::piece::{Source, show_piece};
+use crate::search::place;
+use crate::span::span_found;
 use cell::{Grid, Pairs, Shown};
 use grids::Grids;
 use stack::Stack;
@@ -51,11 +53,16 @@ fn show_line(
     ensures shown { (v u : ℕ) → shown_at picture.new (v, u) ≡ (if (v == y) && (nat_le 0 u && nat_lt u columns) then shown pairs.now (found_from_top (windows_of table.now).window (panels stack.now) y u) else shown_at picture.old (v, u)) }
     ensures size { HasSize table.now.lines table.now.columns picture.new }
 {
-    for x in 0..columns {
-        picture.set(
-            usize::from(y),
-            usize::from(x),
-            pairs.shown(cell_found(table, stack, y, x)),
-        );
+    let mut x = 0;
+    while x < columns {
+        let span = span_found(table, stack, y, x, columns);
+        let (top, left) = place(table, span.win);
+        let source = Source {
+            win: span.win,
+            line: y - top,
+            column: x - left,
+        };
+        show_piece(table, pairs, source, span.end - x, y, x, picture);
+        x = span.end;
     }
 }

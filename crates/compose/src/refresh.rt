@@ -16,6 +16,7 @@ ghost use Rattle.compose.specs.Desks.{world};
 
 use crate::desk::{Desk, size_of_screen};
 use crate::marks::asks;
+use crate::piece::{Source, show_piece};
 use crate::search::cursor_on_screen;
 use cell::{Frame, Grid, Pairs, Refusal, Shown, WinId};
 use grids::Grids;
@@ -94,14 +95,6 @@ impl Desk {
     }
 }
 
-/// A line and a column of a window.
-#[derive(Clone, Copy)]
-struct Source {
-    win: WinId,
-    line: u16,
-    column: u16,
-}
-
 /// Lays the touched cells of a window, which begins at this place of the screen, over a picture of the screen's size.
 fn show_touched(
     table: &Grids,
@@ -173,31 +166,6 @@ fn show_rectangle(
         );
     }
     prove!(!picture.row(0).is_empty());
-}
-
-/// Puts so many cells of a line of a window, from a place of it on, into line `y` of a picture from column `x` on.
-fn show_piece(
-    table: &Grids,
-    pairs: &Pairs,
-    source: Source,
-    n: u16,
-    y: u16,
-    x: u16,
-    picture: &mut Grid<Shown>,
-)
-    requires some { 0 < n }
-    requires from { HasPlace (windows_of table.now).window source.win.0 source.line (source.column + n - 1) }
-    requires line { y < table.now.lines }
-    requires columns { x + n ≤ table.now.columns }
-    requires size { HasSize table.now.lines table.now.columns picture.old }
-    ensures shown { (v u : ℕ) → shown_at picture.new (v, u) ≡ (if (v == y) && (nat_le x u && nat_lt u (x + n)) then shown pairs.now (cell_at (windows_of table.now).window source.win.0 source.line (source.column + (u - x))) else shown_at picture.old (v, u)) }
-    ensures size { HasSize table.now.lines table.now.columns picture.new }
-{
-    let cells = table.row(source.win, source.line);
-    for k in 0..n {
-        let cell = cells[usize::from(source.column + k)];
-        picture.set(usize::from(y), usize::from(x + k), pairs.shown(cell));
-    }
 }
 
 /// Tests that a rectangle of a pad may be laid over these lines and columns of the screen.

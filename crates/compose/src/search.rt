@@ -5,6 +5,7 @@ ghost use Rattle.world.specs.Panels.{cursor_of_topmost, cursor_on_screen, found_
 ghost use Rattle.grids.specs.Tables.{windows as windows_of};
 ghost use Rattle.stack.specs.Tables.{panels};
 
+use crate::span::span_found;
 use cell::{Cell, WinId};
 use grids::Grids;
 use stack::Stack;
@@ -12,13 +13,15 @@ use stack::Stack;
 /// The number of the standard screen.
 pub(crate) const STANDARD: WinId = WinId(0);
 
-/// The cell that a search from the top visible panel down to the standard screen finds at line `y` and column `x` of the screen.
-pub(crate) fn cell_found(table: &Grids, stack: &Stack, y: u16, x: u16) -> Cell
+/// The cell that a search from the top visible panel down to the standard screen finds at line `y` and column `x` of the screen,
+/// which has so many columns.
+pub(crate) fn cell_found(table: &Grids, stack: &Stack, y: u16, x: u16, columns: u16) -> Cell
     requires line { y < table.now.lines }
-    requires column { x < table.now.columns }
+    requires column { x < columns }
+    requires columns { columns ≡ table.now.columns }
     ensures { result ≡ found_from_top (windows_of table.now).window (panels stack.now) y x }
 {
-    let win = window_found(table, stack, y, x);
+    let win = span_found(table, stack, y, x, columns).win;
     let (top, left) = place(table, win);
     table.cell(win, y - top, x - left)
 }
@@ -41,24 +44,6 @@ pub(crate) fn cursor_on_screen(table: &Grids, win: WinId) -> (u16, u16)
     }
 }
 
-/// The window of the first visible panel, from the top, whose window's rectangle holds the place, or the standard screen.
-fn window_found(table: &Grids, stack: &Stack, y: u16, x: u16) -> WinId
-    requires line { y < table.now.lines }
-    requires column { x < table.now.columns }
-    ensures owner { result.0 ≡ window_or_standard (panels stack.now) (owner (windows_of table.now).window (panels stack.now) y x) }
-    ensures holds { holds (windows_of table.now).window result.0 y x ≡ true }
-{
-    prove!(table.has_window(STANDARD));
-    for panel in stack.visible_from_top() {
-        if let Ok(win) = stack.window(panel) {
-            if holds_place(table, win, y, x) {
-                return win;
-            }
-        }
-    }
-    STANDARD
-}
-
 /// The window of the top visible panel, or the standard screen.
 fn window_on_top(stack: &Stack) -> WinId
     ensures { result.0 ≡ window_or_standard (panels stack.now) (topmost (panels stack.now)) }
@@ -73,24 +58,11 @@ fn window_on_top(stack: &Stack) -> WinId
 }
 
 /// Where a window begins on the screen. A pad, or none, begins at the first place.
-fn place(table: &Grids, win: WinId) -> (u16, u16)
+pub fn place(table: &Grids, win: WinId) -> (u16, u16)
     ensures { result ≡ place_of (windows_of table.now).window win.0 }
 {
     match table.getbegyx(win) {
         Ok(place) => place,
         Err(_) => (0, 0),
-    }
-}
-
-/// Whether a window's rectangle holds a place of the screen.
-fn holds_place(table: &Grids, win: WinId, y: u16, x: u16) -> bool
-    ensures { result ≡ holds (windows_of table.now).window win.0 y x }
-{
-    match (table.getbegyx(win), table.getmaxyx(win)) {
-        (Ok((top, left)), Ok((lines, columns))) => top <= y
-            && y - top < lines
-            && left <= x
-            && x - left < columns,
-        _ => false,
     }
 }

@@ -1,0 +1,43 @@
+//! A part of a window's line, put into a picture.
+
+ghost use Rattle.std.specs.Prelude.{◌≡◌, ◌<◌, ◌≤◌, ◌+◌, ◌-◌, ◌==◌, ◌&&◌, ℕ, if◌then◌else◌, nat_le, nat_lt};
+ghost use Rattle.cell.specs.Pictures.{HasSize, shown_at};
+ghost use Rattle.cell.specs.Shown.{shown};
+ghost use Rattle.world.specs.Windows.{HasPlace, cell_at};
+ghost use Rattle.grids.specs.Tables.{windows as windows_of};
+
+use cell::{Grid, Pairs, Shown, WinId};
+use grids::Grids;
+
+/// A line and a column of a window.
+#[derive(Clone, Copy)]
+pub struct Source {
+    pub win: WinId,
+    pub line: u16,
+    pub column: u16,
+}
+
+/// Puts so many cells of a line of a window, from a place of it on, into line `y` of a picture from column `x` on.
+pub fn show_piece(
+    table: &Grids,
+    pairs: &Pairs,
+    source: Source,
+    n: u16,
+    y: u16,
+    x: u16,
+    picture: &mut Grid<Shown>,
+)
+    requires some { 0 < n }
+    requires from { HasPlace (windows_of table.now).window source.win.0 source.line (source.column + n - 1) }
+    requires line { y < table.now.lines }
+    requires columns { x + n ≤ table.now.columns }
+    requires size { HasSize table.now.lines table.now.columns picture.old }
+    ensures shown { (v u : ℕ) → shown_at picture.new (v, u) ≡ (if (v == y) && (nat_le x u && nat_lt u (x + n)) then shown pairs.now (cell_at (windows_of table.now).window source.win.0 source.line (source.column + (u - x))) else shown_at picture.old (v, u)) }
+    ensures size { HasSize table.now.lines table.now.columns picture.new }
+{
+    let cells = table.row(source.win, source.line);
+    for k in 0..n {
+        let cell = cells[usize::from(source.column + k)];
+        picture.set(usize::from(y), usize::from(x + k), pairs.shown(cell));
+    }
+}
