@@ -2,3 +2,4 @@ pub mod GridLemmas
 pub mod PictureLemmas
 pub mod Fills
 pub mod Pieces
+pub mod Clearing

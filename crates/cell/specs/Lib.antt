@@ -3,5 +3,6 @@ pub mod Attributes
 pub mod Glyphs
 pub mod Shown
 pub mod Pictures
+pub mod Differences
 pub mod Grids
 pub mod Refusals

@@ -1,6 +1,6 @@
 //! A grid of cells: what a window holds, or what a screen or a terminal shows.
 
-ghost use Rattle.std.specs.Prelude.{◌≡◌, ◌≤◌, ◌<◌, ◌==◌, ◌&&◌, ℕ, ◌+◌, ◌-◌, nat_le, nat_lt, if◌then◌else◌, length, slice_index_or, IfOk, true};
+ghost use Rattle.std.specs.Prelude.{◌≡◌, ◌≤◌, ◌<◌, ◌==◌, ◌&&◌, ℕ, ◌+◌, ◌-◌, nat_le, nat_lt, if◌then◌else◌, length, replicate, slice_index_or, IfOk, true};
 ghost use Rattle.std.specs.List.{AllByRecursion, splice};
 ghost use Rattle.cell.specs.Glyphs.{blank, IsCell};
 ghost use Rattle.cell.specs.Shown.{shown_blank, IsShown};
@@ -150,12 +150,30 @@ impl<T: Element> Grid<T> {
         put_piece(&mut self.cells, y * self.columns + x, cells);
     }
 
+    /// Puts blanks everywhere.
+    pub fn clear(&mut self)
+        ensures { (lines columns : ℕ) → HasSize lines columns self.old → self.new ≡ all_of T.blank lines columns }
+    {
+        let blank = T::blank();
+        prove!(blank.is_sound());
+        fill_cells(&mut self.cells, blank);
+    }
+
     /// Takes over all cells of a grid of the same size.
     pub fn copy_from(&mut self, other: &Grid<T>)
         requires { size_of self.old ≡ size_of other.now }
         ensures { self.new ≡ other.now }
     {
         self.cells.copy_from_slice(&other.cells);
+    }
+}
+
+/// Puts one cell everywhere.
+fn fill_cells<T: Copy>(cells: &mut Vec<T>, cell: T)
+    ensures { cells.new.items ≡ replicate (length cells.old.items) cell }
+{
+    for x in 0..cells.len() {
+        cells[x] = cell;
     }
 }
 

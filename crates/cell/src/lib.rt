@@ -5,6 +5,7 @@
 mod attr;
 mod cell;
 mod colour;
+mod difference;
 mod grid;
 mod limits;
 mod refusal;
@@ -14,6 +15,7 @@ mod window;
 pub use attr::Attr;
 pub use cell::{Cell, is_printable};
 pub use colour::{Colour, ColourPair, PairId, Pairs};
+pub use difference::{first_diff, last_diff};
 pub use grid::{Element, Grid};
 pub use limits::{
     FIRST_CHARACTER, LARGEST_PAD, LARGEST_SCREEN, LAST_CHARACTER, LAST_COLOUR, LAST_PAIR,
