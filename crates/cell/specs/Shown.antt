@@ -1,7 +1,7 @@
 -- What is seen of a cell: its character, printed with a rendition.
 -- ECMA-48, 5th edition, 8.3.117 SGR ("graphic rendition": attributes, and the colours of display and background); X/Open Curses
 -- Issue 7, init_pair (a colour pair is a foreground and a background).
-use Rattle.std.specs.Prelude.{ℕ, ◌+◌, Bool, ◌&&◌, ◌==◌, ◌≤◌, ◌<◌, ⊤, MatchOption, Option, None, is_none, List, length, replicate, slice_index_or, ◌≡◌}
+use Rattle.std.specs.Prelude.{ℕ, ◌+◌, Bool, not, ◌&&◌, ◌==◌, ◌≤◌, ◌<◌, ⊤, MatchOption, Option, None, is_none, List, length, replicate, slice_index_or, ◌≡◌}
 use Rattle.std.specs.List.{AllByRecursion}
 use Rattle.cell.specs.Glyphs.{Glyph}
 use Rattle.cell.specs.declared.limits.TheConstants.{FIRST_CHARACTER, LAST_CHARACTER, LAST_COLOUR, LAST_PAIR}
@@ -20,6 +20,10 @@ no_rendition = record { attributes = 0; foreground = None; background = None }
 
 abbrev pub is_empty : Rendition → Bool
 is_empty rendition = rendition.attributes == 0 && (is_none rendition.foreground && is_none rendition.background)
+
+-- a foreground or a background other than the default
+abbrev pub has_colour : Rendition → Bool
+has_colour rendition = not (is_none rendition.foreground && is_none rendition.background)
 
 -- the default colour, or one of the eight
 abbrev pub IsColour : Option ℕ → Type 0

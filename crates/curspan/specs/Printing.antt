@@ -1,17 +1,13 @@
 -- How the program prints a picture. The form is Curspan's own.
-use Rattle.std.specs.Prelude.{ℕ, ◌+◌, Bool, not, ◌&&◌, is_none, ◌==◌, if◌then◌else◌, List, [], ◌∷◌, ◌++◌, Option, Some, None, codes, decimal, map}
+use Rattle.std.specs.Prelude.{ℕ, ◌+◌, Bool, not, ◌==◌, if◌then◌else◌, List, [], ◌∷◌, ◌++◌, Option, Some, None, codes, decimal, map}
 use Rattle.std.specs.List.{flat_map, list_any}
 use Rattle.cell.specs.Attributes.{hex_digits}
 use Rattle.std.specs.Option.{option_map_or}
-use Rattle.cell.specs.Shown.{Rendition, Shown}
+use Rattle.cell.specs.Shown.{Rendition, Shown, has_colour}
 use Rattle.cell.specs.Pictures.{Picture, Place}
 
 abbrev pub has_attributes : Shown → Bool
 has_attributes cell = not (cell.rendition.attributes == 0)
-
--- a foreground or a background other than the default
-abbrev pub has_colour : Rendition → Bool
-has_colour rendition = not (is_none rendition.foreground && is_none rendition.background)
 
 -- the digit of a colour, or a minus for the default
 abbrev pub sign : Option ℕ → ℕ

@@ -4,7 +4,8 @@ ghost use Rattle.std.specs.Prelude.{◌≡◌, ◌≤◌, ◌+◌, ◌*◌, ◌+
 ghost use Rattle.std.specs.List.{flat_map, list_any};
 ghost use Rattle.std.specs.Io.KnownBytes.{Appends};
 ghost use Rattle.streams.specs.Counts.{counted};
-ghost use Rattle.curspan.specs.Printing.{attributes_text, characters_text, colours_text, cursor_text, has_attributes, has_colour, line_text, printed_picture, rendition_text, sign, signs};
+ghost use Rattle.cell.specs.Shown.{has_colour};
+ghost use Rattle.curspan.specs.Printing.{attributes_text, characters_text, colours_text, cursor_text, has_attributes, line_text, printed_picture, rendition_text, sign, signs};
 ghost use Rattle.curspan.specs.Written.{TakesFront, WritingEnds};
 
 use crate::put::put;

@@ -116,6 +116,14 @@ LeadsWithBreaks-append stream more t u v h k = record {
   have_effect = effects-then h.items k.items t u v h.have_effect k.have_effect;
 }
 
+-- what is in the profile goes on from a stream whose last item is finished
+pub LeadsWithBreaks-in_profile_then : (stream more : List ℕ) (t u v : Terminal) → LeadsWithBreaks stream t u → IsInProfile more u v → IsInProfile (stream ++ more) t v
+LeadsWithBreaks-in_profile_then stream more t u v h k = record {
+  items = h.items ++ k.items;
+  splits = Splits-append (stream ++ more) h.items more k.items [] (Splits-ends_then stream h.items more h.splits h.ends_finished) k.splits;
+  have_effect = effects-then h.items k.items t u v h.have_effect k.have_effect;
+}
+
 -- ---- repair: what begins with an escape goes on from anything that is in the profile
 
 no_rest : (rest : List ℕ) (n : ℕ) → n + length rest ≡ n → rest ≡ []

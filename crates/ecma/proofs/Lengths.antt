@@ -1,10 +1,10 @@
 -- How many bytes a token has.
 use Rattle.std.proofs.Common.{◌≡◌, ℕ, ◌+◌, ◌*◌, ◌<◌, ◌≤◌, List, [], ◌∷◌, ◌++◌, length, ap, ◌∙◌, arith, length-append}
-use Rattle.std.specs.Prelude.{decimal, Option, Some, None}
+use Rattle.std.specs.Prelude.{decimal, if◌then◌else◌, Option, Some, None}
 use Rattle.std.specs.List.{AllByRecursion}
 use Rattle.std.proofs.lemmas.List.Concat.{flat_map-append}
 use Rattle.std.proofs.lemmas.Fmt.{length-decimal-le}
-use Rattle.cell.specs.Shown.{Rendition, IsColour, IsRendition}
+use Rattle.cell.specs.Shown.{Rendition, IsColour, IsRendition, has_colour}
 use Rattle.cell.specs.declared.limits.TheConstants.{LARGEST_SCREEN, LAST_COLOUR}
 use Rattle.ecma.specs.declared.token.Erase.{Erase}
 use Rattle.ecma.specs.declared.token.Erase.TheVariants.{ToEnd, FromStart, All}
@@ -65,6 +65,50 @@ length-sgr rendition h =
       few_attributes rendition.attributes h.of_the_six,
       length-colour first_foreground rendition.foreground (omega arith) h.foreground,
       length-colour first_background rendition.background (omega arith) h.background,
+    )
+
+-- a separator and two digits for each colour that isn't the default
+abbrev colour_room : Option ℕ → ℕ
+colour_room None = 0
+colour_room (Some number) = 3
+
+length-colour_room : (first : ℕ) (colour : Option ℕ) → first ≤ 40 → IsColour colour → length (selection (code_of_colour first colour)) ≤ colour_room colour
+length-colour_room first None few h = omega arith
+length-colour_room first (Some number) few h =
+    omega (arith, length-append (59 ∷ decimal (first + number)) [], length-decimal-le 2 (first + number) (omega arith) (omega arith) (omega arith))
+
+colours_room : (rendition : Rendition) → colour_room rendition.foreground + colour_room rendition.background ≤ (if has_colour rendition then 6 else 0)
+colours_room rendition =
+    elim rendition.foreground as (λ a. colour_room a + colour_room rendition.background ≤ (if has_colour (record rendition { foreground = a }) then 6 else 0)) [
+      | None ↦ elim rendition.background as (λ b. 0 + colour_room b ≤ (if has_colour (record rendition { foreground = None; background = b }) then 6 else 0)) [
+          | None ↦ omega arith
+          | Some b ↦ omega arith
+        ]
+      | Some a ↦ elim rendition.background as (λ b. 3 + colour_room b ≤ (if has_colour (record rendition { foreground = Some a; background = b }) then 6 else 0)) [
+          | None ↦ omega arith
+          | Some b ↦ omega arith
+        ]
+    ]
+
+-- a selection has at most 16 bytes, and 6 more where there is a colour
+pub length-selection : (rendition : Rendition) → IsRendition rendition → length (spelling (Sgr rendition)) ≤ 16 + (if has_colour rendition then 6 else 0)
+unfolding spelling
+length-selection rendition h =
+    let attributes = codes_of_attributes rendition.attributes in
+    let foreground = code_of_colour first_foreground rendition.foreground in
+    let background = code_of_colour first_background rendition.background in
+    let whole : length (selection (codes_of rendition)) ≡ length (selection attributes) + length (selection foreground) + length (selection background) =
+    ap (length {A = ℕ}) (selection-codes_of rendition)
+    ∙ omega (arith, length-append (selection attributes ++ selection foreground) (selection background), length-append (selection attributes) (selection foreground)) in
+    omega (
+      arith,
+      whole,
+      length-append (selection (codes_of rendition)) (109 ∷ []),
+      length-codes attributes (one_digit rendition.attributes h.of_the_six),
+      few_attributes rendition.attributes h.of_the_six,
+      length-colour_room first_foreground rendition.foreground (omega arith) h.foreground,
+      length-colour_room first_background rendition.background (omega arith) h.background,
+      colours_room rendition,
     )
 
 length-erasing : (how : Erase) → length (erasure_spelling how) ≤ 1

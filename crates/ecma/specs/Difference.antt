@@ -1,7 +1,7 @@
 -- In how many places two pictures of one size differ, a measure of our own.
 use Rattle.std.specs.Prelude.{ℕ, ◌+◌, ◌==◌, ◌&&◌, if◌then◌else◌, Bool, [], ◌∷◌, List, Option}
 use Rattle.std.specs.Option.{option_eq}
-use Rattle.cell.specs.Shown.{Rendition, Shown}
+use Rattle.cell.specs.Shown.{Rendition, Shown, has_colour}
 use Rattle.cell.specs.Pictures.{Picture}
 
 abbrev pub same_colour : Option ℕ → Option ℕ → Bool
@@ -23,3 +23,14 @@ abbrev pub difference : Picture → Picture → ℕ
 difference [] new = 0
 difference (line ∷ old) [] = 0
 difference (line ∷ old) (other ∷ new) = line_difference line other + difference old new
+
+-- in how many columns two lines differ where the new one has a colour
+abbrev pub line_colour_difference : List Shown → List Shown → ℕ
+line_colour_difference [] new = 0
+line_colour_difference (a ∷ old) [] = 0
+line_colour_difference (a ∷ old) (b ∷ new) = (if same_shown a b then 0 else if has_colour b.rendition then 1 else 0) + line_colour_difference old new
+
+abbrev pub colour_difference : Picture → Picture → ℕ
+colour_difference [] new = 0
+colour_difference (line ∷ old) [] = 0
+colour_difference (line ∷ old) (other ∷ new) = line_colour_difference line other + colour_difference old new

@@ -1,7 +1,8 @@
 use Rattle.std.proofs.Common.{[], ◌∷◌, codes}
 use Rattle.std.specs.Prelude.{if◌then◌else◌}
 use Rattle.cell.specs.Attributes.{hex_digits}
-use Rattle.curspan.specs.Printing.{has_colour, signs}
+use Rattle.cell.specs.Shown.{has_colour}
+use Rattle.curspan.specs.Printing.{signs}
 use Rattle.curspan.proofs.PrintLemmas.{joined}
 use Rattle.curspan.proofs.printing.append_rendition.Goals as goal
 
