@@ -1,37 +1,66 @@
--- What was sent before a text that clears doesn't matter: the stream agrees with the painter after each doupdate.
-use Rattle.std.proofs.Common.{◌≡◌, Bool, ℕ, zero, suc, ◌<◌, ◌≤◌, List, [], ◌++◌, length, take, Some, None, refl, arith}
+-- The text of a doupdate behind a stream that agrees with the painter: behind one that clears doesn't matter what was sent before.
+use Rattle.std.proofs.Common.{◌≡◌, Bool, true, false, ℕ, zero, suc, ◌<◌, ◌≤◌, List, [], ◌++◌, length, take, Option, Some, None, refl, arith}
+use Rattle.std.specs.Prelude.{⊤, MatchOption}
 use Rattle.std.proofs.lemmas.Option.{MatchOption-from_none}
 use Rattle.cell.specs.Pictures.{HasSize}
 use Rattle.ecma.specs.Items.{EndsOrEscapes}
 use Rattle.ecma.specs.Terminals.{Terminal}
-use Rattle.ecma.specs.Streams.{IsInProfile, LeadsWithBreaks, showing}
+use Rattle.ecma.specs.Streams.{IsInProfile, LeadsWithBreaks, Shows, showing}
 use Rattle.ecma.proofs.Sizes.{size-effects}
-use Rattle.ecma.proofs.Joining.{Leads-repairs, Leads-take, InProfile-append, LeadsWithBreaks-in_profile}
-use Rattle.paint.specs.Updates.{PainterState, ShownPicture, BeginsWithOpening, IsUpdateText, Agrees}
+use Rattle.ecma.proofs.Joining.{Leads-repairs, Leads-take, InProfile-append, LeadsWithBreaks-append, LeadsWithBreaks-in_profile, LeadsWithBreaks-in_profile_then}
+use Rattle.paint.specs.Updates.{PainterState, ShownPicture, IsUpdateText, MayRead, Agrees, known, opening, opening_from}
 
-escape-first : (text : List ℕ) → BeginsWithOpening text → EndsOrEscapes text
-escape-first text h = rw h.1 refl
+-- ---- a text that begins with the opening
 
-escape-take : (n : ℕ) (text : List ℕ) → BeginsWithOpening text → EndsOrEscapes (take n text)
-escape-take zero text h = tt
-escape-take (suc n) text h = rw h.1 refl
+escape-take : (n : ℕ) (rest : List ℕ) → EndsOrEscapes (take n (opening ++ rest))
+escape-take zero rest = tt
+escape-take (suc n) rest = refl
 
-text-some : (text : List ℕ) → BeginsWithOpening text → 0 < length text
-text-some text h = rw h.1 (omega arith)
+text-some : (rest : List ℕ) → 0 < length (opening ++ rest)
+text-some rest = omega arith
 
--- ---- after any stream in the profile
+-- ---- what is known when a doupdate begins
 
-pub repaired : (painter : PainterState) (clear : Bool) (wanted : ShownPicture) (before text : List ℕ) (t u : Terminal) → HasSize painter.lines painter.columns t.picture → IsInProfile before t u
-    → IsUpdateText painter clear wanted text → LeadsWithBreaks (before ++ text) t (showing wanted.picture wanted.cursor)
-repaired painter clear wanted before text t u size profile is_text =
-    Leads-repairs before text t u (showing wanted.picture wanted.cursor) profile (is_text.shows u (size-effects painter.lines painter.columns profile.items t u size profile.have_effect))
-    (text-some text is_text.begins) (escape-first text is_text.begins)
+-- the terminal shows what the painter knows
+abbrev pub IsKnown : Option ShownPicture → Terminal → Type 0
+IsKnown last t = MatchOption last ⊤ (λ shown. t ≡ showing shown.picture shown.cursor)
 
-pub broken : (painter : PainterState) (clear : Bool) (sent : ℕ) (wanted : ShownPicture) (before text : List ℕ) (t u : Terminal) → HasSize painter.lines painter.columns t.picture → IsInProfile before t u
-    → IsUpdateText painter clear wanted text → (v : Terminal) × IsInProfile (before ++ take sent text) t v
-broken painter clear sent wanted before text t u size profile is_text =
-    let cut = Leads-take text u (showing wanted.picture wanted.cursor) sent (is_text.shows u (size-effects painter.lines painter.columns profile.items t u size profile.have_effect)) in
-    (cut.0, InProfile-append before (take sent text) t u cut.0 profile cut.1 (escape-take sent text is_text.begins))
+abbrev LeadsTo : List ℕ → Terminal → Option ShownPicture → Type 0
+LeadsTo stream t last = MatchOption last ⊤ (λ shown. LeadsWithBreaks stream t (showing shown.picture shown.cursor))
+
+known-leads : (painter : PainterState) (clear : Bool) (stream : List ℕ) (t : Terminal) → Agrees painter stream t → LeadsTo stream t (known painter clear)
+known-leads painter true stream t agrees = tt
+known-leads painter false stream t agrees = agrees.leads
+
+may-read : (painter : PainterState) (last : Option ShownPicture) (t : Terminal) → HasSize painter.lines painter.columns t.picture → IsKnown last t → MayRead painter last t
+may-read painter None t size is = size
+may-read painter (Some shown) t size is = is
+
+-- a terminal of the size that shows what the painter knows may read its text
+pub reads-known : (painter : PainterState) (clear : Bool) (t : Terminal) → HasSize painter.lines painter.columns t.picture → IsKnown painter.last t → MayRead painter (known painter clear) t
+reads-known painter true t size is = size
+reads-known painter false t size is = may-read painter painter.last t size is
+
+-- ---- behind a stream
+
+module _ (painter : PainterState) (wanted : ShownPicture) (stream rest : List ℕ) (t u : Terminal) (size : HasSize painter.lines painter.columns t.picture) (profile : IsInProfile stream t u) where
+  u-size : HasSize painter.lines painter.columns u.picture
+  u-size = size-effects painter.lines painter.columns profile.items t u size profile.have_effect
+
+  behind : (last : Option ShownPicture) → LeadsTo stream t last → ((v : Terminal) → MayRead painter last v → Shows (opening_from last ++ rest) v wanted.picture wanted.cursor)
+      → LeadsWithBreaks (stream ++ (opening_from last ++ rest)) t (showing wanted.picture wanted.cursor)
+  behind None leads shows = Leads-repairs stream (opening ++ rest) t u (showing wanted.picture wanted.cursor) profile (shows u u-size) (text-some rest) refl
+  behind (Some shown) leads shows =
+      LeadsWithBreaks-append stream rest t (showing shown.picture shown.cursor) (showing wanted.picture wanted.cursor) leads (shows (showing shown.picture shown.cursor) refl)
+
+  cut : (last : Option ShownPicture) (sent : ℕ) → LeadsTo stream t last → ((v : Terminal) → MayRead painter last v → Shows (opening_from last ++ rest) v wanted.picture wanted.cursor)
+      → (v : Terminal) × IsInProfile (stream ++ take sent (opening_from last ++ rest)) t v
+  cut None sent leads shows =
+      let part = Leads-take (opening ++ rest) u (showing wanted.picture wanted.cursor) sent (shows u u-size) in
+      (part.0, InProfile-append stream (take sent (opening ++ rest)) t u part.0 profile part.1 (escape-take sent rest))
+  cut (Some shown) sent leads shows =
+      let part = Leads-take rest (showing shown.picture shown.cursor) (showing wanted.picture wanted.cursor) sent (shows (showing shown.picture shown.cursor) refl) in
+      (part.0, LeadsWithBreaks-in_profile_then stream (take sent rest) t (showing shown.picture shown.cursor) part.0 leads part.1)
 
 -- ---- a painter's streams
 
@@ -43,7 +72,9 @@ Agrees-unknown painter none stream t u profile = record { in_profile = (u, profi
 
 pub shows-update : (painter : PainterState) (clear : Bool) (wanted : ShownPicture) (stream text : List ℕ) (t : Terminal) → HasSize painter.lines painter.columns t.picture → Agrees painter stream t
     → IsUpdateText painter clear wanted text → LeadsWithBreaks (stream ++ text) t (showing wanted.picture wanted.cursor)
-shows-update painter clear wanted stream text t size agrees is_text = repaired painter clear wanted stream text t agrees.in_profile.0 size agrees.in_profile.1 is_text
+shows-update painter clear wanted stream text t size agrees is_text =
+    rw is_text.parts (behind painter wanted stream is_text.rest t agrees.in_profile.0 size agrees.in_profile.1 (known painter clear) (known-leads painter clear stream t agrees)
+    (rw is_text.parts at is_text.shows))
 
 pub Agrees-update : (painter : PainterState) (clear : Bool) (wanted : ShownPicture) (stream text : List ℕ) (t : Terminal) → HasSize painter.lines painter.columns t.picture → Agrees painter stream t
     → IsUpdateText painter clear wanted text → Agrees (record painter { last = Some wanted }) (stream ++ text) t
@@ -54,6 +85,7 @@ Agrees-update painter clear wanted stream text t size agrees is_text =
 pub Agrees-fault : (painter : PainterState) (clear : Bool) (wanted : ShownPicture) (stream text : List ℕ) (sent : ℕ) (t : Terminal) → HasSize painter.lines painter.columns t.picture → Agrees painter stream t
     → IsUpdateText painter clear wanted text → sent ≤ length text → Agrees (record painter { last = None }) (stream ++ take sent text) t
 Agrees-fault painter clear wanted stream text sent t size agrees is_text within = record {
-  in_profile = broken painter clear sent wanted stream text t agrees.in_profile.0 size agrees.in_profile.1 is_text;
+  in_profile = rw is_text.parts (cut painter wanted stream is_text.rest t agrees.in_profile.0 size agrees.in_profile.1 (known painter clear) sent (known-leads painter clear stream t agrees)
+      (rw is_text.parts at is_text.shows));
   leads = tt;
 }

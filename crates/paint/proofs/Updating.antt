@@ -1,5 +1,5 @@
 -- What a text that was sent means for a painter.
-use Rattle.std.proofs.Common.{◌≡◌, Bool, ℕ, length, true, List, Ok, Err, sym, ap, ◌∙◌, arith}
+use Rattle.std.proofs.Common.{◌≡◌, Bool, ℕ, true, List, Ok, Err, sym, ap, ◌∙◌, arith}
 use Rattle.std.specs.Io.KnownBytes.{Keeps}
 use Rattle.std.proofs.lemmas.List.{take_all}
 use Rattle.streams.specs.declared.sending.WriteFault.{WriteFault}
@@ -44,31 +44,3 @@ module _ {painter : PainterState} {clear : Bool} {wanted : ShownPicture} {text :
         failure = h.ends.4;
         flushes = h.flushes ∙ sym (cut-unflushed fault.sent text old.flushes (omega (arith, h.ends.1)));
       }
-
--- A text of a painter is one of each painter of terminals of that size.
-IsUpdateText-known : (painter other : PainterState) (clear : Bool) (wanted : ShownPicture) (text : List ℕ) → other.lines ≡ painter.lines → other.columns ≡ painter.columns
-    → IsUpdateText painter clear wanted text → IsUpdateText other clear wanted text
-IsUpdateText-known painter other clear wanted text lines columns h = record { begins = h.begins; shows = rw (lines, columns) h.shows }
-
-pub Updates-known : (painter other : PainterState) (clear : Bool) (old new : Seen) (wanted : ShownPicture) (bytes : ℕ) → other.lines ≡ painter.lines → other.columns ≡ painter.columns
-    → Updates painter clear old new wanted bytes → Updates other clear old new wanted bytes
-Updates-known painter other clear old new wanted bytes lines columns h = record {
-  text = h.text;
-  is_text = IsUpdateText-known painter other clear wanted h.text lines columns h.is_text;
-  count = h.count;
-  taken = h.taken;
-  no_failure = h.no_failure;
-  flushes = h.flushes;
-  flushed = h.flushed;
-}
-
-pub BreaksOff-known : (painter other : PainterState) (clear : Bool) (old new : Seen) (wanted : ShownPicture) (sent : ℕ) → other.lines ≡ painter.lines → other.columns ≡ painter.columns
-    → BreaksOff painter clear old new wanted sent → BreaksOff other clear old new wanted sent
-BreaksOff-known painter other clear old new wanted sent lines columns h = record {
-  text = h.text;
-  is_text = IsUpdateText-known painter other clear wanted h.text lines columns h.is_text;
-  within = h.within;
-  taken = h.taken;
-  failure = h.failure;
-  flushes = h.flushes;
-}

@@ -1,9 +1,12 @@
 -- What a doupdate sends, what it leaves of the painter, and which streams agree with a painter.
 -- X/Open Curses Issue 7: doupdate, clearok.
-use Rattle.std.specs.Prelude.{◌≡◌, ℕ, ◌≤◌, ◌==◌, List, ◌∷◌, ◌++◌, Bool, true, length, take, codes, Option, Some, None, ⊤, MatchOption, if◌then◌else◌}
+use Rattle.std.specs.Prelude.{◌≡◌, ℕ, ◌+◌, ◌*◌, ◌≤◌, ◌==◌, ◌&&◌, List, [], ◌∷◌, ◌++◌, Bool, true, length, take, codes, Option, Some, None, ⊤, MatchOption, if◌then◌else◌}
 use Rattle.std.specs.Io.KnownBytes.{Appends}
 use Rattle.cell.specs.Pictures.{Picture, Place, HasSize, blank_picture, origin}
+use Rattle.ecma.specs.declared.token.Token.TheVariants.{Cup}
+use Rattle.ecma.specs.Difference.{difference, colour_difference}
 use Rattle.ecma.specs.Items.{escape}
+use Rattle.ecma.specs.Spelling.{spelling}
 use Rattle.ecma.specs.Terminals.{Terminal}
 use Rattle.ecma.specs.Streams.{IsInProfile, LeadsWithBreaks, Shows, showing}
 use Rattle.streams.specs.Counts.{counted, next_count}
@@ -26,13 +29,19 @@ first_painter lines columns = record { lines = lines; columns = columns; last = 
 abbrev pub blank_shown : ℕ → ℕ → ShownPicture
 blank_shown lines columns = record { picture = blank_picture lines columns; cursor = origin }
 
--- What the terminal shows where the text, or its part behind the opening, begins. A doupdate that clears, since nothing is known or a
--- clear screen is asked for, begins at a blank picture.
+-- What is known of the terminals when a doupdate begins. It clears where that is nothing: where the painter knows nothing, or a clear screen
+-- is asked for.
+abbrev pub known : PainterState → Bool → Option ShownPicture
+known painter clear = if clear then None else painter.last
+
+-- what the terminals show then, or behind the opening
+abbrev pub start_from : PainterState → Option ShownPicture → ShownPicture
+start_from painter None = blank_shown painter.lines painter.columns
+start_from painter (Some shown) = shown
+
+-- What the terminal shows where the text, or its part behind the opening, begins. A doupdate that clears begins at a blank picture.
 abbrev pub start_of_update : PainterState → Bool → ShownPicture
-start_of_update painter clear = start (if clear then None else painter.last) where
-  start : Option ShownPicture → ShownPicture
-  start None = blank_shown painter.lines painter.columns
-  start (Some shown) = shown
+start_of_update painter clear = start_from painter (known painter clear)
 
 -- ---- texts
 
@@ -40,14 +49,37 @@ start_of_update painter clear = start (if clear then None else painter.last) whe
 abbrev pub opening : List ℕ
 opening = escape ∷ codes "[0m" ++ escape ∷ codes "[2J" ++ escape ∷ codes "[1;1H"
 
-abbrev pub BeginsWithOpening : List ℕ → Type 0
-BeginsWithOpening text = (rest : List ℕ) × (text ≡ opening ++ rest)
+-- the opening, where nothing is known
+abbrev pub opening_from : Option ShownPicture → List ℕ
+opening_from None = opening
+opening_from (Some shown) = []
 
--- The text of a doupdate, whether a clear screen is asked for or not: it clears in either case. It begins with the opening, and read
--- from any terminal of the painter's size, it shows the picture and the cursor.
+-- the terminals that may read the text: all of the size where nothing is known, and those that show what is known
+abbrev pub MayRead : PainterState → Option ShownPicture → Terminal → Type 0
+MayRead painter None t = HasSize painter.lines painter.columns t.picture
+MayRead painter (Some shown) t = t ≡ showing shown.picture shown.cursor
+
+abbrev pub same_place : Place → Place → Bool
+same_place a b = a.0 == b.0 && a.1 == b.1
+
+-- from a cursor to a place: nothing if it is there
+abbrev pub move : Place → Place → List ℕ
+move cursor place = if same_place cursor place then [] else spelling (Cup place.0 place.1)
+
+-- the most bytes of a text: 27 for each changed place, 6 more where the wanted picture has a colour there, 14 to end, and the opening's
+abbrev pub most_bytes : PainterState → Bool → ShownPicture → ℕ
+most_bytes painter clear wanted =
+    let start = (start_of_update painter clear).picture in
+    27 * difference start wanted.picture + 6 * colour_difference start wanted.picture + 14 + length (opening_from (known painter clear))
+
+-- The text of a doupdate, whether a clear screen is asked for or not. It begins with the opening where the doupdate clears, and shows the
+-- picture and the cursor, read from any terminal that may read it. It is short, and where nothing changed it only moves the cursor.
 pub record IsUpdateText (painter : PainterState) (clear : Bool) (wanted : ShownPicture) (text : List ℕ) : Type 0 where
-  pub begins : BeginsWithOpening text
-  pub shows : (t : Terminal) → HasSize painter.lines painter.columns t.picture → Shows text t wanted.picture wanted.cursor
+  pub rest : List ℕ
+  pub parts : text ≡ opening_from (known painter clear) ++ rest
+  pub shows : (t : Terminal) → MayRead painter (known painter clear) t → Shows text t wanted.picture wanted.cursor
+  pub short : length text ≤ most_bytes painter clear wanted
+  pub unchanged : difference (start_of_update painter clear).picture wanted.picture ≡ 0 → rest ≡ move (start_of_update painter clear).cursor wanted.cursor
 
 -- ---- what a doupdate did
 

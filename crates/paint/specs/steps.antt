@@ -1,1 +1,3 @@
-pub mod Plain
+pub mod Gathering
+pub mod Strokes
+pub mod Holding

@@ -2,8 +2,10 @@
 #![tactic(auto)]
 
 pub mod laws;
+mod line;
+mod outbox;
 mod painter;
-mod plain;
+mod pen;
 
 pub use painter::Painter;
 pub use streams::{Counted, Sent, Sink, WriteFault};

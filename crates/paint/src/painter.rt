@@ -1,11 +1,16 @@
 //! A painter: it sends pictures to terminals of one size.
 
-ghost use Rattle.std.specs.Prelude.{◌≡◌, ◌<◌, ◌≤◌, ◌↔◌, ◌⊎◌, ◌||◌, Bool, IfOk, IfErr, IsErrOf, IsTrue, MatchResult, Some, None, is_ok, if◌then◌else◌};
+ghost use Rattle.std.specs.Prelude.{◌≡◌, ℕ, ◌<◌, ◌↔◌, ◌⊎◌, ◌||◌, Bool, IfOk, IfErr, IsErrOf, IsTrue, MatchResult, Some, None, is_ok, if◌then◌else◌};
 ghost use Rattle.cell.specs.Pictures.{HasSize};
 ghost use Rattle.cell.specs.Limits.{is_no_size};
-ghost use Rattle.paint.specs.Updates.{first_painter, Updates, BreaksOff};
+ghost use Rattle.cell.specs.Shown.{no_rendition};
+ghost use Rattle.streams.specs.Sinks.{Seen};
+ghost use Rattle.paint.specs.Updates.{PainterState, ShownPicture, first_painter, opening_from, start_from, Updates, BreaksOff};
+ghost use Rattle.paint.specs.steps.Gathering.{IsGathered};
+ghost use Rattle.paint.specs.steps.Holding.{HoldsUpdate, last_shown};
 
-use crate::plain::send_text;
+use crate::line::paint_picture;
+use crate::pen::Pen;
 use cell::{Grid, LARGEST_SCREEN, Refusal, Shown, is_no_size};
 use std::alloc::Global;
 use std::marker::Model;
@@ -64,9 +69,10 @@ impl Painter {
         self.cursor = None;
     }
 
-    /// Shows a picture of the painter's size, with the cursor at a line and a column, on any terminal of that size:
-    /// it sends one text and flushes once. The text clears the terminal first, whether `clear` asks for it or not. After an
-    /// error what was shown last is unknown.
+    /// Shows a picture of the painter's size, with the cursor at a line and a column: it sends one text and flushes once. Where
+    /// nothing is known of the terminals, or `clear` asks for it, the text clears the terminal first, and may be read by any one
+    /// of the size. Else it is for those that show the last picture, and draws only what differs from that. After an error what
+    /// was shown last is unknown.
     pub fn doupdate<W: Sink>(
         &mut self,
         picture: &Grid<Shown>,
@@ -83,35 +89,77 @@ impl Painter {
         ensures painter { self.new ≡ record self.old { last = (if is_ok result then Some (record { picture = picture.now; cursor = cursor }) else None) } }
         ensures same { W.name sink.new ≡ W.name sink.old }
     {
-        self.invalidate();
-        let sent = send_picture(sink, picture, self.lines, self.columns, cursor)?;
+        let pen = self.draw(picture, cursor, clear, sink);
+        let sent = send_text(pen, sink)?;
         self.picture.copy_from(picture);
         self.cursor = Some(cursor);
         Ok(sent)
     }
+
+    /// Draws what differs from what is known to be shown, which is forgotten, or from a blank picture behind the opening.
+    fn draw<W: Sink>(
+        &mut self,
+        picture: &Grid<Shown>,
+        cursor: (u16, u16),
+        clear: bool,
+        sink: &mut W,
+    ) -> Pen
+        requires size { HasSize self.old.lines self.old.columns picture.now }
+        requires line { cursor.0 < self.old.lines }
+        requires column { cursor.1 < self.old.columns }
+        ensures holds { HoldsUpdate self.old clear (record { picture = picture.now; cursor = cursor }) (W.seen sink.old) (W.seen sink.new) result.outbox }
+        ensures painter { self.new ≡ record self.old { last = None } }
+        ensures same { W.name sink.new ≡ W.name sink.old }
+    {
+        let known = known_cursor(self.cursor, clear);
+        self.cursor = None;
+        let mut pen = begin(sink, self.columns, known, &mut self.picture);
+        paint_picture(&mut pen, sink, self.lines, &self.picture, picture);
+        pen.end(sink, cursor);
+        pen
+    }
 }
 
-/// Sends the text of a picture of this size, and flushes.
-fn send_picture<W: Sink>(
+/// Where the cursor is known to be, unless a clear screen is asked for.
+fn known_cursor(cursor: Option<(u16, u16)>, clear: bool) -> Option<(u16, u16)>
+    ensures { result ≡ (if clear then None else cursor) }
+{
+    if clear { None } else { cursor }
+}
+
+/// Takes up a pen where the cursor is known to be. Where it is not, it clears the terminal, which shows a blank picture then.
+fn begin<W: Sink>(
     sink: &mut W,
-    picture: &Grid<Shown>,
-    lines: u16,
     columns: u16,
-    cursor: (u16, u16),
-) -> Result<Sent, WriteFault>
-    requires few_lines { lines ≤ LARGEST_SCREEN }
-    requires few_columns { columns ≤ LARGEST_SCREEN }
-    requires size { HasSize lines columns picture.now }
-    requires line { cursor.0 < lines }
-    requires column { cursor.1 < columns }
-    ensures text { (clear : Bool) → MatchResult result
-        (λ sent. Updates (first_painter lines columns) clear (W.seen sink.old) (W.seen sink.new) (record { picture = picture.now; cursor = cursor }) sent.bytes)
-        (λ fault. BreaksOff (first_painter lines columns) clear (W.seen sink.old) (W.seen sink.new) (record { picture = picture.now; cursor = cursor }) fault.sent) }
+    known: Option<(u16, u16)>,
+    shown: &mut Grid<Shown>,
+) -> Pen
+    ensures gathered { IsGathered (W.seen sink.old) (W.seen sink.new) result.outbox (opening_from (last_shown shown.old known)) }
+    ensures cursor { (painter : PainterState) → result.cursor ≡ Some (start_from painter (last_shown shown.old known)).cursor }
+    ensures picture { (painter : PainterState) → HasSize painter.lines painter.columns shown.old → shown.new ≡ (start_from painter (last_shown shown.old known)).picture }
+    ensures size { (lines : ℕ) → HasSize lines columns shown.old → HasSize lines columns shown.new }
+    ensures rendition { result.rendition ≡ no_rendition }
+    ensures columns { result.columns ≡ columns }
     ensures same { W.name sink.new ≡ W.name sink.old }
 {
-    // Reading a line tells the proof that each cell can be printed.
-    prove!(picture.row(0).len() == usize::from(columns));
-    let sent = send_text(sink, picture, lines, cursor)?;
+    match known {
+        Some(cursor) => Pen::new(columns, cursor),
+        None => {
+            shown.clear();
+            let mut pen = Pen::new(columns, (0, 0));
+            pen.open(sink);
+            pen
+        }
+    }
+}
+
+/// Sends what is left of a text, and flushes.
+fn send_text<W: Sink>(pen: Pen, sink: &mut W) -> Result<Sent, WriteFault>
+    ensures text { (painter : PainterState) (clear : Bool) (wanted : ShownPicture) (start : Seen) → HoldsUpdate painter clear wanted start (W.seen sink.old) pen.outbox
+        → MatchResult result (λ sent. Updates painter clear start (W.seen sink.new) wanted sent.bytes) (λ fault. BreaksOff painter clear start (W.seen sink.new) wanted fault.sent) }
+    ensures same { W.name sink.new ≡ W.name sink.old }
+{
+    let sent = pen.finish(sink)?;
     match sink.flush() {
         Ok(()) => Ok(Sent { bytes: sent }),
         Err(_) => Err(WriteFault { sent }),

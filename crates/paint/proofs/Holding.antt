@@ -1,0 +1,181 @@
+-- The strokes of a doupdate make a text of it.
+use Rattle.std.proofs.Common.{◌≡◌, Bool, true, false, ℕ, ◌*◌, ◌<◌, ◌≤◌, List, [], ◌∷◌, ◌++◌, length, Option, Some, None, refl, sym, ap, ◌∙◌, subst, inl, inr, arith, append_assoc, length-append}
+use Rattle.std.specs.Prelude.{if◌then◌else◌}
+use Rattle.std.specs.Fmt.{digits}
+use Rattle.std.specs.List.{AllByRecursion}
+use Rattle.std.proofs.lemmas.Bool.{cases_Bool}
+use Rattle.std.proofs.lemmas.List.{nil_from_length}
+use Rattle.cell.specs.Shown.{Shown, Rendition, no_rendition, has_colour}
+use Rattle.cell.specs.Pictures.{Picture, Place, HasSize, line_of}
+use Rattle.cell.proofs.PictureLemmas.{length-line}
+use Rattle.ecma.specs.Difference.{same_rendition, same_shown, line_difference, line_colour_difference, difference, colour_difference}
+use Rattle.ecma.specs.Spelling.{spelling, codes_of_attributes}
+use Rattle.ecma.specs.Streams.{Leads, Shows, showing}
+use Rattle.ecma.specs.Terminals.{Terminal}
+use Rattle.ecma.specs.declared.token.Token.TheVariants.{Sgr}
+use Rattle.ecma.proofs.Joining.{Leads-append, Leads-in_profile, Reaches-in_profile}
+use Rattle.ecma.proofs.Leading.{Leads-nothing}
+use Rattle.ecma.proofs.Failing.{Reaches-unique}
+use Rattle.streams.specs.Sinks.{Seen}
+use Rattle.paint.specs.declared.pen.Pen.{Pen}
+use Rattle.paint.specs.Updates.{PainterState, ShownPicture, IsUpdateText, MayRead, known, move, opening, opening_from, start_from, start_of_update}
+use Rattle.paint.specs.steps.Gathering.{IsGathered}
+use Rattle.paint.specs.steps.Holding.{HoldsUpdate, last_shown}
+use Rattle.paint.specs.steps.Strokes.{change, move_from, under, Draws, Strokes, picture_bytes}
+use Rattle.paint.proofs.Shows.{opening-leads}
+use Rattle.paint.proofs.Strokes.{change-same, change-other, length-move}
+use Rattle.cell.specs.declared.limits.TheConstants.{LARGEST_SCREEN}
+
+-- ---- an empty text
+
+-- it leads nowhere else
+Leads-empty : (t u : Terminal) → Leads [] t u → t ≡ u
+Leads-empty t u h = Reaches-unique [] 0 t t u (Reaches-in_profile [] t t (Leads-in_profile [] t t (Leads-nothing t))) (Reaches-in_profile [] t u (Leads-in_profile [] t u h))
+
+-- ---- how many places differ
+
+coloured-few : (b c : Bool) → (if b then 0 else if c then 1 else 0) ≤ (if b then 0 else 1)
+coloured-few true c = omega arith
+coloured-few false true = omega arith
+coloured-few false false = omega arith
+
+line-coloured : (old new : List Shown) → line_colour_difference old new ≤ line_difference old new
+line-coloured [] new = omega arith
+line-coloured (a ∷ old) [] = omega arith
+line-coloured (a ∷ old) (b ∷ new) = omega (arith, coloured-few (same_shown a b) (has_colour b.rendition), line-coloured old new)
+
+coloured : (old new : Picture) → colour_difference old new ≤ difference old new
+coloured [] new = omega arith
+coloured (line ∷ old) [] = omega arith
+coloured (line ∷ old) (other ∷ new) = omega (arith, line-coloured line other, coloured old new)
+
+one-most : (b : Bool) → (if b then 0 else 1) ≤ 1
+one-most true = omega arith
+one-most false = omega arith
+
+line-most : (old new : List Shown) → line_difference old new ≤ length old
+line-most [] new = omega arith
+line-most (a ∷ old) [] = omega arith
+line-most (a ∷ old) (b ∷ new) = omega (arith, one-most (same_shown a b), line-most old new)
+
+most : (columns : ℕ) (old new : Picture) → columns ≤ LARGEST_SCREEN → AllByRecursion (λ line. length line ≡ columns) old → difference old new ≤ LARGEST_SCREEN * length old
+most columns [] new few wide = omega arith
+most columns (line ∷ old) [] few wide = omega arith
+most columns (line ∷ old) (other ∷ new) few wide = omega (arith, line-most line other, wide.0, most columns old new few wide.1)
+
+-- ---- the end of a text
+
+four : length (spelling (Sgr no_rendition)) ≡ 4
+unfolding spelling codes_of_attributes digits
+four = refl
+
+length-ended : (old : Rendition) → length (change old no_rendition) ≤ 4
+length-ended old = elim (cases_Bool (same_rendition no_rendition old)) [
+  | inl same ↦ rw (change-same old no_rendition same) (omega arith)
+  | inr other ↦ rw (change-other old no_rendition other) (omega (arith, four))
+]
+
+opening-few : (last : Option ShownPicture) → length (opening_from last) ≤ 14
+opening-few None = omega arith
+opening-few (Some shown) = omega arith
+
+moved : (cursor place : Place) → change no_rendition no_rendition ++ move_from (Some cursor) place ≡ move cursor place
+unfolding change move_from
+moved cursor place = refl
+
+-- ---- the text
+
+-- what leads from the start shows the same behind the opening, read from any terminal that may read it
+shows-from : (painter : PainterState) (last : Option ShownPicture) (wanted : ShownPicture) (rest : List ℕ) → 0 < painter.lines → 0 < painter.columns
+    → Shows rest (showing (start_from painter last).picture (start_from painter last).cursor) wanted.picture wanted.cursor
+    → (t : Terminal) → MayRead painter last t → Shows (opening_from last ++ rest) t wanted.picture wanted.cursor
+shows-from painter None wanted rest lines columns shows t size =
+    Leads-append opening rest t (showing (start_from painter None).picture (start_from painter None).cursor) (showing wanted.picture wanted.cursor)
+    (opening-leads painter.lines painter.columns t size lines columns) shows
+shows-from painter (Some shown) wanted rest lines columns shows t is = subst (λ u. Shows rest u wanted.picture wanted.cursor) (sym is) shows
+
+module _ (painter : PainterState) (clear : Bool) (wanted : ShownPicture) {a b c : Seen} {first drawn last : Pen} where
+  -- a pen at the start drew the wanted picture, and went to its end
+  pub is_update : 0 < painter.lines → 0 < painter.columns → wanted.cursor.0 < LARGEST_SCREEN → wanted.cursor.1 < LARGEST_SCREEN
+      → first.cursor ≡ Some (start_of_update painter clear).cursor → first.rendition ≡ no_rendition
+      → (strokes : Strokes (picture_bytes (start_of_update painter clear).picture wanted.picture) a b first drawn (start_of_update painter clear).picture wanted.picture)
+      → Draws (change drawn.rendition no_rendition ++ move_from drawn.cursor wanted.cursor) b c drawn last wanted.picture wanted.picture
+      → last.cursor ≡ Some wanted.cursor → last.rendition ≡ no_rendition
+      → IsUpdateText painter clear wanted (opening_from (known painter clear) ++ (strokes.piece ++ (change drawn.rendition no_rendition ++ move_from drawn.cursor wanted.cursor)))
+  is_update lines columns few_lines few_columns cursor rendition strokes ending there none =
+      let ended = change drawn.rendition no_rendition ++ move_from drawn.cursor wanted.cursor in
+      let rest = strokes.piece ++ ended in
+      let begun : under first (start_of_update painter clear).picture ≡ showing (start_of_update painter clear).picture (start_of_update painter clear).cursor = λ i. record { picture = (start_of_update painter clear).picture; cursor = cursor i; rendition = rendition i } in
+      let done : under last wanted.picture ≡ showing wanted.picture wanted.cursor = λ i. record { picture = wanted.picture; cursor = there i; rendition = none i } in
+      let leads : Leads rest (showing (start_of_update painter clear).picture (start_of_update painter clear).cursor) (showing wanted.picture wanted.cursor) =
+      subst (λ t. Leads rest t (showing wanted.picture wanted.cursor)) begun
+      (subst (λ t. Leads rest (under first (start_of_update painter clear).picture) t) done
+      (Leads-append strokes.piece ended (under first (start_of_update painter clear).picture) (under drawn wanted.picture) (under last wanted.picture) strokes.draws.leads ending.leads)) in
+      record {
+        rest = rest;
+        parts = refl;
+        shows = shows-from painter (known painter clear) wanted rest lines columns leads;
+        short = omega (
+          arith,
+          strokes.short,
+          length-append (opening_from (known painter clear)) rest,
+          length-append strokes.piece ended,
+          length-append (change drawn.rendition no_rendition) (move_from drawn.cursor wanted.cursor),
+          length-ended drawn.rendition,
+          length-move drawn.cursor wanted.cursor few_lines few_columns,
+        );
+        unchanged = λ same.
+            let nothing : strokes.piece ≡ [] = nil_from_length strokes.piece (omega (arith, strokes.short, coloured (start_of_update painter clear).picture wanted.picture)) in
+            let stays = Leads-empty (under first (start_of_update painter clear).picture) (under drawn wanted.picture)
+            (subst (λ piece. Leads piece (under first (start_of_update painter clear).picture) (under drawn wanted.picture)) nothing strokes.draws.leads) in
+            let still : drawn.cursor ≡ Some (start_of_update painter clear).cursor = sym (ap (λ (t : Terminal). t.cursor) stays) ∙ cursor in
+            let plain : drawn.rendition ≡ no_rendition = sym (ap (λ (t : Terminal). t.rendition) stays) ∙ rendition in
+            (λ i. nothing i ++ (change (plain i) no_rendition ++ move_from (still i) wanted.cursor)) ∙ moved (start_of_update painter clear).cursor wanted.cursor;
+      }
+
+  pub holds : painter.lines ≤ LARGEST_SCREEN → painter.columns ≤ LARGEST_SCREEN → 0 < painter.lines → 0 < painter.columns → wanted.cursor.0 < LARGEST_SCREEN → wanted.cursor.1 < LARGEST_SCREEN
+      → HasSize painter.lines painter.columns (start_of_update painter clear).picture → {seen : Seen} → IsGathered seen a first.outbox (opening_from (known painter clear))
+      → first.cursor ≡ Some (start_of_update painter clear).cursor → first.rendition ≡ no_rendition
+      → Strokes (picture_bytes (start_of_update painter clear).picture wanted.picture) a b first drawn (start_of_update painter clear).picture wanted.picture
+      → Draws (change drawn.rendition no_rendition ++ move_from drawn.cursor wanted.cursor) b c drawn last wanted.picture wanted.picture
+      → last.cursor ≡ Some wanted.cursor → last.rendition ≡ no_rendition
+      → HoldsUpdate painter clear wanted seen c last.outbox
+  holds most_lines most_columns lines columns few_lines few_columns size {seen} gathered cursor rendition strokes ending there none =
+      let ended = change drawn.rendition no_rendition ++ move_from drawn.cursor wanted.cursor in
+      let is = is_update lines columns few_lines few_columns cursor rendition strokes ending there none in
+      record {
+        text = opening_from (known painter clear) ++ (strokes.piece ++ ended);
+        gathered = subst (IsGathered seen c last.outbox) (append_assoc (opening_from (known painter clear)) strokes.piece ended)
+            (ending.gathers seen (opening_from (known painter clear) ++ strokes.piece) (strokes.draws.gathers seen (opening_from (known painter clear)) gathered));
+        is_text = is;
+        few = omega (
+          arith,
+          is.short,
+          opening-few (known painter clear),
+          coloured (start_of_update painter clear).picture wanted.picture,
+          most painter.columns (start_of_update painter clear).picture wanted.picture most_columns size.width,
+          size.height,
+        );
+      }
+
+  -- the pen was taken up at what is known
+  pub holds-from : painter.lines ≤ LARGEST_SCREEN → painter.columns ≤ LARGEST_SCREEN → HasSize painter.lines painter.columns wanted.picture → wanted.cursor.0 < painter.lines → wanted.cursor.1 < painter.columns
+      → {shown : Picture} {from : Option ShownPicture} → from ≡ known painter clear → shown ≡ (start_from painter from).picture → HasSize painter.lines painter.columns shown
+      → {seen : Seen} → IsGathered seen a first.outbox (opening_from from) → first.cursor ≡ Some (start_from painter from).cursor → first.rendition ≡ no_rendition
+      → Strokes (picture_bytes shown wanted.picture) a b first drawn shown wanted.picture
+      → ((picture : Picture) → wanted.cursor.1 < length (line_of picture wanted.cursor.0) → Draws (change drawn.rendition no_rendition ++ move_from drawn.cursor wanted.cursor) b c drawn last picture picture)
+      → last.cursor ≡ Some wanted.cursor → last.rendition ≡ no_rendition
+      → HoldsUpdate painter clear wanted seen c last.outbox
+  holds-from most_lines most_columns wanted_size line column {shown} {from} is_known is_shown size {seen} gathered cursor rendition strokes ending there none =
+      let start : shown ≡ (start_of_update painter clear).picture = is_shown ∙ ap (λ last. (start_from painter last).picture) is_known in
+      holds most_lines most_columns (omega arith) (omega arith) (omega arith) (omega arith) (subst (HasSize painter.lines painter.columns) start size)
+      (subst (λ last. IsGathered seen a first.outbox (opening_from last)) is_known gathered)
+      (cursor ∙ ap (λ last. Some (start_from painter last).cursor) is_known) rendition
+      (subst (λ picture. Strokes (picture_bytes picture wanted.picture) a b first drawn picture wanted.picture) start strokes)
+      (ending wanted.picture (omega (arith, length-line wanted.cursor.0 wanted_size line))) there none
+
+-- what is known where a cursor is, unless a clear screen is asked for
+pub known-last : (painter : PainterState) (picture : Picture) (cursor : Option Place) (clear : Bool) (result : Option Place) → painter.last ≡ last_shown picture cursor → result ≡ (if clear then None else cursor)
+    → last_shown picture result ≡ known painter clear
+known-last painter picture cursor true result last is = ap (last_shown picture) is
+known-last painter picture cursor false result last is = ap (last_shown picture) is ∙ sym last

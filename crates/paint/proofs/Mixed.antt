@@ -1,0 +1,54 @@
+-- A list whose first items are those of another one.
+use Rattle.std.proofs.Common.{◌≡◌, ℕ, zero, suc, ◌+◌, ◌-◌, ◌<◌, ◌≤◌, List, [], ◌∷◌, ◌++◌, length, get_or, set, take, drop, refl, sym, ap, ◌∙◌, arith}
+use Rattle.std.proofs.lemmas.List.{drop_all, drop-drop, take-append-drop}
+
+abbrev pub mixed : {A : Type 0} → ℕ → List A → List A → List A
+mixed x new old = take x new ++ drop x old
+
+set-mixed : {A : Type 0} (other : A) (x : ℕ) (new old : List A) → x < length old → length old ≡ length new → set (mixed x new old) x (get_or new x other) ≡ mixed (suc x) new old
+set-mixed other x new [] h same = absurd (omega arith)
+set-mixed other x [] (a ∷ old) h same = absurd (omega arith)
+set-mixed other zero (b ∷ new) (a ∷ old) h same = refl
+set-mixed other (suc x) (b ∷ new) (a ∷ old) h same = ap (λ rest. b ∷ rest) (set-mixed other x new old (omega arith) (omega arith))
+
+same-mixed : {A : Type 0} (other : A) (x : ℕ) (new old : List A) → x < length old → length old ≡ length new → get_or old x other ≡ get_or new x other → mixed x new old ≡ mixed (suc x) new old
+same-mixed other x new [] h same e = absurd (omega arith)
+same-mixed other x [] (a ∷ old) h same e = absurd (omega arith)
+same-mixed other zero (b ∷ new) (a ∷ old) h same e = ap (λ c. c ∷ old) e
+same-mixed other (suc x) (b ∷ new) (a ∷ old) h same e = ap (λ rest. b ∷ rest) (same-mixed other x new old (omega arith) (omega arith) e)
+
+-- the next item is put
+pub mixed-more : {A : Type 0} (other : A) (x : ℕ) (new old : List A) → x < length old → length old ≡ length new → set (mixed x new old) x (get_or new x other) ≡ mixed (x + 1) new old
+mixed-more other x new old h same = let next : suc x ≡ x + 1 = omega arith in set-mixed other x new old h same ∙ ap (λ n. mixed n new old) next
+
+-- the next item is the same in both
+pub mixed-same : {A : Type 0} (other : A) (x : ℕ) (new old : List A) → x < length old → length old ≡ length new → get_or old x other ≡ get_or new x other → mixed x new old ≡ mixed (x + 1) new old
+mixed-same other x new old h same e = let next : suc x ≡ x + 1 = omega arith in same-mixed other x new old h same e ∙ ap (λ n. mixed n new old) next
+
+-- the items from x on are those of the old one
+pub mixed-at : {A : Type 0} (other : A) (x : ℕ) (new old : List A) → x < length old → length old ≡ length new → get_or (mixed x new old) x other ≡ get_or old x other
+mixed-at other x new [] h same = absurd (omega arith)
+mixed-at other x [] (a ∷ old) h same = absurd (omega arith)
+mixed-at other zero (b ∷ new) (a ∷ old) h same = refl
+mixed-at other (suc x) (b ∷ new) (a ∷ old) h same = mixed-at other x new old (omega arith) (omega arith)
+
+pub length-mixed : {A : Type 0} (x : ℕ) (new old : List A) → length old ≡ length new → length (mixed x new old) ≡ length old
+length-mixed zero new old same = refl
+length-mixed (suc x) [] old same = omega (arith, ap length (drop_all (suc x) old (omega arith)))
+length-mixed (suc x) (b ∷ new) [] same = absurd (omega arith)
+length-mixed (suc x) (b ∷ new) (a ∷ old) same = ap (λ n. suc n) (length-mixed x new old (omega arith))
+
+pub mixed-front : {A : Type 0} (x : ℕ) (new old : List A) → take x old ≡ take x new → mixed x new old ≡ old
+mixed-front x new old e = ap (λ front. front ++ drop x old) (sym e) ∙ take-append-drop x old
+
+pub mixed-back : {A : Type 0} (x : ℕ) (new old : List A) → drop x old ≡ drop x new → mixed x new old ≡ new
+mixed-back x new old e = ap (λ back. take x new ++ back) e ∙ take-append-drop x new
+
+pub mixed-all : {A : Type 0} (x : ℕ) (new old : List A) → length old ≤ x → length new ≤ x → mixed x new old ≡ new
+mixed-all x new old h k = mixed-back x new old (drop_all x old h ∙ sym (drop_all x new k))
+
+-- lists that are the same from one item on are the same from each later one on
+pub drop-later : {A : Type 0} (n x : ℕ) (one other : List A) → n ≤ x → drop n one ≡ drop n other → drop x one ≡ drop x other
+drop-later n x one other h e =
+    let split : n + (x - n) ≡ x = omega arith in
+    ap (λ i. drop i one) (sym split) ∙ sym (drop-drop (x - n) n one) ∙ ap (drop (x - n)) e ∙ drop-drop (x - n) n other ∙ ap (λ i. drop i other) split

@@ -1,0 +1,145 @@
+-- The walk over the cells of a line, and over the lines of a picture.
+use Rattle.std.proofs.Common.{◌≡◌, Bool, ℕ, zero, suc, ◌+◌, ◌*◌, ◌<◌, ◌≤◌, true, false, List, [], ◌∷◌, length, get_or, set, take, drop, refl, sym, ap, ◌∙◌, subst, arith}
+use Rattle.std.specs.Prelude.{if◌then◌else◌}
+use Rattle.std.proofs.lemmas.List.{drop_more, get_or-set_same, set-set, set-get_or}
+use Rattle.cell.specs.Shown.{Shown, shown_blank, has_colour}
+use Rattle.cell.specs.Pictures.{Picture, line_of, with_shown}
+use Rattle.ecma.specs.Difference.{same_shown}
+use Rattle.ecma.proofs.Difference.{same_shown-equal}
+use Rattle.streams.specs.Sinks.{Seen}
+use Rattle.paint.specs.declared.pen.Pen.{Pen}
+use Rattle.paint.specs.steps.Strokes.{Strokes, cell_bytes, line_bytes, picture_bytes}
+use Rattle.paint.proofs.Mixed.{mixed, mixed-all, mixed-at, mixed-back, mixed-front, mixed-more, mixed-same, length-mixed}
+use Rattle.paint.proofs.Strokes.{Strokes-more, Strokes-nothing, Strokes-then}
+
+-- ---- what the cells of a line may cost
+
+six : (coloured : Bool) → 6 * (if coloured then 1 else 0) ≡ (if coloured then 6 else 0)
+six true = refl
+six false = refl
+
+line_bytes-other : (a b : Shown) (old new : List Shown) → same_shown a b ≡ false → line_bytes (a ∷ old) (b ∷ new) ≡ cell_bytes b + line_bytes old new
+line_bytes-other a b old new h = rw h (omega (arith, six (has_colour b.rendition)))
+
+line_bytes-same : (a b : Shown) (old new : List Shown) → same_shown a b ≡ true → line_bytes (a ∷ old) (b ∷ new) ≡ line_bytes old new
+line_bytes-same a b old new h = rw h (omega arith)
+
+line_bytes-drop : (x : ℕ) (old new : List Shown) → line_bytes (drop x old) (drop x new) ≤ line_bytes old new
+line_bytes-drop zero old new = omega arith
+line_bytes-drop (suc x) [] new = omega arith
+line_bytes-drop (suc x) (a ∷ old) [] = elim (drop x old) as (λ (rest : List Shown). line_bytes rest [] ≤ line_bytes (a ∷ old) []) [
+  | [] ↦ omega arith
+  | b ∷ rest ↦ omega arith
+]
+line_bytes-drop (suc x) (a ∷ old) (b ∷ new) = omega (arith, line_bytes-drop x old new)
+
+-- ---- a line
+
+-- the cells before a column are the wanted ones, and those from it on may still cost what is left
+pub record IsLinePainted (before now : Seen) (old pen : Pen) (line x : ℕ) (shown wanted : List Shown) : Type 0 where
+  pub spent : ℕ
+  pub within : spent + line_bytes (drop x shown) (drop x wanted) ≤ line_bytes shown wanted
+  pub strokes : (picture : Picture) → line < length picture → line_of picture line ≡ shown → Strokes spent before now old pen picture (set picture line (mixed x wanted shown))
+  pub columns : pen.columns ≡ old.columns
+
+same-line : (picture : Picture) (line : ℕ) (cells : List Shown) → line_of picture line ≡ cells → set picture line cells ≡ picture
+same-line picture line cells is = ap (set picture line) (sym is) ∙ set-get_or picture line []
+
+pub line-begun : (seen : Seen) (pen : Pen) (line x : ℕ) (shown wanted : List Shown) → take x shown ≡ take x wanted → IsLinePainted seen seen pen pen line x shown wanted
+line-begun seen pen line x shown wanted front = record {
+  spent = 0;
+  within = omega (arith, line_bytes-drop x shown wanted);
+  strokes = λ picture inside is. subst (Strokes 0 seen seen pen pen picture) (sym (same-line picture line (mixed x wanted shown) (is ∙ sym (mixed-front x wanted shown front)))) (Strokes-nothing seen pen picture);
+  columns = refl;
+}
+
+left : (x : ℕ) (shown wanted : List Shown) → length shown ≡ length wanted → x < length shown
+    → line_bytes (drop x shown) (drop x wanted) ≡ line_bytes (get_or shown x shown_blank ∷ drop (x + 1) shown) (get_or wanted x shown_blank ∷ drop (x + 1) wanted)
+left x shown wanted same inside = let a = drop_more shown x shown_blank inside in let b = drop_more wanted x shown_blank (omega arith) in λ i. line_bytes (a i) (b i)
+
+-- the next cell is drawn
+pub line-drawn : {before mid now : Seen} {old pen next : Pen} {line x : ℕ} {shown wanted : List Shown} (cell : Shown) → length shown ≡ length wanted → x < length shown
+    → IsLinePainted before mid old pen line x shown wanted → length shown ≡ old.columns → cell ≡ get_or wanted x shown_blank
+    → same_shown (get_or shown x shown_blank) (get_or wanted x shown_blank) ≡ false
+    → ((picture : Picture) → length (line_of picture line) ≡ pen.columns → Strokes (cell_bytes cell) mid now pen next picture (with_shown picture (line, x) cell))
+    → next.columns ≡ pen.columns → IsLinePainted before now old next line (x + 1) shown wanted
+line-drawn {before} {mid} {now} {old} {pen} {next} {line} {x} {shown} {wanted} cell same inside h wide is differs strokes columns = record {
+  spent = h.spent + cell_bytes cell;
+  within = omega (
+    arith,
+    h.within,
+    left x shown wanted same inside,
+    line_bytes-other (get_or shown x shown_blank) (get_or wanted x shown_blank) (drop (x + 1) shown) (drop (x + 1) wanted) differs,
+    ap cell_bytes is,
+  );
+  strokes = λ picture high at.
+      let row = mixed x wanted shown in
+      let here : line_of (set picture line row) line ≡ row = get_or-set_same picture line row [] high in
+      let drawn : with_shown (set picture line row) (line, x) cell ≡ set picture line (mixed (x + 1) wanted shown) =
+      ap (λ cells. set (set picture line row) line (set cells x cell)) here
+      ∙ set-set picture line row (set row x cell)
+      ∙ ap (λ c. set picture line (set row x c)) is
+      ∙ ap (set picture line) (mixed-more shown_blank x wanted shown inside same) in
+      let long : length (line_of (set picture line row) line) ≡ pen.columns = ap length here ∙ length-mixed x wanted shown same ∙ wide ∙ sym h.columns in
+      Strokes-then (h.strokes picture high at) (subst (Strokes (cell_bytes cell) mid now pen next (set picture line row)) drawn (strokes (set picture line row) long));
+  columns = columns ∙ h.columns;
+}
+
+-- the next cell is shown already
+pub line-kept : {before now : Seen} {old pen : Pen} {line x : ℕ} {shown wanted : List Shown} → length shown ≡ length wanted → x < length shown
+    → IsLinePainted before now old pen line x shown wanted → same_shown (get_or shown x shown_blank) (get_or wanted x shown_blank) ≡ true
+    → IsLinePainted before now old pen line (x + 1) shown wanted
+line-kept {before} {now} {old} {pen} {line} {x} {shown} {wanted} same inside h alike = record {
+  spent = h.spent;
+  within = omega (
+    arith,
+    h.within,
+    left x shown wanted same inside,
+    line_bytes-same (get_or shown x shown_blank) (get_or wanted x shown_blank) (drop (x + 1) shown) (drop (x + 1) wanted) alike,
+  );
+  strokes = λ picture high at. subst (λ row. Strokes h.spent before now old pen picture (set picture line row))
+      (mixed-same shown_blank x wanted shown inside same (same_shown-equal (get_or shown x shown_blank) (get_or wanted x shown_blank) alike)) (h.strokes picture high at);
+  columns = h.columns;
+}
+
+-- a line whose other cells are shown already
+pub line-painted : {before now : Seen} {old pen : Pen} {line x : ℕ} {shown wanted : List Shown} → IsLinePainted before now old pen line x shown wanted → drop x shown ≡ drop x wanted
+    → (picture : Picture) → line < length picture → line_of picture line ≡ shown → Strokes (line_bytes shown wanted) before now old pen picture (set picture line wanted)
+line-painted {before} {now} {old} {pen} {line} {x} {shown} {wanted} h back = λ picture high at.
+    subst (λ row. Strokes (line_bytes shown wanted) before now old pen picture (set picture line row)) (mixed-back x wanted shown back)
+    (Strokes-more (h.strokes picture high at) (omega (arith, h.within)))
+
+-- ---- a picture
+
+-- the lines before this one are the wanted ones
+pub record IsPicturePainted (before now : Seen) (old pen : Pen) (line : ℕ) (shown wanted : Picture) : Type 0 where
+  pub spent : ℕ
+  pub within : spent + picture_bytes (drop line shown) (drop line wanted) ≤ picture_bytes shown wanted
+  pub strokes : Strokes spent before now old pen shown (mixed line wanted shown)
+  pub columns : pen.columns ≡ old.columns
+
+pub picture-begun : (seen : Seen) (pen : Pen) (shown wanted : Picture) → IsPicturePainted seen seen pen pen 0 shown wanted
+picture-begun seen pen shown wanted = record { spent = 0; within = omega arith; strokes = Strokes-nothing seen pen shown; columns = refl }
+
+pub picture-drawn : {before mid now : Seen} {old pen next : Pen} {line : ℕ} {shown wanted : Picture} → length shown ≡ length wanted → line < length shown
+    → IsPicturePainted before mid old pen line shown wanted
+    → ((picture : Picture) → line < length picture → line_of picture line ≡ line_of shown line
+    → Strokes (line_bytes (line_of shown line) (line_of wanted line)) mid now pen next picture (set picture line (line_of wanted line)))
+    → next.columns ≡ pen.columns → IsPicturePainted before now old next (line + 1) shown wanted
+picture-drawn {before} {mid} {now} {old} {pen} {next} {line} {shown} {wanted} same inside h strokes columns =
+    let a = drop_more shown line [] inside in
+    let b = drop_more wanted line [] (omega arith) in
+    let left : picture_bytes (drop line shown) (drop line wanted) ≡ picture_bytes (line_of shown line ∷ drop (line + 1) shown) (line_of wanted line ∷ drop (line + 1) wanted) = λ i. picture_bytes (a i) (b i) in
+    let picture = mixed line wanted shown in
+    let drawn = strokes picture (omega (arith, length-mixed line wanted shown same)) (mixed-at [] line wanted shown inside same) in
+    record {
+      spent = h.spent + line_bytes (line_of shown line) (line_of wanted line);
+      within = omega (arith, h.within, left);
+      strokes = Strokes-then h.strokes (subst (Strokes (line_bytes (line_of shown line) (line_of wanted line)) mid now pen next picture) (mixed-more [] line wanted shown inside same) drawn);
+      columns = columns ∙ h.columns;
+    }
+
+pub picture-painted : {before now : Seen} {old pen : Pen} {line : ℕ} {shown wanted : Picture} → IsPicturePainted before now old pen line shown wanted → length shown ≤ line → length wanted ≤ line
+    → Strokes (picture_bytes shown wanted) before now old pen shown wanted
+picture-painted {before} {now} {old} {pen} {line} {shown} {wanted} h all others =
+    subst (Strokes (picture_bytes shown wanted) before now old pen shown) (mixed-all line wanted shown all others) (Strokes-more h.strokes (omega (arith, h.within)))

@@ -1,0 +1,9 @@
+use Rattle.std.proofs.Common.{◌≡◌}
+use Rattle.paint.proofs.Walks.{IsPicturePainted}
+use Rattle.paint.proofs.line.paint_picture.Given as goal
+
+abbrev pub invariant-loop-line : goal.invariant-loop-line
+invariant-loop-line g l = record {
+  painted : IsPicturePainted (g.W.Sink.seen l.fn.sink) (g.W.Sink.seen l.sink) l.fn.pen l.pen l.line l.shown l.wanted;
+  same : g.W.Sink.name l.sink ≡ g.W.Sink.name l.fn.sink;
+}

@@ -1,0 +1,23 @@
+-- A text that is gathered in an outbox and goes out in pieces, until a write fails.
+use Rattle.std.specs.Prelude.{◌≡◌, ℕ, ◌-◌, ◌^◌, min, Bool, true, false, List, ◌++◌, length, Ok, Err}
+use Rattle.streams.specs.Sinks.{Seen}
+use Rattle.streams.specs.Sending.{Sends}
+use Rattle.paint.specs.declared.outbox.Outbox.{Outbox}
+
+-- a number of bytes is counted up to the greatest of 32 bits
+abbrev pub counted_bytes : ℕ → ℕ
+counted_bytes n = min n (2 ^ 32 - 1)
+
+-- A front of the text went out, and the rest is in the room; or a write failed somewhere in it.
+abbrev pub GoesOut : Bool → Seen → Seen → List ℕ → ℕ → List ℕ → Type 0
+GoesOut false start now room sent text =
+    (front : List ℕ) × (text ≡ front ++ room) × (sent ≡ counted_bytes (length front)) × Sends start now 0 front (Ok (length front))
+GoesOut true start now room sent text = (taken : ℕ) × (sent ≡ counted_bytes taken) × Sends start now 0 text (Err (record { sent = taken }))
+
+-- The sink was seen so at the text's start, and is seen so now.
+pub record IsGathered (start now : Seen) (outbox : Outbox) (text : List ℕ) : Type 0 where
+  pub goes_out : GoesOut outbox.failed start now outbox.room.items outbox.sent text
+
+-- the piece was put behind what was gathered
+abbrev pub Gathers : Seen → Seen → Outbox → Outbox → List ℕ → Type 0
+Gathers before after old new piece = (start : Seen) (text : List ℕ) → IsGathered start before old text → IsGathered start after new (text ++ piece)

@@ -1,0 +1,168 @@
+//! A pen: it knows where a terminal's cursor is and how the terminal prints, and draws there by strokes.
+
+ghost use Rattle.std.specs.Prelude.{◌≡◌, ◌<◌, ◌≤◌, ◌++◌, ◌∷◌, [], ℕ, List, length, Some, ◌^◌};
+ghost use Rattle.cell.specs.Shown.{no_rendition};
+ghost use Rattle.cell.specs.Pictures.{Picture, line_of, origin, with_shown};
+ghost use Rattle.ecma.specs.Spelling.{spelling, IsToken};
+ghost use Rattle.streams.specs.Sending.{Sends};
+ghost use Rattle.streams.specs.Sinks.{Seen};
+ghost use Rattle.paint.specs.Updates.{opening};
+ghost use Rattle.paint.specs.steps.Gathering.{Gathers, IsGathered};
+ghost use Rattle.paint.specs.steps.Strokes.{behind, change, is_at, move_from, Draws};
+
+use crate::outbox::Outbox;
+use cell::{LARGEST_SCREEN, Rendition, Shown};
+use ecma::{Erase, LONGEST_SPELLING, Token, spell};
+use streams::{Sink, WriteFault};
+
+/// Draws on terminals of some columns.
+#[derive(Drop)]
+pub struct Pen {
+    outbox: Outbox,
+    columns: u16,
+    // The line and column of the cursor, and none where it is unknown.
+    cursor: Option<(u16, u16)>,
+    rendition: Rendition,
+}
+
+impl Pen {
+    /// A pen that gathered nothing, at a cursor, with the empty rendition.
+    pub fn new(columns: u16, cursor: (u16, u16)) -> Pen
+        ensures nothing { (seen : Seen) → IsGathered seen seen result.outbox [] }
+        ensures columns { result.columns ≡ columns }
+        ensures cursor { result.cursor ≡ Some cursor }
+        ensures rendition { result.rendition ≡ no_rendition }
+    {
+        Pen {
+            outbox: Outbox::new(),
+            columns,
+            cursor: Some(cursor),
+            rendition: Rendition::NONE,
+        }
+    }
+
+    /// Puts a token behind what was gathered.
+    fn put<W: Sink>(&mut self, sink: &mut W, token: Token)
+        requires { IsToken token }
+        ensures gathers { Gathers (W.seen sink.old) (W.seen sink.new) self.old.outbox self.new.outbox (spelling token) }
+        ensures rest { self.new ≡ record self.old { outbox = self.new.outbox } }
+        ensures columns { self.new.columns ≡ self.old.columns }
+        ensures same { W.name sink.new ≡ W.name sink.old }
+    {
+        let mut text = [0; LONGEST_SPELLING];
+        let length = spell(&token, &mut text);
+        self.outbox.put(sink, &text[..length]);
+    }
+
+    /// Clears the terminal, whatever it shows: no rendition, the page erased, the cursor at the origin.
+    pub fn open<W: Sink>(&mut self, sink: &mut W)
+        ensures gathers { Gathers (W.seen sink.old) (W.seen sink.new) self.old.outbox self.new.outbox opening }
+        ensures columns { self.new.columns ≡ self.old.columns }
+        ensures cursor { self.new.cursor ≡ Some origin }
+        ensures rendition { self.new.rendition ≡ no_rendition }
+        ensures same { W.name sink.new ≡ W.name sink.old }
+    {
+        self.put(sink, Token::Sgr(Rendition::NONE));
+        self.put(sink, Token::Ed(Erase::All));
+        self.put(sink, Token::Cup(0, 0));
+        self.cursor = Some((0, 0));
+        self.rendition = Rendition::NONE;
+    }
+
+    /// Prints in a rendition from now on.
+    pub fn select<W: Sink>(&mut self, sink: &mut W, rendition: Rendition)
+        ensures draws { (picture : Picture) → Draws (change self.old.rendition rendition) (W.seen sink.old) (W.seen sink.new) self.old self.new picture picture }
+        ensures rendition { self.new.rendition ≡ rendition }
+        ensures cursor { self.new.cursor ≡ self.old.cursor }
+        ensures columns { self.new.columns ≡ self.old.columns }
+        ensures same { W.name sink.new ≡ W.name sink.old }
+    {
+        if rendition == self.rendition {
+            return;
+        }
+        prove!(rendition.is_sound());
+        self.put(sink, Token::Sgr(rendition));
+        self.rendition = rendition;
+    }
+
+    /// Whether the cursor is known to be at a place.
+    fn is_at(&self, line: u16, column: u16) -> bool
+        ensures { result ≡ is_at self.now.cursor (line, column) }
+    {
+        match self.cursor {
+            Some((y, x)) => y == line && x == column,
+            None => false,
+        }
+    }
+
+    /// Goes to a place.
+    pub fn go<W: Sink>(&mut self, sink: &mut W, line: u16, column: u16)
+        requires line { line < LARGEST_SCREEN }
+        requires column { column < LARGEST_SCREEN }
+        ensures draws { (picture : Picture) → column < length (line_of picture line)
+            → Draws (move_from self.old.cursor (line, column)) (W.seen sink.old) (W.seen sink.new) self.old self.new picture picture }
+        ensures rendition { self.new.rendition ≡ self.old.rendition }
+        ensures cursor { self.new.cursor ≡ Some (line, column) }
+        ensures columns { self.new.columns ≡ self.old.columns }
+        ensures same { W.name sink.new ≡ W.name sink.old }
+    {
+        if self.is_at(line, column) {
+            return;
+        }
+        self.put(sink, Token::Cup(line, column));
+        self.cursor = Some((line, column));
+    }
+
+    /// Prints a character at the cursor, which is at this place.
+    pub fn print<W: Sink>(&mut self, sink: &mut W, line: u16, column: u16, cell: Shown)
+        requires cursor { self.old.cursor ≡ Some (line, column) }
+        requires rendition { self.old.rendition ≡ cell.rendition }
+        requires inside { column < self.old.columns }
+        requires columns { self.old.columns ≤ LARGEST_SCREEN }
+        ensures draws { (picture : Picture) → length (line_of picture line) ≡ self.old.columns
+            → Draws (cell.character ∷ []) (W.seen sink.old) (W.seen sink.new) self.old self.new picture (with_shown picture (line, column) cell) }
+        ensures rendition { self.new.rendition ≡ self.old.rendition }
+        ensures cursor { self.new.cursor ≡ behind self.old.columns (line, column) }
+        ensures columns { self.new.columns ≡ self.old.columns }
+        ensures same { W.name sink.new ≡ W.name sink.old }
+    {
+        self.outbox.put(sink, &[cell.ch()]);
+        self.cursor = self.behind(line, column);
+    }
+
+    /// Where the cursor is when a character was printed at a place.
+    fn behind(&self, line: u16, column: u16) -> Option<(u16, u16)>
+        requires { column < LARGEST_SCREEN }
+        ensures { result ≡ behind self.now.columns (line, column) }
+    {
+        if column + 1 < self.columns {
+            Some((line, column + 1))
+        } else {
+            None
+        }
+    }
+
+    /// Ends the rendition, and goes to where the cursor is wanted.
+    pub fn end<W: Sink>(&mut self, sink: &mut W, cursor: (u16, u16))
+        requires line { cursor.0 < LARGEST_SCREEN }
+        requires column { cursor.1 < LARGEST_SCREEN }
+        ensures draws { (picture : Picture) → cursor.1 < length (line_of picture cursor.0)
+            → Draws (change self.old.rendition no_rendition ++ move_from self.old.cursor cursor) (W.seen sink.old) (W.seen sink.new) self.old self.new picture picture }
+        ensures rendition { self.new.rendition ≡ no_rendition }
+        ensures cursor { self.new.cursor ≡ Some cursor }
+        ensures columns { self.new.columns ≡ self.old.columns }
+        ensures same { W.name sink.new ≡ W.name sink.old }
+    {
+        self.select(sink, Rendition::NONE);
+        self.go(sink, cursor.0, cursor.1);
+    }
+
+    /// Sends what is left of the text, and says how many bytes went out.
+    pub fn finish<W: Sink>(self, sink: &mut W) -> Result<u32, WriteFault>
+        ensures sends { (start : Seen) (text : List ℕ) → IsGathered start (W.seen sink.old) self.outbox text → length text < 2 ^ 32
+            → Sends start (W.seen sink.new) 0 text result }
+        ensures same { W.name sink.new ≡ W.name sink.old }
+    {
+        self.outbox.finish(sink)
+    }
+}
