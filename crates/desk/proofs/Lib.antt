@@ -1,4 +1,5 @@
 pub mod WriterLemmas
+pub mod Shortness
 pub mod RunLemmas
 pub mod ShowingLemmas
 pub mod AnswerLemmas

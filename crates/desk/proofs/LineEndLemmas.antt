@@ -6,6 +6,7 @@ use Rattle.streams.specs.Counts.{next_count}
 use Rattle.streams.specs.Sinks.{Seen}
 use Rattle.world.specs.calls.Dispatch.{is_doupdate}
 use Rattle.desk.specs.Ends.{CallEnds, Makes, Writes}
+use Rattle.desk.proofs.Shortness.{short-run}
 use Rattle.desk.proofs.WriterLemmas.{Writes-nothing}
 use Rattle.desk.specs.steps.Answers.{joined}
 use Rattle.desk.proofs.AnswerLemmas.{Answered, is_answered}
@@ -18,7 +19,7 @@ use Rattle.world.specs.declared.call.Refresh.TheVariants.{UpdatePanels, Doupdate
 use Rattle.world.specs.declared.call.Reply.{Reply}
 use Rattle.cell.specs.declared.refusal.Refusal.{Refusal}
 use Rattle.streams.specs.declared.sending.WriteFault.{WriteFault}
-use Rattle.desk.specs.States.{ScreenOver}
+use Rattle.desk.specs.States.{state_of, ScreenOver}
 use Rattle.script.specs.declared.fault.TextFault.{TextFault}
 use Rattle.script.specs.declared.fault.ScriptFault.TheVariants.{Text, Write, Log}
 use Rattle.desk.specs.declared.screen.Fault.TheVariants.{Write as Cut}
@@ -43,7 +44,7 @@ refused_is (Err refusal) r e = e
 
 module _ {W : Type 0} (seen : W → Seen) where
   no_calls : (old : ScreenOver W) → Makes seen old [] [] old
-  no_calls old = record { run = tt; state = refl; writes = Writes-nothing seen old }
+  no_calls old = record { run = tt; short = tt; state = refl; writes = Writes-nothing seen old }
 
   pub line_says_nothing : (old : ScreenOver W) (n : ℕ) (line : List ℕ) (log : Seen) → said_by_line line ≡ Ok None
       → LineEnds seen old old n line log log (record { refused = false; fault = None })
@@ -77,6 +78,7 @@ module _ {W : Type 0} (seen : W → Seen) where
       → Makes seen old (call ∷ []) (record { answer = answer; sent = a.1.0 } ∷ []) new
   one_call old new call answer a = record {
     run = (a.1.1, tt);
+    short = short-run (state_of old) (call ∷ []) (record { answer = answer; sent = a.1.0 } ∷ []) (a.1.1, tt);
     state = a.0;
     writes = subst (Writes seen old new (call ∷ [])) (sym (append-nil a.1.0)) a.1.2;
   }

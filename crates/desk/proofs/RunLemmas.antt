@@ -8,6 +8,7 @@ use Rattle.streams.specs.Sinks.{Seen}
 use Rattle.streams.specs.declared.sending.WriteFault.{WriteFault}
 use Rattle.desk.specs.States.{State}
 use Rattle.desk.specs.Runs.{Outcome, MayCome, Run, all_sent, cells_of_reply, cells_read, is_accepted, is_refused, state_after, state_at_end}
+use Rattle.desk.proofs.Shortness.{short-run}
 use Rattle.desk.proofs.WriterLemmas.{Writes-nothing, Writes-refused, Writes-trans}
 use Rattle.desk.specs.Ends.{CallEnds, Makes, RunEnds, Stops, Writes, begins_with_doupdate}
 use Rattle.desk.specs.States.{state_of}
@@ -46,8 +47,11 @@ module _ {W : Type 0} (seen : W → Seen) where
   Makes-push : {old mid new : ScreenOver W} {calls : List Call} {outcomes : List Outcome} (call : Call) (outcome : Outcome) → Makes seen old calls outcomes mid
       → MayCome (state_of mid) call outcome → state_of new ≡ state_after (state_of mid) call outcome.answer → Writes seen mid new (call ∷ []) outcome.sent
       → Makes seen old (calls ++ call ∷ []) (outcomes ++ outcome ∷ []) new
-  Makes-push {old} {mid} {new} {calls} {outcomes} call outcome makes may state writes = record {
-    run = Run-push _ calls outcomes call outcome makes.run (subst (λ (s : State). MayCome s call outcome) makes.state may);
+  Makes-push {old} {mid} {new} {calls} {outcomes} call outcome makes may state writes =
+    let run = Run-push (state_of old) calls outcomes call outcome makes.run (subst (λ (s : State). MayCome s call outcome) makes.state may) in
+    record {
+    run = run;
+    short = short-run (state_of old) (calls ++ call ∷ []) (outcomes ++ outcome ∷ []) run;
     state = state ∙ ap (λ s. state_after s call outcome.answer) makes.state ∙ sym (state_at_end-push _ calls outcomes call outcome makes.run);
     writes = subst (Writes seen old new (calls ++ call ∷ [])) (sym (flat_map-append _ outcomes (outcome ∷ []) ∙ ap (λ l. all_sent outcomes ++ l) (append-nil outcome.sent)))
         (Writes-trans seen old mid new calls (call ∷ []) (all_sent outcomes) outcome.sent makes.writes writes);
@@ -57,7 +61,7 @@ module _ {W : Type 0} (seen : W → Seen) where
   pub so_far_none : (old : ScreenOver W) → SoFar old [] old 0 0 0
   so_far_none old = record {
     outcomes = [];
-    makes = record { run = tt; state = refl; writes = Writes-nothing seen old };
+    makes = record { run = tt; short = tt; state = refl; writes = Writes-nothing seen old };
     is_done = refl;
     is_refused = refl;
     is_composed = refl;

@@ -19,6 +19,7 @@ use Rattle.desk.specs.States.{State}
 use Rattle.streams.specs.Sources.{SourceSeen}
 use Rattle.desk.specs.Runs.{Outcome, Run, all_sent, is_refused, state_after, state_at_end}
 use Rattle.desk.specs.Ends.{Makes, Writes}
+use Rattle.desk.proofs.Shortness.{short-run}
 use Rattle.desk.proofs.WriterLemmas.{Writes-nothing, Writes-trans}
 use Rattle.streams.specs.Counts.{counted}
 use Rattle.desk.specs.States.{state_of}
@@ -132,8 +133,10 @@ module _ {W : Type 0} (seen : W → Seen) where
   Makes-append : (old mid new : ScreenOver W) (a b : List (ℕ × Call)) (outcomes others : List Outcome) → Makes seen old (calls_of a) outcomes mid
       → Makes seen mid (calls_of b) others new → Makes seen old (calls_of (a ++ b)) (outcomes ++ others) new
   Makes-append old mid new a b outcomes others first second =
+      let run = Run-append (state_of old) (calls_of a) (calls_of b) outcomes others first.run (subst (λ w. Run w (calls_of b) others) first.state second.run) in
       subst (λ calls. Makes seen old calls (outcomes ++ others) new) (sym (calls_of-append a b)) (record {
-        run = Run-append (state_of old) (calls_of a) (calls_of b) outcomes others first.run (subst (λ w. Run w (calls_of b) others) first.state second.run);
+        run = run;
+        short = short-run (state_of old) (calls_of a ++ calls_of b) (outcomes ++ others) run;
         state = second.state ∙ ap (λ w. state_at_end w (calls_of b) others) first.state ∙ sym (state_at_end-append (state_of old) (calls_of a) (calls_of b) outcomes others first.run);
         writes = subst (Writes seen old new (calls_of a ++ calls_of b)) (sym (flat_map-append _ outcomes others))
             (Writes-trans seen old mid new (calls_of a) (calls_of b) (all_sent outcomes) (all_sent others) first.writes second.writes);
@@ -160,7 +163,7 @@ module _ {W : Type 0} (seen : W → Seen) where
     made = [];
     outcomes = [];
     read = Consumes-nil _;
-    makes = record { run = tt; state = refl; writes = Writes-nothing seen old };
+    makes = record { run = tt; short = tt; state = refl; writes = Writes-nothing seen old };
     logs = Appends-nil _;
     failures = refl;
     flushes = refl;

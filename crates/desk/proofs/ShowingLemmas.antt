@@ -18,7 +18,8 @@ use Rattle.ecma.proofs.Sizes.{size-effects}
 use Rattle.streams.specs.Sinks.{Seen}
 use Rattle.paint.specs.Updates.{Agrees, PainterState}
 use Rattle.streams.specs.declared.sending.WriteFault.{WriteFault}
-use Rattle.paint.proofs.Repair.{Agrees-update, Agrees-fault}
+use Rattle.paint.proofs.Repair.{Agrees-update, Agrees-fault, IsKnown, reads-known}
+use Rattle.desk.proofs.Shortness.{short-run}
 use Rattle.desk.specs.States.{State, after, wanted}
 use Rattle.desk.specs.Runs.{Outcome, MayAnswer, Run, all_sent, state_after, state_at_end}
 use Rattle.world.proofs.Sizes.{size-call}
@@ -101,21 +102,17 @@ agrees-run lines columns s (c ∷ cs) (o ∷ os) stream t size fits run h =
 
 -- ---- the bytes of a run alone, read by a terminal
 
--- the terminal shows what the painter knows
-abbrev pub IsKnown : PainterState → Terminal → Type 0
-IsKnown painter t = MatchOption painter.last ⊤ (λ shown. t ≡ showing shown.picture shown.cursor)
-
 pub record LeadsOn (lines columns : ℕ) (painter : PainterState) (bytes : List ℕ) (t : Terminal) : Type 0 where
   pub last : Terminal
   pub leads : Leads bytes t last
   pub fits : HasSize lines columns last.picture
-  pub known : IsKnown painter last
+  pub known : IsKnown painter.last last
 
-leads-nothing : (lines columns : ℕ) (painter : PainterState) (sent : List ℕ) (t : Terminal) → sent ≡ [] → HasSize lines columns t.picture → IsKnown painter t → LeadsOn lines columns painter sent t
+leads-nothing : (lines columns : ℕ) (painter : PainterState) (sent : List ℕ) (t : Terminal) → sent ≡ [] → HasSize lines columns t.picture → IsKnown painter.last t → LeadsOn lines columns painter sent t
 leads-nothing lines columns painter sent t e fits known = record { last = t; leads = rw e (Leads-nothing t); fits = fits; known = known }
 
 leads-call : (lines columns : ℕ) (s : State) (call : Call) (answer : Result Reply Refusal) (sent : List ℕ) (t : Terminal) → HasScreenSize lines columns s → HasSize lines columns t.picture
-    → MayAnswer s call answer sent → IsKnown s.painter t → LeadsOn lines columns (state_after s call answer).painter sent t
+    → MayAnswer s call answer sent → IsKnown s.painter.last t → LeadsOn lines columns (state_after s call answer).painter sent t
 leads-call lines columns s call (Err e) sent t size fits may h = leads-nothing lines columns s.painter sent t may.1 fits h
 leads-call lines columns s (calls.Making making) (Ok r) sent t size fits may h = leads-nothing lines columns s.painter sent t may.1.0 fits h
 leads-call lines columns s (calls.Writing writing) (Ok r) sent t size fits may h = leads-nothing lines columns s.painter sent t may.1.0 fits h
@@ -125,7 +122,7 @@ leads-call lines columns s (calls.Stacking stacking) (Ok r) sent t size fits may
 leads-call lines columns s (calls.Refresh UpdatePanels) (Ok r) sent t size fits may h = leads-nothing lines columns s.painter sent t may.1.0 fits h
 leads-call lines columns s (calls.Refresh (InitPair pair foreground background)) (Ok r) sent t size fits may h = leads-nothing lines columns s.painter sent t may.1.0 fits h
 leads-call lines columns s (calls.Refresh Doupdate) (Ok r) sent t size fits may h =
-    let leads = may.1.0.shows t (rw (size.painter_lines, size.painter_columns) fits) in
+    let leads = may.1.0.shows t (reads-known s.painter s.world.virtual.clear t (rw (size.painter_lines, size.painter_columns) fits) h) in
     record {
       last = showing s.world.virtual.picture s.world.virtual.cursor;
       leads = leads;
@@ -134,7 +131,7 @@ leads-call lines columns s (calls.Refresh Doupdate) (Ok r) sent t size fits may 
     }
 
 pub leads-run : (lines columns : ℕ) (s : State) (cs : List Call) (outcomes : List Outcome) (t : Terminal) → HasScreenSize lines columns s → HasSize lines columns t.picture
-    → Run s cs outcomes → IsKnown s.painter t → LeadsOn lines columns (state_at_end s cs outcomes).painter (all_sent outcomes) t
+    → Run s cs outcomes → IsKnown s.painter.last t → LeadsOn lines columns (state_at_end s cs outcomes).painter (all_sent outcomes) t
 leads-run lines columns s [] [] t size fits run h = leads-nothing lines columns s.painter [] t refl fits h
 leads-run lines columns s [] (o ∷ os) t size fits run h = absurd run
 leads-run lines columns s (c ∷ cs) [] t size fits run h = absurd run
@@ -227,7 +224,7 @@ module _ {W : Type 0} (seen : W → Seen) (old at_stop new : ScreenOver W) (cs m
   leads-stop : old.painter.last ≡ None → (t : Terminal) → HasSize old.desk.windows.lines old.desk.windows.columns t.picture
       → LeadsOn old.desk.windows.lines old.desk.windows.columns at_stop.painter (all_sent outcomes) t
   leads-stop nothing t fits =
-      let none : IsKnown old.painter t = subst (λ o. MatchOption o ⊤ (λ shown. t ≡ showing shown.picture shown.cursor)) (sym nothing) tt in
+      let none : IsKnown old.painter.last t = subst (λ o. MatchOption o ⊤ (λ shown. t ≡ showing shown.picture shown.cursor)) (sym nothing) tt in
       subst (λ p. LeadsOn old.desk.windows.lines old.desk.windows.columns p (all_sent outcomes) t) (ap (λ (s : State). s.painter) (sym makes.state))
       (leads-run old.desk.windows.lines old.desk.windows.columns (state_of old) made outcomes t (screen-size old one_size) fits makes.run none)
 
@@ -310,6 +307,7 @@ one-call : {W : Type 0} (seen : W → Seen) (old new : ScreenOver W) (call : Cal
     → state_of new ≡ state_after (state_of old) call answer → Writes seen old new (call ∷ []) sent → Makes seen old (call ∷ []) (record { answer = answer; sent = sent } ∷ []) new
 one-call seen old new call answer sent may state writes = record {
   run = (may, tt);
+  short = short-run (state_of old) (call ∷ []) (record { answer = answer; sent = sent } ∷ []) (may, tt);
   state = state;
   writes = subst (Writes seen old new (call ∷ [])) (sym (append-nil sent)) writes;
 }
@@ -322,7 +320,7 @@ call-shows seen old new call (Err (Refused e)) one_size h =
     shows-unbroken seen old old new (call ∷ []) (call ∷ []) (record { answer = Err e; sent = [] } ∷ [])
     (one-call seen old old call (Err e) [] (h.0, refl) refl (Writes-refused seen old call e h.0)) one_size refl h.1
 call-shows seen old new call (Err (Write fault)) one_size h =
-    shows-broken seen old old new (call ∷ []) [] [] (record { run = tt; state = refl; writes = Writes-nothing seen old }) one_size fault h.1
+    shows-broken seen old old new (call ∷ []) [] [] (record { run = tt; short = tt; state = refl; writes = Writes-nothing seen old }) one_size fault h.1
 
 -- ---- the size stays
 

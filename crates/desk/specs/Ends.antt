@@ -10,7 +10,7 @@ use Rattle.compose.specs.Calling.{MayRefuse}
 use Rattle.compose.specs.Desks.{world}
 use Rattle.world.specs.calls.Dispatch.{is_doupdate}
 use Rattle.desk.specs.States.{ScreenOver, after, state_of, wanted}
-use Rattle.desk.specs.Runs.{Outcome, MayAnswer, Run, all_sent, cells_read, flushes_after, is_accepted, is_refused, state_at_end}
+use Rattle.desk.specs.Runs.{Outcome, AreShort, MayAnswer, Run, all_sent, cells_read, flushes_after, is_accepted, is_refused, state_at_end}
 use Rattle.world.specs.declared.call.Call.{Call}
 use Rattle.world.specs.declared.call.Reply.{Reply}
 use Rattle.desk.specs.declared.screen.Fault.{Fault}
@@ -54,9 +54,10 @@ module _ {W : Type 0} (seen : W → Seen) where
   CallEnds old call (Err (Refused e)) new = MayRefuse (world old.desk) call e × (new ≡ old)
   CallEnds old call (Err (Write fault)) new = (is_doupdate call ≡ true) × IsCut old new fault
 
-  -- These calls were made one after another, and had these outcomes.
+  -- These calls were made one after another, and had these outcomes. Each doupdate sent few bytes.
   pub record Makes (old : ScreenOver W) (calls : List Call) (outcomes : List Outcome) (new : ScreenOver W) : Type 0 where
     pub run : Run (state_of old) calls outcomes
+    pub short : AreShort (state_of old) calls outcomes
     pub state : state_of new ≡ state_at_end (state_of old) calls outcomes
     pub writes : Writes old new calls (all_sent outcomes)
 

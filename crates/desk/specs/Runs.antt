@@ -1,8 +1,8 @@
 -- A run of calls: one outcome after another.
-use Rattle.std.specs.Prelude.{◌≡◌, ℕ, List, [], ◌∷◌, Bool, length, None, Result, Ok, Err, ⊤, is_ok, not}
+use Rattle.std.specs.Prelude.{◌≡◌, ℕ, ◌≤◌, if◌then◌else◌, List, [], ◌∷◌, Bool, length, None, Result, Ok, Err, ⊤, is_ok, not}
 use Rattle.std.specs.List.{flat_map}
 use Rattle.cell.specs.declared.refusal.Refusal.{Refusal}
-use Rattle.paint.specs.Updates.{IsUpdateText}
+use Rattle.paint.specs.Updates.{IsUpdateText, most_bytes}
 use Rattle.streams.specs.Counts.{counted}
 use Rattle.compose.specs.Calling.{MayRefuse, MayTell}
 use Rattle.world.specs.calls.Dispatch.{is_doupdate, refusal}
@@ -48,6 +48,15 @@ Run s (call ∷ calls) [] = ⊥
 abbrev pub state_at_end : State → List Call → List Outcome → State
 state_at_end s (call ∷ calls) (outcome ∷ outcomes) = state_at_end (state_after s call outcome.answer) calls outcomes
 state_at_end s _ _ = s
+
+-- the most bytes that a call sends: a doupdate by what differs from what its painter knows, the others none
+abbrev pub most_sent : State → Call → ℕ
+most_sent s call = if is_doupdate call then most_bytes s.painter s.world.virtual.clear (wanted s.world) else 0
+
+-- no call sent more than that
+abbrev pub AreShort : State → List Call → List Outcome → Type 0
+AreShort s (call ∷ calls) (outcome ∷ outcomes) = (length outcome.sent ≤ most_sent s call) × AreShort (state_after s call outcome.answer) calls outcomes
+AreShort s _ _ = ⊤
 
 abbrev pub is_accepted : Outcome → Bool
 is_accepted outcome = is_ok outcome.answer
