@@ -8,7 +8,7 @@ use Rattle.desk.specs.States.{state_of}
 use Rattle.script.specs.Words.{placeless}
 use Rattle.world.specs.declared.call.Call.{Call}
 use Rattle.world.specs.declared.call.Call.TheVariants.{Making, Writing, Copying, Query, Stacking, Refresh}
-use Rattle.world.specs.declared.call.Writing.TheVariants.{Move, Addch, Addstr, Insch, Delch, Insertln, Deleteln, Erase, Clrtoeol, Clrtobot, Scrl, Setscrreg, Scrollok, Attrset, Attron, Attroff, Bkgdset, ColorSet, Bkgdpair}
+use Rattle.world.specs.declared.call.Writing.TheVariants.{Move, Addch, Addstr, Insch, Delch, Insertln, Deleteln, Erase, Clear, Clrtoeol, Clrtobot, Scrl, Setscrreg, Scrollok, Clearok, Attrset, Attron, Attroff, Bkgdset, ColorSet, Bkgdpair}
 use Rattle.world.specs.declared.call.Reply.{Reply}
 use Rattle.desk.specs.declared.screen.Fault.TheVariants.{Refused, Write}
 use Rattle.desk.specs.States.{ScreenOver}
@@ -30,11 +30,13 @@ module _ {W : Type 0} (seen : W → Seen) where
   placeless_ends old (Writing (Insertln win)) r new h = h
   placeless_ends old (Writing (Deleteln win)) r new h = h
   placeless_ends old (Writing (Erase win)) r new h = h
+  placeless_ends old (Writing (Clear win)) r new h = h
   placeless_ends old (Writing (Clrtoeol win)) r new h = h
   placeless_ends old (Writing (Clrtobot win)) r new h = h
   placeless_ends old (Writing (Scrl win n)) r new h = h
   placeless_ends old (Writing (Setscrreg win top bottom)) r new h = h
   placeless_ends old (Writing (Scrollok win flag)) r new h = h
+  placeless_ends old (Writing (Clearok win flag)) r new h = h
   placeless_ends old (Writing (Attrset win attrs)) r new h = h
   placeless_ends old (Writing (Attron win attrs)) r new h = h
   placeless_ends old (Writing (Attroff win attrs)) r new h = h

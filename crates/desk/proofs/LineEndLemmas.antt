@@ -15,7 +15,7 @@ use Rattle.script.specs.Log.{log_line}
 use Rattle.desk.specs.ScriptEnds.{LineEnds}
 use Rattle.world.specs.declared.call.Call.{Call}
 use Rattle.world.specs.declared.call.Call.TheVariants.{Making, Writing, Copying, Query, Stacking, Refresh}
-use Rattle.world.specs.declared.call.Refresh.TheVariants.{UpdatePanels, Doupdate, InitPair}
+use Rattle.world.specs.declared.call.Refresh.TheVariants.{Noutrefresh, Pnoutrefresh, UpdatePanels, Doupdate, InitPair}
 use Rattle.world.specs.declared.call.Reply.{Reply}
 use Rattle.cell.specs.declared.refusal.Refusal.{Refusal}
 use Rattle.streams.specs.declared.sending.WriteFault.{WriteFault}
@@ -30,6 +30,8 @@ the_doupdate (Writing w) h = cc
 the_doupdate (Copying w) h = cc
 the_doupdate (Query q) h = cc
 the_doupdate (Stacking s) h = cc
+the_doupdate (Refresh (Noutrefresh win)) h = cc
+the_doupdate (Refresh (Pnoutrefresh pad pminrow pmincol sminrow smincol smaxrow smaxcol)) h = cc
 the_doupdate (Refresh UpdatePanels) h = cc
 the_doupdate (Refresh (InitPair pair foreground background)) h = cc
 the_doupdate (Refresh Doupdate) h = refl

@@ -29,7 +29,7 @@ use Rattle.desk.specs.States.{state_of}
 use Rattle.desk.specs.Showing.{EndsInDoupdate, EndsInUpdate, ShowsWorld, RunShows, showing_virtual}
 use Rattle.world.specs.declared.call.Call.{Call}
 use Rattle.world.specs.declared.call.Call.TheVariants as calls
-use Rattle.world.specs.declared.call.Refresh.TheVariants.{UpdatePanels, Doupdate, InitPair}
+use Rattle.world.specs.declared.call.Refresh.TheVariants.{Noutrefresh, Pnoutrefresh, UpdatePanels, Doupdate, InitPair}
 use Rattle.world.specs.declared.call.Reply.{Reply}
 use Rattle.desk.specs.declared.screen.RunEnd.{RunEnd}
 use Rattle.desk.specs.States.{HasOneSize, KeepsSize, ScreenOver}
@@ -51,6 +51,8 @@ size-painter s (calls.Writing writing) = (refl, refl)
 size-painter s (calls.Copying copying) = (refl, refl)
 size-painter s (calls.Query query) = (refl, refl)
 size-painter s (calls.Stacking stacking) = (refl, refl)
+size-painter s (calls.Refresh (Noutrefresh win)) = (refl, refl)
+size-painter s (calls.Refresh (Pnoutrefresh pad pminrow pmincol sminrow smincol smaxrow smaxcol)) = (refl, refl)
 size-painter s (calls.Refresh UpdatePanels) = (refl, refl)
 size-painter s (calls.Refresh Doupdate) = (refl, refl)
 size-painter s (calls.Refresh (InitPair pair foreground background)) = (refl, refl)
@@ -85,6 +87,8 @@ agrees-call lines columns s (calls.Writing writing) (Ok r) sent stream t size fi
 agrees-call lines columns s (calls.Copying copying) (Ok r) sent stream t size fits may h = nothing-sent s.painter stream sent t may.1.0 h
 agrees-call lines columns s (calls.Query query) (Ok r) sent stream t size fits may h = nothing-sent s.painter stream sent t may.1.0 h
 agrees-call lines columns s (calls.Stacking stacking) (Ok r) sent stream t size fits may h = nothing-sent s.painter stream sent t may.1.0 h
+agrees-call lines columns s (calls.Refresh (Noutrefresh win)) (Ok r) sent stream t size fits may h = nothing-sent s.painter stream sent t may.1.0 h
+agrees-call lines columns s (calls.Refresh (Pnoutrefresh pad pminrow pmincol sminrow smincol smaxrow smaxcol)) (Ok r) sent stream t size fits may h = nothing-sent s.painter stream sent t may.1.0 h
 agrees-call lines columns s (calls.Refresh UpdatePanels) (Ok r) sent stream t size fits may h = nothing-sent s.painter stream sent t may.1.0 h
 agrees-call lines columns s (calls.Refresh (InitPair pair foreground background)) (Ok r) sent stream t size fits may h = nothing-sent s.painter stream sent t may.1.0 h
 agrees-call lines columns s (calls.Refresh Doupdate) (Ok r) sent stream t size fits may h =
@@ -119,6 +123,8 @@ leads-call lines columns s (calls.Writing writing) (Ok r) sent t size fits may h
 leads-call lines columns s (calls.Copying copying) (Ok r) sent t size fits may h = leads-nothing lines columns s.painter sent t may.1.0 fits h
 leads-call lines columns s (calls.Query query) (Ok r) sent t size fits may h = leads-nothing lines columns s.painter sent t may.1.0 fits h
 leads-call lines columns s (calls.Stacking stacking) (Ok r) sent t size fits may h = leads-nothing lines columns s.painter sent t may.1.0 fits h
+leads-call lines columns s (calls.Refresh (Noutrefresh win)) (Ok r) sent t size fits may h = leads-nothing lines columns s.painter sent t may.1.0 fits h
+leads-call lines columns s (calls.Refresh (Pnoutrefresh pad pminrow pmincol sminrow smincol smaxrow smaxcol)) (Ok r) sent t size fits may h = leads-nothing lines columns s.painter sent t may.1.0 fits h
 leads-call lines columns s (calls.Refresh UpdatePanels) (Ok r) sent t size fits may h = leads-nothing lines columns s.painter sent t may.1.0 fits h
 leads-call lines columns s (calls.Refresh (InitPair pair foreground background)) (Ok r) sent t size fits may h = leads-nothing lines columns s.painter sent t may.1.0 fits h
 leads-call lines columns s (calls.Refresh Doupdate) (Ok r) sent t size fits may h =

@@ -13,7 +13,7 @@ use Rattle.world.specs.calls.Dispatch.{is_doupdate, refresh_refusal}
 use Rattle.world.specs.declared.call.Call.{Call}
 use Rattle.world.specs.declared.call.Call.TheVariants as calls
 use Rattle.world.specs.declared.call.Refresh.{Refresh}
-use Rattle.world.specs.declared.call.Refresh.TheVariants.{UpdatePanels, Doupdate, InitPair}
+use Rattle.world.specs.declared.call.Refresh.TheVariants.{Noutrefresh, Pnoutrefresh, UpdatePanels, Doupdate, InitPair}
 use Rattle.world.specs.declared.call.Reply.{Reply}
 use Rattle.world.specs.declared.call.Reply.TheVariants.{Sent}
 use Rattle.compose.specs.Desks.{DeskTable, world}
@@ -24,7 +24,7 @@ use Rattle.desk.specs.Ends.{CallEnds, Writes}
 use Rattle.desk.specs.declared.screen.Fault.TheVariants.{Refused, Write}
 
 -- a call that has no test and takes no memory is never refused
-pub never-refused : (w : World) (refresh : Refresh) (e : Refusal) → refresh_refusal refresh ≡ None → MayRefuse w (calls.Refresh refresh) e → ⊥
+pub never-refused : (w : World) (refresh : Refresh) (e : Refusal) → refresh_refusal w.windows refresh ≡ None → MayRefuse w (calls.Refresh refresh) e → ⊥
 never-refused w refresh e none (inl h) = let no : ◌≡◌ {A = Option Refusal} None (Some e) = sym none ∙ h in cc
 never-refused w refresh e none (inr h) = let no : false ≡ true = h.1 in cc
 
@@ -65,6 +65,8 @@ module _ {W : Type 0} (seen : W → Seen) where
   Writes-refused old (calls.Copying k) e h = quiet old old (calls.Copying k) refl refl
   Writes-refused old (calls.Query q) e h = quiet old old (calls.Query q) refl refl
   Writes-refused old (calls.Stacking s) e h = quiet old old (calls.Stacking s) refl refl
+  Writes-refused old (calls.Refresh (Noutrefresh win)) e h = quiet old old (calls.Refresh (Noutrefresh win)) refl refl
+  Writes-refused old (calls.Refresh (Pnoutrefresh pad pminrow pmincol sminrow smincol smaxrow smaxcol)) e h = quiet old old (calls.Refresh (Pnoutrefresh pad pminrow pmincol sminrow smincol smaxrow smaxcol)) refl refl
   Writes-refused old (calls.Refresh UpdatePanels) e h = absurd (never-refused (world old.desk) UpdatePanels e refl h)
   Writes-refused old (calls.Refresh Doupdate) e h = absurd (never-refused (world old.desk) Doupdate e refl h)
   Writes-refused old (calls.Refresh (InitPair pair foreground background)) e h = quiet old old (calls.Refresh (InitPair pair foreground background)) refl refl
@@ -84,6 +86,10 @@ module _ {W : Type 0} (seen : W → Seen) where
       ((λ i. record { world = world (h.2 i); painter = old.painter }), ([], (h.0, (refl, h.1)), quiet old (record old { desk = desk }) (calls.Query q) refl refl))
   called-ends old desk (calls.Stacking s) reply other h =
       ((λ i. record { world = h.2 i; painter = old.painter }), ([], (h.0, (refl, h.1)), quiet old (record old { desk = desk }) (calls.Stacking s) refl refl))
+  called-ends old desk (calls.Refresh (Noutrefresh win)) reply other h =
+      ((λ i. record { world = h.2 i; painter = old.painter }), ([], (h.0, (refl, h.1)), quiet old (record old { desk = desk }) (calls.Refresh (Noutrefresh win)) refl refl))
+  called-ends old desk (calls.Refresh (Pnoutrefresh pad pminrow pmincol sminrow smincol smaxrow smaxcol)) reply other h =
+      ((λ i. record { world = h.2 i; painter = old.painter }), ([], (h.0, (refl, h.1)), quiet old (record old { desk = desk }) (calls.Refresh (Pnoutrefresh pad pminrow pmincol sminrow smincol smaxrow smaxcol)) refl refl))
   called-ends old desk (calls.Refresh UpdatePanels) reply other h =
       ((λ i. record { world = h.2 i; painter = old.painter }), ([], (h.0, (refl, h.1)), quiet old (record old { desk = desk }) (calls.Refresh UpdatePanels) refl refl))
   called-ends old desk (calls.Refresh Doupdate) reply other h = cc
