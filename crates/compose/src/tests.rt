@@ -2,7 +2,7 @@ use crate::Desk;
 use cell::{Refusal, WinId};
 use std::alloc::Global;
 use std::test::Fail;
-use world::{Call, Composed, Making, PanelId, Reply, Writing};
+use world::{Call, Composed, Making, PanelId, Reply, Stacking, Writing};
 
 const SCREEN: WinId = WinId(0);
 
@@ -36,6 +36,18 @@ fn composed(desk: &mut Desk, alloc: Global) -> Result<Vec<u8>, Fail> {
         }
     }
     Ok(shown)
+}
+
+/// The characters of what the search finds now.
+fn found(desk: &Desk, alloc: Global) -> Result<Vec<u8>, Fail> {
+    let (lines, columns) = desk.size();
+    let mut found = Vec::new(alloc);
+    for y in 0..lines {
+        for x in 0..columns {
+            found.push(desk.picture(y, x).ch())?;
+        }
+    }
+    Ok(found)
 }
 
 #[test]
@@ -99,5 +111,36 @@ fn panels_cover_what_is_below_them(rt: HostRuntime) -> Result<(), Fail> {
         b"aa  ".as_slice()
     );
     assert_eq!(rt; desk.new_panel(WinId(0)), Err(Refusal::StandardScreen));
+    Ok(())
+}
+
+#[test]
+fn a_desk_makes_calls_on_panels_as_data(rt: HostRuntime) -> Result<(), Fail> {
+    let mut desk = Desk::new(rt.alloc(), 1, 4)?;
+    let first = panel(&mut desk, 0, b'a')?;
+    let second = panel(&mut desk, 1, b'b')?;
+    let calls = [
+        Stacking::MovePanel {
+            panel: second,
+            y: 0,
+            x: 2,
+        },
+        Stacking::PanelAbove { panel: Some(first) },
+        Stacking::PanelWindow { panel: second },
+    ];
+    let replies = [
+        Reply::Nothing,
+        Reply::Panel(Some(second)),
+        Reply::Number(WinId(2)),
+    ];
+    for (call, reply) in calls.into_iter().zip(replies) {
+        assert_eq!(rt; desk.call(&Call::Stacking(call)), Ok(reply));
+    }
+    assert_eq!(rt; found(&desk, rt.alloc())?.as_slice(), b"aabb".as_slice());
+    assert_eq!(rt;
+        [desk.panel_below(None), desk.panel_below(Some(first))],
+        [Ok(Some(second)), Ok(None)]
+    );
+    assert_eq!(rt; desk.panel_hidden(first), Ok(false));
     Ok(())
 }
