@@ -22,6 +22,9 @@ use cell::{Frame, Grid, Pairs, Refusal, Shown, WinId};
 use grids::Grids;
 use windows::Windows;
 
+#[cfg(test)]
+mod tests;
+
 impl Desk {
     /// Takes what is touched of a window into the virtual screen, at the window's place, with its cursor. Then no place of it is touched;
     /// and if it asked for a clear screen, the virtual screen does so in its stead.

@@ -94,6 +94,26 @@ fn lines_and_characters_are_inserted_deleted_and_cleared(rt: HostRuntime) -> Res
     Ok(())
 }
 
+/// Whether a window asks for a clear screen.
+fn asks_for_clear(windows: &Windows, win: WinId) -> Result<bool, Fail> {
+    if windows.table.has_window(win) {
+        Ok(windows.table.settings(win).clear)
+    } else {
+        Err("no such window".into())
+    }
+}
+
+#[test]
+fn a_window_asks_for_a_clear_screen(rt: HostRuntime) -> Result<(), Fail> {
+    let mut windows = Windows::new(rt.alloc(), 1, 2)?;
+    write(&mut windows, "ab")?;
+    assert_eq!(rt; windows.wclear(SCREEN), Ok(lines(0, 0, 0, 1)));
+    assert!(rt; shows(&windows, ["  "].as_slice())? && asks_for_clear(&windows, SCREEN)?);
+    assert_eq!(rt; windows.clearok(SCREEN, false), Ok(()));
+    assert!(rt; !asks_for_clear(&windows, SCREEN)?);
+    Ok(())
+}
+
 #[test]
 fn written_cells_have_attributes_a_pair_and_a_background(rt: HostRuntime) -> Result<(), Fail> {
     let mut windows = Windows::new(rt.alloc(), 1, 6)?;
