@@ -1,4 +1,5 @@
--- The screen lines on which a call can change the picture, and how many cells of windows an update_panels may read for them.
+-- The screen lines on which a call can change the picture, or lays cells over the virtual screen, and how many cells of windows an
+-- update_panels may read for them.
 -- X/Open Curses Issue 7 and NetBSD panel(3) say nothing of what a refresh reads: these bounds are Curspan's own.
 use Rattle.std.specs.Prelude.{ℕ, ◌+◌, ◌-◌, ◌*◌, Bool, true, false, if◌then◌else◌, ◌==◌, ◌&&◌, ◌||◌, Option, Some, None, is_some, is_none, List, [], ◌∷◌}
 use Rattle.std.specs.List.{count_by, list_any, range_with_len}
