@@ -1,0 +1,50 @@
+#!/usr/bin/env bash
+# A menu: the up and down keys (or k and j) move, Enter chooses, q leaves. What was chosen goes to standard output, with status 0;
+# where nothing was, the status is 1. The keys are read by the shell: choice=$(examples/menu.sh red green blue)
+set -uo pipefail
+. "$(dirname "$(readlink -f "${BASH_SOURCE[0]}")")/screen.bash"
+
+items=("$@")
+count=${#items[@]}
+if [ "$count" = 0 ] || [ "$count" -gt 20 ]; then
+    echo 'usage: examples/menu.sh ITEM.. (20 at most)' >&2
+    exit 2
+fi
+
+# Writes an item, from edge to edge of the list.
+write_item() {
+    local text
+    printf -v text ' %-34.34s' "${items[$1]}"
+    call move "$list" "$1" 0
+    write_text "$list" "$text"
+}
+
+# Shows the chosen item in reverse.
+point_at() {
+    call attrset "$list" 10
+    write_item "$1"
+    call attrset "$list" 00
+    show
+}
+
+open_screen $((count + 2)) 38
+border 0 $((count + 2)) 38 menu
+ask derwin 0 "$count" 36 1 1 || exit
+list=$answer
+for ((i = 0; i < count; i++)); do write_item "$i"; done
+
+at=0
+chosen=
+point_at 0
+while read_key; do
+    write_item "$at"
+    case $key in
+        up | k) at=$(((at + count - 1) % count)) ;;
+        down | j) at=$(((at + 1) % count)) ;;
+        enter) chosen=${items[at]}; break ;;
+        q | escape) break ;;
+    esac
+    point_at "$at"
+done
+close_screen
+[ -n "$chosen" ] && printf '%s\n' "$chosen"
