@@ -5,7 +5,7 @@ use Rattle.desk.specs.States.{State}
 use Rattle.desk.specs.Runs.{Outcome, AreShort, MayAnswer, Run, most_sent, state_after}
 use Rattle.world.specs.declared.call.Call.{Call}
 use Rattle.world.specs.declared.call.Call.TheVariants as calls
-use Rattle.world.specs.declared.call.Refresh.TheVariants.{UpdatePanels, Doupdate, InitPair}
+use Rattle.world.specs.declared.call.Refresh.TheVariants.{Noutrefresh, Pnoutrefresh, UpdatePanels, Doupdate, InitPair}
 use Rattle.world.specs.declared.call.Reply.{Reply}
 
 sends-nothing : (sent : List ℕ) (most : ℕ) → sent ≡ [] → length sent ≤ most
@@ -17,6 +17,9 @@ short-call s (calls.Making making) (Ok r) sent may = sends-nothing sent 0 may.1.
 short-call s (calls.Writing writing) (Ok r) sent may = sends-nothing sent 0 may.1.0
 short-call s (calls.Copying copying) (Ok r) sent may = sends-nothing sent 0 may.1.0
 short-call s (calls.Query query) (Ok r) sent may = sends-nothing sent 0 may.1.0
+short-call s (calls.Stacking stacking) (Ok r) sent may = sends-nothing sent 0 may.1.0
+short-call s (calls.Refresh (Noutrefresh win)) (Ok r) sent may = sends-nothing sent 0 may.1.0
+short-call s (calls.Refresh (Pnoutrefresh pad pminrow pmincol sminrow smincol smaxrow smaxcol)) (Ok r) sent may = sends-nothing sent 0 may.1.0
 short-call s (calls.Refresh UpdatePanels) (Ok r) sent may = sends-nothing sent 0 may.1.0
 short-call s (calls.Refresh (InitPair pair foreground background)) (Ok r) sent may = sends-nothing sent 0 may.1.0
 short-call s (calls.Refresh Doupdate) (Ok r) sent may = may.1.0.short
