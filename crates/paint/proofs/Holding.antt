@@ -1,18 +1,14 @@
 -- The strokes of a doupdate make a text of it.
-use Rattle.std.proofs.Common.{◌≡◌, Bool, true, false, ℕ, ◌*◌, ◌<◌, ◌≤◌, List, [], ◌∷◌, ◌++◌, length, Option, Some, None, refl, sym, ap, ◌∙◌, subst, inl, inr, arith, append_assoc, length-append}
+use Rattle.std.proofs.Common.{◌≡◌, Bool, true, false, ℕ, ◌*◌, ◌<◌, ◌≤◌, List, [], ◌∷◌, ◌++◌, length, Option, Some, None, refl, sym, ap, ◌∙◌, subst, arith, append_assoc, length-append}
 use Rattle.std.specs.Prelude.{if◌then◌else◌}
-use Rattle.std.specs.Fmt.{digits}
 use Rattle.std.specs.List.{AllByRecursion}
-use Rattle.std.proofs.lemmas.Bool.{cases_Bool}
 use Rattle.std.proofs.lemmas.List.{nil_from_length}
-use Rattle.cell.specs.Shown.{Shown, Rendition, no_rendition, has_colour}
+use Rattle.cell.specs.Shown.{Shown, no_rendition, has_colour}
 use Rattle.cell.specs.Pictures.{Picture, Place, HasSize, line_of}
 use Rattle.cell.proofs.PictureLemmas.{length-line}
-use Rattle.ecma.specs.Difference.{same_rendition, same_shown, line_difference, line_colour_difference, difference, colour_difference}
-use Rattle.ecma.specs.Spelling.{spelling, codes_of_attributes}
+use Rattle.ecma.specs.Difference.{same_shown, line_difference, line_colour_difference, difference, colour_difference}
 use Rattle.ecma.specs.Streams.{Leads, Shows, showing}
 use Rattle.ecma.specs.Terminals.{Terminal}
-use Rattle.ecma.specs.declared.token.Token.TheVariants.{Sgr}
 use Rattle.ecma.proofs.Joining.{Leads-append, Leads-in_profile, Reaches-in_profile}
 use Rattle.ecma.proofs.Leading.{Leads-nothing}
 use Rattle.ecma.proofs.Failing.{Reaches-unique}
@@ -23,7 +19,7 @@ use Rattle.paint.specs.steps.Gathering.{IsGathered}
 use Rattle.paint.specs.steps.Holding.{HoldsUpdate, last_shown}
 use Rattle.paint.specs.steps.Strokes.{change, move_from, under, Draws, Strokes, picture_bytes}
 use Rattle.paint.proofs.Shows.{opening-leads}
-use Rattle.paint.proofs.Strokes.{change-same, change-other, length-move}
+use Rattle.paint.proofs.Strokes.{length-ended, length-move}
 use Rattle.cell.specs.declared.limits.TheConstants.{LARGEST_SCREEN}
 
 -- ---- an empty text
@@ -64,16 +60,6 @@ most columns (line ∷ old) [] few wide = omega arith
 most columns (line ∷ old) (other ∷ new) few wide = omega (arith, line-most line other, wide.0, most columns old new few wide.1)
 
 -- ---- the end of a text
-
-four : length (spelling (Sgr no_rendition)) ≡ 4
-unfolding spelling codes_of_attributes digits
-four = refl
-
-length-ended : (old : Rendition) → length (change old no_rendition) ≤ 4
-length-ended old = elim (cases_Bool (same_rendition no_rendition old)) [
-  | inl same ↦ rw (change-same old no_rendition same) (omega arith)
-  | inr other ↦ rw (change-other old no_rendition other) (omega (arith, four))
-]
 
 opening-few : (last : Option ShownPicture) → length (opening_from last) ≤ 14
 opening-few None = omega arith

@@ -2,6 +2,7 @@ pub mod Gathering
 pub mod Strokes
 pub mod Mixed
 pub mod Walks
+pub mod Tails
 pub mod Shows
 pub mod Holding
 pub mod Updating

@@ -1,9 +1,7 @@
 -- A list whose first items are those of another one.
 use Rattle.std.proofs.Common.{◌≡◌, ℕ, zero, suc, ◌+◌, ◌-◌, ◌<◌, ◌≤◌, List, [], ◌∷◌, ◌++◌, length, get_or, set, take, drop, refl, sym, ap, ◌∙◌, arith}
-use Rattle.std.proofs.lemmas.List.{drop_all, drop-drop, take-append-drop}
-
-abbrev pub mixed : {A : Type 0} → ℕ → List A → List A → List A
-mixed x new old = take x new ++ drop x old
+use Rattle.std.proofs.lemmas.List.{drop_all, drop-drop, drop-take, length-take-le, take-append-le, take-append-drop, take_all}
+use Rattle.paint.specs.steps.Walks.{mixed}
 
 set-mixed : {A : Type 0} (other : A) (x : ℕ) (new old : List A) → x < length old → length old ≡ length new → set (mixed x new old) x (get_or new x other) ≡ mixed (suc x) new old
 set-mixed other x new [] h same = absurd (omega arith)
@@ -52,3 +50,15 @@ pub drop-later : {A : Type 0} (n x : ℕ) (one other : List A) → n ≤ x → d
 drop-later n x one other h e =
     let split : n + (x - n) ≡ x = omega arith in
     ap (λ i. drop i one) (sym split) ∙ sym (drop-drop (x - n) n one) ∙ ap (drop (x - n)) e ∙ drop-drop (x - n) n other ∙ ap (λ i. drop i other) split
+
+-- the first items are those of the new one
+pub take-mixed : {A : Type 0} (x : ℕ) (new old : List A) → x ≤ length new → take x (mixed x new old) ≡ take x new
+take-mixed x new old h =
+    let long = length-take-le x new h in
+    take-append-le x (take x new) (drop x old) (omega (arith, long)) ∙ take_all x (take x new) (omega (arith, long))
+
+-- and so are those between two of them
+pub between : {A : Type 0} (start x : ℕ) (one other : List A) → start ≤ x → take x one ≡ take x other → take (x - start) (drop start one) ≡ take (x - start) (drop start other)
+between start x one other h e =
+    let split : start + (x - start) ≡ x = omega arith in
+    sym (drop-take start (x - start) one) ∙ ap (λ n. drop start (take n one)) split ∙ ap (drop start) e ∙ ap (λ n. drop start (take n other)) (sym split) ∙ drop-take start (x - start) other

@@ -1,13 +1,17 @@
 -- The strokes of a pen, one after another, and what each shows.
-use Rattle.std.proofs.Common.{◌≡◌, ℕ, ◌+◌, ◌<◌, ◌≤◌, true, false, List, [], ◌∷◌, ◌++◌, length, Option, Some, None, inl, inr, refl, sym, ap, subst, arith, append_assoc, append-nil, length-append}
-use Rattle.std.specs.Prelude.{if◌then◌else◌, ◌&&◌, ◌==◌}
+use Rattle.std.proofs.Common.{◌≡◌, ℕ, ◌+◌, ◌<◌, ◌≤◌, true, false, List, [], ◌∷◌, ◌++◌, length, Option, Some, None, inl, inr, get_or, set, take, drop, add-zero, refl, sym, ap, ◌∙◌, subst, arith, append_assoc, append-nil, length-append}
+use Rattle.std.specs.Prelude.{◌&&◌, ◌==◌}
 use Rattle.std.proofs.lemmas.Bool.{and_parts, cases_Bool, eqb-true, lt-ltb}
-use Rattle.cell.specs.Shown.{Shown, Rendition, IsRendition, IsShown, has_colour}
+use Rattle.std.proofs.lemmas.List.{get_or-drop, get_or-take, set-get_or}
+use Rattle.cell.specs.Shown.{shown_blank, no_rendition, Shown, Rendition, IsRendition, IsShown}
 use Rattle.cell.specs.Pictures.{Picture, Place, line_of, with_shown}
 use Rattle.ecma.specs.Difference.{same_rendition}
 use Rattle.ecma.specs.declared.token.Token.{Token}
-use Rattle.ecma.specs.declared.token.Token.TheVariants.{Print, Cup, Sgr}
-use Rattle.ecma.specs.Spelling.{spelling, token_effect, IsToken}
+use Rattle.ecma.specs.declared.token.Token.TheVariants.{Print, Cup, Sgr, El}
+use Rattle.ecma.specs.declared.token.Erase.TheVariants.{ToEnd}
+use Rattle.std.specs.Fmt.{digits}
+use Rattle.ecma.specs.Spelling.{spelling, codes_of_attributes, token_effect, IsToken}
+use Rattle.ecma.specs.Terminals.{erased_at}
 use Rattle.ecma.proofs.Joining.{Leads-append}
 use Rattle.ecma.proofs.Leading.{Leads-nothing, Leads-token}
 use Rattle.ecma.proofs.Lengths.{length-selection, length-spelling}
@@ -17,7 +21,7 @@ use Rattle.streams.specs.Sinks.{Seen}
 use Rattle.paint.specs.declared.outbox.Outbox.{Outbox}
 use Rattle.paint.specs.declared.pen.Pen.{Pen}
 use Rattle.paint.specs.steps.Gathering.{Gathers, IsGathered}
-use Rattle.paint.specs.steps.Strokes.{behind, change, is_at, move_from, under, Draws, Strokes, cell_bytes}
+use Rattle.paint.specs.steps.Strokes.{behind, change, is_at, move_from, under, Draws, Strokes, approach_bytes, cell_bytes}
 
 -- ---- one after another
 
@@ -128,6 +132,64 @@ prints old new place cell picture is known same wide gathers rendition cursor = 
     (rw (spelled-print cell.character) gathers)
     (rw (cursor, rendition, known, same, wide) refl))
 
+-- ---- cells that are shown already
+
+-- the first of them were printed
+pub record ArePrinted (before now : Seen) (old pen : Pen) (line column i : ℕ) (cells : List Shown) : Type 0 where
+  pub strokes : (picture : Picture) → length (line_of picture line) ≡ old.columns → take (length cells) (drop column (line_of picture line)) ≡ cells → Strokes i before now old pen picture picture
+  pub rendition : pen.rendition ≡ old.rendition
+  pub cursor : pen.cursor ≡ Some (line, column + i)
+  pub columns : pen.columns ≡ old.columns
+
+pub printed-none : (seen : Seen) (pen : Pen) (line column : ℕ) (cells : List Shown) → pen.cursor ≡ Some (line, column) → ArePrinted seen seen pen pen line column 0 cells
+printed-none seen pen line column cells cursor = record {
+  strokes = λ picture wide are. Strokes-nothing seen pen picture;
+  rendition = refl;
+  cursor = cursor ∙ ap (λ n. Some (line, n)) (sym (add-zero column));
+  columns = refl;
+}
+
+-- a cell of them stands where it is printed
+stands : (picture : Picture) (line column i : ℕ) (cells : List Shown) (cell : Shown) → take (length cells) (drop column (line_of picture line)) ≡ cells → i < length cells
+    → cell ≡ get_or cells i shown_blank → with_shown picture (line, column + i) cell ≡ picture
+stands picture line column i cells cell are inside is =
+    let row = line_of picture line in
+    let there : cell ≡ get_or row (column + i) shown_blank =
+    is ∙ ap (λ l. get_or l i shown_blank) (sym are) ∙ get_or-take (length cells) (drop column row) i shown_blank inside ∙ get_or-drop column row i shown_blank in
+    ap (λ c. set picture line (set row (column + i) c)) there
+    ∙ ap (set picture line) (set-get_or row (column + i) shown_blank)
+    ∙ set-get_or picture line []
+
+pub printed-more : {before mid now : Seen} {old pen next : Pen} {line column i : ℕ} {cells : List Shown} (cell : Shown) → ArePrinted before mid old pen line column i cells → i < length cells
+    → cell ≡ get_or cells i shown_blank → column + length cells < old.columns
+    → ((picture : Picture) → length (line_of picture line) ≡ pen.columns → Draws (cell.character ∷ []) mid now pen next picture (with_shown picture (line, column + i) cell))
+    → next.rendition ≡ pen.rendition → next.cursor ≡ behind pen.columns (line, column + i) → next.columns ≡ pen.columns
+    → ArePrinted before now old next line column (i + 1) cells
+printed-more {before} {mid} {now} {old} {pen} {next} {line} {column} {i} {cells} cell h inside is room draws rendition cursor columns = record {
+  strokes = λ picture wide are.
+      let one : Strokes 1 mid now pen next picture picture = record {
+        piece = cell.character ∷ [];
+        draws = subst (Draws (cell.character ∷ []) mid now pen next picture) (stands picture line column i cells cell are inside is) (draws picture (wide ∙ sym h.columns));
+        short = omega arith;
+      } in
+      Strokes-then (h.strokes picture wide are) one;
+  rendition = rendition ∙ h.rendition;
+  cursor =
+      let more : column + i + 1 < pen.columns = omega (arith, room, h.columns) in
+      let next_column : column + i + 1 ≡ column + (i + 1) = omega arith in
+      cursor ∙ rw (lt-ltb (column + i + 1) pen.columns more) (ap (λ n. Some (line, n)) next_column);
+  columns = columns ∙ h.columns;
+}
+
+-- ---- erasing
+
+pub erases-line : {before after : Seen} (old new : Pen) (place : Place) (picture : Picture) → old.cursor ≡ Some place → old.rendition ≡ no_rendition
+    → Gathers before after old.outbox new.outbox (spelling (El ToEnd)) → new ≡ record old { outbox = new.outbox }
+    → Draws (spelling (El ToEnd)) before after old new picture (erased_at ToEnd place picture)
+erases-line old new place picture cursor plain gathers rest =
+    Draws-token (El ToEnd) picture (erased_at ToEnd place picture) tt gathers
+    (rw (cursor, plain) (λ i. Some (record { picture = erased_at ToEnd place picture; cursor = (sym cursor ∙ sym (ap (λ (p : Pen). p.cursor) rest)) i; rendition = (sym plain ∙ sym (ap (λ (p : Pen). p.rendition) rest)) i })))
+
 -- ---- the end: a move behind what left the cursor where it was
 
 pub ends : {a b c : Seen} {x y z : Pen} {one : List ℕ} {picture : Picture} (place : Place) → Draws one a b x y picture picture → y.cursor ≡ x.cursor
@@ -142,24 +204,56 @@ length-move cursor place few_lines few_columns = elim (cases_Bool (is_at cursor 
   | inr there ↦ rw (move-some cursor place there) (length-spelling (Cup place.0 place.1) (few_lines, few_columns))
 ]
 
-pub length-change : (old new : Rendition) → IsRendition new → length (change old new) ≤ 16 + (if has_colour new then 6 else 0)
-length-change old new is = elim (cases_Bool (same_rendition new old)) [
+pub length-change : (old new : Rendition) → length (change old new) ≤ length (spelling (Sgr new))
+length-change old new = elim (cases_Bool (same_rendition new old)) [
   | inl same ↦ rw (change-same old new same) (omega arith)
-  | inr other ↦ rw (change-other old new other) (length-selection new is)
+  | inr other ↦ rw (change-other old new other) (omega arith)
 ]
 
--- a cell is drawn at its place
-pub cell-strokes : {a b c d : Seen} {x y z w : Pen} {picture drawn : Picture} (place : Place) (cell : Shown) → place.0 < LARGEST_SCREEN → place.1 < LARGEST_SCREEN → IsRendition cell.rendition
-    → Draws (move_from x.cursor place) a b x y picture picture → Draws (change y.rendition cell.rendition) b c y z picture picture → Draws (cell.character ∷ []) c d z w picture drawn
-    → Strokes (cell_bytes cell) a d x w picture drawn
-cell-strokes {x} {y} place cell few_lines few_columns is h k l = record {
-  piece = (move_from x.cursor place ++ change y.rendition cell.rendition) ++ cell.character ∷ [];
-  draws = Draws-then (Draws-then h k) l;
-  short = omega (
-    arith,
-    length-append (move_from x.cursor place ++ change y.rendition cell.rendition) (cell.character ∷ []),
-    length-append (move_from x.cursor place) (change y.rendition cell.rendition),
-    length-move x.cursor place few_lines few_columns,
-    length-change y.rendition cell.rendition is,
-  );
+-- ---- an approach, and a cell behind it
+
+pub approach-move : {a b c : Seen} {x y z : Pen} {picture : Picture} (place : Place) (rendition : Rendition) → place.0 < LARGEST_SCREEN → place.1 < LARGEST_SCREEN
+    → Draws (move_from x.cursor place) a b x y picture picture → Draws (change y.rendition rendition) b c y z picture picture → Strokes (approach_bytes rendition) a c x z picture picture
+approach-move {x} {y} place rendition few_lines few_columns h k = record {
+  piece = move_from x.cursor place ++ change y.rendition rendition;
+  draws = Draws-then h k;
+  short = omega (arith, length-append (move_from x.cursor place) (change y.rendition rendition), length-move x.cursor place few_lines few_columns, length-change y.rendition rendition);
+}
+
+selection-strokes : {a b : Seen} {x y : Pen} {picture : Picture} (rendition : Rendition) → Draws (change x.rendition rendition) a b x y picture picture
+    → Strokes (length (spelling (Sgr rendition))) a b x y picture picture
+selection-strokes {x} rendition h = record { piece = change x.rendition rendition; draws = h; short = length-change x.rendition rendition }
+
+pub approach-behind : {a b c : Seen} {x y z : Pen} {picture : Picture} {n : ℕ} (rendition : Rendition) → n ≤ 10
+    → Strokes n a b x y picture picture → Draws (change y.rendition rendition) b c y z picture picture → Strokes (approach_bytes rendition) a c x z picture picture
+approach-behind rendition few h k = Strokes-more (Strokes-then h (selection-strokes rendition k)) (omega (arith, few))
+
+pub approach-before : {a b c : Seen} {x y z : Pen} {picture : Picture} {n : ℕ} (rendition : Rendition) → n ≤ 10
+    → Draws (change x.rendition rendition) a b x y picture picture → Strokes n b c y z picture picture → Strokes (approach_bytes rendition) a c x z picture picture
+approach-before rendition few h k = Strokes-more (Strokes-then (selection-strokes rendition h) k) (omega (arith, few))
+
+pub cell-strokes : {a b c : Seen} {x y z : Pen} {picture drawn : Picture} (cell : Shown) → IsRendition cell.rendition → Strokes (approach_bytes cell.rendition) a b x y picture picture
+    → Draws (cell.character ∷ []) b c y z picture drawn → Strokes (cell_bytes cell) a c x z picture drawn
+cell-strokes cell is h k = record {
+  piece = h.piece ++ cell.character ∷ [];
+  draws = Draws-then h.draws k;
+  short = omega (arith, h.short, length-append h.piece (cell.character ∷ []), length-selection cell.rendition is);
+}
+
+-- ---- an erasure behind it
+
+four : length (spelling (Sgr no_rendition)) ≡ 4
+unfolding spelling codes_of_attributes digits
+four = refl
+
+-- the most bytes that end a rendition
+pub length-ended : (old : Rendition) → length (change old no_rendition) ≤ 4
+length-ended old = omega (arith, four, length-change old no_rendition)
+
+pub erasure-strokes : {a b c : Seen} {x y z : Pen} {picture drawn : Picture} (token : Token) → length (spelling token) ≤ 4 → Strokes (approach_bytes no_rendition) a b x y picture picture
+    → Draws (spelling token) b c y z picture drawn → Strokes 27 a c x z picture drawn
+erasure-strokes token few h k = record {
+  piece = h.piece ++ spelling token;
+  draws = Draws-then h.draws k;
+  short = omega (arith, h.short, length-append h.piece (spelling token), few, four);
 }

@@ -1,15 +1,20 @@
 -- The walk over the cells of a line, and over the lines of a picture.
-use Rattle.std.proofs.Common.{◌≡◌, Bool, ℕ, zero, suc, ◌+◌, ◌*◌, ◌<◌, ◌≤◌, true, false, List, [], ◌∷◌, length, get_or, set, take, drop, refl, sym, ap, ◌∙◌, subst, arith}
+use Rattle.std.proofs.Common.{◌≡◌, Bool, ℕ, zero, suc, ◌+◌, ◌*◌, ◌<◌, ◌≤◌, true, false, List, [], ◌∷◌, ◌++◌, length, get_or, set, take, drop, inl, inr, ◌-◌, refl, sym, ap, ◌∙◌, subst, arith}
 use Rattle.std.specs.Prelude.{if◌then◌else◌}
-use Rattle.std.proofs.lemmas.List.{drop_more, get_or-set_same, set-set, set-get_or}
+use Rattle.std.proofs.lemmas.Bool.{cases_Bool}
+use Rattle.std.proofs.lemmas.List.{drop_more, get_or-set_same, length-drop, length-take-le, set-set, set-get_or, take-append-drop}
 use Rattle.cell.specs.Shown.{Shown, shown_blank, has_colour}
+use Rattle.cell.specs.Differences.{DiffersAt}
 use Rattle.cell.specs.Pictures.{Picture, line_of, with_shown}
 use Rattle.ecma.specs.Difference.{same_shown}
 use Rattle.ecma.proofs.Difference.{same_shown-equal}
+use Rattle.ecma.specs.Terminals.{blanked, erased_at, erased_line}
+use Rattle.ecma.specs.declared.token.Erase.TheVariants.{ToEnd}
 use Rattle.streams.specs.Sinks.{Seen}
 use Rattle.paint.specs.declared.pen.Pen.{Pen}
 use Rattle.paint.specs.steps.Strokes.{Strokes, cell_bytes, line_bytes, picture_bytes}
-use Rattle.paint.proofs.Mixed.{mixed, mixed-all, mixed-at, mixed-back, mixed-front, mixed-more, mixed-same, length-mixed}
+use Rattle.paint.specs.steps.Walks.{mixed, AreBlank, IsChangedTail, IsLinePainted, IsPicturePainted}
+use Rattle.paint.proofs.Mixed.{mixed-all, mixed-at, mixed-back, mixed-front, mixed-more, mixed-same, length-mixed, between, take-mixed}
 use Rattle.paint.proofs.Strokes.{Strokes-more, Strokes-nothing, Strokes-then}
 
 -- ---- what the cells of a line may cost
@@ -35,13 +40,6 @@ line_bytes-drop (suc x) (a ∷ old) (b ∷ new) = omega (arith, line_bytes-drop 
 
 -- ---- a line
 
--- the cells before a column are the wanted ones, and those from it on may still cost what is left
-pub record IsLinePainted (before now : Seen) (old pen : Pen) (line x : ℕ) (shown wanted : List Shown) : Type 0 where
-  pub spent : ℕ
-  pub within : spent + line_bytes (drop x shown) (drop x wanted) ≤ line_bytes shown wanted
-  pub strokes : (picture : Picture) → line < length picture → line_of picture line ≡ shown → Strokes spent before now old pen picture (set picture line (mixed x wanted shown))
-  pub columns : pen.columns ≡ old.columns
-
 same-line : (picture : Picture) (line : ℕ) (cells : List Shown) → line_of picture line ≡ cells → set picture line cells ≡ picture
 same-line picture line cells is = ap (set picture line) (sym is) ∙ set-get_or picture line []
 
@@ -61,7 +59,7 @@ left x shown wanted same inside = let a = drop_more shown x shown_blank inside i
 pub line-drawn : {before mid now : Seen} {old pen next : Pen} {line x : ℕ} {shown wanted : List Shown} (cell : Shown) → length shown ≡ length wanted → x < length shown
     → IsLinePainted before mid old pen line x shown wanted → length shown ≡ old.columns → cell ≡ get_or wanted x shown_blank
     → same_shown (get_or shown x shown_blank) (get_or wanted x shown_blank) ≡ false
-    → ((picture : Picture) → length (line_of picture line) ≡ pen.columns → Strokes (cell_bytes cell) mid now pen next picture (with_shown picture (line, x) cell))
+    → ((picture : Picture) → length (line_of picture line) ≡ pen.columns → take x (line_of picture line) ≡ take x wanted → Strokes (cell_bytes cell) mid now pen next picture (with_shown picture (line, x) cell))
     → next.columns ≡ pen.columns → IsLinePainted before now old next line (x + 1) shown wanted
 line-drawn {before} {mid} {now} {old} {pen} {next} {line} {x} {shown} {wanted} cell same inside h wide is differs strokes columns = record {
   spent = h.spent + cell_bytes cell;
@@ -81,9 +79,22 @@ line-drawn {before} {mid} {now} {old} {pen} {next} {line} {x} {shown} {wanted} c
       ∙ ap (λ c. set picture line (set row x c)) is
       ∙ ap (set picture line) (mixed-more shown_blank x wanted shown inside same) in
       let long : length (line_of (set picture line row) line) ≡ pen.columns = ap length here ∙ length-mixed x wanted shown same ∙ wide ∙ sym h.columns in
-      Strokes-then (h.strokes picture high at) (subst (Strokes (cell_bytes cell) mid now pen next (set picture line row)) drawn (strokes (set picture line row) long));
+      Strokes-then (h.strokes picture high at) (subst (Strokes (cell_bytes cell) mid now pen next (set picture line row)) drawn (strokes (set picture line row) long (ap (take x) here ∙ take-mixed x wanted shown (omega arith))));
   columns = columns ∙ h.columns;
 }
+
+-- the gap before a column is that of the wanted line, and ends there
+pub record IsGap (start x : ℕ) (wanted row : List Shown) : Type 0 where
+  pub shown : take (length (take (x - start) (drop start wanted))) (drop start row) ≡ take (x - start) (drop start wanted)
+  pub end : start + length (take (x - start) (drop start wanted)) ≡ x
+
+pub gap-before : (start x : ℕ) (wanted row : List Shown) → start ≤ x → x ≤ length wanted → take x row ≡ take x wanted → IsGap start x wanted row
+gap-before start x wanted row ordered inside front =
+    let long : length (take (x - start) (drop start wanted)) ≡ x - start = length-take-le (x - start) (drop start wanted) (omega (arith, length-drop start wanted)) in
+    record {
+      shown = ap (λ n. take n (drop start row)) long ∙ between start x row wanted ordered front;
+      end = omega (arith, long);
+    }
 
 -- the next cell is shown already
 pub line-kept : {before now : Seen} {old pen : Pen} {line x : ℕ} {shown wanted : List Shown} → length shown ≡ length wanted → x < length shown
@@ -109,14 +120,51 @@ line-painted {before} {now} {old} {pen} {line} {x} {shown} {wanted} h back = λ 
     subst (λ row. Strokes (line_bytes shown wanted) before now old pen picture (set picture line row)) (mixed-back x wanted shown back)
     (Strokes-more (h.strokes picture high at) (omega (arith, h.within)))
 
--- ---- a picture
+-- ---- the end of a line is erased
 
--- the lines before this one are the wanted ones
-pub record IsPicturePainted (before now : Seen) (old pen : Pen) (line : ℕ) (shown wanted : Picture) : Type 0 where
-  pub spent : ℕ
-  pub within : spent + picture_bytes (drop line shown) (drop line wanted) ≤ picture_bytes shown wanted
-  pub strokes : Strokes spent before now old pen shown (mixed line wanted shown)
-  pub columns : pen.columns ≡ old.columns
+-- a changed cell may cost as much as a blank one
+changed-bytes : (x : ℕ) (shown wanted : List Shown) → length shown ≡ length wanted → DiffersAt shown wanted x → 27 ≤ line_bytes (drop x shown) (drop x wanted)
+changed-bytes x shown wanted same h =
+    let a = get_or shown x shown_blank in
+    let b = get_or wanted x shown_blank in
+    let other : same_shown a b ≡ false = elim (cases_Bool (same_shown a b)) [
+      | inl alike ↦ absurd (h.differs (same_shown-equal a b alike))
+      | inr other ↦ other
+    ] in
+    omega (arith, left x shown wanted same h.inside, line_bytes-other a b (drop (x + 1) shown) (drop (x + 1) wanted) other)
+
+blank-lengths : (one other : List Shown) → length one ≡ length other → blanked one ≡ blanked other
+blank-lengths [] [] same = refl
+blank-lengths [] (b ∷ other) same = absurd (omega arith)
+blank-lengths (a ∷ one) [] same = absurd (omega arith)
+blank-lengths (a ∷ one) (b ∷ other) same = ap (λ (l : List Shown). shown_blank ∷ l) (blank-lengths one other (omega arith))
+
+-- a line, erased from the column where its blank end begins, is the wanted one
+erased-line : (x : ℕ) (shown wanted : List Shown) → length shown ≡ length wanted → x ≤ length wanted → AreBlank (drop x wanted) → erased_line ToEnd x (mixed x wanted shown) ≡ wanted
+erased-line x shown wanted same few blank =
+    let back : length (drop x (mixed x wanted shown)) ≡ length (drop x wanted) =
+    length-drop x (mixed x wanted shown) ∙ ap (λ n. n - x) (length-mixed x wanted shown same ∙ same) ∙ sym (length-drop x wanted) in
+    (λ i. take-mixed x wanted shown few i ++ (blank-lengths (drop x (mixed x wanted shown)) (drop x wanted) back ∙ blank) i) ∙ take-append-drop x wanted
+
+pub line-erased : {before mid now : Seen} {old pen next : Pen} {line x : ℕ} {shown wanted : List Shown} → length shown ≡ length wanted → length shown ≡ old.columns
+    → IsLinePainted before mid old pen line x shown wanted → IsChangedTail shown wanted x
+    → ((picture : Picture) → length (line_of picture line) ≡ pen.columns → take x (line_of picture line) ≡ take x wanted → Strokes 27 mid now pen next picture (erased_at ToEnd (line, x) picture))
+    → (picture : Picture) → line < length picture → line_of picture line ≡ shown → Strokes (line_bytes shown wanted) before now old next picture (set picture line wanted)
+line-erased {mid} {now} {pen} {next} {line} {x} {shown} {wanted} same wide h tail strokes = λ picture high at.
+    let row = mixed x wanted shown in
+    let inside : x ≤ length wanted = omega (arith, tail.changed.inside) in
+    let here : line_of (set picture line row) line ≡ row = get_or-set_same picture line row [] high in
+    let drawn : erased_at ToEnd (line, x) (set picture line row) ≡ set picture line wanted =
+    ap (λ cells. set (set picture line row) line (erased_line ToEnd x cells)) here
+    ∙ set-set picture line row (erased_line ToEnd x row)
+    ∙ ap (set picture line) (erased-line x shown wanted same inside tail.blank) in
+    let long : length (line_of (set picture line row) line) ≡ pen.columns = ap length here ∙ length-mixed x wanted shown same ∙ wide ∙ sym h.columns in
+    Strokes-more
+    (Strokes-then (h.strokes picture high at)
+    (subst (Strokes 27 mid now pen next (set picture line row)) drawn (strokes (set picture line row) long (ap (take x) here ∙ take-mixed x wanted shown inside))))
+    (omega (arith, h.within, changed-bytes x shown wanted same tail.changed))
+
+-- ---- a picture
 
 pub picture-begun : (seen : Seen) (pen : Pen) (shown wanted : Picture) → IsPicturePainted seen seen pen pen 0 shown wanted
 picture-begun seen pen shown wanted = record { spent = 0; within = omega arith; strokes = Strokes-nothing seen pen shown; columns = refl }

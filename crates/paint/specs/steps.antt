@@ -1,3 +1,4 @@
 pub mod Gathering
 pub mod Strokes
+pub mod Walks
 pub mod Holding

@@ -2,10 +2,12 @@
 #![tactic(auto)]
 
 pub mod laws;
+mod gap;
 mod line;
 mod outbox;
 mod painter;
 mod pen;
+mod tail;
 
 pub use painter::Painter;
 pub use streams::{Counted, Sent, Sink, WriteFault};

@@ -1,14 +1,17 @@
 //! A pen: it knows where a terminal's cursor is and how the terminal prints, and draws there by strokes.
 
-ghost use Rattle.std.specs.Prelude.{◌≡◌, ◌<◌, ◌≤◌, ◌++◌, ◌∷◌, [], ℕ, List, length, Some, ◌^◌};
+ghost use Rattle.std.specs.Prelude.{◌≡◌, ◌+◌, ◌<◌, ◌≤◌, All, take, drop, ◌++◌, ◌∷◌, [], ℕ, List, length, Some, ◌^◌};
 ghost use Rattle.cell.specs.Shown.{no_rendition};
 ghost use Rattle.cell.specs.Pictures.{Picture, line_of, origin, with_shown};
 ghost use Rattle.ecma.specs.Spelling.{spelling, IsToken};
+ghost use Rattle.ecma.specs.Terminals.{erased_at};
+ghost use Rattle.ecma.specs.declared.token.Erase.TheVariants.{ToEnd};
+ghost use Rattle.ecma.specs.declared.token.Token.TheVariants.{El};
 ghost use Rattle.streams.specs.Sending.{Sends};
 ghost use Rattle.streams.specs.Sinks.{Seen};
 ghost use Rattle.paint.specs.Updates.{opening};
 ghost use Rattle.paint.specs.steps.Gathering.{Gathers, IsGathered};
-ghost use Rattle.paint.specs.steps.Strokes.{behind, change, is_at, move_from, Draws};
+ghost use Rattle.paint.specs.steps.Strokes.{behind, change, is_at, move_from, Draws, Strokes};
 
 use crate::outbox::Outbox;
 use cell::{LARGEST_SCREEN, Rendition, Shown};
@@ -69,6 +72,13 @@ impl Pen {
         self.rendition = Rendition::NONE;
     }
 
+    /// The rendition in which it prints.
+    pub fn rendition(&self) -> Rendition
+        ensures { result ≡ self.now.rendition }
+    {
+        self.rendition
+    }
+
     /// Prints in a rendition from now on.
     pub fn select<W: Sink>(&mut self, sink: &mut W, rendition: Rendition)
         ensures draws { (picture : Picture) → Draws (change self.old.rendition rendition) (W.seen sink.old) (W.seen sink.new) self.old self.new picture picture }
@@ -86,7 +96,7 @@ impl Pen {
     }
 
     /// Whether the cursor is known to be at a place.
-    fn is_at(&self, line: u16, column: u16) -> bool
+    pub fn is_at(&self, line: u16, column: u16) -> bool
         ensures { result ≡ is_at self.now.cursor (line, column) }
     {
         match self.cursor {
@@ -140,6 +150,36 @@ impl Pen {
         } else {
             None
         }
+    }
+
+    /// Prints cells that the terminal shows already, all of the pen's rendition. The cursor is at the first of them, and there is a
+    /// place behind the last.
+    pub fn print_again<W: Sink>(&mut self, sink: &mut W, line: u16, column: u16, cells: &[Shown])
+        requires cursor { self.old.cursor ≡ Some (line, column) }
+        requires rendition { All (λ cell. cell.rendition ≡ self.old.rendition) cells.now }
+        requires inside { column + length cells.now < self.old.columns }
+        requires columns { self.old.columns ≤ LARGEST_SCREEN }
+        ensures strokes { (picture : Picture) → length (line_of picture line) ≡ self.old.columns → take (length cells.now) (drop column (line_of picture line)) ≡ cells.now
+            → Strokes (length cells.now) (W.seen sink.old) (W.seen sink.new) self.old self.new picture picture }
+        ensures rendition { self.new.rendition ≡ self.old.rendition }
+        ensures cursor { self.new.cursor ≡ Some (line, column + length cells.now) }
+        ensures columns { self.new.columns ≡ self.old.columns }
+        ensures same { W.name sink.new ≡ W.name sink.old }
+    {
+        for i in 0..cells.len() {
+            self.print(sink, line, column + i as u16, cells[i]);
+        }
+    }
+
+    /// Erases from the cursor, which is at this place, to the end of the line.
+    pub fn erase_line<W: Sink>(&mut self, sink: &mut W, line: u16, column: u16)
+        requires cursor { self.old.cursor ≡ Some (line, column) }
+        requires rendition { self.old.rendition ≡ no_rendition }
+        ensures draws { (picture : Picture) → Draws (spelling (El ToEnd)) (W.seen sink.old) (W.seen sink.new) self.old self.new picture (erased_at ToEnd (line, column) picture) }
+        ensures rest { self.new ≡ record self.old { outbox = self.new.outbox } }
+        ensures same { W.name sink.new ≡ W.name sink.old }
+    {
+        self.put(sink, Token::El(Erase::ToEnd));
     }
 
     /// Ends the rendition, and goes to where the cursor is wanted.

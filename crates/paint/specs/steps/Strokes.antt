@@ -50,7 +50,11 @@ pub record Strokes (most : ℕ) (before after : Seen) (old new : Pen) (picture d
 
 -- ---- how many bytes they may have
 
--- a position, a selection and a character
+-- a position, or a gap in its place, and a selection
+abbrev pub approach_bytes : Rendition → ℕ
+approach_bytes rendition = 10 + length (spelling (Sgr rendition))
+
+-- these and a character
 abbrev pub cell_bytes : Shown → ℕ
 cell_bytes cell = 27 + (if has_colour cell.rendition then 6 else 0)
 

@@ -1,5 +1,5 @@
 use Rattle.std.proofs.Common.{◌≡◌}
-use Rattle.paint.proofs.Walks.{IsPicturePainted}
+use Rattle.paint.specs.steps.Walks.{IsPicturePainted}
 use Rattle.paint.proofs.line.paint_picture.Given as goal
 
 abbrev pub invariant-loop-line : goal.invariant-loop-line

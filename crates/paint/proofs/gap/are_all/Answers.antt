@@ -1,0 +1,21 @@
+use Rattle.std.proofs.Common.{◌≡◌, Bool, true, false, refl, sym, ap, ◌∙◌}
+use Rattle.std.specs.Prelude.{not}
+use Rattle.std.proofs.lemmas.List.{take_all}
+use Rattle.std.proofs.lemmas.List.Elements.{All-more}
+use Rattle.cell.specs.Shown.{Shown}
+use Rattle.ecma.proofs.Difference.{same_rendition-equal}
+use Rattle.paint.proofs.gap.are_all.Goals as goal
+
+not-other : (same : Bool) → not same ≡ false → same ≡ true
+not-other true h = refl
+not-other false h = absurd cc
+
+pub loop-cell-preserved : goal.loop-cell-preserved
+loop-cell-preserved c =
+    let cell = c.cell-item.result in
+    let same = same_rendition-equal c.rendition.result c.args.rendition (not-other _ (sym c.ne.ensures ∙ c.if-ne.false)) in
+    All-more (λ cell. cell.rendition ≡ c.args.rendition) c.args.cells.now c.loop-cell.cell-index cell c.loop-cell-test.true c.loop-cell.invariant
+    (ap (λ (cell : Shown). cell.rendition) (sym c.cell-item.is) ∙ sym c.rendition.ensures.value ∙ same)
+
+pub returns : goal.returns
+returns c = λ yes. rw (take_all c.loop-cell.cell-index c.args.cells.now c.loop-cell-test.false) at c.loop-cell.invariant
