@@ -4,6 +4,7 @@ pub mod Mixed
 pub mod Walks
 pub mod Tails
 pub mod Shows
+pub mod Pages
 pub mod Holding
 pub mod Updating
 pub mod Repair

@@ -42,9 +42,6 @@ mixed-front x new old e = ap (λ front. front ++ drop x old) (sym e) ∙ take-ap
 pub mixed-back : {A : Type 0} (x : ℕ) (new old : List A) → drop x old ≡ drop x new → mixed x new old ≡ new
 mixed-back x new old e = ap (λ back. take x new ++ back) e ∙ take-append-drop x new
 
-pub mixed-all : {A : Type 0} (x : ℕ) (new old : List A) → length old ≤ x → length new ≤ x → mixed x new old ≡ new
-mixed-all x new old h k = mixed-back x new old (drop_all x old h ∙ sym (drop_all x new k))
-
 -- lists that are the same from one item on are the same from each later one on
 pub drop-later : {A : Type 0} (n x : ℕ) (one other : List A) → n ≤ x → drop n one ≡ drop n other → drop x one ≡ drop x other
 drop-later n x one other h e =
@@ -62,3 +59,15 @@ pub between : {A : Type 0} (start x : ℕ) (one other : List A) → start ≤ x 
 between start x one other h e =
     let split : start + (x - start) ≡ x = omega arith in
     sym (drop-take start (x - start) one) ∙ ap (λ n. drop start (take n one)) split ∙ ap (drop start) e ∙ ap (λ n. drop start (take n other)) (sym split) ∙ drop-take start (x - start) other
+
+-- behind the next item are those of the old one
+drop-mixed-suc : {A : Type 0} (x : ℕ) (new old : List A) → x < length new → length old ≡ length new → drop (suc x) (mixed x new old) ≡ drop (suc x) old
+drop-mixed-suc zero new old h same = refl
+drop-mixed-suc (suc x) [] old h same = absurd (omega arith)
+drop-mixed-suc (suc x) (b ∷ new) [] h same = absurd (omega arith)
+drop-mixed-suc (suc x) (b ∷ new) (a ∷ old) h same = drop-mixed-suc x new old (omega arith) (omega arith)
+
+pub drop-mixed : {A : Type 0} (x : ℕ) (new old : List A) → x < length new → length old ≡ length new → drop (x + 1) (mixed x new old) ≡ drop (x + 1) old
+drop-mixed x new old h same =
+    let next : suc x ≡ x + 1 = omega arith in
+    (λ i. drop (sym next i) (mixed x new old)) ∙ drop-mixed-suc x new old h same ∙ (λ i. drop (next i) old)

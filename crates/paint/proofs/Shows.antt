@@ -21,7 +21,7 @@ pub opening-spelled : opening ≡ spelling (Sgr no_rendition) ++ spelling (Ed Al
 unfolding spelling codes_of_attributes digits
 opening-spelled = refl
 
-blanked-all : (columns : ℕ) (picture : Picture) → AllByRecursion (λ line. length line ≡ columns) picture → map blanked picture ≡ blank_picture (length picture) columns
+pub blanked-all : (columns : ℕ) (picture : Picture) → AllByRecursion (λ line. length line ≡ columns) picture → map blanked picture ≡ blank_picture (length picture) columns
 blanked-all columns [] h = refl
 blanked-all columns (line ∷ picture) h =
     let first = splat_is_map line columns shown_blank h.0 in

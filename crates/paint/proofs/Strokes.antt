@@ -7,11 +7,11 @@ use Rattle.cell.specs.Shown.{shown_blank, no_rendition, Shown, Rendition, IsRend
 use Rattle.cell.specs.Pictures.{Picture, Place, line_of, with_shown}
 use Rattle.ecma.specs.Difference.{same_rendition}
 use Rattle.ecma.specs.declared.token.Token.{Token}
-use Rattle.ecma.specs.declared.token.Token.TheVariants.{Print, Cup, Sgr, El}
+use Rattle.ecma.specs.declared.token.Token.TheVariants.{Print, Cup, Sgr, El, Ed}
 use Rattle.ecma.specs.declared.token.Erase.TheVariants.{ToEnd}
 use Rattle.std.specs.Fmt.{digits}
 use Rattle.ecma.specs.Spelling.{spelling, codes_of_attributes, token_effect, IsToken}
-use Rattle.ecma.specs.Terminals.{erased_at}
+use Rattle.ecma.specs.Terminals.{erased_at, erased_page}
 use Rattle.ecma.proofs.Joining.{Leads-append}
 use Rattle.ecma.proofs.Leading.{Leads-nothing, Leads-token}
 use Rattle.ecma.proofs.Lengths.{length-selection, length-spelling}
@@ -190,6 +190,13 @@ erases-line old new place picture cursor plain gathers rest =
     Draws-token (El ToEnd) picture (erased_at ToEnd place picture) tt gathers
     (rw (cursor, plain) (λ i. Some (record { picture = erased_at ToEnd place picture; cursor = (sym cursor ∙ sym (ap (λ (p : Pen). p.cursor) rest)) i; rendition = (sym plain ∙ sym (ap (λ (p : Pen). p.rendition) rest)) i })))
 
+pub erases-page : {before after : Seen} (old new : Pen) (place : Place) (picture : Picture) → old.cursor ≡ Some place → old.rendition ≡ no_rendition
+    → Gathers before after old.outbox new.outbox (spelling (Ed ToEnd)) → new ≡ record old { outbox = new.outbox }
+    → Draws (spelling (Ed ToEnd)) before after old new picture (erased_page ToEnd place picture)
+erases-page old new place picture cursor plain gathers rest =
+    Draws-token (Ed ToEnd) picture (erased_page ToEnd place picture) tt gathers
+    (rw (cursor, plain) (λ i. Some (record { picture = erased_page ToEnd place picture; cursor = (sym cursor ∙ sym (ap (λ (p : Pen). p.cursor) rest)) i; rendition = (sym plain ∙ sym (ap (λ (p : Pen). p.rendition) rest)) i })))
+
 -- ---- the end: a move behind what left the cursor where it was
 
 pub ends : {a b c : Seen} {x y z : Pen} {one : List ℕ} {picture : Picture} (place : Place) → Draws one a b x y picture picture → y.cursor ≡ x.cursor
@@ -250,10 +257,6 @@ four = refl
 pub length-ended : (old : Rendition) → length (change old no_rendition) ≤ 4
 length-ended old = omega (arith, four, length-change old no_rendition)
 
-pub erasure-strokes : {a b c : Seen} {x y z : Pen} {picture drawn : Picture} (token : Token) → length (spelling token) ≤ 4 → Strokes (approach_bytes no_rendition) a b x y picture picture
-    → Draws (spelling token) b c y z picture drawn → Strokes 27 a c x z picture drawn
-erasure-strokes token few h k = record {
-  piece = h.piece ++ spelling token;
-  draws = Draws-then h.draws k;
-  short = omega (arith, h.short, length-append h.piece (spelling token), few, four);
-}
+-- a pen that comes to an erasure needs no more than a changed cell
+pub erasure-room : {a b : Seen} {x y : Pen} {picture : Picture} → Strokes (approach_bytes no_rendition) a b x y picture picture → Strokes 23 a b x y picture picture
+erasure-room h = Strokes-more h (omega (arith, four))

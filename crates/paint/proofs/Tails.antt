@@ -1,20 +1,21 @@
 -- The blank end of a line.
-use Rattle.std.proofs.Common.{◌≡◌, ℕ, zero, suc, ◌+◌, ◌-◌, ◌≤◌, List, [], ◌∷◌, length, take, drop, Some, refl, sym, ap, ◌∙◌, arith}
+use Rattle.std.proofs.Common.{◌≡◌, ℕ, zero, suc, ◌+◌, ◌-◌, ◌≤◌, List, [], ◌∷◌, length, map, take, drop, Some, refl, sym, ap, ◌∙◌, arith}
 use Rattle.std.proofs.lemmas.List.{drop-drop, get_or-drop, length-drop, take_rest}
 use Rattle.cell.specs.Differences.{DiffersAt}
 use Rattle.cell.specs.Shown.{Shown, shown_blank}
 use Rattle.paint.specs.steps.Walks.{AreBlank, IsErasedFrom}
 
-blank-drop : (n : ℕ) (cells : List Shown) → AreBlank cells → AreBlank (drop n cells)
-blank-drop zero cells h = h
-blank-drop (suc n) [] h = refl
-blank-drop (suc n) (cell ∷ cells) h = blank-drop n cells (ap (λ (l : List Shown). drop 1 l) h)
+kept-drop : {A : Type 0} (f : A → A) (n : ℕ) (items : List A) → map f items ≡ items → map f (drop n items) ≡ drop n items
+kept-drop f zero items h = h
+kept-drop f (suc n) [] h = refl
+kept-drop f (suc n) (item ∷ items) h = kept-drop f n items (ap (drop 1) h)
 
-pub blank-later : (n m : ℕ) (cells : List Shown) → n ≤ m → AreBlank (drop n cells) → AreBlank (drop m cells)
-blank-later n m cells h blank =
+-- what is kept from one item on is kept from each later one on
+pub kept-later : {A : Type 0} (f : A → A) (n m : ℕ) (items : List A) → n ≤ m → map f (drop n items) ≡ drop n items → map f (drop m items) ≡ drop m items
+kept-later f n m items h kept =
     let split : n + (m - n) ≡ m = omega arith in
-    let whole : drop (m - n) (drop n cells) ≡ drop m cells = drop-drop (m - n) n cells ∙ ap (λ i. drop i cells) split in
-    rw (← whole) (blank-drop (m - n) (drop n cells) blank)
+    let whole : drop (m - n) (drop n items) ≡ drop m items = drop-drop (m - n) n items ∙ ap (λ i. drop i items) split in
+    rw (← whole) (kept-drop f (m - n) (drop n items) kept)
 
 pub differs-later : (n x : ℕ) (old new : List Shown) → DiffersAt (drop n old) (drop n new) x → DiffersAt old new (n + x)
 differs-later n x old new h = record {
@@ -26,4 +27,4 @@ pub erased-from : (shown wanted : List Shown) (first tail start skipped : ℕ) �
     → DiffersAt (take (length shown - start) (drop start shown)) (take (length wanted - start) (drop start wanted)) skipped
     → IsErasedFrom shown wanted first (Some (start + skipped))
 erased-from shown wanted first tail start skipped blank from from_first differs =
-    (omega arith, record { blank = blank-later tail (start + skipped) wanted (omega arith) blank; changed = differs-later start skipped shown wanted (rw (take_rest shown start, take_rest wanted start) at differs) })
+    (omega arith, record { blank = kept-later (λ _. shown_blank) tail (start + skipped) wanted (omega arith) blank; changed = differs-later start skipped shown wanted (rw (take_rest shown start, take_rest wanted start) at differs) })

@@ -1,20 +1,23 @@
 -- The walk over the cells of a line, and over the lines of a picture.
-use Rattle.std.proofs.Common.{◌≡◌, Bool, ℕ, zero, suc, ◌+◌, ◌*◌, ◌<◌, ◌≤◌, true, false, List, [], ◌∷◌, ◌++◌, length, get_or, set, take, drop, inl, inr, ◌-◌, refl, sym, ap, ◌∙◌, subst, arith}
+use Rattle.std.proofs.Common.{◌≡◌, Bool, ℕ, zero, suc, ◌+◌, ◌*◌, ◌<◌, ◌≤◌, true, false, List, [], ◌∷◌, ◌++◌, length, get_or, set, take, drop, Some, inl, inr, ◌-◌, refl, sym, ap, ◌∙◌, subst, arith}
 use Rattle.std.specs.Prelude.{if◌then◌else◌}
 use Rattle.std.proofs.lemmas.Bool.{cases_Bool}
 use Rattle.std.proofs.lemmas.List.{drop_more, get_or-set_same, length-drop, length-take-le, set-set, set-get_or, take-append-drop}
-use Rattle.cell.specs.Shown.{Shown, shown_blank, has_colour}
+use Rattle.cell.specs.Shown.{Shown, no_rendition, shown_blank, has_colour}
 use Rattle.cell.specs.Differences.{DiffersAt}
 use Rattle.cell.specs.Pictures.{Picture, line_of, with_shown}
 use Rattle.ecma.specs.Difference.{same_shown}
 use Rattle.ecma.proofs.Difference.{same_shown-equal}
+use Rattle.ecma.proofs.Lengths.{length-spelling}
+use Rattle.ecma.specs.Spelling.{spelling}
+use Rattle.ecma.specs.declared.token.Token.TheVariants.{El}
 use Rattle.ecma.specs.Terminals.{blanked, erased_at, erased_line}
 use Rattle.ecma.specs.declared.token.Erase.TheVariants.{ToEnd}
 use Rattle.streams.specs.Sinks.{Seen}
 use Rattle.paint.specs.declared.pen.Pen.{Pen}
-use Rattle.paint.specs.steps.Strokes.{Strokes, cell_bytes, line_bytes, picture_bytes}
-use Rattle.paint.specs.steps.Walks.{mixed, AreBlank, IsChangedTail, IsLinePainted, IsPicturePainted}
-use Rattle.paint.proofs.Mixed.{mixed-all, mixed-at, mixed-back, mixed-front, mixed-more, mixed-same, length-mixed, between, take-mixed}
+use Rattle.paint.specs.steps.Strokes.{Draws, Strokes, cell_bytes, line_bytes, picture_bytes}
+use Rattle.paint.specs.steps.Walks.{mixed, AreBlank, IsChangedTail, IsLinePainted, IsPicturePainted, IsReadyToErase}
+use Rattle.paint.proofs.Mixed.{mixed-at, mixed-back, mixed-front, mixed-more, mixed-same, length-mixed, between, take-mixed}
 use Rattle.paint.proofs.Strokes.{Strokes-more, Strokes-nothing, Strokes-then}
 
 -- ---- what the cells of a line may cost
@@ -83,6 +86,13 @@ line-drawn {before} {mid} {now} {old} {pen} {next} {line} {x} {shown} {wanted} c
   columns = columns ∙ h.columns;
 }
 
+gap-length : (start x : ℕ) (wanted : List Shown) → start ≤ x → x ≤ length wanted → length (take (x - start) (drop start wanted)) ≡ x - start
+gap-length start x wanted ordered inside = length-take-le (x - start) (drop start wanted) (omega (arith, length-drop start wanted))
+
+-- the gap before a column ends there
+pub gap-ends : (start x : ℕ) (wanted : List Shown) → start ≤ x → x ≤ length wanted → start + length (take (x - start) (drop start wanted)) ≡ x
+gap-ends start x wanted ordered inside = omega (arith, gap-length start x wanted ordered inside)
+
 -- the gap before a column is that of the wanted line, and ends there
 pub record IsGap (start x : ℕ) (wanted row : List Shown) : Type 0 where
   pub shown : take (length (take (x - start) (drop start wanted))) (drop start row) ≡ take (x - start) (drop start wanted)
@@ -90,10 +100,9 @@ pub record IsGap (start x : ℕ) (wanted row : List Shown) : Type 0 where
 
 pub gap-before : (start x : ℕ) (wanted row : List Shown) → start ≤ x → x ≤ length wanted → take x row ≡ take x wanted → IsGap start x wanted row
 gap-before start x wanted row ordered inside front =
-    let long : length (take (x - start) (drop start wanted)) ≡ x - start = length-take-le (x - start) (drop start wanted) (omega (arith, length-drop start wanted)) in
     record {
-      shown = ap (λ n. take n (drop start row)) long ∙ between start x row wanted ordered front;
-      end = omega (arith, long);
+      shown = ap (λ n. take n (drop start row)) (gap-length start x wanted ordered inside) ∙ between start x row wanted ordered front;
+      end = gap-ends start x wanted ordered inside;
     }
 
 -- the next cell is shown already
@@ -146,23 +155,45 @@ erased-line x shown wanted same few blank =
     length-drop x (mixed x wanted shown) ∙ ap (λ n. n - x) (length-mixed x wanted shown same ∙ same) ∙ sym (length-drop x wanted) in
     (λ i. take-mixed x wanted shown few i ++ (blank-lengths (drop x (mixed x wanted shown)) (drop x wanted) back ∙ blank) i) ∙ take-append-drop x wanted
 
-pub line-erased : {before mid now : Seen} {old pen next : Pen} {line x : ℕ} {shown wanted : List Shown} → length shown ≡ length wanted → length shown ≡ old.columns
+-- the pen comes to the first changed column of the end
+pub line-ready : {before mid now : Seen} {old pen next : Pen} {line x : ℕ} {shown wanted : List Shown} → length shown ≡ length wanted → length shown ≡ old.columns
     → IsLinePainted before mid old pen line x shown wanted → IsChangedTail shown wanted x
-    → ((picture : Picture) → length (line_of picture line) ≡ pen.columns → take x (line_of picture line) ≡ take x wanted → Strokes 27 mid now pen next picture (erased_at ToEnd (line, x) picture))
-    → (picture : Picture) → line < length picture → line_of picture line ≡ shown → Strokes (line_bytes shown wanted) before now old next picture (set picture line wanted)
-line-erased {mid} {now} {pen} {next} {line} {x} {shown} {wanted} same wide h tail strokes = λ picture high at.
+    → ((picture : Picture) → length (line_of picture line) ≡ pen.columns → take x (line_of picture line) ≡ take x wanted → Strokes 23 mid now pen next picture picture)
+    → next.cursor ≡ Some (line, x) → next.rendition ≡ no_rendition → next.columns ≡ pen.columns → IsReadyToErase before now old next line x shown wanted
+line-ready {line} {x} {shown} {wanted} same wide h tail strokes cursor rendition columns = record {
+  spent = h.spent + 23;
+  within = omega (arith, h.within, changed-bytes x shown wanted same tail.changed);
+  strokes = λ picture high at.
+      let row = mixed x wanted shown in
+      let here : line_of (set picture line row) line ≡ row = get_or-set_same picture line row [] high in
+      let long = ap length here ∙ length-mixed x wanted shown same ∙ wide ∙ sym h.columns in
+      Strokes-then (h.strokes picture high at) (strokes (set picture line row) long (ap (take x) here ∙ take-mixed x wanted shown (omega (arith, tail.changed.inside))));
+  cursor = cursor;
+  rendition = rendition;
+  columns = columns ∙ h.columns;
+}
+
+-- the line, its end erased behind what was drawn
+pub erased-mixed : (picture : Picture) (line x : ℕ) (shown wanted : List Shown) → length shown ≡ length wanted → line < length picture → IsChangedTail shown wanted x
+    → erased_at ToEnd (line, x) (set picture line (mixed x wanted shown)) ≡ set picture line wanted
+erased-mixed picture line x shown wanted same high tail =
     let row = mixed x wanted shown in
-    let inside : x ≤ length wanted = omega (arith, tail.changed.inside) in
-    let here : line_of (set picture line row) line ≡ row = get_or-set_same picture line row [] high in
-    let drawn : erased_at ToEnd (line, x) (set picture line row) ≡ set picture line wanted =
-    ap (λ cells. set (set picture line row) line (erased_line ToEnd x cells)) here
+    ap (λ cells. set (set picture line row) line (erased_line ToEnd x cells)) (get_or-set_same picture line row [] high)
     ∙ set-set picture line row (erased_line ToEnd x row)
-    ∙ ap (set picture line) (erased-line x shown wanted same inside tail.blank) in
-    let long : length (line_of (set picture line row) line) ≡ pen.columns = ap length here ∙ length-mixed x wanted shown same ∙ wide ∙ sym h.columns in
-    Strokes-more
-    (Strokes-then (h.strokes picture high at)
-    (subst (Strokes 27 mid now pen next (set picture line row)) drawn (strokes (set picture line row) long (ap (take x) here ∙ take-mixed x wanted shown inside))))
-    (omega (arith, h.within, changed-bytes x shown wanted same tail.changed))
+    ∙ ap (set picture line) (erased-line x shown wanted same (omega (arith, tail.changed.inside)) tail.blank)
+
+pub line-erased : {before mid now : Seen} {old pen next : Pen} {line x : ℕ} {shown wanted : List Shown} → length shown ≡ length wanted
+    → IsReadyToErase before mid old pen line x shown wanted → IsChangedTail shown wanted x
+    → ((picture : Picture) → Draws (spelling (El ToEnd)) mid now pen next picture (erased_at ToEnd (line, x) picture))
+    → (picture : Picture) → line < length picture → line_of picture line ≡ shown → Strokes (line_bytes shown wanted) before now old next picture (set picture line wanted)
+line-erased {mid} {now} {pen} {next} {line} {x} {shown} {wanted} same h tail draws = λ picture high at.
+    let drawn = erased-mixed picture line x shown wanted same high tail in
+    let erasure : Strokes 4 mid now pen next (set picture line (mixed x wanted shown)) (set picture line wanted) = record {
+      piece = spelling (El ToEnd);
+      draws = subst (Draws (spelling (El ToEnd)) mid now pen next (set picture line (mixed x wanted shown))) drawn (draws (set picture line (mixed x wanted shown)));
+      short = length-spelling (El ToEnd) tt;
+    } in
+    Strokes-more (Strokes-then (h.strokes picture high at) erasure) (omega (arith, h.within))
 
 -- ---- a picture
 
@@ -187,7 +218,7 @@ picture-drawn {before} {mid} {now} {old} {pen} {next} {line} {shown} {wanted} sa
       columns = columns ∙ h.columns;
     }
 
-pub picture-painted : {before now : Seen} {old pen : Pen} {line : ℕ} {shown wanted : Picture} → IsPicturePainted before now old pen line shown wanted → length shown ≤ line → length wanted ≤ line
+pub picture-painted : {before now : Seen} {old pen : Pen} {line : ℕ} {shown wanted : Picture} → IsPicturePainted before now old pen line shown wanted → drop line shown ≡ drop line wanted
     → Strokes (picture_bytes shown wanted) before now old pen shown wanted
-picture-painted {before} {now} {old} {pen} {line} {shown} {wanted} h all others =
-    subst (Strokes (picture_bytes shown wanted) before now old pen shown) (mixed-all line wanted shown all others) (Strokes-more h.strokes (omega (arith, h.within)))
+picture-painted {before} {now} {old} {pen} {line} {shown} {wanted} h back =
+    subst (Strokes (picture_bytes shown wanted) before now old pen shown) (mixed-back line wanted shown back) (Strokes-more h.strokes (omega (arith, h.within)))

@@ -5,6 +5,7 @@ pub mod laws;
 mod gap;
 mod line;
 mod outbox;
+mod page;
 mod painter;
 mod pen;
 mod tail;

@@ -1,39 +1,18 @@
-//! The walk over the lines of a picture: a pen draws where the wanted one differs from the one that is shown.
+//! The walk over the cells of a line: a pen draws where the wanted one differs from the one that is shown.
 
 ghost use Rattle.std.specs.Prelude.{◌≡◌, ◌+◌, ◌<◌, ◌≤◌, drop, length, slice_set, take};
-ghost use Rattle.cell.specs.Pictures.{HasSize, Picture, line_of, with_shown};
-ghost use Rattle.paint.specs.steps.Strokes.{Strokes, cell_bytes, line_bytes, picture_bytes};
-ghost use Rattle.paint.specs.steps.Walks.{IsLinePainted};
+ghost use Rattle.cell.specs.Pictures.{Picture, line_of, with_shown};
+ghost use Rattle.paint.specs.steps.Strokes.{Strokes, cell_bytes, line_bytes};
+ghost use Rattle.paint.specs.steps.Walks.{IsChangedTail, IsLinePainted, IsReadyToErase};
 
 use crate::gap::approach;
 use crate::pen::Pen;
 use crate::tail::erased_from;
-use cell::{Grid, LARGEST_SCREEN, Rendition, Shown, first_diff, last_diff};
+use cell::{LARGEST_SCREEN, Rendition, Shown, first_diff, last_diff};
 use streams::Sink;
 
-/// Draws the wanted picture over the one that is shown, of which there are so many lines.
-pub fn paint_picture<W: Sink>(
-    pen: &mut Pen,
-    sink: &mut W,
-    lines: u16,
-    shown: &Grid<Shown>,
-    wanted: &Grid<Shown>,
-)
-    requires few_lines { lines ≤ LARGEST_SCREEN }
-    requires few_columns { pen.old.columns ≤ LARGEST_SCREEN }
-    requires shown { HasSize lines pen.old.columns shown.now }
-    requires wanted { HasSize lines pen.old.columns wanted.now }
-    ensures strokes { Strokes (picture_bytes shown.now wanted.now) (W.seen sink.old) (W.seen sink.new) pen.old pen.new shown.now wanted.now }
-    ensures same { W.name sink.new ≡ W.name sink.old }
-{
-    for line in 0..lines {
-        let at = usize::from(line);
-        paint_line(pen, sink, line, shown.row(at), wanted.row(at));
-    }
-}
-
 /// Draws a wanted line over the one that is shown. Its blank end is erased, where enough of it is changed.
-fn paint_line<W: Sink>(pen: &mut Pen, sink: &mut W, line: u16, shown: &[Shown], wanted: &[Shown])
+pub fn paint_line<W: Sink>(pen: &mut Pen, sink: &mut W, line: u16, shown: &[Shown], wanted: &[Shown])
     requires line { line < LARGEST_SCREEN }
     requires columns { pen.old.columns ≤ LARGEST_SCREEN }
     requires shown { length shown.now ≡ pen.old.columns }
@@ -51,14 +30,38 @@ fn paint_line<W: Sink>(pen: &mut Pen, sink: &mut W, line: u16, shown: &[Shown], 
     };
     match erased_from(shown, wanted, first, last) {
         Some(column) => {
-            let gap = paint_cells(pen, sink, line, shown, wanted, first, column);
-            approach(pen, sink, line, gap as u16, &wanted[gap..column], Rendition::NONE);
+            paint_to(pen, sink, line, shown, wanted, first, column);
             pen.erase_line(sink, line, column as u16);
         }
         None => {
             paint_cells(pen, sink, line, shown, wanted, first, last + 1);
         }
     }
+}
+
+/// Draws the changed cells of a line from a first column on, before which none is, up to its changed end, and brings the pen there
+/// for an erasure.
+pub fn paint_to<W: Sink>(
+    pen: &mut Pen,
+    sink: &mut W,
+    line: u16,
+    shown: &[Shown],
+    wanted: &[Shown],
+    first: usize,
+    column: usize,
+)
+    requires line { line < LARGEST_SCREEN }
+    requires columns { pen.old.columns ≤ LARGEST_SCREEN }
+    requires shown { length shown.now ≡ pen.old.columns }
+    requires wanted { length wanted.now ≡ pen.old.columns }
+    requires ordered { first ≤ column }
+    requires front { take first shown.now ≡ take first wanted.now }
+    requires tail { IsChangedTail shown.now wanted.now column }
+    ensures ready { IsReadyToErase (W.seen sink.old) (W.seen sink.new) pen.old pen.new line column shown.now wanted.now }
+    ensures same { W.name sink.new ≡ W.name sink.old }
+{
+    let gap = paint_cells(pen, sink, line, shown, wanted, first, column);
+    approach(pen, sink, line, gap as u16, &wanted[gap..column], Rendition::NONE);
 }
 
 /// Draws the changed cells of a line from a first column on, before which none is, up to an end. It answers the column behind

@@ -9,7 +9,7 @@ ghost use Rattle.paint.specs.Updates.{PainterState, ShownPicture, first_painter,
 ghost use Rattle.paint.specs.steps.Gathering.{IsGathered};
 ghost use Rattle.paint.specs.steps.Holding.{HoldsUpdate, last_shown};
 
-use crate::line::paint_picture;
+use crate::page::paint_picture;
 use crate::pen::Pen;
 use cell::{Grid, LARGEST_SCREEN, Refusal, Shown, is_no_size};
 use std::alloc::Global;

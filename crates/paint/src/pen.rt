@@ -4,9 +4,9 @@ ghost use Rattle.std.specs.Prelude.{◌≡◌, ◌+◌, ◌<◌, ◌≤◌, All,
 ghost use Rattle.cell.specs.Shown.{no_rendition};
 ghost use Rattle.cell.specs.Pictures.{Picture, line_of, origin, with_shown};
 ghost use Rattle.ecma.specs.Spelling.{spelling, IsToken};
-ghost use Rattle.ecma.specs.Terminals.{erased_at};
+ghost use Rattle.ecma.specs.Terminals.{erased_at, erased_page};
 ghost use Rattle.ecma.specs.declared.token.Erase.TheVariants.{ToEnd};
-ghost use Rattle.ecma.specs.declared.token.Token.TheVariants.{El};
+ghost use Rattle.ecma.specs.declared.token.Token.TheVariants.{Ed, El};
 ghost use Rattle.streams.specs.Sending.{Sends};
 ghost use Rattle.streams.specs.Sinks.{Seen};
 ghost use Rattle.paint.specs.Updates.{opening};
@@ -180,6 +180,17 @@ impl Pen {
         ensures same { W.name sink.new ≡ W.name sink.old }
     {
         self.put(sink, Token::El(Erase::ToEnd));
+    }
+
+    /// Erases from the cursor, which is at this place, to the end of the page.
+    pub fn erase_page<W: Sink>(&mut self, sink: &mut W, line: u16, column: u16)
+        requires cursor { self.old.cursor ≡ Some (line, column) }
+        requires rendition { self.old.rendition ≡ no_rendition }
+        ensures draws { (picture : Picture) → Draws (spelling (Ed ToEnd)) (W.seen sink.old) (W.seen sink.new) self.old self.new picture (erased_page ToEnd (line, column) picture) }
+        ensures rest { self.new ≡ record self.old { outbox = self.new.outbox } }
+        ensures same { W.name sink.new ≡ W.name sink.old }
+    {
+        self.put(sink, Token::Ed(Erase::ToEnd));
     }
 
     /// Ends the rendition, and goes to where the cursor is wanted.

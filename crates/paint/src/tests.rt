@@ -1,4 +1,4 @@
-ghost use Rattle.std.specs.Prelude.{IfOk};
+ghost use Rattle.std.specs.Prelude.{◌≤◌, IfOk, length};
 ghost use Rattle.cell.specs.Pictures.{HasSize};
 
 use crate::{Counted, Painter, Sent, WriteFault};
@@ -7,6 +7,7 @@ use std::alloc::Global;
 use std::io;
 use std::io::{ErrorKind, Write};
 use std::test::Fail;
+use streams::Discard;
 
 /// A writer that fails once where it has taken 5 bytes, or takes none there.
 #[derive(Drop)]
@@ -65,8 +66,7 @@ fn greeting(alloc: Global) -> Result<Grid<Shown>, Fail>
     Ok(grid)
 }
 
-const GREETING: &[u8] =
-    b"\x1b[0m\x1b[2J\x1b[1;1H\x1b[1;1Hhi        \x1b[2;1H          \x1b[3;1H          \x1b[4;1H          \x1b[1;3H";
+const GREETING: &[u8] = b"\x1b[0m\x1b[2J\x1b[1;1Hhi";
 
 #[test]
 fn shows_a_screen(rt: HostRuntime) -> Result<(), Fail> {
@@ -75,7 +75,7 @@ fn shows_a_screen(rt: HostRuntime) -> Result<(), Fail> {
     let mut sink = Counted::new(Vec::new(rt.alloc()));
     assert_eq!(rt;
         painter.doupdate(&picture, (0, 2), false, &mut &mut sink)?,
-        Sent { bytes: 84 }
+        Sent { bytes: 16 }
     );
     assert_eq!(rt; sink.get_ref().as_slice(), GREETING);
     assert_eq!(rt; sink.into_inner().as_slice(), GREETING);
@@ -83,20 +83,93 @@ fn shows_a_screen(rt: HostRuntime) -> Result<(), Fail> {
 }
 
 #[test]
-fn shows_a_bold_cell_in_yellow(rt: HostRuntime) -> Result<(), Fail> {
-    let mut picture = Grid::new(rt.alloc(), 1, 1)?;
-    let pair = ColourPair {
-        foreground: Some(Colour::YELLOW),
-        background: None,
-    };
-    let rendition = Rendition::new(Attr::BOLD, pair);
-    picture.set(0, 0, Shown::new(b'A', rendition).ok_or("no cell")?);
-    let mut painter = Painter::new(rt.alloc(), 1, 1)?;
+fn draws_what_differs(rt: HostRuntime) -> Result<(), Fail> {
+    let mut picture = greeting(rt.alloc())?;
+    let mut painter = Painter::new(rt.alloc(), 4, 10)?;
     let mut sink = Counted::new(Vec::new(rt.alloc()));
-    let sent = painter.doupdate(&picture, (0, 0), false, &mut sink)?;
-    let expected = b"\x1b[0m\x1b[2J\x1b[1;1H\x1b[1;1H\x1b[0;1;33mA\x1b[0m\x1b[1;1H";
+    painter.doupdate(&picture, (0, 2), false, &mut sink)?;
+    picture.set(2, 4, Shown::new(b'x', Rendition::NONE).ok_or("no cell")?);
+    painter.doupdate(&picture, (2, 5), false, &mut sink)?;
+    let reverse = Rendition::new(Attr::REVERSE, ColourPair { foreground: None, background: None });
+    picture.set(2, 5, Shown::new(b'y', reverse).ok_or("no cell")?);
+    painter.doupdate(&picture, (2, 6), false, &mut sink)?;
+    painter.doupdate(&picture, (0, 0), false, &mut sink)?;
+    painter.doupdate(&picture, (0, 0), false, &mut sink)?;
+    let drawn = b"\x1b[3;5Hx\x1b[0;7my\x1b[0m\x1b[1;1H";
+    assert_eq!(rt; sink.get_ref().get(GREETING.len()..), Some(drawn.as_slice()));
+    Ok(())
+}
+
+/// A line of 20 cells that begins with a word.
+fn line(alloc: Global, word: &[u8]) -> Result<Grid<Shown>, Fail>
+    requires { length word.now ≤ 20 }
+    ensures { IfOk result (λ grid. HasSize 1 20 grid) }
+{
+    let mut grid = Grid::new(alloc, 1, 20)?;
+    for x in 0..word.len() {
+        grid.set(0, x, Shown::new(word[x], Rendition::NONE).ok_or("no cell")?);
+    }
+    Ok(grid)
+}
+
+/// What is sent where one line is shown after another.
+fn sent_between(alloc: Global, from: &[u8], to: &[u8]) -> Result<Vec<u8>, Fail>
+    requires from { length from.now ≤ 20 }
+    requires to { length to.now ≤ 20 }
+{
+    let mut painter = Painter::new(alloc, 1, 20)?;
+    painter.doupdate(&line(alloc, from)?, (0, 0), false, &mut Discard::new())?;
+    painter.doupdate(&line(alloc, from)?, (0, 19), false, &mut Discard::new())?;
+    let mut sink = Counted::new(Vec::new(alloc));
+    painter.doupdate(&line(alloc, to)?, (0, 0), false, &mut sink)?;
+    Ok(sink.into_inner())
+}
+
+#[test]
+fn prints_short_gaps_and_erases_long_ends(rt: HostRuntime) -> Result<(), Fail> {
+    let rows: [(&[u8], &[u8], &[u8]); 5] = [
+        (b"abcdefgh", b"XbcYefgh", b"\x1b[1;1HXbcY\x1b[1;1H"),
+        (b"abcdefghijklmnop", b"XbcdefghYjklmnop", b"\x1b[1;1HX\x1b[1;9HY\x1b[1;1H"),
+        (b"abcdefghijklmnop", b"XbcdefgYijklmnop", b"\x1b[1;1HXbcdefgY\x1b[1;1H"),
+        (b"XbcYefgh", b"", b"\x1b[1;1H\x1b[K"),
+        (b"abc", b"", b"\x1b[1;1H   \x1b[1;1H"),
+    ];
+    for (from, to, sent) in rows {
+        assert_eq!(rt; sent_between(rt.alloc(), from, to)?.as_slice(), sent);
+    }
+    Ok(())
+}
+
+#[test]
+fn erases_the_blank_end_of_a_page(rt: HostRuntime) -> Result<(), Fail> {
+    let picture = greeting(rt.alloc())?;
+    let mut fuller = greeting(rt.alloc())?;
+    fuller.set(0, 9, Shown::new(b'!', Rendition::NONE).ok_or("no cell")?);
+    fuller.set(3, 0, Shown::new(b'?', Rendition::NONE).ok_or("no cell")?);
+    let mut painter = Painter::new(rt.alloc(), 4, 10)?;
+    let mut sink = Counted::new(Vec::new(rt.alloc()));
+    painter.doupdate(&fuller, (0, 2), false, &mut Discard::new())?;
+    painter.doupdate(&picture, (0, 9), false, &mut sink)?;
+    assert_eq!(rt; sink.get_ref().as_slice(), b"\x1b[1;10H\x1b[J".as_slice());
+    Ok(())
+}
+
+#[test]
+fn shows_two_cells_in_colours(rt: HostRuntime) -> Result<(), Fail> {
+    let mut picture = Grid::new(rt.alloc(), 1, 4)?;
+    let pair = ColourPair {
+        foreground: Some(Colour::RED),
+        background: Some(Colour::BLUE),
+    };
+    let rendition = Rendition::new(Attr::NONE, pair);
+    picture.set(0, 0, Shown::new(b'a', rendition).ok_or("no cell")?);
+    picture.set(0, 1, Shown::new(b'b', rendition).ok_or("no cell")?);
+    let mut painter = Painter::new(rt.alloc(), 1, 4)?;
+    let mut sink = Counted::new(Vec::new(rt.alloc()));
+    let sent = painter.doupdate(&picture, (0, 2), false, &mut sink)?;
+    let expected = b"\x1b[0m\x1b[2J\x1b[1;1H\x1b[0;31;44mab\x1b[0m";
     assert_eq!(rt; sink.get_ref().as_slice(), expected.as_slice());
-    assert_eq!(rt; sent.bytes, 40);
+    assert_eq!(rt; sent.bytes, 30);
     Ok(())
 }
 
@@ -130,7 +203,7 @@ fn shows_all_after_a_fault(rt: HostRuntime) -> Result<(), Fail> {
         assert_eq!(rt; sink.get_ref().taken.as_slice(), b"\x1b[0m\x1b".as_slice());
         assert_eq!(rt;
             painter.doupdate(&picture, (0, 2), false, &mut sink),
-            Ok(Sent { bytes: 84 })
+            Ok(Sent { bytes: 16 })
         );
         assert_eq!(rt; sink.get_ref().taken.get(5..), Some(GREETING));
     }
@@ -146,7 +219,7 @@ fn tells_of_a_flush_that_fails(rt: HostRuntime) -> Result<(), Fail> {
     });
     assert_eq!(rt;
         painter.doupdate(&picture, (0, 2), false, &mut sink),
-        Err(WriteFault { sent: 84 })
+        Err(WriteFault { sent: 16 })
     );
     assert_eq!(rt; sink.get_ref().taken.as_slice(), GREETING);
     Ok(())

@@ -1,6 +1,6 @@
 -- How far a pen has come in a line, and in a picture.
 use Rattle.std.specs.Prelude.{◌≡◌, ℕ, ◌+◌, ◌<◌, ◌≤◌, List, ◌++◌, length, map, take, drop, slice_set, Option, Some, None, ⊤}
-use Rattle.cell.specs.Shown.{Shown, shown_blank}
+use Rattle.cell.specs.Shown.{Shown, no_rendition, shown_blank}
 use Rattle.cell.specs.Pictures.{Picture, line_of}
 use Rattle.cell.specs.Differences.{DiffersAt}
 use Rattle.streams.specs.Sinks.{Seen}
@@ -26,6 +26,16 @@ pub record IsPicturePainted (before now : Seen) (old pen : Pen) (line : ℕ) (sh
   pub strokes : Strokes spent before now old pen shown (mixed line wanted shown)
   pub columns : pen.columns ≡ old.columns
 
+-- The cells of a line before a column are the wanted ones, and the pen is there with the empty rendition. An erasure may follow.
+pub record IsReadyToErase (before now : Seen) (old pen : Pen) (line column : ℕ) (shown wanted : List Shown) : Type 0 where
+  pub spent : ℕ
+  pub within : spent + 4 ≤ line_bytes shown wanted
+  pub strokes : (picture : Picture) → line < length picture → line_of picture line ≡ shown
+      → Strokes spent before now old pen picture (slice_set picture line (mixed column wanted shown))
+  pub cursor : pen.cursor ≡ Some (line, column)
+  pub rendition : pen.rendition ≡ no_rendition
+  pub columns : pen.columns ≡ old.columns
+
 -- these cells are blank
 abbrev pub AreBlank : List Shown → Type 0
 AreBlank cells = map (λ _. shown_blank) cells ≡ cells
@@ -39,3 +49,9 @@ pub record IsChangedTail (shown wanted : List Shown) (column : ℕ) : Type 0 whe
 abbrev pub IsErasedFrom : List Shown → List Shown → ℕ → Option ℕ → Type 0
 IsErasedFrom shown wanted first None = ⊤
 IsErasedFrom shown wanted first (Some column) = (first ≤ column) × IsChangedTail shown wanted column
+
+-- a first column before which nothing is changed, and such a column from it on, if the lines below this one are blank
+abbrev pub IsPageEnd : ℕ → ℕ → List Shown → List Shown → Option (ℕ × ℕ) → Type 0
+IsPageEnd line blank shown wanted None = ⊤
+IsPageEnd line blank shown wanted (Some columns) =
+    (blank ≤ line + 1) × (take columns.0 shown ≡ take columns.0 wanted) × (columns.0 ≤ columns.1) × IsChangedTail shown wanted columns.1

@@ -1,6 +1,6 @@
 use Rattle.std.proofs.Common.{◌≤◌, arith}
 use Rattle.paint.proofs.Tails.{erased-from}
-use Rattle.paint.proofs.tail.erased_from.Goals as goal
+use Rattle.paint.proofs.tail.changed_tail.Goals as goal
 
 pub returns : goal.returns
 returns c =

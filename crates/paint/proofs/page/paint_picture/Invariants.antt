@@ -1,6 +1,6 @@
 use Rattle.std.proofs.Common.{◌≡◌}
 use Rattle.paint.specs.steps.Walks.{IsPicturePainted}
-use Rattle.paint.proofs.line.paint_picture.Given as goal
+use Rattle.paint.proofs.page.paint_picture.Given as goal
 
 abbrev pub invariant-loop-line : goal.invariant-loop-line
 invariant-loop-line g l = record {

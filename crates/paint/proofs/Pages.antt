@@ -1,0 +1,66 @@
+-- The blank end of a page is erased.
+use Rattle.std.proofs.Common.{◌≡◌, ℕ, ◌+◌, ◌<◌, ◌≤◌, [], ◌∷◌, ◌++◌, length, set, map, take, drop, sym, ap, ◌∙◌, subst, arith}
+use Rattle.std.proofs.lemmas.List.{drop_more, drop-set-lt, length-drop, take-append-drop}
+use Rattle.std.proofs.lemmas.List.Elements.{All-from_recursion, recursion_from_All, All-drop}
+use Rattle.cell.specs.Pictures.{Picture, HasSize, blank_picture, line_of}
+use Rattle.cell.proofs.PictureLemmas.{length-line}
+use Rattle.ecma.proofs.Lengths.{length-spelling}
+use Rattle.ecma.specs.Spelling.{spelling}
+use Rattle.ecma.specs.declared.token.Erase.TheVariants.{ToEnd}
+use Rattle.ecma.specs.declared.token.Token.TheVariants.{Ed}
+use Rattle.ecma.specs.Terminals.{blanked, erased_page}
+use Rattle.streams.specs.Sinks.{Seen}
+use Rattle.paint.specs.declared.pen.Pen.{Pen}
+use Rattle.paint.specs.steps.Strokes.{Draws, Strokes, picture_bytes}
+use Rattle.paint.specs.steps.Walks.{mixed, IsChangedTail, IsPicturePainted, IsReadyToErase}
+use Rattle.paint.proofs.Mixed.{drop-mixed, length-mixed, mixed-at, mixed-more, take-mixed}
+use Rattle.paint.proofs.Shows.{blanked-all}
+use Rattle.paint.proofs.Strokes.{Strokes-more, Strokes-then}
+use Rattle.paint.proofs.Tails.{kept-later}
+use Rattle.paint.proofs.Walks.{erased-mixed}
+
+-- lines of one width are blank alike
+blank-rest : (lines columns n : ℕ) (picture : Picture) → HasSize lines columns picture → map blanked (drop n picture) ≡ blank_picture (length (drop n picture)) columns
+blank-rest lines columns n picture size =
+    blanked-all columns (drop n picture)
+    (recursion_from_All (λ line. length line ≡ columns) (drop n picture) (All-drop (λ line. length line ≡ columns) n picture (All-from_recursion (λ line. length line ≡ columns) picture size.width)))
+
+module _ {lines columns : ℕ} {shown wanted : Picture} (old_size : HasSize lines columns shown) (new_size : HasSize lines columns wanted) {y x blank : ℕ} (inside : y < lines) (below : blank ≤ y + 1)
+    (all_blank : map blanked (drop blank wanted) ≡ drop blank wanted) (tail : IsChangedTail (line_of shown y) (line_of wanted y) x) where
+  abbrev before : Picture
+  before = set (mixed y wanted shown) y (mixed x (line_of wanted y) (line_of shown y))
+
+  same : length shown ≡ length wanted
+  same = old_size.height ∙ sym new_size.height
+
+  same-lines : length (line_of shown y) ≡ length (line_of wanted y)
+  same-lines = length-line y old_size inside ∙ sym (length-line y new_size inside)
+
+  front : take (y + 1) (set (mixed y wanted shown) y (line_of wanted y)) ≡ take (y + 1) wanted
+  front = ap (take (y + 1)) (mixed-more [] y wanted shown (omega (arith, old_size.height)) same) ∙ take-mixed (y + 1) wanted shown (omega (arith, new_size.height))
+
+  back : map blanked (drop (y + 1) before) ≡ drop (y + 1) wanted
+  back =
+      let kept : drop (y + 1) before ≡ drop (y + 1) shown = drop-set-lt (y + 1) (mixed y wanted shown) y (mixed x (line_of wanted y) (line_of shown y)) (omega arith) ∙ drop-mixed y wanted shown (omega (arith, new_size.height)) same in
+      let long : length (drop (y + 1) shown) ≡ length (drop (y + 1) wanted) = omega (arith, length-drop (y + 1) shown, length-drop (y + 1) wanted, same) in
+      ap (map blanked) kept ∙ blank-rest lines columns (y + 1) shown old_size ∙ ap (λ n. blank_picture n columns) long ∙ sym (blank-rest lines columns (y + 1) wanted new_size)
+      ∙ kept-later blanked blank (y + 1) wanted below all_blank
+
+  erased : erased_page ToEnd (y, x) before ≡ wanted
+  erased =
+      let line = erased-mixed (mixed y wanted shown) y x (line_of shown y) (line_of wanted y) same-lines (omega (arith, length-mixed y wanted shown same, old_size.height)) tail in
+      (λ i. take (y + 1) (line i) ++ back i) ∙ ap (λ rows. rows ++ drop (y + 1) wanted) front ∙ take-append-drop (y + 1) wanted
+
+  pub page-erased : {a b c d : Seen} {first pen next last : Pen} → IsPicturePainted a b first pen y shown wanted → IsReadyToErase b c pen next y x (line_of shown y) (line_of wanted y)
+      → ((picture : Picture) → Draws (spelling (Ed ToEnd)) c d next last picture (erased_page ToEnd (y, x) picture)) → Strokes (picture_bytes shown wanted) a d first last shown wanted
+  page-erased {c} {d} {next} {last} h k draws =
+      let one = drop_more shown y [] (omega (arith, old_size.height)) in
+      let other = drop_more wanted y [] (omega (arith, new_size.height)) in
+      let left : picture_bytes (drop y shown) (drop y wanted) ≡ picture_bytes (line_of shown y ∷ drop (y + 1) shown) (line_of wanted y ∷ drop (y + 1) wanted) = λ i. picture_bytes (one i) (other i) in
+      let erasure : Strokes 4 c d next last before wanted = record {
+        piece = spelling (Ed ToEnd);
+        draws = subst (Draws (spelling (Ed ToEnd)) c d next last before) erased (draws before);
+        short = length-spelling (Ed ToEnd) tt;
+      } in
+      let ready = k.strokes (mixed y wanted shown) (omega (arith, length-mixed y wanted shown same, old_size.height)) (mixed-at [] y wanted shown (omega (arith, old_size.height)) same) in
+      Strokes-more (Strokes-then (Strokes-then h.strokes ready) erasure) (omega (arith, h.within, k.within, left))
