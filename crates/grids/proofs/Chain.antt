@@ -1,16 +1,18 @@
 -- The chain of parents: it ends, and it is no longer than the number of windows.
 use Rattle.std.proofs.Common.{◌≡◌, ℕ, zero, suc, ◌+◌, ◌-◌, ◌<◌, ◌≤◌, ◌≢◌, Option, Some, None, MatchOption, IsSome, IsSomeAnd, List, [], ◌∷◌, length, slice_set, ap, arith, refl, sym, ◌∙◌, subst, inl, inr, ◌⊎◌, get_or-set_other}
+use Rattle.std.specs.Option.{option_map}
 use Rattle.std.proofs.lemmas.Bool.{cases_eq}
 use Rattle.cell.specs.Glyphs.{Glyph}
 use Rattle.cell.specs.Pictures.{glyph_at}
 use Rattle.cell.specs.declared.limits.TheConstants.{MOST_WINDOWS}
 use Rattle.world.specs.Windows.{own_grid, GridPlace, own, own_within, window_limit, leads}
+use Rattle.grids.specs.declared.place.Place.{Place}
 use Rattle.grids.specs.declared.slot.Part.{Part}
 use Rattle.grids.specs.declared.slot.Cells.{Cells}
 use Rattle.grids.specs.declared.slot.Cells.TheVariants.{Own, Shared}
 use Rattle.grids.specs.Kept.{Kept, IsKept, backing_of}
 use Rattle.grids.specs.Tables.{slot_at, window_map, FitsIn, StandsIn, IsChained}
-use Rattle.grids.specs.steps.Slots.{part_in, depth_at, lines_at, columns_at}
+use Rattle.grids.specs.steps.Slots.{part_in, in_parent, depth_at, lines_at, columns_at}
 
 from_match : (o : Option Kept) (P : Kept → Type 0) → MatchOption o ⊥ P → (k : Kept) × (o ≡ Some k) × P k
 from_match None P h = absurd h
@@ -96,6 +98,15 @@ pub depth_below : (slots : List (Option Kept)) → IsChained slots → (w : ℕ)
 depth_below slots s w k e =
     omega (arith, taken_in-le slots, many_taken (suc k.depth) slots (λ d lt. occurs_above slots s k.depth w k e refl d (omega arith)))
 
+-- the place in the parent
+pub from_parent : (at next : Place) (o : Option Part) → Some next ≡ option_map (in_parent at) o → (part : Part) × (o ≡ Some part) × (next ≡ in_parent at part)
+from_parent at next None h = cc
+from_parent at next (Some part) h = (part, refl, let e : next ≡ in_parent at part = cc in e)
+
+pub no_parent : (at : Place) (o : Option Part) → None ≡ option_map (in_parent at) o → o ≡ None
+no_parent at None h = refl
+no_parent at (Some part) h = cc
+
 -- the chain of win comes to this place of grid
 pub record Leads (slots : List (Option Kept)) (win grid line column : ℕ) : Type 0 where
   pub taken : IsSome (slot_at slots grid)
@@ -160,7 +171,7 @@ own_alone (Own sheet) grid is = refl
 own_alone (Shared part) grid is = cc
 
 -- each chain ends
-own_or_shared : (cells : Cells) → (part_in cells ≡ None) ⊎ ((part : Part) × (cells ≡ Shared part))
+pub own_or_shared : (cells : Cells) → (part_in cells ≡ None) ⊎ ((part : Part) × (cells ≡ Shared part))
 own_or_shared (Own sheet) = inl refl
 own_or_shared (Shared part) = inr (part, refl)
 

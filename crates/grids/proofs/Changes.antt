@@ -13,10 +13,11 @@ use Rattle.grids.specs.declared.slot.Part.{Part}
 use Rattle.grids.specs.declared.slot.Cells.{Cells}
 use Rattle.grids.specs.declared.slot.Cells.TheVariants.{Own, Shared}
 use Rattle.grids.specs.Kept.{Kept, IsKept, window_of}
-use Rattle.grids.specs.Tables.{WindowTable, IsWindowTable, slot_at, window_map, windows, FitsIn, StandsIn, IsChained}
+use Rattle.grids.specs.Tables.{WindowTable, IsWindowTable, slot_at, window_map, windows, AreOrigins, FitsIn, StandsIn, IsChained}
 use Rattle.grids.specs.steps.Slots.{part_in}
 use Rattle.grids.specs.steps.Changes.{SameShape, Changed, SetAt}
 use Rattle.grids.proofs.Chain.{each_at, some_and, own_source, own_alone}
+use Rattle.grids.proofs.Origins.{HasOrigin, origins-changed, origins-filled}
 
 -- ---- one slot has another window, or none
 
@@ -36,7 +37,7 @@ slot_below slots w k e =
     ]
 
 -- what holds of each slot holds of each after one was set
-each_set : (P : Kept → Type 0) (old new : List (Option Kept)) (at : ℕ) (o : Option Kept) → SetAt old new at o
+pub each_set : (P : Kept → Type 0) (old new : List (Option Kept)) (at : ℕ) (o : Option Kept) → SetAt old new at o
     → ((w : ℕ) → MatchOption (slot_at old w) ⊤ P) → MatchOption o ⊤ P → (w : ℕ) → MatchOption (slot_at new w) ⊤ P
 each_set P old new at o set each one w =
     elim (cases_eq w at) [
@@ -91,7 +92,7 @@ each_more old new same None h = h
 each_more old new same (Some k) h = (h.0, stands_more old new same k k.cells h.1)
 
 -- one slot is filled, with a window whose parent is there
-chained_set : (old new : List (Option Kept)) (at : ℕ) (j : Kept) → IsChained old → SetAt old new at (Some j) → KeepsShape (slot_at old at) (Some j)
+pub chained_set : (old new : List (Option Kept)) (at : ℕ) (j : Kept) → IsChained old → SetAt old new at (Some j) → KeepsShape (slot_at old at) (Some j)
     → IsKept j → StandsIn old j j.cells → IsChained new
 chained_set old new at j s set shape kept stands =
     let shapes : (w : ℕ) → KeepsShape (slot_at old w) (slot_at new w) = λ w. elim (cases_eq w at) [
@@ -118,8 +119,8 @@ standard-still t new None s = s
 standard-still t new (Some k) s = standard-kept t new k s
 
 pub IsWindowTable-set : (t : WindowTable) (new : List (Option Kept)) (at : ℕ) (k : Kept) → IsWindowTable t → SetAt t.slots new at (Some k) → KeepsShape (slot_at t.slots at) (Some k)
-    → IsKept k → StandsIn t.slots k k.cells → IsOnScreen t.lines t.columns (window_of k) → (at ≡ 0 → IsStandardOf t k) → IsWindowTable (record t { slots = new })
-IsWindowTable-set t new at k s set shape kept stands placed standard = record {
+    → IsKept k → StandsIn t.slots k k.cells → IsOnScreen t.lines t.columns (window_of k) → (at ≡ 0 → IsStandardOf t k) → (IsChained new → AreOrigins new) → IsWindowTable (record t { slots = new })
+IsWindowTable-set t new at k s set shape kept stands placed standard origins = record {
   some_slot = omega (arith, s.some_slot, set.more);
   few_slots = set.few;
   has_line = s.has_line;
@@ -131,14 +132,16 @@ IsWindowTable-set t new at k s set shape kept stands placed standard = record {
     | inr other ↦ subst (λ o. IsSomeAnd o (IsStandardOf (record t { slots = new }))) (sym (set.others 0 other)) (standard-still t new (slot_at t.slots 0) s.standard)
   ];
   chained = chained_set t.slots new at k s.chained set shape kept stands;
+  origins = origins (chained_set t.slots new at k s.chained set shape kept stands);
   placed = each_set (λ q. IsOnScreen t.lines t.columns (window_of q)) t.slots new at (Some k) set s.placed placed;
 }
 
 -- a free slot is filled
 pub IsWindowTable-filled : (t : WindowTable) (new : List (Option Kept)) (at : ℕ) (k : Kept) → IsWindowTable t → SetAt t.slots new at (Some k) → slot_at t.slots at ≡ None
-    → IsKept k → StandsIn t.slots k k.cells → IsOnScreen t.lines t.columns (window_of k) → 0 < at → IsWindowTable (record t { slots = new })
-IsWindowTable-filled t new at k s set free kept stands placed from_one =
+    → IsKept k → StandsIn t.slots k k.cells → IsOnScreen t.lines t.columns (window_of k) → 0 < at → (IsChained new → HasOrigin new at k) → IsWindowTable (record t { slots = new })
+IsWindowTable-filled t new at k s set free kept stands placed from_one origin =
     IsWindowTable-set t new at k s set (subst (λ o. KeepsShape o (Some k)) (sym free) tt) kept stands placed (λ same. absurd (omega arith))
+    (λ chained. origins-filled t.slots new at k s.chained set free s.origins (origin chained))
 
 -- ---- one slot's window was changed
 
@@ -154,7 +157,7 @@ fits_too k j part s (Some p) h = record {
 }
 
 -- a window of the same shape and offset stands where the other stood
-stands_too : (slots : List (Option Kept)) (k j : Kept) → SameShape k j → (before after : Cells) → part_in after ≡ part_in before → StandsIn slots k before → StandsIn slots j after
+pub stands_too : (slots : List (Option Kept)) (k j : Kept) → SameShape k j → (before after : Cells) → part_in after ≡ part_in before → StandsIn slots k before → StandsIn slots j after
 stands_too slots k j s (Own a) (Own b) e h = s.depth ∙ h
 stands_too slots k j s (Shared p) (Shared q) e h =
     let one : p ≡ q = cc in
@@ -169,7 +172,8 @@ module _ (t : WindowTable) (new : List (Option Kept)) (at : ℕ) (change : Windo
   IsWindowTable-change : IsOnScreen t.lines t.columns (window_of h.after) → (at ≡ 0 → IsStandardOf t h.after) → IsWindowTable (record t { slots = new })
   IsWindowTable-change placed standard =
       IsWindowTable-set t new at h.after s set_at (subst (λ o. KeepsShape o (Some h.after)) (sym h.was) h.shape) h.kept
-      (stands_too t.slots h.before h.after h.shape h.before.cells h.after.cells h.part (each_at t.slots s.chained at h.before h.was).1) placed standard
+      (stands_too t.slots h.before h.after h.shape h.before.cells h.after.cells h.part.part (each_at t.slots s.chained at h.before h.was).1) placed standard
+      (λ chained. origins-changed t.slots new at h.before h.after set_at h.was h.part s.origins)
 
   same_place : ((a : Window) → (change a).place ≡ a.place) → h.after.place ≡ h.before.place
   same_place keeps = ap (λ (a : Window). a.place) h.window ∙ keeps (window_of h.before)
@@ -179,7 +183,7 @@ module _ (t : WindowTable) (new : List (Option Kept)) (at : ℕ) (change : Windo
       let k = some_and (slot_at t.slots 0) (IsStandardOf t) s.standard in
       let one : k.0 ≡ h.before = let both = sym k.1 ∙ ap (slot_at t.slots) (sym same) ∙ h.was in cc in
       let before : IsStandardOf t h.before = subst (IsStandardOf t) one k.2 in
-      let grid = own_source h.after.cells (h.part ∙ own_alone h.before.cells before.cells before.grid) in
+      let grid = own_source h.after.cells (h.part.part ∙ own_alone h.before.cells before.cells before.grid) in
       record {
         lines = h.shape.lines ∙ before.lines;
         columns = h.shape.columns ∙ before.columns;

@@ -17,6 +17,7 @@ use Rattle.grids.specs.steps.Slots.{names_parent}
 use Rattle.grids.specs.steps.Changes.{SetAt}
 use Rattle.grids.proofs.Chain.{limit-is}
 use Rattle.grids.proofs.Changes.{slot_below, IsStandardOf, standard-still}
+use Rattle.grids.proofs.Origins.{origins-without}
 
 stands_without : (old new : List (Option Kept)) (at : ℕ) → SetAt old new at None → (k : Kept) (cells : Cells) → ((part : Part) → cells ≡ Shared part → part.parent ≢ at) → StandsIn old k cells → StandsIn new k cells
 stands_without old new at set k (Own a) apart h = h
@@ -70,6 +71,7 @@ IsWindowTable-without t new at set s other h = record {
   few_columns = s.few_columns;
   standard = subst (λ o. IsSomeAnd o (IsStandardOf (record t { slots = new }))) (sym (set.others 0 (λ e. other (sym e)))) (standard-still t new (slot_at t.slots 0) s.standard);
   chained = chained_without t new at set s h;
+  origins = origins-without t.slots new at set (λ w k part e is. none_derives t.slots at s.few_slots h w k part e is) s.origins;
   placed = placed_without t new at set s;
 }
 

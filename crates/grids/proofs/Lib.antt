@@ -13,4 +13,8 @@ pub mod CopyFrames
 pub mod Lines
 pub mod Touches
 pub mod Walks
+pub mod Origins
+pub mod Settling
 pub mod Syncs
+pub mod Shared
+pub mod Seen

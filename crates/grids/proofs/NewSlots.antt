@@ -15,6 +15,7 @@ use Rattle.world.specs.World.{new_window}
 use Rattle.cell.proofs.PictureLemmas.{IsCell-blank, HasSize-all_of, EachCell-all_of}
 use Rattle.grids.specs.declared.slot.Cells.{Cells}
 use Rattle.grids.specs.declared.slot.Cells.TheVariants.{Own}
+use Rattle.grids.specs.declared.slot.Origin.{Origin}
 use Rattle.grids.specs.Kept.{Kept, IsKept, IsGridOf, window_of}
 use Rattle.world.specs.Sound.{AreColumnsWithin}
 use Rattle.world.specs.declared.settings.Columns.{Columns}
@@ -70,9 +71,9 @@ none_within : (columns : ℕ) (o : Option Columns) → o ≡ None → AreColumns
 none_within columns None e = tt
 none_within columns (Some r) e = cc
 
-pub IsKept-new : (lines columns depth : ℕ) (place : Option Place) (cells : Cells) → 0 < lines → 0 < columns → lines ≤ LARGEST_PAD → columns ≤ LARGEST_PAD → IsGridOf lines columns cells
-    → IsKept (record { lines = lines; columns = columns; place = place; settings = first_settings lines; touched = replicate lines None; depth = depth; cells = cells })
-IsKept-new lines columns depth place cells has_line has_column few_lines few_columns grid = record {
+pub IsKept-new : (lines columns depth : ℕ) (place : Option Place) (origin : Origin) (cells : Cells) → 0 < lines → 0 < columns → lines ≤ LARGEST_PAD → columns ≤ LARGEST_PAD → IsGridOf lines columns cells
+    → IsKept (record { lines = lines; columns = columns; place = place; settings = first_settings lines; touched = replicate lines None; depth = depth; origin = origin; cells = cells })
+IsKept-new lines columns depth place origin cells has_line has_column few_lines few_columns grid = record {
   has_line = has_line;
   has_column = has_column;
   few_lines = few_lines;
@@ -86,10 +87,10 @@ IsKept-new lines columns depth place cells has_line has_column few_lines few_col
 pub IsGridOf-blank : (lines columns : ℕ) → IsGridOf lines columns (Own (blank_sheet lines columns))
 IsGridOf-blank lines columns = (HasSize-all_of blank lines columns, EachCell-all_of IsCell blank lines columns IsCell-blank)
 
-pub window-blank : (lines columns depth : ℕ) (place : Option Place)
-    → window_of (record { lines = lines; columns = columns; place = place; settings = first_settings lines; touched = replicate lines None; depth = depth; cells = Own (blank_sheet lines columns) })
+pub window-blank : (lines columns depth : ℕ) (place : Option Place) (origin : Origin)
+    → window_of (record { lines = lines; columns = columns; place = place; settings = first_settings lines; touched = replicate lines None; depth = depth; origin = origin; cells = Own (blank_sheet lines columns) })
     ≡ new_window lines columns place blank_grid
-window-blank lines columns depth place =
+window-blank lines columns depth place origin =
     let none : (λ y. get_or (replicate lines (let o : Option Columns = None in o)) y None) ≡ (λ y. None) = fun_ext (λ y. touched-none lines y) in
     λ i. record (new_window lines columns place blank_grid) { touched = none i; backing = grid-blank lines columns i }
 

@@ -12,11 +12,12 @@ use Rattle.grids.specs.declared.slot.Part.{Part}
 use Rattle.grids.specs.declared.slot.Cells.{Cells}
 use Rattle.grids.specs.declared.slot.Cells.TheVariants.{Own, Shared}
 use Rattle.grids.specs.Kept.{Kept, IsKept, window_of}
-use Rattle.grids.specs.Tables.{WindowTable, IsWindowTable, slot_at, windows, FitsIn, StandsIn}
+use Rattle.grids.specs.Tables.{WindowTable, IsWindowTable, slot_at, windows, FitsIn, IsChained, StandsIn}
 use Rattle.grids.specs.steps.Slots.{part_in}
 use Rattle.grids.specs.steps.Changes.{SetAt, IsFree}
 use Rattle.grids.proofs.Chain.{shared_of}
 use Rattle.grids.proofs.Changes.{windows-set, IsWindowTable-filled}
+use Rattle.grids.proofs.Origins.{HasOrigin}
 
 pub stands_alone : (slots : List (Option Kept)) (k : Kept) (cells : Cells) → part_in cells ≡ None → k.depth ≡ 0 → StandsIn slots k cells
 stands_alone slots k (Own picture) e h = h
@@ -50,8 +51,8 @@ placed_pad lines columns n m src k e = subst (λ (a : Window). IsOnScreen lines 
 -- it is put under a free number
 
 module _ (t : WindowTable) (new : List (Option Kept)) (m : ℕ) (k : Kept) (set : SetAt t.slots new m (Some k)) where
-  pub IsWindowTable-added : IsWindowTable t → IsFree t.slots m → IsKept k → StandsIn t.slots k k.cells → IsOnScreen t.lines t.columns (window_of k) → IsWindowTable (record t { slots = new })
-  IsWindowTable-added s free kept stands placed = IsWindowTable-filled t new m k s set free.free kept stands placed free.from_one
+  pub IsWindowTable-added : IsWindowTable t → IsFree t.slots m → IsKept k → StandsIn t.slots k k.cells → IsOnScreen t.lines t.columns (window_of k) → (IsChained new → HasOrigin new m k) → IsWindowTable (record t { slots = new })
+  IsWindowTable-added s free kept stands placed origin = IsWindowTable-filled t new m k s set free.free kept stands placed free.from_one origin
 
   pub windows-added : (a : Window) → window_of k ≡ a → windows (record t { slots = new }) ≡ numbered (windows t) m (Some a)
   windows-added a e = windows-set t new m (Some k) set ∙ ap (λ (b : Window). numbered (windows t) m (Some b)) e

@@ -1,17 +1,19 @@
 -- A derived window that shows another part of its parent.
-use Rattle.std.proofs.Common.{◌≡◌, ℕ, ◌+◌, ◌≤◌, Option, Some, None, List, ap, arith, sym, ◌∙◌, subst}
+use Rattle.std.proofs.Common.{◌≡◌, ◌≢◌, ℕ, ◌+◌, ◌≤◌, Option, Some, None, IsSomeAnd, MatchOption, List, length, ap, arith, sym, ◌∙◌, subst}
 use Rattle.std.specs.Option.{option_map}
+use Rattle.std.specs.Prelude.{⊤}
+use Rattle.cell.specs.declared.limits.TheConstants.{MOST_WINDOWS}
 use Rattle.world.specs.Windows.{Window, WindowMap, changed, replaced}
-use Rattle.world.specs.Sound.{IsOnScreen}
+use Rattle.world.specs.Sound.{IsOnScreen, IsStandardScreen}
 use Rattle.world.specs.calls.Making.{with_part}
 use Rattle.grids.specs.declared.slot.Part.{Part}
 use Rattle.grids.specs.declared.slot.Cells.TheVariants.{Shared}
 use Rattle.grids.specs.Kept.{Kept, window_of}
 use Rattle.grids.specs.Tables.{WindowTable, IsWindowTable, slot_at, window_map, windows, FitsIn, StandsIn, IsChained}
 use Rattle.grids.specs.steps.Slots.{part_in}
-use Rattle.grids.specs.steps.Changes.{Shifted, SetAt, shifted}
+use Rattle.grids.specs.steps.Changes.{Settled, Shifted, SetAt, shifted}
 use Rattle.grids.proofs.Chain.{parent_at, some_and, shared_of, own_alone}
-use Rattle.grids.proofs.Changes.{SetAt-set, slot_below, windows-set, IsWindowTable-set, KeepsShape, IsStandardOf, replaced-changed}
+use Rattle.grids.proofs.Changes.{SetAt-set, slot_below, windows-set, each_set, chained_set, KeepsShape, IsStandardOf, standard-still, replaced-changed}
 
 -- how a window stands in its parent
 fits_at : (slots : List (Option Kept)) → IsChained slots → (w : ℕ) (k p : Kept) (part : Part) → slot_at slots w ≡ Some k → part_in k.cells ≡ Some part → slot_at slots part.parent ≡ Some p → FitsIn k part p
@@ -20,40 +22,82 @@ fits_at slots s w k p part e in_part parent =
     let one : q.0 ≡ p = let both = sym q.1 ∙ parent in cc in
     subst (λ (r : Kept). FitsIn k part r) one q.2
 
-module _ (t : WindowTable) (new : List (Option Kept)) (at y x : ℕ) (s : IsWindowTable t) (h : Shifted t.slots new at y x) where
-  set_at : SetAt t.slots new at (Some h.after)
+-- slots of the same windows
+
+standard-seen : (t : WindowTable) (o n : Option Kept) → option_map window_of o ≡ option_map window_of n → IsSomeAnd o (IsStandardOf t) → IsSomeAnd n (IsStandardOf t)
+standard-seen t None n e h = absurd h
+standard-seen t (Some k) None e h = cc
+standard-seen t (Some k) (Some j) e h = let one : window_of k ≡ window_of j = cc in subst (IsStandardScreen (windows t)) one h
+
+placed-seen : (lines columns : ℕ) (o n : Option Kept) → option_map window_of o ≡ option_map window_of n → MatchOption o ⊤ (λ k. IsOnScreen lines columns (window_of k)) → MatchOption n ⊤ (λ k. IsOnScreen lines columns (window_of k))
+placed-seen lines columns None None e h = h
+placed-seen lines columns None (Some j) e h = cc
+placed-seen lines columns (Some k) None e h = cc
+placed-seen lines columns (Some k) (Some j) e h = let one : window_of k ≡ window_of j = cc in subst (IsOnScreen lines columns) one h
+
+module _ (t : WindowTable) (mid : List (Option Kept)) (at y x : ℕ) (s : IsWindowTable t) (h : Shifted t.slots mid at y x) where
+  set_at : SetAt t.slots mid at (Some h.after)
   set_at = rw h.set (SetAt-set t.slots at (Some h.after) s.few_slots (slot_below t.slots at h.before h.was))
 
-  -- a derived window's offset may be any at which it fits
-  pub IsWindowTable-shifted : (k p : Kept) (part : Part) → slot_at t.slots at ≡ Some k → part_in k.cells ≡ Some part → slot_at t.slots part.parent ≡ Some p
-      → y + k.lines ≤ p.lines → x + k.columns ≤ p.columns → IsWindowTable (record t { slots = new })
-  IsWindowTable-shifted k p part e in_part parent lines columns =
-      let old = t.slots in
-      let one : k ≡ h.before = let both = sym e ∙ h.was in cc in
-      let cells_are : h.before.cells ≡ Shared part = ap (λ (q : Kept). q.cells) (sym one) ∙ shared_of k.cells part in_part in
-      let after_are : h.after.cells ≡ Shared (record part { line = y; column = x }) = h.cells ∙ ap (shifted y x) cells_are in
-      let fit = fits_at old s.chained at k p part e in_part parent in
-      let fits : FitsIn h.after (record part { line = y; column = x }) p = record {
-        depth = h.shape.depth ∙ (rw one at fit.depth);
-        within = record {
-          lines = omega (arith, lines, h.shape.lines, ap (λ (q : Kept). q.lines) one);
-          columns = omega (arith, columns, h.shape.columns, ap (λ (q : Kept). q.columns) one);
-          kind = h.shape.place ∙ (rw one at fit.within.kind);
-        };
-      } in
-      let stands : StandsIn old h.after h.after.cells = subst (λ c. StandsIn old h.after c) (sym after_are) (rw parent fits) in
-      IsWindowTable-set t new at h.after s set_at (subst (λ o. KeepsShape o (Some h.after)) (sym h.was) h.shape) h.kept stands
-      (subst (λ (a : Window). IsOnScreen t.lines t.columns a) (sym h.window) (rw h.was at (s.placed at)))
-      (λ same.
-      let standard = some_and (slot_at t.slots 0) (IsStandardOf t) s.standard in
-      let both : standard.0 ≡ k = let there = sym standard.1 ∙ ap (slot_at t.slots) (sym same) ∙ e in cc in
-      let own : part_in k.cells ≡ None = ap (λ (q : Kept). part_in q.cells) (sym both) ∙ own_alone standard.0.cells standard.2.cells standard.2.grid in
-      let never : ⊥ = let clash = sym own ∙ in_part in cc in
-      absurd never)
-
-  pub windows-shifted : windows (record t { slots = new }) ≡ record (windows t) { window = changed (window_map t.slots) at (with_part y x) }
-  windows-shifted =
-      windows-set t new at (Some h.after) set_at
+  windows-mid : windows (record t { slots = mid }) ≡ record (windows t) { window = changed (window_map t.slots) at (with_part y x) }
+  windows-mid =
+      windows-set t mid at (Some h.after) set_at
       ∙ ap (λ (map : WindowMap). record (windows t) { window = map })
       (ap (λ a. replaced (window_map t.slots) at (Some a)) h.window
       ∙ replaced-changed (window_map t.slots) at (with_part y x) (window_of h.before) (ap (option_map window_of) h.was))
+
+  pub windows-shifted : (new : List (Option Kept)) → Settled mid new → windows (record t { slots = new }) ≡ record (windows t) { window = changed (window_map t.slots) at (with_part y x) }
+  windows-shifted new settled = ap (λ (map : WindowMap). record (windows t) { window = map }) settled.windows ∙ windows-mid
+
+  pub few-shifted : length mid ≤ MOST_WINDOWS + 1
+  few-shifted = set_at.few
+
+  -- a derived window's offset may be any at which it fits
+  module _ (k p : Kept) (part : Part) (e : slot_at t.slots at ≡ Some k) (in_part : part_in k.cells ≡ Some part) (parent : slot_at t.slots part.parent ≡ Some p)
+      (lines : y + k.lines ≤ p.lines) (columns : x + k.columns ≤ p.columns) where
+    stands : StandsIn t.slots h.after h.after.cells
+    stands =
+        let one : k ≡ h.before = let both = sym e ∙ h.was in cc in
+        let cells_are : h.before.cells ≡ Shared part = ap (λ (q : Kept). q.cells) (sym one) ∙ shared_of k.cells part in_part in
+        let after_are : h.after.cells ≡ Shared (record part { line = y; column = x }) = h.cells ∙ ap (shifted y x) cells_are in
+        let fit = fits_at t.slots s.chained at k p part e in_part parent in
+        let fits : FitsIn h.after (record part { line = y; column = x }) p = record {
+          depth = h.shape.depth ∙ (rw one at fit.depth);
+          within = record {
+            lines = omega (arith, lines, h.shape.lines, ap (λ (q : Kept). q.lines) one);
+            columns = omega (arith, columns, h.shape.columns, ap (λ (q : Kept). q.columns) one);
+            kind = h.shape.place ∙ (rw one at fit.within.kind);
+          };
+        } in
+        subst (λ c. StandsIn t.slots h.after c) (sym after_are) (rw parent fits)
+
+    pub chained-shifted : IsChained mid
+    chained-shifted = chained_set t.slots mid at h.after s.chained set_at (subst (λ o. KeepsShape o (Some h.after)) (sym h.was) h.shape) h.kept stands
+
+    -- the standard screen is no derived window
+    other : 0 ≢ at
+    other same =
+        let standard = some_and (slot_at t.slots 0) (IsStandardOf t) s.standard in
+        let both : standard.0 ≡ k = let there = sym standard.1 ∙ ap (slot_at t.slots) same ∙ e in cc in
+        let own : part_in k.cells ≡ None = ap (λ (q : Kept). part_in q.cells) (sym both) ∙ own_alone standard.0.cells standard.2.cells standard.2.grid in
+        let never : ⊥ = let clash = sym own ∙ in_part in cc in
+        never
+
+    -- then each origin is set anew
+    module _ (new : List (Option Kept)) (settled : Settled mid new) where
+      pub IsWindowTable-shifted : IsWindowTable (record t { slots = new })
+      IsWindowTable-shifted = record {
+        some_slot = omega (arith, s.some_slot, set_at.more, settled.size);
+        few_slots = omega (arith, set_at.few, settled.size);
+        has_line = s.has_line;
+        has_column = s.has_column;
+        few_lines = s.few_lines;
+        few_columns = s.few_columns;
+        standard = standard-seen (record t { slots = new }) (slot_at mid 0) (slot_at new 0) (sym (ap (λ (map : WindowMap). map 0) settled.windows))
+            (subst (λ o. IsSomeAnd o (IsStandardOf (record t { slots = new }))) (sym (set_at.others 0 other)) (standard-still t new (slot_at t.slots 0) s.standard));
+        chained = settled.chained;
+        origins = settled.origins;
+        placed = λ w. placed-seen t.lines t.columns (slot_at mid w) (slot_at new w) (sym (ap (λ (map : WindowMap). map w) settled.windows))
+            (each_set (λ q. IsOnScreen t.lines t.columns (window_of q)) t.slots mid at (Some h.after) set_at s.placed
+            (subst (λ (a : Window). IsOnScreen t.lines t.columns a) (sym h.window) (rw h.was at (s.placed at))) w);
+      }

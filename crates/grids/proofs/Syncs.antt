@@ -6,18 +6,18 @@ use mathlib.Core.Path.{fun_ext}
 use Rattle.std.proofs.lemmas.Bool.{and_from, and_parts, cases_eq, cases_lt, le-leb, leb-true, lt-ltb, le-ltb}
 use Rattle.std.proofs.lemmas.Bool.Decides.{nat_tests}
 use Rattle.cell.specs.declared.limits.TheConstants.{LARGEST_PAD}
-use Rattle.world.specs.Windows.{part_of, GridPlace, Window, WindowMap, Windows, ancestors, any_below, changed, onward, own, touched_below}
-use Rattle.world.specs.Sharing.{is_same_place, shows_part_of}
+use Rattle.world.specs.Windows.{part_of, GridPlace, HasPlace, Window, WindowMap, Windows, ancestors, any_below, changed, onward, own, touched_below}
+use Rattle.world.specs.Sharing.{shows_part_of}
 use Rattle.world.specs.Sound.{AreSoundWindows}
 use Rattle.world.specs.calls.Marks.{after_syncdown, after_syncup, in_line, shows_touched_of, touching}
 use Rattle.world.specs.declared.settings.Columns.{Columns}
-use Rattle.world.proofs.Below.{any_below-some, any_below-true, any_in-some, any_in-true}
-use Rattle.world.proofs.SharingLaws.{same-true, true-same}
+use Rattle.world.proofs.Below.{any_below-some, any_below-true}
 use Rattle.world.proofs.WindowLaws.{own-onward, touched-touched}
 use Rattle.grids.specs.declared.slot.Part.{Part}
 use Rattle.grids.specs.steps.Syncs.{EndsWithin, has_column, is_touched_at, part_behind, shows_touched, touched_shown}
+use Rattle.grids.proofs.Shared.{shared-in, from-shared}
 use Rattle.grids.proofs.Touches.{changed-here, changed-nothing, changed-other, changed-same, changed-twice, touching-is, touching-none}
-use Rattle.grids.proofs.Walks.{Walk, Walk-step, ancestors-none, ancestors-parent, behind-none, behind-some, sound-there}
+use Rattle.grids.proofs.Walks.{Walk, Walk-start, Walk-step, ancestors-none, ancestors-parent, behind-none, behind-some, sound-there}
 
 -- ---- the test by numbers
 
@@ -29,11 +29,6 @@ both_ways false false f g = refl
 
 module _ (window : WindowMap) (s t : ℕ) (a : Window) (g : GridPlace) (p0 p1 q0 q1 : ℕ) (there : window s ≡ Some a)
     (leads_s : own window s 0 0 ≡ Some (onward p0 p1 g)) (leads_t : own window t 0 0 ≡ Some (onward q0 q1 g)) where
-  same-is : (v z y x : ℕ) → is_same_place (own window s v z) (own window t y x) ≡ is_same_place (Some (onward v z (onward p0 p1 g))) (Some (onward y x (onward q0 q1 g)))
-  same-is v z y x =
-      ap (λ o. is_same_place o (own window t y x)) (own-onward window s v z ∙ ap (option_map (onward v z)) leads_s)
-      ∙ ap (λ o. is_same_place (Some (onward v z (onward p0 p1 g))) o) (own-onward window t y x ∙ ap (option_map (onward y x)) leads_t)
-
   -- on line v of the window
   in_columns : Option Columns → ℕ → ℕ → ℕ → Bool
   in_columns o v y x = option_map_or (λ r. shows_part_of window s (in_line v r) t y x) o false
@@ -47,16 +42,11 @@ module _ (window : WindowMap) (s t : ℕ) (a : Window) (g : GridPlace) (p0 p1 q0
   unfolding in_columns
   meets None v y x h = cc
   meets (Some r) v y x h =
-      let found = any_in-true (in_line v r) (λ k z. is_same_place (own window s k z) (own window t y x)) h in
-      let same = same-true (onward found.line found.column (onward p0 p1 g)) (onward y x (onward q0 q1 g)) (sym (same-is found.line found.column y x) ∙ found.passes) in
-      let line : g.line + p0 + found.line ≡ g.line + q0 + y = same.line in
-      let column : g.column + p1 + found.column ≡ g.column + q1 + x = same.column in
-      let inside = found.inside in
-      let at : found.column ≡ q1 + x - p1 = omega (arith, column) in
+      let shared = shared-in window s t (onward p0 p1 g) (onward q0 q1 g) leads_s leads_t (in_line v r) y x h in
       record {
-        line = omega (arith, line, inside.top, inside.bottom);
-        column = omega (arith, column);
-        among = and_from (nat_le r.first (q1 + x - p1)) (nat_le (q1 + x - p1) r.last) (le-leb r.first (q1 + x - p1) (omega (arith, inside.left, at))) (le-leb (q1 + x - p1) r.last (omega (arith, inside.right, at)));
+        line = omega (arith, shared.top, shared.bottom);
+        column = omega (arith, shared.left);
+        among = and_from (nat_le r.first (q1 + x - p1)) (nat_le (q1 + x - p1) r.last) (le-leb r.first (q1 + x - p1) (omega (arith, shared.left))) (le-leb (q1 + x - p1) r.last (omega (arith, shared.right)));
       }
 
   from-meets : (o : Option Columns) (v y x : ℕ) → Meets o v y x → in_columns o v y x ≡ true
@@ -66,11 +56,8 @@ module _ (window : WindowMap) (s t : ℕ) (a : Window) (g : GridPlace) (p0 p1 q0
       let parts = and_parts (nat_le r.first (q1 + x - p1)) (nat_le (q1 + x - p1) r.last) h.among in
       let first = leb-true r.first (q1 + x - p1) parts.0 in
       let last = leb-true (q1 + x - p1) r.last parts.1 in
-      let line : g.line + p0 + v ≡ g.line + q0 + y = omega (arith, h.line) in
-      let column : g.column + p1 + (q1 + x - p1) ≡ g.column + q1 + x = omega (arith, h.column) in
-      any_in-some (in_line v r) (λ k z. is_same_place (own window s k z) (own window t y x)) v (q1 + x - p1)
-      (record { top = omega arith; bottom = omega arith; left = first; right = last })
-      (same-is v (q1 + x - p1) y x ∙ true-same (onward v (q1 + x - p1) (onward p0 p1 g)) (onward y x (onward q0 q1 g)) (record { grid = refl; line = line; column = column }))
+      from-shared window s t (onward p0 p1 g) (onward q0 q1 g) leads_s leads_t (in_line v r) y x
+      (record { grid = refl; top = omega (arith, h.line); bottom = omega (arith, h.line); left = omega (arith, h.column, first); right = omega (arith, h.column, last) })
 
   shows-line : (y x : ℕ) → shows_touched_of window s t y x ≡ any_below a.lines (λ v. in_columns (a.touched v) v y x)
   unfolding in_columns
@@ -192,6 +179,17 @@ pub record IsHandedTo (old cur : Windows) (w u line column : ℕ) : Type 0 where
 pub reached : (old cur : Windows) (w u line column : ℕ) → (walk : Walk old.window w u line column) → ((v : ℕ) → option_map untouched (cur.window v) ≡ option_map untouched (old.window v)) → SameBut (cur.window u) walk.above
 reached old cur w u line column walk same = same-window (cur.window u) (old.window u) walk.above (same u) walk.at_is
 
+-- a place of it is there
+pub place-reached : (old cur : Windows) (w u line column : ℕ) → AreSoundWindows old → (walk : Walk old.window w u line column) → ((v : ℕ) → option_map untouched (cur.window v) ≡ option_map untouched (old.window v))
+    → HasPlace cur.window u line column
+place-reached old cur w u line column sound walk same =
+    let now = reached old cur w u line column walk same in
+    let first = sound-there old w walk.below sound walk.from_is in
+    rw now.there (omega (arith, first.has_line, walk.lines, now.lines), omega (arith, first.has_column, walk.columns, now.columns))
+
+pub handed-none : (windows : Windows) (w : ℕ) → IsSome (windows.window w) → IsHandedTo windows windows w w 0 0
+handed-none windows w there = record { walk = Walk-start windows.window w there; size = refl; same = λ v. refl; source = refl; rest = λ v. refl }
+
 derives_if : (t s : Bool) (f : Window → Window) (o : Option Window) → (if t || s then option_map f o else o) ≡ (if s then (if t then option_map f o else option_map f o) else (if t then option_map f o else o))
 derives_if true true f o = refl
 derives_if true false f o = refl
@@ -296,6 +294,9 @@ pub record IsTakenFrom (old cur : Windows) (w u line column : ℕ) : Type 0 wher
   pub same : (v : ℕ) → option_map untouched (cur.window v) ≡ option_map untouched (old.window v)
   pub others : (v : ℕ) → v ≢ w → cur.window v ≡ old.window v
   pub rest : changed cur.window w (touching (λ y x. list_any (λ v. shows_touched_of old.window v w y x) (ancestors old.window u))) ≡ (after_syncdown old w).window
+
+pub taken-none : (windows : Windows) (w : ℕ) → IsSome (windows.window w) → IsTakenFrom windows windows w w 0 0
+taken-none windows w there = record { walk = Walk-start windows.window w there; size = refl; same = λ v. refl; others = λ v other. refl; rest = refl }
 
 module _ (old : Windows) (sound : AreSoundWindows old) (w u line column : ℕ) (part : Part) (walk : Walk old.window w u line column)
     (behind : part_behind walk.above.backing ≡ Some part) (cur next : Windows) (h : IsTakenFrom old cur w u line column) (other : part.parent ≢ w)

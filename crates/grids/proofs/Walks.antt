@@ -1,13 +1,17 @@
 -- From parent to parent: which windows are the ancestors of one, and where it begins in each.
-use Rattle.std.proofs.Common.{◌≡◌, ℕ, zero, suc, ◌+◌, ◌≤◌, Option, Some, None, IsSome, IsSomeAnd, List, [], ◌∷◌, ap, arith, refl, sym, ◌∙◌, subst}
+use Rattle.std.proofs.Common.{◌≡◌, ℕ, zero, suc, ◌+◌, ◌≤◌, false, ◌==◌, ◌||◌, Option, Some, None, IsSome, IsSomeAnd, List, [], ◌∷◌, ap, arith, refl, sym, ◌∙◌, subst}
 use Rattle.std.specs.Prelude.{option_and_then}
+use Rattle.std.specs.List.{list_any}
 use Rattle.std.specs.Option.{option_map, option_map_or}
 use Rattle.cell.specs.Glyphs.{Glyph}
-use Rattle.world.specs.Windows.{Backing, own_grid, part_of, GridPlace, Window, WindowMap, Windows, ancestors, ancestors_within, leads, onward, own, own_within, parent_number, window_limit}
+use Rattle.world.specs.Windows.{Backing, own_grid, part_of, GridPlace, HasPlace, Window, WindowMap, Windows, ancestors, ancestors_within, derives, leads, onward, own, own_within, parent_number, window_limit}
 use Rattle.world.specs.Sound.{AreSoundWindows, HasCells, IsPartOf, IsSoundWindow}
 use Rattle.world.proofs.WindowLaws.{own-onward}
 use Rattle.grids.specs.declared.slot.Part.{Part}
+use Rattle.grids.specs.declared.place.Place.{Place}
+use Rattle.grids.specs.steps.Slots.{in_parent}
 use Rattle.grids.specs.steps.Syncs.{part_behind}
+use Rattle.grids.proofs.Chain.{from_parent, no_parent}
 
 -- ---- a longer walk comes to the same place
 
@@ -114,7 +118,7 @@ pub record Walk (window : WindowMap) (w u line column : ℕ) : Type 0 where
   pub columns : column + below.columns ≤ above.columns
   pub leads : (y x : ℕ) → own window w y x ≡ own window u (y + line) (x + column)
 
-some_window : (o : Option Window) → IsSome o → (a : Window) × (o ≡ Some a)
+pub some_window : (o : Option Window) → IsSome o → (a : Window) × (o ≡ Some a)
 some_window None h = cc
 some_window (Some a) h = (a, refl)
 
@@ -158,3 +162,27 @@ Walk-step windows w u line column part s h is =
           ∙ own-parent windows.window u h.above part h.at_is is sound.chain_ends (y + line) (x + column)
           ∙ (λ i. own windows.window part.parent ((let e : y + line + part.line ≡ y + (line + part.line) = omega arith in e) i) ((let e : x + column + part.column ≡ x + (column + part.column) = omega arith in e) i));
     }
+
+-- a window has its first place
+pub first-there : (windows : Windows) (u : ℕ) → AreSoundWindows windows → IsSome (windows.window u) → HasPlace windows.window u 0 0
+first-there windows u sound h =
+    let a = some_window (windows.window u) h in
+    let s = sound-there windows u a.0 sound a.1 in
+    rw a.1 (s.has_line, s.has_column)
+
+-- ---- a window derives from its parent, and from what that derives from
+
+module _ (windows : Windows) (sound : AreSoundWindows windows) (w : ℕ) (at : Place) where
+  pub derives-next : (next : Place) → IsSomeAnd (windows.window at.win.0) (λ a. Some next ≡ option_map (in_parent at) (part_behind a.backing))
+      → derives windows.window w at.win.0 ≡ ((next.win.0 == w) || derives windows.window w next.win.0)
+  derives-next next h =
+      let a = parent_there (windows.window at.win.0) (λ a. Some next ≡ option_map (in_parent at) (part_behind a.backing)) h in
+      let part = from_parent at next (part_behind a.0.backing) a.2 in
+      ap (list_any (λ v. v == w)) (ancestors-parent windows.window at.win.0 a.0 part.0 a.1 (behind-some a.0.backing part.0 part.1) (sound-there windows at.win.0 a.0 sound a.1).chain_ends)
+      ∙ ap (λ (p : Place). (p.win.0 == w) || derives windows.window w p.win.0) (sym part.2)
+
+  pub derives-none : IsSomeAnd (windows.window at.win.0) (λ a. None ≡ option_map (in_parent at) (part_behind a.backing)) → derives windows.window w at.win.0 ≡ false
+  derives-none h =
+      let a = parent_there (windows.window at.win.0) (λ a. None ≡ option_map (in_parent at) (part_behind a.backing)) h in
+      let grid = behind-none a.0.backing (no_parent at (part_behind a.0.backing) a.2) in
+      ap (list_any (λ v. v == w)) (ancestors-none windows.window at.win.0 a.0 grid.0 a.1 grid.1)

@@ -8,8 +8,9 @@ use Rattle.world.specs.declared.settings.Columns.{Columns}
 use Rattle.world.specs.declared.settings.Settings.{Settings}
 use Rattle.grids.specs.declared.slot.Cells.{Cells}
 use Rattle.grids.specs.declared.slot.Cells.TheVariants.{Own, Shared}
+use Rattle.grids.specs.declared.slot.Origin.{Origin}
 
--- depth counts the ancestors
+-- depth counts the ancestors, origin is the place of a grid to which the first place leads
 pub record Kept : Type 0 where
   pub lines : ℕ
   pub columns : ℕ
@@ -17,6 +18,7 @@ pub record Kept : Type 0 where
   pub settings : Settings
   pub touched : List (Option Columns)
   pub depth : ℕ
+  pub origin : Origin
   pub cells : Cells
 
 abbrev pub backing_of : Cells → Backing

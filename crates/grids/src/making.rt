@@ -7,8 +7,11 @@ ghost use Rattle.world.specs.Sound.{AreSoundWindows};
 ghost use Rattle.world.specs.calls.Making.{is_inside, extent, new_number, place_from, numbered, newwin_refusal, after_newwin, newpad_refusal, after_newpad, part_tests, derwin_refusal, after_derwin, subpad_refusal, after_subpad, subwin_refusal, after_subwin, mvwin_refusal, after_mvwin, mvderwin_refusal, after_mvderwin, delwin_refusal, after_delwin};
 ghost use Rattle.grids.specs.Tables.{windows};
 
+use crate::parents::settle;
 use crate::slot::{Part, Slot};
-use crate::slots::{fill_slot_at, free_number, free_slot, has_derived, place_slot, shift_slot};
+use crate::slots::{
+    fill_slot_at, free_number, free_slot, has_derived, origin_of, place_slot, shift_slot,
+};
 use crate::table::Grids;
 use cell::{LARGEST_PAD, Refusal, WinId, is_no_size};
 
@@ -34,7 +37,7 @@ impl Grids {
         let lines = extent_inside(nlines, self.lines, begin_y).ok_or(Refusal::OffScreen)?;
         let columns = extent_inside(ncols, self.columns, begin_x).ok_or(Refusal::OffScreen)?;
         let number = free_number(&self.slots).ok_or(Refusal::TooMany)?;
-        let slot = Slot::with_grid(self.alloc, lines, columns, Some((begin_y, begin_x)))?;
+        let slot = Slot::with_grid(self.alloc, number, lines, columns, Some((begin_y, begin_x)))?;
         fill_slot_at(&mut self.slots, number, slot)?;
         prove!(self.is_sound());
         Ok(WinId(number))
@@ -56,7 +59,7 @@ impl Grids {
             return Err(Refusal::BadSize);
         }
         let number = free_number(&self.slots).ok_or(Refusal::TooMany)?;
-        let slot = Slot::with_grid(self.alloc, nlines, ncols, None)?;
+        let slot = Slot::with_grid(self.alloc, number, nlines, ncols, None)?;
         fill_slot_at(&mut self.slots, number, slot)?;
         prove!(self.is_sound());
         Ok(WinId(number))
@@ -160,13 +163,14 @@ impl Grids {
         let columns = extent_inside(ncols, parent.columns(), x).ok_or(Refusal::OutsideParent)?;
         let place = place_from(parent.place(), y, x);
         let depth = parent.depth() + 1;
+        let origin = origin_of(&self.slots, win.0).onward(y, x);
         let number = free_number(&self.slots).ok_or(Refusal::TooMany)?;
         let part = Part {
             parent: win.0,
             line: y,
             column: x,
         };
-        let slot = Slot::with_parent(self.alloc, lines, columns, place, part, depth)?;
+        let slot = Slot::with_parent(self.alloc, lines, columns, place, part, depth, origin)?;
         fill_slot_at(&mut self.slots, number, slot)?;
         prove!(self.is_sound());
         Ok(WinId(number))
@@ -219,6 +223,7 @@ impl Grids {
             return Err(Refusal::OutsideParent);
         }
         shift_slot(&mut self.slots, win.0, par_y, par_x);
+        settle(&mut self.slots);
         prove!(self.is_sound());
         Ok(())
     }

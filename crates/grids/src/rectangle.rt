@@ -8,7 +8,7 @@ ghost use Rattle.world.specs.calls.writing.Editing.{drawing_frame};
 ghost use Rattle.grids.specs.Tables.{windows};
 
 use crate::frame::joined;
-use crate::rows::Place;
+use crate::place::Place;
 use crate::slots::origin_of;
 use crate::table::Grids;
 use cell::{Frame, WinId};

@@ -1,6 +1,6 @@
 //! Reading a line of a window, and the two writes of which every write is made.
 
-ghost use Rattle.std.specs.Prelude.{◌≡◌, ℕ, ◌<◌, ◌≤◌, ◌+◌, ◌-◌, ◌^◌, is_some, true, false};
+ghost use Rattle.std.specs.Prelude.{◌≡◌, ℕ, ◌<◌, ◌≤◌, ◌+◌, ◌-◌, is_some, true, false};
 ghost use Rattle.std.specs.List.{AllByRecursion};
 ghost use Rattle.cell.specs.Glyphs.{IsCell};
 ghost use Rattle.world.specs.Windows.{HasPlace, cell_at, put};
@@ -10,41 +10,10 @@ ghost use Rattle.world.specs.calls.writing.Editing.{drawing_frame};
 ghost use Rattle.grids.specs.Tables.{windows};
 
 use crate::frame::{joined, place};
+use crate::place::Place;
 use crate::slots::{columns_of, fill_row, origin_of, put_row, row_in, touch_row};
 use crate::table::Grids;
 use cell::{Cell, Frame, WinId};
-
-/// A line and a column of a window.
-#[derive(Clone, Copy)]
-pub struct Place {
-    pub win: WinId,
-    pub line: u16,
-    pub column: u16,
-}
-
-impl Place {
-    /// The place some columns on.
-    fn right_by(self, columns: u16) -> Place
-        requires { self.column + columns < 2 ^ 16 }
-        ensures { result ≡ record self { column = self.column + columns } }
-    {
-        Place {
-            column: self.column + columns,
-            ..self
-        }
-    }
-
-    /// The place some lines on.
-    pub fn down_by(self, lines: u16) -> Place
-        requires { self.line + lines < 2 ^ 16 }
-        ensures { result ≡ record self { line = self.line + lines } }
-    {
-        Place {
-            line: self.line + lines,
-            ..self
-        }
-    }
-}
 
 impl Grids {
     /// The cells of line `y` of a window, from left to right, without copying them. The line must be there.

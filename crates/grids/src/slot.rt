@@ -1,6 +1,6 @@
 //! What the table keeps of one window.
 
-ghost use Rattle.std.specs.Prelude.{◌≡◌, ℕ, ◌<◌, ◌≤◌, ◌+◌, ◌&&◌, nat_le, nat_lt, if◌then◌else◌, IfOk, IsSome, is_some, Some, None, length, map, replicate, slice_index_or};
+ghost use Rattle.std.specs.Prelude.{◌≡◌, ℕ, ◌<◌, ◌≤◌, ◌+◌, ◌^◌, ◌&&◌, nat_le, nat_lt, if◌then◌else◌, IfOk, IsSome, is_some, Some, None, length, map, replicate, slice_index_or};
 ghost use Rattle.std.specs.List.{AllByRecursion, list_any, range_with_len};
 ghost use Rattle.cell.specs.Glyphs.{IsCell};
 ghost use Rattle.cell.specs.Pictures.{HasSize, AreCells};
@@ -14,7 +14,7 @@ ghost use Rattle.world.specs.Windows.{any_below, laid_over, cell_of, part_of};
 ghost use Rattle.world.specs.World.{first_settings, blank_grid};
 ghost use Rattle.grids.specs.Kept.{window_of, backing_of, IsGridOf, IsKept};
 ghost use Rattle.grids.specs.steps.Slots.{part_in, names_parent};
-ghost use Rattle.grids.specs.steps.Changes.{spread, with_touched, with_drawing, SameShape, shifted};
+ghost use Rattle.grids.specs.steps.Changes.{spread, with_touched, with_drawing, SamePart, SameShape, shifted};
 
 use cell::{Attr, Cell, Grid, LARGEST_PAD, PairId};
 use std::alloc::{AllocError, Global};
@@ -27,6 +27,29 @@ pub struct Part {
     pub parent: u16,
     pub line: u16,
     pub column: u16,
+}
+
+/// Where the first place of a window stands in a grid: the number of the window that has the grid, and the line and column there.
+#[derive(Clone, Copy, Debug, PartialEq, Eq)]
+pub struct Origin {
+    pub grid: u16,
+    pub line: u16,
+    pub column: u16,
+}
+
+impl Origin {
+    /// The place some lines and columns on.
+    pub fn onward(self, lines: u16, columns: u16) -> Origin
+        requires line_in { self.line + lines < 2 ^ 16 }
+        requires column_in { self.column + columns < 2 ^ 16 }
+        ensures { result ≡ record { grid = self.grid; line = self.line + lines; column = self.column + columns } }
+    {
+        Origin {
+            grid: self.grid,
+            line: self.line + lines,
+            column: self.column + columns,
+        }
+    }
 }
 
 /// The cells of a window: a grid of its own, or a part of its parent.
@@ -45,6 +68,7 @@ pub struct Slot {
     settings: Settings,
     touched: Vec<Option<Columns>>,
     depth: u16,
+    origin: Origin,
     cells: Cells,
 }
 
@@ -60,6 +84,7 @@ impl Model for Slot {
       settings = a.settings;
       touched = a.touched.items;
       depth = a.depth;
+      origin = a.origin;
       cells = a.cells;
     } };
 
@@ -67,9 +92,10 @@ impl Model for Slot {
 }
 
 impl Slot {
-    /// A new window or pad with a blank grid.
+    /// A new window or pad of this number with a blank grid.
     pub fn with_grid(
         alloc: Global,
+        number: u16,
         lines: u16,
         columns: u16,
         place: Option<(u16, u16)>,
@@ -80,6 +106,7 @@ impl Slot {
         requires few_columns { columns ≤ LARGEST_PAD }
         ensures window { IfOk result (λ s. window_of s ≡ new_window lines columns place blank_grid) }
         ensures kept { IfOk result (λ s. IsKept s × (s.depth ≡ 0) × (part_in s.cells ≡ None)) }
+        ensures origin { IfOk result (λ s. s.origin ≡ record { grid = number; line = 0; column = 0 }) }
     {
         Ok(Slot {
             lines,
@@ -88,6 +115,11 @@ impl Slot {
             settings: first_settings(lines),
             touched: none_touched(alloc, lines)?,
             depth: 0,
+            origin: Origin {
+                grid: number,
+                line: 0,
+                column: 0,
+            },
             cells: Cells::Own(Grid::new(alloc, lines, columns)?),
         })
     }
@@ -100,6 +132,7 @@ impl Slot {
         place: Option<(u16, u16)>,
         part: Part,
         depth: u16,
+        origin: Origin,
     ) -> Result<Slot, AllocError>
         requires has_line { 0 < lines }
         requires has_column { 0 < columns }
@@ -107,6 +140,7 @@ impl Slot {
         requires few_columns { columns ≤ LARGEST_PAD }
         ensures window { IfOk result (λ s. window_of s ≡ new_window lines columns place (part_of part.parent part.line part.column)) }
         ensures kept { IfOk result (λ s. IsKept s × (s.depth ≡ depth) × (part_in s.cells ≡ Some part)) }
+        ensures origin { IfOk result (λ s. s.origin ≡ origin) }
     {
         Ok(Slot {
             lines,
@@ -115,6 +149,7 @@ impl Slot {
             settings: first_settings(lines),
             touched: none_touched(alloc, lines)?,
             depth,
+            origin,
             cells: Cells::Shared(part),
         })
     }
@@ -162,6 +197,13 @@ impl Slot {
         self.depth
     }
 
+    /// Where the window's first place stands in a grid.
+    pub fn origin(&self) -> Origin
+        ensures { result ≡ self.now.origin }
+    {
+        self.origin
+    }
+
     /// The parent and the offset into it, of a derived window.
     pub fn part(&self) -> Option<Part>
         ensures { result ≡ part_in self.now.cells }
@@ -207,7 +249,7 @@ impl Slot {
         requires region_end { settings.region.1 < self.old.lines }
         ensures window { window_of self.new ≡ with_settings settings (window_of self.old) }
         ensures shape { SameShape self.old self.new }
-        ensures part { part_in self.new.cells ≡ part_in self.old.cells }
+        ensures part { SamePart self.old self.new }
         ensures kept { IsKept self.new }
     {
         prove!(settings.background.ch() >= b' ' && settings.pair.is_sound());
@@ -222,7 +264,7 @@ impl Slot {
         requires { IsSome self.old.place }
         ensures window { window_of self.new ≡ with_place y x (window_of self.old) }
         ensures shape { SameShape self.old self.new }
-        ensures part { part_in self.new.cells ≡ part_in self.old.cells }
+        ensures part { SamePart self.old self.new }
         ensures kept { IsKept self.new }
     {
         self.place = Some((y, x));
@@ -241,6 +283,13 @@ impl Slot {
         }
     }
 
+    /// Sets where the window's first place stands in a grid.
+    pub fn set_origin(&mut self, origin: Origin)
+        ensures { self.new ≡ record (self.old) { origin = origin } }
+    {
+        self.origin = origin;
+    }
+
     /// Sets the cells of a line of the grid from `left` to `right` to one cell.
     pub fn fill(&mut self, line: u16, left: u16, right: u16, cell: Cell)
         requires line_in { line < self.old.lines }
@@ -248,7 +297,7 @@ impl Slot {
         requires right_in { right < self.old.columns }
         ensures window { window_of self.new ≡ with_drawing (filled line left right cell) (window_of self.old) }
         ensures shape { SameShape self.old self.new }
-        ensures part { part_in self.new.cells ≡ part_in self.old.cells }
+        ensures part { SamePart self.old self.new }
         ensures kept { IsKept self.new }
     {
         if let Cells::Own(grid) = &mut self.cells {
@@ -265,7 +314,7 @@ impl Slot {
     pub fn unmark(&mut self)
         ensures window { window_of self.new ≡ unmarked (window_of self.old) }
         ensures shape { SameShape self.old self.new }
-        ensures part { part_in self.new.cells ≡ part_in self.old.cells }
+        ensures part { SamePart self.old self.new }
         ensures kept { IsKept self.new }
     {
         self.touched.fill(None);
@@ -277,7 +326,7 @@ impl Slot {
         requires { first + n ≤ self.old.lines }
         ensures window { window_of self.new ≡ lines_marked first n flag (window_of self.old) }
         ensures shape { SameShape self.old self.new }
-        ensures part { part_in self.new.cells ≡ part_in self.old.cells }
+        ensures part { SamePart self.old self.new }
         ensures kept { IsKept self.new }
     {
         let columns = if flag {
@@ -307,7 +356,7 @@ impl Slot {
         requires cells { AllByRecursion IsCell row.now }
         ensures window { window_of self.new ≡ with_drawing (listed line left row.now) (window_of self.old) }
         ensures shape { SameShape self.old self.new }
-        ensures part { part_in self.new.cells ≡ part_in self.old.cells }
+        ensures part { SamePart self.old self.new }
         ensures kept { IsKept self.new }
     {
         if let Cells::Own(grid) = &mut self.cells {
@@ -322,7 +371,7 @@ impl Slot {
         requires right_in { right < self.old.columns }
         ensures window { window_of self.new ≡ with_touched line left right (window_of self.old) }
         ensures shape { SameShape self.old self.new }
-        ensures part { part_in self.new.cells ≡ part_in self.old.cells }
+        ensures part { SamePart self.old self.new }
         ensures kept { IsKept self.new }
     {
         let at = usize::from(line);

@@ -11,26 +11,19 @@ ghost use Rattle.world.specs.Rows.{filled, listed};
 ghost use Rattle.world.specs.Settings.{with_settings};
 ghost use Rattle.world.specs.calls.Making.{has_derived, new_number, with_place};
 ghost use Rattle.grids.specs.Kept.{window_of};
-ghost use Rattle.grids.specs.Tables.{slot_at, window_map, IsChained};
+ghost use Rattle.grids.specs.Tables.{slot_at, window_map, AreOrigins, IsChained};
 ghost use Rattle.grids.specs.steps.Slots.{part_in, lines_at, columns_at, names_parent};
 ghost use Rattle.grids.specs.steps.Changes.{Changed, Shifted, SetAt, IsFree, with_touched, with_drawing};
 
-use crate::slot::{Part, Slot};
+use crate::slot::{Origin, Slot};
 use cell::{Cell, LARGEST_PAD, MOST_WINDOWS};
 use std::alloc::AllocError;
 use world::Settings;
 
-/// Where the first place of a window stands in a grid.
-#[derive(Clone, Copy)]
-pub struct Origin {
-    pub grid: u16,
-    pub line: u16,
-    pub column: u16,
-}
-
-/// Where the first place of a window stands: it goes through the chain of parents.
+/// Where the first place of a window stands.
 pub fn origin_of(slots: &[Option<Slot>], win: u16) -> Origin
     requires chained { IsChained slots.now }
+    requires origins { AreOrigins slots.now }
     requires few { length slots.now ≤ MOST_WINDOWS + 1 }
     requires taken { IsSome (slot_at slots.now win) }
     ensures lines { result.line + lines_at slots.now win ≤ lines_at slots.now result.grid }
@@ -40,29 +33,9 @@ pub fn origin_of(slots: &[Option<Slot>], win: u16) -> Origin
     ensures grid { IsSomeAnd (slot_at slots.now result.grid) (λ k. part_in k.cells ≡ None) }
     ensures leads { own (window_map slots.now) win 0 0 ≡ Some (record { grid = result.grid; line = result.line; column = result.column }) }
 {
-    let mut origin = Origin {
-        grid: win,
-        line: 0,
-        column: 0,
-    };
-    while let Some(part) = parent_of(slots, origin.grid) {
-        origin = Origin {
-            grid: part.parent,
-            line: origin.line + part.line,
-            column: origin.column + part.column,
-        };
-    }
-    origin
-}
-
-/// The parent of the window of a slot, and the offset into it.
-fn parent_of(slots: &[Option<Slot>], win: u16) -> Option<Part>
-    requires { IsSome (slot_at slots.now win) }
-    ensures { IsSomeAnd (slot_at slots.now win) (λ k. result ≡ part_in k.cells) }
-{
     match &slots[usize::from(win)] {
-        Some(slot) => slot.part(),
-        None => None,
+        Some(slot) => slot.origin(),
+        None => unreachable!(),
     }
 }
 

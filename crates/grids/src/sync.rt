@@ -10,9 +10,9 @@ ghost use Rattle.world.specs.calls.Missing.{missing_refusal};
 ghost use Rattle.grids.specs.Tables.{windows};
 ghost use Rattle.grids.specs.steps.Changes.{with_touched};
 ghost use Rattle.grids.specs.steps.Slots.{depth_at};
-ghost use Rattle.grids.specs.steps.Syncs.{EndsWithin, has_column, part_behind, touched_shown};
+ghost use Rattle.grids.specs.steps.Syncs.{EndsWithin, has_column, touched_shown};
 
-use crate::slot::Part;
+use crate::place::Place;
 use crate::slots::touch_row;
 use crate::table::Grids;
 use cell::{Refusal, WinId};
@@ -59,18 +59,10 @@ impl Grids {
         ensures { windows self.new ≡ after_syncup (windows self.old) win }
     {
         prove!(self.is_sound());
-        let mut at = Part {
-            parent: win,
-            line: 0,
-            column: 0,
-        };
-        while let Some(part) = self.parent(at.parent) {
-            at = Part {
-                parent: part.parent,
-                line: at.line + part.line,
-                column: at.column + part.column,
-            };
-            self.touch_shown(at.parent, (0, 0), win, (at.line, at.column));
+        let mut at = Place::first_of(win);
+        while let Some(next) = self.place_above(at) {
+            at = next;
+            self.touch_shown(at.win.0, (0, 0), win, (at.line, at.column));
         }
     }
 
@@ -80,30 +72,10 @@ impl Grids {
         ensures { windows self.new ≡ after_syncdown (windows self.old) win }
     {
         prove!(self.is_sound());
-        let mut at = Part {
-            parent: win,
-            line: 0,
-            column: 0,
-        };
-        while let Some(part) = self.parent(at.parent) {
-            at = Part {
-                parent: part.parent,
-                line: at.line + part.line,
-                column: at.column + part.column,
-            };
-            self.touch_shown(win, (at.line, at.column), at.parent, (0, 0));
-        }
-    }
-
-    /// The parent of a window, and the offset into it. The window must be there.
-    fn parent(&self, win: u16) -> Option<Part>
-        requires { IsSome ((windows self.now).window win) }
-        ensures part { IsSomeAnd ((windows self.now).window win) (λ a. result ≡ part_behind a.backing) }
-        ensures depth { MatchOption result ⊤ (λ part. depth_at self.now.slots part.parent < depth_at self.now.slots win) }
-    {
-        match &self.slots[usize::from(win)] {
-            Some(slot) => slot.part(),
-            None => None,
+        let mut at = Place::first_of(win);
+        while let Some(next) = self.place_above(at) {
+            at = next;
+            self.touch_shown(win, (at.line, at.column), at.win.0, (0, 0));
         }
     }
 
@@ -162,7 +134,7 @@ impl Grids {
     }
 
     /// The number of lines and of columns of a window, which must be there.
-    fn size(&self, win: u16) -> (u16, u16)
+    pub(crate) fn size(&self, win: u16) -> (u16, u16)
         requires { IsSome ((windows self.now).window win) }
         ensures { IsSomeAnd ((windows self.now).window win) (λ a. (result.0 ≡ a.lines) × (result.1 ≡ a.columns)) }
     {
@@ -184,7 +156,7 @@ impl Grids {
 }
 
 /// Which of a line's columns, where it begins at one place, columns of another line are that begins at another.
-fn clipped(touched: Option<Columns>, from: u16, to: u16, columns: u16) -> Option<Columns>
+pub fn clipped(touched: Option<Columns>, from: u16, to: u16, columns: u16) -> Option<Columns>
     requires some { 0 < columns }
     requires source { MatchOption touched ⊤ (λ r. (r.first ≤ r.last) × (from + r.last < LARGEST_PAD)) }
     requires target { to + columns ≤ LARGEST_PAD }

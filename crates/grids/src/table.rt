@@ -52,7 +52,7 @@ impl Grids {
         if is_no_size(LARGEST_SCREEN, lines) || is_no_size(LARGEST_SCREEN, cols) {
             return Err(Refusal::BadSize);
         }
-        let standard = Slot::with_grid(alloc, lines, cols, Some((0, 0)))?;
+        let standard = Slot::with_grid(alloc, 0, lines, cols, Some((0, 0)))?;
         let mut slots = Vec::new(alloc);
         if slots.push(Some(standard)).is_err() {
             return Err(Refusal::NoMemory);

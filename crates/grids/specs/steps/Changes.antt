@@ -7,7 +7,8 @@ use Rattle.grids.specs.declared.slot.Cells.{Cells}
 use Rattle.grids.specs.declared.slot.Cells.TheVariants.{Own, Shared}
 use Rattle.world.specs.declared.settings.Columns.{Columns}
 use Rattle.grids.specs.Kept.{Kept, IsKept, window_of}
-use Rattle.grids.specs.Tables.{slot_at}
+use Rattle.grids.specs.declared.slot.Origin.{Origin}
+use Rattle.grids.specs.Tables.{slot_at, window_map, AreOrigins, IsChained}
 use Rattle.grids.specs.steps.Slots.{part_in}
 
 -- what a derived window sees of its parent is the same
@@ -17,6 +18,11 @@ pub record SameShape (old new : Kept) : Type 0 where
   pub place : is_some new.place ≡ is_some old.place
   pub depth : new.depth ≡ old.depth
 
+-- the window is the same part of its parent, and leads to the same place
+pub record SamePart (old new : Kept) : Type 0 where
+  pub part : part_in new.cells ≡ part_in old.cells
+  pub origin : new.origin ≡ old.origin
+
 -- one slot's window was changed, and nothing else
 pub record Changed (old new : List (Option Kept)) (at : ℕ) (change : Window → Window) : Type 0 where
   pub before : Kept
@@ -25,7 +31,7 @@ pub record Changed (old new : List (Option Kept)) (at : ℕ) (change : Window �
   pub set : new ≡ slice_set old at (Some after)
   pub window : window_of after ≡ change (window_of before)
   pub shape : SameShape before after
-  pub part : part_in after.cells ≡ part_in before.cells
+  pub part : SamePart before after
   pub kept : IsKept after
 
 -- another offset of a derived window in its parent
@@ -43,6 +49,19 @@ pub record Shifted (old new : List (Option Kept)) (at y x : ℕ) : Type 0 where
   pub shape : SameShape before after
   pub cells : after.cells ≡ shifted y x before.cells
   pub kept : IsKept after
+
+-- one slot has another origin, and nothing else changed
+pub record Led (old new : List (Option Kept)) (at : ℕ) (origin : Origin) : Type 0 where
+  pub before : Kept
+  pub was : slot_at old at ≡ Some before
+  pub set : new ≡ slice_set old at (Some (record before { origin = origin }))
+
+-- each slot has its origin, and its window is as it was
+pub record Settled (old new : List (Option Kept)) : Type 0 where
+  pub size : length new ≡ length old
+  pub windows : window_map new ≡ window_map old
+  pub chained : IsChained new
+  pub origins : AreOrigins new
 
 -- one slot has another window, or none, and no other slot changed
 pub record SetAt (old new : List (Option Kept)) (at : ℕ) (o : Option Kept) : Type 0 where

@@ -1,10 +1,11 @@
 -- What a slot is asked.
-use Rattle.std.specs.Prelude.{ℕ, Bool, false, Option, Some, None, List}
+use Rattle.std.specs.Prelude.{ℕ, ◌+◌, Bool, false, Option, Some, None, List}
 use Rattle.std.specs.Option.{option_map, option_map_or}
 use Rattle.world.specs.calls.Making.{is_part_of}
 use Rattle.grids.specs.declared.slot.Part.{Part}
 use Rattle.grids.specs.declared.slot.Cells.{Cells}
 use Rattle.grids.specs.declared.slot.Cells.TheVariants.{Own, Shared}
+use Rattle.grids.specs.declared.place.Place.{Place}
 use Rattle.grids.specs.Kept.{Kept, window_of}
 use Rattle.grids.specs.Tables.{slot_at}
 
@@ -12,6 +13,10 @@ use Rattle.grids.specs.Tables.{slot_at}
 abbrev pub part_in : Cells → Option Part
 part_in (Own sheet) = None
 part_in (Shared part) = Some part
+
+-- the place of the parent that is this place of a window, of which the parent shows this part
+abbrev pub in_parent : Place → Part → Place
+in_parent at part = record { win = record { 0 = part.parent }; line = at.line + part.line; column = at.column + part.column }
 
 abbrev pub depth_at : List (Option Kept) → ℕ → ℕ
 depth_at slots w = option_map_or (λ k. k.depth) (slot_at slots w) 0

@@ -1,19 +1,20 @@
-use Rattle.std.proofs.Common.{◌≡◌, Some, None, sym}
+use Rattle.std.proofs.Common.{◌≡◌, Some, arith}
+use Rattle.std.proofs.lemmas.Grind.{common_steps}
 use Rattle.grids.specs.Tables.{slot_at}
-use Rattle.grids.specs.steps.Slots.{part_in}
-use Rattle.grids.proofs.Chain.{some_and, Leads-step, Leads-end}
+use Rattle.grids.proofs.Origins.{origin-is}
 use Rattle.grids.proofs.slots.origin_of.Goals as goal
 
-pub loop-part-preserved : goal.loop-part-preserved
-loop-part-preserved c =
-    let slots = c.args.slots.now in
-    let o = c.loop-part.origin in
-    let k = some_and (slot_at slots o.grid) (λ k. Some c.in-Some.part ≡ part_in k.cells) c.in-Some.ensures in
-    Leads-step slots c.requires.chained c.args.win o.grid o.line o.column k.0 c.in-Some.part k.1 (sym k.2) c.loop-part.invariant
+pub returns-clause-lines : goal.returns-clause-lines
+returns-clause-lines c =
+    let there : slot_at c.args.slots.now c.args.win ≡ Some c.in-Some.slot = grind (arith, common_steps) in
+    rw c.origin.ensures ((origin-is c.args.slots.now c.requires.chained c.requires.origins c.requires.few c.args.win c.in-Some.slot there).lines)
 
-pub returns-clause-leads : goal.returns-clause-leads
-returns-clause-leads c =
-    let slots = c.args.slots.now in
-    let o = c.loop-part.origin in
-    let k = some_and (slot_at slots o.grid) (λ k. None ≡ part_in k.cells) c.in_default.ensures in
-    Leads-end slots c.requires.chained c.requires.few c.args.win o.grid o.line o.column k.0 c.requires.taken k.1 (sym k.2) c.loop-part.invariant
+pub returns-clause-columns : goal.returns-clause-columns
+returns-clause-columns c =
+    let there : slot_at c.args.slots.now c.args.win ≡ Some c.in-Some.slot = grind (arith, common_steps) in
+    rw c.origin.ensures ((origin-is c.args.slots.now c.requires.chained c.requires.origins c.requires.few c.args.win c.in-Some.slot there).columns)
+
+pub returns-clause-grid : goal.returns-clause-grid
+returns-clause-grid c =
+    let there : slot_at c.args.slots.now c.args.win ≡ Some c.in-Some.slot = grind (arith, common_steps) in
+    rw c.origin.ensures ((origin-is c.args.slots.now c.requires.chained c.requires.origins c.requires.few c.args.win c.in-Some.slot there).grid)

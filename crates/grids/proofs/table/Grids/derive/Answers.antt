@@ -1,4 +1,4 @@
-use Rattle.std.proofs.Common.{◌≡◌, ◌+◌, Some, arith, ◌∙◌, ap, sym}
+use Rattle.std.proofs.Common.{◌≡◌, ◌+◌, Some, arith, ◌∙◌, ap, refl, sym}
 use Rattle.std.specs.Option.{option_map}
 use Rattle.std.proofs.lemmas.Grind.{common_steps}
 use Rattle.world.specs.Windows.{part_of}
@@ -9,6 +9,7 @@ use Rattle.grids.specs.Kept.{window_of}
 use Rattle.grids.specs.Tables.{slot_at, windows, window_map}
 use Rattle.grids.proofs.Chain.{depth_below}
 use Rattle.grids.proofs.NewWindows.{IsWindowTable-added, windows-added, extent-is, stands_derived, placed_derived, made_derived}
+use Rattle.grids.proofs.Origins.{origin-derived}
 use Rattle.grids.proofs.table.Grids.derive.Goals as goal
 
 pub overflow_add-depth : goal.overflow_add-depth
@@ -26,14 +27,19 @@ invariant_of-self-2 c =
     let p = c.in_ok-parent.parent.now in
     let kept = c.in_ok-slot.ensures.kept in
     let e : slot_at t.slots a.win.0 ≡ Some p = grind (arith, common_steps) in
-    let free = rw (c.deref.ensures.value, c.in_ok-number.ensures.ok_part) at c.free_number.ensures.free in
+    let free = rw (c.deref-2.ensures.value, c.in_ok-number.ensures.ok_part) at c.free_number.ensures.free in
     let lines = extent-is a.nlines p.lines a.y c.in_ok-lines.lines (rw (← c.lines.ensures) (sym c.extent_inside.ensures ∙ c.in_ok-lines.ensures.ok_part)) in
     let columns = extent-is a.ncols p.columns a.x c.in_ok-columns.columns (rw (← c.columns.ensures) (sym c.extent_inside-2.ensures ∙ c.in_ok-columns.ensures.ok_part)) in
     let made = rw (c.place_from-place.ensures, c.place.ensures) at c.in_ok-slot.ensures.window in
+    let o = c.origin_of in
+    let leads = rw c.deref.ensures.value at o.ensures.leads in
     IsWindowTable-added t c.fill_slot_at.new.slots.items c.in_ok-number.number k c.in_ok-fill_slot_at.ensures.set c.self.invariant free kept.0
     (stands_derived t.slots k p (record { parent = a.win.0; line = a.y; column = a.x }) c.in_ok-lines.lines c.in_ok-columns.columns kept.2 e (kept.1 ∙ ap (λ d. d + 1) c.depth-depth.ensures)
     made lines.inside columns.inside)
     (placed_derived t c.self.invariant a.win.0 k p c.in_ok-lines.lines c.in_ok-columns.columns a.y a.x (part_of a.win.0 a.y a.x) e made lines.inside columns.inside)
+    (λ chained. origin-derived t.slots c.fill_slot_at.new.slots.items c.in_ok-number.number k c.self.invariant.chained c.in_ok-fill_slot_at.ensures.set free.free
+    (record { parent = a.win.0; line = a.y; column = a.x }) (record { grid = o.result.grid; line = o.result.line; column = o.result.column }) kept.2 (rw e refl) leads
+    (c.in_ok-slot.ensures.origin ∙ c.onward-origin.ensures) c.in_ok-fill_slot_at.ensures.set.few chained)
 
 pub returns-clause-made : goal.returns-clause-made
 returns-clause-made c =

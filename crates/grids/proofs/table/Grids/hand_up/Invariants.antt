@@ -4,11 +4,11 @@ use Rattle.grids.specs.steps.Slots.{depth_at}
 use Rattle.grids.proofs.Syncs.{IsHandedTo}
 use Rattle.grids.proofs.table.Grids.hand_up.Given as goal
 
-abbrev pub invariant-loop-part : goal.invariant-loop-part
-invariant-loop-part l = record {
-  so_far : IsHandedTo (windows l.fn.self) (windows l.self) l.win l.at.parent l.at.line l.at.column;
-  depth : depth_at l.self.slots l.at.parent ≤ depth_at l.self.slots l.win;
+abbrev pub invariant-loop-next : goal.invariant-loop-next
+invariant-loop-next l = record {
+  so_far : IsHandedTo (windows l.fn.self) (windows l.self) l.win l.at.win.0 l.at.line l.at.column;
+  depth : depth_at l.self.slots l.at.win.0 ≤ depth_at l.self.slots l.win;
 }
 
-abbrev pub decreases-loop-part : goal.decreases-loop-part
-decreases-loop-part l = depth_at l.self.slots l.at.parent
+abbrev pub decreases-loop-next : goal.decreases-loop-next
+decreases-loop-next l = depth_at l.self.slots l.at.win.0

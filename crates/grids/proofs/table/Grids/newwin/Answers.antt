@@ -5,6 +5,7 @@ use Rattle.world.specs.calls.Making.{extent}
 use Rattle.world.specs.World.{new_window}
 use Rattle.grids.specs.contracts.table.Grids.{the_view}
 use Rattle.grids.proofs.NewWindows.{IsWindowTable-added, windows-added, stands_alone, extent-is, placed_new}
+use Rattle.grids.proofs.Origins.{origin-alone}
 use Rattle.grids.proofs.table.Grids.newwin.Goals as goal
 
 pub invariant_of-self-2 : goal.invariant_of-self-2
@@ -18,6 +19,7 @@ invariant_of-self-2 c =
     let columns = extent-is a.ncols t.columns a.begin_x c.in_ok-columns.columns (sym c.extent_inside-2.ensures ∙ c.in_ok-columns.ensures.ok_part) in
     IsWindowTable-added t c.fill_slot_at.new.slots.items c.in_ok-number.number k c.in_ok-fill_slot_at.ensures.set c.self.invariant free kept.0 (stands_alone t.slots k k.cells kept.2 kept.1)
     (placed_new t.lines t.columns c.in_ok-lines.lines c.in_ok-columns.columns a.begin_y a.begin_x blank_grid k c.in_ok-slot.ensures.window lines.inside columns.inside)
+    (λ chained. origin-alone t.slots c.fill_slot_at.new.slots.items c.in_ok-number.number k c.self.invariant.chained c.in_ok-fill_slot_at.ensures.set free.free kept.2 c.in_ok-slot.ensures.origin)
 
 pub returns-clause-made : goal.returns-clause-made
 returns-clause-made c =

@@ -1,0 +1,95 @@
+-- The rectangle of a window in which it shows a part of another.
+use Rattle.std.proofs.Common.{◌≡◌, ℕ, ◌+◌, ◌-◌, ◌<◌, ◌≤◌, true, ◌&&◌, nat_le, Option, Some, None, IsSomeAnd, arith, sym, ◌∙◌, subst}
+use Rattle.std.proofs.lemmas.Bool.{and_from, and_parts, le-leb, leb-true}
+use Rattle.cell.specs.declared.window.Frame.{Frame}
+use Rattle.world.specs.Frames.{AreRectangle}
+use Rattle.world.specs.Sharing.{SharesPart}
+use Rattle.world.specs.Sound.{AreColumnsWithin}
+use Rattle.world.specs.Windows.{GridPlace, Window, WindowMap, own}
+use Rattle.world.specs.declared.settings.Columns.{Columns}
+use Rattle.grids.specs.steps.Syncs.{has_column}
+use Rattle.grids.proofs.Shared.{shared-in, from-shared}
+
+-- ---- lines, or columns, from a first to a last one, as they are counted from another place on
+
+module _ (first last from to size : ℕ) where
+  abbrev pub Clips : Option Columns → Type 0
+  Clips o = (x : ℕ) → x < size → (nat_le from (to + x) && has_column (Some (record { first = first; last = last })) (to + x - from)) ≡ has_column o x
+
+  clip-there : (o : Option Columns) → Clips o → (x : ℕ) → x < size → from + first ≤ to + x → to + x ≤ from + last → has_column o x ≡ true
+  clip-there o h x below l u =
+      sym (h x below)
+      ∙ and_from (nat_le from (to + x)) (nat_le first (to + x - from) && nat_le (to + x - from) last) (le-leb from (to + x) (omega (arith, l)))
+      (and_from (nat_le first (to + x - from)) (nat_le (to + x - from) last) (le-leb first (to + x - from) (omega (arith, l))) (le-leb (to + x - from) last (omega (arith, u))))
+
+  clip-none : Clips None → (x : ℕ) → x < size → from + first ≤ to + x → to + x ≤ from + last → ⊥
+  clip-none h x below l u = let clash = clip-there None h x below l u in cc
+
+  clip-some : (c : Columns) → Clips (Some c) → (x : ℕ) → x < size → from + first ≤ to + x → to + x ≤ from + last → (c.first ≤ x) × (x ≤ c.last)
+  clip-some c h x below l u =
+      let parts = and_parts (nat_le c.first x) (nat_le x c.last) (clip-there (Some c) h x below l u) in
+      (leb-true c.first x parts.0, leb-true x c.last parts.1)
+
+  clip-back : (c : Columns) → Clips (Some c) → (x : ℕ) → x < size → c.first ≤ x → x ≤ c.last → (from + first ≤ to + x) × (to + x ≤ from + last)
+  clip-back c h x below l u =
+      let on = h x below ∙ and_from (nat_le c.first x) (nat_le x c.last) (le-leb c.first x l) (le-leb x c.last u) in
+      let parts = and_parts (nat_le from (to + x)) (nat_le first (to + x - from) && nat_le (to + x - from) last) on in
+      let ends = and_parts (nat_le first (to + x - from)) (nat_le (to + x - from) last) parts.1 in
+      let begins = leb-true from (to + x) parts.0 in
+      let above = leb-true first (to + x - from) ends.0 in
+      let under = leb-true (to + x - from) last ends.1 in
+      (omega (arith, begins, above), omega (arith, begins, under))
+
+-- ---- window w begins at the place p of a grid, and window u at q
+
+module _ (window : WindowMap) (w u : ℕ) (r : Frame) (b : Window) (p q : GridPlace) (there : window u ≡ Some b) (leads_w : own window w 0 0 ≡ Some p) (leads_u : own window u 0 0 ≡ Some q) where
+  inside : (y x : ℕ) → SharesPart window w r u y x → (y < b.lines) × (x < b.columns)
+  inside y x has = subst (λ (o : Option Window). IsSomeAnd o (λ a. (y < a.lines) × (x < a.columns))) there has.0
+
+  nowhere : ((y x : ℕ) → SharesPart window w r u y x → ⊥) → AreRectangle (SharesPart window w r u) None
+  nowhere never = (never, λ y x h. elim h [ ])
+
+  pub seen-apart : (p.grid ≡ q.grid → ⊥) → AreRectangle (SharesPart window w r u) None
+  seen-apart other = nowhere (λ y x has. let m = shared-in window w u p q leads_w leads_u r y x has.1 in other m.grid)
+
+  pub seen-above : Clips r.top r.bottom p.line q.line b.lines None → AreRectangle (SharesPart window w r u) None
+  seen-above h = nowhere (λ y x has.
+      let m = shared-in window w u p q leads_w leads_u r y x has.1 in
+      clip-none r.top r.bottom p.line q.line b.lines h y (inside y x has).0 m.top m.bottom)
+
+  pub seen-beside : Clips r.left r.right p.column q.column b.columns None → AreRectangle (SharesPart window w r u) None
+  seen-beside h = nowhere (λ y x has.
+      let m = shared-in window w u p q leads_w leads_u r y x has.1 in
+      clip-none r.left r.right p.column q.column b.columns h x (inside y x has).1 m.left m.right)
+
+  module _ (grid : p.grid ≡ q.grid) (down along : Columns) (lines : Clips r.top r.bottom p.line q.line b.lines (Some down)) (columns : Clips r.left r.right p.column q.column b.columns (Some along))
+      (some_lines : AreColumnsWithin b.lines (Some down)) (some_columns : AreColumnsWithin b.columns (Some along)) where
+    seen-at : (y x : ℕ) → down.first ≤ y → y ≤ down.last → along.first ≤ x → x ≤ along.last → SharesPart window w r u y x
+    seen-at y x top bottom left right =
+        let below : y < b.lines = omega (arith, bottom, some_lines.1) in
+        let before : x < b.columns = omega (arith, right, some_columns.1) in
+        let line = clip-back r.top r.bottom p.line q.line b.lines down lines y below top bottom in
+        let column = clip-back r.left r.right p.column q.column b.columns along columns x before left right in (
+          subst (λ (o : Option Window). IsSomeAnd o (λ a. (y < a.lines) × (x < a.columns))) (sym there) (below, before),
+          from-shared window w u p q leads_w leads_u r y x (record { grid = grid; top = line.0; bottom = line.1; left = column.0; right = column.1 }),
+        )
+
+    pub seen-there : AreRectangle (SharesPart window w r u) (Some (record { top = down.first; left = along.first; bottom = down.last; right = along.last }))
+    seen-there =
+        let high : down.first ≤ down.first = omega arith in
+        let low : down.last ≤ down.last = omega arith in
+        let near : along.first ≤ along.first = omega arith in
+        let far : along.last ≤ along.last = omega arith in (
+          record {
+            holds = λ y x has.
+                let m = shared-in window w u p q leads_w leads_u r y x has.1 in
+                let line = clip-some r.top r.bottom p.line q.line b.lines down lines y (inside y x has).0 m.top m.bottom in
+                let column = clip-some r.left r.right p.column q.column b.columns along columns x (inside y x has).1 m.left m.right in
+                record { top = line.0; bottom = line.1; left = column.0; right = column.1 };
+            top = (along.first, seen-at down.first along.first high some_lines.0 near some_columns.0);
+            bottom = (along.first, seen-at down.last along.first some_lines.0 low near some_columns.0);
+            left = (down.first, seen-at down.first along.first high some_lines.0 near some_columns.0);
+            right = (down.first, seen-at down.first along.last high some_lines.0 some_columns.0 far);
+          },
+          λ y x in_frame. seen-at y x in_frame.top in_frame.bottom in_frame.left in_frame.right,
+        )

@@ -1,0 +1,82 @@
+//! Which windows show cells of one another.
+
+ghost use Rattle.std.specs.Prelude.{◌≡◌, ◌<◌, ◌≤◌, IsSome, IsSomeAnd, MatchOption, ⊤, option_map};
+ghost use Rattle.world.specs.Frames.{AreRectangle};
+ghost use Rattle.world.specs.Sharing.{SharesPart};
+ghost use Rattle.world.specs.Sound.{AreSoundWindows};
+ghost use Rattle.world.specs.Windows.{HasPlace, derives};
+ghost use Rattle.grids.specs.Tables.{windows};
+ghost use Rattle.grids.specs.steps.Slots.{depth_at, in_parent};
+ghost use Rattle.grids.specs.steps.Syncs.{part_behind};
+
+use crate::parents::place_in_parent;
+use crate::place::Place;
+use crate::slots::origin_of;
+use crate::sync::clipped;
+use crate::table::Grids;
+use cell::{Frame, WinId};
+use world::Columns;
+
+impl Grids {
+    /// The rectangle of window `to` at whose places it shows a cell that `from` shows in a rectangle of it, ends inclusive; none if
+    /// there is no such place. Both windows must be there, and `from` hold the rectangle.
+    pub fn seen_in(&self, from: WinId, frame: Frame, to: WinId) -> Option<Frame>
+        requires ordered_lines { frame.top ≤ frame.bottom }
+        requires ordered_columns { frame.left ≤ frame.right }
+        requires inside { HasPlace (windows self.now).window from.0 frame.bottom frame.right }
+        requires there { IsSome ((windows self.now).window to.0) }
+        ensures seen { AreRectangle (SharesPart (windows self.now).window from.0 frame to.0) result }
+        ensures sound { AreSoundWindows (windows self.now) }
+    {
+        prove!(self.is_sound());
+        let source = origin_of(&self.slots, from.0);
+        let target = origin_of(&self.slots, to.0);
+        if source.grid != target.grid {
+            return None;
+        }
+        let (lines, columns) = self.size(to.0);
+        let top_to_bottom = Columns {
+            first: frame.top,
+            last: frame.bottom,
+        };
+        let left_to_right = Columns {
+            first: frame.left,
+            last: frame.right,
+        };
+        let down = clipped(Some(top_to_bottom), source.line, target.line, lines)?;
+        let along = clipped(Some(left_to_right), source.column, target.column, columns)?;
+        Some(Frame {
+            top: down.first,
+            left: along.first,
+            bottom: down.last,
+            right: along.last,
+        })
+    }
+
+    /// Whether window `u` derives from window `w` at any depth. Window `u` must be there.
+    pub fn derives(&self, w: WinId, u: WinId) -> bool
+        requires { IsSome ((windows self.now).window u.0) }
+        ensures value { result ≡ derives (windows self.now).window w.0 u.0 }
+        ensures sound { AreSoundWindows (windows self.now) }
+    {
+        prove!(self.is_sound());
+        let mut at = Place::first_of(u.0);
+        while let Some(next) = self.place_above(at) {
+            if next.win == w {
+                return true;
+            }
+            at = next;
+        }
+        false
+    }
+
+    /// The place of the parent that a derived window shows at a place of it. The place must be there.
+    pub(crate) fn place_above(&self, at: Place) -> Option<Place>
+        requires { HasPlace (windows self.now).window at.win.0 at.line at.column }
+        ensures next { IsSomeAnd ((windows self.now).window at.win.0) (λ a. result ≡ option_map (in_parent at) (part_behind a.backing)) }
+        ensures inside { MatchOption result ⊤ (λ next. HasPlace (windows self.now).window next.win.0 next.line next.column) }
+        ensures depth { MatchOption result ⊤ (λ next. depth_at self.now.slots next.win.0 < depth_at self.now.slots at.win.0) }
+    {
+        place_in_parent(&self.slots, at)
+    }
+}
