@@ -40,6 +40,7 @@ StandsIn slots k (Shared part) = MatchOption (slot_at slots part.parent) ⊥ (Fi
 pub record IsChained (slots : List (Option Kept)) : Type 0 where
   pub each : (w : ℕ) → MatchOption (slot_at slots w) ⊤ (λ k. IsKept k × StandsIn slots k k.cells)
 
+-- the place of a grid that it names
 abbrev pub grid_place : Origin → GridPlace
 grid_place o = record { grid = o.grid; line = o.line; column = o.column }
 

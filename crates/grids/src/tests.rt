@@ -305,3 +305,74 @@ fn rectangle_moves_down_and_right_over_itself(rt: HostRuntime) -> Result<(), Fai
     assert!(rt; shows(&grids, screen, 2, " efg")?);
     Ok(())
 }
+
+/// The rectangle of a window in which it shows cells of a rectangle of another.
+fn seen(grids: &Grids, from: WinId, frame: Frame, to: WinId) -> Result<Option<Frame>, Fail> {
+    let (lines, columns) = grids.getmaxyx(from)?;
+    if frame.bottom < frame.top || frame.right < frame.left {
+        return Err("no rectangle".into());
+    }
+    if lines <= frame.bottom || columns <= frame.right || !grids.has_window(to) {
+        return Err("no such place".into());
+    }
+    Ok(grids.seen_in(from, frame, to))
+}
+
+/// Whether a window derives from another.
+fn derives(grids: &Grids, from: WinId, window: WinId) -> Result<bool, Fail> {
+    if !grids.has_window(window) {
+        return Err("no such window".into());
+    }
+    Ok(grids.derives(from, window))
+}
+
+#[test]
+fn moved_window_takes_along_what_derives_from_it(rt: HostRuntime) -> Result<(), Fail> {
+    let mut grids = Grids::new(rt.alloc(), 4, 10)?;
+    let first = grids.newwin(3, 8, 0, 0)?;
+    let second = grids.derwin(first, 2, 5, 0, 1)?;
+    let third = grids.derwin(second, 1, 2, 1, 1)?;
+    assert_eq!(rt; grids.mvderwin(second, 1, 3), Ok(()));
+    write(&mut grids, third, 0, 0, "xy")?;
+    assert!(rt; shows(&grids, first, 2, "    xy ")?);
+    assert!(rt; shows(&grids, third, 0, "xy")?);
+    Ok(())
+}
+
+#[test]
+fn windows_show_parts_of_one_another(rt: HostRuntime) -> Result<(), Fail> {
+    let mut grids = Grids::new(rt.alloc(), 4, 10)?;
+    let window = grids.newwin(3, 8, 0, 0)?;
+    let low = grids.derwin(window, 2, 5, 1, 2)?;
+    let high = grids.derwin(window, 2, 4, 0, 4)?;
+    let inner = grids.derwin(high, 1, 1, 0, 0)?;
+    let part = Frame {
+        top: 0,
+        left: 1,
+        bottom: 1,
+        right: 4,
+    };
+    let shown = Frame {
+        top: 1,
+        left: 0,
+        bottom: 1,
+        right: 2,
+    };
+    assert_eq!(rt;
+        [
+            seen(&grids, low, part, high)?,
+            seen(&grids, low, part, inner)?,
+            seen(&grids, low, part, WinId(0))?,
+        ],
+        [Some(shown), None, None]
+    );
+    assert_eq!(rt;
+        [
+            derives(&grids, window, inner)?,
+            derives(&grids, low, inner)?,
+            derives(&grids, inner, inner)?,
+        ],
+        [true, false, false]
+    );
+    Ok(())
+}
