@@ -1,5 +1,5 @@
 -- What is touched of a window, handed on from window to window.
-use Rattle.std.proofs.Common.{◌≡◌, ◌≢◌, ℕ, ◌+◌, ◌-◌, ◌≤◌, Bool, true, false, if◌then◌else◌, ◌==◌, ◌&&◌, ◌||◌, nat_lt, nat_le, Option, Some, None, IsSome, List, ◌∷◌, ap, arith, refl, sym, ◌∙◌, subst, inl, inr, eq-eqb, ne_eqb, zero-add}
+use Rattle.std.proofs.Common.{◌≡◌, ◌≢◌, ℕ, ◌+◌, ◌-◌, ◌≤◌, Bool, true, false, if◌then◌else◌, ◌==◌, ◌&&◌, ◌||◌, nat_lt, nat_le, Option, Some, None, IsSome, IsSomeAnd, List, ◌∷◌, ap, arith, refl, sym, ◌∙◌, subst, inl, inr, eq-eqb, ne_eqb, zero-add}
 use Rattle.std.specs.List.{list_any}
 use Rattle.std.specs.Option.{option_map, option_map_or}
 use mathlib.Core.Path.{fun_ext}
@@ -13,8 +13,11 @@ use Rattle.world.specs.calls.Marks.{after_syncdown, after_syncup, in_line, shows
 use Rattle.world.specs.declared.settings.Columns.{Columns}
 use Rattle.world.proofs.Below.{any_below-some, any_below-true}
 use Rattle.world.proofs.WindowLaws.{own-onward, touched-touched}
+use Rattle.grids.specs.declared.place.Place.{Place}
 use Rattle.grids.specs.declared.slot.Part.{Part}
+use Rattle.grids.specs.steps.Slots.{in_parent}
 use Rattle.grids.specs.steps.Syncs.{EndsWithin, has_column, is_touched_at, part_behind, shows_touched, touched_shown}
+use Rattle.grids.proofs.Chain.{from_parent, no_parent}
 use Rattle.grids.proofs.Shared.{shared-in, from-shared}
 use Rattle.grids.proofs.Touches.{changed-here, changed-nothing, changed-other, changed-same, changed-twice, touching-is, touching-none}
 use Rattle.grids.proofs.Walks.{Walk, Walk-start, Walk-step, ancestors-none, ancestors-parent, behind-none, behind-some, sound-there}
@@ -178,6 +181,26 @@ pub record IsHandedTo (old cur : Windows) (w u line column : ℕ) : Type 0 where
 -- what the reached window is
 pub reached : (old cur : Windows) (w u line column : ℕ) → (walk : Walk old.window w u line column) → ((v : ℕ) → option_map untouched (cur.window v) ≡ option_map untouched (old.window v)) → SameBut (cur.window u) walk.above
 reached old cur w u line column walk same = same-window (cur.window u) (old.window u) walk.above (same u) walk.at_is
+
+-- the next one, and which part of it the reached one is
+pub record NextPart (reached : Window) (at next : Place) : Type 0 where
+  pub part : Part
+  pub behind : part_behind reached.backing ≡ Some part
+  pub is : next ≡ in_parent at part
+
+module _ (old cur : Windows) (w : ℕ) (at : Place) (walk : Walk old.window w at.win.0 at.line at.column) (same : (v : ℕ) → option_map untouched (cur.window v) ≡ option_map untouched (old.window v)) where
+  pub next-part : (next : Place) → IsSomeAnd (cur.window at.win.0) (λ a. Some next ≡ option_map (in_parent at) (part_behind a.backing)) → NextPart walk.above at next
+  next-part next h =
+      let now = reached old cur w at.win.0 at.line at.column walk same in
+      let here : Some next ≡ option_map (in_parent at) (part_behind now.window.backing) = rw now.there at h in
+      let part = from_parent at next (part_behind now.window.backing) here in
+      record { part = part.0; behind = sym (ap part_behind now.backing) ∙ part.1; is = part.2 }
+
+  pub no-part : IsSomeAnd (cur.window at.win.0) (λ a. None ≡ option_map (in_parent at) (part_behind a.backing)) → part_behind walk.above.backing ≡ None
+  no-part h =
+      let now = reached old cur w at.win.0 at.line at.column walk same in
+      let here : None ≡ option_map (in_parent at) (part_behind now.window.backing) = rw now.there at h in
+      sym (ap part_behind now.backing) ∙ no_parent at (part_behind now.window.backing) here
 
 -- a place of it is there
 pub place-reached : (old cur : Windows) (w u line column : ℕ) → AreSoundWindows old → (walk : Walk old.window w u line column) → ((v : ℕ) → option_map untouched (cur.window v) ≡ option_map untouched (old.window v))

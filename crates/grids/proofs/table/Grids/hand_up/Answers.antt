@@ -1,11 +1,8 @@
-use Rattle.std.proofs.Common.{◌≡◌, ◌≢◌, ◌<◌, Some, None, arith, ap, sym, ◌∙◌}
-use Rattle.std.specs.Option.{option_map}
+use Rattle.std.proofs.Common.{◌≢◌, ◌<◌, arith, ap, ◌∙◌}
 use Rattle.grids.specs.declared.place.Place.{Place}
 use Rattle.grids.specs.Tables.{windows}
-use Rattle.grids.specs.steps.Slots.{depth_at, in_parent}
-use Rattle.grids.specs.steps.Syncs.{part_behind}
-use Rattle.grids.proofs.Chain.{from_parent, no_parent}
-use Rattle.grids.proofs.Syncs.{handed-all, handed-none, handed-on, place-reached, reached}
+use Rattle.grids.specs.steps.Slots.{depth_at}
+use Rattle.grids.proofs.Syncs.{handed-all, handed-none, handed-on, next-part, no-part, place-reached}
 use Rattle.grids.proofs.table.Grids.hand_up.Goals as goal
 
 pub loop-next-init : goal.loop-next-init
@@ -25,17 +22,13 @@ loop-next-preserved c =
     let old = windows a.self.now in
     let cur = windows c.loop-next.self in
     let at = c.loop-next.at in
-    let so_far = c.loop-next.invariant.so_far in
-    let sound = c.is_sound.ensures.sound in
-    let now = reached old cur a.win at.win.0 at.line at.column so_far.walk so_far.same in
     let next = c.in-Some.next in
-    let here : Some next ≡ option_map (in_parent at) (part_behind now.window.backing) = rw now.there at c.in-Some.ensures.next in
-    let part = from_parent at next (part_behind now.window.backing) here in
-    let behind : part_behind so_far.walk.above.backing ≡ Some part.0 = sym (ap part_behind now.backing) ∙ part.1 in
+    let so_far = c.loop-next.invariant.so_far in
+    let on = next-part old cur a.win at so_far.walk so_far.same next c.in-Some.ensures.next in
     let deeper : depth_at c.loop-next.self.slots next.win.0 < depth_at c.loop-next.self.slots at.win.0 = c.in-Some.ensures.depth in
-    let other : part.0.parent ≢ a.win = λ e. (let same = ap (depth_at c.loop-next.self.slots) (ap (λ (p : Place). p.win.0) part.2 ∙ e) in omega (arith, same, deeper, c.loop-next.invariant.depth)) in
+    let other : on.part.parent ≢ a.win = λ e. (let same = ap (depth_at c.loop-next.self.slots) (ap (λ (p : Place). p.win.0) on.is ∙ e) in omega (arith, same, deeper, c.loop-next.invariant.depth)) in
     record {
-      so_far = rw part.2 (handed-on old sound a.win at.win.0 at.line at.column part.0 so_far.walk behind cur (windows c.touch_shown.new.self) so_far other (rw part.2 at c.touch_shown.ensures.touched));
+      so_far = rw on.is (handed-on old c.is_sound.ensures.sound a.win at.win.0 at.line at.column on.part so_far.walk on.behind cur (windows c.touch_shown.new.self) so_far other (rw on.is at c.touch_shown.ensures.touched));
       depth = omega (arith, c.touch_shown.ensures.depths next.win.0, c.touch_shown.ensures.depths a.win, deeper, c.loop-next.invariant.depth);
     }
 
@@ -46,6 +39,4 @@ returns c =
     let cur = windows c.loop-next.self in
     let at = c.loop-next.at in
     let so_far = c.loop-next.invariant.so_far in
-    let now = reached old cur a.win at.win.0 at.line at.column so_far.walk so_far.same in
-    let here : None ≡ option_map (in_parent at) (part_behind now.window.backing) = rw now.there at c.in_default.ensures.next in
-    handed-all old cur a.win at.win.0 at.line at.column so_far (sym (ap part_behind now.backing) ∙ no_parent at (part_behind now.window.backing) here)
+    handed-all old cur a.win at.win.0 at.line at.column so_far (no-part old cur a.win at so_far.walk so_far.same c.in_default.ensures.next)
