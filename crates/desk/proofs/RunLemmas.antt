@@ -48,14 +48,14 @@ module _ {W : Type 0} (seen : W → Seen) where
       → MayCome (state_of mid) call outcome → state_of new ≡ state_after (state_of mid) call outcome.answer → Writes seen mid new (call ∷ []) outcome.sent
       → Makes seen old (calls ++ call ∷ []) (outcomes ++ outcome ∷ []) new
   Makes-push {old} {mid} {new} {calls} {outcomes} call outcome makes may state writes =
-    let run = Run-push (state_of old) calls outcomes call outcome makes.run (subst (λ (s : State). MayCome s call outcome) makes.state may) in
-    record {
-    run = run;
-    short = short-run (state_of old) (calls ++ call ∷ []) (outcomes ++ outcome ∷ []) run;
-    state = state ∙ ap (λ s. state_after s call outcome.answer) makes.state ∙ sym (state_at_end-push _ calls outcomes call outcome makes.run);
-    writes = subst (Writes seen old new (calls ++ call ∷ [])) (sym (flat_map-append _ outcomes (outcome ∷ []) ∙ ap (λ l. all_sent outcomes ++ l) (append-nil outcome.sent)))
-        (Writes-trans seen old mid new calls (call ∷ []) (all_sent outcomes) outcome.sent makes.writes writes);
-  }
+      let run = Run-push (state_of old) calls outcomes call outcome makes.run (subst (λ (s : State). MayCome s call outcome) makes.state may) in
+      record {
+        run = run;
+        short = short-run (state_of old) (calls ++ call ∷ []) (outcomes ++ outcome ∷ []) run;
+        state = state ∙ ap (λ s. state_after s call outcome.answer) makes.state ∙ sym (state_at_end-push _ calls outcomes call outcome makes.run);
+        writes = subst (Writes seen old new (calls ++ call ∷ [])) (sym (flat_map-append _ outcomes (outcome ∷ []) ∙ ap (λ l. all_sent outcomes ++ l) (append-nil outcome.sent)))
+            (Writes-trans seen old mid new calls (call ∷ []) (all_sent outcomes) outcome.sent makes.writes writes);
+      }
 
   -- no call yet
   pub so_far_none : (old : ScreenOver W) → SoFar old [] old 0 0 0

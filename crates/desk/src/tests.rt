@@ -79,8 +79,8 @@ const UPDATE: [Call<'static>; 2] = [
     Call::Refresh(Refresh::Doupdate),
 ];
 
-/// The text of a screen of 1 by 4 that shows `hi`.
-const HI: &[u8] = b"\x1b[0m\x1b[2J\x1b[1;1H\x1b[1;1Hhi  \x1b[1;3H";
+/// The text of a screen that shows `hi` at its top, with the cursor behind it.
+const HI: &[u8] = b"\x1b[0m\x1b[2J\x1b[1;1Hhi";
 
 fn screen(alloc: Global, lines: u16, cols: u16) -> Result<Screen<Counted<Vec<u8>>>, Refusal> {
     Screen::new(alloc, lines, cols, Counted::new(Vec::new(alloc)))
@@ -117,7 +117,7 @@ fn each_call_answers(rt: HostRuntime) -> Result<(), Fail> {
             Ok(Reply::Nothing),
             Err(Fault::Refused(Refusal::NoSuchWindow)),
             Ok(Reply::Composed(Composed { cells: 4 })),
-            Ok(Reply::Sent(Sent { bytes: 30 })),
+            Ok(Reply::Sent(Sent { bytes: 16 })),
         ]
     );
     assert_eq!(rt; screen.writer().get_ref().as_slice(), HI);
@@ -184,7 +184,7 @@ fn a_run_stops_at_a_fault_and_the_next_one_repairs(rt: HostRuntime) -> Result<()
     let end = run(&mut screen, &UPDATE);
     assert_eq!(rt; end.done, 2);
     let taken = screen.writer().get_ref().taken.as_slice();
-    assert_eq!(rt; taken.len(), 35);
+    assert_eq!(rt; taken.len(), 21);
     assert_eq!(rt; &taken[5..], HI);
     Ok(())
 }
@@ -220,8 +220,7 @@ update_panels\ndoupdate\ninch 2";
         b"line 1: 1\nline 3: 2\nline 4: 1 3\nline 6: E3 OffScreen\nline 10: 32 00 0\n".as_slice()
     );
     let sent = screen.writer().get_ref().as_slice();
-    assert_eq!(rt; sent.len(), 84);
-    assert_eq!(rt; &sent[14..28], b"\x1b[1;1Hhi      ".as_slice());
+    assert_eq!(rt; sent, HI);
     Ok(())
 }
 
@@ -278,10 +277,10 @@ fn a_script_ends_at_a_failed_read_and_another_goes_on(rt: HostRuntime) -> Result
 
 #[test]
 fn a_script_ends_at_a_failed_write_and_another_repairs(rt: HostRuntime) -> Result<(), Fail> {
-    let mut screen = Screen::new(rt.alloc(), 1, 4, breaking_after(rt.alloc(), 29))?;
+    let mut screen = Screen::new(rt.alloc(), 1, 4, breaking_after(rt.alloc(), 15))?;
     let mut log = Counted::new(Vec::new(rt.alloc()));
     let script = b"addstr 0 hi\nupdate_panels\ndoupdate\naddstr 0 !\n".as_slice();
-    let fault = WriteFault { sent: 29 };
+    let fault = WriteFault { sent: 15 };
     assert_eq!(rt;
         run_script(&mut screen, script, &mut log),
         ScriptEnd {
@@ -289,13 +288,13 @@ fn a_script_ends_at_a_failed_write_and_another_repairs(rt: HostRuntime) -> Resul
             fault: Some(ScriptFault::Write { line: 3, fault }),
         }
     );
-    assert_eq!(rt; screen.writer().get_ref().taken.as_slice(), &HI[..29]);
+    assert_eq!(rt; screen.writer().get_ref().taken.as_slice(), &HI[..15]);
     let script = b"doupdate".as_slice();
     let end = run_script(&mut screen, script, &mut log);
     assert_eq!(rt; end.fault, None);
     let taken = screen.writer().get_ref().taken.as_slice();
-    assert_eq!(rt; taken.len(), 59);
-    assert_eq!(rt; &taken[29..], HI);
+    assert_eq!(rt; taken.len(), 31);
+    assert_eq!(rt; &taken[15..], HI);
     assert_eq!(rt; log.get_ref().len(), 0);
     Ok(())
 }

@@ -81,13 +81,13 @@ colours_room : (rendition : Rendition) → colour_room rendition.foreground + co
 colours_room rendition =
     elim rendition.foreground as (λ a. colour_room a + colour_room rendition.background ≤ (if has_colour (record rendition { foreground = a }) then 6 else 0)) [
       | None ↦ elim rendition.background as (λ b. 0 + colour_room b ≤ (if has_colour (record rendition { foreground = None; background = b }) then 6 else 0)) [
-          | None ↦ omega arith
-          | Some b ↦ omega arith
-        ]
+        | None ↦ omega arith
+        | Some b ↦ omega arith
+      ]
       | Some a ↦ elim rendition.background as (λ b. 3 + colour_room b ≤ (if has_colour (record rendition { foreground = Some a; background = b }) then 6 else 0)) [
-          | None ↦ omega arith
-          | Some b ↦ omega arith
-        ]
+        | None ↦ omega arith
+        | Some b ↦ omega arith
+      ]
     ]
 
 -- a selection has at most 16 bytes, and 6 more where there is a colour

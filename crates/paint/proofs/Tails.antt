@@ -23,7 +23,7 @@ differs-later n x old new h = record {
   differs = λ same. h.differs (get_or-drop n old x shown_blank ∙ same ∙ sym (get_or-drop n new x shown_blank));
 }
 
-pub erased-from : (shown wanted : List Shown) (first tail start skipped : ℕ) → AreBlank (drop tail wanted) → tail ≤ start → first ≤ start 
+pub erased-from : (shown wanted : List Shown) (first tail start skipped : ℕ) → AreBlank (drop tail wanted) → tail ≤ start → first ≤ start
     → DiffersAt (take (length shown - start) (drop start shown)) (take (length wanted - start) (drop start wanted)) skipped
     → IsErasedFrom shown wanted first (Some (start + skipped))
 erased-from shown wanted first tail start skipped blank from from_first differs =

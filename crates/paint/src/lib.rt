@@ -1,8 +1,8 @@
 //! Sends pictures to a terminal.
 #![tactic(auto)]
 
-pub mod laws;
 mod gap;
+pub mod laws;
 mod line;
 mod outbox;
 mod page;

@@ -12,7 +12,13 @@ use cell::{LARGEST_SCREEN, Rendition, Shown, first_diff, last_diff};
 use streams::Sink;
 
 /// Draws a wanted line over the one that is shown. Its blank end is erased, where enough of it is changed.
-pub fn paint_line<W: Sink>(pen: &mut Pen, sink: &mut W, line: u16, shown: &[Shown], wanted: &[Shown])
+pub fn paint_line<W: Sink>(
+    pen: &mut Pen,
+    sink: &mut W,
+    line: u16,
+    shown: &[Shown],
+    wanted: &[Shown],
+)
     requires line { line < LARGEST_SCREEN }
     requires columns { pen.old.columns ≤ LARGEST_SCREEN }
     requires shown { length shown.now ≡ pen.old.columns }
@@ -61,7 +67,14 @@ pub fn paint_to<W: Sink>(
     ensures same { W.name sink.new ≡ W.name sink.old }
 {
     let gap = paint_cells(pen, sink, line, shown, wanted, first, column);
-    approach(pen, sink, line, gap as u16, &wanted[gap..column], Rendition::NONE);
+    approach(
+        pen,
+        sink,
+        line,
+        gap as u16,
+        &wanted[gap..column],
+        Rendition::NONE,
+    );
 }
 
 /// Draws the changed cells of a line from a first column on, before which none is, up to an end. It answers the column behind

@@ -45,7 +45,13 @@ pub fn paint_picture<W: Sink>(
 
 /// The first changed column of a line, and that of its blank end, if there is one. All lines below are blank, and one of them is
 /// changed.
-fn page_end(line: u16, blank: u16, changed: u16, shown: &[Shown], wanted: &[Shown]) -> Option<(usize, usize)>
+fn page_end(
+    line: u16,
+    blank: u16,
+    changed: u16,
+    shown: &[Shown],
+    wanted: &[Shown],
+) -> Option<(usize, usize)>
     requires few { line < LARGEST_SCREEN }
     requires same { length shown.now ≡ length wanted.now }
     ensures { IsPageEnd line blank shown.now wanted.now result }
@@ -94,4 +100,3 @@ fn changed_lines(shown: &Grid<Shown>, wanted: &Grid<Shown>, lines: u16) -> u16
     }
     end
 }
-

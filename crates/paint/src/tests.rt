@@ -90,13 +90,22 @@ fn draws_what_differs(rt: HostRuntime) -> Result<(), Fail> {
     painter.doupdate(&picture, (0, 2), false, &mut sink)?;
     picture.set(2, 4, Shown::new(b'x', Rendition::NONE).ok_or("no cell")?);
     painter.doupdate(&picture, (2, 5), false, &mut sink)?;
-    let reverse = Rendition::new(Attr::REVERSE, ColourPair { foreground: None, background: None });
+    let reverse = Rendition::new(
+        Attr::REVERSE,
+        ColourPair {
+            foreground: None,
+            background: None,
+        },
+    );
     picture.set(2, 5, Shown::new(b'y', reverse).ok_or("no cell")?);
     painter.doupdate(&picture, (2, 6), false, &mut sink)?;
     painter.doupdate(&picture, (0, 0), false, &mut sink)?;
     painter.doupdate(&picture, (0, 0), false, &mut sink)?;
     let drawn = b"\x1b[3;5Hx\x1b[0;7my\x1b[0m\x1b[1;1H";
-    assert_eq!(rt; sink.get_ref().get(GREETING.len()..), Some(drawn.as_slice()));
+    assert_eq!(rt;
+        sink.get_ref().get(GREETING.len()..),
+        Some(drawn.as_slice())
+    );
     Ok(())
 }
 
@@ -129,8 +138,16 @@ fn sent_between(alloc: Global, from: &[u8], to: &[u8]) -> Result<Vec<u8>, Fail>
 fn prints_short_gaps_and_erases_long_ends(rt: HostRuntime) -> Result<(), Fail> {
     let rows: [(&[u8], &[u8], &[u8]); 5] = [
         (b"abcdefgh", b"XbcYefgh", b"\x1b[1;1HXbcY\x1b[1;1H"),
-        (b"abcdefghijklmnop", b"XbcdefghYjklmnop", b"\x1b[1;1HX\x1b[1;9HY\x1b[1;1H"),
-        (b"abcdefghijklmnop", b"XbcdefgYijklmnop", b"\x1b[1;1HXbcdefgY\x1b[1;1H"),
+        (
+            b"abcdefghijklmnop",
+            b"XbcdefghYjklmnop",
+            b"\x1b[1;1HX\x1b[1;9HY\x1b[1;1H",
+        ),
+        (
+            b"abcdefghijklmnop",
+            b"XbcdefgYijklmnop",
+            b"\x1b[1;1HXbcdefgY\x1b[1;1H",
+        ),
         (b"XbcYefgh", b"", b"\x1b[1;1H\x1b[K"),
         (b"abc", b"", b"\x1b[1;1H   \x1b[1;1H"),
     ];
