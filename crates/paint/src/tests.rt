@@ -101,61 +101,6 @@ fn draws_what_differs(rt: HostRuntime) -> Result<(), Fail> {
     Ok(())
 }
 
-/// A line of 20 cells that begins with a word.
-fn line(alloc: Global, word: &[u8]) -> Result<Grid<Shown>, Fail>
-    ensures { IfOk result (λ grid. HasSize 1 20 grid) }
-{
-    let mut grid = Grid::new(alloc, 1, 20)?;
-    for x in 0..word.len().min(20) {
-        grid.set(0, x, Shown::new(word[x], Rendition::NONE).ok_or("no cell")?);
-    }
-    Ok(grid)
-}
-
-/// What is sent where one line is shown after another.
-fn sent_between(alloc: Global, from: &[u8], to: &[u8]) -> Result<Vec<u8>, Fail> {
-    let mut painter = Painter::new(alloc, 1, 20)?;
-    painter.doupdate(&line(alloc, from)?, (0, 19), false, &mut Discard::new())?;
-    let mut sink = Counted::new(Vec::new(alloc));
-    painter.doupdate(&line(alloc, to)?, (0, 0), false, &mut sink)?;
-    Ok(sink.into_inner())
-}
-
-#[test]
-fn prints_short_gaps(rt: HostRuntime) -> Result<(), Fail> {
-    let sent = sent_between(rt.alloc(), b"abcdefgh", b"XbcYefgh")?;
-    assert_eq!(rt; sent.as_slice(), b"\x1b[1;1HXbcY\x1b[1;1H".as_slice());
-    let sent = sent_between(rt.alloc(), b"abcdefghijkl", b"XbcdefghYjkl")?;
-    assert_eq!(rt;
-        sent.as_slice(),
-        b"\x1b[1;1HX\x1b[1;9HY\x1b[1;1H".as_slice()
-    );
-    Ok(())
-}
-
-#[test]
-fn erases_long_ends(rt: HostRuntime) -> Result<(), Fail> {
-    let sent = sent_between(rt.alloc(), b"XbcYefgh", b"")?;
-    assert_eq!(rt; sent.as_slice(), b"\x1b[1;1H\x1b[K".as_slice());
-    let sent = sent_between(rt.alloc(), b"abc", b"")?;
-    assert_eq!(rt; sent.as_slice(), b"\x1b[1;1H   \x1b[1;1H".as_slice());
-    Ok(())
-}
-
-#[test]
-fn erases_the_blank_end_of_a_page(rt: HostRuntime) -> Result<(), Fail> {
-    let picture = greeting(rt.alloc())?;
-    let mut fuller = greeting(rt.alloc())?;
-    fuller.set(0, 9, Shown::new(b'!', Rendition::NONE).ok_or("no cell")?);
-    fuller.set(3, 0, Shown::new(b'?', Rendition::NONE).ok_or("no cell")?);
-    let mut painter = Painter::new(rt.alloc(), 4, 10)?;
-    let mut sink = Counted::new(Vec::new(rt.alloc()));
-    painter.doupdate(&fuller, (0, 2), false, &mut Discard::new())?;
-    painter.doupdate(&picture, (0, 9), false, &mut sink)?;
-    assert_eq!(rt; sink.get_ref().as_slice(), b"\x1b[1;10H\x1b[J".as_slice());
-    Ok(())
-}
-
 #[test]
 fn shows_two_cells_in_colours(rt: HostRuntime) -> Result<(), Fail> {
     let mut picture = Grid::new(rt.alloc(), 1, 4)?;
