@@ -7,10 +7,9 @@ use mathlib.Core.Path.{fun_ext}
 use Rattle.std.proofs.lemmas.Bool.{and_from, eqb-false, or_parts, false_from_ne_true}
 use Rattle.cell.specs.Pictures.{origin}
 use Rattle.cell.specs.declared.refusal.Refusal.{Refusal}
-use Rattle.world.specs.Windows.{Window, WindowMap, ancestors_within, cell_at, changed, derives, parent_number, parent_of, window_limit}
+use Rattle.world.specs.Windows.{Window, WindowMap, Windows, ancestors_within, cell_at, changed, derives, parent_number, parent_of, window_limit}
 use Rattle.world.specs.Panels.{Panels, cell_on_screen, found_from_top, has_line, holds_place, owner, panel_holds, place_of, screen_place, standard_screen, window_or_standard, windows_from_top}
 use Rattle.world.specs.Sound.{AreSoundWindows, IsStandardScreen}
-use Rattle.world.specs.World.{World}
 use Rattle.world.specs.calls.Making.{after_mvderwin, has_no_parent, is_own, mvderwin_refusal, with_part}
 use Rattle.world.specs.calls.Affected.{follows_on_line, move_affects}
 use Rattle.world.proofs.AncestorLaws.{cell_at-beside}
@@ -46,13 +45,13 @@ module _ (window : WindowMap) (w v z : ℕ) where
 
 -- ---- the standard screen derives from none, and isn't moved
 
-standard-parent : (world : World) (o : Option Window) → IsSomeAnd o (IsStandardScreen world.windows) → option_and_then (λ a. parent_number a.backing) o ≡ None
-standard-parent world None h = elim h [ ]
-standard-parent world (Some a) h = ap parent_number h.grid
+standard-parent : (windows : Windows) (o : Option Window) → IsSomeAnd o (IsStandardScreen windows) → option_and_then (λ a. parent_number a.backing) o ≡ None
+standard-parent windows None h = elim h [ ]
+standard-parent windows (Some a) h = ap parent_number h.grid
 
-standard-own : (world : World) (o : Option Window) → IsSomeAnd o (IsStandardScreen world.windows) → option_map_or (λ a. is_own a.backing) o false ≡ true
-standard-own world None h = elim h [ ]
-standard-own world (Some a) h = ap is_own h.grid
+standard-own : (windows : Windows) (o : Option Window) → IsSomeAnd o (IsStandardScreen windows) → option_map_or (λ a. is_own a.backing) o false ≡ true
+standard-own windows None h = elim h [ ]
+standard-own windows (Some a) h = ap is_own h.grid
 
 no_ancestors : (n : ℕ) (window : WindowMap) (u : ℕ) → parent_of window u ≡ None → ancestors_within n window u ≡ []
 no_ancestors zero window u h = refl
@@ -63,44 +62,44 @@ accepted true own leaves e f g h is = cc
 accepted false true leaves e f g h is = cc
 accepted false false leaves e f g h is = cc
 
-module _ (world : World) (w v z y x : ℕ) (sound : AreSoundWindows world.windows) (allowed : mvderwin_refusal world.windows w v z ≡ None) where
+module _ (windows : Windows) (panels : Panels) (w v z y x : ℕ) (sound : AreSoundWindows windows) (allowed : mvderwin_refusal windows w v z ≡ None) where
   other-standard : standard_screen ≡ w → ⊥
   other-standard same =
-      accepted _ (has_no_parent world.windows.window w) _ _ _ _ allowed
-      (subst (λ (u : ℕ). has_no_parent world.windows.window u ≡ true) same (standard-own world (world.windows.window standard_screen) sound.standard))
+      accepted _ (has_no_parent windows.window w) _ _ _ _ allowed
+      (subst (λ (u : ℕ). has_no_parent windows.window u ≡ true) same (standard-own windows (windows.window standard_screen) sound.standard))
 
-  standard-beside : derives world.windows.window w standard_screen ≡ false
+  standard-beside : derives windows.window w standard_screen ≡ false
   standard-beside =
-      ap (list_any (λ u. u == w)) (no_ancestors window_limit world.windows.window standard_screen (standard-parent world (world.windows.window standard_screen) sound.standard))
+      ap (list_any (λ u. u == w)) (no_ancestors window_limit windows.window standard_screen (standard-parent windows (windows.window standard_screen) sound.standard))
 
   -- a window that the move doesn't reach
-  window-kept : (u : ℕ) → (u ≡ w → ⊥) → derives world.windows.window w u ≡ false
-      → cell_on_screen (after_mvderwin world.windows w v z).window u y x ≡ cell_on_screen world.windows.window u y x
+  window-kept : (u : ℕ) → (u ≡ w → ⊥) → derives windows.window w u ≡ false
+      → cell_on_screen (after_mvderwin windows w v z).window u y x ≡ cell_on_screen windows.window u y x
   window-kept u other beside =
-      ap (λ p. cell_at (after_mvderwin world.windows w v z).window u (y - p.0) (x - p.1)) (place-part world.windows.window w v z u)
-      ∙ cell_at-beside world.windows w v z u (y - (place_of world.windows.window u).0) (x - (place_of world.windows.window u).1) other beside
+      ap (λ p. cell_at (after_mvderwin windows w v z).window u (y - p.0) (x - p.1)) (place-part windows.window w v z u)
+      ∙ cell_at-beside windows w v z u (y - (place_of windows.window u).0) (x - (place_of windows.window u).1) other beside
 
   -- a window with the line isn't reached, where the line isn't affected
-  on-line : (u : ℕ) (o : Option Window) → option_map_or (holds_place y x) o false ≡ true → ((u == w || derives world.windows.window w u) && option_map_or (has_line y) o false) ≡ false
-      → (u == w || derives world.windows.window w u) ≡ false
+  on-line : (u : ℕ) (o : Option Window) → option_map_or (holds_place y x) o false ≡ true → ((u == w || derives windows.window w u) && option_map_or (has_line y) o false) ≡ false
+      → (u == w || derives windows.window w u) ≡ false
   on-line u None there free = cc
-  on-line u (Some b) there free = false_from_ne_true (u == w || derives world.windows.window w u) (λ moved.
+  on-line u (Some b) there free = false_from_ne_true (u == w || derives windows.window w u) (λ moved.
       let line = holds-line y x b.place b.lines b.columns there in
-      let affected : true ≡ false = sym (and_from (u == w || derives world.windows.window w u) (has_line y b) moved line.0) ∙ free in
+      let affected : true ≡ false = sym (and_from (u == w || derives windows.window w u) (has_line y b) moved line.0) ∙ free in
       cc)
 
-  owned-kept : (o : Option ℕ) → owner world.windows.window world.panels y x ≡ o → list_any (follows_on_line world.windows.window w y) (windows_from_top world.panels) ≡ false
-      → cell_on_screen (after_mvderwin world.windows w v z).window (window_or_standard world.panels o) y x ≡ cell_on_screen world.windows.window (window_or_standard world.panels o) y x
+  owned-kept : (o : Option ℕ) → owner windows.window panels y x ≡ o → list_any (follows_on_line windows.window w y) (windows_from_top panels) ≡ false
+      → cell_on_screen (after_mvderwin windows w v z).window (window_or_standard panels o) y x ≡ cell_on_screen windows.window (window_or_standard panels o) y x
   owned-kept None found free = window-kept standard_screen other-standard standard-beside
   owned-kept (Some p) found free =
-      let owns = found-in world.windows.window world.panels y x (follows_on_line world.windows.window w y) p (reverse world.panels.visible) free found in
-      let same : unwrap_or (world.panels.window p) standard_screen ≡ owns.number = ap (λ o. unwrap_or o standard_screen) owns.is in
-      let apart = on-line owns.number (world.windows.window owns.number) owns.there owns.fails in
-      let parts = or_parts (owns.number == w) (derives world.windows.window w owns.number) apart in
+      let owns = found-in windows.window panels y x (follows_on_line windows.window w y) p (reverse panels.visible) free found in
+      let same : unwrap_or (panels.window p) standard_screen ≡ owns.number = ap (λ o. unwrap_or o standard_screen) owns.is in
+      let apart = on-line owns.number (windows.window owns.number) owns.there owns.fails in
+      let parts = or_parts (owns.number == w) (derives windows.window w owns.number) apart in
       rw same (window-kept owns.number (eqb-false owns.number w parts.0) parts.1)
 
-  pub picture-moved : move_affects world w y ≡ false
-      → found_from_top (after_mvderwin world.windows w v z).window world.panels y x ≡ found_from_top world.windows.window world.panels y x
+  pub picture-moved : move_affects windows.window panels w y ≡ false
+      → found_from_top (after_mvderwin windows w v z).window panels y x ≡ found_from_top windows.window panels y x
   picture-moved free =
-      ap (λ o. cell_on_screen (after_mvderwin world.windows w v z).window (window_or_standard world.panels o) y x) (owner-part world.windows.window w v z world.panels y x)
-      ∙ owned-kept (owner world.windows.window world.panels y x) refl free
+      ap (λ o. cell_on_screen (after_mvderwin windows w v z).window (window_or_standard panels o) y x) (owner-part windows.window w v z panels y x)
+      ∙ owned-kept (owner windows.window panels y x) refl free

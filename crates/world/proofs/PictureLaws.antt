@@ -6,12 +6,11 @@ use Rattle.std.specs.List.{cons_option, filter_map, list_any}
 use mathlib.Core.Path.{fun_ext}
 use Rattle.std.proofs.lemmas.Bool.{and_parts, and_from, or_parts, leb-true, ltb-true, le-leb, lt-ltb}
 use Rattle.cell.specs.Pictures.{Place, origin}
-use Rattle.world.specs.Windows.{Drawing, GridPlace, HasPlace, Window, WindowMap, any_below, cell_at, drawn, onward, own, put_from, put_windows}
+use Rattle.world.specs.Windows.{Drawing, GridPlace, HasPlace, Window, WindowMap, Windows, any_below, cell_at, drawn, onward, own, put_from, put_windows}
 use Rattle.world.specs.Frames.{Covers, IsFrameOf, frame_of}
 use Rattle.world.specs.Panels.{Panels, cell_on_screen, found_from_top, has_line, holds, holds_place, owner, panel_holds, place_of, screen_place, standard_screen, window_or_standard, windows_from_top}
 use Rattle.world.specs.Sharing.{is_same_place, shows_part_of}
 use Rattle.world.specs.Sound.{AreSoundWindows, IsSoundWindow, IsStandardScreen}
-use Rattle.world.specs.World.{World}
 use Rattle.world.specs.calls.Affected.{frame_affects, shows_on_line}
 use Rattle.world.proofs.Below.{any_below-some, any_in-some}
 use Rattle.world.proofs.FrameLaws.{frame_of-is}
@@ -104,22 +103,22 @@ onward-some : (y x : ℕ) (o : Option GridPlace) → is_some o ≡ true → is_s
 onward-some y x None some = cc
 onward-some y x (Some p) some = refl
 
-sound-chain : (world : World) (w : ℕ) (o : Option Window) → MatchOption o ⊤ (IsSoundWindow world.windows w) → IsSome o → IsSome (own world.windows.window w 0 0)
-sound-chain world w None h some = cc
-sound-chain world w (Some a) h some = h.chain_ends
+sound-chain : (windows : Windows) (w : ℕ) (o : Option Window) → MatchOption o ⊤ (IsSoundWindow windows w) → IsSome o → IsSome (own windows.window w 0 0)
+sound-chain windows w None h some = cc
+sound-chain windows w (Some a) h some = h.chain_ends
 
 -- ---- the picture
 
-module _ (world : World) (w : ℕ) (a : Window) (f : Drawing) (y x : ℕ) (sound : AreSoundWindows world.windows) (there : world.windows.window w ≡ Some a) where
-  leads : (v z : ℕ) → is_some (own world.windows.window w v z) ≡ true
+module _ (windows : Windows) (panels : Panels) (w : ℕ) (a : Window) (f : Drawing) (y x : ℕ) (sound : AreSoundWindows windows) (there : windows.window w ≡ Some a) where
+  leads : (v z : ℕ) → is_some (own windows.window w v z) ≡ true
   leads v z =
-      let some : IsSome (world.windows.window w) = ap (λ (o : Option Window). is_some o) there in
-      let first = sound-chain world w (world.windows.window w) (sound.each w) some in
-      ap (λ (o : Option GridPlace). is_some o) (own-onward world.windows.window w v z) ∙ onward-some v z (own world.windows.window w 0 0) first
+      let some : IsSome (windows.window w) = ap (λ (o : Option Window). is_some o) there in
+      let first = sound-chain windows w (windows.window w) (sound.each w) some in
+      ap (λ (o : Option GridPlace). is_some o) (own-onward windows.window w v z) ∙ onward-some v z (own windows.window w 0 0) first
 
-  module _ (u : ℕ) (b : Window) (is : world.windows.window u ≡ Some b) (line : has_line y b ≡ true) (column : x - (screen_place b).1 < b.columns) where
-    apart : (o : Option Frame) → IsFrameOf (Covers f a.columns a.lines) o → option_map_or (λ r. shows_on_line world.windows.window w r y u) o false ≡ false
-        → (v z : ℕ) → HasPlace world.windows.window w v z → IsSome (f v z) → own world.windows.window w v z ≡ own world.windows.window u (y - (screen_place b).0) (x - (screen_place b).1) → ⊥
+  module _ (u : ℕ) (b : Window) (is : windows.window u ≡ Some b) (line : has_line y b ≡ true) (column : x - (screen_place b).1 < b.columns) where
+    apart : (o : Option Frame) → IsFrameOf (Covers f a.columns a.lines) o → option_map_or (λ r. shows_on_line windows.window w r y u) o false ≡ false
+        → (v z : ℕ) → HasPlace windows.window w v z → IsSome (f v z) → own windows.window w v z ≡ own windows.window u (y - (screen_place b).0) (x - (screen_place b).1) → ⊥
     apart o frame free v z has some same = by_frame o frame free where
       place : (v < a.lines) × (z < a.columns)
       place = subst (λ (o : Option Window). IsSomeAnd o (λ c. (v < c.lines) × (z < c.columns))) there has
@@ -127,35 +126,35 @@ module _ (world : World) (w : ℕ) (a : Window) (f : Drawing) (y x : ℕ) (sound
       covers : Covers f a.columns a.lines v z
       covers = record { below = place.0; left = place.1; some = some }
 
-      by_frame : (o : Option Frame) → IsFrameOf (Covers f a.columns a.lines) o → option_map_or (λ r. shows_on_line world.windows.window w r y u) o false ≡ false → ⊥
+      by_frame : (o : Option Frame) → IsFrameOf (Covers f a.columns a.lines) o → option_map_or (λ r. shows_on_line windows.window w r y u) o false ≡ false → ⊥
       by_frame None frame free = frame v z covers
       by_frame (Some r) frame free =
-          let shown : shows_part_of world.windows.window w r u (y - (screen_place b).0) (x - (screen_place b).1) ≡ true =
-          any_in-some r (λ k l. is_same_place (own world.windows.window w k l) (own world.windows.window u (y - (screen_place b).0) (x - (screen_place b).1))) v z (frame.holds v z covers)
-          (same-self (own world.windows.window w v z) (own world.windows.window u (y - (screen_place b).0) (x - (screen_place b).1)) (leads v z) same) in
-          let seen : shows_on_line world.windows.window w r y u ≡ true =
-          ap (λ o. option_map_or (λ c. has_line y c && any_below c.columns (λ k. shows_part_of world.windows.window w r u (y - (screen_place c).0) k)) o false) is
-          ∙ and_from (has_line y b) (any_below b.columns (λ k. shows_part_of world.windows.window w r u (y - (screen_place b).0) k)) line
-          (any_below-some b.columns (λ k. shows_part_of world.windows.window w r u (y - (screen_place b).0) k) (x - (screen_place b).1) column shown) in
+          let shown : shows_part_of windows.window w r u (y - (screen_place b).0) (x - (screen_place b).1) ≡ true =
+          any_in-some r (λ k l. is_same_place (own windows.window w k l) (own windows.window u (y - (screen_place b).0) (x - (screen_place b).1))) v z (frame.holds v z covers)
+          (same-self (own windows.window w v z) (own windows.window u (y - (screen_place b).0) (x - (screen_place b).1)) (leads v z) same) in
+          let seen : shows_on_line windows.window w r y u ≡ true =
+          ap (λ o. option_map_or (λ c. has_line y c && any_below c.columns (λ k. shows_part_of windows.window w r u (y - (screen_place c).0) k)) o false) is
+          ∙ and_from (has_line y b) (any_below b.columns (λ k. shows_part_of windows.window w r u (y - (screen_place b).0) k)) line
+          (any_below-some b.columns (λ k. shows_part_of windows.window w r u (y - (screen_place b).0) k) (x - (screen_place b).1) column shown) in
           let never : true ≡ false = sym seen ∙ free in
           cc
 
-    cell-kept : option_map_or (λ r. shows_on_line world.windows.window w r y u) (frame_of a f) false ≡ false
-        → cell_on_screen (put_windows world.windows.window w f) u y x ≡ cell_on_screen world.windows.window u y x
+    cell-kept : option_map_or (λ r. shows_on_line windows.window w r y u) (frame_of a f) false ≡ false
+        → cell_on_screen (put_windows windows.window w f) u y x ≡ cell_on_screen windows.window u y x
     cell-kept free =
-        let place : place_of world.windows.window u ≡ screen_place b = ap (λ o. option_map_or screen_place o origin) is in
-        ap (λ p. cell_at (put_windows world.windows.window w f) u (y - p.0) (x - p.1)) (place-put world.windows.window w f u ∙ place)
-        ∙ put-keeps world.windows.window w f u (y - (screen_place b).0) (x - (screen_place b).1) (apart (frame_of a f) (frame_of-is a f) free)
-        ∙ sym (ap (λ p. cell_at world.windows.window u (y - p.0) (x - p.1)) place)
+        let place : place_of windows.window u ≡ screen_place b = ap (λ o. option_map_or screen_place o origin) is in
+        ap (λ p. cell_at (put_windows windows.window w f) u (y - p.0) (x - p.1)) (place-put windows.window w f u ∙ place)
+        ∙ put-keeps windows.window w f u (y - (screen_place b).0) (x - (screen_place b).1) (apart (frame_of a f) (frame_of-is a f) free)
+        ∙ sym (ap (λ p. cell_at windows.window u (y - p.0) (x - p.1)) place)
 
-  window-kept : (u : ℕ) (o : Option Window) → world.windows.window u ≡ o → option_map_or (holds_place y x) o false ≡ true
-      → option_map_or (λ r. shows_on_line world.windows.window w r y u) (frame_of a f) false ≡ false
-      → cell_on_screen (put_windows world.windows.window w f) u y x ≡ cell_on_screen world.windows.window u y x
+  window-kept : (u : ℕ) (o : Option Window) → windows.window u ≡ o → option_map_or (holds_place y x) o false ≡ true
+      → option_map_or (λ r. shows_on_line windows.window w r y u) (frame_of a f) false ≡ false
+      → cell_on_screen (put_windows windows.window w f) u y x ≡ cell_on_screen windows.window u y x
   window-kept u None is holds free = cc
   window-kept u (Some b) is holds free = let place = holds-line y x b.place b.lines b.columns holds in cell-kept u b is place.0 place.1 free
 
   -- the standard screen holds each place of the screen
-  standard-holds : y < world.windows.lines → x < world.windows.columns → (o : Option Window) → IsSomeAnd o (IsStandardScreen world.windows) → option_map_or (holds_place y x) o false ≡ true
+  standard-holds : y < windows.lines → x < windows.columns → (o : Option Window) → IsSomeAnd o (IsStandardScreen windows) → option_map_or (holds_place y x) o false ≡ true
   standard-holds below left None h = elim h [ ]
   standard-holds below left (Some b) h =
       let lines = h.lines in
@@ -168,27 +167,27 @@ module _ (world : World) (w : ℕ) (a : Window) (f : Drawing) (y x : ℕ) (sound
       (and_from (nat_le 0 x) (nat_lt x (0 + b.columns)) (le-leb 0 x (omega arith)) (lt-ltb x (0 + b.columns) column))
 
   -- what the frame doesn't affect shows nothing of it
-  each-free : (o : Option Frame) → frame_affects world w o y ≡ false
-      → (option_map_or (λ r. shows_on_line world.windows.window w r y standard_screen) o false ≡ false)
-      × (list_any (λ u. option_map_or (λ r. shows_on_line world.windows.window w r y u) o false) (windows_from_top world.panels) ≡ false)
-  each-free None h = (refl, nothing (windows_from_top world.panels)) where
+  each-free : (o : Option Frame) → frame_affects windows.window panels w o y ≡ false
+      → (option_map_or (λ r. shows_on_line windows.window w r y standard_screen) o false ≡ false)
+      × (list_any (λ u. option_map_or (λ r. shows_on_line windows.window w r y u) o false) (windows_from_top panels) ≡ false)
+  each-free None h = (refl, nothing (windows_from_top panels)) where
     nothing : (us : List ℕ) → list_any (λ u. false) us ≡ false
     nothing [] = refl
     nothing (u ∷ us) = nothing us
-  each-free (Some r) h = or_parts (shows_on_line world.windows.window w r y standard_screen) (list_any (shows_on_line world.windows.window w r y) (windows_from_top world.panels)) h
+  each-free (Some r) h = or_parts (shows_on_line windows.window w r y standard_screen) (list_any (shows_on_line windows.window w r y) (windows_from_top panels)) h
 
-  owned-kept : (o : Option ℕ) → owner world.windows.window world.panels y x ≡ o → y < world.windows.lines → x < world.windows.columns → frame_affects world w (frame_of a f) y ≡ false
-      → cell_on_screen (put_windows world.windows.window w f) (window_or_standard world.panels o) y x ≡ cell_on_screen world.windows.window (window_or_standard world.panels o) y x
+  owned-kept : (o : Option ℕ) → owner windows.window panels y x ≡ o → y < windows.lines → x < windows.columns → frame_affects windows.window panels w (frame_of a f) y ≡ false
+      → cell_on_screen (put_windows windows.window w f) (window_or_standard panels o) y x ≡ cell_on_screen windows.window (window_or_standard panels o) y x
   owned-kept None found below left h =
-      window-kept standard_screen (world.windows.window standard_screen) refl (standard-holds below left (world.windows.window standard_screen) sound.standard) (each-free (frame_of a f) h).0
+      window-kept standard_screen (windows.window standard_screen) refl (standard-holds below left (windows.window standard_screen) sound.standard) (each-free (frame_of a f) h).0
   owned-kept (Some p) found below left h =
-      let owns = found-in world.windows.window world.panels y x (λ u. option_map_or (λ r. shows_on_line world.windows.window w r y u) (frame_of a f) false) p (reverse world.panels.visible)
+      let owns = found-in windows.window panels y x (λ u. option_map_or (λ r. shows_on_line windows.window w r y u) (frame_of a f) false) p (reverse panels.visible)
       (each-free (frame_of a f) h).1 found in
-      let same : unwrap_or (world.panels.window p) standard_screen ≡ owns.number = ap (λ o. unwrap_or o standard_screen) owns.is in
-      rw same (window-kept owns.number (world.windows.window owns.number) refl owns.there owns.fails)
+      let same : unwrap_or (panels.window p) standard_screen ≡ owns.number = ap (λ o. unwrap_or o standard_screen) owns.is in
+      rw same (window-kept owns.number (windows.window owns.number) refl owns.there owns.fails)
 
-  pub picture-put : y < world.windows.lines → x < world.windows.columns → frame_affects world w (frame_of a f) y ≡ false
-      → found_from_top (put_windows world.windows.window w f) world.panels y x ≡ found_from_top world.windows.window world.panels y x
+  pub picture-put : y < windows.lines → x < windows.columns → frame_affects windows.window panels w (frame_of a f) y ≡ false
+      → found_from_top (put_windows windows.window w f) panels y x ≡ found_from_top windows.window panels y x
   picture-put below left h =
-      ap (λ o. cell_on_screen (put_windows world.windows.window w f) (window_or_standard world.panels o) y x) (owner-put world.windows.window w f world.panels y x)
-      ∙ owned-kept (owner world.windows.window world.panels y x) refl below left h
+      ap (λ o. cell_on_screen (put_windows windows.window w f) (window_or_standard panels o) y x) (owner-put windows.window w f panels y x)
+      ∙ owned-kept (owner windows.window panels y x) refl below left h

@@ -1,6 +1,6 @@
 -- The panels, and the picture that they make of the windows.
 -- NetBSD panel(3): panels are windows with an order of depth, above the standard screen; hidden ones stand outside it.
-use Rattle.std.specs.Prelude.{unwrap_or, ℕ, ◌+◌, ◌-◌, Bool, false, ◌==◌, ◌&&◌, nat_lt, nat_le, Option, Some, None, List, [], reverse, find}
+use Rattle.std.specs.Prelude.{unwrap_or, ℕ, ◌+◌, ◌-◌, Bool, false, ◌==◌, ◌&&◌, nat_lt, nat_le, Option, Some, None, List, [], ◌∷◌, reverse, find}
 use Rattle.std.specs.List.{filter_map, last_or}
 use Rattle.std.specs.Option.{option_map_or}
 use Rattle.cell.specs.Glyphs.{Glyph}
@@ -32,6 +32,10 @@ standard_screen = 0
 -- the windows of the visible panels, the topmost first
 abbrev pub windows_from_top : Panels → List ℕ
 windows_from_top panels = filter_map panels.window (reverse panels.visible)
+
+-- the windows that make up the picture
+abbrev pub windows_of_picture : Panels → List ℕ
+windows_of_picture panels = standard_screen ∷ windows_from_top panels
 
 -- the window of a panel, or else the standard screen
 abbrev pub window_or_standard : Panels → Option ℕ → ℕ

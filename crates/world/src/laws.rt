@@ -1,16 +1,24 @@
 //! What holds of the definitions alone. Each function does nothing, and its contract is the law.
 
-ghost use Rattle.std.specs.Prelude.{◌≡◌, ◌<◌, ℕ, false, List, Option, Some, IsSome, option_map, ◌⊎◌};
+ghost use Rattle.std.specs.Prelude.{◌≡◌, ◌<◌, ℕ, true, false, List, Option, Some, None, IsSome, option_map, ◌⊎◌};
 ghost use Rattle.cell.specs.declared.window.Frame.{Frame};
 ghost use Rattle.world.specs.Frames.{AreRectangle, Covers, IsFrameOf, frame_of, joined};
-ghost use Rattle.world.specs.Panels.{Panels, cursor_of_topmost, found_from_top};
+ghost use Rattle.world.specs.Panels.{Panels, cursor_of_topmost, found_from_top, is_in_panel};
 ghost use Rattle.world.specs.Sharing.{SharesPart};
-ghost use Rattle.world.specs.Sound.{AreSoundWindows};
-ghost use Rattle.world.specs.World.{World, picture};
-ghost use Rattle.world.specs.calls.Affected.{frame_affects, move_affects};
+ghost use Rattle.world.specs.Sound.{AreSoundPanels, AreSoundWindows};
+ghost use Rattle.world.specs.World.{World};
+ghost use Rattle.world.specs.calls.Affected.{accepted_affects, copied_window, copying_frame, frame_affects, making_affects, move_affects, refresh_affects, stacking_affects, writing_frame, written_window};
+ghost use Rattle.world.specs.calls.Dispatch.{after_copying, after_making, after_stacking, after_writing, making_refusal, stacking_refusal, world_after};
+ghost use Rattle.world.specs.calls.Places.{affects_place, frame_shows_at, making_shows_at, refresh_shows_at, stacking_shows_at};
 ghost use Rattle.world.specs.calls.Making.{after_mvderwin, mvderwin_refusal};
 ghost use Rattle.world.specs.calls.Refresh.{with_unmarked};
 ghost use Rattle.cell.specs.Glyphs.{Glyph};
+ghost use Rattle.world.specs.declared.call.Call.{Call};
+ghost use Rattle.world.specs.declared.call.Copying.{Copying};
+ghost use Rattle.world.specs.declared.call.Making.{Making};
+ghost use Rattle.world.specs.declared.call.Refresh.{Refresh};
+ghost use Rattle.world.specs.declared.call.Stacking.{Stacking};
+ghost use Rattle.world.specs.declared.call.Writing.{Writing};
 ghost use Rattle.world.specs.Windows.{Drawing, GridPlace, HasPlace, Window, WindowMap, Windows, cell_at, derives, onward, over, own, put_windows};
 
 /// The places of a window lead to a rectangle of one grid: where one leads is where the first one leads, moved.
@@ -50,12 +58,12 @@ pub fn kept_cell()
 /// A write through a window leaves the picture as it is on each line of the screen that its frame doesn't affect; and so does mvderwin
 /// on each line that it doesn't affect.
 pub fn kept_picture()
-    ensures written { (world : World) (w : ℕ) (a : Window) (f : Drawing) (y x : ℕ) → AreSoundWindows world.windows
-        → world.windows.window w ≡ Some a → y < world.windows.lines → x < world.windows.columns
-        → frame_affects world w (frame_of a f) y ≡ false
-        → found_from_top (put_windows world.windows.window w f) world.panels y x ≡ found_from_top world.windows.window world.panels y x }
-    ensures moved { (world : World) (w v z y x : ℕ) → AreSoundWindows world.windows → mvderwin_refusal world.windows w v z ≡ None
-        → move_affects world w y ≡ false → found_from_top (after_mvderwin world.windows w v z).window world.panels y x ≡ found_from_top world.windows.window world.panels y x }
+    ensures written { (windows : Windows) (panels : Panels) (w : ℕ) (a : Window) (f : Drawing) (y x : ℕ) → AreSoundWindows windows
+        → windows.window w ≡ Some a → y < windows.lines → x < windows.columns → frame_affects windows.window panels w (frame_of a f) y ≡ false
+        → found_from_top (put_windows windows.window w f) panels y x ≡ found_from_top windows.window panels y x }
+    ensures moved { (windows : Windows) (panels : Panels) (w v z y x : ℕ) → AreSoundWindows windows → mvderwin_refusal windows w v z ≡ None
+        → move_affects windows.window panels w y ≡ false
+        → found_from_top (after_mvderwin windows w v z).window panels y x ≡ found_from_top windows.window panels y x }
 {}
 
 /// Where a derived window is moved in its parent, each window that neither is it nor derives from it shows the cells that it showed.

@@ -5,14 +5,14 @@ use Rattle.std.specs.Prelude.{ℕ, ◌+◌, ◌-◌, ◌*◌, Bool, true, false,
 use Rattle.std.specs.List.{count_by, list_any, range_with_len}
 use Rattle.std.specs.Option.{option_map_or}
 use Rattle.world.specs.Windows.{Drawing, WindowMap, Windows, any_below, derives}
-use Rattle.world.specs.Panels.{Panels, has_line, screen_place, windows_from_top}
+use Rattle.world.specs.Panels.{Panels, has_line, screen_place, windows_from_top, windows_of_picture}
 use Rattle.world.specs.World.{World}
 use Rattle.world.specs.Sharing.{shows_part_of}
 use Rattle.world.specs.calls.writing.Characters.{addch_frame, addstr_frame, delch_frame, insch_frame}
 use Rattle.world.specs.calls.writing.Editing.{clrtobot_frame, clrtoeol_frame, deleteln_frame, erase_frame, insertln_frame, scrl_frame}
 use Rattle.world.specs.calls.Copies.{overlay_frame, copywin_drawing, copywin_frame}
 use Rattle.world.specs.calls.Stacking.{new_panel_number, panel_affects}
-use Rattle.world.specs.calls.Refresh.{composed_windows, touched_cells}
+use Rattle.world.specs.calls.Refresh.{touched_cells}
 use Rattle.world.specs.calls.Dispatch.{after_stacking, is_update_panels, refusal, world_after}
 use Rattle.cell.specs.declared.window.Frame.{Frame}
 use Rattle.world.specs.declared.call.Call.{Call}
@@ -120,26 +120,26 @@ shows_on_line window w r line u =
     option_map_or (λ a. has_line line a && any_below a.columns (λ x. shows_part_of window w r u (line - (screen_place a).0) x)) (window u) false
 
 -- Of a write in a frame of window w: the lines on which the standard screen or a visible panel's window shows a cell of the frame.
-abbrev pub frame_affects : World → ℕ → Option Frame → ℕ → Bool
-frame_affects world w frame line = option_map_or (λ r. list_any (shows_on_line world.windows.window w r line) (composed_windows world)) frame false
+abbrev pub frame_affects : WindowMap → Panels → ℕ → Option Frame → ℕ → Bool
+frame_affects window panels w frame line = option_map_or (λ r. list_any (shows_on_line window w r line) (windows_of_picture panels)) frame false
 
 -- window u, which is window w or derives from it, has the line
 abbrev pub follows_on_line : WindowMap → ℕ → ℕ → ℕ → Bool
 follows_on_line window w line u = (u == w || derives window w u) && option_map_or (has_line line) (window u) false
 
 -- Of a window moved in its parent: the lines of the visible panels' windows that show other cells then.
-abbrev pub move_affects : World → ℕ → ℕ → Bool
-move_affects world w line = list_any (follows_on_line world.windows.window w line) (windows_from_top world.panels)
+abbrev pub move_affects : WindowMap → Panels → ℕ → ℕ → Bool
+move_affects window panels w line = list_any (follows_on_line window w line) (windows_from_top panels)
 
-abbrev pub making_affects : World → Making → ℕ → Bool
-making_affects world (Newwin nlines ncols y x) line = false
-making_affects world (Subwin win nlines ncols y x) line = false
-making_affects world (Derwin win nlines ncols y x) line = false
-making_affects world (Newpad nlines ncols) line = false
-making_affects world (Subpad pad nlines ncols y x) line = false
-making_affects world (Delwin win) line = false
-making_affects world (Mvwin win y x) line = false
-making_affects world (Mvderwin win y x) line = move_affects world win.0 line
+abbrev pub making_affects : WindowMap → Panels → Making → ℕ → Bool
+making_affects window panels (Newwin nlines ncols y x) line = false
+making_affects window panels (Subwin win nlines ncols y x) line = false
+making_affects window panels (Derwin win nlines ncols y x) line = false
+making_affects window panels (Newpad nlines ncols) line = false
+making_affects window panels (Subpad pad nlines ncols y x) line = false
+making_affects window panels (Delwin win) line = false
+making_affects window panels (Mvwin win y x) line = false
+making_affects window panels (Mvderwin win y x) line = move_affects window panels win.0 line
 
 -- the panel that a call makes, deletes, orders, moves or gives a window, if it does so
 abbrev pub changed_panel : Panels → Stacking → Option ℕ
@@ -176,9 +176,11 @@ refresh_affects windows (InitPair pair foreground background) line = true
 
 -- of an accepted call
 abbrev pub accepted_affects : World → Call → ℕ → Bool
-accepted_affects world (calls.Making making) line = making_affects world making line
-accepted_affects world (calls.Writing writing) line = frame_affects world (written_window writing) (writing_frame world.windows writing) line
-accepted_affects world (calls.Copying copying) line = frame_affects world (copied_window copying) (copying_frame world.windows copying) line
+accepted_affects world (calls.Making making) line = making_affects world.windows.window world.panels making line
+accepted_affects world (calls.Writing writing) line =
+    frame_affects world.windows.window world.panels (written_window writing) (writing_frame world.windows writing) line
+accepted_affects world (calls.Copying copying) line =
+    frame_affects world.windows.window world.panels (copied_window copying) (copying_frame world.windows copying) line
 accepted_affects world (calls.Query query) line = false
 accepted_affects world (calls.Stacking stacking) line = stacking_affects world stacking line
 accepted_affects world (calls.Refresh refresh) line = refresh_affects world.windows refresh line

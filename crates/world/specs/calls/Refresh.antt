@@ -11,7 +11,7 @@ use Rattle.cell.specs.declared.limits.TheConstants.{LAST_COLOUR}
 use Rattle.cell.specs.declared.refusal.Refusal.{Refusal}
 use Rattle.cell.specs.declared.refusal.Refusal.TheVariants.{BadPair, BadRectangle, IsPad, NoSuchWindow, NotPad, OffScreen, OutsideWindow}
 use Rattle.world.specs.Windows.{Drawing, Window, WindowMap, Windows, changed, is_missing}
-use Rattle.world.specs.Panels.{cell_on_screen, cursor_on_screen, holds, place_of, standard_screen, windows_from_top}
+use Rattle.world.specs.Panels.{cell_on_screen, cursor_on_screen, holds, place_of, windows_of_picture}
 use Rattle.world.specs.World.{VirtualScreen, World, picture, topmost_cursor}
 use Rattle.world.specs.calls.Copies.{copywin_drawing}
 use Rattle.world.specs.calls.Making.{is_pad}
@@ -95,7 +95,7 @@ after_pnoutrefresh world w py px top left bottom right = record world {
 
 -- the windows that make up the picture
 abbrev pub composed_windows : World → List ℕ
-composed_windows world = standard_screen ∷ windows_from_top world.panels
+composed_windows world = windows_of_picture world.panels
 
 abbrev pub with_unmarked : WindowMap → List ℕ → WindowMap
 with_unmarked window ws u = if list_any (λ w. w == u) ws then option_map unmarked (window u) else window u
