@@ -1,55 +1,75 @@
--- What mvderwin leaves as it is: windows that neither are the moved one nor derive from it.
-use Rattle.std.proofs.Common.{◌≡◌, ℕ, zero, suc, ◌+◌, Bool, true, false, if◌then◌else◌, ◌==◌, Option, Some, None, [], ◌∷◌, ap, refl, ◌∙◌}
+-- Where windows are as they were but for one: what each window shows that neither is that one nor derives from it.
+use Rattle.std.proofs.Common.{◌≡◌, ℕ, zero, suc, ◌+◌, false, ◌==◌, Option, Some, None, [], ◌∷◌, ap, refl, sym, ◌∙◌}
 use Rattle.std.specs.Prelude.{option_and_then}
-use Rattle.std.specs.Option.{option_map, option_map_or}
+use Rattle.std.specs.Option.{option_map_or}
 use Rattle.std.specs.List.{list_any}
 use Rattle.std.proofs.lemmas.Bool.{eqb-false, ne_eqb, or_parts}
 use Rattle.cell.specs.Glyphs.{blank}
-use Rattle.world.specs.Windows.{Backing, own_grid, part_of, Window, WindowMap, Windows, GridPlace, ancestors_within, cell_at, cell_in_grid, cell_of, changed, derives, leads, own, own_within, parent_number, window_limit}
-use Rattle.world.specs.calls.Making.{after_mvderwin, with_offset, with_part}
+use Rattle.world.specs.Windows.{Backing, own_grid, part_of, Window, WindowMap, Windows, GridPlace, ancestors_within, cell_at, cell_in_grid, cell_of, changed, derives, leads, own, own_within, parent_number, replaced, window_limit}
+use Rattle.world.specs.calls.Making.{after_mvderwin, with_part}
 
-module _ (window : WindowMap) (w : ℕ) (change : Window → Window) where
+pub changed-off : (window : WindowMap) (w : ℕ) (change : Window → Window) (v : ℕ) → (v ≡ w → ⊥) → changed window w change v ≡ window v
+changed-off window w change v other = let apart = ne_eqb v w other in rw apart refl
+
+pub replaced-off : (window : WindowMap) (w : ℕ) (o : Option Window) (v : ℕ) → (v ≡ w → ⊥) → replaced window w o v ≡ window v
+replaced-off window w o v other = let apart = ne_eqb v w other in rw apart refl
+
+module _ (new old : WindowMap) (w : ℕ) (same : (v : ℕ) → (v ≡ w → ⊥) → new v ≡ old v) where
   -- within n windows of the chain from window u on, which is another, none is window w
   abbrev Beside : ℕ → ℕ → Type 0
-  Beside n u = list_any (λ v. v == w) (ancestors_within n window u) ≡ false
+  Beside n u = list_any (λ v. v == w) (ancestors_within n old u) ≡ false
 
   abbrev Kept : ℕ → Type 0
-  Kept n = (u y x : ℕ) → (u ≡ w → ⊥) → Beside n u → own_within n (changed window w change) u y x ≡ own_within n window u y x
+  Kept n = (u y x : ℕ) → (u ≡ w → ⊥) → Beside n u → own_within n new u y x ≡ own_within n old u y x
 
-  leads-kept : (n : ℕ) → Kept n → (u y x : ℕ) (s : Backing) → list_any (λ v. v == w) (option_map_or (λ parent. parent ∷ ancestors_within n window parent) (parent_number s) []) ≡ false
-      → leads (own_within n (changed window w change)) u y x s ≡ leads (own_within n window) u y x s
+  leads-kept : (n : ℕ) → Kept n → (u y x : ℕ) (s : Backing) → list_any (λ v. v == w) (option_map_or (λ parent. parent ∷ ancestors_within n old parent) (parent_number s) []) ≡ false
+      → leads (own_within n new) u y x s ≡ leads (own_within n old) u y x s
   leads-kept n kept u y x (own_grid cells) h = refl
   leads-kept n kept u y x (part_of parent line column) h =
-      let parts = or_parts (parent == w) (list_any (λ v. v == w) (ancestors_within n window parent)) h in
+      let parts = or_parts (parent == w) (list_any (λ v. v == w) (ancestors_within n old parent)) h in
       kept parent (y + line) (x + column) (eqb-false parent w parts.0) parts.1
 
   then-kept : (n : ℕ) → Kept n → (u y x : ℕ) (o : Option Window)
-      → list_any (λ v. v == w) (option_map_or (λ parent. parent ∷ ancestors_within n window parent) (option_and_then (λ a. parent_number a.backing) o) []) ≡ false
-      → option_and_then (λ a. leads (own_within n (changed window w change)) u y x a.backing) o ≡ option_and_then (λ a. leads (own_within n window) u y x a.backing) o
+      → list_any (λ v. v == w) (option_map_or (λ parent. parent ∷ ancestors_within n old parent) (option_and_then (λ a. parent_number a.backing) o) []) ≡ false
+      → option_and_then (λ a. leads (own_within n new) u y x a.backing) o ≡ option_and_then (λ a. leads (own_within n old) u y x a.backing) o
   then-kept n kept u y x None h = refl
   then-kept n kept u y x (Some a) h = leads-kept n kept u y x a.backing h
 
-  own_within-kept : (n u y x : ℕ) → (u ≡ w → ⊥) → Beside n u → own_within n (changed window w change) u y x ≡ own_within n window u y x
+  own_within-kept : (n u y x : ℕ) → (u ≡ w → ⊥) → Beside n u → own_within n new u y x ≡ own_within n old u y x
   own_within-kept zero u y x other h = refl
-  own_within-kept (suc n) u y x other h = let apart = ne_eqb u w other in rw apart (then-kept n (own_within-kept n) u y x (window u) h)
+  own_within-kept (suc n) u y x other h =
+      ap (λ o. option_and_then (λ a. leads (own_within n new) u y x a.backing) o) (same u other) ∙ then-kept n (own_within-kept n) u y x (old u) h
 
--- ---- no grid changes
+  -- the grid isn't that window's either
+  abbrev Elsewhere : ℕ → Type 0
+  Elsewhere n = (u y x : ℕ) (p : GridPlace) → (u ≡ w → ⊥) → Beside n u → own_within n old u y x ≡ Some p → p.grid ≡ w → ⊥
 
-offset-cell : (y x : ℕ) (s : Backing) (line column : ℕ) → cell_of (with_offset y x s) line column ≡ cell_of s line column
-offset-cell y x (own_grid cells) line column = refl
-offset-cell y x (part_of parent top left) line column = refl
+  leads-elsewhere : (n : ℕ) → Elsewhere n → (u y x : ℕ) (p : GridPlace) (s : Backing) → (u ≡ w → ⊥)
+      → list_any (λ v. v == w) (option_map_or (λ parent. parent ∷ ancestors_within n old parent) (parent_number s) []) ≡ false
+      → leads (own_within n old) u y x s ≡ Some p → p.grid ≡ w → ⊥
+  leads-elsewhere n else u y x p (own_grid cells) other h found is = let here : u ≡ p.grid = cc in other (here ∙ is)
+  leads-elsewhere n else u y x p (part_of parent line column) other h found is =
+      let parts = or_parts (parent == w) (list_any (λ v. v == w) (ancestors_within n old parent)) h in
+      else parent (y + line) (x + column) p (eqb-false parent w parts.0) parts.1 found is
 
-part-cell : (y x : ℕ) (t : Bool) (o : Option Window) (line column : ℕ)
-    → option_map_or (λ a. cell_of a.backing line column) (if t then option_map (with_part y x) o else o) blank ≡ option_map_or (λ a. cell_of a.backing line column) o blank
-part-cell y x false o line column = refl
-part-cell y x true None line column = refl
-part-cell y x true (Some a) line column = offset-cell y x a.backing line column
+  then-elsewhere : (n : ℕ) → Elsewhere n → (u y x : ℕ) (p : GridPlace) (o : Option Window) → (u ≡ w → ⊥)
+      → list_any (λ v. v == w) (option_map_or (λ parent. parent ∷ ancestors_within n old parent) (option_and_then (λ a. parent_number a.backing) o) []) ≡ false
+      → option_and_then (λ a. leads (own_within n old) u y x a.backing) o ≡ Some p → p.grid ≡ w → ⊥
+  then-elsewhere n else u y x p None other h found is = cc
+  then-elsewhere n else u y x p (Some a) other h found is = leads-elsewhere n else u y x p a.backing other h found is
 
-grid-cell : (window : WindowMap) (w y x : ℕ) (o : Option GridPlace) → cell_in_grid (changed window w (with_part y x)) o ≡ cell_in_grid window o
-grid-cell window w y x None = refl
-grid-cell window w y x (Some p) = part-cell y x (p.grid == w) (window p.grid) p.line p.column
+  own_within-elsewhere : (n u y x : ℕ) (p : GridPlace) → (u ≡ w → ⊥) → Beside n u → own_within n old u y x ≡ Some p → p.grid ≡ w → ⊥
+  own_within-elsewhere zero u y x p other h found is = cc
+  own_within-elsewhere (suc n) u y x p other h found is = then-elsewhere n (own_within-elsewhere n) u y x p (old u) other h found is
 
-pub cell_at-beside : (windows : Windows) (w y x u v z : ℕ) → (u ≡ w → ⊥) → derives windows.window w u ≡ false → cell_at (after_mvderwin windows w y x).window u v z ≡ cell_at windows.window u v z
-cell_at-beside windows w y x u v z other apart =
-    ap (cell_in_grid (changed windows.window w (with_part y x))) (own_within-kept windows.window w (with_part y x) window_limit u v z other apart)
-    ∙ grid-cell windows.window w y x (own windows.window u v z)
+  pub cell_at-beside : (u y x : ℕ) → (u ≡ w → ⊥) → derives old w u ≡ false → cell_at new u y x ≡ cell_at old u y x
+  cell_at-beside u y x other apart = ap (cell_in_grid new) (own_within-kept window_limit u y x other apart) ∙ in-grid (own old u y x) refl where
+    in-grid : (o : Option GridPlace) → own old u y x ≡ o → cell_in_grid new o ≡ cell_in_grid old o
+    in-grid None found = refl
+    in-grid (Some p) found =
+        ap (λ o. option_map_or (λ a. cell_of a.backing p.line p.column) o blank) (same p.grid (λ is. own_within-elsewhere window_limit u y x p other apart found is))
+
+-- what mvderwin leaves as it is
+pub cell_at-moved : (windows : Windows) (w y x u v z : ℕ) → (u ≡ w → ⊥) → derives windows.window w u ≡ false → cell_at (after_mvderwin windows w y x).window u v z ≡ cell_at windows.window u v z
+cell_at-moved windows w y x u v z other apart =
+    cell_at-beside (after_mvderwin windows w y x).window windows.window w (changed-off windows.window w (with_part y x)) u v z other apart

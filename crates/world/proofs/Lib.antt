@@ -3,10 +3,13 @@ pub mod PutLaws
 pub mod FrameLaws
 pub mod RefreshLaws
 pub mod Below
+pub mod ViewLaws
 pub mod PanelLaws
 pub mod SharingLaws
 pub mod AncestorLaws
 pub mod PictureLaws
+pub mod LineLaws
+pub mod WritingLaws
 pub mod MoveLaws
 pub mod Sizes
 pub mod PlaceLaws

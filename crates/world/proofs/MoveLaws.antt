@@ -1,47 +1,33 @@
--- A derived window that is moved in its parent leaves the picture as it is on every line that the move doesn't affect.
-use Rattle.std.proofs.Common.{◌≡◌, ℕ, zero, suc, ◌-◌, Bool, true, false, if◌then◌else◌, ◌==◌, ◌&&◌, ◌||◌, Option, Some, None, IsSomeAnd, [], ◌∷◌, subst, ap, refl, sym, ◌∙◌}
-use Rattle.std.specs.Prelude.{find, option_and_then, reverse, unwrap_or}
+-- Making, deleting and moving windows: which places of the screen keep what the search finds there.
+use Rattle.std.proofs.Common.{◌≡◌, ℕ, zero, suc, ◌+◌, ◌-◌, ◌<◌, Bool, true, false, if◌then◌else◌, ◌==◌, ◌&&◌, ◌||◌, Option, Some, None, IsSome, IsSomeAnd, MatchOption, [], ◌∷◌, inl, inr, subst, ap, arith, refl, sym, ◌∙◌}
+use Rattle.std.specs.Prelude.{is_none, is_some, not, option_and_then, unwrap_or, ⊤}
 use Rattle.std.specs.Option.{option_map, option_map_or}
 use Rattle.std.specs.List.{list_any}
-use mathlib.Core.Path.{fun_ext}
-use Rattle.std.proofs.lemmas.Bool.{and_from, eqb-false, or_parts, false_from_ne_true}
-use Rattle.cell.specs.Pictures.{origin}
+use Rattle.std.proofs.lemmas.Bool.{and_cases, eqb-false, false_from_ne_true, or_from, or_parts, ne_eqb, true≢false}
+use Rattle.cell.specs.Limits.{is_no_size}
+use Rattle.cell.specs.Refusals.{first_of}
+use Rattle.cell.specs.declared.limits.TheConstants.{LARGEST_PAD, MOST_WINDOWS}
 use Rattle.cell.specs.declared.refusal.Refusal.{Refusal}
-use Rattle.world.specs.Windows.{Window, WindowMap, Windows, ancestors_within, cell_at, changed, derives, parent_number, parent_of, window_limit}
-use Rattle.world.specs.Panels.{Panels, cell_on_screen, found_from_top, has_line, holds_place, owner, panel_holds, place_of, screen_place, standard_screen, window_or_standard, windows_from_top}
-use Rattle.world.specs.Sound.{AreSoundWindows, IsStandardScreen}
-use Rattle.world.specs.calls.Making.{after_mvderwin, has_no_parent, is_own, mvderwin_refusal, with_part}
-use Rattle.world.specs.calls.Affected.{follows_on_line, move_affects}
-use Rattle.world.proofs.AncestorLaws.{cell_at-beside}
-use Rattle.world.proofs.PictureLaws.{found-in, holds-line}
+use Rattle.world.specs.Windows.{Backing, own_grid, part_of, GridPlace, Window, WindowMap, Windows, ancestors_within, changed, derives, is_missing, leads, own, own_within, parent_number, parent_of, replaced, window_limit}
+use Rattle.world.specs.Panels.{Panels, cell_on_screen, found_from_top, holds, holds_place, is_in_panel, place_of, screen_place, standard_screen, windows_from_top}
+use Rattle.world.specs.Sound.{AreSoundPanels, AreSoundWindows, IsSoundPanel, IsSoundWindow, IsStandardScreen}
+use Rattle.world.specs.calls.Dispatch.{after_making, making_refusal, next_window}
+use Rattle.world.specs.calls.Making.{after_mvderwin, after_mvwin, delwin_refusal, free_among, has_derived, has_no_parent, is_before, is_full, is_inside, is_no_pad, is_outside, is_own, is_pad, is_part_of, mvderwin_refusal, mvwin_refusal, new_number, numbered, part_tests, with_part, with_place}
+use Rattle.world.specs.calls.Places.{follows_at, making_shows_at, move_shows_at}
+use Rattle.world.proofs.AncestorLaws.{cell_at-beside, cell_at-moved, changed-off, replaced-off}
+use Rattle.world.proofs.Below.{any_below-some}
+use Rattle.world.proofs.PanelLaws.{in_panel-some}
+use Rattle.world.proofs.PlaceLaws.{free-step}
+use Rattle.world.proofs.ViewLaws.{backing_of, cell_at-same, found-same, holds-same, on_screen-same, outline_of, passes-none, same-if}
+use Rattle.world.specs.declared.call.Making.{Making}
+use Rattle.world.specs.declared.call.Making.TheVariants.{Newwin, Subwin, Derwin, Newpad, Subpad, Delwin, Mvwin, Mvderwin}
 
--- ---- the move leaves sizes and places, and so the owners
+-- ---- refusals
 
-module _ (window : WindowMap) (w v z : ℕ) where
-  part-if : {X : Type 0} (P : Option Window → X) → ((o : Option Window) → P (option_map (with_part v z) o) ≡ P o) → (t : Bool) (o : Option Window) → P (if t then option_map (with_part v z) o else o) ≡ P o
-  part-if P h true o = h o
-  part-if P h false o = refl
-
-  same-part : {X : Type 0} (P : Option Window → X) → ((o : Option Window) → P (option_map (with_part v z) o) ≡ P o) → (u : ℕ) → P (changed window w (with_part v z) u) ≡ P (window u)
-  same-part P h u = part-if P h (u == w) (window u)
-
-  part-place : (o : Option Window) → option_map_or screen_place (option_map (with_part v z) o) origin ≡ option_map_or screen_place o origin
-  part-place None = refl
-  part-place (Some b) = refl
-
-  part-holds : (y x : ℕ) (o : Option Window) → option_map_or (holds_place y x) (option_map (with_part v z) o) false ≡ option_map_or (holds_place y x) o false
-  part-holds y x None = refl
-  part-holds y x (Some b) = refl
-
-  pub place-part : (u : ℕ) → place_of (changed window w (with_part v z)) u ≡ place_of window u
-  place-part u = same-part (λ o. option_map_or screen_place o origin) part-place u
-
-  panel_holds-part : (panels : Panels) (y x p : ℕ) → panel_holds (changed window w (with_part v z)) panels y x p ≡ panel_holds window panels y x p
-  panel_holds-part panels y x p =
-      ap (λ (test : ℕ → Bool). option_map_or test (panels.window p) false) (fun_ext (λ u. same-part (λ o. option_map_or (holds_place y x) o false) (part-holds y x) u))
-
-  pub owner-part : (panels : Panels) (y x : ℕ) → owner (changed window w (with_part v z)) panels y x ≡ owner window panels y x
-  owner-part panels y x = ap (λ (test : ℕ → Bool). find test (reverse panels.visible)) (fun_ext (panel_holds-part panels y x))
+-- a call that isn't refused fails its first test, and isn't refused for the others
+pub passed : (test : Bool) (e : Refusal) (rest : Option Refusal) → (if test then Some e else rest) ≡ None → (test ≡ false) × (rest ≡ None)
+passed true e rest h = cc
+passed false e rest h = (refl, h)
 
 -- ---- the standard screen derives from none, and isn't moved
 
@@ -57,49 +43,263 @@ no_ancestors : (n : ℕ) (window : WindowMap) (u : ℕ) → parent_of window u �
 no_ancestors zero window u h = refl
 no_ancestors (suc n) window u h = ap (λ o. option_map_or (λ parent. parent ∷ ancestors_within n window parent) o []) h
 
-accepted : (missing own leaves : Bool) (e f g : Refusal) → (if missing then Some e else if own then Some f else if leaves then Some g else None) ≡ None → own ≡ true → ⊥
-accepted true own leaves e f g h is = cc
-accepted false true leaves e f g h is = cc
-accepted false false leaves e f g h is = cc
+standard-beside : (windows : Windows) (w : ℕ) → AreSoundWindows windows → derives windows.window w standard_screen ≡ false
+standard-beside windows w sound =
+    ap (list_any (λ u. u == w)) (no_ancestors window_limit windows.window standard_screen (standard-parent windows (windows.window standard_screen) sound.standard))
+
+-- ---- mvderwin
 
 module _ (windows : Windows) (panels : Panels) (w v z y x : ℕ) (sound : AreSoundWindows windows) (allowed : mvderwin_refusal windows w v z ≡ None) where
+  moved : WindowMap
+  moved = (after_mvderwin windows w v z).window
+
+  outline-moved : (u : ℕ) → outline_of (moved u) ≡ outline_of (windows.window u)
+  unfolding moved
+  outline-moved u = same-if (λ o. outline_of o) (with_part v z) (λ a. refl) (u == w) (windows.window u)
+
   other-standard : standard_screen ≡ w → ⊥
   other-standard same =
-      accepted _ (has_no_parent windows.window w) _ _ _ _ allowed
-      (subst (λ (u : ℕ). has_no_parent windows.window u ≡ true) same (standard-own windows (windows.window standard_screen) sound.standard))
+      let there = passed _ _ _ allowed in
+      let derived = passed (has_no_parent windows.window w) _ _ there.1 in
+      let standard : has_no_parent windows.window w ≡ true =
+      subst (λ (u : ℕ). has_no_parent windows.window u ≡ true) same (standard-own windows (windows.window standard_screen) sound.standard) in
+      absurd (true≢false (sym standard ∙ derived.0))
 
-  standard-beside : derives windows.window w standard_screen ≡ false
-  standard-beside =
-      ap (list_any (λ u. u == w)) (no_ancestors window_limit windows.window standard_screen (standard-parent windows (windows.window standard_screen) sound.standard))
+  moved-kept : (u : ℕ) → (u ≡ w → ⊥) → derives windows.window w u ≡ false → cell_on_screen moved u y x ≡ cell_on_screen windows.window u y x
+  unfolding moved
+  moved-kept u other beside =
+      on_screen-same moved windows.window u (outline-moved u) y x
+      (cell_at-moved windows w v z u (y - (place_of windows.window u).0) (x - (place_of windows.window u).1) other beside)
 
-  -- a window that the move doesn't reach
-  window-kept : (u : ℕ) → (u ≡ w → ⊥) → derives windows.window w u ≡ false
-      → cell_on_screen (after_mvderwin windows w v z).window u y x ≡ cell_on_screen windows.window u y x
-  window-kept u other beside =
-      ap (λ p. cell_at (after_mvderwin windows w v z).window u (y - p.0) (x - p.1)) (place-part windows.window w v z u)
-      ∙ cell_at-beside windows w v z u (y - (place_of windows.window u).0) (x - (place_of windows.window u).1) other beside
+  stays : (u : ℕ) → holds windows.window u y x ≡ true → follows_at windows.window w y x u ≡ false → cell_on_screen moved u y x ≡ cell_on_screen windows.window u y x
+  stays u there fails = elim (and_cases (u == w || derives windows.window w u) (holds windows.window u y x) fails) [
+    | inl apart ↦ let parts = or_parts (u == w) (derives windows.window w u) apart in moved-kept u (eqb-false u w parts.0) parts.1
+    | inr elsewhere ↦ let never : true ≡ false = sym there ∙ elsewhere in cc
+  ]
 
-  -- a window with the line isn't reached, where the line isn't affected
-  on-line : (u : ℕ) (o : Option Window) → option_map_or (holds_place y x) o false ≡ true → ((u == w || derives windows.window w u) && option_map_or (has_line y) o false) ≡ false
-      → (u == w || derives windows.window w u) ≡ false
-  on-line u None there free = cc
-  on-line u (Some b) there free = false_from_ne_true (u == w || derives windows.window w u) (λ moved.
-      let line = holds-line y x b.place b.lines b.columns there in
-      let affected : true ≡ false = sym (and_from (u == w || derives windows.window w u) (has_line y b) moved line.0) ∙ free in
-      cc)
+  pub found-moved : move_shows_at windows.window panels w y x ≡ false → found_from_top (after_mvderwin windows w v z).window panels y x ≡ found_from_top windows.window panels y x
+  unfolding moved
+  found-moved free =
+      found-same moved windows.window panels y x (follows_at windows.window w y x) free (λ p u is. holds-same moved windows.window u (outline-moved u) y x)
+      (λ p u is there fails. stays u there fails) (moved-kept standard_screen other-standard (standard-beside windows w sound))
 
-  owned-kept : (o : Option ℕ) → owner windows.window panels y x ≡ o → list_any (follows_on_line windows.window w y) (windows_from_top panels) ≡ false
-      → cell_on_screen (after_mvderwin windows w v z).window (window_or_standard panels o) y x ≡ cell_on_screen windows.window (window_or_standard panels o) y x
-  owned-kept None found free = window-kept standard_screen other-standard standard-beside
-  owned-kept (Some p) found free =
-      let owns = found-in windows.window panels y x (follows_on_line windows.window w y) p (reverse panels.visible) free found in
-      let same : unwrap_or (panels.window p) standard_screen ≡ owns.number = ap (λ o. unwrap_or o standard_screen) owns.is in
-      let apart = on-line owns.number (windows.window owns.number) owns.there owns.fails in
-      let parts = or_parts (owns.number == w) (derives windows.window w owns.number) apart in
-      rw same (window-kept owns.number (eqb-false owns.number w parts.0) parts.1)
+-- ---- a window in no panel, from which none in a panel derives: whatever becomes of it, no place shows another cell
 
-  pub picture-moved : move_affects windows.window panels w y ≡ false
-      → found_from_top (after_mvderwin windows w v z).window panels y x ≡ found_from_top windows.window panels y x
-  picture-moved free =
-      ap (λ o. cell_on_screen (after_mvderwin windows w v z).window (window_or_standard panels o) y x) (owner-part windows.window w v z panels y x)
-      ∙ owned-kept (owner windows.window panels y x) refl free
+module _ (new old : WindowMap) (panels : Panels) (w : ℕ) (same : (v : ℕ) → (v ≡ w → ⊥) → new v ≡ old v) where
+  abbrev pub Apart : ℕ → Type 0
+  Apart u = (u ≡ w → ⊥) × (derives old w u ≡ false)
+
+  apart-kept : (y x u : ℕ) → Apart u → cell_on_screen new u y x ≡ cell_on_screen old u y x
+  apart-kept y x u apart =
+      on_screen-same new old u (ap (λ o. outline_of o) (same u apart.0)) y x
+      (cell_at-beside new old w same u (y - (place_of old u).0) (x - (place_of old u).1) apart.0 apart.1)
+
+  pub found-apart : ((p u : ℕ) → panels.window p ≡ Some u → Apart u) → Apart standard_screen
+      → (y x : ℕ) → found_from_top new panels y x ≡ found_from_top old panels y x
+  found-apart apart standard y x =
+      found-same new old panels y x (λ u. false) (passes-none (windows_from_top panels))
+      (λ p u is. let other = apart p u is in holds-same new old u (ap (λ o. outline_of o) (same u other.0)) y x)
+      (λ p u is there fails. apart-kept y x u (apart p u is)) (apart-kept y x standard_screen standard)
+
+-- ---- what panels have
+
+panel-sound : (window : WindowMap) (panels : Panels) (p u : ℕ) (o : Option ℕ) → o ≡ Some u → MatchOption o ⊤ (IsSoundPanel window panels p) → IsSoundPanel window panels p u
+panel-sound window panels p u None is h = cc
+panel-sound window panels p u (Some v) is h = let same : v ≡ u = cc in subst (λ (k : ℕ). IsSoundPanel window panels p k) same h
+
+pub sound-panel : (window : WindowMap) (panels : Panels) → AreSoundPanels window panels → (p u : ℕ) → panels.window p ≡ Some u → IsSoundPanel window panels p u
+sound-panel window panels sound p u is = panel-sound window panels p u (panels.window p) is (sound.each p)
+
+not-in-panel : (window : WindowMap) (panels : Panels) (w : ℕ) → AreSoundPanels window panels → is_in_panel panels w ≡ false
+    → (p u : ℕ) → panels.window p ≡ Some u → u ≡ w → ⊥
+not-in-panel window panels w sound none p u is same =
+    let panel = sound-panel window panels sound p u is in
+    let some = in_panel-some panels w p panel.number (is ∙ ap Some same) in
+    let never : true ≡ false = sym some ∙ none in
+    cc
+
+there-some : (o : Option Window) (P : Window → Type 0) → IsSomeAnd o P → IsSome o
+there-some None P h = elim h [ ]
+there-some (Some a) P h = refl
+
+-- ---- delwin
+
+module _ (window : WindowMap) (w : ℕ) (none : (v : ℕ) (a : Window) → window v ≡ Some a → is_part_of w a.backing ≡ false) where
+  abbrev Underived : ℕ → Type 0
+  Underived n = (u : ℕ) → list_any (λ v. v == w) (ancestors_within n window u) ≡ false
+
+  backing-underived : (n : ℕ) → Underived n → (s : Backing) → is_part_of w s ≡ false
+      → list_any (λ v. v == w) (option_map_or (λ parent. parent ∷ ancestors_within n window parent) (parent_number s) []) ≡ false
+  backing-underived n before (own_grid cells) h = refl
+  backing-underived n before (part_of parent line column) h = or_from (parent == w) (list_any (λ v. v == w) (ancestors_within n window parent)) h (before parent)
+
+  window-underived : (n : ℕ) → Underived n → (u : ℕ) (o : Option Window) → window u ≡ o
+      → list_any (λ v. v == w) (option_map_or (λ parent. parent ∷ ancestors_within n window parent) (option_and_then (λ a. parent_number a.backing) o) []) ≡ false
+  window-underived n before u None is = refl
+  window-underived n before u (Some a) is = backing-underived n before a.backing (none u a is)
+
+  underived : (n u : ℕ) → list_any (λ v. v == w) (ancestors_within n window u) ≡ false
+  underived zero u = refl
+  underived (suc n) u = window-underived n (underived n) u (window u) refl
+
+window-sound : (windows : Windows) (v : ℕ) (a : Window) (o : Option Window) → o ≡ Some a → MatchOption o ⊤ (IsSoundWindow windows v) → IsSoundWindow windows v a
+window-sound windows v a None is h = cc
+window-sound windows v a (Some b) is h = let same : b ≡ a = cc in subst (λ (c : Window). IsSoundWindow windows v c) same h
+
+no-part : (windows : Windows) (w : ℕ) → AreSoundWindows windows → has_derived windows.window w ≡ false
+    → (v : ℕ) (a : Window) → windows.window v ≡ Some a → is_part_of w a.backing ≡ false
+unfolding window_limit
+no-part windows w sound none v a is = false_from_ne_true (is_part_of w a.backing) (λ derives_v.
+    let number = (window-sound windows v a (windows.window v) is (sound.each v)).number in
+    let few : v < MOST_WINDOWS + 1 = omega arith in
+    let test : ℕ → Bool = λ u. option_map_or (λ b. is_part_of w b.backing) (windows.window u) false in
+    let some : has_derived windows.window w ≡ true = any_below-some (MOST_WINDOWS + 1) test v few (ap (λ o. option_map_or (λ b. is_part_of w b.backing) o false) is ∙ derives_v) in
+    let never : true ≡ false = sym some ∙ none in
+    cc)
+
+found-deleted : (windows : Windows) (panels : Panels) (w y x : ℕ) → AreSoundWindows windows → AreSoundPanels windows.window panels
+    → delwin_refusal windows (is_in_panel panels w) w ≡ None → found_from_top (numbered windows w None).window panels y x ≡ found_from_top windows.window panels y x
+found-deleted windows panels w y x sound panels_sound allowed =
+    let there = passed _ _ _ allowed in
+    let other = passed (w == standard_screen) _ _ there.1 in
+    let free = passed (is_in_panel panels w) _ _ other.1 in
+    let alone = passed (has_derived windows.window w) _ _ free.1 in
+    let none : (u : ℕ) → derives windows.window w u ≡ false = λ u. underived windows.window w (no-part windows w sound alone.0) window_limit u in
+    found-apart (numbered windows w None).window windows.window panels w (replaced-off windows.window w None)
+    (λ p u is. (not-in-panel windows.window panels w panels_sound free.0 p u is, none u))
+    (λ same. eqb-false w standard_screen other.0 (sym same), none standard_screen) y x
+
+-- ---- a new window has a number that no window had
+
+module _ (window : WindowMap) (n : ℕ) (free : window n ≡ None) where
+  nowhere : (k y x : ℕ) → own_within k window n y x ≡ None
+  nowhere zero y x = refl
+  nowhere (suc k) y x = ap (λ o. option_and_then (λ a. leads (own_within k window) n y x a.backing) o) free
+
+  other-parent : (k parent y x : ℕ) (p : GridPlace) → own_within k window parent y x ≡ Some p → parent ≡ n → ⊥
+  other-parent k parent y x p found same =
+      let lost : own_within k window parent y x ≡ None = subst (λ (v : ℕ). own_within k window v y x ≡ None) (sym same) (nowhere k y x) in
+      let never : Some p ≡ None = sym found ∙ lost in
+      cc
+
+  abbrev Leading : ℕ → Type 0
+  Leading k = (u y x : ℕ) (p : GridPlace) → own_within k window u y x ≡ Some p → list_any (λ v. v == n) (ancestors_within k window u) ≡ false
+
+  backing-leading : (k : ℕ) → Leading k → (u y x : ℕ) (p : GridPlace) (s : Backing) → leads (own_within k window) u y x s ≡ Some p
+      → list_any (λ v. v == n) (option_map_or (λ parent. parent ∷ ancestors_within k window parent) (parent_number s) []) ≡ false
+  backing-leading k before u y x p (own_grid cells) found = refl
+  backing-leading k before u y x p (part_of parent line column) found =
+      or_from (parent == n) (list_any (λ v. v == n) (ancestors_within k window parent)) (ne_eqb parent n (other-parent k parent (y + line) (x + column) p found))
+      (before parent (y + line) (x + column) p found)
+
+  window-leading : (k : ℕ) → Leading k → (u y x : ℕ) (p : GridPlace) (o : Option Window) → option_and_then (λ a. leads (own_within k window) u y x a.backing) o ≡ Some p
+      → list_any (λ v. v == n) (option_map_or (λ parent. parent ∷ ancestors_within k window parent) (option_and_then (λ a. parent_number a.backing) o) []) ≡ false
+  window-leading k before u y x p None found = cc
+  window-leading k before u y x p (Some a) found = backing-leading k before u y x p a.backing found
+
+  leading : (k u y x : ℕ) (p : GridPlace) → own_within k window u y x ≡ Some p → list_any (λ v. v == n) (ancestors_within k window u) ≡ false
+  leading zero u y x p found = cc
+  leading (suc k) u y x p found = window-leading k (leading k) u y x p (window u) found
+
+  leading-some : (u : ℕ) (o : Option GridPlace) → own window u 0 0 ≡ o → IsSome o → derives window n u ≡ false
+  leading-some u None found some = cc
+  leading-some u (Some p) found some = leading window_limit u 0 0 p found
+
+free-number : (n k : ℕ) (window : WindowMap) (w : ℕ) → free_among n k window ≡ Some w → window w ≡ None
+free-number zero k window w is = cc
+free-number (suc n) k window w is = elim (free-step (window k) k w (free_among n (k + 1) window) is) [
+  | inl both ↦ subst (λ (v : ℕ). window v ≡ None) both.0 both.1
+  | inr rest ↦ free-number n (k + 1) window w rest
+]
+
+next-free : (window : WindowMap) (o : Option ℕ) → new_number window ≡ o → is_none o ≡ false → window (unwrap_or o standard_screen) ≡ None
+next-free window None is full = cc
+next-free window (Some n) is full = free-number (window_limit - 1) 1 window n is
+
+chain-ends : (windows : Windows) (u : ℕ) (o : Option Window) → MatchOption o ⊤ (IsSoundWindow windows u) → IsSome o → IsSome (own windows.window u 0 0)
+chain-ends windows u None h some = cc
+chain-ends windows u (Some a) h some = h.chain_ends
+
+found-new : (windows : Windows) (panels : Panels) (o : Option Window) (y x : ℕ) → AreSoundWindows windows → AreSoundPanels windows.window panels → is_full windows.window ≡ false
+    → found_from_top (numbered windows (next_window windows) o).window panels y x ≡ found_from_top windows.window panels y x
+found-new windows panels o y x sound panels_sound full =
+    found-apart (numbered windows (next_window windows) o).window windows.window panels (next_window windows) (replaced-off windows.window (next_window windows) o)
+    (λ p u is. there u (there-some (windows.window u) _ (sound-panel windows.window panels panels_sound p u is).window_is))
+    (there standard_screen (there-some (windows.window standard_screen) _ sound.standard)) y x where
+      free : windows.window (next_window windows) ≡ None
+      free = next-free windows.window (new_number windows.window) refl full
+
+      there : (u : ℕ) → IsSome (windows.window u) → (u ≡ next_window windows → ⊥) × (derives windows.window (next_window windows) u ≡ false)
+      there u some = (
+        λ same.
+            let none : is_some (windows.window u) ≡ false = ap (λ (o : Option Window). is_some o) (ap windows.window same ∙ free) in
+            let never : true ≡ false = sym some ∙ none in
+            cc,
+        leading-some windows.window (next_window windows) free u (own windows.window u 0 0) refl (chain-ends windows u (windows.window u) (sound.each u) some),
+      )
+
+-- ---- mvwin
+
+module _ (windows : Windows) (w v z : ℕ) where
+  backing-placed : (u : ℕ) → backing_of ((after_mvwin windows w v z).window u) ≡ backing_of (windows.window u)
+  backing-placed u = same-if (λ o. backing_of o) (with_place v z) (λ a. refl) (u == w) (windows.window u)
+
+  outline-placed : (u : ℕ) → (u ≡ w → ⊥) → outline_of ((after_mvwin windows w v z).window u) ≡ outline_of (windows.window u)
+  outline-placed u other = ap (λ o. outline_of o) (changed-off windows.window w (with_place v z) u other)
+
+  pub holds-placed : (y x u : ℕ) → (u ≡ w → ⊥) → holds (after_mvwin windows w v z).window u y x ≡ holds windows.window u y x
+  holds-placed y x u other = holds-same (after_mvwin windows w v z).window windows.window u (outline-placed u other) y x
+
+  pub cell-placed : (y x u : ℕ) → (u ≡ w → ⊥) → cell_on_screen (after_mvwin windows w v z).window u y x ≡ cell_on_screen windows.window u y x
+  cell-placed y x u other =
+      on_screen-same (after_mvwin windows w v z).window windows.window u (outline-placed u other) y x
+      (cell_at-same (after_mvwin windows w v z).window windows.window backing-placed u (y - (place_of windows.window u).0) (x - (place_of windows.window u).1))
+
+found-placed : (windows : Windows) (panels : Panels) (w v z y x : ℕ) → AreSoundPanels windows.window panels → mvwin_refusal windows (is_in_panel panels w) w v z ≡ None
+    → found_from_top (after_mvwin windows w v z).window panels y x ≡ found_from_top windows.window panels y x
+found-placed windows panels w v z y x sound allowed =
+    let there = passed _ _ _ allowed in
+    let other = passed (w == standard_screen) _ _ there.1 in
+    let window = passed _ _ _ other.1 in
+    let free = passed (is_in_panel panels w) _ _ window.1 in
+    let apart : (p u : ℕ) → panels.window p ≡ Some u → u ≡ w → ⊥ = not-in-panel windows.window panels w sound free.0 in
+    found-same (after_mvwin windows w v z).window windows.window panels y x (λ u. false) (passes-none (windows_from_top panels))
+    (λ p u is. holds-placed windows w v z y x u (apart p u is)) (λ p u is here fails. cell-placed windows w v z y x u (apart p u is))
+    (cell-placed windows w v z y x standard_screen (λ same. eqb-false w standard_screen other.0 (sym same)))
+
+-- ---- each call
+
+-- a call that derives, and isn't refused, finds a free number
+part-full : (windows : Windows) (w nlines ncols y x : ℕ) → first_of (part_tests windows w nlines ncols y x) ≡ None → is_full windows.window ≡ false
+part-full windows w nlines ncols y x allowed =
+    let inside = passed (is_outside windows.window w nlines ncols y x) _ _ allowed in
+    (passed (is_full windows.window) _ _ inside.1).0
+
+pub found-making : (windows : Windows) (panels : Panels) (making : Making) (y x : ℕ) → AreSoundWindows windows → AreSoundPanels windows.window panels
+    → making_refusal windows (is_in_panel panels) making ≡ None → making_shows_at windows.window panels making y x ≡ false
+    → found_from_top (after_making windows making).window panels y x ≡ found_from_top windows.window panels y x
+found-making windows panels (Newwin nlines ncols line column) y x sound panels_sound allowed free =
+    let inside = passed (not (is_inside nlines windows.lines line && is_inside ncols windows.columns column)) _ _ allowed in
+    let full = passed (is_full windows.window) _ _ inside.1 in
+    found-new windows panels _ y x sound panels_sound full.0
+found-making windows panels (Subwin win nlines ncols line column) y x sound panels_sound allowed free =
+    let there = passed (is_missing windows.window win.0) _ _ allowed in
+    let pad = passed (is_pad windows.window win.0) _ _ there.1 in
+    let before = passed (is_before windows.window win.0 line column) _ _ pad.1 in
+    let full = part-full windows win.0 nlines ncols (line - (place_of windows.window win.0).0) (column - (place_of windows.window win.0).1) before.1 in
+    found-new windows panels _ y x sound panels_sound full
+found-making windows panels (Derwin win nlines ncols line column) y x sound panels_sound allowed free =
+    let there = passed (is_missing windows.window win.0) _ _ allowed in
+    let pad = passed (is_pad windows.window win.0) _ _ there.1 in
+    found-new windows panels _ y x sound panels_sound (part-full windows win.0 nlines ncols line column pad.1)
+found-making windows panels (Newpad nlines ncols) y x sound panels_sound allowed free =
+    let size = passed (is_no_size LARGEST_PAD nlines || is_no_size LARGEST_PAD ncols) _ _ allowed in
+    let full = passed (is_full windows.window) _ _ size.1 in
+    found-new windows panels _ y x sound panels_sound full.0
+found-making windows panels (Subpad pad nlines ncols line column) y x sound panels_sound allowed free =
+    let there = passed (is_missing windows.window pad.0) _ _ allowed in
+    let kind = passed (is_no_pad windows.window pad.0) _ _ there.1 in
+    found-new windows panels _ y x sound panels_sound (part-full windows pad.0 nlines ncols line column kind.1)
+found-making windows panels (Delwin win) y x sound panels_sound allowed free = found-deleted windows panels win.0 y x sound panels_sound allowed
+found-making windows panels (Mvwin win line column) y x sound panels_sound allowed free = found-placed windows panels win.0 line column y x panels_sound allowed
+found-making windows panels (Mvderwin win line column) y x sound panels_sound allowed free = found-moved windows panels win.0 line column y x sound allowed free

@@ -147,7 +147,7 @@ places-copying windows (IsWintouched win) = λ u. refl
 -- ---- making
 
 -- A new window has a free number, or where all are taken, that of the standard screen: no other window with a place goes.
-free-step : (a : Option Window) (k w : ℕ) (rest : Option ℕ) → (if is_none a then Some k else rest) ≡ Some w → ((k ≡ w) × (a ≡ None)) ⊎ (rest ≡ Some w)
+pub free-step : (a : Option Window) (k w : ℕ) (rest : Option ℕ) → (if is_none a then Some k else rest) ≡ Some w → ((k ≡ w) × (a ≡ None)) ⊎ (rest ≡ Some w)
 free-step None k w rest h = inl (cc, refl)
 free-step (Some a) k w rest h = inr h
 

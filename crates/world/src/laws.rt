@@ -66,6 +66,49 @@ pub fn kept_picture()
         → found_from_top (after_mvderwin windows w v z).window panels y x ≡ found_from_top windows.window panels y x }
 {}
 
+/// A place that a call affects is on a line that it affects.
+pub fn place_on_line()
+    ensures written { (window : WindowMap) (panels : Panels) (w : ℕ) (frame : Option Frame) (y x : ℕ)
+        → frame_shows_at window panels w frame y x ≡ true → frame_affects window panels w frame y ≡ true }
+    ensures made { (window : WindowMap) (panels : Panels) (making : Making) (y x : ℕ)
+        → making_shows_at window panels making y x ≡ true → making_affects window panels making y ≡ true }
+    ensures stacked { (world : World) (stacking : Stacking) (y x : ℕ)
+        → stacking_shows_at world stacking y x ≡ true → stacking_affects world stacking y ≡ true }
+    ensures refreshed { (windows : Windows) (refresh : Refresh) (y x : ℕ) → x < windows.columns
+        → refresh_shows_at windows.window refresh y x ≡ true → refresh_affects windows refresh y ≡ true }
+    ensures called { (world : World) (call : Call) (y x : ℕ) → x < world.windows.columns
+        → affects_place world call y x ≡ true → accepted_affects world call y ≡ true }
+{}
+
+/// A call that writes changes the picture at most where its frame is shown.
+pub fn kept_by_writing()
+    ensures { (windows : Windows) (panels : Panels) (writing : Writing) (y x : ℕ) → AreSoundWindows windows → y < windows.lines → x < windows.columns
+        → frame_shows_at windows.window panels (written_window writing) (writing_frame windows writing) y x ≡ false
+        → found_from_top (after_writing windows writing).window panels y x ≡ found_from_top windows.window panels y x }
+{}
+
+/// A copy changes the picture at most where its frame is shown, and a call on marks nowhere.
+pub fn kept_by_copying()
+    ensures { (windows : Windows) (panels : Panels) (copying : Copying) (y x : ℕ) → AreSoundWindows windows → y < windows.lines → x < windows.columns
+        → frame_shows_at windows.window panels (copied_window copying) (copying_frame windows copying) y x ≡ false
+        → found_from_top (after_copying windows copying).window panels y x ≡ found_from_top windows.window panels y x }
+{}
+
+/// mvderwin changes the picture at most where a visible panel's window shows other cells then; making, deleting and moving windows that are
+/// in no panel changes it nowhere.
+pub fn kept_by_making()
+    ensures { (windows : Windows) (panels : Panels) (making : Making) (y x : ℕ) → AreSoundWindows windows → AreSoundPanels windows.window panels
+        → making_refusal windows (is_in_panel panels) making ≡ None → making_shows_at windows.window panels making y x ≡ false
+        → found_from_top (after_making windows making).window panels y x ≡ found_from_top windows.window panels y x }
+{}
+
+/// Refreshing changes the picture nowhere: it changes marks, the virtual screen and colours.
+pub fn kept_by_refresh()
+    ensures { (world : World) (refresh : Refresh) (y x : ℕ)
+        → found_from_top (world_after world (Call.Refresh refresh)).windows.window (world_after world (Call.Refresh refresh)).panels y x
+        ≡ found_from_top world.windows.window world.panels y x }
+{}
+
 /// Where a derived window is moved in its parent, each window that neither is it nor derives from it shows the cells that it showed.
 pub fn kept_by_mvderwin()
     ensures { (windows : Windows) (w y x u v z : ℕ) → (u ≡ w → ⊥) → derives windows.window w u ≡ false

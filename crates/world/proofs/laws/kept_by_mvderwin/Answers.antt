@@ -1,5 +1,5 @@
-use Rattle.world.proofs.AncestorLaws.{cell_at-beside}
+use Rattle.world.proofs.AncestorLaws.{cell_at-moved}
 use Rattle.world.proofs.laws.kept_by_mvderwin.Goals as goal
 
 pub returns : goal.returns
-returns c = cell_at-beside
+returns c = cell_at-moved

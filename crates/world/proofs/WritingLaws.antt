@@ -1,0 +1,250 @@
+-- A call that writes, and a copy, leaves the picture as it is at every place of the screen where its frame isn't shown.
+use Rattle.std.proofs.Common.{◌≡◌, ℕ, ◌+◌, ◌-◌, ◌<◌, Bool, true, false, if◌then◌else◌, ◌==◌, ◌||◌, nat_lt, Option, Some, None, List, [], ◌∷◌, ap, refl, sym, ◌∙◌}
+use Rattle.std.specs.Prelude.{option_and_then}
+use Rattle.std.specs.Option.{option_map, option_map_or}
+use mathlib.Core.Path.{fun_ext}
+use Rattle.cell.specs.Pictures.{Place, origin}
+use Rattle.world.specs.Windows.{Drawing, Window, WindowMap, Windows, changed, derives, own, put, put_from, put_windows}
+use Rattle.world.specs.Settings.{set, set_in, with_cursor}
+use Rattle.world.specs.Drawings.{at_place, to_end_of_line, written_glyph}
+use Rattle.world.specs.Frames.{frame_of, joined}
+use Rattle.world.specs.Panels.{Panels, found_from_top, holds, standard_screen}
+use Rattle.world.specs.Sound.{AreSoundWindows}
+use Rattle.world.specs.calls.Affected.{copied_window, copying_frame, writing_frame, written_window}
+use Rattle.world.specs.calls.Copies.{common_copied, copywin_drawing}
+use Rattle.world.specs.calls.Dispatch.{after_copying, after_writing}
+use Rattle.world.specs.calls.Marks.{all_marked, lines_marked, shows_touched_of, touching}
+use Rattle.world.specs.calls.Places.{frame_shows_at}
+use Rattle.world.specs.calls.writing.Characters.{addch_frame, addstr_frame, after_addch, after_addstr, backspace, carriage_return, character_frame, character_printed, delch_drawing, drawn_to, insch_drawing, is_last_line, line_ended, line_ended_frame, newline, next_line_frame, region_up, scrolls, to_next_line, typed_frame, typed_in}
+use Rattle.world.specs.calls.writing.Editing.{after_drawing, after_erase, clrtobot_drawing, clrtoeol_drawing, deleteln_drawing, drawing_frame, erase_drawing, erase_frame, insertln_drawing, scrl_drawing}
+use Rattle.world.proofs.PictureLaws.{SameView, found-put, frame_shows-same, joined-free, outline-put, standard-holds}
+use Rattle.world.proofs.ViewLaws.{SameCells, backing_of, changed-cells, found-dressed, holds-same, outline, outline_of, own-same, same-if, set-cells}
+use Rattle.world.proofs.WindowLaws.{own-put}
+use Rattle.cell.specs.declared.window.Frame.{Frame}
+use Rattle.world.specs.declared.call.Copying.{Copying}
+use Rattle.world.specs.declared.call.Copying.TheVariants.{Overlay, Overwrite, Copywin, Touchwin, Untouchwin, Touchline, Touchln, Syncup, Syncdown, IsLinetouched, IsWintouched}
+use Rattle.world.specs.declared.call.Writing.{Writing}
+use Rattle.world.specs.declared.call.Writing.TheVariants.{Move, Addch, Addstr, Insch, Delch, Insertln, Deleteln, Erase, Clear, Clrtoeol, Clrtobot, Scrl, Setscrreg, Scrollok, Clearok, Attrset, Attron, Attroff, Bkgdset, ColorSet, Bkgdpair}
+use Rattle.world.specs.declared.settings.Settings.{Settings}
+
+-- ---- what stays
+
+cells-view : (new old : WindowMap) → SameCells new old → SameView new old
+cells-view new old same = record { outlines = same.outlines; places = own-same new old same.backings }
+
+put-view : (window : WindowMap) (w : ℕ) (f : Drawing) → SameView (put_windows window w f) window
+put-view window w f = record { outlines = outline-put window w f; places = own-put window w f }
+
+-- ---- what a call does that writes in a frame
+
+module _ (panels : Panels) (w y x : ℕ) where
+  -- from one state of the windows to another, in which the frame of window w was written
+  record Writes (old : Windows) (frame : Option Frame) (new : Windows) : Type 0 where
+    view : SameView new.window old.window
+    kept : holds old.window standard_screen y x ≡ true → frame_shows_at old.window panels w frame y x ≡ false
+        → found_from_top new.window panels y x ≡ found_from_top old.window panels y x
+
+  -- nothing
+  nothing-written : (old new : Windows) (frame : Option Frame) → SameCells new.window old.window → Writes old frame new
+  nothing-written old new frame same = record {
+    view = cells-view new.window old.window same;
+    kept = λ standard free. found-dressed new.window old.window same panels y x;
+  }
+
+  as-it-was : (old : Windows) (frame : Option Frame) → Writes old frame old
+  as-it-was old frame = nothing-written old old frame (record { outlines = λ u. refl; backings = λ u. refl })
+
+  -- a drawing, in a window of the size of a
+  drawn : (old : Windows) (a : Window) (f : Drawing) → outline_of (old.window w) ≡ Some (outline a) → Writes old (frame_of a f) (put old w f)
+  drawn old a f size = record { view = put-view old.window w f; kept = found-put old.window panels w a f y x size }
+
+  -- one frame and then another
+  and-then : (old middle new : Windows) (one other : Option Frame) → Writes old one middle → Writes middle other new → Writes old (joined one other) new
+  and-then old middle new one other first second = record {
+    view = record {
+      outlines = λ u. second.view.outlines u ∙ first.view.outlines u;
+      places = λ u v z. second.view.places u v z ∙ first.view.places u v z;
+    };
+    kept = λ standard free.
+        let both = joined-free old.window panels w y x one other free in
+        second.kept (holds-same middle.window old.window standard_screen (first.view.outlines standard_screen) y x ∙ standard)
+        (frame_shows-same middle.window old.window first.view panels w other y x ∙ both.1)
+        ∙ first.kept standard both.0;
+  }
+
+  -- and then settings
+  and-set : (old middle : Windows) (frame : Option Frame) (change : Settings → Settings) → Writes old frame middle → Writes old frame (set middle w change)
+  and-set old middle frame change first =
+      let settings = set-cells middle w change in record {
+        view = record {
+          outlines = λ u. settings.outlines u ∙ first.view.outlines u;
+          places = λ u v z. own-same (set middle w change).window middle.window settings.backings u v z ∙ first.view.places u v z;
+        };
+        kept = λ standard free. found-dressed (set middle w change).window middle.window settings panels y x ∙ first.kept standard free;
+      }
+
+  settings-set : (old : Windows) (frame : Option Frame) (change : Settings → Settings) → Writes old frame (set old w change)
+  settings-set old frame change = and-set old old frame change (as-it-was old frame)
+
+  chosen : (b : Bool) (old one other : Windows) (f g : Option Frame) → Writes old f one → Writes old g other → Writes old (if b then f else g) (if b then one else other)
+  chosen true old one other f g h k = h
+  chosen false old one other f g h k = k
+
+  in-window : (old : Windows) (o : Option Window) (frame : Window → Option Frame) (change : Window → Windows)
+      → ((a : Window) → o ≡ Some a → Writes old (frame a) (change a)) → Writes old (option_and_then frame o) (option_map_or change o old)
+  in-window old None frame change h = as-it-was old None
+  in-window old (Some a) frame change h = h a refl
+
+  -- ---- characters
+
+  module _ (a : Window) where
+    -- the window has the size of a
+    abbrev Sized : Windows → Type 0
+    Sized windows = outline_of (windows.window w) ≡ Some (outline a)
+
+    sized-put : (windows : Windows) (f : Drawing) → Sized windows → Sized (put windows w f)
+    sized-put windows f size = outline-put windows.window w f w ∙ size
+
+    to-next-line : (windows : Windows) (place : Place) → Sized windows → Writes windows (next_line_frame windows.window w a) (to_next_line windows w a place)
+    to-next-line windows place size =
+        let below : Windows = set windows w (with_cursor (a.settings.cursor.0 + 1, 0)) in
+        let here : Windows = set windows w (with_cursor place) in
+        let region : Drawing = region_up windows.window w a in
+        chosen (scrolls a) windows (drawn_to windows w region (a.settings.cursor.0, 0)) (if is_last_line a a.settings.cursor.0 then here else below) (frame_of a region) None
+        (and-set windows (put windows w region) (frame_of a region) (with_cursor (a.settings.cursor.0, 0)) (drawn windows a region size))
+        (unframed (is_last_line a a.settings.cursor.0) here below (settings-set windows None (with_cursor place))
+        (settings-set windows None (with_cursor (a.settings.cursor.0 + 1, 0)))) where
+          unframed : (b : Bool) (one other : Windows) → Writes windows None one → Writes windows None other → Writes windows None (if b then one else other)
+          unframed true one other h k = h
+          unframed false one other h k = k
+
+    printed : (windows : Windows) (character : ℕ) → Sized windows → Writes windows (character_frame windows w character a) (character_printed windows w character a)
+    printed windows character size =
+        let glyph : Drawing = at_place a.settings.cursor (written_glyph a.settings character) in
+        chosen (nat_lt (a.settings.cursor.1 + 1) a.columns) windows (drawn_to windows w glyph (a.settings.cursor.0, a.settings.cursor.1 + 1))
+        (to_next_line (put windows w glyph) w a a.settings.cursor) (frame_of a glyph) (joined (frame_of a glyph) (next_line_frame (put windows w glyph).window w a))
+        (and-set windows (put windows w glyph) (frame_of a glyph) (with_cursor (a.settings.cursor.0, a.settings.cursor.1 + 1)) (drawn windows a glyph size))
+        (and-then windows (put windows w glyph) (to_next_line (put windows w glyph) w a a.settings.cursor) (frame_of a glyph)
+        (next_line_frame (put windows w glyph).window w a) (drawn windows a glyph size)
+        (to-next-line (put windows w glyph) a.settings.cursor (sized-put windows glyph size)))
+
+    ended : (windows : Windows) → Sized windows → Writes windows (line_ended_frame windows w a) (line_ended windows w a)
+    ended windows size =
+        let rest : Drawing = to_end_of_line a.settings.cursor a.settings.background in
+        and-then windows (put windows w rest) (to_next_line (put windows w rest) w a (a.settings.cursor.0, 0)) (frame_of a rest)
+        (next_line_frame (put windows w rest).window w a) (drawn windows a rest size)
+        (to-next-line (put windows w rest) (a.settings.cursor.0, 0) (sized-put windows rest size))
+
+    -- a carriage return, a backspace or a printed character
+    moved-or-printed : (left right : Bool) (old one other printing : Windows) (f : Option Frame) → Writes old None one → Writes old None other → Writes old f printing
+        → Writes old (if left || right then None else f) (if left then one else if right then other else printing)
+    moved-or-printed true right old one other printing f h k l = h
+    moved-or-printed false true old one other printing f h k l = k
+    moved-or-printed false false old one other printing f h k l = l
+
+    typed : (windows : Windows) (character : ℕ) → Sized windows → Writes windows (typed_frame windows w character a) (typed_in windows w character a)
+    typed windows character size =
+        let left : Windows = set windows w (with_cursor (a.settings.cursor.0, 0)) in
+        let back : Windows = set windows w (with_cursor (a.settings.cursor.0, a.settings.cursor.1 - 1)) in
+        let print : Windows = character_printed windows w character a in
+        let frame : Option Frame = character_frame windows w character a in
+        chosen (character == newline) windows (line_ended windows w a) (if character == carriage_return then left else if character == backspace then back else print)
+        (line_ended_frame windows w a) (if character == carriage_return || character == backspace then None else frame) (ended windows size)
+        (moved-or-printed (character == carriage_return) (character == backspace) windows left back print frame
+        (settings-set windows None (with_cursor (a.settings.cursor.0, 0))) (settings-set windows None (with_cursor (a.settings.cursor.0, a.settings.cursor.1 - 1)))
+        (printed windows character size))
+
+  add-character : (windows : Windows) (character : ℕ) → Writes windows (addch_frame windows w character) (after_addch windows w character)
+  add-character windows character =
+      in-window windows (windows.window w) (typed_frame windows w character) (typed_in windows w character)
+      (λ a is. typed a windows character (ap (λ o. outline_of o) is))
+
+  add-text : (text : List ℕ) (windows : Windows) → Writes windows (addstr_frame windows w text) (after_addstr windows w text)
+  add-text [] windows = as-it-was windows None
+  add-text (character ∷ text) windows =
+      and-then windows (after_addch windows w character) (after_addstr (after_addch windows w character) w text) (addch_frame windows w character)
+      (addstr_frame (after_addch windows w character) w text) (add-character windows character) (add-text text (after_addch windows w character))
+
+  -- ---- other drawings
+
+  draw : (windows : Windows) (drawing : Window → Drawing) → Writes windows (drawing_frame windows w drawing) (after_drawing windows w drawing)
+  draw windows drawing =
+      in-window windows (windows.window w) (λ a. frame_of a (drawing a)) (λ a. put windows w (drawing a)) (λ a is. drawn windows a (drawing a) (ap (λ o. outline_of o) is))
+
+  erase : (windows : Windows) → Writes windows (erase_frame windows w) (after_erase windows w)
+  erase windows =
+      in-window windows (windows.window w) (λ a. frame_of a (erase_drawing a)) (λ a. drawn_to windows w (erase_drawing a) origin)
+      (λ a is. and-set windows (put windows w (erase_drawing a)) (frame_of a (erase_drawing a)) (with_cursor origin) (drawn windows a (erase_drawing a) (ap (λ o. outline_of o) is)))
+
+  -- the drawing doesn't depend on the window's settings, and nothing is drawn where there is no window
+  copy-by : (windows : Windows) (f : Drawing) (o : Option Window) → windows.window w ≡ o → Writes windows (option_and_then (λ a. frame_of a f) o) (put windows w f)
+  copy-by windows f None is =
+      let same : (u : ℕ) → put_windows windows.window w f u ≡ windows.window u = λ u. ap (λ o. put_from windows.window w o (own windows.window w 0 0) f u) is in
+      nothing-written windows (put windows w f) None (record { outlines = λ u. ap (λ o. outline_of o) (same u); backings = λ u. ap (λ o. backing_of o) (same u) })
+  copy-by windows f (Some a) is = drawn windows a f (ap (λ o. outline_of o) is)
+
+  copy : (windows : Windows) (f : Drawing) → Writes windows (drawing_frame windows w (λ a. f)) (put windows w f)
+  copy windows f = copy-by windows f (windows.window w) refl
+
+  marked : (windows : Windows) (frame : Option Frame) (change : Window → Window) → ((a : Window) → outline_of (Some (change a)) ≡ outline_of (Some a))
+      → ((a : Window) → backing_of (Some (change a)) ≡ backing_of (Some a)) → Writes windows frame (record windows { window = changed windows.window w change })
+  marked windows frame change outlines backings =
+      nothing-written windows (record windows { window = changed windows.window w change }) frame (changed-cells windows.window w change outlines backings)
+
+-- ---- each call
+
+module _ (panels : Panels) (y x : ℕ) where
+  write : (windows : Windows) (writing : Writing) → Writes panels (written_window writing) y x windows (writing_frame windows writing) (after_writing windows writing)
+  write windows (Move win line column) = settings-set panels win.0 y x windows None _
+  write windows (Addch win character) = add-character panels win.0 y x windows character
+  write windows (Addstr win text) = add-text panels win.0 y x text.now windows
+  write windows (Insch win character) = draw panels win.0 y x windows (insch_drawing windows.window win.0 character)
+  write windows (Delch win) = draw panels win.0 y x windows (delch_drawing windows.window win.0)
+  write windows (Insertln win) = draw panels win.0 y x windows (insertln_drawing windows.window win.0)
+  write windows (Deleteln win) = draw panels win.0 y x windows (deleteln_drawing windows.window win.0)
+  write windows (Erase win) = erase panels win.0 y x windows
+  write windows (Clear win) = and-set panels win.0 y x windows (after_erase windows win.0) (erase_frame windows win.0) _ (erase panels win.0 y x windows)
+  write windows (Clrtoeol win) = draw panels win.0 y x windows clrtoeol_drawing
+  write windows (Clrtobot win) = draw panels win.0 y x windows clrtobot_drawing
+  write windows (Scrl win n) = draw panels win.0 y x windows (scrl_drawing windows.window win.0 n)
+  write windows (Setscrreg win top bottom) = settings-set panels win.0 y x windows None _
+  write windows (Scrollok win flag) = settings-set panels win.0 y x windows None _
+  write windows (Clearok win flag) = settings-set panels win.0 y x windows None _
+  write windows (Attrset win attributes) = settings-set panels win.0 y x windows None _
+  write windows (Attron win attributes) = settings-set panels win.0 y x windows None _
+  write windows (Attroff win attributes) = settings-set panels win.0 y x windows None _
+  write windows (Bkgdset win attributes character) = settings-set panels win.0 y x windows None _
+  write windows (ColorSet win pair) = settings-set panels win.0 y x windows None _
+  write windows (Bkgdpair win pair) = settings-set panels win.0 y x windows None _
+
+  copies : (windows : Windows) (copying : Copying) → Writes panels (copied_window copying) y x windows (copying_frame windows copying) (after_copying windows copying)
+  copies windows (Overlay src dst) = copy panels dst.0 y x windows (common_copied windows.window src.0 dst.0 true)
+  copies windows (Overwrite src dst) = copy panels dst.0 y x windows (common_copied windows.window src.0 dst.0 false)
+  copies windows (Copywin src dst sminrow smincol dminrow dmincol dmaxrow dmaxcol overlay) =
+      copy panels dst.0 y x windows (copywin_drawing windows.window src.0 sminrow smincol dminrow dmincol dmaxrow dmaxcol overlay)
+  copies windows (Touchwin win) = marked panels win.0 y x windows None (all_marked true) (λ a. refl) (λ a. refl)
+  copies windows (Untouchwin win) = marked panels win.0 y x windows None (all_marked false) (λ a. refl) (λ a. refl)
+  copies windows (Touchline win line n) = marked panels win.0 y x windows None (lines_marked line n true) (λ a. refl) (λ a. refl)
+  copies windows (Touchln win line n flag) = marked panels win.0 y x windows None (lines_marked line n flag) (λ a. refl) (λ a. refl)
+  copies windows (Syncup win) =
+      nothing-written panels win.0 y x windows (after_copying windows (Syncup win)) None (record {
+        outlines = λ u. same-if (λ o. outline_of o) (touching (shows_touched_of windows.window win.0 u)) (λ a. refl) (derives windows.window u win.0) (windows.window u);
+        backings = λ u. same-if (λ o. backing_of o) (touching (shows_touched_of windows.window win.0 u)) (λ a. refl) (derives windows.window u win.0) (windows.window u);
+      })
+  copies windows (Syncdown win) = marked panels win.0 y x windows None _ (λ a. refl) (λ a. refl)
+  copies windows (IsLinetouched win line) = as-it-was panels win.0 y x windows None
+  copies windows (IsWintouched win) = as-it-was panels win.0 y x windows None
+
+pub found-writing : (windows : Windows) (panels : Panels) (writing : Writing) (y x : ℕ) → AreSoundWindows windows → y < windows.lines → x < windows.columns
+    → frame_shows_at windows.window panels (written_window writing) (writing_frame windows writing) y x ≡ false
+    → found_from_top (after_writing windows writing).window panels y x ≡ found_from_top windows.window panels y x
+found-writing windows panels writing y x sound below left free =
+    let written = write panels y x windows writing in
+    written.kept (standard-holds windows y x sound below left) free
+
+pub found-copying : (windows : Windows) (panels : Panels) (copying : Copying) (y x : ℕ) → AreSoundWindows windows → y < windows.lines → x < windows.columns
+    → frame_shows_at windows.window panels (copied_window copying) (copying_frame windows copying) y x ≡ false
+    → found_from_top (after_copying windows copying).window panels y x ≡ found_from_top windows.window panels y x
+found-copying windows panels copying y x sound below left free =
+    let copied = copies panels y x windows copying in
+    copied.kept (standard-holds windows y x sound below left) free
