@@ -102,6 +102,14 @@ pub fn kept_by_making()
         → found_from_top (after_making windows making).window panels y x ≡ found_from_top windows.window panels y x }
 {}
 
+/// A call on a panel changes the picture at most where the panel is seen before or after.
+pub fn kept_by_stacking()
+    ensures { (world : World) (stacking : Stacking) (y x : ℕ) → AreSoundPanels world.windows.window world.panels
+        → stacking_refusal world.windows world.panels stacking ≡ None → stacking_shows_at world stacking y x ≡ false
+        → found_from_top (after_stacking world stacking).windows.window (after_stacking world stacking).panels y x
+        ≡ found_from_top world.windows.window world.panels y x }
+{}
+
 /// Refreshing changes the picture nowhere: it changes marks, the virtual screen and colours.
 pub fn kept_by_refresh()
     ensures { (world : World) (refresh : Refresh) (y x : ℕ)
