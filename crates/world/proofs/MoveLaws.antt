@@ -3,18 +3,20 @@ use Rattle.std.proofs.Common.{◌≡◌, ℕ, zero, suc, ◌+◌, ◌-◌, ◌<�
 use Rattle.std.specs.Prelude.{is_none, is_some, not, option_and_then, unwrap_or, ⊤}
 use Rattle.std.specs.Option.{option_map, option_map_or}
 use Rattle.std.specs.List.{list_any}
+use mathlib.Core.Path.{fun_ext}
 use Rattle.std.proofs.lemmas.Bool.{and_cases, eqb-false, false_from_ne_true, or_from, or_parts, ne_eqb, true≢false}
 use Rattle.cell.specs.Limits.{is_no_size}
 use Rattle.cell.specs.Refusals.{first_of}
 use Rattle.cell.specs.declared.limits.TheConstants.{LARGEST_PAD, MOST_WINDOWS}
 use Rattle.cell.specs.declared.refusal.Refusal.{Refusal}
 use Rattle.world.specs.Windows.{Backing, own_grid, part_of, GridPlace, Window, WindowMap, Windows, ancestors_within, changed, derives, is_missing, leads, own, own_within, parent_number, parent_of, replaced, window_limit}
-use Rattle.world.specs.Panels.{Panels, cell_on_screen, found_from_top, holds, holds_place, is_in_panel, place_of, screen_place, standard_screen, windows_from_top}
+use Rattle.world.specs.Panels.{Panels, cell_on_screen, found_from_top, has_line, holds, holds_place, is_in_panel, place_of, screen_place, standard_screen, windows_from_top}
 use Rattle.world.specs.Sound.{AreSoundPanels, AreSoundWindows, IsSoundPanel, IsSoundWindow, IsStandardScreen}
+use Rattle.world.specs.calls.Affected.{move_affects}
 use Rattle.world.specs.calls.Dispatch.{after_making, making_refusal, next_window}
 use Rattle.world.specs.calls.Making.{after_mvderwin, after_mvwin, delwin_refusal, free_among, has_derived, has_no_parent, is_before, is_full, is_inside, is_no_pad, is_outside, is_own, is_pad, is_part_of, mvderwin_refusal, mvwin_refusal, new_number, numbered, part_tests, with_part, with_place}
 use Rattle.world.specs.calls.Places.{follows_at, making_shows_at, move_shows_at}
-use Rattle.world.proofs.AncestorLaws.{cell_at-beside, cell_at-moved, changed-off, replaced-off}
+use Rattle.world.proofs.AncestorLaws.{cell_at-beside, cell_at-moved, changed-off, derives-moved, replaced-off}
 use Rattle.world.proofs.Below.{any_below-some}
 use Rattle.world.proofs.PanelLaws.{in_panel-some}
 use Rattle.world.proofs.PlaceLaws.{free-step}
@@ -47,15 +49,28 @@ standard-beside : (windows : Windows) (w : ℕ) → AreSoundWindows windows → 
 standard-beside windows w sound =
     ap (list_any (λ u. u == w)) (no_ancestors window_limit windows.window standard_screen (standard-parent windows (windows.window standard_screen) sound.standard))
 
+-- ---- which windows show other cells after mvderwin is the same before it and after
+
+module _ (windows : Windows) (w v z : ℕ) where
+  window-moved : (u : ℕ) → outline_of ((after_mvderwin windows w v z).window u) ≡ outline_of (windows.window u)
+  window-moved u = same-if (λ o. outline_of o) (with_part v z) (λ a. refl) (u == w) (windows.window u)
+
+  line-moved : (line u : ℕ) → option_map_or (has_line line) ((after_mvderwin windows w v z).window u) false ≡ option_map_or (has_line line) (windows.window u) false
+  line-moved line u = same-if (λ o. option_map_or (has_line line) o false) (with_part v z) (λ a. refl) (u == w) (windows.window u)
+
+  pub move_shows-moved : (panels : Panels) (y x : ℕ) → move_shows_at (after_mvderwin windows w v z).window panels w y x ≡ move_shows_at windows.window panels w y x
+  move_shows-moved panels y x = ap (λ (test : ℕ → Bool). list_any test (windows_from_top panels)) (fun_ext (λ u. λ i.
+      (u == w || derives-moved windows w v z w u i) && holds-same (after_mvderwin windows w v z).window windows.window u (window-moved u) y x i))
+
+  pub move_affects-moved : (panels : Panels) (line : ℕ) → move_affects (after_mvderwin windows w v z).window panels w line ≡ move_affects windows.window panels w line
+  move_affects-moved panels line = ap (λ (test : ℕ → Bool). list_any test (windows_from_top panels)) (fun_ext (λ u. λ i.
+      (u == w || derives-moved windows w v z w u i) && line-moved line u i))
+
 -- ---- mvderwin
 
 module _ (windows : Windows) (panels : Panels) (w v z y x : ℕ) (sound : AreSoundWindows windows) (allowed : mvderwin_refusal windows w v z ≡ None) where
   moved : WindowMap
   moved = (after_mvderwin windows w v z).window
-
-  outline-moved : (u : ℕ) → outline_of (moved u) ≡ outline_of (windows.window u)
-  unfolding moved
-  outline-moved u = same-if (λ o. outline_of o) (with_part v z) (λ a. refl) (u == w) (windows.window u)
 
   other-standard : standard_screen ≡ w → ⊥
   other-standard same =
@@ -68,7 +83,7 @@ module _ (windows : Windows) (panels : Panels) (w v z y x : ℕ) (sound : AreSou
   moved-kept : (u : ℕ) → (u ≡ w → ⊥) → derives windows.window w u ≡ false → cell_on_screen moved u y x ≡ cell_on_screen windows.window u y x
   unfolding moved
   moved-kept u other beside =
-      on_screen-same moved windows.window u (outline-moved u) y x
+      on_screen-same moved windows.window u (window-moved windows w v z u) y x
       (cell_at-moved windows w v z u (y - (place_of windows.window u).0) (x - (place_of windows.window u).1) other beside)
 
   stays : (u : ℕ) → holds windows.window u y x ≡ true → follows_at windows.window w y x u ≡ false → cell_on_screen moved u y x ≡ cell_on_screen windows.window u y x
@@ -80,7 +95,7 @@ module _ (windows : Windows) (panels : Panels) (w v z y x : ℕ) (sound : AreSou
   pub found-moved : move_shows_at windows.window panels w y x ≡ false → found_from_top (after_mvderwin windows w v z).window panels y x ≡ found_from_top windows.window panels y x
   unfolding moved
   found-moved free =
-      found-same moved windows.window panels y x (follows_at windows.window w y x) free (λ p u is. holds-same moved windows.window u (outline-moved u) y x)
+      found-same moved windows.window panels y x (follows_at windows.window w y x) free (λ p u is. holds-same moved windows.window u (window-moved windows w v z u) y x)
       (λ p u is there fails. stays u there fails) (moved-kept standard_screen other-standard (standard-beside windows w sound))
 
 -- ---- a window in no panel, from which none in a panel derives: whatever becomes of it, no place shows another cell

@@ -1,17 +1,18 @@
 -- A write through a window leaves the picture as it is at every place of the screen where its frame isn't shown.
 use Rattle.std.proofs.Common.{◌≡◌, ℕ, ◌+◌, ◌-◌, ◌<◌, true, false, ◌&&◌, nat_lt, nat_le, Option, Some, None, is_some, IsSome, IsSomeAnd, List, [], ◌∷◌, ap, arith, refl, sym, ◌∙◌}
-use Rattle.std.specs.Prelude.{min, max}
+use Rattle.std.specs.Prelude.{max, min, unwrap_or}
 use Rattle.std.specs.Option.{option_map, option_map_or}
 use Rattle.std.specs.List.{list_any}
 use mathlib.Core.Path.{fun_ext}
 use Rattle.std.proofs.lemmas.Bool.{and_parts, and_from, false_from_ne_true, le-leb, lt-ltb, or_cases, or_left, or_parts, or_right}
 use Rattle.std.proofs.Common.{Bool, inl, inr}
-use Rattle.cell.specs.Pictures.{Place}
-use Rattle.world.specs.Windows.{Drawing, GridPlace, HasPlace, Window, WindowMap, Windows, cell_at, cell_in_grid, drawn, own, put_from, put_windows}
+use Rattle.cell.specs.Pictures.{Place, origin}
+use Rattle.world.specs.Windows.{Drawing, GridPlace, HasPlace, Window, WindowMap, Windows, any_below, cell_at, cell_in_grid, drawn, own, put_from, put_windows}
 use Rattle.world.specs.Frames.{Covers, IsFrameOf, IsIn, frame_of, joined}
-use Rattle.world.specs.Panels.{Panels, cell_on_screen, found_from_top, holds, holds_place, place_of, standard_screen, windows_from_top, windows_of_picture}
+use Rattle.world.specs.Panels.{Panels, cell_on_screen, found_from_top, has_line, holds, holds_place, place_of, screen_place, standard_screen, windows_from_top, windows_of_picture}
 use Rattle.world.specs.Sharing.{any_in, is_same_place, shows_part_of}
 use Rattle.world.specs.Sound.{AreSoundWindows, IsStandardScreen}
+use Rattle.world.specs.calls.Affected.{frame_affects, shows_on_line}
 use Rattle.world.specs.calls.Places.{frame_shows_at, shows_at}
 use Rattle.world.proofs.Below.{any_in-some, any_in-true}
 use Rattle.world.proofs.FrameLaws.{frame_of-is}
@@ -41,6 +42,17 @@ pub record SameView (new old : WindowMap) : Type 0 where
   pub outlines : (u : ℕ) → outline_of (new u) ≡ outline_of (old u)
   pub places : (u y x : ℕ) → own new u y x ≡ own old u y x
 
+-- some column of the line passes the test
+outline_line : (ℕ → ℕ → Bool) → ℕ → Outline → Bool
+outline_line test line r =
+    option_map_or (λ p. nat_le p.0 line && nat_lt line (p.0 + r.lines)) r.place false && any_below r.columns (test (line - (unwrap_or r.place origin).0))
+
+lines-outline : (test : ℕ → ℕ → Bool) (line : ℕ) (o : Option Window)
+    → option_map_or (λ a. has_line line a && any_below a.columns (test (line - (screen_place a).0))) o false ≡ option_map_or (outline_line test line) (outline_of o) false
+unfolding outline_line
+lines-outline test line None = refl
+lines-outline test line (Some a) = refl
+
 module _ (new old : WindowMap) (same : SameView new old) where
   own-alike : own new ≡ own old
   own-alike = fun_ext (λ u. fun_ext (λ y. fun_ext (λ x. same.places u y x)))
@@ -53,6 +65,16 @@ module _ (new old : WindowMap) (same : SameView new old) where
   pub frame_shows-same : (panels : Panels) (w : ℕ) (o : Option Frame) (y x : ℕ) → frame_shows_at new panels w o y x ≡ frame_shows_at old panels w o y x
   frame_shows-same panels w None y x = refl
   frame_shows-same panels w (Some r) y x = ap (λ (test : ℕ → Bool). list_any test (windows_of_picture panels)) (fun_ext (shows-same w r y x))
+
+  lines-same : (w : ℕ) (r : Frame) (line u : ℕ) → shows_on_line new w r line u ≡ shows_on_line old w r line u
+  lines-same w r line u =
+      lines-outline (shows_part_of new w r u) line (new u)
+      ∙ (λ i. option_map_or (outline_line (λ y x. any_in r (λ v z. is_same_place (own-alike i w v z) (own-alike i u y x))) line) (same.outlines u i) false)
+      ∙ sym (lines-outline (shows_part_of old w r u) line (old u))
+
+  pub frame_affects-same : (panels : Panels) (w : ℕ) (o : Option Frame) (line : ℕ) → frame_affects new panels w o line ≡ frame_affects old panels w o line
+  frame_affects-same panels w None line = refl
+  frame_affects-same panels w (Some r) line = ap (λ (test : ℕ → Bool). list_any test (windows_of_picture panels)) (fun_ext (lines-same w r line))
 
 -- ---- the frame of two drawings is shown where either one's is
 

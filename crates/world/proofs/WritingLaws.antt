@@ -1,14 +1,14 @@
 -- A call that writes, and a copy, leaves the picture as it is at every place of the screen where its frame isn't shown.
-use Rattle.std.proofs.Common.{◌≡◌, ℕ, ◌+◌, ◌-◌, ◌<◌, Bool, true, false, if◌then◌else◌, ◌==◌, ◌||◌, nat_lt, Option, Some, None, List, [], ◌∷◌, ap, refl, sym, ◌∙◌}
-use Rattle.std.specs.Prelude.{option_and_then}
+use Rattle.std.proofs.Common.{◌≡◌, ℕ, ◌+◌, ◌-◌, ◌<◌, ◌≤◌, Bool, true, false, if◌then◌else◌, ◌==◌, ◌||◌, nat_lt, Option, Some, None, List, [], ◌∷◌, IsSomeAnd, subst, ap, arith, refl, sym, ◌∙◌}
+use Rattle.std.specs.Prelude.{MatchOption, max, option_and_then, ⊤}
 use Rattle.std.specs.Option.{option_map, option_map_or}
 use mathlib.Core.Path.{fun_ext}
 use Rattle.cell.specs.Pictures.{Place, origin}
-use Rattle.world.specs.Windows.{Drawing, Window, WindowMap, Windows, changed, derives, own, put, put_from, put_windows}
+use Rattle.world.specs.Windows.{Drawing, HasPlace, Window, WindowMap, Windows, changed, derives, own, put, put_from, put_windows}
 use Rattle.world.specs.Settings.{set, set_in, with_cursor}
 use Rattle.world.specs.Drawings.{at_place, to_end_of_line, written_glyph}
-use Rattle.world.specs.Frames.{frame_of, joined}
-use Rattle.world.specs.Panels.{Panels, found_from_top, holds, standard_screen}
+use Rattle.world.specs.Frames.{Covers, IsFrameOf, frame_of, joined}
+use Rattle.world.specs.Panels.{Panels, first_panels, found_from_top, holds, standard_screen}
 use Rattle.world.specs.Sound.{AreSoundWindows}
 use Rattle.world.specs.calls.Affected.{copied_window, copying_frame, writing_frame, written_window}
 use Rattle.world.specs.calls.Copies.{common_copied, copywin_drawing}
@@ -17,8 +17,9 @@ use Rattle.world.specs.calls.Marks.{all_marked, lines_marked, shows_touched_of, 
 use Rattle.world.specs.calls.Places.{frame_shows_at}
 use Rattle.world.specs.calls.writing.Characters.{addch_frame, addstr_frame, after_addch, after_addstr, backspace, carriage_return, character_frame, character_printed, delch_drawing, drawn_to, insch_drawing, is_last_line, line_ended, line_ended_frame, newline, next_line_frame, region_up, scrolls, to_next_line, typed_frame, typed_in}
 use Rattle.world.specs.calls.writing.Editing.{after_drawing, after_erase, clrtobot_drawing, clrtoeol_drawing, deleteln_drawing, drawing_frame, erase_drawing, erase_frame, insertln_drawing, scrl_drawing}
+use Rattle.world.proofs.FrameLaws.{frame_of-is}
 use Rattle.world.proofs.PictureLaws.{SameView, found-put, frame_shows-same, joined-free, outline-put, standard-holds}
-use Rattle.world.proofs.ViewLaws.{SameCells, backing_of, changed-cells, found-dressed, holds-same, outline, outline_of, own-same, same-if, set-cells}
+use Rattle.world.proofs.ViewLaws.{Outline, SameCells, backing_of, changed-cells, found-dressed, holds-same, outline, outline_of, own-same, same-if, set-cells}
 use Rattle.world.proofs.WindowLaws.{own-put}
 use Rattle.cell.specs.declared.window.Frame.{Frame}
 use Rattle.world.specs.declared.call.Copying.{Copying}
@@ -35,6 +36,60 @@ cells-view new old same = record { outlines = same.outlines; places = own-same n
 put-view : (window : WindowMap) (w : ℕ) (f : Drawing) → SameView (put_windows window w f) window
 put-view window w f = record { outlines = outline-put window w f; places = own-put window w f }
 
+-- ---- a frame lies in its window
+
+pub record IsInside (window : WindowMap) (w : ℕ) (r : Frame) : Type 0 where
+  pub lines : r.top ≤ r.bottom
+  pub columns : r.left ≤ r.right
+  pub last : HasPlace window w r.bottom r.right
+
+has-size : (a : Window) (y x : ℕ) (o : Option Window) → outline_of o ≡ Some (outline a) → y < a.lines → x < a.columns → IsSomeAnd o (λ b. (y < b.lines) × (x < b.columns))
+has-size a y x None is below left = cc
+has-size a y x (Some b) is below left =
+    let lines : b.lines ≡ a.lines = ap (λ o. option_map_or (λ (r : Outline). r.lines) o 0) is in
+    let columns : b.columns ≡ a.columns = ap (λ o. option_map_or (λ (r : Outline). r.columns) o 0) is in
+    (omega arith, omega arith)
+
+same-size : (y x : ℕ) (o p : Option Window) → outline_of o ≡ outline_of p → IsSomeAnd p (λ b. (y < b.lines) × (x < b.columns)) → IsSomeAnd o (λ b. (y < b.lines) × (x < b.columns))
+same-size y x o None is h = elim h [ ]
+same-size y x o (Some b) is h = has-size b y x o is h.0 h.1
+
+both-sizes : (y x v z : ℕ) (o : Option Window) → IsSomeAnd o (λ b. (y < b.lines) × (x < b.columns)) → IsSomeAnd o (λ b. (v < b.lines) × (z < b.columns))
+    → IsSomeAnd o (λ b. (max y v < b.lines) × (max x z < b.columns))
+both-sizes y x v z None h k = h
+both-sizes y x v z (Some b) h k =
+    let above = h.0 in let before = h.1 in let below = k.0 in let behind = k.1 in
+    (omega arith, omega arith)
+
+drawing-inside : (window : WindowMap) (w : ℕ) (a : Window) (f : Drawing) → outline_of (window w) ≡ Some (outline a)
+    → (o : Option Frame) → IsFrameOf (Covers f a.columns a.lines) o → MatchOption o ⊤ (IsInside window w)
+drawing-inside window w a f size None frame = tt
+drawing-inside window w a f size (Some r) frame =
+    let top = frame.top in
+    let left = frame.left in
+    let bottom = frame.bottom in
+    let right = frame.right in record {
+      lines = (frame.holds r.top top.0 top.1).bottom;
+      columns = (frame.holds left.0 r.left left.1).right;
+      last = has-size a r.bottom r.right (window w) size bottom.1.below right.1.left;
+    }
+
+joined-inside : (window : WindowMap) (w : ℕ) (o p : Option Frame) → MatchOption o ⊤ (IsInside window w) → MatchOption p ⊤ (IsInside window w)
+    → MatchOption (joined o p) ⊤ (IsInside window w)
+joined-inside window w None p h k = k
+joined-inside window w (Some r) None h k = h
+joined-inside window w (Some r) (Some s) h k =
+    let lines = h.lines in
+    let columns = h.columns in record {
+      lines = omega arith;
+      columns = omega arith;
+      last = both-sizes r.bottom r.right s.bottom s.right (window w) h.last k.last;
+    }
+
+inside-before : (new old : WindowMap) (w : ℕ) → outline_of (new w) ≡ outline_of (old w) → (o : Option Frame) → MatchOption o ⊤ (IsInside new w) → MatchOption o ⊤ (IsInside old w)
+inside-before new old w same None h = tt
+inside-before new old w same (Some r) h = record { lines = h.lines; columns = h.columns; last = same-size r.bottom r.right (old w) (new w) (sym same) h.last }
+
 -- ---- what a call does that writes in a frame
 
 module _ (panels : Panels) (w y x : ℕ) where
@@ -43,20 +98,26 @@ module _ (panels : Panels) (w y x : ℕ) where
     view : SameView new.window old.window
     kept : holds old.window standard_screen y x ≡ true → frame_shows_at old.window panels w frame y x ≡ false
         → found_from_top new.window panels y x ≡ found_from_top old.window panels y x
+    inside : MatchOption frame ⊤ (IsInside old.window w)
 
   -- nothing
-  nothing-written : (old new : Windows) (frame : Option Frame) → SameCells new.window old.window → Writes old frame new
-  nothing-written old new frame same = record {
+  nothing-written : (old new : Windows) → SameCells new.window old.window → Writes old None new
+  nothing-written old new same = record {
     view = cells-view new.window old.window same;
     kept = λ standard free. found-dressed new.window old.window same panels y x;
+    inside = tt;
   }
 
-  as-it-was : (old : Windows) (frame : Option Frame) → Writes old frame old
-  as-it-was old frame = nothing-written old old frame (record { outlines = λ u. refl; backings = λ u. refl })
+  as-it-was : (old : Windows) → Writes old None old
+  as-it-was old = nothing-written old old (record { outlines = λ u. refl; backings = λ u. refl })
 
   -- a drawing, in a window of the size of a
   drawn : (old : Windows) (a : Window) (f : Drawing) → outline_of (old.window w) ≡ Some (outline a) → Writes old (frame_of a f) (put old w f)
-  drawn old a f size = record { view = put-view old.window w f; kept = found-put old.window panels w a f y x size }
+  drawn old a f size = record {
+    view = put-view old.window w f;
+    kept = found-put old.window panels w a f y x size;
+    inside = drawing-inside old.window w a f size (frame_of a f) (frame_of-is a f);
+  }
 
   -- one frame and then another
   and-then : (old middle new : Windows) (one other : Option Frame) → Writes old one middle → Writes middle other new → Writes old (joined one other) new
@@ -70,6 +131,7 @@ module _ (panels : Panels) (w y x : ℕ) where
         second.kept (holds-same middle.window old.window standard_screen (first.view.outlines standard_screen) y x ∙ standard)
         (frame_shows-same middle.window old.window first.view panels w other y x ∙ both.1)
         ∙ first.kept standard both.0;
+    inside = joined-inside old.window w one other first.inside (inside-before middle.window old.window w (first.view.outlines w) other second.inside);
   }
 
   -- and then settings
@@ -81,10 +143,11 @@ module _ (panels : Panels) (w y x : ℕ) where
           places = λ u v z. own-same (set middle w change).window middle.window settings.backings u v z ∙ first.view.places u v z;
         };
         kept = λ standard free. found-dressed (set middle w change).window middle.window settings panels y x ∙ first.kept standard free;
+        inside = first.inside;
       }
 
-  settings-set : (old : Windows) (frame : Option Frame) (change : Settings → Settings) → Writes old frame (set old w change)
-  settings-set old frame change = and-set old old frame change (as-it-was old frame)
+  settings-set : (old : Windows) (change : Settings → Settings) → Writes old None (set old w change)
+  settings-set old change = and-set old old None change (as-it-was old)
 
   chosen : (b : Bool) (old one other : Windows) (f g : Option Frame) → Writes old f one → Writes old g other → Writes old (if b then f else g) (if b then one else other)
   chosen true old one other f g h k = h
@@ -92,7 +155,7 @@ module _ (panels : Panels) (w y x : ℕ) where
 
   in-window : (old : Windows) (o : Option Window) (frame : Window → Option Frame) (change : Window → Windows)
       → ((a : Window) → o ≡ Some a → Writes old (frame a) (change a)) → Writes old (option_and_then frame o) (option_map_or change o old)
-  in-window old None frame change h = as-it-was old None
+  in-window old None frame change h = as-it-was old
   in-window old (Some a) frame change h = h a refl
 
   -- ---- characters
@@ -112,8 +175,8 @@ module _ (panels : Panels) (w y x : ℕ) where
         let region : Drawing = region_up windows.window w a in
         chosen (scrolls a) windows (drawn_to windows w region (a.settings.cursor.0, 0)) (if is_last_line a a.settings.cursor.0 then here else below) (frame_of a region) None
         (and-set windows (put windows w region) (frame_of a region) (with_cursor (a.settings.cursor.0, 0)) (drawn windows a region size))
-        (unframed (is_last_line a a.settings.cursor.0) here below (settings-set windows None (with_cursor place))
-        (settings-set windows None (with_cursor (a.settings.cursor.0 + 1, 0)))) where
+        (unframed (is_last_line a a.settings.cursor.0) here below (settings-set windows (with_cursor place))
+        (settings-set windows (with_cursor (a.settings.cursor.0 + 1, 0)))) where
           unframed : (b : Bool) (one other : Windows) → Writes windows None one → Writes windows None other → Writes windows None (if b then one else other)
           unframed true one other h k = h
           unframed false one other h k = k
@@ -151,7 +214,7 @@ module _ (panels : Panels) (w y x : ℕ) where
         chosen (character == newline) windows (line_ended windows w a) (if character == carriage_return then left else if character == backspace then back else print)
         (line_ended_frame windows w a) (if character == carriage_return || character == backspace then None else frame) (ended windows size)
         (moved-or-printed (character == carriage_return) (character == backspace) windows left back print frame
-        (settings-set windows None (with_cursor (a.settings.cursor.0, 0))) (settings-set windows None (with_cursor (a.settings.cursor.0, a.settings.cursor.1 - 1)))
+        (settings-set windows (with_cursor (a.settings.cursor.0, 0))) (settings-set windows (with_cursor (a.settings.cursor.0, a.settings.cursor.1 - 1)))
         (printed windows character size))
 
   add-character : (windows : Windows) (character : ℕ) → Writes windows (addch_frame windows w character) (after_addch windows w character)
@@ -160,7 +223,7 @@ module _ (panels : Panels) (w y x : ℕ) where
       (λ a is. typed a windows character (ap (λ o. outline_of o) is))
 
   add-text : (text : List ℕ) (windows : Windows) → Writes windows (addstr_frame windows w text) (after_addstr windows w text)
-  add-text [] windows = as-it-was windows None
+  add-text [] windows = as-it-was windows
   add-text (character ∷ text) windows =
       and-then windows (after_addch windows w character) (after_addstr (after_addch windows w character) w text) (addch_frame windows w character)
       (addstr_frame (after_addch windows w character) w text) (add-character windows character) (add-text text (after_addch windows w character))
@@ -180,22 +243,22 @@ module _ (panels : Panels) (w y x : ℕ) where
   copy-by : (windows : Windows) (f : Drawing) (o : Option Window) → windows.window w ≡ o → Writes windows (option_and_then (λ a. frame_of a f) o) (put windows w f)
   copy-by windows f None is =
       let same : (u : ℕ) → put_windows windows.window w f u ≡ windows.window u = λ u. ap (λ o. put_from windows.window w o (own windows.window w 0 0) f u) is in
-      nothing-written windows (put windows w f) None (record { outlines = λ u. ap (λ o. outline_of o) (same u); backings = λ u. ap (λ o. backing_of o) (same u) })
+      nothing-written windows (put windows w f) (record { outlines = λ u. ap (λ o. outline_of o) (same u); backings = λ u. ap (λ o. backing_of o) (same u) })
   copy-by windows f (Some a) is = drawn windows a f (ap (λ o. outline_of o) is)
 
   copy : (windows : Windows) (f : Drawing) → Writes windows (drawing_frame windows w (λ a. f)) (put windows w f)
   copy windows f = copy-by windows f (windows.window w) refl
 
-  marked : (windows : Windows) (frame : Option Frame) (change : Window → Window) → ((a : Window) → outline_of (Some (change a)) ≡ outline_of (Some a))
-      → ((a : Window) → backing_of (Some (change a)) ≡ backing_of (Some a)) → Writes windows frame (record windows { window = changed windows.window w change })
-  marked windows frame change outlines backings =
-      nothing-written windows (record windows { window = changed windows.window w change }) frame (changed-cells windows.window w change outlines backings)
+  marked : (windows : Windows) (change : Window → Window) → ((a : Window) → outline_of (Some (change a)) ≡ outline_of (Some a))
+      → ((a : Window) → backing_of (Some (change a)) ≡ backing_of (Some a)) → Writes windows None (record windows { window = changed windows.window w change })
+  marked windows change outlines backings =
+      nothing-written windows (record windows { window = changed windows.window w change }) (changed-cells windows.window w change outlines backings)
 
 -- ---- each call
 
 module _ (panels : Panels) (y x : ℕ) where
   write : (windows : Windows) (writing : Writing) → Writes panels (written_window writing) y x windows (writing_frame windows writing) (after_writing windows writing)
-  write windows (Move win line column) = settings-set panels win.0 y x windows None _
+  write windows (Move win line column) = settings-set panels win.0 y x windows _
   write windows (Addch win character) = add-character panels win.0 y x windows character
   write windows (Addstr win text) = add-text panels win.0 y x text.now windows
   write windows (Insch win character) = draw panels win.0 y x windows (insch_drawing windows.window win.0 character)
@@ -207,33 +270,33 @@ module _ (panels : Panels) (y x : ℕ) where
   write windows (Clrtoeol win) = draw panels win.0 y x windows clrtoeol_drawing
   write windows (Clrtobot win) = draw panels win.0 y x windows clrtobot_drawing
   write windows (Scrl win n) = draw panels win.0 y x windows (scrl_drawing windows.window win.0 n)
-  write windows (Setscrreg win top bottom) = settings-set panels win.0 y x windows None _
-  write windows (Scrollok win flag) = settings-set panels win.0 y x windows None _
-  write windows (Clearok win flag) = settings-set panels win.0 y x windows None _
-  write windows (Attrset win attributes) = settings-set panels win.0 y x windows None _
-  write windows (Attron win attributes) = settings-set panels win.0 y x windows None _
-  write windows (Attroff win attributes) = settings-set panels win.0 y x windows None _
-  write windows (Bkgdset win attributes character) = settings-set panels win.0 y x windows None _
-  write windows (ColorSet win pair) = settings-set panels win.0 y x windows None _
-  write windows (Bkgdpair win pair) = settings-set panels win.0 y x windows None _
+  write windows (Setscrreg win top bottom) = settings-set panels win.0 y x windows _
+  write windows (Scrollok win flag) = settings-set panels win.0 y x windows _
+  write windows (Clearok win flag) = settings-set panels win.0 y x windows _
+  write windows (Attrset win attributes) = settings-set panels win.0 y x windows _
+  write windows (Attron win attributes) = settings-set panels win.0 y x windows _
+  write windows (Attroff win attributes) = settings-set panels win.0 y x windows _
+  write windows (Bkgdset win attributes character) = settings-set panels win.0 y x windows _
+  write windows (ColorSet win pair) = settings-set panels win.0 y x windows _
+  write windows (Bkgdpair win pair) = settings-set panels win.0 y x windows _
 
   copies : (windows : Windows) (copying : Copying) → Writes panels (copied_window copying) y x windows (copying_frame windows copying) (after_copying windows copying)
   copies windows (Overlay src dst) = copy panels dst.0 y x windows (common_copied windows.window src.0 dst.0 true)
   copies windows (Overwrite src dst) = copy panels dst.0 y x windows (common_copied windows.window src.0 dst.0 false)
   copies windows (Copywin src dst sminrow smincol dminrow dmincol dmaxrow dmaxcol overlay) =
       copy panels dst.0 y x windows (copywin_drawing windows.window src.0 sminrow smincol dminrow dmincol dmaxrow dmaxcol overlay)
-  copies windows (Touchwin win) = marked panels win.0 y x windows None (all_marked true) (λ a. refl) (λ a. refl)
-  copies windows (Untouchwin win) = marked panels win.0 y x windows None (all_marked false) (λ a. refl) (λ a. refl)
-  copies windows (Touchline win line n) = marked panels win.0 y x windows None (lines_marked line n true) (λ a. refl) (λ a. refl)
-  copies windows (Touchln win line n flag) = marked panels win.0 y x windows None (lines_marked line n flag) (λ a. refl) (λ a. refl)
+  copies windows (Touchwin win) = marked panels win.0 y x windows (all_marked true) (λ a. refl) (λ a. refl)
+  copies windows (Untouchwin win) = marked panels win.0 y x windows (all_marked false) (λ a. refl) (λ a. refl)
+  copies windows (Touchline win line n) = marked panels win.0 y x windows (lines_marked line n true) (λ a. refl) (λ a. refl)
+  copies windows (Touchln win line n flag) = marked panels win.0 y x windows (lines_marked line n flag) (λ a. refl) (λ a. refl)
   copies windows (Syncup win) =
-      nothing-written panels win.0 y x windows (after_copying windows (Syncup win)) None (record {
+      nothing-written panels win.0 y x windows (after_copying windows (Syncup win)) (record {
         outlines = λ u. same-if (λ o. outline_of o) (touching (shows_touched_of windows.window win.0 u)) (λ a. refl) (derives windows.window u win.0) (windows.window u);
         backings = λ u. same-if (λ o. backing_of o) (touching (shows_touched_of windows.window win.0 u)) (λ a. refl) (derives windows.window u win.0) (windows.window u);
       })
-  copies windows (Syncdown win) = marked panels win.0 y x windows None _ (λ a. refl) (λ a. refl)
-  copies windows (IsLinetouched win line) = as-it-was panels win.0 y x windows None
-  copies windows (IsWintouched win) = as-it-was panels win.0 y x windows None
+  copies windows (Syncdown win) = marked panels win.0 y x windows _ (λ a. refl) (λ a. refl)
+  copies windows (IsLinetouched win line) = as-it-was panels win.0 y x windows
+  copies windows (IsWintouched win) = as-it-was panels win.0 y x windows
 
 pub found-writing : (windows : Windows) (panels : Panels) (writing : Writing) (y x : ℕ) → AreSoundWindows windows → y < windows.lines → x < windows.columns
     → frame_shows_at windows.window panels (written_window writing) (writing_frame windows writing) y x ≡ false
@@ -248,3 +311,32 @@ pub found-copying : (windows : Windows) (panels : Panels) (copying : Copying) (y
 found-copying windows panels copying y x sound below left free =
     let copied = copies panels y x windows copying in
     copied.kept (standard-holds windows y x sound below left) free
+
+-- ---- the frame lies in the window
+
+framed : (window : WindowMap) (w : ℕ) (o : Option Frame) (r : Frame) → o ≡ Some r → MatchOption o ⊤ (IsInside window w) → (r.top ≤ r.bottom) × (r.left ≤ r.right) × HasPlace window w r.bottom r.right
+framed window w None r is h = cc
+framed window w (Some s) r is h = let same : s ≡ r = cc in subst (λ (k : Frame). (k.top ≤ k.bottom) × (k.left ≤ k.right) × HasPlace window w k.bottom k.right) same (h.lines, h.columns, h.last)
+
+pub inside-writing : (windows : Windows) (writing : Writing) (r : Frame) → writing_frame windows writing ≡ Some r
+    → (r.top ≤ r.bottom) × (r.left ≤ r.right) × HasPlace windows.window (written_window writing) r.bottom r.right
+inside-writing windows writing r is =
+    let written = write first_panels 0 0 windows writing in
+    framed windows.window (written_window writing) (writing_frame windows writing) r is written.inside
+
+pub inside-copying : (windows : Windows) (copying : Copying) (r : Frame) → copying_frame windows copying ≡ Some r
+    → (r.top ≤ r.bottom) × (r.left ≤ r.right) × HasPlace windows.window (copied_window copying) r.bottom r.right
+inside-copying windows copying r is =
+    let copied = copies first_panels 0 0 windows copying in
+    framed windows.window (copied_window copying) (copying_frame windows copying) r is copied.inside
+
+-- ---- what is shown where, and where windows stand, is as it was
+
+pub view-writing : (windows : Windows) (writing : Writing) → SameView (after_writing windows writing).window windows.window
+view-writing windows writing = (write first_panels 0 0 windows writing).view
+
+pub view-copying : (windows : Windows) (copying : Copying) → SameView (after_copying windows copying).window windows.window
+view-copying windows copying = (copies first_panels 0 0 windows copying).view
+
+pub there-still : (new old : WindowMap) → SameView new old → (w y x : ℕ) → HasPlace old w y x → HasPlace new w y x
+there-still new old same w y x h = same-size y x (new w) (old w) (same.outlines w) h

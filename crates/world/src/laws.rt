@@ -1,6 +1,6 @@
 //! What holds of the definitions alone. Each function does nothing, and its contract is the law.
 
-ghost use Rattle.std.specs.Prelude.{◌≡◌, ◌<◌, ℕ, true, false, List, Option, Some, None, IsSome, option_map, ◌⊎◌};
+ghost use Rattle.std.specs.Prelude.{◌≡◌, ◌<◌, ◌≤◌, ℕ, true, false, List, Option, Some, None, IsSome, option_map, ◌⊎◌};
 ghost use Rattle.cell.specs.declared.window.Frame.{Frame};
 ghost use Rattle.world.specs.Frames.{AreRectangle, Covers, IsFrameOf, frame_of, joined};
 ghost use Rattle.world.specs.Panels.{Panels, cursor_of_topmost, found_from_top, is_in_panel};
@@ -9,7 +9,7 @@ ghost use Rattle.world.specs.Sound.{AreSoundPanels, AreSoundWindows};
 ghost use Rattle.world.specs.World.{World};
 ghost use Rattle.world.specs.calls.Affected.{accepted_affects, copied_window, copying_frame, frame_affects, making_affects, move_affects, refresh_affects, stacking_affects, writing_frame, written_window};
 ghost use Rattle.world.specs.calls.Dispatch.{after_copying, after_making, after_stacking, after_writing, making_refusal, stacking_refusal, world_after};
-ghost use Rattle.world.specs.calls.Places.{affects_place, frame_shows_at, making_shows_at, refresh_shows_at, stacking_shows_at};
+ghost use Rattle.world.specs.calls.Places.{affects_place, frame_shows_at, making_shows_at, move_shows_at, refresh_shows_at, stacking_shows_at};
 ghost use Rattle.world.specs.calls.Making.{after_mvderwin, mvderwin_refusal};
 ghost use Rattle.world.specs.calls.Refresh.{with_unmarked};
 ghost use Rattle.cell.specs.Glyphs.{Glyph};
@@ -115,6 +115,35 @@ pub fn kept_by_refresh()
     ensures { (world : World) (refresh : Refresh) (y x : ℕ)
         → found_from_top (world_after world (Call.Refresh refresh)).windows.window (world_after world (Call.Refresh refresh)).panels y x
         ≡ found_from_top world.windows.window world.panels y x }
+{}
+
+/// The frame of a write or a copy lies in its window.
+pub fn frames_are_inside()
+    ensures written { (windows : Windows) (writing : Writing) (r : Frame) → writing_frame windows writing ≡ Some r
+        → (r.top ≤ r.bottom) × (r.left ≤ r.right) × HasPlace windows.window (written_window writing) r.bottom r.right }
+    ensures copied { (windows : Windows) (copying : Copying) (r : Frame) → copying_frame windows copying ≡ Some r
+        → (r.top ≤ r.bottom) × (r.left ≤ r.right) × HasPlace windows.window (copied_window copying) r.bottom r.right }
+{}
+
+/// A write or a copy leaves windows where they stand, with the cells that they share: a frame is shown after it where it was before, and
+/// affects the same lines. mvderwin leaves which windows derive from which: it affects the same after it as before.
+pub fn shapes_are_kept()
+    ensures written { (windows : Windows) (panels : Panels) (writing : Writing) (w : ℕ) (frame : Option Frame) (y x : ℕ)
+        → frame_shows_at (after_writing windows writing).window panels w frame y x ≡ frame_shows_at windows.window panels w frame y x }
+    ensures written_lines { (windows : Windows) (panels : Panels) (writing : Writing) (w : ℕ) (frame : Option Frame) (y : ℕ)
+        → frame_affects (after_writing windows writing).window panels w frame y ≡ frame_affects windows.window panels w frame y }
+    ensures written_there { (windows : Windows) (writing : Writing) (w y x : ℕ)
+        → HasPlace windows.window w y x → HasPlace (after_writing windows writing).window w y x }
+    ensures copied { (windows : Windows) (panels : Panels) (copying : Copying) (w : ℕ) (frame : Option Frame) (y x : ℕ)
+        → frame_shows_at (after_copying windows copying).window panels w frame y x ≡ frame_shows_at windows.window panels w frame y x }
+    ensures copied_lines { (windows : Windows) (panels : Panels) (copying : Copying) (w : ℕ) (frame : Option Frame) (y : ℕ)
+        → frame_affects (after_copying windows copying).window panels w frame y ≡ frame_affects windows.window panels w frame y }
+    ensures copied_there { (windows : Windows) (copying : Copying) (w y x : ℕ)
+        → HasPlace windows.window w y x → HasPlace (after_copying windows copying).window w y x }
+    ensures moved { (windows : Windows) (panels : Panels) (w v z y x : ℕ)
+        → move_shows_at (after_mvderwin windows w v z).window panels w y x ≡ move_shows_at windows.window panels w y x }
+    ensures moved_lines { (windows : Windows) (panels : Panels) (w v z y : ℕ)
+        → move_affects (after_mvderwin windows w v z).window panels w y ≡ move_affects windows.window panels w y }
 {}
 
 /// Where a derived window is moved in its parent, each window that neither is it nor derives from it shows the cells that it showed.
