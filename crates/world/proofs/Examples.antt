@@ -1,4 +1,4 @@
--- Which lines of a small screen calls affect, and what panels own, for a reader of the definitions.
+-- Which lines and places of a small screen calls affect, and what panels own, for a reader of the definitions.
 use Rattle.std.proofs.Common.{◌≡◌, ℕ, Bool, true, false, List, [], ◌∷◌, Some, None, if◌then◌else◌, ◌==◌, ◌||◌, refl}
 use Rattle.std.specs.Prelude.{fold, filter}
 use Rattle.std.specs.List.{range_with_len}
@@ -8,13 +8,14 @@ use Rattle.world.specs.Panels.{owner, topmost, panel_limit}
 use Rattle.world.specs.World.{World, first_world}
 use Rattle.world.specs.calls.Dispatch.{refusal, world_after}
 use Rattle.world.specs.calls.Affected.{affected_lines, bound_on_reads, no_lines}
+use Rattle.world.specs.calls.Places.{affects_place}
 use Rattle.cell.specs.declared.refusal.Refusal.TheVariants.{HasDerived, InPanel}
 use Rattle.cell.specs.declared.window.WinId.{WinId}
 use Rattle.world.specs.declared.call.Call.{Call}
 use Rattle.world.specs.declared.call.Call.TheVariants.{Making, Writing, Refresh}
 use Rattle.world.specs.declared.call.Making.TheVariants.{Newwin, Derwin, Delwin, Mvwin, Mvderwin}
 use Rattle.world.specs.declared.call.Writing.TheVariants.{Addch, Move}
-use Rattle.world.specs.declared.call.Refresh.TheVariants.{UpdatePanels}
+use Rattle.world.specs.declared.call.Refresh.TheVariants.{Noutrefresh, UpdatePanels}
 
 unfoldable pub win : ℕ → WinId
 win w = record { 0 = w }
@@ -115,6 +116,36 @@ line_of_descendant = refl
 no_line_of_ancestor : lines (with_panels chain (λ p. p == 1) (1 ∷ [])) (Making (Mvderwin (win 2) 0 1)) ≡ []
 unfolding lines chain screen_after with_panels win window_limit
 no_line_of_ancestor = refl
+
+-- ---- places on these lines
+
+-- the affected columns of a line
+unfoldable pub columns : World → Call → ℕ → List ℕ
+columns world call y = filter (affects_place world call y) (range_with_len 0 10)
+
+column_of_character : (columns blank (addch 0) 0 ≡ 0 ∷ []) × (columns blank (addch 0) 1 ≡ [])
+unfolding columns blank screen_after addch win window_limit frame_above frame_in_line
+column_of_character = (refl, refl)
+
+-- the character of window 1 is seen in window 2 too, which is on line 2 from column 5 on
+columns_of_shared : (columns both (addch 1) 0 ≡ 0 ∷ []) × (columns both (addch 1) 1 ≡ []) × (columns both (addch 1) 2 ≡ 5 ∷ [])
+unfolding columns both shared screen_after with_panels addch win window_limit frame_above frame_in_line
+columns_of_shared = (refl, refl, refl)
+
+-- window 2 alone is seen
+columns_of_hidden : (columns (with_panels shared (λ p. p == 1 || p == 2) (2 ∷ [])) (addch 1) 0 ≡ []) × (columns (with_panels shared (λ p. p == 1 || p == 2) (2 ∷ [])) (addch 1) 2 ≡ 5 ∷ [])
+unfolding columns shared screen_after with_panels addch win window_limit frame_above frame_in_line
+columns_of_hidden = (refl, refl)
+
+-- all of window 3, which derives from the moved window 2
+columns_of_descendant : columns (with_panels chain (λ p. p == 3) (3 ∷ [])) (Making (Mvderwin (win 2) 0 1)) 0 ≡ 1 ∷ 2 ∷ []
+unfolding columns chain screen_after with_panels win window_limit
+columns_of_descendant = refl
+
+-- window 2 is taken into the virtual screen: of what was touched, the one character
+columns_of_refresh : (columns (world_after both (addch 2)) (Refresh (Noutrefresh (win 2))) 2 ≡ 5 ∷ []) × (columns both (Refresh (Noutrefresh (win 2))) 2 ≡ [])
+unfolding columns both shared screen_after with_panels addch win window_limit frame_above frame_in_line
+columns_of_refresh = (refl, refl)
 
 -- ---- what update_panels may read
 

@@ -11,6 +11,7 @@ pub mod PictureLaws
 pub mod LineLaws
 pub mod WritingLaws
 pub mod StackingLaws
+pub mod CallLaws
 pub mod MoveLaws
 pub mod Sizes
 pub mod PlaceLaws

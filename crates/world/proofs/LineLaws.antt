@@ -1,9 +1,9 @@
 -- A place that a call affects is on a line that it affects.
-use Rattle.std.proofs.Common.{◌≡◌, ℕ, ◌+◌, ◌-◌, ◌<◌, Bool, true, false, ◌==◌, ◌&&◌, ◌||◌, nat_lt, nat_le, Option, Some, None, is_some, inl, inr, ap, arith, refl, sym, ◌∙◌}
+use Rattle.std.proofs.Common.{◌≡◌, ℕ, ◌+◌, ◌-◌, ◌<◌, Bool, true, false, ◌==◌, ◌&&◌, ◌||◌, nat_lt, nat_le, Option, Some, None, is_some, inl, inr, arith, refl, sym, ◌∙◌}
 use Rattle.std.specs.Prelude.{unwrap_or}
 use Rattle.std.specs.Option.{option_map_or}
 use Rattle.std.specs.List.{list_any}
-use Rattle.std.proofs.lemmas.Bool.{and_parts, and_from, leb-true, ltb-true, or_cases, or_left, or_right}
+use Rattle.std.proofs.lemmas.Bool.{and_parts, and_from, false_from_ne_true, leb-true, ltb-true, or_cases, or_left, or_right, true≢false}
 use Rattle.cell.specs.Pictures.{Place, origin}
 use Rattle.world.specs.Windows.{Window, WindowMap, Windows, any_below, derives}
 use Rattle.world.specs.Panels.{Panels, has_line, holds, holds_place, panel_holds, place_of, screen_place, standard_screen, window_or_standard, windows_from_top, windows_of_picture}
@@ -25,6 +25,10 @@ use Rattle.world.specs.declared.call.Making.TheVariants.{Newwin, Subwin, Derwin,
 use Rattle.world.specs.declared.call.Refresh.{Refresh}
 use Rattle.world.specs.declared.call.Refresh.TheVariants.{Noutrefresh, Pnoutrefresh, UpdatePanels, Doupdate, InitPair}
 use Rattle.world.specs.declared.call.Stacking.{Stacking}
+
+-- a line that isn't affected has no place that is
+pub unless : (place line : Bool) → (place ≡ true → line ≡ true) → line ≡ false → place ≡ false
+unless place line h free = false_from_ne_true place (λ shown. true≢false (sym (h shown) ∙ free))
 
 -- a window's rectangle that holds the place has its line and its column
 pub holds-line : (y x : ℕ) (place : Option Place) (lines columns : ℕ)

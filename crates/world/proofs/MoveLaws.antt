@@ -1,7 +1,7 @@
 -- Making, deleting and moving windows: which places of the screen keep what the search finds there.
 use Rattle.std.proofs.Common.{◌≡◌, ℕ, zero, suc, ◌+◌, ◌-◌, ◌<◌, Bool, true, false, if◌then◌else◌, ◌==◌, ◌&&◌, ◌||◌, Option, Some, None, IsSome, IsSomeAnd, MatchOption, [], ◌∷◌, inl, inr, subst, ap, arith, refl, sym, ◌∙◌}
 use Rattle.std.specs.Prelude.{is_none, is_some, not, option_and_then, unwrap_or, ⊤}
-use Rattle.std.specs.Option.{option_map, option_map_or}
+use Rattle.std.specs.Option.{option_map_or}
 use Rattle.std.specs.List.{list_any}
 use mathlib.Core.Path.{fun_ext}
 use Rattle.std.proofs.lemmas.Bool.{and_cases, eqb-false, false_from_ne_true, or_from, or_parts, ne_eqb, true≢false}
@@ -9,8 +9,8 @@ use Rattle.cell.specs.Limits.{is_no_size}
 use Rattle.cell.specs.Refusals.{first_of}
 use Rattle.cell.specs.declared.limits.TheConstants.{LARGEST_PAD, MOST_WINDOWS}
 use Rattle.cell.specs.declared.refusal.Refusal.{Refusal}
-use Rattle.world.specs.Windows.{Backing, own_grid, part_of, GridPlace, Window, WindowMap, Windows, ancestors_within, changed, derives, is_missing, leads, own, own_within, parent_number, parent_of, replaced, window_limit}
-use Rattle.world.specs.Panels.{Panels, cell_on_screen, found_from_top, has_line, holds, holds_place, is_in_panel, place_of, screen_place, standard_screen, windows_from_top}
+use Rattle.world.specs.Windows.{Backing, own_grid, part_of, GridPlace, Window, WindowMap, Windows, ancestors_within, derives, is_missing, leads, own, own_within, parent_number, parent_of, window_limit}
+use Rattle.world.specs.Panels.{Panels, cell_on_screen, found_from_top, has_line, holds, is_in_panel, place_of, standard_screen, windows_from_top}
 use Rattle.world.specs.Sound.{AreSoundPanels, AreSoundWindows, IsSoundPanel, IsSoundWindow, IsStandardScreen}
 use Rattle.world.specs.calls.Affected.{move_affects}
 use Rattle.world.specs.calls.Dispatch.{after_making, making_refusal, next_window}

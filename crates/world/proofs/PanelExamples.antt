@@ -1,4 +1,4 @@
--- What the calls on panels leave and answer, and which lines they affect, for a reader of the definitions.
+-- What the calls on panels leave and answer, and which lines and places they affect, for a reader of the definitions.
 use Rattle.std.proofs.Common.{◌≡◌, ℕ, true, List, [], ◌∷◌, Option, Some, None, if◌then◌else◌, ◌==◌, ◌||◌, refl}
 use Rattle.std.specs.Prelude.{filter}
 use Rattle.std.specs.List.{range_with_len}
@@ -14,10 +14,10 @@ use Rattle.world.specs.declared.panel.PanelId.{PanelId}
 use Rattle.world.specs.declared.call.Call.TheVariants.{Making, Stacking}
 use Rattle.world.specs.declared.call.Making.TheVariants.{Newwin, Newpad}
 use Rattle.world.specs.declared.call.Stacking.{Stacking as Stack_call}
-use Rattle.world.specs.declared.call.Stacking.TheVariants.{NewPanel, DelPanel, ShowPanel, TopPanel, BottomPanel, MovePanel, ReplacePanel, PanelAbove, PanelBelow, PanelWindow, PanelHidden}
+use Rattle.world.specs.declared.call.Stacking.TheVariants.{NewPanel, DelPanel, ShowPanel, HidePanel, TopPanel, BottomPanel, MovePanel, ReplacePanel, PanelAbove, PanelBelow, PanelWindow, PanelHidden}
 use Rattle.world.specs.declared.call.Reply.{Reply}
 use Rattle.world.specs.declared.call.Reply.TheVariants.{Flag, Nothing, Number, Panel}
-use Rattle.world.proofs.Examples.{screen_after, win}
+use Rattle.world.proofs.Examples.{columns, screen_after, win}
 
 -- windows 1 and 2 of two lines, on lines 0 and 1, window 3 of one line, on line 3, and window 5 of two lines, on lines 2 and 3; number 4
 -- is a pad
@@ -126,3 +126,12 @@ lines_of_order = (refl, refl, refl, refl)
 lines_of_windows : (lines (NewPanel (win 5)) ≡ 2 ∷ 3 ∷ []) × (lines (ReplacePanel (panel 1) (win 5)) ≡ 0 ∷ 1 ∷ 2 ∷ 3 ∷ []) × (lines (PanelWindow (panel 1)) ≡ [])
 unfolding lines screen windows three panel screen_after win window_limit panel_limit
 lines_of_windows = (refl, refl, refl)
+
+-- the columns of its rectangle on a line, where it was and where it is
+columns_of_move : (columns screen (Stacking (MovePanel (panel 1) 2 1)) 0 ≡ 0 ∷ 1 ∷ 2 ∷ 3 ∷ 4 ∷ []) × (columns screen (Stacking (MovePanel (panel 1) 2 1)) 2 ≡ 1 ∷ 2 ∷ 3 ∷ 4 ∷ 5 ∷ [])
+unfolding columns screen windows three panel screen_after win window_limit
+columns_of_move = (refl, refl)
+
+columns_of_order : (columns screen (Stacking (HidePanel (panel 2))) 1 ≡ 3 ∷ 4 ∷ 5 ∷ 6 ∷ 7 ∷ []) × (columns screen (Stacking (MovePanel (panel 3) 0 0)) 0 ≡ []) × (columns screen (Stacking (PanelHidden (panel 1))) 0 ≡ [])
+unfolding columns screen windows three panel screen_after win window_limit
+columns_of_order = (refl, refl, refl)

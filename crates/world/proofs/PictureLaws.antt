@@ -1,11 +1,10 @@
 -- A write through a window leaves the picture as it is at every place of the screen where its frame isn't shown.
-use Rattle.std.proofs.Common.{◌≡◌, ℕ, ◌+◌, ◌-◌, ◌<◌, true, false, ◌&&◌, nat_lt, nat_le, Option, Some, None, is_some, IsSome, IsSomeAnd, List, [], ◌∷◌, ap, arith, refl, sym, ◌∙◌}
+use Rattle.std.proofs.Common.{◌≡◌, ℕ, ◌+◌, ◌-◌, ◌<◌, Bool, true, false, ◌&&◌, nat_lt, nat_le, Option, Some, None, is_some, IsSome, IsSomeAnd, List, [], ◌∷◌, inl, inr, ap, arith, refl, sym, ◌∙◌}
 use Rattle.std.specs.Prelude.{max, min, unwrap_or}
 use Rattle.std.specs.Option.{option_map, option_map_or}
 use Rattle.std.specs.List.{list_any}
 use mathlib.Core.Path.{fun_ext}
 use Rattle.std.proofs.lemmas.Bool.{and_parts, and_from, false_from_ne_true, le-leb, lt-ltb, or_cases, or_left, or_parts, or_right}
-use Rattle.std.proofs.Common.{Bool, inl, inr}
 use Rattle.cell.specs.Pictures.{Place, origin}
 use Rattle.world.specs.Windows.{Drawing, GridPlace, HasPlace, Window, WindowMap, Windows, any_below, cell_at, cell_in_grid, drawn, own, put_from, put_windows}
 use Rattle.world.specs.Frames.{Covers, IsFrameOf, IsIn, frame_of, joined}
@@ -17,7 +16,7 @@ use Rattle.world.specs.calls.Places.{frame_shows_at, shows_at}
 use Rattle.world.proofs.Below.{any_in-some, any_in-true}
 use Rattle.world.proofs.FrameLaws.{frame_of-is}
 use Rattle.world.proofs.SharingLaws.{true-same}
-use Rattle.world.proofs.ViewLaws.{Outline, found-same, holds-same, on_screen-same, outline, outline_of, place-same}
+use Rattle.world.proofs.ViewLaws.{Outline, found-same, holds-same, on_screen-same, outline, outline_of, passes-none, place-same}
 use Rattle.world.proofs.WindowLaws.{own-put, put-keeps}
 use Rattle.cell.specs.declared.window.Frame.{Frame}
 
@@ -169,10 +168,7 @@ module _ (window : WindowMap) (panels : Panels) (w : ℕ) (a : Window) (f : Draw
   each-free : (o : Option Frame) → frame_shows_at window panels w o y x ≡ false
       → (option_map_or (λ r. shows_at window w r y x standard_screen) o false ≡ false)
       × (list_any (λ u. option_map_or (λ r. shows_at window w r y x u) o false) (windows_from_top panels) ≡ false)
-  each-free None h = (refl, nothing (windows_from_top panels)) where
-    nothing : (us : List ℕ) → list_any (λ u. false) us ≡ false
-    nothing [] = refl
-    nothing (u ∷ us) = nothing us
+  each-free None h = (refl, passes-none (windows_from_top panels))
   each-free (Some r) h = or_parts (shows_at window w r y x standard_screen) (list_any (shows_at window w r y x) (windows_from_top panels)) h
 
   pub found-put : holds window standard_screen y x ≡ true → frame_shows_at window panels w (frame_of a f) y x ≡ false

@@ -1,15 +1,15 @@
 -- Refreshing windows changes neither what the search from the top finds nor the topmost's cursor.
-use Rattle.std.proofs.Common.{◌≡◌, ℕ, ◌+◌, ◌-◌, ◌==◌, false, Option, Some, None, List, ap, refl, ◌∙◌}
-use Rattle.std.specs.Option.{option_map, option_map_or}
+use Rattle.std.proofs.Common.{◌≡◌, ℕ, ◌+◌, ◌-◌, ◌==◌, false, List, ap, refl, ◌∙◌}
+use Rattle.std.specs.Option.{option_map_or}
 use Rattle.std.specs.List.{list_any}
-use Rattle.cell.specs.Pictures.{Place, origin}
-use Rattle.world.specs.Windows.{Window, WindowMap, Windows}
+use Rattle.cell.specs.Pictures.{origin}
+use Rattle.world.specs.Windows.{WindowMap, Windows}
 use Rattle.world.specs.Panels.{Panels, cursor_from, cursor_of_topmost, cursor_on_screen, found_from_top, place_of, topmost, window_or_standard}
 use Rattle.world.specs.World.{World}
 use Rattle.world.specs.calls.Dispatch.{world_after}
 use Rattle.world.specs.calls.Marks.{after_touchln, lines_marked}
 use Rattle.world.specs.calls.Refresh.{composed_windows, unmarked, with_unmarked}
-use Rattle.world.specs.calls.writing.Options.{after_clearok, with_clear}
+use Rattle.world.specs.calls.writing.Options.{with_clear}
 use Rattle.world.proofs.ViewLaws.{SameCells, backing_of, changed-cells, found-dressed, outline_of, place-same, same-if, set-cells}
 use Rattle.world.specs.declared.call.Call.TheVariants as calls
 use Rattle.world.specs.declared.call.Refresh.{Refresh}

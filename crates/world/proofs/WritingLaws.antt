@@ -1,11 +1,10 @@
 -- A call that writes, and a copy, leaves the picture as it is at every place of the screen where its frame isn't shown.
 use Rattle.std.proofs.Common.{◌≡◌, ℕ, ◌+◌, ◌-◌, ◌<◌, ◌≤◌, Bool, true, false, if◌then◌else◌, ◌==◌, ◌||◌, nat_lt, Option, Some, None, List, [], ◌∷◌, IsSomeAnd, subst, ap, arith, refl, sym, ◌∙◌}
 use Rattle.std.specs.Prelude.{MatchOption, max, option_and_then, ⊤}
-use Rattle.std.specs.Option.{option_map, option_map_or}
-use mathlib.Core.Path.{fun_ext}
+use Rattle.std.specs.Option.{option_map_or}
 use Rattle.cell.specs.Pictures.{Place, origin}
 use Rattle.world.specs.Windows.{Drawing, HasPlace, Window, WindowMap, Windows, changed, derives, own, put, put_from, put_windows}
-use Rattle.world.specs.Settings.{set, set_in, with_cursor}
+use Rattle.world.specs.Settings.{set, with_cursor}
 use Rattle.world.specs.Drawings.{at_place, to_end_of_line, written_glyph}
 use Rattle.world.specs.Frames.{Covers, IsFrameOf, frame_of, joined}
 use Rattle.world.specs.Panels.{Panels, first_panels, found_from_top, holds, standard_screen}

@@ -5,14 +5,15 @@ ghost use Rattle.cell.specs.declared.window.Frame.{Frame};
 ghost use Rattle.world.specs.Frames.{AreRectangle, Covers, IsFrameOf, frame_of, joined};
 ghost use Rattle.world.specs.Panels.{Panels, cursor_of_topmost, found_from_top, is_in_panel};
 ghost use Rattle.world.specs.Sharing.{SharesPart};
-ghost use Rattle.world.specs.Sound.{AreSoundPanels, AreSoundWindows};
-ghost use Rattle.world.specs.World.{World};
+ghost use Rattle.world.specs.Sound.{AreSoundPanels, AreSoundWindows, IsSound};
+ghost use Rattle.world.specs.World.{World, picture};
 ghost use Rattle.world.specs.calls.Affected.{accepted_affects, copied_window, copying_frame, frame_affects, making_affects, move_affects, refresh_affects, stacking_affects, writing_frame, written_window};
-ghost use Rattle.world.specs.calls.Dispatch.{after_copying, after_making, after_stacking, after_writing, making_refusal, stacking_refusal, world_after};
+ghost use Rattle.world.specs.calls.Dispatch.{after_copying, after_making, after_stacking, after_writing, is_update_panels, making_refusal, refusal, stacking_refusal, world_after};
 ghost use Rattle.world.specs.calls.Places.{affects_place, frame_shows_at, making_shows_at, move_shows_at, refresh_shows_at, stacking_shows_at};
 ghost use Rattle.world.specs.calls.Making.{after_mvderwin, mvderwin_refusal};
 ghost use Rattle.world.specs.calls.Refresh.{with_unmarked};
 ghost use Rattle.cell.specs.Glyphs.{Glyph};
+ghost use Rattle.cell.specs.Pictures.{shown_at};
 ghost use Rattle.world.specs.declared.call.Call.{Call};
 ghost use Rattle.world.specs.declared.call.Copying.{Copying};
 ghost use Rattle.world.specs.declared.call.Making.{Making};
@@ -55,8 +56,8 @@ pub fn kept_cell()
         → cell_at (put_windows window w f) u v z ≡ cell_at window u v z }
 {}
 
-/// A write through a window leaves the picture as it is on each line of the screen that its frame doesn't affect; and so does mvderwin
-/// on each line that it doesn't affect.
+/// A write through a window leaves the picture as it is on each line of the screen that its frame doesn't affect; so does mvderwin on each
+/// line that it doesn't affect; and so does every call that isn't refused.
 pub fn kept_picture()
     ensures written { (windows : Windows) (panels : Panels) (w : ℕ) (a : Window) (f : Drawing) (y x : ℕ) → AreSoundWindows windows
         → windows.window w ≡ Some a → y < windows.lines → x < windows.columns → frame_affects windows.window panels w (frame_of a f) y ≡ false
@@ -64,6 +65,19 @@ pub fn kept_picture()
     ensures moved { (windows : Windows) (panels : Panels) (w v z y x : ℕ) → AreSoundWindows windows → mvderwin_refusal windows w v z ≡ None
         → move_affects windows.window panels w y ≡ false
         → found_from_top (after_mvderwin windows w v z).window panels y x ≡ found_from_top windows.window panels y x }
+    ensures called { (world : World) (call : Call) (y x : ℕ) → IsSound world → refusal world call ≡ None
+        → y < world.windows.lines → x < world.windows.columns → accepted_affects world call y ≡ false
+        → picture (world_after world call) y x ≡ picture world y x }
+{}
+
+/// At each place of the screen that a call doesn't affect the picture stays as it is; and so does the virtual screen, but for update_panels.
+pub fn kept_places()
+    ensures picture { (world : World) (call : Call) (y x : ℕ) → IsSound world → refusal world call ≡ None
+        → y < world.windows.lines → x < world.windows.columns → affects_place world call y x ≡ false
+        → picture (world_after world call) y x ≡ picture world y x }
+    ensures virtual_screen { (world : World) (call : Call) (y x : ℕ)
+        → y < world.windows.lines → x < world.windows.columns → is_update_panels call ≡ false → affects_place world call y x ≡ false
+        → shown_at (world_after world call).virtual.picture (y, x) ≡ shown_at world.virtual.picture (y, x) }
 {}
 
 /// A place that a call affects is on a line that it affects.

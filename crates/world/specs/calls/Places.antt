@@ -3,7 +3,7 @@
 use Rattle.std.specs.Prelude.{ℕ, ◌-◌, Bool, true, false, ◌==◌, ◌&&◌, ◌||◌, Option, is_some}
 use Rattle.std.specs.List.{list_any}
 use Rattle.std.specs.Option.{option_map_or}
-use Rattle.world.specs.Windows.{WindowMap, Windows, derives}
+use Rattle.world.specs.Windows.{WindowMap, derives}
 use Rattle.world.specs.Panels.{Panels, holds, panel_holds, place_of, windows_from_top, windows_of_picture}
 use Rattle.world.specs.World.{World}
 use Rattle.world.specs.Sharing.{shows_part_of}

@@ -1,18 +1,13 @@
 use Rattle.std.proofs.Common.{ap}
-use Rattle.std.proofs.lemmas.Bool.{false_from_ne_true, true≢false}
-use Rattle.std.proofs.Common.{◌≡◌, Bool, true, false, sym, ◌∙◌}
 use Rattle.world.specs.Frames.{frame_of}
-use Rattle.world.specs.calls.Affected.{frame_affects, move_affects}
-use Rattle.world.specs.calls.Places.{frame_shows_at, move_shows_at}
-use Rattle.world.proofs.LineLaws.{frame-line, move-line}
+use Rattle.world.specs.calls.Affected.{accepted_affects, frame_affects, move_affects}
+use Rattle.world.specs.calls.Places.{affects_place, frame_shows_at, move_shows_at}
+use Rattle.world.proofs.CallLaws.{picture-kept}
+use Rattle.world.proofs.LineLaws.{call-line, frame-line, move-line, unless}
 use Rattle.world.proofs.MoveLaws.{found-moved}
 use Rattle.world.proofs.PictureLaws.{found-put, standard-holds}
 use Rattle.world.proofs.ViewLaws.{outline_of}
 use Rattle.world.proofs.laws.kept_picture.Goals as goal
-
--- a line that isn't affected has no place that is
-unless : (place line : Bool) → (place ≡ true → line ≡ true) → line ≡ false → place ≡ false
-unless place line h free = false_from_ne_true place (λ shown. true≢false (sym (h shown) ∙ free))
 
 pub returns-clause-written : goal.returns-clause-written
 returns-clause-written c = λ windows panels w a f y x sound there below left free.
@@ -24,3 +19,7 @@ pub returns-clause-moved : goal.returns-clause-moved
 returns-clause-moved c = λ windows panels w v z y x sound allowed free.
     found-moved windows panels w v z y x sound allowed
     (unless (move_shows_at windows.window panels w y x) (move_affects windows.window panels w y) (move-line windows.window panels w y x) free)
+
+pub returns-clause-called : goal.returns-clause-called
+returns-clause-called c = λ world call y x sound allowed below left free.
+    picture-kept world y x sound below left call allowed (unless (affects_place world call y x) (accepted_affects world call y) (call-line world call y x left) free)
