@@ -1,4 +1,5 @@
--- A call on a panel leaves the picture as it is at every place of the screen where the panel isn't seen, before or after.
+-- A call on a panel leaves the picture as it is at every place of the screen where the panel isn't seen, before or
+-- after.
 use Rattle.std.proofs.Common.{◌≡◌, ◌≢◌, ℕ, Bool, true, false, not, ◌==◌, ◌&&◌, ◌||◌, Option, Some, None, List, [], ◌∷◌, ◌++◌, inl, inr, ap, refl, sym, ◌∙◌}
 use Rattle.std.specs.Prelude.{cond, find, is_none, reverse, unwrap_or}
 use Rattle.std.specs.List.{list_any}

@@ -56,8 +56,8 @@ pub fn kept_cell()
         → cell_at (put_windows window w f) u v z ≡ cell_at window u v z }
 {}
 
-/// A write through a window leaves the picture as it is on each line of the screen that its frame doesn't affect; so does mvderwin on each
-/// line that it doesn't affect; and so does every call that isn't refused.
+/// A write through a window leaves the picture as it is on each line of the screen that its frame doesn't affect; so
+/// does mvderwin on each line that it doesn't affect; and so does every call that isn't refused.
 pub fn kept_picture()
     ensures written { (windows : Windows) (panels : Panels) (w : ℕ) (a : Window) (f : Drawing) (y x : ℕ) → AreSoundWindows windows
         → windows.window w ≡ Some a → y < windows.lines → x < windows.columns → frame_affects windows.window panels w (frame_of a f) y ≡ false
@@ -70,7 +70,8 @@ pub fn kept_picture()
         → picture (world_after world call) y x ≡ picture world y x }
 {}
 
-/// At each place of the screen that a call doesn't affect the picture stays as it is; and so does the virtual screen, but for update_panels.
+/// At each place of the screen that a call doesn't affect the picture stays as it is; and so does the virtual screen,
+/// but for update_panels.
 pub fn kept_places()
     ensures picture { (world : World) (call : Call) (y x : ℕ) → IsSound world → refusal world call ≡ None
         → y < world.windows.lines → x < world.windows.columns → affects_place world call y x ≡ false
@@ -108,8 +109,8 @@ pub fn kept_by_copying()
         → found_from_top (after_copying windows copying).window panels y x ≡ found_from_top windows.window panels y x }
 {}
 
-/// mvderwin changes the picture at most where a visible panel's window shows other cells then; making, deleting and moving windows that are
-/// in no panel changes it nowhere.
+/// mvderwin changes the picture at most where a visible panel's window shows other cells then; making, deleting and
+/// moving windows that are in no panel changes it nowhere.
 pub fn kept_by_making()
     ensures { (windows : Windows) (panels : Panels) (making : Making) (y x : ℕ) → AreSoundWindows windows → AreSoundPanels windows.window panels
         → making_refusal windows (is_in_panel panels) making ≡ None → making_shows_at windows.window panels making y x ≡ false
@@ -139,8 +140,9 @@ pub fn frames_are_inside()
         → (r.top ≤ r.bottom) × (r.left ≤ r.right) × HasPlace windows.window (copied_window copying) r.bottom r.right }
 {}
 
-/// A write or a copy leaves windows where they stand, with the cells that they share: a frame is shown after it where it was before, and
-/// affects the same lines. mvderwin leaves which windows derive from which: it affects the same after it as before.
+/// A write or a copy leaves windows where they stand, with the cells that they share: a frame is shown after it where
+/// it was before, and affects the same lines. mvderwin leaves which windows derive from which: it affects the same after
+/// it as before.
 pub fn shapes_are_kept()
     ensures written { (windows : Windows) (panels : Panels) (writing : Writing) (w : ℕ) (frame : Option Frame) (y x : ℕ)
         → frame_shows_at (after_writing windows writing).window panels w frame y x ≡ frame_shows_at windows.window panels w frame y x }

@@ -1,5 +1,5 @@
--- The places of the screen at which a call can change the picture, or lays cells over the virtual screen. They lie on the lines that it
--- affects, and they are what a desk keeps of a call as columns of lines.
+-- The places of the screen at which a call can change the picture, or lays cells over the virtual screen. They lie on
+-- the lines that it affects, and they are what a desk keeps of a call as columns of lines.
 use Rattle.std.specs.Prelude.{ℕ, ◌-◌, Bool, true, false, ◌==◌, ◌&&◌, ◌||◌, Option, is_some}
 use Rattle.std.specs.List.{list_any}
 use Rattle.std.specs.Option.{option_map_or}
@@ -26,7 +26,8 @@ use Rattle.world.specs.declared.call.Refresh.TheVariants.{Noutrefresh, Pnoutrefr
 abbrev pub shows_at : WindowMap → ℕ → Frame → ℕ → ℕ → ℕ → Bool
 shows_at window w r y x u = holds window u y x && shows_part_of window w r u (y - (place_of window u).0) (x - (place_of window u).1)
 
--- Of a write in a frame of window w: the standard screen or a visible panel's window shows a cell of the frame at the place.
+-- Of a write in a frame of window w: the standard screen or a visible panel's window shows a cell of the frame at the
+-- place.
 abbrev pub frame_shows_at : WindowMap → Panels → ℕ → Option Frame → ℕ → ℕ → Bool
 frame_shows_at window panels w frame y x = option_map_or (λ r. list_any (shows_at window w r y x) (windows_of_picture panels)) frame false
 
