@@ -4,4 +4,6 @@ pub mod Threads
 pub mod Neighbours
 pub mod Windows
 pub mod Tables
-pub mod Numbers
+pub mod Bits
+pub mod Indexes
+pub mod Searches

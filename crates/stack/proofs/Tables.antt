@@ -11,12 +11,12 @@ use Rattle.world.specs.Panels.{Panels, first_panels}
 use Rattle.world.specs.calls.Stacking.{after_del_panel, after_new_panel, after_replace_panel, given, hidden_panel_refusal, is_hidden, without, IsSoundEntry, IsSoundOrder}
 use Rattle.stack.specs.Nodes.{no_node, node_at, window_at, window_in, from_bottom, IsOut, IsPanel, IsThreaded}
 use Rattle.stack.specs.Tables.{panels, table_of, IsPanelTable}
-use Rattle.stack.specs.steps.Entries.{Entered, IsFree, Windowed}
+use Rattle.stack.specs.steps.Entries.{Entered, IsFree, NodeMade, Windowed}
 use Rattle.stack.specs.steps.Links.{Reordered}
 use Rattle.stack.specs.declared.nodes.Node.{Node}
 use Rattle.stack.proofs.Orders.{distinct-once, out-each}
 use Rattle.stack.proofs.Threads.{from_bottom-is, panel-below, panel-same, twice-windows}
-use Rattle.stack.proofs.Windows.{apart-given, given-other, panels-are, threaded-windowed, window-is, threaded-pushed, window-pushed}
+use Rattle.stack.proofs.Windows.{apart-given, given-other, panels-are, threaded-windowed, window-is, threaded-pushed, window-free}
 
 -- ---- what is known of each
 
@@ -214,23 +214,55 @@ module _ (old new : List Node) (p w : ℕ) (table : IsPanelTable old) (free : Is
         out = subst (λ (l : List ℕ). IsOut p l) (sym is) free-out;
       }
 
-module _ (old : List Node) (p w : ℕ) (table : IsPanelTable old) (free : IsFree old p) (node : Node) (last : p ≡ length old) (window : window_in node ≡ Some w) (above : node.above ≡ p) (below : node.below ≡ p) where
-  pushed-threaded : IsThreaded (old ++ node ∷ []) (from_bottom old)
-  pushed-threaded = threaded-pushed old node (from_bottom old) table.some_node (above ∙ last) (below ∙ last) (subst (λ (o : Option ℕ). IsSome o) (sym window) refl) table.threaded
+-- its node was made before
+module _ (old mid new : List Node) (p w : ℕ) (free : IsFree old p) (made : NodeMade old mid p) where
+  made-free : IsFree mid p
+  made-free = let within = made.within in record {
+    free = made.window p ∙ free.free;
+    from_one = free.from_one;
+    few = free.few;
+    next = omega arith;
+  }
 
-  pub entered-pushed : Entered old (old ++ node ∷ []) p w
-  entered-pushed =
-      let more = length_push old node in
-      let few = free.few in
-      let is = from_bottom-is (old ++ node ∷ []) (from_bottom old) pushed-threaded in
+  pub entered-made : Windowed mid new p (Some w) → Entered old new p w
+  entered-made windowed =
+      let entered = entered-windowed mid new p w made.table made-free made.within windowed in
       record {
-        some = omega arith;
-        few = omega arith;
-        window = λ q. window-pushed old node q ∙ ap (λ (k : ℕ). given (window_at old) k (window_in node) q) (sym last) ∙ ap (λ (o : Option ℕ). given (window_at old) p o q) window;
-        threaded = subst (λ (l : List ℕ). IsThreaded (old ++ node ∷ []) l) (sym is) pushed-threaded;
-        is = is;
-        out = subst (λ (l : List ℕ). IsOut p l) (sym is) (free-out old old p w table free);
+        some = entered.some;
+        few = entered.few;
+        window = λ q. entered.window q ∙ ap (λ (o : Option ℕ). if q == p then Some w else o) (made.window q);
+        threaded = entered.threaded;
+        is = entered.is ∙ made.is;
+        out = entered.out;
       }
+
+module _ (old : List Node) (p : ℕ) (table : IsPanelTable old) (free : IsFree old p) where
+  pub made-already : p < length old → NodeMade old old p
+  made-already within = record { table = table; within = within; window = λ q. refl; is = refl }
+
+  module _ (node : Node) (last : p ≡ length old) (window : window_in node ≡ None) (above : node.above ≡ p) (below : node.below ≡ p) where
+    pushed-threaded : IsThreaded (old ++ node ∷ []) (from_bottom old)
+    pushed-threaded = threaded-pushed old node (from_bottom old) table.some_node (above ∙ last) (below ∙ last)
+        (subst (λ (k : ℕ). IsOut k (from_bottom old)) last (free-out old old p 0 table free)) table.threaded
+
+    pub made-pushed : NodeMade old (old ++ node ∷ []) p
+    made-pushed =
+        let more = length_push old node in
+        let few = free.few in
+        let is = from_bottom-is (old ++ node ∷ []) (from_bottom old) pushed-threaded in
+        let same = window-free old node window in
+        record {
+          table = record {
+            some_node = omega arith;
+            few_nodes = omega arith;
+            end = same 0 ∙ table.end;
+            alone = λ a b w ha hb. table.alone a b w (sym (same a) ∙ ha) (sym (same b) ∙ hb);
+            threaded = subst (λ (l : List ℕ). IsThreaded (old ++ node ∷ []) l) (sym is) pushed-threaded;
+          };
+          within = omega arith;
+          window = same;
+          is = is;
+        }
 
 -- ---- tests
 

@@ -101,12 +101,18 @@ module _ (nodes : List Node) (node : Node) where
     ]
   ]
 
+  pub window-free : window_in node ≡ None → (q : ℕ) → window_at (nodes ++ node ∷ []) q ≡ window_at nodes q
+  window-free none q = elim (cases_eq q (length nodes)) [
+    | inl last ↦ ap window_in (node-last q last) ∙ none ∙ ap window_in (sym (get_or_past nodes q no_node (omega arith)))
+    | inr other ↦ window-pushed q ∙ given-other (window_at nodes) (length nodes) (window_in node) q other
+  ]
+
   same-below : (f : Node → ℕ) (order : List ℕ) → AllByRecursion (λ q. q < length nodes) order → AllByRecursion (λ q. f (node_at (nodes ++ node ∷ []) q) ≡ f (node_at nodes q)) order
   same-below f order each = each-weaker (λ q. q < length nodes) (λ q. f (node_at (nodes ++ node ∷ []) q) ≡ f (node_at nodes q)) (λ q lt. ap f (node-below q lt)) order each
 
   -- one that names itself leaves the order as it is
-  pub threaded-pushed : (order : List ℕ) → 0 < length nodes → node.above ≡ length nodes → node.below ≡ length nodes → IsSome (window_in node) → IsThreaded nodes order → IsThreaded (nodes ++ node ∷ []) order
-  threaded-pushed order some above below has h =
+  pub threaded-pushed : (order : List ℕ) → 0 < length nodes → node.above ≡ length nodes → node.below ≡ length nodes → IsOut (length nodes) order → IsThreaded nodes order → IsThreaded (nodes ++ node ∷ []) order
+  threaded-pushed order some above below out_new h =
       let each = each-weaker (IsPanel nodes) (λ q. q < length nodes) (panel-below nodes) order h.panels in
       record {
         chain = chain-same (above_at nodes) (below_at nodes) (above_at (nodes ++ node ∷ [])) (below_at (nodes ++ node ∷ [])) 0 order 0
@@ -115,7 +121,7 @@ module _ (nodes : List Node) (node : Node) where
             (same-below (λ n. n.below) order each)
             (ap (λ (n : Node). n.below) (node-below 0 some)) h.chain;
         once = h.once;
-        panels = given-panels nodes (nodes ++ node ∷ []) (length nodes) (window_in node) window-pushed order (inl has) h.panels;
+        panels = given-panels nodes (nodes ++ node ∷ []) (length nodes) (window_in node) window-pushed order (inr out_new) h.panels;
         others = λ q lt few out. elim (cases_eq q (length nodes)) [
           | inl same ↦ (
             ap (λ (n : Node). n.above) (node-last q same) ∙ above ∙ sym same,

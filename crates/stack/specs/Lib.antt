@@ -1,3 +1,4 @@
 pub mod Nodes
+pub mod Indexes
 pub mod Tables
 pub mod steps

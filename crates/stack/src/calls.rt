@@ -6,7 +6,7 @@ ghost use Rattle.cell.specs.Refusals.{RefusedBy, first_of};
 ghost use Rattle.world.specs.calls.Stacking.{new_panel_number, missing_panel_refusal, hidden_panel_refusal, new_panel_tests, replace_panel_tests, after_new_panel, after_del_panel, after_show_panel, after_hide_panel, after_top_panel, after_bottom_panel, after_replace_panel, IsSoundOrder};
 ghost use Rattle.stack.specs.Tables.{panels};
 
-use crate::entries::{enter, free_number, holder, require_panel, require_visible, set_window};
+use crate::entries::{enter, free_number, holder, require_panel, require_visible};
 use crate::links::{move_to_bottom, move_to_top, put_on_top, take_out};
 use crate::table::Stack;
 use cell::{Refusal, WinId};
@@ -48,7 +48,7 @@ impl Stack {
         prove!(self.is_sound());
         require_panel(&self.nodes, panel)?;
         take_out(&mut self.nodes, panel.0);
-        set_window(&mut self.nodes, panel.0, None);
+        self.nodes.set_window(panel.0, None);
         prove!(self.is_sound());
         Ok(())
     }
@@ -134,7 +134,7 @@ impl Stack {
         if holder(&self.nodes, win).is_some() {
             return Err(Refusal::InPanel);
         }
-        set_window(&mut self.nodes, panel.0, Some(win));
+        self.nodes.set_window(panel.0, Some(win));
         prove!(self.is_sound());
         Ok(())
     }

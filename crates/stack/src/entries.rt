@@ -1,13 +1,12 @@
 //! Which numbers are panels', and the window of each.
 
-ghost use Rattle.std.specs.Prelude.{◌≡◌, ◌<◌, Some, IfSome, MatchOption, OnOk, OnErr, length, is_some, false, ⊤};
-ghost use Rattle.std.specs.Option.{option_map};
+ghost use Rattle.std.specs.Prelude.{◌≡◌, ◌==◌, if◌then◌else◌, ℕ, None, Some, IfSome, MatchOption, OnOk, OnErr, is_some, false, ⊤};
 ghost use Rattle.std.specs.Result.{result_err};
 ghost use Rattle.world.specs.Panels.{is_in_panel};
-ghost use Rattle.world.specs.calls.Stacking.{hidden_panel_refusal, is_hidden, missing_panel_refusal, new_panel_number};
+ghost use Rattle.world.specs.calls.Stacking.{hidden_panel_refusal, is_hidden, missing_panel_refusal, new_panel_number, panel_number};
 ghost use Rattle.stack.specs.Nodes.{window_at, IsPanel};
 ghost use Rattle.stack.specs.Tables.{panels, table_of, IsPanelTable};
-ghost use Rattle.stack.specs.steps.Entries.{Entered, IsFree, Windowed};
+ghost use Rattle.stack.specs.steps.Entries.{Entered, IsFree, NodeMade};
 
 use crate::nodes::{Node, Nodes};
 use cell::{MOST_PANELS, Refusal, WinId};
@@ -49,27 +48,25 @@ pub fn holder(nodes: &Nodes, win: WinId) -> Option<PanelId>
     ensures some { is_some result ≡ is_in_panel (panels (table_of nodes.now)) win.0 }
     ensures panel { IfSome result (λ p. window_at nodes.now p.0 ≡ Some win.0) }
 {
-    for n in 1..nodes.len() {
-        if nodes.get(n as u16).window == Some(win) {
-            return Some(PanelId(n as u16));
-        }
-    }
-    None
+    panel_at(nodes.holder(win))
 }
 
-/// The least free number from 1 on: that of a node that no panel has, or the one behind the last node.
+/// The panel of a node, but for the end of the order.
+pub fn panel_at(node: u16) -> Option<PanelId>
+    ensures { panel_number result ≡ (if node == 0 then None else Some node) }
+{
+    if node == 0 { None } else { Some(PanelId(node)) }
+}
+
+/// The least free number from 1 on.
 pub fn free_number(nodes: &Nodes) -> Option<u16>
     requires { IsPanelTable nodes.now }
     ensures number { result ≡ new_panel_number (panels (table_of nodes.now)) }
     ensures free { MatchOption result ⊤ (IsFree nodes.now) }
 {
-    for n in 1..nodes.len() {
-        if nodes.get(n as u16).window.is_none() {
-            return Some(n as u16);
-        }
-    }
-    if nodes.len() <= usize::from(MOST_PANELS) {
-        Some(nodes.len() as u16)
+    let number = nodes.least_free();
+    if number <= MOST_PANELS {
+        Some(number)
     } else {
         None
     }
@@ -79,27 +76,28 @@ pub fn free_number(nodes: &Nodes) -> Option<u16>
 pub fn enter(nodes: &mut Nodes, number: u16, win: WinId) -> Result<(), AllocError>
     requires table { IsPanelTable nodes.old }
     requires free { IsFree nodes.old number }
+    requires window { (p : ℕ) → window_at nodes.old p ≡ Some win.0 → ⊥ }
     ensures entered { OnOk result (Entered nodes.old nodes.new number win.0) }
     ensures unchanged { OnErr result (nodes.new ≡ nodes.old) }
 {
-    if usize::from(number) < nodes.len() {
-        set_window(nodes, number, Some(win));
-    } else {
+    make_node(nodes, number)?;
+    nodes.set_window(number, Some(win));
+    Ok(())
+}
+
+/// Makes a node for a free number, if there is none yet.
+fn make_node(nodes: &mut Nodes, number: u16) -> Result<(), AllocError>
+    requires table { IsPanelTable nodes.old }
+    requires free { IsFree nodes.old number }
+    ensures made { OnOk result (NodeMade nodes.old nodes.new number) }
+    ensures unchanged { OnErr result (nodes.new ≡ nodes.old) }
+{
+    if usize::from(number) == nodes.len() {
         nodes.push(Node {
-            window: Some(win),
+            window: None,
             above: number,
             below: number,
         })?;
     }
     Ok(())
-}
-
-/// Gives a panel another window, or frees its number.
-pub fn set_window(nodes: &mut Nodes, panel: u16, win: Option<WinId>)
-    requires { panel < length nodes.old }
-    ensures { Windowed nodes.old nodes.new panel (option_map (λ w. w.0) win) }
-{
-    let mut node = nodes.get(panel);
-    node.window = win;
-    nodes.set(panel, node);
 }

@@ -4,8 +4,10 @@
 
 mod calls;
 mod entries;
+mod holders;
 mod links;
 mod nodes;
+mod numbers;
 mod queries;
 mod table;
 mod visible;

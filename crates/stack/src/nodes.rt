@@ -1,8 +1,14 @@
 //! The nodes through which the order of the visible panels is threaded.
 
-ghost use Rattle.std.specs.Prelude.{◌≡◌, ◌<◌, ◌++◌, ◌∷◌, [], length, slice_set, is_ok, if◌then◌else◌};
-ghost use Rattle.stack.specs.Nodes.{no_node, node_at};
+ghost use Rattle.std.specs.Prelude.{◌≡◌, ◌<◌, ◌≤◌, ◌++◌, ◌∷◌, [], ℕ, None, Some, MatchOption, length, slice_set, is_ok, if◌then◌else◌, ⊤};
+ghost use Rattle.std.specs.Option.{option_map};
+ghost use Rattle.cell.specs.declared.limits.TheConstants.{MOST_PANELS};
+ghost use Rattle.stack.specs.Indexes.{number_limit, taken_bit};
+ghost use Rattle.stack.specs.Nodes.{no_node, node_at, window_at, window_in};
+ghost use Rattle.stack.specs.steps.Entries.{Windowed};
 
+use crate::holders::Holders;
+use crate::numbers::Numbers;
 use cell::WinId;
 use std::alloc::{AllocError, Global};
 use std::marker::Model;
@@ -30,15 +36,21 @@ impl Node {
 pub struct Nodes {
     end: Node,
     panels: Vec<Node>,
+    // Both follow the nodes, so that nothing is looked for among these.
+    numbers: Numbers,
+    holders: Holders,
 }
 
 impl Model for Nodes {
     ghost use Rattle.std.specs.Prelude.{List, ◌∷◌};
+    ghost use Rattle.stack.specs.Indexes.{IsIndexed};
     ghost use Rattle.stack.specs.declared.nodes.Node.{Node};
 
     ghost Value = { List Node };
 
     ghost view = { λ a. a.end ∷ a.panels.items };
+
+    ghost invariant = { λ a. IsIndexed (a.end ∷ a.panels.items) a.numbers a.holders };
 }
 
 impl Nodes {
@@ -48,6 +60,8 @@ impl Nodes {
         Nodes {
             end: Node::NONE,
             panels: Vec::new(alloc),
+            numbers: Numbers::new(),
+            holders: Holders::new(alloc),
         }
     }
 
@@ -70,8 +84,26 @@ impl Nodes {
         }
     }
 
+    /// The panel that a window is in, or 0.
+    pub fn holder(&self, win: WinId) -> u16
+        ensures panel { 0 < result → window_at self.now result ≡ Some win.0 }
+        ensures none { (p : ℕ) → window_at self.now p ≡ Some win.0 → result ≡ p }
+    {
+        self.holders.get(win)
+    }
+
+    /// The least number from 1 on that no panel has.
+    pub fn least_free(&self) -> u16
+        ensures free { result < number_limit → taken_bit result (window_at self.now result) ≡ 0 }
+        ensures taken { (p : ℕ) → p < result → p < number_limit → taken_bit p (window_at self.now p) ≡ 1 }
+    {
+        self.numbers.least_free()
+    }
+
+    /// Gives a node other neighbours.
     pub fn set(&mut self, at: u16, node: Node)
-        requires { at < length self.old }
+        requires within { at < length self.old }
+        requires window { window_in node ≡ window_at self.old at }
         ensures { self.new ≡ slice_set self.old at node }
     {
         if at == 0 {
@@ -81,9 +113,28 @@ impl Nodes {
         }
     }
 
+    /// Gives a node another window, which is in no panel, or none.
+    pub fn set_window(&mut self, at: u16, win: Option<WinId>)
+        requires panel { 0 < at }
+        requires within { at < length self.old }
+        requires free { MatchOption win ⊤ (λ w. (p : ℕ) → window_at self.old p ≡ Some w.0 → ⊥) }
+        ensures { Windowed self.old self.new at (option_map (λ w. w.0) win) }
+    {
+        let mut node = self.get(at);
+        self.holders.set(node.window, 0);
+        self.holders.set(win, at);
+        self.numbers.set(at, win.is_some());
+        node.window = win;
+        self.panels[usize::from(at) - 1] = node;
+    }
+
+    /// Adds a node that no panel has.
     pub fn push(&mut self, node: Node) -> Result<(), AllocError>
+        requires few { length self.old ≤ MOST_PANELS }
+        requires free { window_in node ≡ None }
         ensures { self.new ≡ (if is_ok result then self.old ++ node ∷ [] else self.old) }
     {
+        self.holders.grow()?;
         self.panels.push(node)?;
         Ok(())
     }

@@ -1,13 +1,13 @@
 //! What the stack is asked. No query changes it.
 
-ghost use Rattle.std.specs.Prelude.{◌≡◌, ◌==◌, if◌then◌else◌, Some, None, IfOk, IfSome, is_some, reverse, length, ◌≤◌};
+ghost use Rattle.std.specs.Prelude.{◌≡◌, Some, IfOk, IfSome, is_some, reverse, length, ◌≤◌};
 ghost use Rattle.std.specs.Result.{result_err};
 ghost use Rattle.cell.specs.declared.limits.TheConstants.{MOST_PANELS};
 ghost use Rattle.world.specs.Panels.{is_in_panel};
 ghost use Rattle.world.specs.calls.Stacking.{is_hidden, missing_panel_refusal, neighbour_refusal, panel_above, panel_below, panel_number, IsSoundOrder};
 ghost use Rattle.stack.specs.Tables.{panels};
 
-use crate::entries::{holder, require_panel, require_visible};
+use crate::entries::{holder, panel_at, require_panel, require_visible};
 use crate::table::Stack;
 use crate::visible::Visible;
 use cell::{Refusal, WinId};
@@ -71,7 +71,7 @@ impl Stack {
         Ok(self.nodes.get(panel.0).above == panel.0)
     }
 
-    /// The panel that a window is in, if it is in one. It is looked for among all panels.
+    /// The panel that a window is in, if it is in one.
     pub fn panel_of(&self, win: WinId) -> Option<PanelId>
         ensures some { is_some result ≡ is_in_panel (panels self.now) win.0 }
         ensures panel { IfSome result (λ p. (panels self.now).window p.0 ≡ Some win.0) }
@@ -98,11 +98,4 @@ impl Stack {
         prove!(self.is_sound());
         Visible::from_top(&self.nodes)
     }
-}
-
-/// The panel of a node, but for the end of the order.
-fn panel_at(node: u16) -> Option<PanelId>
-    ensures { panel_number result ≡ (if node == 0 then None else Some node) }
-{
-    if node == 0 { None } else { Some(PanelId(node)) }
 }

@@ -3,6 +3,7 @@ use Rattle.std.specs.Prelude.{◌≡◌, ℕ, ◌+◌, ◌<◌, ◌≤◌, Optio
 use Rattle.cell.specs.declared.limits.TheConstants.{MOST_PANELS}
 use Rattle.world.specs.calls.Stacking.{given}
 use Rattle.stack.specs.Nodes.{above_at, below_at, window_at, from_bottom, IsOut, IsThreaded}
+use Rattle.stack.specs.Tables.{IsPanelTable}
 use Rattle.stack.specs.declared.nodes.Node.{Node}
 
 -- no panel has the number, and it is the next one at most
@@ -11,6 +12,13 @@ pub record IsFree (nodes : List Node) (p : ℕ) : Type 0 where
   pub from_one : 0 < p
   pub few : p ≤ MOST_PANELS
   pub next : p ≤ length nodes
+
+-- there is a node of the number p, and no panel is another
+pub record NodeMade (old new : List Node) (p : ℕ) : Type 0 where
+  pub table : IsPanelTable new
+  pub within : p < length new
+  pub window : (q : ℕ) → window_at new q ≡ window_at old q
+  pub is : from_bottom new ≡ from_bottom old
 
 -- the panel p has another window, or is none any more, and nothing else changed
 pub record Windowed (old new : List Node) (p : ℕ) (w : Option ℕ) : Type 0 where

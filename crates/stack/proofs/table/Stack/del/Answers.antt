@@ -6,11 +6,11 @@ use Rattle.stack.proofs.table.Stack.del.Goals as goal
 
 pub invariant_of-self : goal.invariant_of-self
 invariant_of-self c =
-    deleted-table c.self.inside.nodes c.take_out.new.nodes c.set_window.new.nodes c.args.panel.0
+    deleted-table c.self.inside.nodes c.take_out.new.nodes c.set_window.new.self c.args.panel.0
     c.self.invariant c.in_ok-require_panel.ensures.panel c.take_out.ensures.order c.take_out.ensures.out c.set_window.ensures
 
 pub returns-clause-deleted : goal.returns-clause-deleted
 returns-clause-deleted c =
-    deleted-panels c.self.inside.nodes c.take_out.new.nodes c.set_window.new.nodes c.args.panel.0
+    deleted-panels c.self.inside.nodes c.take_out.new.nodes c.set_window.new.self c.args.panel.0
     c.self.invariant c.in_ok-require_panel.ensures.panel c.take_out.ensures.order c.take_out.ensures.out c.set_window.ensures
     ∙ ap (λ (t : PanelTable). after_del_panel (panels t) c.args.panel.0) c.self.view_is

@@ -2,9 +2,12 @@ use Rattle.std.proofs.Common.{ap, arith, rules, ◌∙◌}
 use Rattle.world.specs.calls.Stacking.{after_new_panel}
 use Rattle.stack.specs.Tables.{panels, PanelTable}
 use Rattle.stack.specs.steps.Entries.{IsFree}
-use Rattle.stack.proofs.Numbers.{none-has}
+use Rattle.stack.proofs.Searches.{none-has}
 use Rattle.stack.proofs.Tables.{made-panels, made-table}
 use Rattle.stack.proofs.table.Stack.new_panel.Goals as goal
+
+pub enter-requires-clause-window : goal.enter-requires-clause-window
+enter-requires-clause-window c = none-has c.self.inside.nodes c.self.invariant c.args.win.0 (grind (arith, c.holder.ensures.some))
 
 pub invariant_of-self-2 : goal.invariant_of-self-2
 invariant_of-self-2 c =

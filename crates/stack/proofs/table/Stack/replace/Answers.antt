@@ -1,19 +1,22 @@
 use Rattle.std.proofs.Common.{ap, arith, ◌∙◌}
 use Rattle.world.specs.calls.Stacking.{after_replace_panel}
 use Rattle.stack.specs.Tables.{panels, PanelTable}
-use Rattle.stack.proofs.Numbers.{none-has}
+use Rattle.stack.proofs.Searches.{none-has}
 use Rattle.stack.proofs.Tables.{replaced-panels, replaced-table}
 use Rattle.stack.proofs.table.Stack.replace.Goals as goal
+
+pub set_window-requires-clause-free : goal.set_window-requires-clause-free
+set_window-requires-clause-free c = none-has c.self.inside.nodes c.self.invariant c.args.win.0 (grind (arith, c.holder.ensures.some))
 
 pub invariant_of-self : goal.invariant_of-self
 invariant_of-self c =
     let old = c.self.inside.nodes in
     let free = none-has old c.self.invariant c.args.win.0 (grind (arith, c.holder.ensures.some)) in
-    replaced-table old c.set_window.new.nodes c.args.panel.0 c.args.win.0
+    replaced-table old c.set_window.new.self c.args.panel.0 c.args.win.0
     c.self.invariant c.in_ok-require_panel.ensures.panel c.set_window.ensures free
 
 pub returns-clause-replaced : goal.returns-clause-replaced
 returns-clause-replaced c =
-    replaced-panels c.self.inside.nodes c.set_window.new.nodes c.args.panel.0 c.args.win.0
+    replaced-panels c.self.inside.nodes c.set_window.new.self c.args.panel.0 c.args.win.0
     c.self.invariant c.in_ok-require_panel.ensures.panel c.set_window.ensures
     ∙ ap (λ (t : PanelTable). after_replace_panel (panels t) c.args.panel.0 c.args.win.0) c.self.view_is

@@ -1,0 +1,151 @@
+-- How the bits of the numbers and the panels of windows follow the nodes.
+use Rattle.std.proofs.Common.{◌≡◌, ℕ, zero, suc, ◌+◌, ◌-◌, ◌<◌, ◌≤◌, ◌==◌, if◌then◌else◌, ◌⊎◌, Option, None, Some, is_some, MatchOption, List, [], ◌∷◌, ◌++◌, length, set, take, replicate, length-set, get_or-set_same, get_or-set_other, sym, ap, ◌∙◌, refl, inl, inr, arith}
+use Rattle.std.proofs.lemmas.Bool.{cases_eq, eq-eqb, ne_eqb}
+use Rattle.std.proofs.lemmas.List.{length_push, take_all}
+use Rattle.cell.specs.declared.limits.TheConstants.{MOST_PANELS}
+use Rattle.cell.specs.declared.window.WinId.{WinId}
+use Rattle.std.specs.Option.{option_map}
+use Rattle.world.specs.calls.Stacking.{given}
+use Rattle.stack.specs.Indexes.{held_by, holder_at, number_bit, number_limit, taken_bit, window_limit, IsIndexed}
+use Rattle.stack.specs.Nodes.{no_node, node_at, above_at, below_at, window_at, window_in}
+use Rattle.stack.specs.steps.Entries.{Windowed}
+use Rattle.stack.specs.declared.nodes.Node.{Node}
+use Rattle.stack.proofs.Bits.{zeros}
+use Rattle.stack.proofs.Windows.{given-other, given-same, window-free}
+
+-- nothing that they say changed
+pub indexed-same : (old new : List Node) (numbers holders holders' : List ℕ) → IsIndexed old numbers holders → length new ≤ MOST_PANELS + 1 → (1 < length new → window_limit ≤ length holders') → ((p : ℕ) → window_at new p ≡ window_at old p) → ((w : ℕ) → holder_at holders' w ≡ holder_at holders w) → IsIndexed new numbers holders'
+indexed-same old new numbers holders holders' h few room windows same = record {
+  few = few;
+  room = room;
+  number = λ p lt. h.number p lt ∙ ap (taken_bit p) (sym (windows p));
+  panel = λ p w is. same w ∙ h.panel p w (sym (windows p) ∙ is);
+  window = λ w some. windows (holder_at holders' w) ∙ ap (window_at old) (same w) ∙ h.window w (let e = same w in omega arith);
+}
+
+-- a node has other neighbours, or is another panel's
+module _ (nodes : List Node) (p : ℕ) (node : Node) (lt : p < length nodes) where
+  node-set_same : (q : ℕ) → q ≡ p → node_at (set nodes p node) q ≡ node
+  node-set_same q same = rw same (get_or-set_same nodes p node no_node lt)
+
+  node-set_other : (q : ℕ) → (q ≡ p → ⊥) → node_at (set nodes p node) q ≡ node_at nodes q
+  node-set_other q other = get_or-set_other nodes p q node no_node other
+
+  field-set : {A : Type 0} (field : Node → A) → field node ≡ field (node_at nodes p) → (q : ℕ) → field (node_at (set nodes p node) q) ≡ field (node_at nodes q)
+  field-set field is q = elim (cases_eq q p) [
+    | inl same ↦ ap field (node-set_same q same) ∙ is ∙ ap (λ (k : ℕ). field (node_at nodes k)) (sym same)
+    | inr other ↦ ap field (node-set_other q other)
+  ]
+
+  pub indexed-set : (numbers holders : List ℕ) → IsIndexed nodes numbers holders → window_in node ≡ window_at nodes p → IsIndexed (set nodes p node) numbers holders
+  indexed-set numbers holders h is =
+      let len = length-set nodes p node in
+      indexed-same nodes (set nodes p node) numbers holders holders h (let few = h.few in omega arith) (λ some. h.room (omega arith)) (field-set window_in is) (λ w. refl)
+
+  pub windowed-set : node.above ≡ above_at nodes p → node.below ≡ below_at nodes p → Windowed nodes (set nodes p node) p (window_in node)
+  windowed-set above below = record {
+    length = length-set nodes p node;
+    window = λ q. elim (cases_eq q p) [
+      | inl same ↦ ap window_in (node-set_same q same) ∙ sym (given-same (window_at nodes) p (window_in node) q same)
+      | inr other ↦ ap window_in (node-set_other q other) ∙ sym (given-other (window_at nodes) p (window_in node) q other)
+    ];
+    above = field-set (λ n. n.above) above;
+    below = field-set (λ n. n.below) below;
+  }
+
+-- as the code writes it, which has the end beside the others
+pub set-behind : (end : Node) (nodes : List Node) (p : ℕ) (node : Node) → 0 < p → set (end ∷ nodes) p node ≡ end ∷ set nodes (p - 1) node
+set-behind end nodes zero node some = absurd (omega arith)
+set-behind end nodes (suc p) node some = let e : p ≡ suc p - 1 = omega arith in ap (λ (k : ℕ). end ∷ set nodes k node) e
+
+-- a node that no panel has
+pub indexed-pushed : (nodes : List Node) (node : Node) (numbers holders holders' : List ℕ) → IsIndexed nodes numbers holders → length nodes ≤ MOST_PANELS → window_in node ≡ None → window_limit ≤ length holders' → ((w : ℕ) → holder_at holders' w ≡ holder_at holders w) → IsIndexed (nodes ++ node ∷ []) numbers holders'
+indexed-pushed nodes node numbers holders holders' h few none room same =
+    indexed-same nodes (nodes ++ node ∷ []) numbers holders holders' h (let more = length_push nodes node in omega arith) (λ some. room)
+    (window-free nodes node none) same
+
+-- room for more windows
+appended-zeros : (holders : List ℕ) (n w : ℕ) → holder_at (holders ++ replicate n 0) w ≡ holder_at holders w
+appended-zeros [] n w = zeros n w
+appended-zeros (p ∷ holders) n zero = refl
+appended-zeros (p ∷ holders) n (suc w) = appended-zeros holders n w
+
+pub holder-grown : (holders : List ℕ) (n m : ℕ) → length holders ≤ n → (w : ℕ) → holder_at (take n holders ++ replicate m 0) w ≡ holder_at holders w
+holder-grown holders n m few w = rw (take_all n holders few) (appended-zeros holders m w)
+
+-- ---- a window changes
+
+-- a window, or another
+cases_window : (o : Option ℕ) (w : ℕ) → (o ≡ Some w) ⊎ (o ≡ Some w → ⊥)
+cases_window None w = inr (λ e. cc)
+cases_window (Some u) w = elim (cases_eq u w) [
+  | inl same ↦ inl (ap Some same)
+  | inr other ↦ inr (λ e. other cc)
+]
+
+held-same : (o : Option ℕ) (p : ℕ) (holder : ℕ → ℕ) (w : ℕ) → o ≡ Some w → held_by o p holder w ≡ p
+held-same None p holder w is = cc
+held-same (Some u) p holder w is = let e : w ≡ u = cc in rw (eq-eqb w u e) refl
+
+held-other : (o : Option ℕ) (p : ℕ) (holder : ℕ → ℕ) (w : ℕ) → (o ≡ Some w → ⊥) → held_by o p holder w ≡ holder w
+held-other None p holder w other = refl
+held-other (Some u) p holder w other = rw (ne_eqb w u (λ e. other (ap Some (sym e)))) refl
+
+taken-given : (window : ℕ → Option ℕ) (p : ℕ) (o : Option ℕ) (q : ℕ) → 0 < p → taken_bit q (given window p o q) ≡ (if q == p then (if is_some o then 1 else 0) else taken_bit q (window q))
+taken-given window p o q positive = elim (cases_eq q p) [
+  | inl same ↦ rw (eq-eqb q p same) (rw (ne_eqb q 0 (λ e. omega arith)) refl)
+  | inr other ↦ rw (ne_eqb q p other) refl
+]
+
+-- the panel p has the window o now, which was in none
+module _ (old new : List Node) (numbers numbers' holders middle holders' : List ℕ) (p : ℕ) (o : Option ℕ) (h : IsIndexed old numbers holders) (positive : 0 < p) (lt : p < length old) where
+  module _ (len : length new ≡ length old) (windows : (q : ℕ) → window_at new q ≡ given (window_at old) p o q) (free : (q w : ℕ) → o ≡ Some w → window_at old q ≡ Some w → ⊥) where
+    module _ (released : (w : ℕ) → holder_at middle w ≡ held_by (window_at old p) 0 (holder_at holders) w) (held : (w : ℕ) → holder_at holders' w ≡ held_by o p (holder_at middle) w) where
+      held-new : (w : ℕ) → o ≡ Some w → holder_at holders' w ≡ p
+      held-new w is = held w ∙ held-same o p (holder_at middle) w is
+
+      held-old : (w : ℕ) → (o ≡ Some w → ⊥) → (window_at old p ≡ Some w → ⊥) → holder_at holders' w ≡ holder_at holders w
+      held-old w other differs = held w ∙ held-other o p (holder_at middle) w other ∙ released w ∙ held-other (window_at old p) 0 (holder_at holders) w differs
+
+      held-none : (w : ℕ) → (o ≡ Some w → ⊥) → window_at old p ≡ Some w → holder_at holders' w ≡ 0
+      held-none w other is = held w ∙ held-other o p (holder_at middle) w other ∙ released w ∙ held-same (window_at old p) 0 (holder_at holders) w is
+
+      panel-windowed : (q w : ℕ) → window_at new q ≡ Some w → holder_at holders' w ≡ q
+      panel-windowed q w is = elim (cases_eq q p) [
+        | inl same ↦ held-new w (sym (windows q ∙ given-same (window_at old) p o q same) ∙ is) ∙ sym same
+        | inr other ↦
+            let was = sym (windows q ∙ given-other (window_at old) p o q other) ∙ is in
+            held-old w (λ e. free q w e was) (λ e. other (sym (h.panel q w was) ∙ h.panel p w e)) ∙ h.panel q w was
+      ]
+
+      window-windowed : (w : ℕ) → 0 < holder_at holders' w → window_at new (holder_at holders' w) ≡ Some w
+      window-windowed w some = elim (cases_window o w) [
+        | inl is ↦ ap (window_at new) (held-new w is) ∙ windows p ∙ given-same (window_at old) p o p refl ∙ is
+        | inr other ↦ elim (cases_window (window_at old p) w) [
+          | inl had ↦ let none = held-none w other had in absurd (omega arith)
+          | inr differs ↦
+              let kept = held-old w other differs in
+              let was = h.window w (omega arith) in
+              ap (window_at new) kept ∙ windows (holder_at holders w)
+              ∙ given-other (window_at old) p o (holder_at holders w) (λ e. differs (ap (window_at old) (sym e) ∙ was)) ∙ was
+        ]
+      ]
+
+      pub indexed-windowed : length middle ≡ length holders → length holders' ≡ length middle → ((q : ℕ) → q < number_limit → number_bit numbers' q ≡ (if q == p then (if is_some o then 1 else 0) else number_bit numbers q)) → IsIndexed new numbers' holders'
+      indexed-windowed first second bits = record {
+        few = let few = h.few in omega arith;
+        room = λ some. let room = h.room (omega arith) in omega arith;
+        number = λ q below. bits q below ∙ ap (λ (n : ℕ). if q == p then (if is_some o then 1 else 0) else n) (h.number q below)
+            ∙ sym (taken-given (window_at old) p o q positive) ∙ ap (taken_bit q) (sym (windows q));
+        panel = panel-windowed;
+        window = window-windowed;
+      }
+
+-- as the code has the window
+pub free-window : (nodes : List Node) (win : Option WinId) → MatchOption win (Unit {0}) (λ u. (q : ℕ) → window_at nodes q ≡ Some u.0 → ⊥) → (q w : ℕ) → option_map (λ (u : WinId). u.0) win ≡ Some w → window_at nodes q ≡ Some w → ⊥
+free-window nodes None h q w e is = cc
+free-window nodes (Some u) h q w e is = h q (is ∙ sym e)
+
+pub some-window : (win : Option WinId) → is_some win ≡ is_some (option_map (λ (u : WinId). u.0) win)
+some-window None = refl
+some-window (Some u) = refl

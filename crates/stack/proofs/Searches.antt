@@ -1,0 +1,154 @@
+-- The search for the number of the next panel, and for the panel of a window, step by step.
+use Rattle.std.proofs.Common.{◌≡◌, ℕ, zero, suc, ◌+◌, ◌-◌, ◌<◌, ◌≤◌, ◌==◌, if◌then◌else◌, true, false, Option, None, Some, IfSome, is_none, is_some, List, length, find, sym, ap, ◌∙◌, refl, inl, inr, arith}
+use Rattle.std.specs.List.{range_with_len}
+use Rattle.std.proofs.lemmas.Bool.{cases_eq, cases_lt, eq-eqb, ne_eqb, false_from_ne_true}
+use Rattle.std.proofs.lemmas.List.{get_or_past}
+use Rattle.std.proofs.lemmas.Option.{same_Some}
+use Rattle.cell.specs.declared.limits.TheConstants.{MOST_PANELS}
+use Rattle.world.specs.Panels.{is_in_panel, panel_limit}
+use Rattle.world.specs.calls.Stacking.{new_panel_number, panel_number}
+use Rattle.world.specs.declared.panel.PanelId.{PanelId}
+use Rattle.world.proofs.PanelLaws.{in_panel-some, in_panel-true}
+use Rattle.stack.specs.Indexes.{number_limit, taken_bit}
+use Rattle.stack.specs.Nodes.{no_node, window_at, window_in}
+use Rattle.stack.specs.Tables.{panels, table_of, IsPanelTable}
+use Rattle.stack.specs.steps.Entries.{IsFree}
+use Rattle.stack.specs.declared.nodes.Node.{Node}
+use Rattle.stack.proofs.Tables.{is-panel}
+use Rattle.stack.proofs.Threads.{panel-below}
+use Rattle.stack.proofs.Windows.{window-is}
+
+limit-is : panel_limit ≡ MOST_PANELS + 1
+unfolding panel_limit
+limit-is = refl
+
+-- what the bit of a number says of its node
+taken-none : (p : ℕ) (o : Option ℕ) → 0 < p → taken_bit p o ≡ 0 → o ≡ None
+taken-none p None positive h = refl
+taken-none p (Some w) positive h = let e : taken_bit p (Some w) ≡ 1 = rw (ne_eqb p 0 (λ z. omega arith)) refl in absurd (omega arith)
+
+taken-some : (p : ℕ) (o : Option ℕ) → 0 < p → taken_bit p o ≡ 1 → is_none o ≡ false
+taken-some p None positive h = let e : taken_bit p None ≡ 0 = rw (ne_eqb p 0 (λ z. omega arith)) refl in absurd (omega arith)
+taken-some p (Some w) positive h = refl
+
+module _ (nodes : List Node) where
+  -- from the number k on
+  abbrev pub search_from : ℕ → Option ℕ
+  search_from k = find (λ p. is_none ((panels (table_of nodes)).window p)) (range_with_len k (panel_limit - k))
+
+  list-left : (k : ℕ) → k < MOST_PANELS + 1 → panel_limit - k ≡ suc (panel_limit - (k + 1))
+  list-left k lt = omega (arith, limit-is)
+
+  pub search-more : (k : ℕ) → k < MOST_PANELS + 1 → is_none (window_at nodes k) ≡ false → search_from k ≡ search_from (k + 1)
+  search-more k lt taken = rw (list-left k lt) (rw (window-is nodes k) (rw taken refl))
+
+  pub search-here : (k : ℕ) → k < MOST_PANELS + 1 → is_none (window_at nodes k) ≡ true → search_from k ≡ Some k
+  search-here k lt free = rw (list-left k lt) (rw (window-is nodes k) (rw free refl))
+
+  pub window-past : (k : ℕ) → length nodes ≤ k → window_at nodes k ≡ None
+  window-past k ge = ap window_in (get_or_past nodes k no_node ge)
+
+  pub search-end : (k : ℕ) → MOST_PANELS + 1 ≤ k → search_from k ≡ None
+  search-end k le = ap (λ m. find (λ p. is_none ((panels (table_of nodes)).window p)) (range_with_len k m)) (let e : panel_limit - k ≡ 0 = omega (arith, limit-is, le) in e)
+
+  -- over numbers that are taken
+  search-skip : (d k : ℕ) → ((p : ℕ) → k ≤ p → p < k + d → is_none (window_at nodes p) ≡ false) → k + d ≤ MOST_PANELS + 1 → search_from k ≡ search_from (k + d)
+  search-skip zero k taken few = let e : k ≡ k + 0 = omega arith in ap search_from e
+  search-skip (suc d) k taken few =
+      let e : k + 1 + d ≡ k + suc d = omega arith in
+      search-more k (omega arith) (taken k (omega arith) (omega arith))
+      ∙ search-skip d (k + 1) (λ p from to. taken p (omega arith) (omega arith)) (omega arith)
+      ∙ ap search_from e
+
+-- the least number whose bit is clear
+module _ (nodes : List Node) (table : IsPanelTable nodes) (n : ℕ) (free : n < number_limit → taken_bit n (window_at nodes n) ≡ 0) (taken : (p : ℕ) → p < n → p < number_limit → taken_bit p (window_at nodes p) ≡ 1) where
+  least-positive : 0 < n
+  least-positive = elim (cases_eq n 0) [
+    | inl zero_is ↦ absurd (let e : taken_bit n (window_at nodes n) ≡ 1 = rw zero_is refl in let f = free (omega arith) in omega arith)
+    | inr other ↦ omega arith
+  ]
+
+  below-taken : (p : ℕ) → 1 ≤ p → p < n → p < number_limit → is_none (window_at nodes p) ≡ false
+  below-taken p from lt within = taken-some p (window_at nodes p) (omega arith) (taken p lt within)
+
+  least-free : n ≤ MOST_PANELS → window_at nodes n ≡ None
+  least-free few = taken-none n (window_at nodes n) least-positive (free (omega arith))
+
+  pub least-found : n ≤ MOST_PANELS → Some n ≡ new_panel_number (panels (table_of nodes))
+  least-found few =
+      let positive = least-positive in
+      let e : 1 + (n - 1) ≡ n = omega arith in
+      sym (search-skip nodes (n - 1) 1 (λ p from to. below-taken p from (omega arith) (omega arith)) (omega arith)
+      ∙ ap (search_from nodes) e ∙ search-here nodes n (omega arith) (ap (λ (o : Option ℕ). is_none o) (least-free few)))
+
+  pub none-found : (n ≤ MOST_PANELS → ⊥) → None ≡ new_panel_number (panels (table_of nodes))
+  none-found many =
+      sym (search-skip nodes MOST_PANELS 1 (λ p from to. below-taken p from (omega arith) (omega arith)) (omega arith)
+      ∙ search-end nodes (1 + MOST_PANELS) (omega arith))
+
+  pub least-is : n ≤ MOST_PANELS → IsFree nodes n
+  least-is few =
+      let positive = least-positive in
+      let some = table.some_node in
+      record {
+        free = least-free few;
+        from_one = positive;
+        few = few;
+        next = elim (cases_lt (length nodes) n) [
+          | inl past ↦ absurd (
+              let full = below-taken (length nodes) (omega arith) past (omega arith) in
+              let none = ap (λ (o : Option ℕ). is_none o) (window-past nodes (length nodes) (omega arith)) in
+              let t : true ≡ false = sym none ∙ full in cc)
+          | inr le ↦ le
+        ];
+      }
+
+-- ---- the panel of a window
+
+some-number : (r : Option PanelId) → is_some r ≡ is_some (panel_number r)
+some-number None = refl
+some-number (Some p) = refl
+
+module _ (nodes : List Node) (h : IsPanelTable nodes) (w : ℕ) where
+  pub in-panel : (p : ℕ) → window_at nodes p ≡ Some w → is_in_panel (panels (table_of nodes)) w ≡ true
+  in-panel p is =
+      let lt = panel-below nodes p (is-panel nodes h p w is) in
+      let few = h.few_nodes in
+      in_panel-some (panels (table_of nodes)) w p (omega arith) (window-is nodes p ∙ is)
+
+  -- no node has it
+  abbrev pub NoneHas : ℕ → Type 0
+  NoneHas n = (p : ℕ) → p < n → window_at nodes p ≡ Some w → ⊥
+
+  pub in-no-panel : NoneHas (length nodes) → is_in_panel (panels (table_of nodes)) w ≡ false
+  in-no-panel none = false_from_ne_true (is_in_panel (panels (table_of nodes)) w) (λ yes.
+      let found = in_panel-true (panels (table_of nodes)) w yes in
+      let is = sym (window-is nodes found.0) ∙ found.1 in
+      none found.0 (panel-below nodes found.0 (is-panel nodes h found.0 w is)) is)
+
+  -- as the code finds it, where 0 is none
+  module _ (p : ℕ) (window : 0 < p → window_at nodes p ≡ Some w) (only : (q : ℕ) → window_at nodes q ≡ Some w → p ≡ q) where
+    pub holder-some : (r : Option PanelId) → panel_number r ≡ (if p == 0 then None else Some p) → is_some r ≡ is_in_panel (panels (table_of nodes)) w
+    holder-some r is = elim (cases_eq p 0) [
+      | inl none ↦
+          let e : panel_number r ≡ None = is ∙ rw (eq-eqb p 0 none) refl in
+          some-number r ∙ ap (λ (o : Option ℕ). is_some o) e
+          ∙ sym (in-no-panel (λ q lt has. let panel = is-panel nodes h q w has in let from_one = panel.0 in let same = only q has in omega arith))
+      | inr other ↦
+          let e : panel_number r ≡ Some p = is ∙ rw (ne_eqb p 0 other) refl in
+          some-number r ∙ ap (λ (o : Option ℕ). is_some o) e ∙ sym (in-panel p (window (omega arith)))
+    ]
+
+    pub holder-panel : (r : Option PanelId) → panel_number r ≡ (if p == 0 then None else Some p) → IfSome r (λ q. window_at nodes q.0 ≡ Some w)
+    holder-panel None is = tt
+    holder-panel (Some q) is = elim (cases_eq p 0) [
+      | inl none ↦ absurd (let e : panel_number (Some q) ≡ None = is ∙ rw (eq-eqb p 0 none) refl in cc)
+      | inr other ↦
+          let e : panel_number (Some q) ≡ Some p = is ∙ rw (ne_eqb p 0 other) refl in
+          let same : q.0 ≡ p = same_Some q.0 p e in
+          ap (window_at nodes) same ∙ window (omega arith)
+    ]
+
+  -- where the world says so, none has it
+  pub none-has : is_in_panel (panels (table_of nodes)) w ≡ false → (p : ℕ) → window_at nodes p ≡ Some w → ⊥
+  none-has free p is = let yes = in-panel p is in let t : true ≡ false = sym yes ∙ free in cc
