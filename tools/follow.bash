@@ -1,18 +1,51 @@
-# follow NAME LOG COMMAND..: runs a command of `rt`, puts all that it says into a log, and what tells how far it is on standard error,
-# behind a name. Where the command fails, the log's end comes behind that, and the status is not 0.
+# follow NAME LOG CRATES COMMAND..: runs a command of `rt`, puts all that it says into a log, and tells on standard error, behind a name,
+# which of the crates it is proving. Where the command fails, the log's end comes behind that, and the status is not 0.
 follow() {
-    local name=$1 log=$2
-    shift 2
+    local name=$1 log=$2 crates=$3
+    shift 3
     mkdir -p "$(dirname "$log")"
     if ! (
         set -o pipefail
-        "$@" < /dev/null 2>&1 | tee "$log" | { stdbuf -oL grep -E '^(rt: chose|logic=|so far: [0-9]+ of)' || true; } |
-            sed -u "s/^/$name: /" >&2
+        "$@" < /dev/null 2>&1 | tee "$log" | tell_progress "$name" "$crates" >&2
     ); then
         tail -n 40 "$log" >&2
         echo "$name: this failed; all that it said is in $log" >&2
         return 1
     fi
+}
+
+# Puts out, of what `rt` says, which crate is being proved, its place among some crates, and how many of its functions have been
+# looked at, as `proving grids (6 of 12): 40 of 83`.
+tell_progress() {
+    local name=$1 among crate line place
+    read -ra among <<< "$2"
+    while IFS= read -r line; do
+        if [[ $line =~ ^'rt: chose --jobs '[0-9]+' for '(.+) ]]; then
+            crate=${BASH_REMATCH[1]}
+            for place in "${!among[@]}"; do
+                if [ "${among[place]}" = "$crate" ]; then crate+=" ($((place + 1)) of ${#among[@]})"; fi
+            done
+            echo "$name: proving $crate"
+        elif [[ $line =~ ^'so far: '([1-9][0-9]*)' of '([0-9]+) ]]; then
+            echo "$name: proving ${crate:-}: ${BASH_REMATCH[1]} of ${BASH_REMATCH[2]}"
+        elif [[ $line == 'logic=not-proved'* ]]; then
+            echo "$name: not proved: ${crate:-}"
+        fi
+    done
+}
+
+# Puts out in a line a crate and before it those of the repository that it stands on, in the order in which `rt` proves them.
+crates_up_to() {
+    awk -v last="$1" '
+        function add(name,   low, n, i) {
+            if (name in added || !(name in below)) return
+            added[name]
+            n = split(below[name], low, " ")
+            for (i = 1; i <= n; i++) add(low[i])
+            printf "%s ", name
+        }
+        { sub(/#.*/, ""); split($0, side, ":"); split(side[1], word, " "); below[word[1]] = side[2] }
+        END { add(last) }' "$(dirname "${BASH_SOURCE[0]}")/../crates.txt"
 }
 
 # Ends with status 125 where `rt` is missing.
