@@ -20,6 +20,7 @@ may_have() {
         words) true ;;
         input | output) [ -n "$2" ] ;;
         script | stream | picture | shown | bytes) [[ $2 == '' || $2 == 'by bash' ]] ;;
+        cells) [ -z "$2" ] ;;
         log | out) [[ $2 == '' || $2 == 'by bash' || $2 == has ]] ;;
         *) false ;;
     esac
@@ -148,7 +149,7 @@ write_as_it_is() {
 # Puts out what came of a step of which the case wants no such section.
 write_new() {
     local name
-    for name in picture shown bytes out log status; do
+    for name in picture shown bytes cells out log status; do
         if [ -n "${came["$1 $name"]+set}" ] && [ -z "${head["$1 $name"]+set}" ]; then
             write_section "$name" "${came["$1 $name"]}"
         fi

@@ -1,5 +1,6 @@
 # Runs the program on a case that was read, and compares what comes with what the case wants. It needs
 #   program, has_show   the program, and whether it has the subcommand show
+#   tally, has_tally    the program that counts composed cells, and whether it is there
 #   work                a folder for files
 #   is_writing          whether what came of a case that failed is written, to a file that begins with `place`
 #   name                the case's name
@@ -173,9 +174,44 @@ try_show() {
     judge 'run | show'
 }
 
+# Leaves in `text` counts of cells, with each that lies in the range of its line (`2 to 10`) replaced by that range.
+take_in_ranges() {
+    local count number=0 range ranges
+    mapfile -t ranges <<< "${1%$'\n'}"
+    text=
+    while read -r count; do
+        range=${ranges[number]-}
+        number=$((number + 1))
+        if [[ $range == *' to '* && $count -ge ${range%% *} && $count -le ${range##* } ]]; then count=$range; fi
+        text+=$count$'\n'
+    done < <(printf %s "$2")
+}
+
+# Counts the cells that each update_panels of a step composed, where some step of the case wants that.
+try_tally() {
+    local text counts
+    [[ " ${order[*]} " == *' cells '* ]] || return 0
+    if ! $has_tally; then
+        skipped=$((skipped + 1))
+        is_whole=false
+        return
+    fi
+    "$tally" "${words[2]}" "${words[4]}" < "$input" > "$work/out" 2> "$work/log"
+    compare_status 0 "$?"
+    take "$work/out"
+    take_behind "$text" "$tallied"
+    counts=$text
+    tallied+=$counts
+    has cells || return 0
+    want cells
+    take_in_ranges "$text" "$counts"
+    compare cells "$text"
+    judge tally
+}
+
 # Runs a script, up to each of its steps.
 try_script() {
-    local sent='' told='' ended wanted_status=0
+    local sent='' told='' tallied='' ended wanted_status=0
     : > "$work/input"
     for ((step = 1; step <= steps; step++)); do
         put_section "$step script" >> "$work/input"
@@ -183,6 +219,7 @@ try_script() {
         try_run
         ! has picture || try_paint
         try_show
+        try_tally
     done
 }
 

@@ -1,0 +1,76 @@
+//! Makes the calls of a script on a screen, and puts out how many cells each `update_panels` of it read.
+#![tactic(auto)]
+
+use cell::Refusal;
+use desk::{Reply, Screen};
+use script::{Arguments, LONGEST_LINE, read_line};
+use std::env;
+use std::io::{self, ErrorKind, Read, Write};
+use std::process::ExitCode;
+use streams::Discard;
+
+fn main(rt: HostRuntime) -> ExitCode {
+    match run(&rt) {
+        Ok(()) => ExitCode::SUCCESS,
+        Err(_) => {
+            let usage =
+                b"usage: tally LINES COLUMNS < SCRIPT\nThe size, the script or a stream has a fault.\n";
+            let _ = rt.stderr().write_all(usage.as_slice());
+            ExitCode::FAILURE
+        }
+    }
+}
+
+/// A blank screen of the size that the words tell, over a sink that keeps nothing.
+fn screen_of(rt: &HostRuntime) -> io::Result<Screen<Discard>> {
+    let alloc = rt.alloc();
+    let words: Vec<String> = env::args(rt)?.collect(alloc)?;
+    let [_, lines, columns] = words.as_slice() else {
+        return Err(ErrorKind::InvalidInput.into());
+    };
+    let (Ok(lines), Ok(columns)) = (lines.parse::<u16>(), columns.parse::<u16>()) else {
+        return Err(ErrorKind::InvalidInput.into());
+    };
+    match Screen::new(alloc, lines, columns, Discard::new()) {
+        Ok(screen) => Ok(screen),
+        Err(Refusal::NoMemory) => Err(ErrorKind::OutOfMemory.into()),
+        Err(_) => Err(ErrorKind::InvalidInput.into()),
+    }
+}
+
+/// Makes the call of a line, if it has one, and answers how many cells it read, where it is `update_panels`.
+///
+/// # Errors
+/// `InvalidData` where the line has a fault. A refused call is none.
+fn composed(
+    screen: &mut Screen<Discard>,
+    line: &[u8],
+    taken: &mut Arguments,
+) -> io::Result<Option<u32>> {
+    if line.len() > LONGEST_LINE {
+        return Err(ErrorKind::InvalidData.into());
+    }
+    match read_line(line, taken) {
+        Ok(Some(word)) => match screen.call(&word.call(taken)) {
+            Ok(Reply::Composed(composed)) => Ok(Some(composed.cells)),
+            _ => Ok(None),
+        },
+        Ok(None) => Ok(None),
+        Err(_) => Err(ErrorKind::InvalidData.into()),
+    }
+}
+
+/// Makes the calls of the script on standard input, up to its first fault, and puts out each count in a line.
+fn run(rt: &HostRuntime) -> io::Result<()> {
+    let mut screen = screen_of(rt)?;
+    let mut text = Vec::new(rt.alloc());
+    rt.stdin().read_to_end(&mut text)?;
+    let mut out = rt.stdout();
+    let mut taken = Arguments::new();
+    for line in text.split(|b| *b == b'\n') {
+        if let Some(cells) = composed(&mut screen, line, &mut taken)? {
+            writeln!(out, "{}", cells)?;
+        }
+    }
+    Ok(())
+}
