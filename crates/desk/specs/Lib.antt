@@ -2,5 +2,6 @@ pub mod States
 pub mod Runs
 pub mod Ends
 pub mod Showing
+pub mod Methods
 pub mod ScriptEnds
 pub mod steps

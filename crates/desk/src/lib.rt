@@ -1,6 +1,7 @@
 //! A screen over a writer: runs of calls and of script lines, with what they send and log.
 #![tactic(auto)]
 
+mod calls;
 mod run_script;
 mod screen;
 

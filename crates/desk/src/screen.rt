@@ -164,7 +164,7 @@ impl<W: Sink> Screen<W> {
         ensures same { W.name self.new.writer ≡ W.name self.old.writer }
     {
         match *call {
-            Call::Refresh(Refresh::Doupdate) => self.doupdate(),
+            Call::Refresh(Refresh::Doupdate) => self.send_update(),
             _ => self.call_desk(call),
         }
     }
@@ -180,7 +180,7 @@ impl<W: Sink> Screen<W> {
     }
 
     /// Shows the virtual screen.
-    fn doupdate(&mut self) -> Result<Reply, Fault>
+    fn send_update(&mut self) -> Result<Reply, Fault>
         ensures call { CallEnds W.seen self.old (Call.Refresh Refresh.Doupdate) result self.new }
         ensures failures { (W.seen self.new.writer).failures ≡ counted (is_some (cut_of result)) (W.seen self.old.writer).failures }
         ensures same { W.name self.new.writer ≡ W.name self.old.writer }
