@@ -1,49 +1,18 @@
 -- What a change of one slot leaves of the table, and what it does to the windows.
-use Rattle.std.proofs.Common.{◌≡◌, ℕ, ◌+◌, ◌<◌, ◌≤◌, ◌≢◌, ◌==◌, Option, Some, None, IsSomeAnd, MatchOption, List, length, slice_set, ap, arith, refl, sym, ◌∙◌, subst, inl, inr, get_or-set_other, get_or-set_same, eq-eqb, ne_eqb}
+use Rattle.std.proofs.Common.{◌≡◌, ℕ, ◌<◌, ◌≢◌, ◌==◌, Option, Some, None, IsSomeAnd, List, ap, arith, sym, ◌∙◌, subst, inl, inr, eq-eqb, ne_eqb}
 use Rattle.std.specs.Option.{option_map}
-use Rattle.std.specs.Prelude.{⊤}
 use mathlib.Core.Path.{fun_ext}
-use Rattle.std.proofs.lemmas.Bool.{cases_eq, cases_lt, cond-true, cond-false}
-use Rattle.std.proofs.lemmas.List.{get_or_past, length-set}
-use Rattle.cell.specs.declared.limits.TheConstants.{MOST_WINDOWS}
+use Rattle.std.proofs.lemmas.Bool.{cases_eq, cond-true, cond-false}
 use Rattle.world.specs.Windows.{Window, WindowMap, changed, replaced}
 use Rattle.world.specs.Sound.{IsOnScreen, IsStandardScreen}
 use Rattle.world.specs.calls.Making.{numbered}
-use Rattle.grids.specs.declared.slot.Part.{Part}
-use Rattle.grids.specs.declared.slot.Cells.{Cells}
-use Rattle.grids.specs.declared.slot.Cells.TheVariants.{Own, Shared}
-use Rattle.grids.specs.Kept.{Kept, IsKept, window_of}
-use Rattle.grids.specs.Tables.{WindowTable, IsWindowTable, slot_at, window_map, windows, AreOrigins, FitsIn, StandsIn, IsChained}
-use Rattle.grids.specs.steps.Slots.{part_in}
-use Rattle.grids.specs.steps.Changes.{SameShape, Changed, SetAt}
-use Rattle.grids.proofs.Chain.{each_at, some_and, own_source, own_alone}
-use Rattle.grids.proofs.Origins.{HasOrigin, origins-changed, origins-filled}
-
--- ---- one slot has another window, or none
-
-pub SetAt-set : (slots : List (Option Kept)) (at : ℕ) (o : Option Kept) → length slots ≤ MOST_WINDOWS + 1 → at < length slots → SetAt slots (slice_set slots at o) at o
-SetAt-set slots at o few below = record {
-  here = get_or-set_same slots at o None below;
-  others = λ w other. get_or-set_other slots at w o None other;
-  more = omega (arith, length-set slots at o);
-  few = omega (arith, length-set slots at o);
-}
-
-pub slot_below : (slots : List (Option Kept)) (w : ℕ) (k : Kept) → slot_at slots w ≡ Some k → w < length slots
-slot_below slots w k e =
-    elim (cases_lt w (length slots)) [
-      | inl lt ↦ lt
-      | inr past ↦ (let gone : slot_at slots w ≡ None = get_or_past slots w None past in cc)
-    ]
-
--- what holds of each slot holds of each after one was set
-pub each_set : (P : Kept → Type 0) (old new : List (Option Kept)) (at : ℕ) (o : Option Kept) → SetAt old new at o
-    → ((w : ℕ) → MatchOption (slot_at old w) ⊤ P) → MatchOption o ⊤ P → (w : ℕ) → MatchOption (slot_at new w) ⊤ P
-each_set P old new at o set each one w =
-    elim (cases_eq w at) [
-      | inl same ↦ subst (λ q. MatchOption q ⊤ P) (sym (ap (slot_at new) same ∙ set.here)) one
-      | inr other ↦ subst (λ q. MatchOption q ⊤ P) (sym (set.others w other)) (each w)
-    ]
+use Rattle.slots.specs.Kept.{Kept, IsKept, window_of}
+use Rattle.grids.specs.Tables.{WindowTable, IsWindowTable, windows}
+use Rattle.slots.specs.Slots.{slot_at, window_map, AreOrigins, StandsIn, IsChained}
+use Rattle.slots.specs.Changes.{Changed, SetAt}
+use Rattle.slots.proofs.Chain.{each_at, some_and, own_source, own_alone}
+use Rattle.slots.proofs.OneSlot.{SetAt-set, slot_below, each_set, KeepsShape, chained_set, stands_too}
+use Rattle.slots.proofs.Origins.{HasOrigin, origins-changed, origins-filled}
 
 -- the windows after it
 pub windows-set : (t : WindowTable) (new : List (Option Kept)) (at : ℕ) (o : Option Kept) → SetAt t.slots new at o
@@ -57,53 +26,6 @@ windows-set t new at o set = ap (λ (map : WindowMap). record (windows t) { wind
           ap (option_map window_of) (set.others u other)
           ∙ sym (cond-false (u == at) (option_map window_of o) (window_map t.slots u) (ne_eqb u at other))
     ]))
-
--- ---- chains
-
--- a slot that was taken has the same shape
-abbrev pub KeepsShape : Option Kept → Option Kept → Type 0
-KeepsShape None n = Unit {0}
-KeepsShape (Some k) (Some j) = SameShape k j
-KeepsShape (Some k) None = ⊥
-
-KeepsShape-refl : (o : Option Kept) → KeepsShape o o
-KeepsShape-refl None = tt
-KeepsShape-refl (Some k) = record { lines = refl; columns = refl; place = refl; depth = refl }
-
-fits_more : (k : Kept) (part : Part) → (o n : Option Kept) → KeepsShape o n → MatchOption o ⊥ (FitsIn k part) → MatchOption n ⊥ (FitsIn k part)
-fits_more k part None n same h = absurd h
-fits_more k part (Some p) (Some q) same h = record {
-  depth = omega (arith, same.depth, h.depth);
-  within = record {
-    lines = omega (arith, same.lines, h.within.lines);
-    columns = omega (arith, same.columns, h.within.columns);
-    kind = h.within.kind ∙ sym same.place;
-  };
-}
-fits_more k part (Some p) None same h = absurd same
-
-stands_more : (old new : List (Option Kept)) → ((w : ℕ) → KeepsShape (slot_at old w) (slot_at new w)) → (k : Kept) (cells : Cells) → StandsIn old k cells → StandsIn new k cells
-stands_more old new same k (Own picture) h = h
-stands_more old new same k (Shared p) h = fits_more k p (slot_at old p.parent) (slot_at new p.parent) (same p.parent) h
-
-each_more : (old new : List (Option Kept)) → ((w : ℕ) → KeepsShape (slot_at old w) (slot_at new w)) → (n : Option Kept)
-    → MatchOption n ⊤ (λ k. IsKept k × StandsIn old k k.cells) → MatchOption n ⊤ (λ k. IsKept k × StandsIn new k k.cells)
-each_more old new same None h = h
-each_more old new same (Some k) h = (h.0, stands_more old new same k k.cells h.1)
-
--- one slot is filled, with a window whose parent is there
-pub chained_set : (old new : List (Option Kept)) (at : ℕ) (j : Kept) → IsChained old → SetAt old new at (Some j) → KeepsShape (slot_at old at) (Some j)
-    → IsKept j → StandsIn old j j.cells → IsChained new
-chained_set old new at j s set shape kept stands =
-    let shapes : (w : ℕ) → KeepsShape (slot_at old w) (slot_at new w) = λ w. elim (cases_eq w at) [
-      | inl same ↦ (let b = ap (slot_at new) same ∙ set.here in
-          subst (λ n. KeepsShape (slot_at old w) n) (sym b) (subst (λ (v : ℕ). KeepsShape (slot_at old v) (Some j)) (sym same) shape))
-      | inr other ↦ subst (λ n. KeepsShape (slot_at old w) n) (sym (set.others w other)) (KeepsShape-refl (slot_at old w))
-    ] in
-    record {
-      each = λ w. each_more old new shapes (slot_at new w)
-          (each_set (λ k. IsKept k × StandsIn old k k.cells) old new at (Some j) set s.each (kept, stands) w);
-    }
 
 -- ---- the table stays one
 
@@ -144,26 +66,6 @@ IsWindowTable-filled t new at k s set free kept stands placed from_one origin =
     (λ chained. origins-filled t.slots new at k s.chained set free s.origins (origin chained))
 
 -- ---- one slot's window was changed
-
-fits_too : (k j : Kept) (part : Part) → SameShape k j → (o : Option Kept) → MatchOption o ⊥ (FitsIn k part) → MatchOption o ⊥ (FitsIn j part)
-fits_too k j part s None h = h
-fits_too k j part s (Some p) h = record {
-  depth = s.depth ∙ h.depth;
-  within = record {
-    lines = omega (arith, s.lines, h.within.lines);
-    columns = omega (arith, s.columns, h.within.columns);
-    kind = s.place ∙ h.within.kind;
-  };
-}
-
--- a window of the same shape and offset stands where the other stood
-pub stands_too : (slots : List (Option Kept)) (k j : Kept) → SameShape k j → (before after : Cells) → part_in after ≡ part_in before → StandsIn slots k before → StandsIn slots j after
-stands_too slots k j s (Own a) (Own b) e h = s.depth ∙ h
-stands_too slots k j s (Shared p) (Shared q) e h =
-    let one : p ≡ q = cc in
-    subst (λ (r : Part). MatchOption (slot_at slots r.parent) ⊥ (FitsIn j r)) one (fits_too k j p s (slot_at slots p.parent) h)
-stands_too slots k j s (Own a) (Shared q) e h = cc
-stands_too slots k j s (Shared p) (Own b) e h = cc
 
 module _ (t : WindowTable) (new : List (Option Kept)) (at : ℕ) (change : Window → Window) (s : IsWindowTable t) (h : Changed t.slots new at change) where
   set_at : SetAt t.slots new at (Some h.after)

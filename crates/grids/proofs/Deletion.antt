@@ -1,23 +1,22 @@
 -- A window from which none derives is given up.
-use Rattle.std.specs.Prelude.{slice_index_or}
-use Rattle.std.proofs.Common.{◌≡◌, ℕ, zero, suc, ◌+◌, ◌<◌, ◌≤◌, ◌≢◌, Bool, true, false, ◌||◌, Option, Some, None, IsSomeAnd, MatchOption, List, [], ◌∷◌, length, ap, arith, refl, sym, ◌∙◌, subst, inl, inr, eq-eqb}
+use Rattle.std.proofs.Common.{◌≡◌, ℕ, zero, suc, ◌+◌, ◌<◌, ◌≤◌, ◌≢◌, Bool, true, false, Option, Some, None, IsSomeAnd, MatchOption, List, length, ap, arith, refl, sym, ◌∙◌, subst, inl, inr, eq-eqb}
 use Rattle.std.specs.Prelude.{⊤}
-use Rattle.std.specs.List.{list_any}
 use Rattle.std.proofs.lemmas.Bool.{cases_eq, or_parts, false≢true}
 use Rattle.cell.specs.declared.limits.TheConstants.{MOST_WINDOWS}
 use Rattle.world.specs.Windows.{any_below, window_limit}
 use Rattle.world.specs.Sound.{IsOnScreen}
 use Rattle.world.specs.calls.Making.{has_derived}
-use Rattle.grids.specs.declared.slot.Part.{Part}
-use Rattle.grids.specs.declared.slot.Cells.{Cells}
-use Rattle.grids.specs.declared.slot.Cells.TheVariants.{Own, Shared}
-use Rattle.grids.specs.Kept.{Kept, IsKept, window_of}
-use Rattle.grids.specs.Tables.{WindowTable, IsWindowTable, slot_at, window_map, StandsIn, IsChained}
-use Rattle.grids.specs.steps.Slots.{names_parent}
-use Rattle.grids.specs.steps.Changes.{SetAt}
-use Rattle.grids.proofs.Chain.{limit-is}
-use Rattle.grids.proofs.Changes.{slot_below, IsStandardOf, standard-still}
-use Rattle.grids.proofs.Origins.{origins-without}
+use Rattle.slots.specs.declared.slot.Part.{Part}
+use Rattle.slots.specs.declared.slot.Cells.{Cells}
+use Rattle.slots.specs.declared.slot.Cells.TheVariants.{Own, Shared}
+use Rattle.slots.specs.Kept.{Kept, IsKept, window_of}
+use Rattle.grids.specs.Tables.{WindowTable, IsWindowTable}
+use Rattle.slots.specs.Slots.{slot_at, window_map, StandsIn, IsChained, names_parent}
+use Rattle.slots.specs.Changes.{SetAt}
+use Rattle.slots.proofs.Chain.{limit-is}
+use Rattle.slots.proofs.OneSlot.{slot_below}
+use Rattle.grids.proofs.Changes.{IsStandardOf, standard-still}
+use Rattle.slots.proofs.Origins.{origins-without}
 
 stands_without : (old new : List (Option Kept)) (at : ℕ) → SetAt old new at None → (k : Kept) (cells : Cells) → ((part : Part) → cells ≡ Shared part → part.parent ≢ at) → StandsIn old k cells → StandsIn new k cells
 stands_without old new at set k (Own a) apart h = h
@@ -74,23 +73,3 @@ IsWindowTable-without t new at set s other h = record {
   origins = origins-without t.slots new at set (λ w k part e is. none_derives t.slots at s.few_slots h w k part e is) s.origins;
   placed = placed_without t new at set s;
 }
-
--- the test over the list is the one over the numbers
-or_swap : (a b c : Bool) → (a || (b || c)) ≡ (b || (a || c))
-or_swap true true c = refl
-or_swap true false c = refl
-or_swap false b c = refl
-
-any_below-first : (n : ℕ) (test : ℕ → Bool) → any_below (suc n) test ≡ (test 0 || any_below n (λ u. test (suc u)))
-any_below-first zero test = refl
-any_below-first (suc n) test = rw (any_below-first n test) (or_swap (test (suc n)) (test 0) (any_below n (λ u. test (suc u))))
-
-pub any_below-list : {A : Type 0} (test : Option A → Bool) → test None ≡ false → (xs : List (Option A)) (n : ℕ) → length xs ≤ n → any_below n (λ u. test (slice_index_or xs u None)) ≡ list_any test xs
-any_below-list test none [] zero h = refl
-any_below-list test none [] (suc n) h = ap (λ b. b || any_below n (λ u. test None)) none ∙ any_below-list test none [] n (omega arith)
-any_below-list test none (o ∷ xs) zero h = absurd (omega arith)
-any_below-list test none (o ∷ xs) (suc n) h =
-    any_below-first n (λ u. test (slice_index_or (o ∷ xs) u None)) ∙ ap (λ b. test o || b) (any_below-list test none xs n (omega arith))
-
-pub has_derived-list : (slots : List (Option Kept)) (w : ℕ) → length slots ≤ MOST_WINDOWS + 1 → list_any (names_parent w) slots ≡ has_derived (window_map slots) w
-has_derived-list slots w few = sym (any_below-list (names_parent w) refl slots window_limit (omega (arith, limit-is)))

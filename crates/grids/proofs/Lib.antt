@@ -1,8 +1,5 @@
-pub mod NewSlots
-pub mod Chain
 pub mod Changes
 pub mod Sounds
-pub mod Numbers
 pub mod Writes
 pub mod Shifts
 pub mod Deletion
@@ -13,8 +10,6 @@ pub mod CopyFrames
 pub mod Lines
 pub mod Touches
 pub mod Walks
-pub mod Origins
-pub mod Settling
 pub mod Syncs
 pub mod Shared
 pub mod Seen

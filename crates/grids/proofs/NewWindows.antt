@@ -8,16 +8,16 @@ use Rattle.world.specs.Windows.{Backing, part_of, Window, WindowMap}
 use Rattle.world.specs.Sound.{IsOnScreen}
 use Rattle.world.specs.calls.Making.{is_inside, extent, derived_window, place_from, numbered}
 use Rattle.world.specs.World.{new_window}
-use Rattle.grids.specs.declared.slot.Part.{Part}
-use Rattle.grids.specs.declared.slot.Cells.{Cells}
-use Rattle.grids.specs.declared.slot.Cells.TheVariants.{Own, Shared}
-use Rattle.grids.specs.Kept.{Kept, IsKept, window_of}
-use Rattle.grids.specs.Tables.{WindowTable, IsWindowTable, slot_at, windows, FitsIn, IsChained, StandsIn}
-use Rattle.grids.specs.steps.Slots.{part_in}
-use Rattle.grids.specs.steps.Changes.{SetAt, IsFree}
-use Rattle.grids.proofs.Chain.{shared_of}
+use Rattle.slots.specs.declared.slot.Part.{Part}
+use Rattle.slots.specs.declared.slot.Cells.{Cells}
+use Rattle.slots.specs.declared.slot.Cells.TheVariants.{Own, Shared}
+use Rattle.slots.specs.Kept.{Kept, IsKept, window_of}
+use Rattle.grids.specs.Tables.{WindowTable, IsWindowTable, windows}
+use Rattle.slots.specs.Slots.{slot_at, FitsIn, IsChained, StandsIn, part_in}
+use Rattle.slots.specs.Changes.{SetAt, IsFree}
+use Rattle.slots.proofs.Chain.{shared_of}
 use Rattle.grids.proofs.Changes.{windows-set, IsWindowTable-filled}
-use Rattle.grids.proofs.Origins.{HasOrigin}
+use Rattle.slots.proofs.Origins.{HasOrigin}
 
 pub stands_alone : (slots : List (Option Kept)) (k : Kept) (cells : Cells) → part_in cells ≡ None → k.depth ≡ 0 → StandsIn slots k cells
 stands_alone slots k (Own picture) e h = h

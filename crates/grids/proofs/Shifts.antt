@@ -6,14 +6,15 @@ use Rattle.cell.specs.declared.limits.TheConstants.{MOST_WINDOWS}
 use Rattle.world.specs.Windows.{Window, WindowMap, changed, replaced}
 use Rattle.world.specs.Sound.{IsOnScreen, IsStandardScreen}
 use Rattle.world.specs.calls.Making.{with_part}
-use Rattle.grids.specs.declared.slot.Part.{Part}
-use Rattle.grids.specs.declared.slot.Cells.TheVariants.{Shared}
-use Rattle.grids.specs.Kept.{Kept, window_of}
-use Rattle.grids.specs.Tables.{WindowTable, IsWindowTable, slot_at, window_map, windows, FitsIn, StandsIn, IsChained}
-use Rattle.grids.specs.steps.Slots.{part_in}
-use Rattle.grids.specs.steps.Changes.{Settled, Shifted, SetAt, shifted}
-use Rattle.grids.proofs.Chain.{parent_at, some_and, shared_of, own_alone}
-use Rattle.grids.proofs.Changes.{SetAt-set, slot_below, windows-set, each_set, chained_set, KeepsShape, IsStandardOf, standard-still, replaced-changed}
+use Rattle.slots.specs.declared.slot.Part.{Part}
+use Rattle.slots.specs.declared.slot.Cells.TheVariants.{Shared}
+use Rattle.slots.specs.Kept.{Kept, window_of}
+use Rattle.grids.specs.Tables.{WindowTable, IsWindowTable, windows}
+use Rattle.slots.specs.Slots.{slot_at, window_map, FitsIn, StandsIn, IsChained, part_in}
+use Rattle.slots.specs.Changes.{Settled, Shifted, SetAt, shifted}
+use Rattle.slots.proofs.Chain.{parent_at, some_and, shared_of, own_alone}
+use Rattle.slots.proofs.OneSlot.{SetAt-set, slot_below, each_set, chained_set, KeepsShape}
+use Rattle.grids.proofs.Changes.{windows-set, IsStandardOf, standard-still, replaced-changed}
 
 -- how a window stands in its parent
 fits_at : (slots : List (Option Kept)) → IsChained slots → (w : ℕ) (k p : Kept) (part : Part) → slot_at slots w ≡ Some k → part_in k.cells ≡ Some part → slot_at slots part.parent ≡ Some p → FitsIn k part p

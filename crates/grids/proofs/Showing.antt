@@ -8,10 +8,9 @@ use Rattle.cell.specs.Glyphs.{Glyph, blank}
 use Rattle.world.specs.Windows.{GridPlace, Window, WindowMap, HasPlace, own, onward, cell_of, cell_in_grid, cell_at}
 use Rattle.world.specs.Rows.{line_shown}
 use Rattle.world.proofs.WindowLaws.{own-onward}
-use Rattle.grids.specs.Kept.{Kept, window_of}
-use Rattle.grids.specs.Tables.{slot_at, window_map}
-use Rattle.grids.specs.steps.Slots.{columns_at}
-use Rattle.grids.proofs.Chain.{some_and}
+use Rattle.slots.specs.Kept.{Kept, window_of}
+use Rattle.slots.specs.Slots.{slot_at, window_map, columns_at}
+use Rattle.slots.proofs.Chain.{some_and}
 
 cell-read : (slots : List (Option Kept)) (w : ℕ) (g : Kept) (place : GridPlace) (y x : ℕ) → slot_at slots place.grid ≡ Some g → own (window_map slots) w 0 0 ≡ Some place
     → cell_of (window_of g).backing (place.line + y) (place.column + x) ≡ cell_at (window_map slots) w y x

@@ -13,11 +13,11 @@ use Rattle.world.specs.calls.Marks.{after_syncdown, after_syncup, in_line, shows
 use Rattle.world.specs.declared.settings.Columns.{Columns}
 use Rattle.world.proofs.Below.{any_below-some, any_below-true}
 use Rattle.world.proofs.WindowLaws.{own-onward, touched-touched}
-use Rattle.grids.specs.declared.place.Place.{Place}
-use Rattle.grids.specs.declared.slot.Part.{Part}
-use Rattle.grids.specs.steps.Slots.{in_parent}
+use Rattle.slots.specs.declared.place.Place.{Place}
+use Rattle.slots.specs.declared.slot.Part.{Part}
+use Rattle.slots.specs.Slots.{in_parent}
 use Rattle.grids.specs.steps.Syncs.{EndsWithin, has_column, is_touched_at, part_behind, shows_touched, touched_shown}
-use Rattle.grids.proofs.Chain.{from_parent, no_parent}
+use Rattle.slots.proofs.Chain.{from_parent, no_parent}
 use Rattle.grids.proofs.Shared.{shared-in, from-shared}
 use Rattle.grids.proofs.Touches.{changed-here, changed-nothing, changed-other, changed-same, changed-twice, touching-is, touching-none}
 use Rattle.grids.proofs.Walks.{Walk, Walk-start, Walk-step, ancestors-none, ancestors-parent, behind-none, behind-some, sound-there}

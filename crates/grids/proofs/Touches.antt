@@ -7,7 +7,7 @@ use Rattle.std.proofs.lemmas.Iterator.Adapters.{option_map_id}
 use Rattle.world.specs.Windows.{Window, WindowMap, Windows, changed, touched_below}
 use Rattle.world.specs.calls.Marks.{touching}
 use Rattle.world.specs.declared.settings.Columns.{Columns}
-use Rattle.grids.specs.steps.Changes.{spread, with_touched}
+use Rattle.slots.specs.Changes.{spread, with_touched}
 use Rattle.grids.proofs.Writes.{touched-none, touched-past}
 
 -- ---- one window changed twice, and not at all

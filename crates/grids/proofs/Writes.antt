@@ -9,10 +9,11 @@ use Rattle.cell.specs.Glyphs.{Glyph, blank}
 use Rattle.world.specs.Windows.{GridPlace, Window, WindowMap, Drawing, within, moved, laid_over, widened, touched_below, touched_by, drawn, put_from, put_windows, put, HasPlace, own, cell_at}
 use Rattle.world.specs.Rows.{filled, listed, copied}
 use Rattle.world.specs.declared.settings.Columns.{Columns}
-use Rattle.grids.specs.Kept.{Kept, window_of}
-use Rattle.grids.specs.Tables.{WindowTable, slot_at, window_map, windows}
-use Rattle.grids.specs.steps.Changes.{spread, Changed, with_touched, with_drawing}
-use Rattle.grids.proofs.Changes.{slot_below}
+use Rattle.slots.specs.Kept.{Kept, window_of}
+use Rattle.grids.specs.Tables.{WindowTable, windows}
+use Rattle.slots.specs.Slots.{slot_at, window_map}
+use Rattle.slots.specs.Changes.{spread, Changed, with_touched, with_drawing}
+use Rattle.slots.proofs.OneSlot.{slot_below}
 
 -- touching column after column
 

@@ -1,3 +1,5 @@
-pub mod Kept
+pub use Rattle.slots.specs.Kept
+pub use Rattle.slots.specs.Slots
+pub use Rattle.slots.specs.Changes
 pub mod Tables
 pub mod steps

@@ -3,17 +3,12 @@
 #![tactic(auto)]
 
 pub mod frame;
-mod line;
 mod making;
 mod marks;
-mod parents;
-mod place;
 mod queries;
 mod rectangle;
 mod rows;
 mod sharing;
-mod slot;
-mod slots;
 mod sync;
 mod table;
 

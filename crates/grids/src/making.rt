@@ -7,13 +7,13 @@ ghost use Rattle.world.specs.Sound.{AreSoundWindows};
 ghost use Rattle.world.specs.calls.Making.{is_inside, extent, new_number, place_from, numbered, newwin_refusal, after_newwin, newpad_refusal, after_newpad, part_tests, derwin_refusal, after_derwin, subpad_refusal, after_subpad, subwin_refusal, after_subwin, mvwin_refusal, after_mvwin, mvderwin_refusal, after_mvderwin, delwin_refusal, after_delwin};
 ghost use Rattle.grids.specs.Tables.{windows};
 
-use crate::parents::settle;
-use crate::slot::{Part, Slot};
-use crate::slots::{
-    fill_slot_at, free_number, free_slot, has_derived, origin_of, place_slot, shift_slot,
-};
 use crate::table::Grids;
 use cell::{LARGEST_PAD, Refusal, WinId, is_no_size};
+use slots::list::{
+    fill_slot_at, free_number, free_slot, has_derived, origin_of, place_slot, shift_slot,
+};
+use slots::parents::settle;
+use slots::{Part, Slot};
 
 impl Grids {
     /// Makes a window at a place of the screen, with a blank grid of its own. A size of 0 reaches to the edge of the screen.

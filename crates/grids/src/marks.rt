@@ -10,9 +10,9 @@ ghost use Rattle.world.specs.calls.Queries.{touched_columns};
 ghost use Rattle.world.specs.calls.Refresh.{unmarked};
 ghost use Rattle.grids.specs.Tables.{windows};
 
-use crate::slots::{mark_slot, unmark_slot};
 use crate::table::Grids;
 use cell::{Refusal, WinId};
+use slots::list::{mark_slot, unmark_slot};
 
 impl Grids {
     /// The first and the last touched column of line `y` of a window, and none without one. The line must be there.

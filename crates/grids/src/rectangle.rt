@@ -8,10 +8,10 @@ ghost use Rattle.world.specs.calls.writing.Editing.{drawing_frame};
 ghost use Rattle.grids.specs.Tables.{windows};
 
 use crate::frame::joined;
-use crate::place::Place;
-use crate::slots::origin_of;
 use crate::table::Grids;
 use cell::{Frame, WinId};
+use slots::Place;
+use slots::list::origin_of;
 
 impl Grids {
     /// Sets the cells of `lines` lines and `columns` columns of `dst`, from line `dy` and column `dx` on, to those that `src` has from

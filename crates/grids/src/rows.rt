@@ -10,10 +10,10 @@ ghost use Rattle.world.specs.calls.writing.Editing.{drawing_frame};
 ghost use Rattle.grids.specs.Tables.{windows};
 
 use crate::frame::{joined, place};
-use crate::place::Place;
-use crate::slots::{columns_of, fill_row, origin_of, put_row, row_in, touch_row};
 use crate::table::Grids;
 use cell::{Cell, Frame, WinId};
+use slots::Place;
+use slots::list::{columns_of, fill_row, origin_of, put_row, row_in, touch_row};
 
 impl Grids {
     /// The cells of line `y` of a window, from left to right, without copying them. The line must be there.

@@ -8,14 +8,14 @@ ghost use Rattle.world.specs.Windows.{HasPlace, changed};
 ghost use Rattle.world.specs.calls.Marks.{after_syncdown, after_syncup, touching};
 ghost use Rattle.world.specs.calls.Missing.{missing_refusal};
 ghost use Rattle.grids.specs.Tables.{windows};
-ghost use Rattle.grids.specs.steps.Changes.{with_touched};
-ghost use Rattle.grids.specs.steps.Slots.{depth_at};
+ghost use Rattle.slots.specs.Changes.{with_touched};
+ghost use Rattle.slots.specs.Slots.{depth_at};
 ghost use Rattle.grids.specs.steps.Syncs.{EndsWithin, has_column, touched_shown};
 
-use crate::place::Place;
-use crate::slots::touch_row;
 use crate::table::Grids;
 use cell::{Refusal, WinId};
+use slots::Place;
+use slots::list::touch_row;
 use world::Columns;
 
 impl Grids {

@@ -8,12 +8,12 @@ ghost use Rattle.world.specs.Sound.{AreSoundWindows};
 ghost use Rattle.world.specs.Windows.{HasPlace};
 ghost use Rattle.world.specs.World.{first_world};
 ghost use Rattle.world.specs.calls.Making.{new_refusal};
-ghost use Rattle.grids.specs.Tables.{windows, slot_at};
+ghost use Rattle.grids.specs.Tables.{windows, WindowTable, IsWindowTable};
+ghost use Rattle.slots.specs.Slots.{slot_at};
 
-use crate::line::Line;
-use crate::slot::Slot;
-use crate::slots::set_slot;
 use cell::{LARGEST_SCREEN, Refusal, WinId, is_no_size};
+use slots::list::set_slot;
+use slots::{Line, Slot};
 use std::alloc::Global;
 use std::marker::Model;
 use world::Settings;
@@ -30,8 +30,6 @@ pub struct Grids {
 }
 
 impl Model for Grids {
-    ghost use Rattle.grids.specs.Tables.{WindowTable, IsWindowTable};
-
     ghost Value = { WindowTable };
 
     ghost view = { λ a. record { lines = a.lines; columns = a.columns; slots = a.slots.items } };

@@ -5,7 +5,7 @@ use Rattle.cell.specs.Pictures.{Place}
 use Rattle.cell.specs.declared.limits.TheConstants.{LARGEST_PAD}
 use Rattle.world.specs.Windows.{Backing, own_grid, part_of, Window, WindowMap}
 use Rattle.world.specs.declared.settings.Columns.{Columns}
-use Rattle.grids.specs.declared.slot.Part.{Part}
+use Rattle.slots.specs.declared.slot.Part.{Part}
 
 -- the column is among these
 abbrev pub has_column : Option Columns → ℕ → Bool

@@ -2,8 +2,9 @@ use Rattle.std.proofs.Common.{◌≡◌, ◌+◌, ◌-◌, length, arith, refl, 
 use Rattle.cell.specs.Glyphs.{Glyph}
 use Rattle.world.specs.Rows.{listed}
 use Rattle.grids.specs.contracts.table.Grids.{the_view}
-use Rattle.grids.specs.Tables.{window_map, windows}
-use Rattle.grids.specs.steps.Changes.{with_touched, with_drawing}
+use Rattle.slots.specs.Slots.{window_map}
+use Rattle.grids.specs.Tables.{windows}
+use Rattle.slots.specs.Changes.{with_touched, with_drawing}
 use Rattle.grids.proofs.Changes.{IsWindowTable-changed}
 use Rattle.grids.proofs.Showing.{IsPiece, piece-read, column_below}
 use Rattle.grids.proofs.Writes.{windows-copied}

@@ -4,7 +4,8 @@ use Rattle.world.specs.Rows.{copied}
 use Rattle.world.specs.calls.Copies.{rectangle_copied}
 use Rattle.world.specs.calls.writing.Editing.{drawing_frame}
 use Rattle.grids.specs.declared.table.Grids.{Grids}
-use Rattle.grids.specs.Tables.{windows, window_map}
+use Rattle.grids.specs.Tables.{windows}
+use Rattle.slots.specs.Slots.{window_map}
 use Rattle.grids.proofs.Copies.{window_there, copy-step, frame-step}
 use Rattle.grids.proofs.CopyFrames.{nothing-frame}
 use Rattle.grids.proofs.Lines.{no-lines, put-none, line-after, line-before, downward-same, upward-same, place_after_above}

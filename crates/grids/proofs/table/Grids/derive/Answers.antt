@@ -5,11 +5,12 @@ use Rattle.world.specs.Windows.{part_of}
 use Rattle.world.specs.calls.Making.{place_from, numbered}
 use Rattle.world.specs.World.{new_window}
 use Rattle.grids.specs.contracts.table.Grids.{the_view}
-use Rattle.grids.specs.Kept.{window_of}
-use Rattle.grids.specs.Tables.{slot_at, windows, window_map}
-use Rattle.grids.proofs.Chain.{depth_below}
+use Rattle.slots.specs.Kept.{window_of}
+use Rattle.slots.specs.Slots.{slot_at, window_map}
+use Rattle.grids.specs.Tables.{windows}
+use Rattle.slots.proofs.Chain.{depth_below}
 use Rattle.grids.proofs.NewWindows.{IsWindowTable-added, windows-added, extent-is, stands_derived, placed_derived, made_derived}
-use Rattle.grids.proofs.Origins.{origin-derived}
+use Rattle.slots.proofs.Origins.{origin-derived}
 use Rattle.grids.proofs.table.Grids.derive.Goals as goal
 
 pub overflow_add-depth : goal.overflow_add-depth

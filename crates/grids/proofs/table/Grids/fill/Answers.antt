@@ -1,7 +1,7 @@
 use Rattle.std.proofs.Common.{◌+◌, refl}
 use Rattle.world.specs.Rows.{filled}
 use Rattle.grids.specs.contracts.table.Grids.{the_view}
-use Rattle.grids.specs.steps.Changes.{with_touched, with_drawing}
+use Rattle.slots.specs.Changes.{with_touched, with_drawing}
 use Rattle.grids.proofs.Changes.{IsWindowTable-changed}
 use Rattle.grids.proofs.Writes.{windows-put_row}
 use Rattle.grids.proofs.table.Grids.fill.Goals as goal

@@ -1,5 +1,5 @@
 use Rattle.std.proofs.Common.{rules, ◌≡◌, Some, [], ◌∷◌}
-use Rattle.grids.proofs.Origins.{origins-first}
+use Rattle.slots.proofs.Origins.{origins-first}
 use Rattle.grids.proofs.table.Grids.new.Goals as goal
 
 pub invariant_of-grids : goal.invariant_of-grids

@@ -3,7 +3,7 @@ use Rattle.world.specs.World.{new_window}
 use Rattle.std.proofs.Common.{None}
 use Rattle.grids.specs.contracts.table.Grids.{the_view}
 use Rattle.grids.proofs.NewWindows.{IsWindowTable-added, windows-added, stands_alone, placed_pad}
-use Rattle.grids.proofs.Origins.{origin-alone}
+use Rattle.slots.proofs.Origins.{origin-alone}
 use Rattle.grids.proofs.table.Grids.newpad.Goals as goal
 
 pub invariant_of-self-2 : goal.invariant_of-self-2

@@ -5,7 +5,7 @@ use Rattle.world.specs.calls.Making.{extent}
 use Rattle.world.specs.World.{new_window}
 use Rattle.grids.specs.contracts.table.Grids.{the_view}
 use Rattle.grids.proofs.NewWindows.{IsWindowTable-added, windows-added, stands_alone, extent-is, placed_new}
-use Rattle.grids.proofs.Origins.{origin-alone}
+use Rattle.slots.proofs.Origins.{origin-alone}
 use Rattle.grids.proofs.table.Grids.newwin.Goals as goal
 
 pub invariant_of-self-2 : goal.invariant_of-self-2

@@ -3,7 +3,8 @@ use Rattle.world.specs.Windows.{GridPlace, Windows, cell_at, own, put}
 use Rattle.world.specs.Rows.{copied}
 use Rattle.world.specs.calls.writing.Editing.{drawing_frame}
 use Rattle.grids.specs.declared.table.Grids.{Grids}
-use Rattle.grids.specs.Tables.{windows, window_map}
+use Rattle.grids.specs.Tables.{windows}
+use Rattle.slots.specs.Slots.{window_map}
 use Rattle.grids.proofs.Copies.{window_there, place_after, start-copy, copy-step, frame-step, one-same, more-after, more-before, forward-read, backward-read, copied-none}
 use Rattle.grids.proofs.CopyFrames.{nothing-frame}
 use Rattle.grids.proofs.table.Grids.overlay_cells.Goals as goal

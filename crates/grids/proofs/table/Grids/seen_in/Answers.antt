@@ -1,7 +1,8 @@
 use Rattle.std.proofs.Common.{◌≡◌, Some, subst}
 use Rattle.world.specs.Windows.{GridPlace, own}
 use Rattle.grids.specs.declared.table.Grids.{Grids}
-use Rattle.grids.specs.Tables.{window_map, windows}
+use Rattle.slots.specs.Slots.{window_map}
+use Rattle.grids.specs.Tables.{windows}
 use Rattle.grids.proofs.Seen.{seen-above, seen-apart, seen-beside, seen-there}
 use Rattle.grids.proofs.Touches.{there-and}
 use Rattle.grids.proofs.Walks.{some_window}

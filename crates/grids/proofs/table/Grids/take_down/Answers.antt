@@ -1,7 +1,7 @@
 use Rattle.std.proofs.Common.{◌≢◌, ◌<◌, arith, ap, ◌∙◌}
-use Rattle.grids.specs.declared.place.Place.{Place}
+use Rattle.slots.specs.declared.place.Place.{Place}
 use Rattle.grids.specs.Tables.{windows}
-use Rattle.grids.specs.steps.Slots.{depth_at}
+use Rattle.slots.specs.Slots.{depth_at}
 use Rattle.grids.proofs.Syncs.{taken-all, taken-none, taken-on, next-part, no-part, place-reached}
 use Rattle.grids.proofs.table.Grids.take_down.Goals as goal
 

@@ -1,5 +1,5 @@
 use Rattle.std.proofs.Common.{refl}
-use Rattle.grids.specs.steps.Changes.{with_touched}
+use Rattle.slots.specs.Changes.{with_touched}
 use Rattle.grids.specs.contracts.table.Grids.{the_view}
 use Rattle.grids.proofs.Changes.{IsWindowTable-changed, windows-changed}
 use Rattle.grids.proofs.table.Grids.touch_columns.Goals as goal

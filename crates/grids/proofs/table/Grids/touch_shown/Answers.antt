@@ -4,7 +4,7 @@ use Rattle.cell.specs.declared.limits.TheConstants.{LARGEST_PAD}
 use Rattle.world.specs.Windows.{Window}
 use Rattle.grids.specs.declared.table.Grids.{Grids}
 use Rattle.grids.specs.Tables.{windows}
-use Rattle.grids.specs.steps.Slots.{depth_at}
+use Rattle.slots.specs.Slots.{depth_at}
 use Rattle.grids.specs.steps.Syncs.{shows_touched, touched_shown}
 use Rattle.grids.proofs.Touches.{none-before, all-before, next-none, next-some, touched-here, touched-other, there-and}
 use Rattle.grids.proofs.table.Grids.touch_shown.Goals as goal

@@ -1,6 +1,0 @@
-use Rattle.std.proofs.Common.{◌∙◌}
-use Rattle.grids.proofs.Deletion.{has_derived-list}
-use Rattle.grids.proofs.slots.has_derived.Goals as goal
-
-pub returns : goal.returns
-returns c = c.is_named.ensures ∙ has_derived-list c.args.slots.now c.args.win c.requires

@@ -1,0 +1,109 @@
+-- The cells of a slot, and the lines of a grid.
+use Rattle.std.proofs.Common.{◌≡◌, ℕ, ◌+◌, ◌<◌, ◌≤◌, ◌∙◌, List, [], length, take, drop, replicate, get_or, map, Option, Some, None, sym, ap, arith, inl, inr, zero-add, lit≤, lit<}
+use Rattle.std.proofs.lemmas.Bool.{cases_lt}
+use Rattle.std.specs.List.{AllByRecursion, range_with_len}
+use Rattle.std.proofs.lemmas.List.Elements.{All-from_recursion, recursion_from_All, All-get_or, All-take, All-drop}
+use Rattle.std.proofs.lemmas.List.{ext_get_or, get_or-take, get_or-drop, get_or-replicate, get_or_past, length-replicate, length-take-le, length-drop}
+use Rattle.std.proofs.lemmas.List.FromFn.{length-map-range_with_len, get_or-map-range_with_len}
+use mathlib.Core.Path.{fun_ext}
+use Rattle.cell.specs.Glyphs.{Glyph, blank, IsCell}
+use Rattle.cell.specs.Pictures.{Sheet, Place, AreCells, line_of, glyph_at, blank_sheet}
+use Rattle.cell.specs.declared.limits.TheConstants.{LARGEST_PAD}
+use Rattle.world.specs.Windows.{own_grid}
+use Rattle.world.specs.World.{first_settings, blank_grid}
+use Rattle.world.specs.World.{new_window}
+use Rattle.cell.proofs.PictureLemmas.{IsCell-blank, HasSize-all_of, EachCell-all_of}
+use Rattle.slots.specs.declared.slot.Cells.{Cells}
+use Rattle.slots.specs.declared.slot.Cells.TheVariants.{Own}
+use Rattle.slots.specs.declared.slot.Origin.{Origin}
+use Rattle.slots.specs.Kept.{Kept, IsKept, IsGridOf, window_of}
+use Rattle.world.specs.Sound.{AreColumnsWithin}
+use Rattle.world.specs.declared.settings.Columns.{Columns}
+
+-- a piece of a line
+pub piece-of_line : (sheet : Sheet) (line left len : ℕ) → left + len ≤ length (line_of sheet line)
+    → take len (drop left (line_of sheet line)) ≡ map (λ x. glyph_at sheet (line, left + x)) (range_with_len 0 len)
+piece-of_line sheet line left len fits =
+    let cells = line_of sheet line in
+    let shown : ℕ → Glyph = λ x. glyph_at sheet (line, left + x) in
+    let whole : length (take len (drop left cells)) ≡ len = length-take-le len (drop left cells) (omega (arith, length-drop left cells)) in
+    ext_get_or blank (take len (drop left cells)) (map shown (range_with_len 0 len))
+    (whole ∙ sym (length-map-range_with_len shown 0 len))
+    (λ x below.
+    let within : x < len = omega arith in
+    get_or-take len (drop left cells) x blank within
+    ∙ get_or-drop left cells x blank
+    ∙ sym (get_or-map-range_with_len shown 0 len x x blank within (zero-add x)))
+
+pub cells-of_line : (sheet : Sheet) (line left len : ℕ) → AreCells sheet → line < length sheet → AllByRecursion IsCell (take len (drop left (line_of sheet line)))
+cells-of_line sheet line left len cells below =
+    let row = All-get_or (AllByRecursion IsCell) sheet line [] below (All-from_recursion (AllByRecursion IsCell) sheet cells) in
+    recursion_from_All IsCell (take len (drop left (line_of sheet line)))
+    (All-take IsCell len (drop left (line_of sheet line)) (All-drop IsCell left (line_of sheet line) (All-from_recursion IsCell (line_of sheet line) row)))
+
+-- a blank grid
+
+blank_at : (n k : ℕ) → get_or (replicate n blank) k blank ≡ blank
+blank_at n k = elim (cases_lt k n) [
+  | inl below ↦ get_or-replicate n k blank blank below
+  | inr past ↦ get_or_past (replicate n blank) k blank (omega (arith, length-replicate n blank))
+]
+
+pub shown-blank : (lines columns y x : ℕ) → glyph_at (blank_sheet lines columns) (y, x) ≡ blank
+shown-blank lines columns y x = elim (cases_lt y lines) [
+  | inl below ↦ ap (λ (cells : List Glyph). get_or cells x blank) (get_or-replicate lines y (replicate columns blank) [] below) ∙ blank_at columns x
+  | inr past ↦ ap (λ (cells : List Glyph). get_or cells x blank) (get_or_past (blank_sheet lines columns) y [] (omega (arith, length-replicate lines (replicate columns blank))))
+]
+
+pub grid-blank : (lines columns : ℕ) → own_grid (λ y x. glyph_at (blank_sheet lines columns) (y, x)) ≡ blank_grid
+grid-blank lines columns = ap own_grid (fun_ext (λ y. fun_ext (λ x. shown-blank lines columns y x)))
+
+-- no line is touched
+pub touched-none : (n y : ℕ) → get_or (replicate n (let o : Option Columns = None in o)) y None ≡ None
+touched-none n y = elim (cases_lt y n) [
+  | inl below ↦ get_or-replicate n y None None below
+  | inr past ↦ get_or_past (replicate n None) y None (omega (arith, length-replicate n (let o : Option Columns = None in o)))
+]
+
+-- a new window with a grid
+
+none_within : (columns : ℕ) (o : Option Columns) → o ≡ None → AreColumnsWithin columns o
+none_within columns None e = tt
+none_within columns (Some r) e = cc
+
+pub IsKept-new : (lines columns depth : ℕ) (place : Option Place) (origin : Origin) (cells : Cells) → 0 < lines → 0 < columns → lines ≤ LARGEST_PAD → columns ≤ LARGEST_PAD → IsGridOf lines columns cells
+    → IsKept (record { lines = lines; columns = columns; place = place; settings = first_settings lines; touched = replicate lines None; depth = depth; origin = origin; cells = cells })
+IsKept-new lines columns depth place origin cells has_line has_column few_lines few_columns grid = record {
+  has_line = has_line;
+  has_column = has_column;
+  few_lines = few_lines;
+  few_columns = few_columns;
+  touched_each = length-replicate lines None;
+  touched = λ y. none_within columns (get_or (replicate lines None) y None) (touched-none lines y);
+  settings = record { cursor_line = has_line; cursor_column = has_column; region_order = omega arith; region_end = omega arith; attributes = lit< tt; background = IsCell-blank; pair = lit≤ tt };
+  grid = grid;
+}
+
+pub IsGridOf-blank : (lines columns : ℕ) → IsGridOf lines columns (Own (blank_sheet lines columns))
+IsGridOf-blank lines columns = (HasSize-all_of blank lines columns, EachCell-all_of IsCell blank lines columns IsCell-blank)
+
+pub window-blank : (lines columns depth : ℕ) (place : Option Place) (origin : Origin)
+    → window_of (record { lines = lines; columns = columns; place = place; settings = first_settings lines; touched = replicate lines None; depth = depth; origin = origin; cells = Own (blank_sheet lines columns) })
+    ≡ new_window lines columns place blank_grid
+window-blank lines columns depth place origin =
+    let none : (λ y. get_or (replicate lines (let o : Option Columns = None in o)) y None) ≡ (λ y. None) = fun_ext (λ y. touched-none lines y) in
+    λ i. record (new_window lines columns place blank_grid) { touched = none i; backing = grid-blank lines columns i }
+
+-- other cells of a slot
+
+pub IsKept-cells : (k : Kept) (cells : Cells) → IsKept k → IsGridOf k.lines k.columns cells → IsKept (record k { cells = cells })
+IsKept-cells k cells s grid = record {
+  has_line = s.has_line;
+  has_column = s.has_column;
+  few_lines = s.few_lines;
+  few_columns = s.few_columns;
+  touched_each = s.touched_each;
+  touched = s.touched;
+  settings = s.settings;
+  grid = grid;
+}

@@ -1,0 +1,83 @@
+-- What changes where one slot changes.
+use Rattle.std.specs.Prelude.{◌≡◌, ◌≢◌, ℕ, ◌+◌, ◌<◌, ◌≤◌, List, length, Option, Some, None, is_some, min, max, slice_set, if◌then◌else◌, ◌==◌}
+use Rattle.cell.specs.declared.limits.TheConstants.{MOST_WINDOWS}
+use Rattle.world.specs.Windows.{Window, Drawing, laid_over}
+use Rattle.world.specs.calls.Making.{with_part}
+use Rattle.slots.specs.declared.slot.Cells.{Cells}
+use Rattle.slots.specs.declared.slot.Cells.TheVariants.{Own, Shared}
+use Rattle.world.specs.declared.settings.Columns.{Columns}
+use Rattle.slots.specs.Kept.{Kept, IsKept, window_of}
+use Rattle.slots.specs.Slots.{slot_at, window_map, AreOrigins, IsChained, part_in}
+
+-- what a derived window sees of its parent is the same
+pub record SameShape (old new : Kept) : Type 0 where
+  pub lines : new.lines ≡ old.lines
+  pub columns : new.columns ≡ old.columns
+  pub place : is_some new.place ≡ is_some old.place
+  pub depth : new.depth ≡ old.depth
+
+-- the window is the same part of its parent, and leads to the same place
+pub record SamePart (old new : Kept) : Type 0 where
+  pub part : part_in new.cells ≡ part_in old.cells
+  pub origin : new.origin ≡ old.origin
+
+-- one slot's window was changed, and nothing else
+pub record Changed (old new : List (Option Kept)) (at : ℕ) (change : Window → Window) : Type 0 where
+  pub before : Kept
+  pub after : Kept
+  pub was : slot_at old at ≡ Some before
+  pub set : new ≡ slice_set old at (Some after)
+  pub window : window_of after ≡ change (window_of before)
+  pub shape : SameShape before after
+  pub part : SamePart before after
+  pub kept : IsKept after
+
+-- another offset of a derived window in its parent
+abbrev pub shifted : ℕ → ℕ → Cells → Cells
+shifted y x (Own sheet) = Own sheet
+shifted y x (Shared part) = Shared (record part { line = y; column = x })
+
+-- one derived window's offset was changed, and nothing else
+pub record Shifted (old new : List (Option Kept)) (at y x : ℕ) : Type 0 where
+  pub before : Kept
+  pub after : Kept
+  pub was : slot_at old at ≡ Some before
+  pub set : new ≡ slice_set old at (Some after)
+  pub window : window_of after ≡ with_part y x (window_of before)
+  pub shape : SameShape before after
+  pub cells : after.cells ≡ shifted y x before.cells
+  pub kept : IsKept after
+
+-- each slot has its origin, and its window is as it was
+pub record Settled (old new : List (Option Kept)) : Type 0 where
+  pub size : length new ≡ length old
+  pub windows : window_map new ≡ window_map old
+  pub chained : IsChained new
+  pub origins : AreOrigins new
+
+-- one slot has another window, or none, and no other slot changed
+pub record SetAt (old new : List (Option Kept)) (at : ℕ) (o : Option Kept) : Type 0 where
+  pub here : slot_at new at ≡ o
+  pub others : (w : ℕ) → w ≢ at → slot_at new w ≡ slot_at old w
+  pub more : length old ≤ length new
+  pub few : length new ≤ MOST_WINDOWS + 1
+
+-- the least columns that hold these and those from left to right
+abbrev pub spread : Option Columns → ℕ → ℕ → Option Columns
+spread None left right = Some (record { first = left; last = right })
+spread (Some r) left right = Some (record { first = min r.first left; last = max r.last right })
+
+-- the columns from left to right of a line are touched
+abbrev pub with_touched : ℕ → ℕ → ℕ → Window → Window
+with_touched line left right a = record a { touched = λ y. if y == line then spread (a.touched y) left right else a.touched y }
+
+-- a drawing is laid over a window's grid
+abbrev pub with_drawing : Drawing → Window → Window
+with_drawing f a = record a { backing = laid_over f a.backing }
+
+-- the number is free, and the next one at most
+pub record IsFree (slots : List (Option Kept)) (number : ℕ) : Type 0 where
+  pub free : slot_at slots number ≡ None
+  pub from_one : 0 < number
+  pub few : number ≤ MOST_WINDOWS
+  pub next : number ≤ length slots

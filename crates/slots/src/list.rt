@@ -1,0 +1,234 @@
+//! The slots of the windows, by number, and changes of one of them.
+
+ghost use Rattle.std.specs.Prelude.{◌≡◌, ◌≢◌, ℕ, ◌<◌, ◌≤◌, ◌+◌, ◌-◌, Some, None, IsSome, IsSomeAnd, MatchOption, ⊤, length, slice_set, OnOk, OnErr, map};
+ghost use Rattle.std.specs.List.{AllByRecursion, list_any, range_with_len};
+ghost use Rattle.cell.specs.Glyphs.{IsCell};
+ghost use Rattle.std.specs.Option.{is_none};
+ghost use Rattle.world.specs.Windows.{own, cell_of};
+ghost use Rattle.world.specs.calls.Marks.{lines_marked};
+ghost use Rattle.world.specs.calls.Refresh.{unmarked};
+ghost use Rattle.world.specs.Rows.{filled, listed};
+ghost use Rattle.world.specs.Settings.{with_settings};
+ghost use Rattle.world.specs.calls.Making.{has_derived, new_number, with_place};
+ghost use Rattle.slots.specs.Kept.{window_of};
+ghost use Rattle.slots.specs.Slots.{slot_at, window_map, AreOrigins, IsChained, part_in, lines_at, columns_at, names_parent};
+ghost use Rattle.slots.specs.Changes.{Changed, Shifted, SetAt, IsFree, with_touched, with_drawing};
+
+use crate::slot::{Origin, Slot};
+use cell::{Cell, LARGEST_PAD, MOST_WINDOWS};
+use std::alloc::AllocError;
+use world::Settings;
+
+/// Where the first place of a window stands.
+pub fn origin_of(slots: &[Option<Slot>], win: u16) -> Origin
+    requires chained { IsChained slots.now }
+    requires origins { AreOrigins slots.now }
+    requires few { length slots.now ≤ MOST_WINDOWS + 1 }
+    requires taken { IsSome (slot_at slots.now win) }
+    ensures lines { result.line + lines_at slots.now win ≤ lines_at slots.now result.grid }
+    ensures columns { result.column + columns_at slots.now win ≤ columns_at slots.now result.grid }
+    ensures few_lines { lines_at slots.now result.grid ≤ LARGEST_PAD }
+    ensures few_columns { columns_at slots.now result.grid ≤ LARGEST_PAD }
+    ensures grid { IsSomeAnd (slot_at slots.now result.grid) (λ k. part_in k.cells ≡ None) }
+    ensures leads { own (window_map slots.now) win 0 0 ≡ Some (record { grid = result.grid; line = result.line; column = result.column }) }
+{
+    match &slots[usize::from(win)] {
+        Some(slot) => slot.origin(),
+        None => unreachable!(),
+    }
+}
+
+/// The number of columns of a slot's window.
+pub fn columns_of(slots: &[Option<Slot>], win: u16) -> u16
+    requires { IsSome (slot_at slots.now win) }
+    ensures { result ≡ columns_at slots.now win }
+{
+    match &slots[usize::from(win)] {
+        Some(slot) => slot.columns(),
+        None => 0,
+    }
+}
+
+/// The cells of a line of a slot's own grid, `len` of them from a column on.
+pub fn row_in(slots: &[Option<Slot>], at: u16, line: u16, left: u16, len: u16) -> &[Cell]
+    requires grid { IsSomeAnd (slot_at slots.now at) (λ k. part_in k.cells ≡ None) }
+    requires line_in { line < lines_at slots.now at }
+    requires columns_in { left + len ≤ columns_at slots.now at }
+    ensures row { IsSomeAnd (slot_at slots.now at) (λ k. result.now ≡ map (λ x. cell_of (window_of k).backing line (left + x)) (range_with_len 0 len)) }
+    ensures cells { AllByRecursion IsCell result.now }
+{
+    match &slots[usize::from(at)] {
+        Some(slot) => slot.row(line, left, len),
+        None => unreachable!(),
+    }
+}
+
+/// Whether a window derives from this one.
+pub fn has_derived(slots: &[Option<Slot>], win: u16) -> bool
+    requires { length slots.now ≤ MOST_WINDOWS + 1 }
+    ensures { result ≡ has_derived (window_map slots.now) win }
+{
+    is_named(slots, win)
+}
+
+/// Whether a slot's window has this one as its parent.
+fn is_named(slots: &[Option<Slot>], win: u16) -> bool
+    ensures { result ≡ list_any (names_parent win) slots.now }
+{
+    slots.iter().any(|slot| names_parent(slot, win))
+}
+
+/// Whether a slot's window has this one as its parent.
+fn names_parent(slot: &Option<Slot>, win: u16) -> bool
+    ensures { result ≡ names_parent win slot.now }
+{
+    match slot {
+        Some(slot) => slot.is_part_of(win),
+        None => false,
+    }
+}
+
+/// The least free number from 1 on: that of an empty slot, or the one behind the last slot.
+pub fn free_number(slots: &[Option<Slot>]) -> Option<u16>
+    requires some { 0 < length slots.now }
+    requires few { length slots.now ≤ MOST_WINDOWS + 1 }
+    ensures number { result ≡ new_number (window_map slots.now) }
+    ensures free { MatchOption result ⊤ (IsFree slots.now) }
+{
+    for n in 1..slots.len() {
+        if slots[n].is_none() {
+            return Some(n as u16);
+        }
+    }
+    if slots.len() <= usize::from(MOST_WINDOWS) {
+        Some(slots.len() as u16)
+    } else {
+        None
+    }
+}
+
+/// Puts a window into an empty slot, or into a new one behind the last.
+pub fn fill_slot_at(slots: &mut Vec<Option<Slot>>, at: u16, slot: Slot) -> Result<(), AllocError>
+    requires free { IsFree slots.old.items at }
+    requires few { length slots.old.items ≤ MOST_WINDOWS + 1 }
+    ensures set { OnOk result (SetAt slots.old.items slots.new.items at (Some slot)) }
+    ensures unchanged { OnErr result (slots.new.items ≡ slots.old.items) }
+{
+    let at = usize::from(at);
+    if at < slots.len() {
+        slots[at] = Some(slot);
+    } else {
+        slots.push(Some(slot))?;
+    }
+    Ok(())
+}
+
+/// Gives up a slot.
+pub fn free_slot(slots: &mut Vec<Option<Slot>>, at: u16)
+    requires few { length slots.old.items ≤ MOST_WINDOWS + 1 }
+    requires below { at < length slots.old.items }
+    ensures { SetAt slots.old.items slots.new.items at None }
+{
+    slots[usize::from(at)] = None;
+}
+
+/// Sets a row of the grid of a slot.
+pub fn fill_row(
+    slots: &mut Vec<Option<Slot>>,
+    at: u16,
+    line: u16,
+    left: u16,
+    right: u16,
+    cell: Cell,
+)
+    requires ordered { left ≤ right }
+    requires taken { IsSome (slot_at slots.old.items at) }
+    requires line_in { line < lines_at slots.old.items at }
+    requires right_in { right < columns_at slots.old.items at }
+    ensures { Changed slots.old.items slots.new.items at (with_drawing (filled line left right cell)) }
+{
+    if let Some(slot) = &mut slots[usize::from(at)] {
+        slot.fill(line, left, right, cell);
+    }
+}
+
+/// Puts cells into a row of the grid of a slot.
+pub fn put_row(slots: &mut Vec<Option<Slot>>, at: u16, line: u16, left: u16, row: &[Cell])
+    requires grid { IsSomeAnd (slot_at slots.old.items at) (λ k. part_in k.cells ≡ None) }
+    requires line_in { line < lines_at slots.old.items at }
+    requires columns_in { left + length row.now ≤ columns_at slots.old.items at }
+    requires cells { AllByRecursion IsCell row.now }
+    ensures { Changed slots.old.items slots.new.items at (with_drawing (listed line left row.now)) }
+{
+    if let Some(slot) = &mut slots[usize::from(at)] {
+        slot.put_row(line, left, row);
+    }
+}
+
+/// Touches a row of a slot's window.
+pub fn touch_row(slots: &mut Vec<Option<Slot>>, at: u16, line: u16, left: u16, right: u16)
+    requires ordered { left ≤ right }
+    requires taken { IsSome (slot_at slots.old.items at) }
+    requires line_in { line < lines_at slots.old.items at }
+    requires right_in { right < columns_at slots.old.items at }
+    ensures { Changed slots.old.items slots.new.items at (with_touched line left right) }
+{
+    if let Some(slot) = &mut slots[usize::from(at)] {
+        slot.touch(line, left, right);
+    }
+}
+
+/// Sets what a slot's window is set to.
+pub fn set_slot(slots: &mut Vec<Option<Slot>>, at: u16, settings: Settings)
+    requires taken { IsSome (slot_at slots.old.items at) }
+    requires cursor_line { settings.cursor.0 < lines_at slots.old.items at }
+    requires cursor_column { settings.cursor.1 < columns_at slots.old.items at }
+    requires region_order { settings.region.0 ≤ settings.region.1 }
+    requires region_end { settings.region.1 < lines_at slots.old.items at }
+    ensures { Changed slots.old.items slots.new.items at (with_settings settings) }
+{
+    if let Some(slot) = &mut slots[usize::from(at)] {
+        slot.set_settings(settings);
+    }
+}
+
+/// Takes all touches of a slot's window away, which asks for a clear screen no more.
+pub fn unmark_slot(slots: &mut Vec<Option<Slot>>, at: u16)
+    requires { IsSome (slot_at slots.old.items at) }
+    ensures { Changed slots.old.items slots.new.items at unmarked }
+{
+    if let Some(slot) = &mut slots[usize::from(at)] {
+        slot.unmark();
+    }
+}
+
+/// Touches lines of a slot's window from their first column to their last, from one on, or takes their touches away.
+pub fn mark_slot(slots: &mut Vec<Option<Slot>>, at: u16, first: u16, n: u16, flag: bool)
+    requires taken { IsSome (slot_at slots.old.items at) }
+    requires lines { first + n ≤ lines_at slots.old.items at }
+    ensures { Changed slots.old.items slots.new.items at (lines_marked first n flag) }
+{
+    if let Some(slot) = &mut slots[usize::from(at)] {
+        slot.mark(first, n, flag);
+    }
+}
+
+/// Moves a slot's window to a place of the screen.
+pub fn place_slot(slots: &mut Vec<Option<Slot>>, at: u16, y: u16, x: u16)
+    requires { IsSomeAnd (slot_at slots.old.items at) (λ k. IsSome k.place) }
+    ensures { Changed slots.old.items slots.new.items at (with_place y x) }
+{
+    if let Some(slot) = &mut slots[usize::from(at)] {
+        slot.set_place(y, x);
+    }
+}
+
+/// Moves a slot's derived window to another offset in its parent.
+pub fn shift_slot(slots: &mut Vec<Option<Slot>>, at: u16, y: u16, x: u16)
+    requires { IsSome (slot_at slots.old.items at) }
+    ensures { Shifted slots.old.items slots.new.items at y x }
+{
+    if let Some(slot) = &mut slots[usize::from(at)] {
+        slot.shift(y, x);
+    }
+}
