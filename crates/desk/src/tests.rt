@@ -126,22 +126,6 @@ fn each_call_answers(rt: HostRuntime) -> Result<(), Fail> {
 }
 
 #[test]
-fn each_method_answers_what_its_call_does(rt: HostRuntime) -> Result<(), Fail> {
-    let mut screen = screen(rt.alloc(), 1, 4)?;
-    let win = screen.newwin(1, 3, 0, 0)?;
-    screen.waddstr(win, b"hi")?;
-    let panel = screen.new_panel(win)?;
-    assert_eq!(rt;
-        (screen.getyx(win), screen.panel_above(None)),
-        (Ok((0, 2)), Ok(Some(panel)))
-    );
-    screen.update_panels()?;
-    assert_eq!(rt; screen.doupdate(), Ok(Sent { bytes: 16 }));
-    assert_eq!(rt; screen.writer().get_ref().as_slice(), HI);
-    Ok(())
-}
-
-#[test]
 fn a_run_counts_its_calls(rt: HostRuntime) -> Result<(), Fail> {
     let mut screen = screen(rt.alloc(), 1, 4)?;
     let [update_panels, doupdate] = UPDATE;
