@@ -1,6 +1,6 @@
 use crate::{
-    Call, Composed, Counted, CountedReader, Fault, Refresh, Refusal, Reply, RunEnd, Screen,
-    ScriptEnd, ScriptFault, Sent, Sink, TextFault, WinId, WriteFault, Writing,
+    Call, Composed, Counted, CountedReader, Fault, PanelId, Refresh, Refusal, Reply, RunEnd,
+    Screen, ScriptEnd, ScriptFault, Sent, Sink, TextFault, WinId, WriteFault, Writing,
 };
 use std::alloc::Global;
 use std::io;
@@ -122,6 +122,31 @@ fn each_call_answers(rt: HostRuntime) -> Result<(), Fail> {
     );
     assert_eq!(rt; screen.writer().get_ref().as_slice(), HI);
     assert_eq!(rt; screen.desk().wanted_cursor(), (0, 2));
+    Ok(())
+}
+
+/// Makes a window and a panel of it, by their methods.
+fn panel_that_says_hi<W: Sink>(screen: &mut Screen<W>) -> Result<(WinId, PanelId), Fault> {
+    let win = screen.newwin(1, 3, 0, 0)?;
+    screen.waddstr(win, b"hi")?;
+    Ok((win, screen.new_panel(win)?))
+}
+
+/// The cursor of a window, and the panel at the bottom.
+fn asked<W: Sink>(
+    screen: &mut Screen<W>,
+    win: WinId,
+) -> Result<((u16, u16), Option<PanelId>), Fault> {
+    Ok((screen.getyx(win)?, screen.panel_above(None)?))
+}
+
+#[test]
+fn each_method_answers_what_its_call_does(rt: HostRuntime) -> Result<(), Fail> {
+    let mut screen = screen(rt.alloc(), 1, 4)?;
+    let (win, panel) = panel_that_says_hi(&mut screen)?;
+    assert_eq!(rt; asked(&mut screen, win), Ok(((0, 2), Some(panel))));
+    run(&mut screen, &UPDATE);
+    assert_eq!(rt; screen.writer().get_ref().as_slice(), HI);
     Ok(())
 }
 
