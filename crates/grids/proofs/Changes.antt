@@ -73,9 +73,9 @@ module _ (t : WindowTable) (new : List (Option Kept)) (at : ℕ) (change : Windo
 
   IsWindowTable-change : IsOnScreen t.lines t.columns (window_of h.after) → (at ≡ 0 → IsStandardOf t h.after) → IsWindowTable (record t { slots = new })
   IsWindowTable-change placed standard =
-      IsWindowTable-set t new at h.after s set_at (subst (λ o. KeepsShape o (Some h.after)) (sym h.was) h.shape) h.kept
-      (stands_too t.slots h.before h.after h.shape h.before.cells h.after.cells h.part.part (each_at t.slots s.chained at h.before h.was).1) placed standard
-      (λ chained. origins-changed t.slots new at h.before h.after set_at h.was h.part s.origins)
+      IsWindowTable-set t new at h.after s set_at (subst (λ o. KeepsShape o (Some h.after)) (sym h.was) h.stays.shape) h.stays.kept
+      (stands_too t.slots h.before h.after h.stays.shape h.before.cells h.after.cells h.stays.part.part (each_at t.slots s.chained at h.before h.was).1) placed standard
+      (λ chained. origins-changed t.slots new at h.before h.after set_at h.was h.stays.part s.origins)
 
   same_place : ((a : Window) → (change a).place ≡ a.place) → h.after.place ≡ h.before.place
   same_place keeps = ap (λ (a : Window). a.place) h.window ∙ keeps (window_of h.before)
@@ -85,10 +85,10 @@ module _ (t : WindowTable) (new : List (Option Kept)) (at : ℕ) (change : Windo
       let k = some_and (slot_at t.slots 0) (IsStandardOf t) s.standard in
       let one : k.0 ≡ h.before = let both = sym k.1 ∙ ap (slot_at t.slots) (sym same) ∙ h.was in cc in
       let before : IsStandardOf t h.before = subst (IsStandardOf t) one k.2 in
-      let grid = own_source h.after.cells (h.part.part ∙ own_alone h.before.cells before.cells before.grid) in
+      let grid = own_source h.after.cells (h.stays.part.part ∙ own_alone h.before.cells before.cells before.grid) in
       record {
-        lines = h.shape.lines ∙ before.lines;
-        columns = h.shape.columns ∙ before.columns;
+        lines = h.stays.shape.lines ∙ before.lines;
+        columns = h.stays.shape.columns ∙ before.columns;
         place = same_place keeps ∙ before.place;
         cells = grid.0;
         grid = grid.1;
@@ -98,8 +98,8 @@ module _ (t : WindowTable) (new : List (Option Kept)) (at : ℕ) (change : Windo
   placed_too keeps =
       let before : IsOnScreen t.lines t.columns (window_of h.before) = rw h.was at (s.placed at) in
       let place = same_place keeps in
-      let lines = h.shape.lines in
-      let columns = h.shape.columns in
+      let lines = h.stays.shape.lines in
+      let columns = h.stays.shape.columns in
       rw (place, lines, columns) before
 
   -- it stays where it is

@@ -1,5 +1,5 @@
 -- The cells of a slot, and the lines of a grid.
-use Rattle.std.proofs.Common.{◌≡◌, ℕ, ◌+◌, ◌<◌, ◌≤◌, ◌∙◌, List, [], length, take, drop, replicate, get_or, map, Option, Some, None, sym, ap, arith, inl, inr, zero-add, lit≤, lit<}
+use Rattle.std.proofs.Common.{◌≡◌, ℕ, ◌+◌, ◌<◌, ◌≤◌, ◌∙◌, List, [], length, take, drop, replicate, get_or, map, Option, Some, None, refl, sym, ap, arith, inl, inr, zero-add, lit≤, lit<}
 use Rattle.std.proofs.lemmas.Bool.{cases_lt}
 use Rattle.std.specs.List.{AllByRecursion, range_with_len}
 use Rattle.std.proofs.lemmas.List.Elements.{All-from_recursion, recursion_from_All, All-get_or, All-take, All-drop}
@@ -17,6 +17,8 @@ use Rattle.slots.specs.declared.slot.Cells.{Cells}
 use Rattle.slots.specs.declared.slot.Cells.TheVariants.{Own}
 use Rattle.slots.specs.declared.slot.Origin.{Origin}
 use Rattle.slots.specs.Kept.{Kept, IsKept, IsGridOf, window_of}
+use Rattle.slots.specs.Slots.{part_in}
+use Rattle.slots.specs.Changes.{StaysInPlace}
 use Rattle.world.specs.Sound.{AreColumnsWithin}
 use Rattle.world.specs.declared.settings.Columns.{Columns}
 
@@ -106,4 +108,20 @@ IsKept-cells k cells s grid = record {
   touched = s.touched;
   settings = s.settings;
   grid = grid;
+}
+
+-- a slot stays where it is, with other cells of its own or as it was
+
+pub StaysInPlace-cells : (k : Kept) (cells : Cells) → IsKept k → IsGridOf k.lines k.columns cells → part_in cells ≡ part_in k.cells → StaysInPlace k (record k { cells = cells })
+StaysInPlace-cells k cells s grid part = record {
+  shape = record { lines = refl; columns = refl; place = refl; depth = refl };
+  part = record { part = part; origin = refl };
+  kept = IsKept-cells k cells s grid;
+}
+
+pub StaysInPlace-same : (k : Kept) → IsKept k → StaysInPlace k k
+StaysInPlace-same k s = record {
+  shape = record { lines = refl; columns = refl; place = refl; depth = refl };
+  part = record { part = refl; origin = refl };
+  kept = s;
 }

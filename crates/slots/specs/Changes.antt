@@ -21,6 +21,12 @@ pub record SamePart (old new : Kept) : Type 0 where
   pub part : part_in new.cells ≡ part_in old.cells
   pub origin : new.origin ≡ old.origin
 
+-- the slot stands and leads where it did
+pub record StaysInPlace (old new : Kept) : Type 0 where
+  pub shape : SameShape old new
+  pub part : SamePart old new
+  pub kept : IsKept new
+
 -- one slot's window was changed, and nothing else
 pub record Changed (old new : List (Option Kept)) (at : ℕ) (change : Window → Window) : Type 0 where
   pub before : Kept
@@ -28,9 +34,7 @@ pub record Changed (old new : List (Option Kept)) (at : ℕ) (change : Window �
   pub was : slot_at old at ≡ Some before
   pub set : new ≡ slice_set old at (Some after)
   pub window : window_of after ≡ change (window_of before)
-  pub shape : SameShape before after
-  pub part : SamePart before after
-  pub kept : IsKept after
+  pub stays : StaysInPlace before after
 
 -- another offset of a derived window in its parent
 abbrev pub shifted : ℕ → ℕ → Cells → Cells

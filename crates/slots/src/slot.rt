@@ -14,7 +14,7 @@ ghost use Rattle.world.specs.Windows.{any_below, laid_over, cell_of, part_of};
 ghost use Rattle.world.specs.World.{first_settings, blank_grid};
 ghost use Rattle.slots.specs.Kept.{window_of, backing_of, IsGridOf, IsKept, Kept, HasShape};
 ghost use Rattle.slots.specs.Slots.{part_in, names_parent};
-ghost use Rattle.slots.specs.Changes.{spread, with_touched, with_drawing, SamePart, SameShape, shifted};
+ghost use Rattle.slots.specs.Changes.{spread, with_touched, with_drawing, SameShape, shifted, StaysInPlace};
 
 use cell::{Attr, Cell, Grid, LARGEST_PAD, PairId};
 use std::alloc::{AllocError, Global};
@@ -246,9 +246,7 @@ impl Slot {
         requires region_order { settings.region.0 ≤ settings.region.1 }
         requires region_end { settings.region.1 < self.old.lines }
         ensures window { window_of self.new ≡ with_settings settings (window_of self.old) }
-        ensures shape { SameShape self.old self.new }
-        ensures part { SamePart self.old self.new }
-        ensures kept { IsKept self.new }
+        ensures place { StaysInPlace self.old self.new }
     {
         prove!(settings.background.ch() >= b' ' && settings.pair.is_sound());
         self.settings = Settings {
@@ -261,9 +259,7 @@ impl Slot {
     pub fn set_place(&mut self, y: u16, x: u16)
         requires { IsSome self.old.place }
         ensures window { window_of self.new ≡ with_place y x (window_of self.old) }
-        ensures shape { SameShape self.old self.new }
-        ensures part { SamePart self.old self.new }
-        ensures kept { IsKept self.new }
+        ensures place { StaysInPlace self.old self.new }
     {
         self.place = Some((y, x));
     }
@@ -294,9 +290,7 @@ impl Slot {
         requires ordered { left ≤ right }
         requires right_in { right < self.old.columns }
         ensures window { window_of self.new ≡ with_drawing (filled line left right cell) (window_of self.old) }
-        ensures shape { SameShape self.old self.new }
-        ensures part { SamePart self.old self.new }
-        ensures kept { IsKept self.new }
+        ensures place { StaysInPlace self.old self.new }
     {
         if let Cells::Own(grid) = &mut self.cells {
             grid.fill(
@@ -311,9 +305,7 @@ impl Slot {
     /// Takes all touches away, and asks for a clear screen no more.
     pub fn unmark(&mut self)
         ensures window { window_of self.new ≡ unmarked (window_of self.old) }
-        ensures shape { SameShape self.old self.new }
-        ensures part { SamePart self.old self.new }
-        ensures kept { IsKept self.new }
+        ensures place { StaysInPlace self.old self.new }
     {
         self.touched.fill(None);
         self.settings.clear = false;
@@ -323,9 +315,7 @@ impl Slot {
     pub fn mark(&mut self, first: u16, n: u16, flag: bool)
         requires { first + n ≤ self.old.lines }
         ensures window { window_of self.new ≡ lines_marked first n flag (window_of self.old) }
-        ensures shape { SameShape self.old self.new }
-        ensures part { SamePart self.old self.new }
-        ensures kept { IsKept self.new }
+        ensures place { StaysInPlace self.old self.new }
     {
         let columns = if flag {
             Some(Columns {
@@ -353,9 +343,7 @@ impl Slot {
         requires columns_in { left + length row.now ≤ self.old.columns }
         requires cells { AllByRecursion IsCell row.now }
         ensures window { window_of self.new ≡ with_drawing (listed line left row.now) (window_of self.old) }
-        ensures shape { SameShape self.old self.new }
-        ensures part { SamePart self.old self.new }
-        ensures kept { IsKept self.new }
+        ensures place { StaysInPlace self.old self.new }
     {
         if let Cells::Own(grid) = &mut self.cells {
             grid.put_cells(usize::from(line), usize::from(left), row);
@@ -368,9 +356,7 @@ impl Slot {
         requires ordered { left ≤ right }
         requires right_in { right < self.old.columns }
         ensures window { window_of self.new ≡ with_touched line left right (window_of self.old) }
-        ensures shape { SameShape self.old self.new }
-        ensures part { SamePart self.old self.new }
-        ensures kept { IsKept self.new }
+        ensures place { StaysInPlace self.old self.new }
     {
         let at = usize::from(line);
         self.touched[at] = Some(spread_over(self.touched[at], left, right));

@@ -1,6 +1,7 @@
 use Rattle.slots.specs.declared.slot.Cells.TheVariants.{Own}
 use Rattle.slots.specs.contracts.slot.Slot.{the_view}
-use Rattle.slots.proofs.NewSlots.{IsKept-cells}
+use Rattle.std.proofs.Common.{refl}
+use Rattle.slots.proofs.NewSlots.{IsKept-cells, StaysInPlace-cells, StaysInPlace-same}
 use Rattle.slots.proofs.slot.Slot.fill.Goals as goal
 use Rattle.slots.proofs.slot.Slot.fill.Goals.{in-Own, in_default}
 
@@ -14,12 +15,13 @@ invariant_of-self c =
       | in_default w ↦ rw w.self-inside-is c.self.invariant
     ]
 
-pub returns-clause-kept : goal.returns-clause-kept
-returns-clause-kept c =
+pub returns-clause-place : goal.returns-clause-place
+returns-clause-place c =
     let k = the_view c.self.inside in
     elim c.match-self.branch [
       | in-Own w ↦
           let grid = rw w.in-Own.is at c.self.invariant.grid in
-          rw w.self-inside-is (IsKept-cells k (Own w.fill.new.self) c.self.invariant (w.fill.ensures.size k.lines k.columns grid.0, w.fill.ensures.cells grid.1))
-      | in_default w ↦ rw w.self-inside-is c.self.invariant
+          rw (← c.self.view_is, w.self-inside-is)
+          (StaysInPlace-cells k (Own w.fill.new.self) c.self.invariant (w.fill.ensures.size k.lines k.columns grid.0, w.fill.ensures.cells grid.1) (rw w.in-Own.is refl))
+      | in_default w ↦ rw (← c.self.view_is, w.self-inside-is) (StaysInPlace-same k c.self.invariant)
     ]
