@@ -1,6 +1,9 @@
--- Where two lines of shown cells differ, by comparing them column by column; a measure of our own.
-use Rattle.std.specs.Prelude.{◌≡◌, ℕ, ◌+◌, ◌<◌, List, length, take, drop, Option, Some, None, slice_index_or}
-use Rattle.cell.specs.Shown.{Shown, shown_blank}
+-- Where two lines of shown cells differ, by comparing them column by column, and in how many places two pictures of one size do; measures
+-- of our own.
+use Rattle.std.specs.Prelude.{◌≡◌, ℕ, ◌+◌, ◌<◌, ◌==◌, ◌&&◌, if◌then◌else◌, Bool, List, [], ◌∷◌, length, take, drop, Option, Some, None, slice_index_or}
+use Rattle.std.specs.Option.{option_eq}
+use Rattle.cell.specs.Pictures.{Picture}
+use Rattle.cell.specs.Shown.{Rendition, Shown, shown_blank}
 
 -- the cells of a column are not the same
 pub record DiffersAt (old new : List Shown) (column : ℕ) : Type 0 where
@@ -16,3 +19,25 @@ IsFirstDifference old new (Some column) = DiffersAt old new column × (take colu
 abbrev pub IsLastDifference : List Shown → List Shown → Option ℕ → Type 0
 IsLastDifference old new None = old ≡ new
 IsLastDifference old new (Some column) = DiffersAt old new column × (drop (column + 1) old ≡ drop (column + 1) new)
+
+-- ---- in how many places
+
+abbrev pub same_colour : Option ℕ → Option ℕ → Bool
+same_colour a b = option_eq (λ m n. m == n) a b
+
+abbrev pub same_rendition : Rendition → Rendition → Bool
+same_rendition a b = a.attributes == b.attributes && (same_colour a.foreground b.foreground && same_colour a.background b.background)
+
+abbrev pub same_shown : Shown → Shown → Bool
+same_shown a b = a.character == b.character && same_rendition a.rendition b.rendition
+
+-- in how many columns two lines differ
+abbrev pub line_difference : List Shown → List Shown → ℕ
+line_difference [] new = 0
+line_difference (a ∷ old) [] = 0
+line_difference (a ∷ old) (b ∷ new) = (if same_shown a b then 0 else 1) + line_difference old new
+
+abbrev pub difference : Picture → Picture → ℕ
+difference [] new = 0
+difference (line ∷ old) [] = 0
+difference (line ∷ old) (other ∷ new) = line_difference line other + difference old new

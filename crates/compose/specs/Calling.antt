@@ -1,21 +1,29 @@
 -- A call that sends nothing, made on a desk: what it answers, and what it leaves.
-use Rattle.std.specs.Prelude.{◌≡◌, ◌⊎◌, ℕ, true, Some, None, Result, Ok, Err}
+use Rattle.std.specs.Prelude.{◌≡◌, ◌≤◌, ◌⊎◌, ℕ, Bool, true, Some, None, Result, Ok, Err}
 use Rattle.world.specs.World.{World}
+use Rattle.cell.specs.Differences.{difference}
 use Rattle.cell.specs.declared.refusal.Refusal.{Refusal}
 use Rattle.cell.specs.declared.refusal.Refusal.TheVariants.{NoMemory}
-use Rattle.compose.specs.Desks.{DeskTable, world}
+use Rattle.compose.specs.Desks.{DeskTable, is_damaged_line, world}
+use Rattle.world.specs.calls.Affected.{affected_after, owed}
 use Rattle.world.specs.calls.Dispatch.{refusal, reply_of, takes_memory, world_after}
-use Rattle.world.specs.calls.Refresh.{MayRead}
+use Rattle.world.specs.calls.Refresh.{after_update_panels}
 use Rattle.world.specs.declared.call.Call.{Call}
 use Rattle.world.specs.declared.call.Call.TheVariants as calls
 use Rattle.world.specs.declared.call.Refresh.TheVariants.{UpdatePanels}
 use Rattle.world.specs.declared.call.Reply.{Reply}
 use Rattle.world.specs.declared.call.Reply.TheVariants.{Composed}
 
+-- An update_panels may read so many cells, where these lines are damaged: at least as many as there are places of the virtual screen that
+-- it changes, and at most all of these lines.
+pub record MayRead (world : World) (damaged : ℕ → Bool) (cells : ℕ) : Type 0 where
+  pub at_least : difference world.virtual.picture (after_update_panels world).virtual.picture ≤ cells
+  pub at_most : cells ≤ owed world damaged (calls.Refresh UpdatePanels)
+
 -- What an accepted call may answer that sends nothing: update_panels how many cells it read, another what the tables say.
-abbrev pub MayTell : World → Call → Reply → Type 0
-MayTell world (calls.Refresh UpdatePanels) reply = (cells : ℕ) × MayRead world cells × (reply ≡ Composed (record { cells = cells }))
-MayTell world call reply = reply ≡ reply_of world call
+abbrev pub MayTell : World → (ℕ → Bool) → Call → Reply → Type 0
+MayTell world damaged (calls.Refresh UpdatePanels) reply = (cells : ℕ) × MayRead world damaged cells × (reply ≡ Composed (record { cells = cells }))
+MayTell world damaged call reply = reply ≡ reply_of world call
 
 -- The call may be refused so: as its tests have it, or, where none of them holds, for want of the memory that it takes.
 abbrev pub MayRefuse : World → Call → Refusal → Type 0
@@ -26,7 +34,12 @@ abbrev pub MayLeave : DeskTable → Call → DeskTable → Type 0
 MayLeave old (calls.Query query) new = new ≡ old
 MayLeave old call new = world new ≡ world_after (world old) call
 
+-- Only lines are damaged that were so before, or that the call affects; behind update_panels none is.
+abbrev pub DamagesFew : DeskTable → Call → DeskTable → Type 0
+DamagesFew old call new = (line : ℕ) → is_damaged_line new line ≡ true → affected_after (world old) (is_damaged_line old) call line ≡ true
+
 -- The call, which sends nothing, was made on a desk. A refused one changed nothing.
 abbrev pub Called : DeskTable → Call → Result Reply Refusal → DeskTable → Type 0
-Called old call (Ok reply) new = (refusal (world old) call ≡ None) × MayTell (world old) call reply × MayLeave old call new
+Called old call (Ok reply) new =
+    (refusal (world old) call ≡ None) × MayTell (world old) (is_damaged_line old) call reply × MayLeave old call new × DamagesFew old call new
 Called old call (Err e) new = MayRefuse (world old) call e × (new ≡ old)

@@ -1,15 +1,41 @@
 -- What a desk keeps, and the world that it stands for.
+use Rattle.std.specs.Prelude.{ℕ, Bool, Option, None, List, is_some, slice_index_or}
 use Rattle.cell.specs.Shown.{Pairs}
 use Rattle.world.specs.World.{VirtualScreen, World}
+use Rattle.world.specs.calls.Refresh.{among}
+use Rattle.world.specs.declared.settings.Columns.{Columns}
 use Rattle.grids.specs.Tables.{WindowTable, windows}
 use Rattle.stack.specs.Tables.{PanelTable, panels}
 
--- the table of windows, the panels, the colour pairs, and the virtual screen
+-- the table of windows, the panels, the colour pairs, the virtual screen, and of each line of the screen the columns that are damaged
 pub record DeskTable : Type 0 where
   pub windows : WindowTable
   pub panels : PanelTable
   pub pairs : Pairs
   pub virtual : VirtualScreen
+  pub damage : List (Option Columns)
 
 abbrev pub world : DeskTable → World
 world t = record { windows = windows t.windows; panels = panels t.panels; pairs = t.pairs; virtual = t.virtual }
+
+-- ---- damage: where the virtual screen may show something else than the search from the top finds
+
+-- the damaged columns of a line, from the first to the last, or none
+abbrev pub columns_of : List (Option Columns) → ℕ → Option Columns
+columns_of damage y = slice_index_or damage y None
+
+abbrev pub has_damage : List (Option Columns) → ℕ → Bool
+has_damage damage y = is_some (columns_of damage y)
+
+abbrev pub has_damage_at : List (Option Columns) → ℕ → ℕ → Bool
+has_damage_at damage y x = among (columns_of damage y) x
+
+-- the same of a desk
+abbrev pub damaged_columns : DeskTable → ℕ → Option Columns
+damaged_columns t y = columns_of t.damage y
+
+abbrev pub is_damaged_line : DeskTable → ℕ → Bool
+is_damaged_line t y = has_damage t.damage y
+
+abbrev pub is_damaged_at : DeskTable → ℕ → ℕ → Bool
+is_damaged_at t y x = has_damage_at t.damage y x

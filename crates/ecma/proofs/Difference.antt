@@ -5,7 +5,7 @@ use Rattle.std.specs.List.{AllByRecursion}
 use Rattle.std.proofs.lemmas.Bool.{and_parts, eqb-true, eqb-false, true_from_ne_false, cases_Bool}
 use Rattle.cell.specs.Shown.{Rendition, Shown}
 use Rattle.cell.specs.Pictures.{Picture, HasSize}
-use Rattle.ecma.specs.Difference.{same_colour, same_rendition, same_shown, line_difference, difference}
+use Rattle.cell.specs.Differences.{same_colour, same_rendition, same_shown, line_difference, difference}
 
 same_colour-equal : (a b : Option ℕ) → same_colour a b ≡ true → a ≡ b
 same_colour-equal None None h = refl

@@ -6,7 +6,7 @@ use Rattle.cell.specs.Pictures.{Place, blank_picture, origin}
 use Rattle.ecma.specs.Items.{Printable, Control, Unfinished, CUP, ED, EL, SGR, AreParameters, IsBeginning, escape}
 use Rattle.ecma.specs.Terminals.{Terminal, effect, effects, position, erasure, select_all, select}
 use Rattle.ecma.specs.Streams.{IsInProfile}
-use Rattle.ecma.specs.Difference.{difference}
+use Rattle.cell.specs.Differences.{difference}
 use Rattle.ecma.specs.declared.token.Erase.TheVariants.{ToEnd}
 
 -- a blank picture with its cursor and rendition

@@ -2,7 +2,7 @@
 
 ghost use Rattle.std.specs.Prelude.{◌≡◌, ◌↔◌, ℕ, ◌<◌, ◌≤◌, List, [], ◌++◌, length, take};
 ghost use Rattle.cell.specs.Pictures.{HasSize, Picture};
-ghost use Rattle.ecma.specs.Difference.{difference};
+ghost use Rattle.cell.specs.Differences.{difference};
 ghost use Rattle.ecma.specs.Items.{EndsOrEscapes, Item, Splits};
 ghost use Rattle.ecma.specs.Standing.{Reader, StandsAfter};
 ghost use Rattle.ecma.specs.Terminals.{Terminal};

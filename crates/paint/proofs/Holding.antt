@@ -6,7 +6,8 @@ use Rattle.std.proofs.lemmas.List.{nil_from_length}
 use Rattle.cell.specs.Shown.{Shown, no_rendition, has_colour}
 use Rattle.cell.specs.Pictures.{Picture, Place, HasSize, line_of}
 use Rattle.cell.proofs.PictureLemmas.{length-line}
-use Rattle.ecma.specs.Difference.{same_shown, line_difference, line_colour_difference, difference, colour_difference}
+use Rattle.cell.specs.Differences.{same_shown, line_difference, difference}
+use Rattle.ecma.specs.Difference.{line_colour_difference, colour_difference}
 use Rattle.ecma.specs.Streams.{Leads, Shows, showing}
 use Rattle.ecma.specs.Terminals.{Terminal}
 use Rattle.ecma.proofs.Joining.{Leads-append, Leads-in_profile, Reaches-in_profile}

@@ -5,7 +5,7 @@ use Rattle.std.proofs.lemmas.Bool.{and_parts, cases_Bool, eqb-true, lt-ltb}
 use Rattle.std.proofs.lemmas.List.{get_or-drop, get_or-take, set-get_or}
 use Rattle.cell.specs.Shown.{shown_blank, no_rendition, Shown, Rendition, IsRendition, IsShown}
 use Rattle.cell.specs.Pictures.{Picture, Place, line_of, with_shown}
-use Rattle.ecma.specs.Difference.{same_rendition}
+use Rattle.cell.specs.Differences.{same_rendition}
 use Rattle.ecma.specs.declared.token.Token.{Token}
 use Rattle.ecma.specs.declared.token.Token.TheVariants.{Print, Cup, Sgr, El, Ed}
 use Rattle.ecma.specs.declared.token.Erase.TheVariants.{ToEnd}

@@ -4,9 +4,8 @@ use Rattle.std.specs.Prelude.{if◌then◌else◌}
 use Rattle.std.proofs.lemmas.Bool.{cases_Bool}
 use Rattle.std.proofs.lemmas.List.{drop_more, get_or-set_same, length-drop, length-take-le, set-set, set-get_or, take-append-drop}
 use Rattle.cell.specs.Shown.{Shown, no_rendition, shown_blank, has_colour}
-use Rattle.cell.specs.Differences.{DiffersAt}
+use Rattle.cell.specs.Differences.{DiffersAt, same_shown}
 use Rattle.cell.specs.Pictures.{Picture, line_of, with_shown}
-use Rattle.ecma.specs.Difference.{same_shown}
 use Rattle.ecma.proofs.Difference.{same_shown-equal}
 use Rattle.ecma.proofs.Lengths.{length-spelling}
 use Rattle.ecma.specs.Spelling.{spelling}

@@ -4,7 +4,8 @@ use Rattle.std.specs.Prelude.{◌≡◌, ℕ, ◌+◌, ◌*◌, ◌≤◌, ◌==
 use Rattle.std.specs.Io.KnownBytes.{Appends}
 use Rattle.cell.specs.Pictures.{Picture, Place, HasSize, blank_picture, origin}
 use Rattle.ecma.specs.declared.token.Token.TheVariants.{Cup}
-use Rattle.ecma.specs.Difference.{difference, colour_difference}
+use Rattle.cell.specs.Differences.{difference}
+use Rattle.ecma.specs.Difference.{colour_difference}
 use Rattle.ecma.specs.Items.{escape}
 use Rattle.ecma.specs.Spelling.{spelling}
 use Rattle.ecma.specs.Terminals.{Terminal}

@@ -2,7 +2,8 @@
 use Rattle.std.specs.Prelude.{ℕ, ◌+◌, ◌*◌, ◌≤◌, if◌then◌else◌, List, [], length, Option, Some, None, Bool, false, nat_lt}
 use Rattle.cell.specs.Shown.{Rendition, Shown, has_colour}
 use Rattle.cell.specs.Pictures.{Picture, Place}
-use Rattle.ecma.specs.Difference.{same_rendition, line_difference, line_colour_difference, difference, colour_difference}
+use Rattle.cell.specs.Differences.{same_rendition, line_difference, difference}
+use Rattle.ecma.specs.Difference.{line_colour_difference, colour_difference}
 use Rattle.ecma.specs.Spelling.{spelling}
 use Rattle.ecma.specs.Streams.{Leads}
 use Rattle.ecma.specs.Terminals.{Terminal}

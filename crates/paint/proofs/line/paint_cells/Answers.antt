@@ -3,7 +3,7 @@ use Rattle.std.proofs.lemmas.List.{get_or_default}
 use Rattle.cell.specs.Shown.{shown_blank}
 use Rattle.cell.specs.Pictures.{Picture, line_of, with_shown}
 use Rattle.paint.specs.steps.Strokes.{Strokes, cell_bytes}
-use Rattle.ecma.specs.Difference.{same_shown}
+use Rattle.cell.specs.Differences.{same_shown}
 use Rattle.paint.proofs.Walks.{gap-before, line-begun, line-drawn, line-kept}
 use Rattle.paint.proofs.line.paint_cells.Goals as goal
 
