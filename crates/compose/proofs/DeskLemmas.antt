@@ -1,5 +1,5 @@
 -- What a desk keeps, and the world that it stands for, call by call.
-use Rattle.std.proofs.Common.{rules, ◌≡◌, ◌≢◌, ℕ, Bool, true, false, ◌⊎◌, Option, Some, None, [], ◌∷◌, ◌==◌, Result, Ok, Err, inl, inr, refl, sym, ap, subst, ◌∙◌}
+use Rattle.std.proofs.Common.{rules, ◌≡◌, ◌≢◌, ℕ, Bool, true, false, ◌⊎◌, Option, Some, None, List, [], ◌∷◌, ◌==◌, Result, Ok, Err, inl, inr, refl, sym, ap, subst, ◌∙◌}
 use Rattle.std.specs.Prelude.{IfOk, MatchOption, OnErr, OnOk, is_none, ⊤}
 use Rattle.std.specs.Result.{result_err}
 use Rattle.cell.specs.Refusals.{RefusedBy, first_of}
@@ -15,23 +15,23 @@ use Rattle.cell.specs.declared.refusal.Refusal.TheVariants.{HasDerived, InPanel,
 use Rattle.cell.specs.declared.window.WinId.{WinId}
 use Rattle.grids.specs.Tables.{WindowTable, windows}
 use Rattle.stack.specs.Tables.{PanelTable, panels}
-use Rattle.compose.specs.Desks.{DeskTable, world}
-use Rattle.world.specs.calls.Dispatch.{after_making, after_stacking, makes_panel, makes_window, making_refusal, making_reply, refusal, stacking_refusal, stacking_reply, takes_memory, world_after}
+use Rattle.world.specs.declared.settings.Columns.{Columns}
+use Rattle.compose.specs.Desks.{DeskTable, is_damaged_line, world}
+use Rattle.world.specs.calls.Dispatch.{after_making, making_refusal, refusal, takes_memory, world_after}
 use Rattle.world.specs.calls.Making.{delwin_refusal, has_derived}
-use Rattle.compose.specs.Calling.{Called, MayLeave, MayRefuse}
+use Rattle.compose.specs.Calling.{Called, DamagesFew, MayLeave, MayRefuse, MayTell}
 use Rattle.world.specs.declared.call.Call.{Call}
 use Rattle.world.specs.declared.call.Call.TheVariants as calls
 use Rattle.world.specs.declared.call.Making.{Making}
 use Rattle.world.specs.declared.call.Making.TheVariants.{Delwin}
-use Rattle.world.specs.declared.call.Stacking.{Stacking}
 use Rattle.world.specs.declared.call.Reply.{Reply}
 use Rattle.world.proofs.PanelLaws.{in_panel-some}
 use Rattle.world.proofs.PlaceLaws.{has_place, keeps-making, panels-kept}
 use Rattle.world.proofs.Sizes.{SameSize, size-call}
 
--- a desk of these windows, panels and pairs, and this virtual screen
+-- a desk of these windows, panels and pairs, and this virtual screen; its damage is no part of its world
 abbrev pub desk_of : WindowTable → PanelTable → Pairs → VirtualScreen → DeskTable
-desk_of w ps pairs virtual = record { windows = w; panels = ps; pairs = pairs; virtual = virtual }
+desk_of w ps pairs virtual = record { windows = w; panels = ps; pairs = pairs; virtual = virtual; damage = [] }
 
 -- each window of a panel keeps its place
 abbrev pub KeepsPlaces : Panels → Windows → Windows → Type 0
@@ -93,14 +93,6 @@ module _ (old new : WindowTable) (ps : PanelTable) (pairs : Pairs) (virtual : Vi
   keeps-made making (Ok reply) sound refused done is p w has other there = keeps-making (windows old) making w other (stays making p w sound has refused) there
   keeps-made making (Err e) sound refused done is p w has other there = cc
 
-  pub made-called : (making : Making) (r : Result Reply Refusal) → RefusedBy (making_refusal (windows old) (is_in_panel (panels ps)) making) r
-      → (makes_window making ≡ false → result_err r ≡ making_refusal (windows old) (is_in_panel (panels ps)) making) → IfOk r (λ reply. reply ≡ making_reply (windows old) making)
-      → OnOk r (windows new ≡ after_making (windows old) making) → OnErr r (new ≡ old) → Called (desk_of old ps pairs virtual) (calls.Making making) r (desk_of new ps pairs virtual)
-  made-called making (Ok reply) refused exact answers made unchanged =
-      (refused, answers, ap (λ (ws : Windows). record (world (desk_of old ps pairs virtual)) { windows = ws }) made)
-  made-called making (Err e) refused exact answers made unchanged =
-      (may-refuse (world (desk_of old ps pairs virtual)) (calls.Making making) e (makes_window making) refl refused exact, ap (λ w. desk_of w ps pairs virtual) unchanged)
-
 -- a new desk
 pub IsSound-new : (w : WindowTable) (ps : PanelTable) (lines columns : ℕ) (pairs : Pairs) (picture : Picture) → AreSoundWindows (windows w) → windows w ≡ (first_world lines columns).windows
     → panels ps ≡ first_panels → pairs ≡ first_pairs → picture ≡ blank_picture lines columns → IsSound (world (desk_of w ps pairs (record { picture = picture; cursor = (0, 0); clear = false })))
@@ -141,11 +133,45 @@ pub IsSound-stack : (w : WindowTable) (old new : PanelTable) (pairs : Pairs) (vi
     → IsSound (world (desk_of w new pairs virtual))
 IsSound-stack w old new pairs virtual h sound = record { windows = h.windows; panels = sound; pairs = h.pairs; virtual = h.virtual }
 
--- ---- panels
+-- ---- calls
 
-pub arranged-called : (old new : DeskTable) (stacking : Stacking) (r : Result Reply Refusal) → RefusedBy (stacking_refusal (world old).windows (world old).panels stacking) r
-    → (makes_panel stacking ≡ false → result_err r ≡ stacking_refusal (world old).windows (world old).panels stacking) → IfOk r (λ reply. reply ≡ stacking_reply (world old).panels stacking)
-    → OnOk r (world new ≡ after_stacking (world old) stacking) → OnErr r (new ≡ old) → Called old (calls.Stacking stacking) r new
-arranged-called old new stacking (Ok reply) refused exact answers arranged unchanged = (refused, answers, arranged)
-arranged-called old new stacking (Err e) refused exact answers arranged unchanged =
-    (may-refuse (world old) (calls.Stacking stacking) e (makes_panel stacking) refl refused exact, unchanged)
+pub refused-by : {T : Type 0} (t : Option Refusal) (r : Result T Refusal) → result_err r ≡ t → RefusedBy t r
+refused-by t (Ok done) h = sym h
+refused-by t (Err e) h = inl (sym h)
+
+pub accepted-by : {T : Type 0} (t : Option Refusal) (r : Result T Refusal) → RefusedBy t r → (done : T) → r ≡ Ok done → t ≡ None
+accepted-by t (Ok done) h other is = h
+accepted-by t (Err e) h other is = cc
+
+pub called : (old new : DeskTable) (call : Call) (r : Result Reply Refusal) → RefusedBy (refusal (world old) call) r
+    → (takes_memory call ≡ false → result_err r ≡ refusal (world old) call) → IfOk r (λ reply. MayTell (world old) (is_damaged_line old) call reply)
+    → OnOk r (MayLeave old call new) → OnOk r (DamagesFew old call new) → OnErr r (new ≡ old) → Called old call r new
+called old new call (Ok reply) refused exact answers left few unchanged = (refused, answers, left, few)
+called old new call (Err e) refused exact answers left few unchanged = (may-refuse (world old) call e (takes_memory call) refl refused exact, unchanged)
+
+-- ---- calls that change windows alone
+
+on-ok : {T : Type 0} {P Q : Type 0} (r : Result T Refusal) → (P → Q) → OnOk r P → OnOk r Q
+on-ok (Ok done) to h = to h
+on-ok (Err e) to h = tt
+
+pub err-both : {T : Type 0} {P Q R : Type 0} (r : Result T Refusal) → (P → Q → R) → OnErr r P → OnErr r Q → OnErr r R
+err-both (Ok done) to h k = tt
+err-both (Err e) to h k = to h k
+
+pub err-three : {T : Type 0} {P Q R S : Type 0} (r : Result T Refusal) → (P → Q → R → S) → OnErr r P → OnErr r Q → OnErr r R → OnErr r S
+err-three (Ok done) to h k l = tt
+err-three (Err e) to h k l = to h k l
+
+module _ (w new_w : WindowTable) (ps : PanelTable) (pairs : Pairs) (virtual : VirtualScreen) (d new_d : List (Option Columns)) where
+  abbrev pub before : DeskTable
+  before = record { windows = w; panels = ps; pairs = pairs; virtual = virtual; damage = d }
+
+  abbrev pub behind : DeskTable
+  behind = record { windows = new_w; panels = ps; pairs = pairs; virtual = virtual; damage = new_d }
+
+  pub windows-left : {T : Type 0} (after : Windows) (r : Result T Refusal) → OnOk r (windows new_w ≡ after) → OnOk r (world behind ≡ record (world before) { windows = after })
+  windows-left after r h = on-ok r (λ is. ap (λ (ws : Windows). record (world before) { windows = ws }) is) h
+
+  pub windows-unchanged : {T : Type 0} (r : Result T Refusal) → OnErr r (new_w ≡ w) → OnErr r (new_d ≡ d) → OnErr r (behind ≡ before)
+  windows-unchanged r h k = err-both r (λ one other. (λ i. record { windows = one i; panels = ps; pairs = pairs; virtual = virtual; damage = other i })) h k

@@ -26,10 +26,10 @@ LineShown-more f lines columns y start x old now so_far below left from = record
 }
 
 -- What is made from x on, up to an end, follows what was made before x.
-joined : (line : Bool) (x end u : ℕ) (made new old : Shown) → x ≤ end → (x ≤ u → u < end → new ≡ made)
-    → (if line && (nat_le x u && nat_lt u end) then new else (if line && (nat_le 0 u && nat_lt u x) then made else old)) ≡ (if line && (nat_le 0 u && nat_lt u end) then made else old)
-joined false x end u made new old ordered same = refl
-joined true x end u made new old ordered same = elim (cases_lt u x) [
+joined : (line : Bool) (start x end u : ℕ) (made new old : Shown) → start ≤ x → x ≤ end → (x ≤ u → u < end → new ≡ made)
+    → (if line && (nat_le x u && nat_lt u end) then new else (if line && (nat_le start u && nat_lt u x) then made else old)) ≡ (if line && (nat_le start u && nat_lt u end) then made else old)
+joined false start x end u made new old begins ordered same = refl
+joined true start x end u made new old begins ordered same = elim (cases_lt u x) [
   | inl before ↦ grind (arith, nat_tests)
   | inr from ↦ elim (cases_lt u end) [
     | inl inside ↦ rw (same (omega arith) inside) (grind (arith, nat_tests))
@@ -38,14 +38,14 @@ joined true x end u made new old ordered same = elim (cases_lt u x) [
 ]
 
 -- a span more
-pub LineShown-span : (f g : ℕ → Shown) (lines columns y x end : ℕ) (old now new : Picture) → LineShown f lines columns y 0 x old now → x ≤ end → ((u : ℕ) → x ≤ u → u < end → g u ≡ f u)
+pub LineShown-span : (f g : ℕ → Shown) (lines columns y start x end : ℕ) (old now new : Picture) → LineShown f lines columns y start x old now → start ≤ x → x ≤ end → ((u : ℕ) → x ≤ u → u < end → g u ≡ f u)
     → ((v u : ℕ) → shown_at new (v, u) ≡ (if (v == y) && (nat_le x u && nat_lt u end) then g u else shown_at now (v, u))) → HasSize lines columns new
-    → LineShown f lines columns y 0 end old new
-LineShown-span f g lines columns y x end old now new so_far ordered same span size = record {
+    → LineShown f lines columns y start end old new
+LineShown-span f g lines columns y start x end old now new so_far from ordered same span size = record {
   shown = λ v u.
       span v u
       ∙ ap (λ (rest : Shown). if (v == y) && (nat_le x u && nat_lt u end) then g u else rest) (so_far.shown v u)
-      ∙ joined (v == y) x end u (f u) (g u) (shown_at old (v, u)) ordered (same u);
+      ∙ joined (v == y) start x end u (f u) (g u) (shown_at old (v, u)) from ordered (same u);
   size = size;
 }
 

@@ -152,6 +152,15 @@ module _ (windows : Windows) (w : ℕ) (place : Place) (lines : ℕ) (h : Stands
   piece-touched y columns below some =
       touched-piece y (record { first = columns.0; last = columns.1 }) below (some-touched (h.window.touched y) columns (sym (columns-of y) ∙ some))
 
+  -- they lie in the window, and so on the screen
+  pub touched-inside : (y : ℕ) (columns : ℕ × ℕ) → touched_columns windows.window w y ≡ Some columns → (columns.0 ≤ columns.1) × (place.1 + columns.1 < windows.columns)
+  touched-inside y columns some =
+      let is : h.window.touched y ≡ Some (record { first = columns.0; last = columns.1 }) = some-touched (h.window.touched y) columns (sym (columns-of y) ∙ some) in
+      let within : (columns.0 ≤ columns.1) × (columns.1 < h.window.columns) = subst (λ (o : Option Columns). AreColumnsWithin h.window.columns o) is (h.touched y) in
+      let last = within.1 in
+      let right = h.right in
+      (within.0, omega (arith, last, right))
+
 -- ---- a pad
 
 -- a rectangle of a pad that is there, for one of the screen

@@ -1,2 +1,5 @@
 pub mod Desks
 pub mod Calling
+pub mod Parts
+pub mod Covers
+pub mod steps

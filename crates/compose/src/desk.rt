@@ -16,12 +16,16 @@ ghost use Rattle.grids.specs.Tables.{windows as windows_of};
 ghost use Rattle.world.specs.declared.call.Call.{Call};
 ghost use Rattle.world.specs.declared.call.Refresh.{Refresh};
 ghost use Rattle.world.specs.calls.Dispatch.{is_doupdate};
-ghost use Rattle.compose.specs.Desks.{world};
+ghost use Rattle.compose.specs.Desks.{damaged_columns, is_damaged_line, world};
 ghost use Rattle.compose.specs.Calling.{Called};
 
-use crate::dispatch::{arrange, copy, make, query, refresh, write};
+use crate::calls::{copy_damaging, make_damaging, write_damaging};
+use crate::damage::Damage;
+use crate::damaging::damage_part;
+use crate::dispatch::{query, refresh};
 use crate::marks::{clear_asked, unmark_composed};
-use crate::picture::show_picture;
+use crate::parts::window_part;
+use crate::picture::show_damaged;
 use crate::search::{STANDARD, cell_found, wanted_cursor};
 use cell::{Colour, Grid, PairId, Pairs, Refusal, Shown};
 use grids::Grids;
@@ -29,10 +33,10 @@ use stack::Stack;
 use std::alloc::Global;
 use std::marker::Model;
 use windows::Windows;
-use world::{Call, Composed, Reply};
+use world::{Call, Columns, Composed, Reply};
 
 /// A screen's windows and pads, its panels, its colour pairs, and its virtual screen: a picture, where the cursor is wanted, and whether the terminal is
-/// to be cleared first.
+/// to be cleared first. Of each line it keeps the damaged columns: everywhere else the virtual screen shows what the search from the top finds.
 #[derive(Drop)]
 pub struct Desk {
     pub(crate) windows: Windows,
@@ -41,11 +45,12 @@ pub struct Desk {
     pub(crate) picture: Grid<Shown>,
     pub(crate) cursor: (u16, u16),
     pub(crate) clear: bool,
+    pub(crate) damage: Damage,
 }
 
 impl Model for Desk {
-    ghost use Rattle.world.specs.Sound.{IsSound};
-    ghost use Rattle.compose.specs.Desks.{DeskTable, world};
+    ghost use Rattle.compose.specs.Covers.{IsDesk};
+    ghost use Rattle.compose.specs.Desks.{DeskTable};
 
     ghost Value = { DeskTable };
 
@@ -54,14 +59,16 @@ impl Model for Desk {
       panels = d.stack;
       pairs = d.pairs;
       virtual = record { picture = d.picture; cursor = d.cursor; clear = d.clear };
+      damage = d.damage;
     } };
 
-    ghost invariant = { λ d. IsSound (world (record {
+    ghost invariant = { λ d. IsDesk (record {
       windows = d.windows.table;
       panels = d.stack;
       pairs = d.pairs;
       virtual = record { picture = d.picture; cursor = d.cursor; clear = d.clear };
-    })) };
+      damage = d.damage;
+    }) };
 }
 
 impl Desk {
@@ -71,20 +78,21 @@ impl Desk {
     /// `BadSize` for a size out of these limits, `NoMemory`.
     pub fn new(alloc: Global, lines: u16, cols: u16) -> Result<Desk, Refusal>
         ensures world { IfOk result (λ desk. world desk ≡ first_world lines cols) }
+        ensures damage { IfOk result (λ desk. (line : ℕ) → is_damaged_line desk line ≡ false) }
         ensures refused { RefusedBy (new_refusal lines cols) result }
     {
         let windows = Windows::new(alloc, lines, cols)?;
-        match Grid::new(alloc, lines, cols) {
-            Ok(picture) => Ok(Desk {
-                windows,
-                stack: Stack::new(alloc),
-                pairs: Pairs::new(),
-                picture,
-                cursor: (0, 0),
-                clear: false,
-            }),
-            Err(_) => Err(Refusal::NoMemory),
-        }
+        let picture = Grid::new(alloc, lines, cols)?;
+        let damage = Damage::new(alloc, lines)?;
+        Ok(Desk {
+            windows,
+            stack: Stack::new(alloc),
+            pairs: Pairs::new(),
+            picture,
+            cursor: (0, 0),
+            clear: false,
+            damage,
+        })
     }
 
     /// The windows and pads.
@@ -100,34 +108,56 @@ impl Desk {
         ensures { Called self.old call.now result self.new }
     {
         match *call {
-            Call::Making(making) => make(&mut self.windows.table, &self.stack, making),
-            Call::Writing(writing) => write(&mut self.windows, writing),
-            Call::Copying(copying) => copy(&mut self.windows, copying),
+            Call::Making(making) => make_damaging(
+                &mut self.windows.table,
+                &self.stack,
+                &mut self.damage,
+                making,
+            ),
+            Call::Writing(writing) => write_damaging(
+                &mut self.windows,
+                &self.stack,
+                &mut self.damage,
+                writing,
+            ),
+            Call::Copying(copying) => copy_damaging(
+                &mut self.windows,
+                &self.stack,
+                &mut self.damage,
+                copying,
+            ),
             Call::Query(asked) => query(&self.windows, asked),
-            Call::Stacking(stacking) => arrange(self, stacking),
+            Call::Stacking(stacking) => self.arrange(stacking),
             Call::Refresh(asked) => refresh(self, asked),
         }
     }
 
-    /// Takes the picture of windows and panels, and the topmost's cursor, into the virtual screen. It tells how many cells it read.
+    /// Takes the picture of windows and panels, and the topmost's cursor, into the virtual screen. It reads windows where the screen is
+    /// damaged, tells how many cells that were, and leaves no damage.
     pub fn update_panels(&mut self) -> Composed
         ensures { Called self.old (Call.Refresh Refresh.UpdatePanels) (Ok (Reply.Composed result)) self.new }
     {
-        let (lines, columns) = size_of_screen(&self.windows.table);
-        show_picture(
+        let (lines, _) = size_of_screen(&self.windows.table);
+        let cells = show_damaged(
             &self.windows.table,
             &self.stack,
             &self.pairs,
             lines,
-            columns,
+            &mut self.damage,
             &mut self.picture,
         );
         self.cursor = wanted_cursor(&self.windows.table, &self.stack);
         self.clear |= clear_asked(&self.windows.table, &self.stack);
         unmark_composed(&mut self.windows.table, &self.stack);
-        Composed {
-            cells: u32::from(lines) * u32::from(columns),
-        }
+        Composed { cells }
+    }
+
+    /// The damaged columns of a line, or none: everywhere else the virtual screen shows what the search from the top finds.
+    pub fn damaged(&self, y: u16) -> Option<Columns>
+        requires { y < self.now.windows.lines }
+        ensures { result ≡ damaged_columns self.now y }
+    {
+        self.damage.line(y)
     }
 
     /// Gives a colour pair a foreground and a background. What is shown already stays.
@@ -145,6 +175,8 @@ impl Desk {
         let (at, foreground, background) = colours_for(pair, foreground, background)?;
         self.pairs.set(at, foreground, background);
         prove!(self.pairs.is_sound());
+        let part = window_part(&self.windows.table, STANDARD);
+        damage_part(&mut self.damage, part);
         Ok(Reply::Nothing)
     }
 

@@ -1,17 +1,38 @@
 //! The calls on panels.
 
-ghost use Rattle.std.specs.Prelude.{◌≡◌, Some, IfOk, OnOk, OnErr};
+ghost use Rattle.std.specs.Prelude.{◌≡◌, Some, IfOk, OnOk, OnErr, false};
 ghost use Rattle.std.specs.Result.{result_err};
 ghost use Rattle.cell.specs.Refusals.{RefusedBy};
 ghost use Rattle.world.specs.calls.Stacking.{after_bottom_panel, after_del_panel, after_hide_panel, after_move_panel, after_new_panel, after_replace_panel, after_show_panel, after_top_panel, hidden_panel_refusal, is_hidden, missing_panel_refusal, move_panel_refusal, neighbour_refusal, new_panel_number, new_panel_refusal, panel_above, panel_below, panel_number, replace_panel_refusal};
+ghost use Rattle.world.specs.calls.Dispatch.{after_stacking, makes_panel, stacking_refusal, stacking_reply};
+ghost use Rattle.world.specs.declared.call.Call.{Call};
+ghost use Rattle.world.specs.declared.call.Stacking.{Stacking};
+ghost use Rattle.compose.specs.Calling.{DamagesFew};
 ghost use Rattle.compose.specs.Desks.{world};
 
+use crate::calls::arrange_damaging;
 use crate::desk::Desk;
-use crate::panels::{move_panel, new_panel, replace_panel};
 use cell::{Refusal, WinId};
-use world::PanelId;
+use world::{PanelId, Reply, Stacking};
 
 impl Desk {
+    /// Makes a call of the table of panels.
+    pub(crate) fn arrange(&mut self, stacking: Stacking) -> Result<Reply, Refusal>
+        ensures refused { RefusedBy (stacking_refusal (world self.old).windows (world self.old).panels stacking) result }
+        ensures exact { makes_panel stacking ≡ false → result_err result ≡ stacking_refusal (world self.old).windows (world self.old).panels stacking }
+        ensures reply { IfOk result (λ reply. reply ≡ stacking_reply (world self.old).panels stacking) }
+        ensures arranged { OnOk result (world self.new ≡ after_stacking (world self.old) stacking) }
+        ensures damaged { OnOk result (DamagesFew self.old (Call.Stacking stacking) self.new) }
+        ensures unchanged { OnErr result (self.new ≡ self.old) }
+    {
+        arrange_damaging(
+            &mut self.windows.table,
+            &mut self.stack,
+            &mut self.damage,
+            stacking,
+        )
+    }
+
     /// Puts a window into a new panel, visible on top. The number is the least free one from 1 on.
     ///
     /// # Errors
@@ -20,9 +41,13 @@ impl Desk {
         ensures refused { RefusedBy (new_panel_refusal (world self.old).windows.window (world self.old).panels win.0) result }
         ensures number { IfOk result (λ p. new_panel_number (world self.old).panels ≡ Some p.0) }
         ensures made { IfOk result (λ p. world self.new ≡ record (world self.old) { panels = after_new_panel (world self.old).panels p.0 win.0 }) }
+        ensures damaged { OnOk result (DamagesFew self.old (Call.Stacking (Stacking.NewPanel win)) self.new) }
         ensures unchanged { OnErr result (self.new ≡ self.old) }
     {
-        new_panel(&self.windows.table, &mut self.stack, win)
+        match self.arrange(Stacking::NewPanel { win })? {
+            Reply::Panel(Some(panel)) => Ok(panel),
+            _ => unreachable!(),
+        }
     }
 
     /// Deletes a panel. Its window stays, and is in no panel any more.
@@ -32,9 +57,11 @@ impl Desk {
     pub fn del_panel(&mut self, panel: PanelId) -> Result<(), Refusal>
         ensures refused { result_err result ≡ missing_panel_refusal (world self.old).panels panel.0 }
         ensures deleted { OnOk result (world self.new ≡ record (world self.old) { panels = after_del_panel (world self.old).panels panel.0 }) }
+        ensures damaged { OnOk result (DamagesFew self.old (Call.Stacking (Stacking.DelPanel panel)) self.new) }
         ensures unchanged { OnErr result (self.new ≡ self.old) }
     {
-        self.stack.del(panel)
+        self.arrange(Stacking::DelPanel { panel })?;
+        Ok(())
     }
 
     /// Puts a panel on top, whether it was hidden or visible.
@@ -44,9 +71,11 @@ impl Desk {
     pub fn show_panel(&mut self, panel: PanelId) -> Result<(), Refusal>
         ensures refused { result_err result ≡ missing_panel_refusal (world self.old).panels panel.0 }
         ensures shown { OnOk result (world self.new ≡ record (world self.old) { panels = after_show_panel (world self.old).panels panel.0 }) }
+        ensures damaged { OnOk result (DamagesFew self.old (Call.Stacking (Stacking.ShowPanel panel)) self.new) }
         ensures unchanged { OnErr result (self.new ≡ self.old) }
     {
-        self.stack.show(panel)
+        self.arrange(Stacking::ShowPanel { panel })?;
+        Ok(())
     }
 
     /// Takes a visible panel out of the order.
@@ -56,9 +85,11 @@ impl Desk {
     pub fn hide_panel(&mut self, panel: PanelId) -> Result<(), Refusal>
         ensures refused { result_err result ≡ hidden_panel_refusal (world self.old).panels panel.0 }
         ensures hidden { OnOk result (world self.new ≡ record (world self.old) { panels = after_hide_panel (world self.old).panels panel.0 }) }
+        ensures damaged { OnOk result (DamagesFew self.old (Call.Stacking (Stacking.HidePanel panel)) self.new) }
         ensures unchanged { OnErr result (self.new ≡ self.old) }
     {
-        self.stack.hide(panel)
+        self.arrange(Stacking::HidePanel { panel })?;
+        Ok(())
     }
 
     /// Moves a visible panel to the top.
@@ -68,9 +99,11 @@ impl Desk {
     pub fn top_panel(&mut self, panel: PanelId) -> Result<(), Refusal>
         ensures refused { result_err result ≡ hidden_panel_refusal (world self.old).panels panel.0 }
         ensures moved { OnOk result (world self.new ≡ record (world self.old) { panels = after_top_panel (world self.old).panels panel.0 }) }
+        ensures damaged { OnOk result (DamagesFew self.old (Call.Stacking (Stacking.TopPanel panel)) self.new) }
         ensures unchanged { OnErr result (self.new ≡ self.old) }
     {
-        self.stack.top(panel)
+        self.arrange(Stacking::TopPanel { panel })?;
+        Ok(())
     }
 
     /// Moves a visible panel to the bottom.
@@ -80,9 +113,11 @@ impl Desk {
     pub fn bottom_panel(&mut self, panel: PanelId) -> Result<(), Refusal>
         ensures refused { result_err result ≡ hidden_panel_refusal (world self.old).panels panel.0 }
         ensures moved { OnOk result (world self.new ≡ record (world self.old) { panels = after_bottom_panel (world self.old).panels panel.0 }) }
+        ensures damaged { OnOk result (DamagesFew self.old (Call.Stacking (Stacking.BottomPanel panel)) self.new) }
         ensures unchanged { OnErr result (self.new ≡ self.old) }
     {
-        self.stack.bottom(panel)
+        self.arrange(Stacking::BottomPanel { panel })?;
+        Ok(())
     }
 
     /// Moves the window of a panel, visible or hidden, to a place of the screen.
@@ -92,9 +127,11 @@ impl Desk {
     pub fn move_panel(&mut self, panel: PanelId, y: u16, x: u16) -> Result<(), Refusal>
         ensures refused { result_err result ≡ move_panel_refusal (world self.old).windows (world self.old).panels panel.0 y x }
         ensures moved { OnOk result (world self.new ≡ record (world self.old) { windows = after_move_panel (world self.old).windows (world self.old).panels panel.0 y x }) }
+        ensures damaged { OnOk result (DamagesFew self.old (Call.Stacking (Stacking.MovePanel panel y x)) self.new) }
         ensures unchanged { OnErr result (self.new ≡ self.old) }
     {
-        move_panel(&mut self.windows.table, &self.stack, panel, y, x)
+        self.arrange(Stacking::MovePanel { panel, y, x })?;
+        Ok(())
     }
 
     /// Gives a panel another window. The panel keeps its depth, or stays hidden.
@@ -104,9 +141,11 @@ impl Desk {
     pub fn replace_panel(&mut self, panel: PanelId, win: WinId) -> Result<(), Refusal>
         ensures refused { result_err result ≡ replace_panel_refusal (world self.old).windows.window (world self.old).panels panel.0 win.0 }
         ensures replaced { OnOk result (world self.new ≡ record (world self.old) { panels = after_replace_panel (world self.old).panels panel.0 win.0 }) }
+        ensures damaged { OnOk result (DamagesFew self.old (Call.Stacking (Stacking.ReplacePanel panel win)) self.new) }
         ensures unchanged { OnErr result (self.new ≡ self.old) }
     {
-        replace_panel(&self.windows.table, &mut self.stack, panel, win)
+        self.arrange(Stacking::ReplacePanel { panel, win })?;
+        Ok(())
     }
 
     /// The panel right above a visible one, or without a panel the bottom one.

@@ -1,6 +1,6 @@
 //! The calls on windows, by the table that they stand in.
 
-ghost use Rattle.std.specs.Prelude.{◌≡◌, IfOk, OnErr, OnOk, false};
+ghost use Rattle.std.specs.Prelude.{◌≡◌, IfOk, OnErr, OnOk, None, false};
 ghost use Rattle.std.specs.Result.{result_err};
 ghost use Rattle.cell.specs.Refusals.{RefusedBy};
 ghost use Rattle.world.specs.Panels.{is_in_panel};
@@ -10,12 +10,17 @@ ghost use Rattle.stack.specs.Tables.{panels};
 ghost use Rattle.world.specs.calls.Dispatch.{after_copying, after_making, after_stacking, after_writing, copying_refusal, copying_reply, makes_panel, makes_window, making_refusal, making_reply, query_refusal, query_reply, stacking_refusal, stacking_reply, writing_refusal};
 ghost use Rattle.world.specs.calls.Dispatch.{is_doupdate};
 ghost use Rattle.world.specs.declared.call.Call.{Call};
+ghost use Rattle.world.specs.Panels.{Panels};
+ghost use Rattle.world.specs.calls.Affected.{changed_panel, copied_window, copying_frame, writing_frame, written_window};
+ghost use Rattle.world.specs.calls.Stacking.{panel_number};
+ghost use Rattle.compose.specs.steps.Changes.{moved_window, named_panel, panels_after, window_number, windows_after};
 ghost use Rattle.compose.specs.Calling.{Called};
 ghost use Rattle.compose.specs.Desks.{world};
 
 use crate::desk::Desk;
-use crate::panels::{delete_window, move_window};
-use cell::{Refusal, WinId};
+use crate::panels::{delete_window, move_panel, move_window, new_panel, replace_panel};
+use crate::search::STANDARD;
+use cell::{Frame, Refusal, WinId};
 use grids::Grids;
 use stack::Stack;
 use windows::Windows;
@@ -44,61 +49,89 @@ pub(crate) fn make(table: &mut Grids, stack: &Stack, making: Making) -> Result<R
     }
 }
 
+/// The window that a call moves in its parent, if it does so.
+pub(crate) fn moved_window(making: Making) -> Option<WinId>
+    ensures { window_number result ≡ moved_window making }
+{
+    match making {
+        Making::Mvderwin { win, .. } => Some(win),
+        Making::Newwin { .. } => None,
+        Making::Subwin { .. } => None,
+        Making::Derwin { .. } => None,
+        Making::Newpad { .. } => None,
+        Making::Subpad { .. } => None,
+        Making::Delwin { .. } => None,
+        Making::Mvwin { .. } => None,
+    }
+}
+
+/// What came of a call that may write in a window: its answer, and the rectangle of the window that it wrote in, if it did.
+#[derive(Clone, Copy)]
+pub struct Wrote {
+    pub reply: Reply,
+    pub win: WinId,
+    pub frame: Option<Frame>,
+}
+
 /// Makes a call of the table of writing.
-pub(crate) fn write(windows: &mut Windows, writing: Writing<'_>) -> Result<Reply, Refusal>
+pub(crate) fn write(windows: &mut Windows, writing: Writing<'_>) -> Result<Wrote, Refusal>
     ensures refused { result_err result ≡ writing_refusal (windows_of windows.old.table) writing.entry }
-    ensures reply { IfOk result (λ reply. reply ≡ Reply.Nothing) }
+    ensures reply { IfOk result (λ wrote. wrote.reply ≡ Reply.Nothing) }
+    ensures window { IfOk result (λ wrote. wrote.win.0 ≡ written_window writing.entry) }
+    ensures frame { IfOk result (λ wrote. wrote.frame ≡ writing_frame (windows_of windows.old.table) writing.entry) }
     ensures written { OnOk result (windows_of windows.new.table ≡ after_writing (windows_of windows.old.table) writing.entry) }
     ensures unchanged { OnErr result (windows.new.table ≡ windows.old.table) }
     ensures sound { AreSoundWindows (windows_of windows.new.table) }
 {
     match writing {
-        Writing::Move { win, y, x } => nothing(windows.wmove(win, y, x)?),
-        Writing::Addch { win, ch } => nothing(windows.waddch(win, ch)?),
-        Writing::Addstr { win, text } => nothing(windows.waddstr(win, text)?),
-        Writing::Insch { win, ch } => nothing(windows.winsch(win, ch)?),
-        Writing::Delch { win } => nothing(windows.wdelch(win)?),
-        Writing::Insertln { win } => nothing(windows.winsertln(win)?),
-        Writing::Deleteln { win } => nothing(windows.wdeleteln(win)?),
-        Writing::Erase { win } => nothing(windows.werase(win)?),
-        Writing::Clear { win } => nothing(windows.wclear(win)?),
-        Writing::Clrtoeol { win } => nothing(windows.wclrtoeol(win)?),
-        Writing::Clrtobot { win } => nothing(windows.wclrtobot(win)?),
-        Writing::Scrl { win, n } => nothing(windows.wscrl(win, n)?),
-        Writing::Setscrreg { win, top, bottom } => nothing(windows.wsetscrreg(win, top, bottom)?),
-        Writing::Scrollok { win, flag } => nothing(windows.scrollok(win, flag)?),
-        Writing::Clearok { win, flag } => nothing(windows.clearok(win, flag)?),
-        Writing::Attrset { win, attrs } => nothing(windows.wattrset(win, attrs)?),
-        Writing::Attron { win, attrs } => nothing(windows.wattron(win, attrs)?),
-        Writing::Attroff { win, attrs } => nothing(windows.wattroff(win, attrs)?),
-        Writing::Bkgdset { win, attrs, ch } => nothing(windows.wbkgdset(win, attrs, ch)?),
-        Writing::ColorSet { win, pair } => nothing(windows.wcolor_set(win, pair)?),
-        Writing::Bkgdpair { win, pair } => nothing(windows.wbkgdpair(win, pair)?),
+        Writing::Move { win, y, x } => set(win, windows.wmove(win, y, x)?),
+        Writing::Addch { win, ch } => drew(win, windows.waddch(win, ch)?),
+        Writing::Addstr { win, text } => drew(win, windows.waddstr(win, text)?),
+        Writing::Insch { win, ch } => drew(win, windows.winsch(win, ch)?),
+        Writing::Delch { win } => drew(win, windows.wdelch(win)?),
+        Writing::Insertln { win } => drew(win, windows.winsertln(win)?),
+        Writing::Deleteln { win } => drew(win, windows.wdeleteln(win)?),
+        Writing::Erase { win } => drew(win, windows.werase(win)?),
+        Writing::Clear { win } => drew(win, windows.wclear(win)?),
+        Writing::Clrtoeol { win } => drew(win, windows.wclrtoeol(win)?),
+        Writing::Clrtobot { win } => drew(win, windows.wclrtobot(win)?),
+        Writing::Scrl { win, n } => drew(win, windows.wscrl(win, n)?),
+        Writing::Setscrreg { win, top, bottom } => set(win, windows.wsetscrreg(win, top, bottom)?),
+        Writing::Scrollok { win, flag } => set(win, windows.scrollok(win, flag)?),
+        Writing::Clearok { win, flag } => set(win, windows.clearok(win, flag)?),
+        Writing::Attrset { win, attrs } => set(win, windows.wattrset(win, attrs)?),
+        Writing::Attron { win, attrs } => set(win, windows.wattron(win, attrs)?),
+        Writing::Attroff { win, attrs } => set(win, windows.wattroff(win, attrs)?),
+        Writing::Bkgdset { win, attrs, ch } => set(win, windows.wbkgdset(win, attrs, ch)?),
+        Writing::ColorSet { win, pair } => set(win, windows.wcolor_set(win, pair)?),
+        Writing::Bkgdpair { win, pair } => set(win, windows.wbkgdpair(win, pair)?),
     }
 }
 
 /// Makes a call of the table of copies and marks.
 #[rattlefmt::skip]
-pub(crate) fn copy(windows: &mut Windows, copying: Copying) -> Result<Reply, Refusal>
+pub(crate) fn copy(windows: &mut Windows, copying: Copying) -> Result<Wrote, Refusal>
     ensures refused { result_err result ≡ copying_refusal (windows_of windows.old.table) copying }
-    ensures reply { IfOk result (λ reply. reply ≡ copying_reply (windows_of windows.old.table) copying) }
+    ensures reply { IfOk result (λ wrote. wrote.reply ≡ copying_reply (windows_of windows.old.table) copying) }
+    ensures window { IfOk result (λ wrote. wrote.win.0 ≡ copied_window copying) }
+    ensures frame { IfOk result (λ wrote. wrote.frame ≡ copying_frame (windows_of windows.old.table) copying) }
     ensures copied { OnOk result (windows_of windows.new.table ≡ after_copying (windows_of windows.old.table) copying) }
     ensures unchanged { OnErr result (windows.new.table ≡ windows.old.table) }
     ensures sound { AreSoundWindows (windows_of windows.new.table) }
 {
     match copying {
-        Copying::Overlay { src, dst } => nothing(windows.overlay(src, dst)?),
-        Copying::Overwrite { src, dst } => nothing(windows.overwrite(src, dst)?),
+        Copying::Overlay { src, dst } => drew(dst, windows.overlay(src, dst)?),
+        Copying::Overwrite { src, dst } => drew(dst, windows.overwrite(src, dst)?),
         Copying::Copywin { src, dst, sminrow, smincol, dminrow, dmincol, dmaxrow, dmaxcol, overlay } =>
-            nothing(windows.copywin(src, dst, sminrow, smincol, dminrow, dmincol, dmaxrow, dmaxcol, overlay)?),
-        Copying::Touchwin { win } => nothing(windows.table.touchwin(win)?),
-        Copying::Untouchwin { win } => nothing(windows.table.untouchwin(win)?),
-        Copying::Touchline { win, y, n } => nothing(windows.table.touchline(win, y, n)?),
-        Copying::Touchln { win, y, n, flag } => nothing(windows.table.wtouchln(win, y, n, flag)?),
-        Copying::Syncup { win } => nothing(windows.table.wsyncup(win)?),
-        Copying::Syncdown { win } => nothing(windows.table.wsyncdown(win)?),
-        Copying::IsLinetouched { win, y } => Ok(Reply::Flag(windows.table.is_linetouched(win, y)?)),
-        Copying::IsWintouched { win } => Ok(Reply::Flag(windows.table.is_wintouched(win)?)),
+            drew(dst, windows.copywin(src, dst, sminrow, smincol, dminrow, dmincol, dmaxrow, dmaxcol, overlay)?),
+        Copying::Touchwin { win } => set(win, windows.table.touchwin(win)?),
+        Copying::Untouchwin { win } => set(win, windows.table.untouchwin(win)?),
+        Copying::Touchline { win, y, n } => set(win, windows.table.touchline(win, y, n)?),
+        Copying::Touchln { win, y, n, flag } => set(win, windows.table.wtouchln(win, y, n, flag)?),
+        Copying::Syncup { win } => set(win, windows.table.wsyncup(win)?),
+        Copying::Syncdown { win } => set(win, windows.table.wsyncdown(win)?),
+        Copying::IsLinetouched { win, y } => told(win, windows.table.is_linetouched(win, y)?),
+        Copying::IsWintouched { win } => told(win, windows.table.is_wintouched(win)?),
     }
 }
 
@@ -117,26 +150,59 @@ pub(crate) fn query(windows: &Windows, query: Query) -> Result<Reply, Refusal>
 }
 
 /// Makes a call of the table of panels.
-pub(crate) fn arrange(desk: &mut Desk, stacking: Stacking) -> Result<Reply, Refusal>
-    ensures refused { RefusedBy (stacking_refusal (world desk.old).windows (world desk.old).panels stacking) result }
-    ensures exact { makes_panel stacking ≡ false → result_err result ≡ stacking_refusal (world desk.old).windows (world desk.old).panels stacking }
-    ensures reply { IfOk result (λ reply. reply ≡ stacking_reply (world desk.old).panels stacking) }
-    ensures arranged { OnOk result (world desk.new ≡ after_stacking (world desk.old) stacking) }
-    ensures unchanged { OnErr result (desk.new ≡ desk.old) }
+#[rattlefmt::skip]
+pub(crate) fn arrange(table: &mut Grids, stack: &mut Stack, stacking: Stacking) -> Result<Reply, Refusal>
+    requires { AreSoundPanels (windows_of table.old).window (panels stack.old) }
+    ensures refused { RefusedBy (stacking_refusal (windows_of table.old) (panels stack.old) stacking) result }
+    ensures exact { makes_panel stacking ≡ false → result_err result ≡ stacking_refusal (windows_of table.old) (panels stack.old) stacking }
+    ensures reply { IfOk result (λ reply. reply ≡ stacking_reply (panels stack.old) stacking) }
+    ensures windows { OnOk result (windows_of table.new ≡ windows_after (windows_of table.old) (panels stack.old) stacking) }
+    ensures panels { OnOk result (panels stack.new ≡ panels_after (panels stack.old) stacking) }
+    ensures unchanged { OnErr result (table.new ≡ table.old) }
+    ensures unordered { OnErr result (stack.new ≡ stack.old) }
+    ensures sound { AreSoundWindows (windows_of table.new) }
+    ensures sound_panels { AreSoundPanels (windows_of table.new).window (panels stack.new) }
+{
+    prove!(table.has_window(STANDARD));
+    match stacking {
+        Stacking::NewPanel { win } => panel(Some(new_panel(table, stack, win)?)),
+        Stacking::DelPanel { panel } => nothing(stack.del(panel)?),
+        Stacking::ShowPanel { panel } => nothing(stack.show(panel)?),
+        Stacking::HidePanel { panel } => nothing(stack.hide(panel)?),
+        Stacking::TopPanel { panel } => nothing(stack.top(panel)?),
+        Stacking::BottomPanel { panel } => nothing(stack.bottom(panel)?),
+        Stacking::MovePanel { panel, y, x } => nothing(move_panel(table, stack, panel, y, x)?),
+        Stacking::ReplacePanel { panel, win } => nothing(replace_panel(table, stack, panel, win)?),
+        Stacking::PanelAbove { panel: above } => panel(stack.above(above)?),
+        Stacking::PanelBelow { panel: below } => panel(stack.below(below)?),
+        Stacking::PanelWindow { panel } => number(stack.window(panel)?),
+        Stacking::PanelHidden { panel } => Ok(Reply::Flag(stack.hidden(panel)?)),
+    }
+}
+
+/// The panel that a call deletes, orders, moves or gives a window, if it does so.
+pub(crate) fn named_panel(stacking: Stacking) -> Option<PanelId>
+    ensures { panel_number result ≡ named_panel stacking }
 {
     match stacking {
-        Stacking::NewPanel { win } => panel(Some(desk.new_panel(win)?)),
-        Stacking::DelPanel { panel } => nothing(desk.del_panel(panel)?),
-        Stacking::ShowPanel { panel } => nothing(desk.show_panel(panel)?),
-        Stacking::HidePanel { panel } => nothing(desk.hide_panel(panel)?),
-        Stacking::TopPanel { panel } => nothing(desk.top_panel(panel)?),
-        Stacking::BottomPanel { panel } => nothing(desk.bottom_panel(panel)?),
-        Stacking::MovePanel { panel, y, x } => nothing(desk.move_panel(panel, y, x)?),
-        Stacking::ReplacePanel { panel, win } => nothing(desk.replace_panel(panel, win)?),
-        Stacking::PanelAbove { panel: above } => panel(desk.panel_above(above)?),
-        Stacking::PanelBelow { panel: below } => panel(desk.panel_below(below)?),
-        Stacking::PanelWindow { panel } => number(desk.panel_window(panel)?),
-        Stacking::PanelHidden { panel } => Ok(Reply::Flag(desk.panel_hidden(panel)?)),
+        Stacking::DelPanel { panel } => Some(panel),
+        Stacking::ShowPanel { panel } => Some(panel),
+        Stacking::HidePanel { panel } => Some(panel),
+        Stacking::TopPanel { panel } => Some(panel),
+        Stacking::BottomPanel { panel } => Some(panel),
+        Stacking::MovePanel { panel, .. } => Some(panel),
+        Stacking::ReplacePanel { panel, .. } => Some(panel),
+        _ => None,
+    }
+}
+
+/// The panel that a call changed or made, if it did so.
+pub(crate) fn changed_panel(stacking: Stacking, reply: &Reply) -> Option<PanelId>
+    ensures { (ps : Panels) → reply.now ≡ stacking_reply ps stacking → panel_number result ≡ changed_panel ps stacking }
+{
+    match (stacking, *reply) {
+        (Stacking::NewPanel { .. }, Reply::Panel(made)) => made,
+        _ => named_panel(stacking),
     }
 }
 
@@ -161,6 +227,39 @@ fn nothing<T: Copy>(_answer: T) -> Result<Reply, Refusal>
     ensures { result ≡ Ok Reply.Nothing }
 {
     Ok(Reply::Nothing)
+}
+
+/// What came of a call that drew in a window.
+fn drew(win: WinId, frame: Option<Frame>) -> Result<Wrote, Refusal>
+    ensures { result ≡ Ok (record { reply = Reply.Nothing; win = win; frame = frame }) }
+{
+    Ok(Wrote {
+        reply: Reply::Nothing,
+        win,
+        frame,
+    })
+}
+
+/// What came of a call that set something of a window.
+fn set<T: Copy>(win: WinId, _answer: T) -> Result<Wrote, Refusal>
+    ensures { result ≡ Ok (record { reply = Reply.Nothing; win = win; frame = None }) }
+{
+    Ok(Wrote {
+        reply: Reply::Nothing,
+        win,
+        frame: None,
+    })
+}
+
+/// What came of a call that asked something of a window.
+fn told(win: WinId, flag: bool) -> Result<Wrote, Refusal>
+    ensures { result ≡ Ok (record { reply = Reply.Flag flag; win = win; frame = None }) }
+{
+    Ok(Wrote {
+        reply: Reply::Flag(flag),
+        win,
+        frame: None,
+    })
 }
 
 /// The answer of a call that made a window, or asked for a panel's.

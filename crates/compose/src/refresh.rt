@@ -12,8 +12,12 @@ ghost use Rattle.world.specs.calls.Refresh.{after_noutrefresh, after_pnoutrefres
 ghost use Rattle.world.specs.calls.Marks.{after_touchln};
 ghost use Rattle.world.specs.calls.writing.Options.{after_clearok};
 ghost use Rattle.grids.specs.Tables.{windows as windows_of};
+ghost use Rattle.world.specs.declared.call.Call.{Call};
+ghost use Rattle.world.specs.declared.call.Refresh.{Refresh};
+ghost use Rattle.compose.specs.Calling.{DamagesFew};
 ghost use Rattle.compose.specs.Desks.{world};
 
+use crate::damaging::{damage_part, damage_touched};
 use crate::desk::{Desk, size_of_screen};
 use crate::marks::asks;
 use crate::piece::{Source, show_piece};
@@ -34,6 +38,7 @@ impl Desk {
     pub fn wnoutrefresh(&mut self, win: WinId) -> Result<(), Refusal>
         ensures refused { result_err result ≡ noutrefresh_refusal (world self.old).windows win.0 }
         ensures refreshed { OnOk result (world self.new ≡ after_noutrefresh (world self.old) win.0) }
+        ensures damaged { OnOk result (DamagesFew self.old (Call.Refresh (Refresh.Noutrefresh win)) self.new) }
         ensures unchanged { OnErr result (self.new ≡ self.old) }
     {
         let (top, left) = self.windows.table.getbegyx(win)?;
@@ -45,6 +50,7 @@ impl Desk {
             left,
             &mut self.picture,
         );
+        damage_touched(&mut self.damage, &self.windows.table, win, top, left);
         self.cursor = cursor_on_screen(&self.windows.table, win);
         self.clear |= asks(&self.windows.table, win);
         self.windows.table.unmark(win);
@@ -71,6 +77,7 @@ impl Desk {
     ) -> Result<(), Refusal>
         ensures refused { result_err result ≡ pnoutrefresh_refusal (world self.old).windows pad.0 pminrow pmincol sminrow smincol smaxrow smaxcol }
         ensures refreshed { OnOk result (world self.new ≡ after_pnoutrefresh (world self.old) pad.0 pminrow pmincol sminrow smincol smaxrow smaxcol) }
+        ensures damaged { OnOk result (DamagesFew self.old (Call.Refresh (Refresh.Pnoutrefresh pad pminrow pmincol sminrow smincol smaxrow smaxcol)) self.new) }
         ensures unchanged { OnErr result (self.new ≡ self.old) }
     {
         let source = Source {
@@ -92,6 +99,7 @@ impl Desk {
             frame,
             &mut self.picture,
         );
+        damage_part(&mut self.damage, Some(frame));
         self.clear |= asks(&self.windows.table, pad);
         unmark_lines(&mut self.windows, pad, pminrow, smaxrow - sminrow + 1);
         Ok(())

@@ -2,9 +2,11 @@
 
 ghost use Rattle.std.specs.Prelude.{◌≡◌, ◌<◌, true};
 ghost use Rattle.world.specs.Panels.{cursor_of_topmost, cursor_on_screen, found_from_top, holds, owner, place_of, topmost, window_or_standard};
+ghost use Rattle.world.specs.Sound.{AreSoundPanels, AreSoundWindows};
 ghost use Rattle.grids.specs.Tables.{windows as windows_of};
 ghost use Rattle.stack.specs.Tables.{panels};
 
+use crate::rows::Lent;
 use crate::span::span_found;
 use cell::{Cell, WinId};
 use grids::Grids;
@@ -16,12 +18,14 @@ pub(crate) const STANDARD: WinId = WinId(0);
 /// The cell that a search from the top visible panel down to the standard screen finds at line `y` and column `x` of the screen,
 /// which has so many columns.
 pub(crate) fn cell_found(table: &Grids, stack: &Stack, y: u16, x: u16, columns: u16) -> Cell
+    requires windows { AreSoundWindows (windows_of table.now) }
+    requires panels { AreSoundPanels (windows_of table.now).window (panels stack.now) }
     requires line { y < table.now.lines }
     requires column { x < columns }
     requires columns { columns ≡ table.now.columns }
     ensures { result ≡ found_from_top (windows_of table.now).window (panels stack.now) y x }
 {
-    let win = span_found(table, stack, y, x, columns).win;
+    let win = span_found(&Lent::of(table), stack, y, x, columns).win;
     let (top, left) = place(table, win);
     table.cell(win, y - top, x - left)
 }

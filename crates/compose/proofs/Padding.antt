@@ -1,0 +1,60 @@
+-- The rectangle of the screen to which a pad's cells are copied is what the copy draws.
+use Rattle.std.proofs.Common.{◌≡◌, ℕ, ◌+◌, ◌-◌, ◌<◌, ◌≤◌, true, false, ◌&&◌, nat_le, nat_lt, is_some, inl, inr, sym, ap, subst, ◌∙◌, arith}
+use Rattle.std.proofs.lemmas.Bool.{and_from, and_parts, cases_lt, leb-true, le-leb, lt-ltb, ltb-true}
+use Rattle.cell.specs.declared.window.Frame.{Frame}
+use Rattle.world.specs.Windows.{Windows, cell_at}
+use Rattle.world.specs.calls.Affected.{draws_on_line}
+use Rattle.world.specs.calls.Copies.{copywin_drawing}
+use Rattle.world.proofs.Below.{any_below-some}
+use Rattle.compose.specs.Parts.{frame_has_line, frame_holds}
+use Rattle.compose.proofs.Pieces.{IsOfPad, pad-above, pad-below, pad-piece}
+use Rattle.compose.proofs.Touching.{in-piece, of-piece}
+
+module _ (windows : Windows) (w py px top left bottom right : ℕ) (h : IsOfPad windows w py px top left bottom right) where
+  on-line : (y u : ℕ) → top ≤ y → y ≤ bottom → u < windows.columns
+      → is_some (copywin_drawing windows.window w py px top left bottom right false y u) ≡ true → (nat_le left u && nat_lt u (left + (right - left + 1))) ≡ true
+  on-line y u from to on is =
+      let down = h.down in
+      let same : top + (y - top) ≡ y = omega (arith, from) in
+      let piece = pad-piece windows w py px top left bottom right h (y - top) (omega (arith, from, to, down)) u on in
+      in-piece (nat_le left u && nat_lt u (left + (right - left + 1))) (cell_at windows.window w (py + (y - top)) (px + (u - left)))
+      (sym (ap (λ o. is_some o) piece) ∙ subst (λ k. is_some (copywin_drawing windows.window w py px top left bottom right false k u) ≡ true) (sym same) is)
+
+  -- each place that it draws is of the rectangle
+  pub pad-covers : (r : Frame) (y u : ℕ) → r.top ≡ top → r.left ≡ left → r.bottom ≡ bottom → r.right ≡ right → u < windows.columns
+      → is_some (copywin_drawing windows.window w py px top left bottom right false y u) ≡ true → frame_holds r y u ≡ true
+  pad-covers r y u t l b e on is = elim (cases_lt y top) [
+    | inl before ↦ let never : false ≡ true = sym (ap (λ o. is_some o) (pad-above windows w py px top left bottom right h y before u on)) ∙ is in cc
+    | inr from ↦ elim (cases_lt bottom y) [
+      | inl past ↦
+          let down = h.down in
+          let never : false ≡ true = sym (ap (λ o. is_some o) (pad-below windows w py px top left bottom right h y (omega (arith, past, down)) u on)) ∙ is in cc
+      | inr to ↦
+          let across = h.across in
+          let both = and_parts (nat_le left u) (nat_lt u (left + (right - left + 1))) (on-line y u from to on is) in
+          let first = leb-true left u both.0 in
+          let last = ltb-true u (left + (right - left + 1)) both.1 in
+          and_from (frame_has_line r y) (nat_le r.left u && nat_le u r.right)
+          (and_from (nat_le r.top y) (nat_le y r.bottom) (le-leb r.top y (omega (arith, t, from))) (le-leb y r.bottom (omega (arith, b, to))))
+          (and_from (nat_le r.left u) (nat_le u r.right) (le-leb r.left u (omega (arith, l, first))) (le-leb u r.right (omega (arith, e, last, across))))
+    ]
+  ]
+
+  -- on each of its lines it draws
+  pub pad-draws : (r : Frame) (y : ℕ) → r.top ≡ top → r.bottom ≡ bottom → frame_has_line r y ≡ true
+      → draws_on_line windows.columns (copywin_drawing windows.window w py px top left bottom right false) y ≡ true
+  pad-draws r y t b has =
+      let both = and_parts (nat_le r.top y) (nat_le y r.bottom) has in
+      let from = leb-true r.top y both.0 in
+      let to = leb-true y r.bottom both.1 in
+      let across = h.across in
+      let on = h.on_column in
+      let inside : left < windows.columns = omega (arith, across, on) in
+      let same : top + (y - top) ≡ y = omega (arith, from, t) in
+      let down = h.down in
+      let there : is_some (copywin_drawing windows.window w py px top left bottom right false (top + (y - top)) left) ≡ true =
+          ap (λ o. is_some o) (pad-piece windows w py px top left bottom right h (y - top) (omega (arith, from, to, t, b, down)) left inside)
+          ∙ of-piece (nat_le left left && nat_lt left (left + (right - left + 1))) (cell_at windows.window w (py + (y - top)) (px + (left - left)))
+          (and_from (nat_le left left) (nat_lt left (left + (right - left + 1))) (le-leb left left (omega arith)) (lt-ltb left (left + (right - left + 1)) (omega arith))) in
+      any_below-some windows.columns (λ u. is_some (copywin_drawing windows.window w py px top left bottom right false y u)) left inside
+      (subst (λ k. is_some (copywin_drawing windows.window w py px top left bottom right false k left) ≡ true) same there)

@@ -1,0 +1,52 @@
+-- What update_panels reads: no less than it changes, and no more than all of the damaged lines.
+use Rattle.std.proofs.Common.{◌≡◌, ℕ, ◌+◌, ◌<◌, ◌≤◌, true, false, Option, None, is_some, length, sym, ap, subst, ◌∙◌, arith}
+use Rattle.cell.specs.Differences.{difference}
+use Rattle.cell.specs.Pictures.{HasSize, picture_of, shown_at}
+use Rattle.cell.specs.Shown.{shown_blank}
+use Rattle.cell.proofs.PictureLemmas.{HasSize-lines_from, cell_or-lines_from, length-line}
+use Rattle.world.specs.World.{picture}
+use Rattle.world.specs.Sound.{AreColumnsWithin}
+use Rattle.world.specs.calls.Refresh.{among}
+use Rattle.world.specs.declared.call.Call.TheVariants as calls
+use Rattle.world.specs.declared.call.Refresh.TheVariants.{UpdatePanels}
+use Rattle.world.specs.declared.settings.Columns.{Columns}
+use Rattle.compose.specs.Calling.{DamagesFew, MayRead}
+use Rattle.compose.specs.Covers.{IsCovered, IsDesk}
+use Rattle.compose.specs.Desks.{DeskTable, columns_of, is_damaged_line, world}
+use Rattle.compose.specs.steps.Damages.{cells_above}
+use Rattle.compose.proofs.Reading.{differs-less, few-cells}
+
+module _ (t : DeskTable) (h : IsDesk t) (cells : ℕ) (read : cells ≡ cells_above t.damage t.windows.lines) where
+  pub may-read : MayRead (world t) (is_damaged_line t) cells
+  may-read =
+      let old = t.virtual.picture in
+      let size : HasSize t.windows.lines t.windows.columns old = h.sound.virtual.size in
+      let new_size : HasSize t.windows.lines t.windows.columns (picture_of t.windows.lines t.windows.columns (picture (world t))) = HasSize-lines_from t.windows.lines t.windows.columns (picture (world t)) in
+      let height = size.height in
+      let less : difference old (picture_of t.windows.lines t.windows.columns (picture (world t))) + cells_above t.damage 0 ≤ cells_above t.damage (0 + length old) =
+          differs-less t.damage 0 old (picture_of t.windows.lines t.windows.columns (picture (world t)))
+          (λ y x below inside free.
+          let on_line : y < t.windows.lines = omega (arith, below, height) in
+          let on_column : x < t.windows.columns = subst (λ n. x < n) (length-line y size on_line) inside in
+          h.covered.shown y x on_line on_column (let e : 0 + y ≡ y = omega arith in subst (λ k. among (columns_of t.damage k) x ≡ false) e free) ∙ sym (cell_or-lines_from shown_blank t.windows.lines t.windows.columns (picture (world t)) y x on_line on_column))
+          (λ y below. let on_line : y < t.windows.lines = omega (arith, below, height) in length-line y size on_line ∙ sym (length-line y new_size on_line))
+          (size.height ∙ sym new_size.height) in
+      let all : cells_above t.damage (0 + length old) ≡ cells = let e : 0 + length old ≡ t.windows.lines = omega (arith, height) in ap (cells_above t.damage) e ∙ sym read in
+      let few = few-cells t.windows.columns t.damage h.covered.within t.windows.lines 0 in
+      let same : cells_above t.damage (0 + t.windows.lines) ≡ cells = let e : 0 + t.windows.lines ≡ t.windows.lines = omega arith in ap (cells_above t.damage) e ∙ sym read in
+      record {
+        at_least = omega (arith, less, all);
+        at_most = omega (arith, few, same);
+      }
+
+-- behind it no line is damaged
+pub none-damaged : (old new : DeskTable) → ((y : ℕ) → columns_of new.damage y ≡ None) → DamagesFew old (calls.Refresh UpdatePanels) new
+none-damaged old new none line is = let never : false ≡ true = sym (ap (λ (o : Option Columns). is_some o) (none line)) ∙ is in cc
+
+pub covered-composed : (new : DeskTable) → length new.damage ≡ new.windows.lines → ((y : ℕ) → columns_of new.damage y ≡ None)
+    → new.virtual.picture ≡ picture_of new.windows.lines new.windows.columns (picture (world new)) → IsCovered new
+covered-composed new height none shown = record {
+  height = height;
+  within = λ y. subst (λ o. AreColumnsWithin new.windows.columns o) (sym (none y)) tt;
+  shown = λ y x below left free. ap (λ p. shown_at p (y, x)) shown ∙ cell_or-lines_from shown_blank new.windows.lines new.windows.columns (picture (world new)) y x below left;
+}

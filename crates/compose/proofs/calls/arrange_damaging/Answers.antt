@@ -1,0 +1,69 @@
+use Rattle.std.proofs.Common.{◌≡◌, ℕ, false, ◌&&◌, ◌||◌, ◌<◌, Some, length, sym, ap, subst, ◌∙◌, arith}
+use Rattle.std.specs.Option.{option_map_or}
+use Rattle.std.specs.Prelude.{MatchOption, ⊤}
+use Rattle.cell.specs.declared.window.Frame.{Frame}
+use Rattle.world.specs.Panels.{has_line, panel_holds, window_or_standard}
+use Rattle.world.specs.calls.Affected.{changed_panel}
+use Rattle.world.specs.calls.Places.{panel_shows_at}
+use Rattle.grids.specs.Tables.{windows}
+use Rattle.stack.specs.Tables.{panels}
+use Rattle.compose.specs.Parts.{part_has_line, part_holds}
+use Rattle.compose.specs.steps.Changes.{named_panel, panel_has_line, panels_after, stacking_has_line, stacking_shows, windows_after}
+use Rattle.compose.proofs.Arranging.{arranged-size}
+use Rattle.compose.proofs.DamageLaws.{damages-as, damages-then, part-right}
+use Rattle.compose.proofs.Parting.{both-parts, new-hidden, part-within}
+use Rattle.compose.proofs.calls.arrange_damaging.Goals as goal
+
+pub damage_part-requires-2-clause-few : goal.damage_part-requires-2-clause-few
+damage_part-requires-2-clause-few c =
+    let t = c.args.table.now in
+    let size = arranged-size t c.arrange.new.table (panels c.args.stack.now) c.args.stacking c.arrange.result c.arrange.ensures.windows c.arrange.ensures.unchanged in
+    let lines = size.lines in
+    let few = c.arrange.ensures.sound.few_lines in
+    let height = (c.damage_part.ensures.damaged t.columns (part-right t.lines t.columns c.part_of-before.result c.part_of-before.ensures.within)).height ∙ c.requires.height in
+    omega (arith, lines, few, height)
+
+pub damage_part-requires-2-clause-inside : goal.damage_part-requires-2-clause-inside
+damage_part-requires-2-clause-inside c =
+    let t = c.args.table.now in
+    let new = c.arrange.new.table in
+    let size = arranged-size t new (panels c.args.stack.now) c.args.stacking c.arrange.result c.arrange.ensures.windows c.arrange.ensures.unchanged in
+    let height = (c.damage_part.ensures.damaged t.columns (part-right t.lines t.columns c.part_of-before.result c.part_of-before.ensures.within)).height ∙ c.requires.height in
+    part-within new.lines new.columns (length c.damage_part.new.damage) c.part_of-after.result c.part_of-after.ensures.within (size.lines ∙ sym height)
+
+pub returns-clause-damaged : goal.returns-clause-damaged
+returns-clause-damaged c =
+    let a = c.args in
+    let t = a.table.now in
+    let new = c.arrange.new.table in
+    let ws = windows t in
+    let ps = panels a.stack.now in
+    let s = a.stacking in
+    let size = arranged-size t new ps s c.arrange.result c.arrange.ensures.windows c.arrange.ensures.unchanged in
+    let before = c.part_of-before.result in
+    let after = c.part_of-after.result in
+    let is : windows new ≡ windows_after ws ps s = c.in_ok-reply.ensures.windows in
+    let are : panels c.arrange.new.stack ≡ panels_after ps s = c.in_ok-reply.ensures.panels in
+    let changed = c.changed_panel.ensures ps c.in_ok-reply.ensures.reply in
+    let shows : (y x : ℕ) → stacking_shows ws ps s y x ≡ (part_holds before y x || part_holds after y x) = λ y x.
+        let was : part_holds before y x ≡ option_map_or (λ p. panel_shows_at ws.window ps p y x) (named_panel s) false =
+            c.part_of-before.ensures.holds y x ∙ ap (λ o. option_map_or (λ p. panel_shows_at ws.window ps p y x) o false) c.named_panel.ensures in
+        let will : part_holds after y x ≡ option_map_or (λ p. panel_shows_at (windows_after ws ps s).window (panels_after ps s) p y x) (changed_panel ps s) false =
+            c.part_of-after.ensures.holds y x ∙ (λ i. option_map_or (λ p. panel_shows_at (is i).window (are i) p y x) (changed i) false) in
+        both-parts ps s (λ p. panel_shows_at ws.window ps p y x) (λ p. panel_shows_at (windows_after ws ps s).window (panels_after ps s) p y x)
+        (λ p new_is. ap (λ b. b && panel_holds ws.window ps y x p) (new-hidden ps p c.requires.panels.visible new_is))
+        ∙ sym (λ i. was i || will i) in
+    let lines : (y : ℕ) → stacking_has_line ws ps s y ≡ (part_has_line before y || part_has_line after y) = λ y.
+        let was : part_has_line before y ≡ option_map_or (λ p. panel_has_line ws.window ps p y) (named_panel s) false =
+            c.part_of-before.ensures.lines y ∙ ap (λ o. option_map_or (λ p. panel_has_line ws.window ps p y) o false) c.named_panel.ensures in
+        let will : part_has_line after y ≡ option_map_or (λ p. panel_has_line (windows_after ws ps s).window (panels_after ps s) p y) (changed_panel ps s) false =
+            c.part_of-after.ensures.lines y ∙ (λ i. option_map_or (λ p. panel_has_line (is i).window (are i) p y) (changed i) false) in
+        both-parts ps s (λ p. panel_has_line ws.window ps p y) (λ p. panel_has_line (windows_after ws ps s).window (panels_after ps s) p y)
+        (λ p new_is. ap (λ b. b && option_map_or (has_line y) (ws.window (window_or_standard ps (Some p))) false) (new-hidden ps p c.requires.panels.visible new_is))
+        ∙ sym (λ i. was i || will i) in
+    damages-as t.columns (λ y x. part_holds before y x || part_holds after y x) (stacking_shows ws ps s) (λ y. part_has_line before y || part_has_line after y) (stacking_has_line ws ps s)
+    a.damage.now c.damage_part-2.new.damage
+    (damages-then t.columns (part_holds before) (part_holds after) (part_has_line before) (part_has_line after) a.damage.now c.damage_part.new.damage c.damage_part-2.new.damage
+    (c.damage_part.ensures.damaged t.columns (part-right t.lines t.columns before c.part_of-before.ensures.within))
+    (c.damage_part-2.ensures.damaged t.columns (subst (λ n. MatchOption after ⊤ (λ (r : Frame). r.right < n)) size.columns (part-right new.lines new.columns after c.part_of-after.ensures.within))))
+    (λ y x below left shown. sym (shows y x) ∙ shown) (λ y has. lines y ∙ has)

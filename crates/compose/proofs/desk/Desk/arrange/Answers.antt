@@ -1,0 +1,31 @@
+use Rattle.std.proofs.Common.{refl}
+use Rattle.world.specs.World.{VirtualScreen}
+use Rattle.world.specs.calls.Dispatch.{stacking_refusal}
+use Rattle.world.specs.declared.call.Call.TheVariants as calls
+use Rattle.grids.specs.Tables.{windows}
+use Rattle.stack.specs.Tables.{panels}
+use Rattle.compose.specs.Desks.{DeskTable, world}
+use Rattle.compose.proofs.Arranging.{arranged-damages, arranged-size, arranged-sound, arranged-world}
+use Rattle.compose.proofs.Covering.{covered-result}
+use Rattle.compose.proofs.DeskLemmas.{accepted-by, err-three}
+use Rattle.compose.proofs.desk.Desk.arrange.Goals as goal
+
+pub invariant_of-self : goal.invariant_of-self
+invariant_of-self c =
+    let d = c.self.inside in
+    let virtual : VirtualScreen = record { picture = d.picture; cursor = d.cursor; clear = d.clear } in
+    let e = c.arrange_damaging.ensures in
+    let r = c.arrange_damaging.result in
+    let w = c.arrange_damaging.new.table in
+    let ps = c.arrange_damaging.new.stack in
+    let damage = c.arrange_damaging.new.damage in
+    let old : DeskTable = record { windows = d.windows.table; panels = d.stack; pairs = d.pairs; virtual = virtual; damage = d.damage } in
+    let new : DeskTable = record { windows = w; panels = ps; pairs = d.pairs; virtual = virtual; damage = damage } in
+    let h = c.self.invariant in
+    let s = c.args.stacking in
+    record {
+      sound = arranged-sound d.windows.table w d.stack ps d.pairs virtual h.sound e.sound e.sound_panels (arranged-size d.windows.table w (panels d.stack) s r e.windows e.unchanged);
+      covered = covered-result old new (calls.Stacking s) r h refl (accepted-by (stacking_refusal (windows d.windows.table) (panels d.stack) s) r e.refused)
+          (arranged-world old new s r refl refl e.windows e.panels) (arranged-damages (world old) s old.windows.columns d.damage damage r e.damaged)
+          (err-three r (λ table order undamaged i. record { windows = table i; panels = order i; pairs = d.pairs; virtual = virtual; damage = undamaged i }) e.unchanged e.unordered e.undamaged);
+    }

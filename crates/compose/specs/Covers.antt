@@ -1,0 +1,17 @@
+-- What always holds of a desk: its world is sound, and its damage covers each place at which the virtual screen shows something else than
+-- the search from the top finds.
+use Rattle.std.specs.Prelude.{◌≡◌, ℕ, ◌<◌, false, length}
+use Rattle.cell.specs.Pictures.{shown_at}
+use Rattle.world.specs.Sound.{AreColumnsWithin, IsSound}
+use Rattle.world.specs.World.{picture}
+use Rattle.compose.specs.Desks.{DeskTable, damaged_columns, is_damaged_at, world}
+
+pub record IsCovered (t : DeskTable) : Type 0 where
+  pub height : length t.damage ≡ t.windows.lines
+  pub within : (y : ℕ) → AreColumnsWithin t.windows.columns (damaged_columns t y)
+  pub shown : (y x : ℕ) → y < t.windows.lines → x < t.windows.columns → is_damaged_at t y x ≡ false
+      → shown_at t.virtual.picture (y, x) ≡ picture (world t) y x
+
+pub record IsDesk (t : DeskTable) : Type 0 where
+  pub sound : IsSound (world t)
+  pub covered : IsCovered t

@@ -1,0 +1,2 @@
+pub mod Damages
+pub mod Changes
