@@ -1,6 +1,6 @@
 use crate::{
-    Call, Composed, Counted, CountedReader, Fault, PanelId, Refresh, Refusal, Reply, RunEnd,
-    Screen, ScriptEnd, ScriptFault, Sent, Sink, TextFault, WinId, WriteFault, Writing,
+    Call, Counted, CountedReader, Fault, PanelId, Refresh, Refusal, RunEnd, Screen, ScriptEnd,
+    ScriptFault, Sink, Source, WinId, WriteFault, Writing,
 };
 use std::alloc::Global;
 use std::io;
@@ -92,8 +92,12 @@ fn run<W: Sink>(screen: &mut Screen<W>, calls: &[Call<'_>]) -> RunEnd {
 }
 
 /// Runs a script, likewise.
-fn run_script<W: Sink, L: Sink>(screen: &mut Screen<W>, script: &[u8], log: &mut L) -> ScriptEnd {
-    screen.run_script(&mut CountedReader::new(script), log)
+fn run_script<W: Sink, R: Source, L: Sink>(
+    screen: &mut Screen<W>,
+    script: &mut R,
+    log: &mut L,
+) -> ScriptEnd {
+    screen.run_script(script, log)
 }
 
 fn addstr(win: u16, text: &[u8]) -> Call<'_> {
@@ -104,24 +108,15 @@ fn addstr(win: u16, text: &[u8]) -> Call<'_> {
 }
 
 #[test]
-fn each_call_answers(rt: HostRuntime) -> Result<(), Fail> {
+fn a_run_sends_what_it_shows(rt: HostRuntime) -> Result<(), Fail> {
     let mut screen = screen(rt.alloc(), 1, 4)?;
-    assert_eq!(rt;
-        [
-            screen.call(&addstr(0, b"hi")),
-            screen.call(&addstr(1, b"a\x07")),
-            screen.call(&UPDATE[0]),
-            screen.call(&UPDATE[1]),
-        ],
-        [
-            Ok(Reply::Nothing),
-            Err(Fault::Refused(Refusal::NoSuchWindow)),
-            Ok(Reply::Composed(Composed { cells: 4 })),
-            Ok(Reply::Sent(Sent { bytes: 16 })),
-        ]
+    let end = run(
+        &mut screen,
+        &[addstr(0, b"hi"), addstr(9, b"x"), UPDATE[0], UPDATE[1]],
     );
-    assert_eq!(rt; screen.writer().get_ref().as_slice(), HI);
+    assert_eq!(rt; (end.done, end.refused, end.fault), (3, 1, None));
     assert_eq!(rt; screen.desk().wanted_cursor(), (0, 2));
+    assert_eq!(rt; screen.writer().get_ref().as_slice(), HI);
     Ok(())
 }
 
@@ -151,66 +146,17 @@ fn each_method_answers_what_its_call_does(rt: HostRuntime) -> Result<(), Fail> {
 }
 
 #[test]
-fn a_run_counts_its_calls(rt: HostRuntime) -> Result<(), Fail> {
-    let mut screen = screen(rt.alloc(), 1, 4)?;
-    let [update_panels, doupdate] = UPDATE;
-    assert_eq!(rt;
-        run(
-            &mut screen,
-            &[
-                addstr(0, b"hi"),
-                addstr(9, b"x"),
-                update_panels,
-                update_panels,
-                doupdate,
-            ]
-        ),
-        RunEnd {
-            done: 4,
-            refused: 1,
-            composed: 8,
-            fault: None,
-        }
-    );
-    assert_eq!(rt; screen.writer().get_ref().as_slice(), HI);
-    Ok(())
-}
-
-#[test]
-fn sizes_past_the_limits_are_refused(rt: HostRuntime) -> Result<(), Fail> {
-    assert_eq!(rt;
-        [
-            screen(rt.alloc(), 0, 10).err(),
-            screen(rt.alloc(), 4, 1000).err(),
-            screen(rt.alloc(), 999, 999).err(),
-        ],
-        [Some(Refusal::BadSize), Some(Refusal::BadSize), None]
-    );
-    Ok(())
-}
-
-#[test]
-fn a_run_stops_at_a_fault_and_the_next_one_repairs(rt: HostRuntime) -> Result<(), Fail> {
+fn a_run_stops_at_a_fault_and_a_script_repairs(rt: HostRuntime) -> Result<(), Fail> {
     let mut screen = Screen::new(rt.alloc(), 1, 4, breaking_after(rt.alloc(), 5))?;
     let calls = [addstr(0, b"hi"), UPDATE[0], UPDATE[1], addstr(0, b"!")];
-    assert_eq!(rt;
-        run(&mut screen, &calls),
-        RunEnd {
-            done: 2,
-            refused: 0,
-            composed: 4,
-            fault: Some(WriteFault { sent: 5 }),
-        }
-    );
-    assert_eq!(rt;
-        screen.writer().get_ref().taken.as_slice(),
-        b"\x1b[0m\x1b".as_slice()
-    );
-    let end = run(&mut screen, &UPDATE);
-    assert_eq!(rt; end.done, 2);
+    let end = run(&mut screen, &calls);
+    assert_eq!(rt; (end.done, end.fault), (2, Some(WriteFault { sent: 5 })));
+    let mut script = CountedReader::new(b"doupdate".as_slice());
+    let mut log = Counted::new(Vec::new(rt.alloc()));
+    let end = run_script(&mut screen, &mut script, &mut log);
+    assert_eq!(rt; end.fault, None);
     let taken = screen.writer().get_ref().taken.as_slice();
-    assert_eq!(rt; taken.len(), 21);
-    assert_eq!(rt; &taken[5..], HI);
+    assert_eq!(rt; taken, b"\x1b[0m\x1b\x1b[0m\x1b[2J\x1b[1;1Hhi".as_slice());
     Ok(())
 }
 
@@ -220,51 +166,8 @@ fn another_writer_is_shown_all_again(rt: HostRuntime) -> Result<(), Fail> {
     screen.call(&addstr(0, b"hi"))?;
     run(&mut screen, &UPDATE);
     let mut screen = screen.with_writer(Counted::new(Vec::new(rt.alloc())));
-    assert_eq!(rt; screen.writer().get_ref().as_slice(), b"".as_slice());
     run(&mut screen, &UPDATE);
     assert_eq!(rt; screen.into_writer().into_inner().as_slice(), HI);
-    Ok(())
-}
-
-#[test]
-fn a_script_logs_its_answers_and_refusals(rt: HostRuntime) -> Result<(), Fail> {
-    let script = b"newwin 3 6 0 2\n# two\nderwin 1 2 4 1 1\ngetbegyx 2\n\nmvwin 1 1 9\naddstr 0 hi
-update_panels\ndoupdate\ninch 2";
-    let mut screen = screen(rt.alloc(), 4, 10)?;
-    let mut input = CountedReader::new(script.as_slice());
-    let mut log = Counted::new(Vec::new(rt.alloc()));
-    assert_eq!(rt;
-        screen.run_script(&mut input, &mut log),
-        ScriptEnd {
-            refused: true,
-            fault: None
-        }
-    );
-    assert_eq!(rt;
-        log.get_ref().as_slice(),
-        b"line 1: 1\nline 3: 2\nline 4: 1 3\nline 6: E3 OffScreen\nline 10: 32 00 0\n".as_slice()
-    );
-    let sent = screen.writer().get_ref().as_slice();
-    assert_eq!(rt; sent, HI);
-    Ok(())
-}
-
-#[test]
-fn a_script_ends_at_the_fault_of_a_line(rt: HostRuntime) -> Result<(), Fail> {
-    let mut screen = screen(rt.alloc(), 1, 4)?;
-    let mut input = CountedReader::new(b"addstr 0 hi\n\nfly\naddstr 0 !\n".as_slice());
-    let mut log = Counted::new(Vec::new(rt.alloc()));
-    let fault = TextFault::UnknownCall;
-    assert_eq!(rt;
-        screen.run_script(&mut input, &mut log),
-        ScriptEnd {
-            refused: false,
-            fault: Some(ScriptFault::Text { line: 3, fault }),
-        }
-    );
-    assert_eq!(rt; log.get_ref().len(), 0);
-    assert_eq!(rt; run(&mut screen, &UPDATE).done, 2);
-    assert_eq!(rt; screen.writer().get_ref().as_slice(), HI);
     Ok(())
 }
 
@@ -277,50 +180,16 @@ fn a_script_ends_at_a_failed_read_and_another_goes_on(rt: HostRuntime) -> Result
         failed: false,
     });
     let mut log = Counted::new(Vec::new(rt.alloc()));
+    let end = run_script(&mut screen, &mut input, &mut log);
     assert_eq!(rt;
-        screen.run_script(&mut input, &mut log),
-        ScriptEnd {
-            refused: true,
-            fault: Some(ScriptFault::Reading),
-        }
+        (end.refused, end.fault),
+        (true, Some(ScriptFault::Reading))
     );
-    assert_eq!(rt; screen.writer().get_ref().len(), 0);
-    assert_eq!(rt;
-        screen.run_script(&mut input, &mut log),
-        ScriptEnd {
-            refused: false,
-            fault: None,
-        }
-    );
+    let end = run_script(&mut screen, &mut input, &mut log);
+    assert_eq!(rt; (end.refused, end.fault), (false, None));
     assert_eq!(rt; screen.writer().get_ref().as_slice(), HI);
-    assert_eq!(rt;
-        log.get_ref().as_slice(),
-        b"line 1: E1 NoSuchWindow\n".as_slice()
-    );
-    Ok(())
-}
-
-#[test]
-fn a_script_ends_at_a_failed_write_and_another_repairs(rt: HostRuntime) -> Result<(), Fail> {
-    let mut screen = Screen::new(rt.alloc(), 1, 4, breaking_after(rt.alloc(), 15))?;
-    let mut log = Counted::new(Vec::new(rt.alloc()));
-    let script = b"addstr 0 hi\nupdate_panels\ndoupdate\naddstr 0 !\n".as_slice();
-    let fault = WriteFault { sent: 15 };
-    assert_eq!(rt;
-        run_script(&mut screen, script, &mut log),
-        ScriptEnd {
-            refused: false,
-            fault: Some(ScriptFault::Write { line: 3, fault }),
-        }
-    );
-    assert_eq!(rt; screen.writer().get_ref().taken.as_slice(), &HI[..15]);
-    let script = b"doupdate".as_slice();
-    let end = run_script(&mut screen, script, &mut log);
-    assert_eq!(rt; end.fault, None);
-    let taken = screen.writer().get_ref().taken.as_slice();
-    assert_eq!(rt; taken.len(), 31);
-    assert_eq!(rt; &taken[15..], HI);
-    assert_eq!(rt; log.get_ref().len(), 0);
+    let told = log.get_ref().as_slice();
+    assert_eq!(rt; told, b"line 1: E1 NoSuchWindow\n".as_slice());
     Ok(())
 }
 
@@ -328,16 +197,11 @@ fn a_script_ends_at_a_failed_write_and_another_repairs(rt: HostRuntime) -> Resul
 fn a_script_ends_where_its_log_fails(rt: HostRuntime) -> Result<(), Fail> {
     let mut screen = screen(rt.alloc(), 1, 4)?;
     let mut log = breaking_after(rt.alloc(), 6);
-    let script = b"addstr 0 hi\ngetyx 0\naddstr 0 !\n".as_slice();
-    assert_eq!(rt;
-        run_script(&mut screen, script, &mut log),
-        ScriptEnd {
-            refused: false,
-            fault: Some(ScriptFault::Log),
-        }
-    );
+    let mut script = CountedReader::new(b"addstr 0 hi\ngetyx 0\naddstr 0 !\n".as_slice());
+    let end = run_script(&mut screen, &mut script, &mut log);
+    assert_eq!(rt; end.fault, Some(ScriptFault::Log));
     assert_eq!(rt; log.get_ref().taken.as_slice(), b"line 2".as_slice());
-    assert_eq!(rt; run(&mut screen, &UPDATE).done, 2);
+    run(&mut screen, &UPDATE);
     assert_eq!(rt; screen.writer().get_ref().as_slice(), HI);
     Ok(())
 }
