@@ -9,10 +9,10 @@ ghost use Rattle.curspan.specs.Printing.{printed_picture};
 ghost use Rattle.curspan.specs.Serving.{Explains, LacksMemory, Paints, Runs, Serves, ShowsText, Tells, nothing_seen};
 ghost use Rattle.curspan.specs.Written.{WritingEnds, outputs};
 ghost use Rattle.compose.specs.Desks.{world};
-ghost use Rattle.desk.specs.States.{after, state_of};
 ghost use Rattle.paint.specs.Updates.{first_painter};
 ghost use Rattle.world.specs.World.{first_world};
 ghost use Rattle.world.specs.calls.Making.{new_refusal};
+ghost use Rattle.world.specs.calls.Refresh.{after_update_panels};
 
 use crate::asked::{Job, Kind};
 use crate::command::job;
@@ -112,7 +112,7 @@ fn run<'a, R: Source, O: Sink, L: Sink>(
 
 /// Takes the picture of a screen into its virtual screen.
 fn take_picture<W: Sink>(screen: &mut Screen<W>)
-    ensures { state_of screen.new ≡ after (state_of screen.old) (Call.Refresh Refresh.UpdatePanels) }
+    ensures { world screen.new.desk ≡ after_update_panels (world screen.old.desk) }
 {
     match screen.call(&Call::Refresh(Refresh::UpdatePanels)) {
         Ok(_) => {}

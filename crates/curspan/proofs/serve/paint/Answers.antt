@@ -2,7 +2,7 @@ use Rattle.std.proofs.Common.{◌≡◌, false, Some, ap, inr, refl, subst, sym,
 use Rattle.std.specs.Prelude.{is_some}
 use Rattle.curspan.proofs.PictureLemmas.{Prints-failed, Prints-written}
 use Rattle.compose.specs.Desks.{world}
-use Rattle.desk.specs.States.{State}
+use Rattle.world.specs.World.{World}
 use Rattle.cell.specs.Shown.{no_rendition}
 use Rattle.curspan.specs.Printing.{printed_picture}
 use Rattle.curspan.specs.Written.{IsNotWritten, IsWritten, outputs}
@@ -11,7 +11,7 @@ use Rattle.curspan.proofs.serve.paint.Goals as goal
 pub returns-clause-painted : goal.returns-clause-painted
 returns-clause-painted g c =
     let fault : is_some c.run_told-end.result.fault ≡ false = sym c.is_some.ensures ∙ c.if-is_some.false in
-    let text = ap (λ (s : State). printed_picture s.world.virtual.picture (Some s.world.virtual.cursor) no_rendition) c.take_picture.ensures in
+    let text = ap (λ (w : World). printed_picture w.virtual.picture (Some w.virtual.cursor) no_rendition) c.take_picture.ensures in
     let not_written = subst (IsNotWritten (g.O.Sink.seen c.args.out.now) (g.O.Sink.seen c.print_desk.new.out)) text (rw (c.desk.ensures, c.if-print_desk.false) at c.print_desk.ensures) in
     inr (record {
       last = c.run_told-end.new.screen;
@@ -32,7 +32,7 @@ returns-clause-painted g c =
 pub returns-then-print_desk-clause-painted : goal.returns-then-print_desk-clause-painted
 returns-then-print_desk-clause-painted g c =
     let fault : is_some c.run_told-end.result.fault ≡ false = sym c.is_some.ensures ∙ c.if-is_some.false in
-    let text = ap (λ (s : State). printed_picture s.world.virtual.picture (Some s.world.virtual.cursor) no_rendition) c.take_picture.ensures in
+    let text = ap (λ (w : World). printed_picture w.virtual.picture (Some w.virtual.cursor) no_rendition) c.take_picture.ensures in
     let written = subst (IsWritten (g.O.Sink.seen c.args.out.now) (g.O.Sink.seen c.print_desk.new.out)) text (rw (c.desk.ensures, c.if-print_desk.true) at c.print_desk.ensures) in
     inr (record {
       last = c.run_told-end.new.screen;
