@@ -1,10 +1,11 @@
 -- A call of a script is the call that its line says, wherever its text lies, and what it answered.
-use Rattle.std.proofs.Common.{◌≡◌, ℕ, List, [], ◌∷◌, Ok, Err, Result, refl, ap, subst, sym}
+use Rattle.std.proofs.Common.{ℕ, List, [], ◌∷◌, Ok, Err, Result, refl, subst, sym}
 use Rattle.cell.specs.declared.refusal.Refusal.{Refusal}
 use Rattle.streams.specs.Sinks.{Seen}
 use Rattle.desk.specs.Ends.{CallEnds, Writes}
 use Rattle.desk.proofs.WriterLemmas.{Writes-refused}
-use Rattle.desk.specs.States.{state_of}
+use Rattle.desk.proofs.StateLemmas.{is-kept}
+use Rattle.desk.specs.States.{IsWithin, state_of}
 use Rattle.script.specs.Words.{placeless}
 use Rattle.world.specs.declared.call.Call.{Call}
 use Rattle.world.specs.declared.call.Call.TheVariants.{Making, Writing, Copying, Query, Stacking, Refresh}
@@ -50,10 +51,10 @@ module _ {W : Type 0} (seen : W → Seen) where
 
   -- the state and the bytes after a call that wasn't cut short, whether it was accepted or refused
   abbrev pub Answered : ScreenOver W → Call → Result Reply Refusal → ScreenOver W → Type 0
-  Answered old call answer new = (state_of new ≡ state_after (state_of old) call answer)
+  Answered old call answer new = IsWithin (state_of new) (state_after (state_of old) call answer)
       × ((sent : List ℕ) × MayAnswer (state_of old) call answer sent × Writes seen old new (call ∷ []) sent)
 
   pub is_answered : (old : ScreenOver W) (call : Call) (answer : Result Reply Refusal) (new : ScreenOver W) → CallEnds seen old call (joined (Ok answer)) new → Answered old call answer new
   is_answered old call (Ok reply) new h = h
   is_answered old call (Err refusal) new h =
-      (ap state_of h.1, ([], (h.0, refl), subst (λ s. Writes seen old s (call ∷ []) []) (sym h.1) (Writes-refused seen old call refusal h.0)))
+      (is-kept h.1, ([], (h.0, refl), subst (λ s. Writes seen old s (call ∷ []) []) (sym h.1) (Writes-refused seen old call refusal h.0)))

@@ -1,5 +1,8 @@
 pub mod WriterLemmas
+pub mod StateLemmas
 pub mod Shortness
+pub mod ReadLemmas
+pub mod MakesLemmas
 pub mod RunLemmas
 pub mod ShowingLemmas
 pub mod AnswerLemmas

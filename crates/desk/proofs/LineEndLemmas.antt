@@ -5,11 +5,10 @@ use Rattle.std.specs.Io.KnownBytes.{Appends}
 use Rattle.streams.specs.Counts.{next_count}
 use Rattle.streams.specs.Sinks.{Seen}
 use Rattle.world.specs.calls.Dispatch.{is_doupdate}
-use Rattle.desk.specs.Ends.{CallEnds, Makes, Writes}
-use Rattle.desk.proofs.Shortness.{short-run}
-use Rattle.desk.proofs.WriterLemmas.{Writes-nothing}
+use Rattle.desk.specs.Ends.{CallEnds}
+use Rattle.desk.proofs.MakesLemmas.{Makes-nothing, Makes-one}
 use Rattle.desk.specs.steps.Answers.{joined}
-use Rattle.desk.proofs.AnswerLemmas.{Answered, is_answered}
+use Rattle.desk.proofs.AnswerLemmas.{is_answered}
 use Rattle.script.specs.Readings.{said_by_line}
 use Rattle.script.specs.Log.{log_line}
 use Rattle.desk.specs.ScriptEnds.{LineEnds}
@@ -19,7 +18,7 @@ use Rattle.world.specs.declared.call.Refresh.TheVariants.{Noutrefresh, Pnoutrefr
 use Rattle.world.specs.declared.call.Reply.{Reply}
 use Rattle.cell.specs.declared.refusal.Refusal.{Refusal}
 use Rattle.streams.specs.declared.sending.WriteFault.{WriteFault}
-use Rattle.desk.specs.States.{state_of, ScreenOver}
+use Rattle.desk.specs.States.{ScreenOver}
 use Rattle.script.specs.declared.fault.TextFault.{TextFault}
 use Rattle.script.specs.declared.fault.ScriptFault.TheVariants.{Text, Write, Log}
 use Rattle.desk.specs.declared.screen.Fault.TheVariants.{Write as Cut}
@@ -45,16 +44,13 @@ refused_is (Ok reply) r e = e
 refused_is (Err refusal) r e = e
 
 module _ {W : Type 0} (seen : W → Seen) where
-  no_calls : (old : ScreenOver W) → Makes seen old [] [] old
-  no_calls old = record { run = tt; short = tt; state = refl; writes = Writes-nothing seen old }
-
   pub line_says_nothing : (old : ScreenOver W) (n : ℕ) (line : List ℕ) (log : Seen) → said_by_line line ≡ Ok None
       → LineEnds seen old old n line log log (record { refused = false; fault = None })
   line_says_nothing old n line log said = record {
     call = None;
     outcomes = [];
     at_stop = old;
-    makes = no_calls old;
+    makes = Makes-nothing seen old;
     stop = (said, refl);
     logs = Appends-nil _;
     failures = refl;
@@ -68,21 +64,12 @@ module _ {W : Type 0} (seen : W → Seen) where
     call = None;
     outcomes = [];
     at_stop = old;
-    makes = no_calls old;
+    makes = Makes-nothing seen old;
     stop = (refl, said, refl, refl);
     logs = Appends-nil _;
     failures = refl;
     flushes = refl;
     refused = refl;
-  }
-
-  one_call : (old new : ScreenOver W) (call : Call) (answer : Result Reply Refusal) (a : Answered seen old call answer new)
-      → Makes seen old (call ∷ []) (record { answer = answer; sent = a.1.0 } ∷ []) new
-  one_call old new call answer a = record {
-    run = (a.1.1, tt);
-    short = short-run (state_of old) (call ∷ []) (record { answer = answer; sent = a.1.0 } ∷ []) (a.1.1, tt);
-    state = a.0;
-    writes = subst (Writes seen old new (call ∷ [])) (sym (append-nil a.1.0)) a.1.2;
   }
 
   pub line_is_run : (old new : ScreenOver W) (n : ℕ) (line : List ℕ) (log written : Seen) (call : Call) (answer : Result Reply Refusal) (r : Bool)
@@ -93,7 +80,7 @@ module _ {W : Type 0} (seen : W → Seen) where
     call = Some call;
     outcomes = record { answer = answer; sent = a.1.0 } ∷ [];
     at_stop = new;
-    makes = one_call old new call answer a;
+    makes = Makes-one seen old new call answer a.1.0 a.1.1 a.0 a.1.2;
     stop = (said, refl);
     logs = subst (Appends _ _) (sym (append-nil (log_line n answer))) logs;
     failures = failures;
@@ -110,7 +97,7 @@ module _ {W : Type 0} (seen : W → Seen) where
     call = Some call;
     outcomes = record { answer = answer; sent = a.1.0 } ∷ [];
     at_stop = new;
-    makes = one_call old new call answer a;
+    makes = Makes-one seen old new call answer a.1.0 a.1.1 a.0 a.1.2;
     stop = (said, refl);
     logs = record { whole = []; last = log_line n answer; parts = refl; sent = sent; within = within; taken = logs };
     failures = failures;
@@ -125,7 +112,7 @@ module _ {W : Type 0} (seen : W → Seen) where
     call = None;
     outcomes = [];
     at_stop = old;
-    makes = no_calls old;
+    makes = Makes-nothing seen old;
     stop = (refl, said ∙ ap (λ c. Ok (Some c)) (the_doupdate call a.0), refl, a.1);
     logs = Appends-nil _;
     failures = refl;

@@ -1,39 +1,28 @@
 -- A run goes on by one call.
 use Rattle.std.proofs.Common.{◌≡◌, ℕ, ◌+◌, ◌≤◌, ◌++◌, List, [], ◌∷◌, length, take, drop, get_or, None, Some, ◌<◌, Ok, Err, refl, sym, ap, ◌∙◌, subst, count_by, sum_by, Bool, cond, add-zero, append-nil, take-append-drop, take_all}
-use Rattle.std.proofs.lemmas.Grind.{flat_map-append}
 use Rattle.std.proofs.lemmas.List.{drop_more, take_more}
 use Rattle.std.proofs.lemmas.List.Sums.{fold_push, sum_by_push}
 use Rattle.cell.specs.declared.refusal.Refusal.{Refusal}
 use Rattle.streams.specs.Sinks.{Seen}
 use Rattle.streams.specs.declared.sending.WriteFault.{WriteFault}
 use Rattle.desk.specs.States.{State}
-use Rattle.desk.specs.Runs.{Outcome, MayCome, Run, all_sent, cells_of_reply, cells_read, is_accepted, is_refused, state_after, state_at_end}
-use Rattle.desk.proofs.Shortness.{short-run}
-use Rattle.desk.proofs.WriterLemmas.{Writes-nothing, Writes-refused, Writes-trans}
+use Rattle.desk.specs.Runs.{Outcome, cells_of_reply, cells_read, is_accepted, is_refused}
+use Rattle.desk.proofs.MakesLemmas.{Makes-append, Makes-nothing, Makes-one}
+use Rattle.desk.proofs.StateLemmas.{is-kept}
+use Rattle.desk.proofs.WriterLemmas.{Writes-refused}
+use Rattle.desk.specs.Reads.{ReadsFew}
 use Rattle.desk.specs.Ends.{CallEnds, Makes, RunEnds, Stops, Writes, begins_with_doupdate}
-use Rattle.desk.specs.States.{state_of}
 use Rattle.world.specs.declared.call.Call.{Call}
 use Rattle.world.specs.declared.call.Reply.{Reply}
 use Rattle.desk.specs.declared.screen.Fault.TheVariants.{Refused, Write}
 use Rattle.desk.specs.declared.screen.RunEnd.{RunEnd}
 use Rattle.desk.specs.States.{ScreenOver}
 
-Run-push : (s : State) (calls : List Call) (outcomes : List Outcome) (call : Call) (outcome : Outcome) → Run s calls outcomes
-    → MayCome (state_at_end s calls outcomes) call outcome → Run s (calls ++ call ∷ []) (outcomes ++ outcome ∷ [])
-Run-push s [] [] call outcome run next = (next, tt)
-Run-push s [] (o ∷ os) call outcome run next = absurd run
-Run-push s (c ∷ cs) [] call outcome run next = absurd run
-Run-push s (c ∷ cs) (o ∷ os) call outcome run next = (run.0, Run-push (state_after s c o.answer) cs os call outcome run.1 next)
-
-state_at_end-push : (s : State) (calls : List Call) (outcomes : List Outcome) (call : Call) (outcome : Outcome) → Run s calls outcomes
-    → state_at_end s (calls ++ call ∷ []) (outcomes ++ outcome ∷ []) ≡ state_after (state_at_end s calls outcomes) call outcome.answer
-state_at_end-push s [] [] call outcome run = refl
-state_at_end-push s [] (o ∷ os) call outcome run = absurd run
-state_at_end-push s (c ∷ cs) [] call outcome run = absurd run
-state_at_end-push s (c ∷ cs) (o ∷ os) call outcome run = state_at_end-push (state_after s c o.answer) cs os call outcome run.1
-
 count_by-push : {A : Type 0} (p : A → Bool) (xs : List A) (x : A) → count_by p (xs ++ x ∷ []) ≡ count_by p xs + cond (p x) 1 0
 count_by-push p xs x = fold_push _ 0 xs x
+
+reads-as : {s : State} {calls : List (Call × Bool)} {cells sum : ℕ} → cells ≡ sum → ReadsFew s calls sum → ReadsFew s calls cells
+reads-as {s} {calls} is few = subst (ReadsFew s calls) (sym is) few
 
 module _ {W : Type 0} (seen : W → Seen) where
   -- a run, with what was counted of it
@@ -44,24 +33,11 @@ module _ {W : Type 0} (seen : W → Seen) where
     pub is_refused : refused ≡ count_by is_refused outcomes
     pub is_composed : cells ≡ sum_by cells_read outcomes
 
-  Makes-push : {old mid new : ScreenOver W} {calls : List Call} {outcomes : List Outcome} (call : Call) (outcome : Outcome) → Makes seen old calls outcomes mid
-      → MayCome (state_of mid) call outcome → state_of new ≡ state_after (state_of mid) call outcome.answer → Writes seen mid new (call ∷ []) outcome.sent
-      → Makes seen old (calls ++ call ∷ []) (outcomes ++ outcome ∷ []) new
-  Makes-push {old} {mid} {new} {calls} {outcomes} call outcome makes may state writes =
-      let run = Run-push (state_of old) calls outcomes call outcome makes.run (subst (λ (s : State). MayCome s call outcome) makes.state may) in
-      record {
-        run = run;
-        short = short-run (state_of old) (calls ++ call ∷ []) (outcomes ++ outcome ∷ []) run;
-        state = state ∙ ap (λ s. state_after s call outcome.answer) makes.state ∙ sym (state_at_end-push _ calls outcomes call outcome makes.run);
-        writes = subst (Writes seen old new (calls ++ call ∷ [])) (sym (flat_map-append _ outcomes (outcome ∷ []) ∙ ap (λ l. all_sent outcomes ++ l) (append-nil outcome.sent)))
-            (Writes-trans seen old mid new calls (call ∷ []) (all_sent outcomes) outcome.sent makes.writes writes);
-      }
-
   -- no call yet
   pub so_far_none : (old : ScreenOver W) → SoFar old [] old 0 0 0
   so_far_none old = record {
     outcomes = [];
-    makes = record { run = tt; short = tt; state = refl; writes = Writes-nothing seen old };
+    makes = Makes-nothing seen old;
     is_done = refl;
     is_refused = refl;
     is_composed = refl;
@@ -74,7 +50,7 @@ module _ {W : Type 0} (seen : W → Seen) where
       let outcome : Outcome = record { answer = Ok reply; sent = ends.1.0 } in
       record {
         outcomes = so_far.outcomes ++ outcome ∷ [];
-        makes = Makes-push call outcome so_far.makes ends.1.1 ends.0 ends.1.2;
+        makes = Makes-append seen so_far.makes (Makes-one seen _ _ call (Ok reply) ends.1.0 ends.1.1 ends.0 ends.1.2);
         is_done = ap (λ n. n + 1) so_far.is_done ∙ sym (count_by-push is_accepted so_far.outcomes outcome);
         is_refused = so_far.is_refused ∙ sym (count_by-push is_refused so_far.outcomes outcome ∙ add-zero _);
         is_composed = ap (λ n. n + cells_of_reply reply) so_far.is_composed ∙ sym (sum_by_push cells_read so_far.outcomes outcome);
@@ -87,8 +63,8 @@ module _ {W : Type 0} (seen : W → Seen) where
       let outcome : Outcome = record { answer = Err refusal; sent = [] } in
       record {
         outcomes = so_far.outcomes ++ outcome ∷ [];
-        makes = Makes-push call outcome so_far.makes (ends.0, refl) (ap (λ s. state_of s) ends.1)
-            (subst (λ s. Writes seen mid s (call ∷ []) []) (sym ends.1) (Writes-refused seen mid call refusal ends.0));
+        makes = Makes-append seen so_far.makes (Makes-one seen mid _ call (Err refusal) [] (ends.0, refl) (is-kept ends.1)
+            (subst (λ s. Writes seen mid s (call ∷ []) []) (sym ends.1) (Writes-refused seen mid call refusal ends.0)));
         is_done = so_far.is_done ∙ sym (count_by-push is_accepted so_far.outcomes outcome ∙ add-zero _);
         is_refused = ap (λ n. n + 1) so_far.is_refused ∙ sym (count_by-push is_refused so_far.outcomes outcome);
         is_composed = so_far.is_composed ∙ sym (sum_by_push cells_read so_far.outcomes outcome ∙ add-zero _);
@@ -118,6 +94,7 @@ module _ {W : Type 0} (seen : W → Seen) where
     done = so_far.is_done;
     refused = so_far.is_refused;
     composed = so_far.is_composed;
+    reads = reads-as so_far.is_composed so_far.makes.reads;
   }
 
   -- a doupdate was cut short
@@ -135,4 +112,5 @@ module _ {W : Type 0} (seen : W → Seen) where
     done = so_far.is_done;
     refused = so_far.is_refused;
     composed = so_far.is_composed;
+    reads = reads-as so_far.is_composed so_far.makes.reads;
   }

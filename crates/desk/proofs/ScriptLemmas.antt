@@ -17,10 +17,9 @@ use Rattle.std.proofs.lemmas.List.Splits.{length-slice_split, slice_split-cons_n
 use Rattle.streams.specs.Sinks.{Seen}
 use Rattle.desk.specs.States.{State}
 use Rattle.streams.specs.Sources.{SourceSeen}
-use Rattle.desk.specs.Runs.{Outcome, Run, all_sent, is_refused, state_after, state_at_end}
-use Rattle.desk.specs.Ends.{Makes, Writes}
-use Rattle.desk.proofs.Shortness.{short-run}
-use Rattle.desk.proofs.WriterLemmas.{Writes-nothing, Writes-trans}
+use Rattle.desk.specs.Runs.{Outcome, Run, is_refused, state_after}
+use Rattle.desk.specs.Ends.{Makes}
+use Rattle.desk.proofs.MakesLemmas.{Makes-append, Makes-nothing}
 use Rattle.streams.specs.Counts.{counted}
 use Rattle.desk.specs.States.{state_of}
 use Rattle.desk.specs.Showing.{RunShows}
@@ -100,20 +99,6 @@ too_long_says n line more b h e long =
     ap (λ l. reading_of false n (slice_split is_newline l)) (sym (append_assoc line (b ∷ []) more)) ∙ ap (reading_of false n) first.2
     ∙ ap (λ t. before_others n t (reading_of false (next_number n) first.1)) (long_line ((line ++ b ∷ []) ++ first.0) length_is)
 
-Run-append : (state : State) (calls more : List Call) (outcomes others : List Outcome) → Run state calls outcomes
-    → Run (state_at_end state calls outcomes) more others → Run state (calls ++ more) (outcomes ++ others)
-Run-append state [] more [] others run next = next
-Run-append state [] more (o ∷ os) others run next = absurd run
-Run-append state (c ∷ cs) more [] others run next = absurd run
-Run-append state (c ∷ cs) more (o ∷ os) others run next = (run.0, Run-append (state_after state c o.answer) cs more os others run.1 next)
-
-state_at_end-append : (state : State) (calls more : List Call) (outcomes others : List Outcome) → Run state calls outcomes
-    → state_at_end state (calls ++ more) (outcomes ++ others) ≡ state_at_end (state_at_end state calls outcomes) more others
-state_at_end-append state [] more [] others run = refl
-state_at_end-append state [] more (o ∷ os) others run = absurd run
-state_at_end-append state (c ∷ cs) more [] others run = absurd run
-state_at_end-append state (c ∷ cs) more (o ∷ os) others run = state_at_end-append (state_after state c o.answer) cs more os others run.1
-
 log_lines-append : (state : State) (calls more : List (ℕ × Call)) (outcomes others : List Outcome) → Run state (calls_of calls) outcomes
     → log_lines (calls ++ more) (outcomes ++ others) ≡ log_lines calls outcomes ++ log_lines more others
 log_lines-append state [] more [] others run = refl
@@ -130,17 +115,10 @@ calls_of-append : (a b : List (ℕ × Call)) → calls_of (a ++ b) ≡ calls_of 
 calls_of-append a b = map-append _ a b
 
 module _ {W : Type 0} (seen : W → Seen) where
-  Makes-append : (old mid new : ScreenOver W) (a b : List (ℕ × Call)) (outcomes others : List Outcome) → Makes seen old (calls_of a) outcomes mid
+  makes_more : {old mid new : ScreenOver W} (a b : List (ℕ × Call)) {outcomes others : List Outcome} → Makes seen old (calls_of a) outcomes mid
       → Makes seen mid (calls_of b) others new → Makes seen old (calls_of (a ++ b)) (outcomes ++ others) new
-  Makes-append old mid new a b outcomes others first second =
-      let run = Run-append (state_of old) (calls_of a) (calls_of b) outcomes others first.run (subst (λ w. Run w (calls_of b) others) first.state second.run) in
-      subst (λ calls. Makes seen old calls (outcomes ++ others) new) (sym (calls_of-append a b)) (record {
-        run = run;
-        short = short-run (state_of old) (calls_of a ++ calls_of b) (outcomes ++ others) run;
-        state = second.state ∙ ap (λ w. state_at_end w (calls_of b) others) first.state ∙ sym (state_at_end-append (state_of old) (calls_of a) (calls_of b) outcomes others first.run);
-        writes = subst (Writes seen old new (calls_of a ++ calls_of b)) (sym (flat_map-append _ outcomes others))
-            (Writes-trans seen old mid new (calls_of a) (calls_of b) (all_sent outcomes) (all_sent others) first.writes second.writes);
-      })
+  makes_more {old} {new} a b {outcomes} {others} first second =
+      subst (λ calls. Makes seen old calls (outcomes ++ others) new) (sym (calls_of-append a b)) (Makes-append seen first second)
 
   -- What was run of a script, and what is left of it.
   pub record SoFar (old now : ScreenOver W) (input rest : SourceSeen) (log written : Seen) (unused : List ℕ) (number : ℕ) (some_refused : Bool) : Type 0 where
@@ -163,7 +141,7 @@ module _ {W : Type 0} (seen : W → Seen) where
     made = [];
     outcomes = [];
     read = Consumes-nil _;
-    makes = record { run = tt; short = tt; state = refl; writes = Writes-nothing seen old };
+    makes = Makes-nothing seen old;
     logs = Appends-nil _;
     failures = refl;
     flushes = refl;
@@ -209,7 +187,7 @@ module _ {W : Type 0} (seen : W → Seen) where
         made = s.made ++ numbered n e.call;
         outcomes = s.outcomes ++ e.outcomes;
         read = Consumes-trans _ _ _ _ _ s.read r.read;
-        makes = Makes-append old mid now s.made (numbered n e.call) s.outcomes e.outcomes s.makes (subst (Makes seen mid _ e.outcomes) (sym stop.1) e.makes);
+        makes = makes_more s.made (numbered n e.call) s.makes (subst (Makes seen mid _ e.outcomes) (sym stop.1) e.makes);
         logs = subst (Appends _ _) (sym (log_text-append (state_of old) s.made (numbered n e.call) s.outcomes e.outcomes s.makes.run)) (Appends-trans _ _ _ _ _ s.logs logs);
         failures = e.failures ∙ ap (λ f. counted (log_failed f) l1.failures) none ∙ s.failures;
         flushes = e.flushes ∙ s.flushes;
@@ -286,7 +264,7 @@ module _ {W : Type 0} (seen : W → Seen) where
     outcomes = s.outcomes ++ e.outcomes;
     at_stop = e.at_stop;
     read = Consumes-trans _ _ _ _ _ s.read read;
-    makes = Makes-append old mid e.at_stop s.made (numbered n e.call) s.outcomes e.outcomes s.makes e.makes;
+    makes = makes_more s.made (numbered n e.call) s.makes e.makes;
     stop = stops s.made n (said_by_line line) e.call e.at_stop now r2.met_end (s.text ++ bytes) z end.fault e.stop says last;
     logs = logs_after (state_of old) s.made (numbered n e.call) s.outcomes e.outcomes log l1 l2 end.fault s.makes.run s.logs e.logs;
     failures = e.failures ∙ ap (counted (log_failed end.fault)) s.failures;

@@ -7,7 +7,7 @@ use Rattle.cell.specs.Pictures.{HasSize}
 use Rattle.world.specs.World.{World, picture}
 use Rattle.world.specs.calls.Refresh.{after_update_panels, after_doupdate, composed_windows}
 use Rattle.cell.specs.declared.refusal.Refusal.{Refusal}
-use Rattle.desk.proofs.WriterLemmas.{Writes-nothing, Writes-refused, never-refused}
+use Rattle.desk.proofs.WriterLemmas.{Writes-refused, never-refused}
 use Rattle.cell.proofs.PictureLemmas.{HasSize-lines_from, cell_or-lines_from}
 use Rattle.world.proofs.RefreshLaws.{found-unmarked, cursor-unmarked}
 use Rattle.ecma.specs.Terminals.{Terminal}
@@ -19,12 +19,13 @@ use Rattle.streams.specs.Sinks.{Seen}
 use Rattle.paint.specs.Updates.{Agrees, PainterState}
 use Rattle.streams.specs.declared.sending.WriteFault.{WriteFault}
 use Rattle.paint.proofs.Repair.{Agrees-update, Agrees-fault, IsKnown, reads-known}
-use Rattle.desk.proofs.Shortness.{short-run}
-use Rattle.desk.specs.States.{State, after, wanted}
+use Rattle.desk.proofs.MakesLemmas.{Makes-nothing, Makes-one}
+use Rattle.desk.proofs.StateLemmas.{IsWithin-refl}
+use Rattle.desk.specs.States.{IsWithin, State, after, wanted}
 use Rattle.desk.specs.Runs.{Outcome, MayAnswer, Run, all_sent, state_after, state_at_end}
 use Rattle.world.proofs.Sizes.{size-call}
 use Rattle.compose.specs.Desks.{DeskTable, world}
-use Rattle.desk.specs.Ends.{CallEnds, IsCut, Makes, RunEnds, Stops, Writes, cut_of}
+use Rattle.desk.specs.Ends.{CallEnds, IsCut, Makes, RunEnds, Stops, cut_of}
 use Rattle.desk.specs.States.{state_of}
 use Rattle.desk.specs.Showing.{EndsInDoupdate, EndsInUpdate, ShowsWorld, RunShows, showing_virtual}
 use Rattle.world.specs.declared.call.Call.{Call}
@@ -44,6 +45,14 @@ pub record HasScreenSize (lines columns : ℕ) (s : State) : Type 0 where
   pub columns_of : s.world.windows.columns ≡ columns
   pub painter_lines : s.painter.lines ≡ lines
   pub painter_columns : s.painter.columns ≡ columns
+
+still-sized : {lines columns : ℕ} {s t : State} → IsWithin s t → HasScreenSize lines columns t → HasScreenSize lines columns s
+still-sized same h = record {
+  lines_of = ap (λ (w : World). w.windows.lines) same.world ∙ h.lines_of;
+  columns_of = ap (λ (w : World). w.windows.columns) same.world ∙ h.columns_of;
+  painter_lines = ap (λ (p : PainterState). p.lines) same.painter ∙ h.painter_lines;
+  painter_columns = ap (λ (p : PainterState). p.columns) same.painter ∙ h.painter_columns;
+}
 
 size-painter : (s : State) (call : Call) → ((after s call).painter.lines ≡ s.painter.lines) × ((after s call).painter.columns ≡ s.painter.columns)
 size-painter s (calls.Making making) = (refl, refl)
@@ -152,6 +161,9 @@ leads-run lines columns s (c ∷ cs) (o ∷ os) t size fits run h =
 abbrev pub VirtualIsKnown : State → Type 0
 VirtualIsKnown s = s.painter.last ≡ Some (wanted s.world)
 
+still-known : {s t : State} → IsWithin s t → VirtualIsKnown t → VirtualIsKnown s
+still-known same h = ap (λ (p : PainterState). p.last) same.painter ∙ h ∙ ap (λ w. Some (wanted w)) (sym same.world)
+
 one-doupdate : (s : State) (answer : Result Reply Refusal) (sent : List ℕ) → MayAnswer s (calls.Refresh Doupdate) answer sent → VirtualIsKnown (state_after s (calls.Refresh Doupdate) answer)
 one-doupdate s (Ok r) sent h = refl
 one-doupdate s (Err e) sent h = absurd (never-refused s.world Doupdate e refl h.0)
@@ -171,6 +183,9 @@ pub record EndsShown (s : State) : Type 0 where
   pub before : World
   pub world_is : s.world ≡ after_doupdate (after_update_panels before)
   pub last_is : s.painter.last ≡ Some (wanted (after_update_panels before))
+
+still-shown : {s t : State} → IsWithin s t → EndsShown t → EndsShown s
+still-shown same h = record { before = h.before; world_is = same.world ∙ h.world_is; last_is = ap (λ (p : PainterState). p.last) same.painter ∙ h.last_is }
 
 two-calls : (s : State) (one other : Result Reply Refusal) (sent more : List ℕ) → MayAnswer s (calls.Refresh UpdatePanels) one sent
     → MayAnswer (state_after s (calls.Refresh UpdatePanels) one) (calls.Refresh Doupdate) other more
@@ -210,16 +225,16 @@ module _ {W : Type 0} (seen : W → Seen) (old at_stop new : ScreenOver W) (cs m
 
   agrees-stop : (stream : List ℕ) (t : Terminal) → HasSize old.desk.windows.lines old.desk.windows.columns t.picture → Agrees old.painter stream t → Agrees at_stop.painter (stream ++ all_sent outcomes) t
   agrees-stop stream t fits h =
-      subst (λ p. Agrees p (stream ++ all_sent outcomes) t) (ap (λ (s : State). s.painter) (sym makes.state))
+      subst (λ p. Agrees p (stream ++ all_sent outcomes) t) (sym makes.state.painter)
       (agrees-run old.desk.windows.lines old.desk.windows.columns (state_of old) made outcomes stream t (screen-size old one_size) fits makes.run h)
 
   ended : EndsInUpdate made → EndsShown (state_of at_stop)
-  ended ends = subst EndsShown (sym makes.state)
+  ended ends = still-shown makes.state
       (subst (λ l. EndsShown (state_at_end (state_of old) l outcomes)) (sym ends.1)
       (ends-shown (state_of old) ends.0 outcomes (subst (λ l. Run (state_of old) l outcomes) ends.1 makes.run)))
 
   known : EndsInDoupdate made → VirtualIsKnown (state_of at_stop)
-  known ends = subst VirtualIsKnown (sym makes.state)
+  known ends = still-known makes.state
       (subst (λ l. VirtualIsKnown (state_at_end (state_of old) l outcomes)) (sym ends.1)
       (virtual-known (state_of old) ends.0 outcomes (subst (λ l. Run (state_of old) l outcomes) ends.1 makes.run)))
 
@@ -231,7 +246,7 @@ module _ {W : Type 0} (seen : W → Seen) (old at_stop new : ScreenOver W) (cs m
       → LeadsOn old.desk.windows.lines old.desk.windows.columns at_stop.painter (all_sent outcomes) t
   leads-stop nothing t fits =
       let none : IsKnown old.painter.last t = subst (λ o. MatchOption o ⊤ (λ shown. t ≡ showing shown.picture shown.cursor)) (sym nothing) tt in
-      subst (λ p. LeadsOn old.desk.windows.lines old.desk.windows.columns p (all_sent outcomes) t) (ap (λ (s : State). s.painter) (sym makes.state))
+      subst (λ p. LeadsOn old.desk.windows.lines old.desk.windows.columns p (all_sent outcomes) t) (sym makes.state.painter)
       (leads-run old.desk.windows.lines old.desk.windows.columns (state_of old) made outcomes t (screen-size old one_size) fits makes.run none)
 
   -- every call was made, and no write failed
@@ -286,7 +301,7 @@ module _ {W : Type 0} (seen : W → Seen) (old at_stop new : ScreenOver W) (cs m
     bytes = all_sent outcomes ++ take fault.sent cut.text;
     taken = Appends-trans _ _ _ _ _ makes.writes.taken cut.bytes;
     agrees = λ stream t fits h.
-        let size = subst (HasScreenSize old.desk.windows.lines old.desk.windows.columns) (sym makes.state) (size-at_end old.desk.windows.lines old.desk.windows.columns (state_of old) made outcomes (screen-size old one_size)) in
+        let size = still-sized makes.state (size-at_end old.desk.windows.lines old.desk.windows.columns (state_of old) made outcomes (screen-size old one_size)) in
         subst (λ p. Agrees p (stream ++ (all_sent outcomes ++ take fault.sent cut.text)) t) (ap (λ (s : State). s.painter) (sym cut.state))
         (subst (λ bytes. Agrees (record at_stop.painter { last = None }) bytes t) (append_assoc stream (all_sent outcomes) (take fault.sent cut.text))
         (Agrees-fault at_stop.painter at_stop.desk.virtual.clear (wanted (world at_stop.desk)) (stream ++ all_sent outcomes) cut.text fault.sent t (rw (size.painter_lines, size.painter_columns) fits)
@@ -308,25 +323,15 @@ run-shows seen old new cs end one_size h = run-stops seen old h.at_stop new cs h
 
 -- ---- one call
 
--- one call was made, and had this outcome
-one-call : {W : Type 0} (seen : W → Seen) (old new : ScreenOver W) (call : Call) (answer : Result Reply Refusal) (sent : List ℕ) → MayAnswer (state_of old) call answer sent
-    → state_of new ≡ state_after (state_of old) call answer → Writes seen old new (call ∷ []) sent → Makes seen old (call ∷ []) (record { answer = answer; sent = sent } ∷ []) new
-one-call seen old new call answer sent may state writes = record {
-  run = (may, tt);
-  short = short-run (state_of old) (call ∷ []) (record { answer = answer; sent = sent } ∷ []) (may, tt);
-  state = state;
-  writes = subst (Writes seen old new (call ∷ [])) (sym (append-nil sent)) writes;
-}
-
 pub call-shows : {W : Type 0} (seen : W → Seen) (old new : ScreenOver W) (call : Call) (r : Result Reply Fault) → HasOneSize old.desk old.painter → CallEnds seen old call r new
     → RunShows seen old new (call ∷ []) (cut_of r)
 call-shows seen old new call (Ok reply) one_size h =
-    shows-unbroken seen old new new (call ∷ []) (call ∷ []) (record { answer = Ok reply; sent = h.1.0 } ∷ []) (one-call seen old new call (Ok reply) h.1.0 h.1.1 h.0 h.1.2) one_size refl refl
+    shows-unbroken seen old new new (call ∷ []) (call ∷ []) (record { answer = Ok reply; sent = h.1.0 } ∷ []) (Makes-one seen old new call (Ok reply) h.1.0 h.1.1 h.0 h.1.2) one_size refl refl
 call-shows seen old new call (Err (Refused e)) one_size h =
     shows-unbroken seen old old new (call ∷ []) (call ∷ []) (record { answer = Err e; sent = [] } ∷ [])
-    (one-call seen old old call (Err e) [] (h.0, refl) refl (Writes-refused seen old call e h.0)) one_size refl h.1
+    (Makes-one seen old old call (Err e) [] (h.0, refl) (IsWithin-refl (state_of old)) (Writes-refused seen old call e h.0)) one_size refl h.1
 call-shows seen old new call (Err (Write fault)) one_size h =
-    shows-broken seen old old new (call ∷ []) [] [] (record { run = tt; short = tt; state = refl; writes = Writes-nothing seen old }) one_size fault h.1
+    shows-broken seen old old new (call ∷ []) [] [] (Makes-nothing seen old) one_size fault h.1
 
 -- ---- the size stays
 
@@ -339,14 +344,14 @@ cut-keeps_size seen old new fault h = record { lines = ap (λ (s : State). s.wor
 
 pub call-keeps_size : {W : Type 0} (seen : W → Seen) (old new : ScreenOver W) (call : Call) (r : Result Reply Fault) → HasOneSize old.desk old.painter → CallEnds seen old call r new → KeepsSize old.desk new.desk
 call-keeps_size seen old new call (Ok reply) one_size h = size-of old new
-    (subst (HasScreenSize old.desk.windows.lines old.desk.windows.columns) (sym h.0) (size-after old.desk.windows.lines old.desk.windows.columns (state_of old) call (Ok reply) (screen-size old one_size)))
+    (still-sized h.0 (size-after old.desk.windows.lines old.desk.windows.columns (state_of old) call (Ok reply) (screen-size old one_size)))
 call-keeps_size seen old new call (Err (Refused e)) one_size h = subst (λ s. KeepsSize old.desk s.desk) (sym h.1) (record { lines = refl; columns = refl })
 call-keeps_size seen old new call (Err (Write fault)) one_size h = cut-keeps_size seen old new fault h.1
 
 pub makes-keep_size : {W : Type 0} (seen : W → Seen) (old new : ScreenOver W) (cs : List Call) (outcomes : List Outcome) → HasOneSize old.desk old.painter → Makes seen old cs outcomes new
     → KeepsSize old.desk new.desk
 makes-keep_size seen old new cs outcomes one_size h = size-of old new
-    (subst (HasScreenSize old.desk.windows.lines old.desk.windows.columns) (sym h.state) (size-at_end old.desk.windows.lines old.desk.windows.columns (state_of old) cs outcomes (screen-size old one_size)))
+    (still-sized h.state (size-at_end old.desk.windows.lines old.desk.windows.columns (state_of old) cs outcomes (screen-size old one_size)))
 
 pub then-keeps_size : (old mid new : DeskTable) → KeepsSize old mid → KeepsSize mid new → KeepsSize old new
 then-keeps_size old mid new h k = record { lines = k.lines ∙ h.lines; columns = k.columns ∙ h.columns }

@@ -9,7 +9,7 @@ use Rattle.streams.specs.Sinks.{Seen}
 use Rattle.streams.specs.declared.sending.WriteFault.{WriteFault}
 use Rattle.paint.specs.Updates.{BreaksOff, Updates}
 use Rattle.world.specs.World.{World}
-use Rattle.world.specs.calls.Dispatch.{is_doupdate, refresh_refusal}
+use Rattle.world.specs.calls.Dispatch.{is_doupdate, refresh_refusal, world_after}
 use Rattle.world.specs.declared.call.Call.{Call}
 use Rattle.world.specs.declared.call.Call.TheVariants as calls
 use Rattle.world.specs.declared.call.Refresh.{Refresh}
@@ -17,8 +17,8 @@ use Rattle.world.specs.declared.call.Refresh.TheVariants.{Noutrefresh, Pnoutrefr
 use Rattle.world.specs.declared.call.Reply.{Reply}
 use Rattle.world.specs.declared.call.Reply.TheVariants.{Sent}
 use Rattle.compose.specs.Desks.{DeskTable, world}
-use Rattle.desk.specs.States.{ScreenOver, wanted}
-use Rattle.compose.specs.Calling.{Called, MayRefuse}
+use Rattle.desk.specs.States.{IsWithin, ScreenOver, after, state_of, wanted}
+use Rattle.compose.specs.Calling.{Called, DamagesFew, MayRefuse}
 use Rattle.desk.specs.Runs.{flushes_after}
 use Rattle.desk.specs.Ends.{CallEnds, Writes}
 use Rattle.desk.specs.declared.screen.Fault.TheVariants.{Refused, Write}
@@ -31,6 +31,10 @@ never-refused w refresh e none (inr h) = let no : false ≡ true = h.1 in cc
 flushes_after-append : (flushes : ℕ) (calls more : List Call) → flushes_after flushes (calls ++ more) ≡ flushes_after (flushes_after flushes calls) more
 flushes_after-append flushes [] more = refl
 flushes_after-append flushes (call ∷ calls) more = flushes_after-append (counted (is_doupdate call) flushes) calls more
+
+or-damaged : (damaged affected : Bool) → damaged ≡ true → (damaged || affected) ≡ true
+or-damaged true affected h = refl
+or-damaged false affected h = cc
 
 or_turned : (a b c : Bool) → (b || (a || c)) ≡ ((a || b) || c)
 or_turned true true c = refl
@@ -73,28 +77,32 @@ module _ {W : Type 0} (seen : W → Seen) where
 
   -- ---- one call
 
+  is-after : (old : ScreenOver W) (desk : DeskTable) (call : Call) → world desk ≡ world_after (world old.desk) call → DamagesFew old.desk call desk
+      → (after (state_of old) call).painter ≡ old.painter → IsWithin (state_of (record old { desk = desk })) (after (state_of old) call)
+  is-after old desk call left few same = record { world = left; painter = sym same; damaged = few }
+
   -- a call of the desk was accepted
   pub called-ends : (old : ScreenOver W) (desk : DeskTable) (call : Call) (reply : Reply) → is_doupdate call ≡ false → Called old.desk call (Ok reply) desk
       → CallEnds seen old call (Ok reply) (record old { desk = desk })
   called-ends old desk (calls.Making m) reply other h =
-      ((λ i. record { world = h.2 i; painter = old.painter }), ([], (h.0, (refl, h.1)), quiet old (record old { desk = desk }) (calls.Making m) refl refl))
+      (is-after old desk (calls.Making m) h.2 h.3 refl, ([], (h.0, (refl, h.1)), quiet old (record old { desk = desk }) (calls.Making m) refl refl))
   called-ends old desk (calls.Writing w) reply other h =
-      ((λ i. record { world = h.2 i; painter = old.painter }), ([], (h.0, (refl, h.1)), quiet old (record old { desk = desk }) (calls.Writing w) refl refl))
+      (is-after old desk (calls.Writing w) h.2 h.3 refl, ([], (h.0, (refl, h.1)), quiet old (record old { desk = desk }) (calls.Writing w) refl refl))
   called-ends old desk (calls.Copying k) reply other h =
-      ((λ i. record { world = h.2 i; painter = old.painter }), ([], (h.0, (refl, h.1)), quiet old (record old { desk = desk }) (calls.Copying k) refl refl))
+      (is-after old desk (calls.Copying k) h.2 h.3 refl, ([], (h.0, (refl, h.1)), quiet old (record old { desk = desk }) (calls.Copying k) refl refl))
   called-ends old desk (calls.Query q) reply other h =
-      ((λ i. record { world = world (h.2 i); painter = old.painter }), ([], (h.0, (refl, h.1)), quiet old (record old { desk = desk }) (calls.Query q) refl refl))
+      (is-after old desk (calls.Query q) (ap world h.2) h.3 refl, ([], (h.0, (refl, h.1)), quiet old (record old { desk = desk }) (calls.Query q) refl refl))
   called-ends old desk (calls.Stacking s) reply other h =
-      ((λ i. record { world = h.2 i; painter = old.painter }), ([], (h.0, (refl, h.1)), quiet old (record old { desk = desk }) (calls.Stacking s) refl refl))
+      (is-after old desk (calls.Stacking s) h.2 h.3 refl, ([], (h.0, (refl, h.1)), quiet old (record old { desk = desk }) (calls.Stacking s) refl refl))
   called-ends old desk (calls.Refresh (Noutrefresh win)) reply other h =
-      ((λ i. record { world = h.2 i; painter = old.painter }), ([], (h.0, (refl, h.1)), quiet old (record old { desk = desk }) (calls.Refresh (Noutrefresh win)) refl refl))
+      (is-after old desk (calls.Refresh (Noutrefresh win)) h.2 h.3 refl, ([], (h.0, (refl, h.1)), quiet old (record old { desk = desk }) (calls.Refresh (Noutrefresh win)) refl refl))
   called-ends old desk (calls.Refresh (Pnoutrefresh pad pminrow pmincol sminrow smincol smaxrow smaxcol)) reply other h =
-      ((λ i. record { world = h.2 i; painter = old.painter }), ([], (h.0, (refl, h.1)), quiet old (record old { desk = desk }) (calls.Refresh (Pnoutrefresh pad pminrow pmincol sminrow smincol smaxrow smaxcol)) refl refl))
+      (is-after old desk (calls.Refresh (Pnoutrefresh pad pminrow pmincol sminrow smincol smaxrow smaxcol)) h.2 h.3 refl, ([], (h.0, (refl, h.1)), quiet old (record old { desk = desk }) (calls.Refresh (Pnoutrefresh pad pminrow pmincol sminrow smincol smaxrow smaxcol)) refl refl))
   called-ends old desk (calls.Refresh UpdatePanels) reply other h =
-      ((λ i. record { world = h.2 i; painter = old.painter }), ([], (h.0, (refl, h.1)), quiet old (record old { desk = desk }) (calls.Refresh UpdatePanels) refl refl))
+      (is-after old desk (calls.Refresh UpdatePanels) h.2 h.3 refl, ([], (h.0, (refl, h.1)), quiet old (record old { desk = desk }) (calls.Refresh UpdatePanels) refl refl))
   called-ends old desk (calls.Refresh Doupdate) reply other h = cc
   called-ends old desk (calls.Refresh (InitPair pair foreground background)) reply other h =
-      ((λ i. record { world = h.2 i; painter = old.painter }), ([], (h.0, (refl, h.1)), quiet old (record old { desk = desk }) (calls.Refresh (InitPair pair foreground background)) refl refl))
+      (is-after old desk (calls.Refresh (InitPair pair foreground background)) h.2 h.3 refl, ([], (h.0, (refl, h.1)), quiet old (record old { desk = desk }) (calls.Refresh (InitPair pair foreground background)) refl refl))
 
   -- a call of the desk was refused
   pub refused-ends : (old : ScreenOver W) (desk : DeskTable) (call : Call) (e : Refusal) → Called old.desk call (Err e) desk
@@ -110,7 +118,7 @@ module _ {W : Type 0} (seen : W → Seen) where
         writer = writer;
       })
   updated-ends old writer bytes u =
-      (refl, (u.text, (refl, (u.is_text, ap (λ n. Sent (record { bytes = n })) u.count)), record { taken = u.taken; flushes = u.flushes; flushed = u.flushed }))
+      (record { world = refl; painter = refl; damaged = λ line h. or-damaged _ _ h }, (u.text, (refl, (u.is_text, ap (λ n. Sent (record { bytes = n })) u.count)), record { taken = u.taken; flushes = u.flushes; flushed = u.flushed }))
 
   -- a doupdate sent a front of its text
   pub cut-ends : (old : ScreenOver W) (writer : W) (fault : WriteFault)

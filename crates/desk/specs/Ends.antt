@@ -9,8 +9,9 @@ use Rattle.streams.specs.declared.sending.WriteFault.{WriteFault}
 use Rattle.compose.specs.Calling.{MayRefuse}
 use Rattle.compose.specs.Desks.{world}
 use Rattle.world.specs.calls.Dispatch.{is_doupdate}
-use Rattle.desk.specs.States.{ScreenOver, after, state_of, wanted}
+use Rattle.desk.specs.States.{IsWithin, ScreenOver, after, state_of, wanted}
 use Rattle.desk.specs.Runs.{Outcome, AreShort, MayAnswer, Run, all_sent, cells_read, flushes_after, is_accepted, is_refused, state_at_end}
+use Rattle.desk.specs.Reads.{ReadsFew, with_acceptance}
 use Rattle.world.specs.declared.call.Call.{Call}
 use Rattle.world.specs.declared.call.Reply.{Reply}
 use Rattle.desk.specs.declared.screen.Fault.{Fault}
@@ -40,7 +41,7 @@ module _ {W : Type 0} (seen : W → Seen) where
   -- A doupdate sent a front of its text, and where that is all of it, tried a flush. What was shown last is unknown now, and nothing else
   -- changed.
   pub record IsCut (old new : ScreenOver W) (fault : WriteFault) : Type 0 where
-    pub state : state_of new ≡ record { world = world old.desk; painter = record old.painter { last = None } }
+    pub state : state_of new ≡ record (state_of old) { painter = record old.painter { last = None } }
     pub text : List ℕ
     pub is_text : IsUpdateText old.painter old.desk.virtual.clear (wanted (world old.desk)) text
     pub within : fault.sent ≤ length text
@@ -49,16 +50,17 @@ module _ {W : Type 0} (seen : W → Seen) where
 
   -- One call ended so.
   abbrev pub CallEnds : ScreenOver W → Call → Result Reply Fault → ScreenOver W → Type 0
-  CallEnds old call (Ok reply) new = (state_of new ≡ after (state_of old) call)
+  CallEnds old call (Ok reply) new = IsWithin (state_of new) (after (state_of old) call)
       × ((sent : List ℕ) × MayAnswer (state_of old) call (Ok reply) sent × Writes old new (call ∷ []) sent)
   CallEnds old call (Err (Refused e)) new = MayRefuse (world old.desk) call e × (new ≡ old)
   CallEnds old call (Err (Write fault)) new = (is_doupdate call ≡ true) × IsCut old new fault
 
-  -- These calls were made one after another, and had these outcomes. Each doupdate sent few bytes.
+  -- These calls were made one after another, and had these outcomes. Each doupdate sent few bytes, and the update_panels read few cells.
   pub record Makes (old : ScreenOver W) (calls : List Call) (outcomes : List Outcome) (new : ScreenOver W) : Type 0 where
     pub run : Run (state_of old) calls outcomes
     pub short : AreShort (state_of old) calls outcomes
-    pub state : state_of new ≡ state_at_end (state_of old) calls outcomes
+    pub reads : ReadsFew (state_of old) (with_acceptance calls outcomes) (sum_by cells_read outcomes)
+    pub state : IsWithin (state_of new) (state_at_end (state_of old) calls outcomes)
     pub writes : Writes old new calls (all_sent outcomes)
 
   -- The calls that are left are none, or begin with a doupdate whose text was cut short.
@@ -78,3 +80,4 @@ module _ {W : Type 0} (seen : W → Seen) where
     pub done : end.done ≡ count_by is_accepted outcomes
     pub refused : end.refused ≡ count_by is_refused outcomes
     pub composed : end.composed ≡ sum_by cells_read outcomes
+    pub reads : ReadsFew (state_of old) (with_acceptance made outcomes) end.composed

@@ -1,5 +1,6 @@
 pub mod States
 pub mod Runs
+pub mod Reads
 pub mod Ends
 pub mod Showing
 pub mod Methods

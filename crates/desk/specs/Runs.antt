@@ -22,7 +22,7 @@ pub record Outcome : Type 0 where
 abbrev pub MayReply : State → Call → Reply → List ℕ → Type 0
 MayReply s (calls.Refresh Doupdate) reply sent =
     IsUpdateText s.painter s.world.virtual.clear (wanted s.world) sent × (reply ≡ Sent (record { bytes = length sent }))
-MayReply s call reply sent = (sent ≡ []) × MayTell s.world call reply
+MayReply s call reply sent = (sent ≡ []) × MayTell s.world s.damaged call reply
 
 -- The call may answer this and send these bytes, while writes and flushes succeed. A refused call sends nothing.
 abbrev pub MayAnswer : State → Call → Result Reply Refusal → List ℕ → Type 0

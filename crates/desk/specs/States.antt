@@ -1,27 +1,37 @@
 -- A screen between two calls.
 -- X/Open Curses Issue 7: doupdate shows the virtual screen.
-use Rattle.std.specs.Prelude.{◌≡◌, Some, if◌then◌else◌}
+use Rattle.std.specs.Prelude.{◌≡◌, ℕ, Bool, true, Some, if◌then◌else◌}
 use Rattle.world.specs.World.{World}
+use Rattle.world.specs.calls.Affected.{affected_after}
 use Rattle.world.specs.calls.Dispatch.{is_doupdate, world_after}
 use Rattle.world.specs.declared.call.Call.{Call}
 use Rattle.paint.specs.Updates.{PainterState, ShownPicture}
-use Rattle.compose.specs.Desks.{DeskTable, world}
+use Rattle.compose.specs.Desks.{DeskTable, is_damaged_line, world}
 
--- its world, and what its painter knows
+-- its world, what its painter knows, and the lines of the screen that may be damaged: those that are to be composed
 pub record State : Type 0 where
   pub world : World
   pub painter : PainterState
+  pub damaged : ℕ → Bool
 
 -- the picture and the cursor that a doupdate shows
 abbrev pub wanted : World → ShownPicture
 wanted world = record { picture = world.virtual.picture; cursor = world.virtual.cursor }
 
--- The state after a call that was accepted. After a doupdate the painter knows what it showed.
+-- The state after a call that was accepted. After a doupdate the painter knows what it showed. No line is damaged after update_panels, and
+-- after another call no more than before and those that it affects.
 abbrev pub after : State → Call → State
 after s call = record {
   world = world_after s.world call;
   painter = (if is_doupdate call then record s.painter { last = Some (wanted s.world) } else s.painter);
+  damaged = affected_after s.world s.damaged call;
 }
+
+-- The first is the second, with no more lines damaged.
+pub record IsWithin (s t : State) : Type 0 where
+  pub world : s.world ≡ t.world
+  pub painter : s.painter ≡ t.painter
+  pub damaged : (line : ℕ) → s.damaged line ≡ true → t.damaged line ≡ true
 
 -- ---- a screen over a writer
 
@@ -32,7 +42,7 @@ pub record ScreenOver (W : Type 0) : Type 0 where
   pub writer : W
 
 abbrev pub state_of : {W : Type 0} → ScreenOver W → State
-state_of screen = record { world = world screen.desk; painter = screen.painter }
+state_of screen = record { world = world screen.desk; painter = screen.painter; damaged = is_damaged_line screen.desk }
 
 -- the screen keeps its size
 pub record KeepsSize (old new : DeskTable) : Type 0 where

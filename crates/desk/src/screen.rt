@@ -1,6 +1,6 @@
 //! A screen over a writer, and runs of calls on it.
 
-ghost use Rattle.std.specs.Prelude.{◌≡◌, ◌∷◌, [], IfOk, None, is_some, false, true};
+ghost use Rattle.std.specs.Prelude.{◌≡◌, ◌∷◌, ℕ, [], IfOk, None, is_some, false, true};
 ghost use Rattle.world.specs.calls.Making.{new_refusal};
 ghost use Rattle.cell.specs.Refusals.{RefusedBy};
 ghost use Rattle.world.specs.Sound.{IsSound};
@@ -8,7 +8,7 @@ ghost use Rattle.world.specs.World.{first_world};
 ghost use Rattle.world.specs.calls.Dispatch.{is_doupdate};
 ghost use Rattle.streams.specs.Counts.{counted};
 ghost use Rattle.paint.specs.Updates.{first_painter};
-ghost use Rattle.compose.specs.Desks.{world};
+ghost use Rattle.compose.specs.Desks.{is_damaged_line, world};
 ghost use Rattle.desk.specs.Runs.{cells_of_reply};
 ghost use Rattle.desk.specs.declared.screen.Fault.TheVariants.{Refused};
 
@@ -60,7 +60,8 @@ pub struct RunEnd {
     pub done: usize,
     /// How many calls were refused.
     pub refused: usize,
-    /// How many cells the calls of `update_panels` read.
+    /// How many cells the calls of `update_panels` read: as many at least as they changed, and at most the columns of the
+    /// lines that were damaged before or that calls affected since.
     pub composed: u128,
     /// The fault that ended the run before all calls were made.
     pub fault: Option<WriteFault>,
@@ -70,6 +71,7 @@ impl<W: Sink + Drop> Screen<W> {
     /// A blank screen of 1 to `LARGEST_SCREEN` lines and columns. Where it is refused, the writer is dropped.
     pub fn new(alloc: Global, lines: u16, cols: u16, writer: W) -> Result<Screen<W>, Refusal>
         ensures world { IfOk result (λ screen. world screen.desk ≡ first_world lines cols) }
+        ensures damage { IfOk result (λ screen. (line : ℕ) → is_damaged_line screen.desk line ≡ false) }
         ensures painter { IfOk result (λ screen. screen.painter ≡ first_painter lines cols) }
         ensures writer { IfOk result (λ screen. screen.writer ≡ writer) }
         ensures refused { RefusedBy (new_refusal lines cols) result }
@@ -200,7 +202,8 @@ impl<W: Sink> Screen<W> {
         }
     }
 
-    /// Makes the calls in order. It goes on after a refusal, and stops where a write or a flush fails.
+    /// Makes the calls in order. It goes on after a refusal, and stops where a write or a flush fails. Each `update_panels`
+    /// composes only lines that were damaged before the run, or that a call affected since the one before it.
     pub fn run(&mut self, calls: &[Call<'_>]) -> RunEnd
         ensures run { RunEnds W.seen self.old calls.now result self.new }
         ensures shown { RunShows W.seen self.old self.new calls.now result.fault }

@@ -1,0 +1,59 @@
+-- Calls that were made, and what they leave: none, one, and one list behind another.
+use Rattle.std.proofs.Common.{◌≡◌, ℕ, List, [], ◌∷◌, ◌++◌, Result, refl, sym, subst, append-nil}
+use Rattle.std.proofs.lemmas.Grind.{flat_map-append}
+use Rattle.cell.specs.declared.refusal.Refusal.{Refusal}
+use Rattle.streams.specs.Sinks.{Seen}
+use Rattle.desk.specs.States.{IsWithin, ScreenOver, State, state_of}
+use Rattle.desk.specs.Runs.{MayAnswer, Outcome, Run, all_sent, state_after, state_at_end}
+use Rattle.desk.specs.Ends.{Makes, Writes}
+use Rattle.desk.proofs.ReadLemmas.{reads-run}
+use Rattle.desk.proofs.Shortness.{short-run}
+use Rattle.desk.proofs.StateLemmas.{IsWithin-refl, IsWithin-trans, Run-within, state_at_end-within}
+use Rattle.desk.proofs.WriterLemmas.{Writes-nothing, Writes-trans}
+use Rattle.world.specs.declared.call.Call.{Call}
+use Rattle.world.specs.declared.call.Reply.{Reply}
+
+Run-append : (state : State) (calls more : List Call) (outcomes others : List Outcome) → Run state calls outcomes
+    → Run (state_at_end state calls outcomes) more others → Run state (calls ++ more) (outcomes ++ others)
+Run-append state [] more [] others run next = next
+Run-append state [] more (o ∷ os) others run next = absurd run
+Run-append state (c ∷ cs) more [] others run next = absurd run
+Run-append state (c ∷ cs) more (o ∷ os) others run next = (run.0, Run-append (state_after state c o.answer) cs more os others run.1 next)
+
+state_at_end-append : (state : State) (calls more : List Call) (outcomes others : List Outcome) → Run state calls outcomes
+    → state_at_end state (calls ++ more) (outcomes ++ others) ≡ state_at_end (state_at_end state calls outcomes) more others
+state_at_end-append state [] more [] others run = refl
+state_at_end-append state [] more (o ∷ os) others run = absurd run
+state_at_end-append state (c ∷ cs) more [] others run = absurd run
+state_at_end-append state (c ∷ cs) more (o ∷ os) others run = state_at_end-append (state_after state c o.answer) cs more os others run.1
+
+module _ {W : Type 0} (seen : W → Seen) where
+  -- what follows of a run
+  Makes-run : {old new : ScreenOver W} {calls : List Call} {outcomes : List Outcome} → Run (state_of old) calls outcomes
+      → IsWithin (state_of new) (state_at_end (state_of old) calls outcomes) → Writes seen old new calls (all_sent outcomes) → Makes seen old calls outcomes new
+  Makes-run {old} {new} {calls} {outcomes} run state writes = record {
+    run = run;
+    short = short-run (state_of old) calls outcomes run;
+    reads = reads-run (state_of old) calls outcomes run;
+    state = state;
+    writes = writes;
+  }
+
+  pub Makes-nothing : (old : ScreenOver W) → Makes seen old [] [] old
+  Makes-nothing old = Makes-run tt (IsWithin-refl (state_of old)) (Writes-nothing seen old)
+
+  -- one call was made, and had this outcome
+  pub Makes-one : (old new : ScreenOver W) (call : Call) (answer : Result Reply Refusal) (sent : List ℕ) → MayAnswer (state_of old) call answer sent
+      → IsWithin (state_of new) (state_after (state_of old) call answer) → Writes seen old new (call ∷ []) sent
+      → Makes seen old (call ∷ []) (record { answer = answer; sent = sent } ∷ []) new
+  Makes-one old new call answer sent may state writes =
+      Makes-run (may, tt) state (subst (Writes seen old new (call ∷ [])) (sym (append-nil sent)) writes)
+
+  pub Makes-append : {old mid new : ScreenOver W} {calls more : List Call} {outcomes others : List Outcome} → Makes seen old calls outcomes mid → Makes seen mid more others new
+      → Makes seen old (calls ++ more) (outcomes ++ others) new
+  Makes-append {old} {mid} {new} {calls} {more} {outcomes} {others} first second =
+      Makes-run (Run-append (state_of old) calls more outcomes others first.run (Run-within more others first.state second.run))
+      (subst (IsWithin (state_of new)) (sym (state_at_end-append (state_of old) calls more outcomes others first.run))
+      (IsWithin-trans second.state (state_at_end-within more others first.state)))
+      (subst (Writes seen old new (calls ++ more)) (sym (flat_map-append _ outcomes others))
+      (Writes-trans seen old mid new calls more (all_sent outcomes) (all_sent others) first.writes second.writes))

@@ -1,0 +1,104 @@
+-- States with more lines damaged: what may come of calls in one may come in the other.
+use Rattle.std.proofs.Common.{◌≡◌, ◌≤◌, ℕ, ◌||◌, if◌then◌else◌, Bool, true, false, cond, List, [], ◌∷◌, Result, Ok, Err, refl, sym, subst, ◌∙◌, arith}
+use Rattle.std.proofs.Math.Nat.{mul-le-mul_right}
+use Rattle.std.proofs.lemmas.List.Sums.{sum_by-le-sum_by}
+use Rattle.std.specs.List.{count_by, range_with_len}
+use Rattle.cell.specs.declared.refusal.Refusal.{Refusal}
+use Rattle.paint.specs.Updates.{PainterState}
+use Rattle.world.specs.World.{World}
+use Rattle.world.specs.calls.Affected.{affected_after, affected_lines}
+use Rattle.world.specs.calls.Dispatch.{is_update_panels}
+use Rattle.compose.specs.Calling.{MayRead}
+use Rattle.desk.specs.States.{IsWithin, ScreenOver, State, after, state_of}
+use Rattle.desk.specs.Runs.{MayAnswer, Outcome, Run, state_after, state_at_end}
+use Rattle.world.specs.declared.call.Call.{Call}
+use Rattle.world.specs.declared.call.Call.TheVariants as calls
+use Rattle.world.specs.declared.call.Refresh.TheVariants.{Noutrefresh, Pnoutrefresh, UpdatePanels, Doupdate, InitPair}
+use Rattle.world.specs.declared.call.Reply.{Reply}
+
+-- ---- lines
+
+-- the first lines are among the second
+abbrev pub AreAmong : (ℕ → Bool) → (ℕ → Bool) → Type 0
+AreAmong few more = (line : ℕ) → few line ≡ true → more line ≡ true
+
+after-among : (ends few more affected : Bool) → (few ≡ true → more ≡ true) → (if ends then false else few || affected) ≡ true → (if ends then false else more || affected) ≡ true
+after-among true few more affected h e = e
+after-among false true true affected h e = refl
+after-among false true false affected h e = let no : false ≡ true = h refl in cc
+after-among false false true affected h e = refl
+after-among false false false affected h e = e
+
+lines-among : (w : World) (few more : ℕ → Bool) (call : Call) → AreAmong few more → AreAmong (affected_after w few call) (affected_after w more call)
+lines-among w few more call h = λ line e. after-among (is_update_panels call) (few line) (more line) (affected_lines w call line) (h line) e
+
+bit-among : (few more : Bool) → (few ≡ true → more ≡ true) → cond few 1 0 ≤ cond more 1 0
+bit-among true true h = omega arith
+bit-among true false h = let no : false ≡ true = h refl in cc
+bit-among false true h = omega arith
+bit-among false false h = omega arith
+
+count-among : (few more : ℕ → Bool) → AreAmong few more → (xs : List ℕ) → count_by few xs ≤ count_by more xs
+count-among few more h xs = sum_by-le-sum_by (λ x. cond (few x) 1 0) (λ x. cond (more x) 1 0) xs (λ x. bit-among (few x) (more x) (h x))
+
+read-among : (w : World) (few more : ℕ → Bool) (cells : ℕ) → AreAmong few more → MayRead w few cells → MayRead w more cells
+read-among w few more cells h may =
+    let lines = mul-le-mul_right w.windows.columns (count-among few more h (range_with_len 0 w.windows.lines)) in
+    record { at_least = may.at_least; at_most = omega (arith, may.at_most, lines) }
+
+-- ---- states
+
+pub IsWithin-refl : (s : State) → IsWithin s s
+IsWithin-refl s = record { world = refl; painter = refl; damaged = λ line h. h }
+
+-- a screen that a refused call left as it was
+pub is-kept : {W : Type 0} {old new : ScreenOver W} → new ≡ old → IsWithin (state_of new) (state_of old)
+is-kept {old} same = subst (λ s. IsWithin (state_of s) (state_of old)) (sym same) (IsWithin-refl (state_of old))
+
+pub IsWithin-trans : {s t u : State} → IsWithin s t → IsWithin t u → IsWithin s u
+IsWithin-trans h k = record { world = h.world ∙ k.world; painter = h.painter ∙ k.painter; damaged = λ line e. k.damaged line (h.damaged line e) }
+
+-- A property of states that grows with the lines goes over.
+grows : (P : State → Type 0) → ((w : World) (painter : PainterState) (few more : ℕ → Bool) → AreAmong few more
+    → P (record { world = w; painter = painter; damaged = few }) → P (record { world = w; painter = painter; damaged = more })) → (s t : State) → IsWithin s t → P s → P t
+grows P step s t h p =
+    step t.world t.painter s.damaged t.damaged h.damaged (subst P (λ i. record { world = h.world i; painter = h.painter i; damaged = s.damaged }) p)
+
+answer-among : (w : World) (painter : PainterState) (few more : ℕ → Bool) (call : Call) (answer : Result Reply Refusal) (sent : List ℕ) → AreAmong few more
+    → MayAnswer (record { world = w; painter = painter; damaged = few }) call answer sent → MayAnswer (record { world = w; painter = painter; damaged = more }) call answer sent
+answer-among w painter few more call (Err e) sent h may = may
+answer-among w painter few more (calls.Making making) (Ok r) sent h may = may
+answer-among w painter few more (calls.Writing writing) (Ok r) sent h may = may
+answer-among w painter few more (calls.Copying copying) (Ok r) sent h may = may
+answer-among w painter few more (calls.Query query) (Ok r) sent h may = may
+answer-among w painter few more (calls.Stacking stacking) (Ok r) sent h may = may
+answer-among w painter few more (calls.Refresh (Noutrefresh win)) (Ok r) sent h may = may
+answer-among w painter few more (calls.Refresh (Pnoutrefresh pad pminrow pmincol sminrow smincol smaxrow smaxcol)) (Ok r) sent h may = may
+answer-among w painter few more (calls.Refresh UpdatePanels) (Ok r) sent h may = (may.0, (may.1.0, (may.1.1.0, read-among w few more may.1.1.0 h may.1.1.1, may.1.1.2)))
+answer-among w painter few more (calls.Refresh Doupdate) (Ok r) sent h may = may
+answer-among w painter few more (calls.Refresh (InitPair pair foreground background)) (Ok r) sent h may = may
+
+pub MayAnswer-within : {s t : State} (call : Call) (answer : Result Reply Refusal) (sent : List ℕ) → IsWithin s t → MayAnswer s call answer sent → MayAnswer t call answer sent
+MayAnswer-within {s} {t} call answer sent h may = grows (λ s. MayAnswer s call answer sent) (λ w painter few more. answer-among w painter few more call answer sent) s t h may
+
+pub state_after-within : {s t : State} (call : Call) (answer : Result Reply Refusal) → IsWithin s t → IsWithin (state_after s call answer) (state_after t call answer)
+state_after-within call (Err e) h = h
+state_after-within {s} {t} call (Ok reply) h =
+    grows (λ u. IsWithin (after s call) (after u call))
+    (λ w painter few more among k. IsWithin-trans k (record { world = refl; painter = refl; damaged = lines-among w few more call among }))
+    s t h (IsWithin-refl (after s call))
+
+pub state_at_end-within : {s t : State} (calls : List Call) (outcomes : List Outcome) → IsWithin s t → IsWithin (state_at_end s calls outcomes) (state_at_end t calls outcomes)
+state_at_end-within [] outcomes h = h
+state_at_end-within (c ∷ cs) [] h = h
+state_at_end-within {s = s} {t = t} (c ∷ cs) (o ∷ os) h =
+    state_at_end-within {s = state_after s c o.answer} {t = state_after t c o.answer} cs os (state_after-within c o.answer h)
+
+pub Run-within : {s t : State} (calls : List Call) (outcomes : List Outcome) → IsWithin s t → Run s calls outcomes → Run t calls outcomes
+Run-within [] [] h run = run
+Run-within [] (o ∷ os) h run = absurd run
+Run-within (c ∷ cs) [] h run = absurd run
+Run-within {s = s} {t = t} (c ∷ cs) (o ∷ os) h run = (
+  MayAnswer-within c o.answer o.sent h run.0,
+  Run-within {s = state_after s c o.answer} {t = state_after t c o.answer} cs os (state_after-within c o.answer h) run.1,
+)

@@ -1,0 +1,29 @@
+-- How many cells the update_panels of a run read. The run's calls are listed with whether each was accepted.
+-- X/Open Curses Issue 7 and NetBSD panel(3) say nothing of it: these bounds are Curspan's own.
+use Rattle.std.specs.Prelude.{ℕ, ◌+◌, ◌≤◌, if◌then◌else◌, List, [], ◌∷◌, Bool}
+use Rattle.cell.specs.Differences.{difference}
+use Rattle.world.specs.World.{World}
+use Rattle.world.specs.calls.Affected.{bound_on_reads}
+use Rattle.world.specs.calls.Dispatch.{is_update_panels, world_after}
+use Rattle.desk.specs.States.{State}
+use Rattle.desk.specs.Runs.{Outcome, is_accepted}
+use Rattle.world.specs.declared.call.Call.{Call}
+
+abbrev pub with_acceptance : List Call → List Outcome → List (Call × Bool)
+with_acceptance (call ∷ calls) (outcome ∷ outcomes) = (call, is_accepted outcome) ∷ with_acceptance calls outcomes
+with_acceptance _ _ = []
+
+-- how many places of the virtual screen an update_panels changes
+abbrev pub redrawn : World → Call → ℕ
+redrawn world call = if is_update_panels call then difference world.virtual.picture (world_after world call).virtual.picture else 0
+
+-- how many all update_panels of a run change
+abbrev pub redrawn_in_run : World → List (Call × Bool) → ℕ
+redrawn_in_run world [] = 0
+redrawn_in_run world (call ∷ calls) =
+    if call.1 then redrawn world call.0 + redrawn_in_run (world_after world call.0) calls else redrawn_in_run world calls
+
+-- The update_panels of a run read at least as many cells as they changed places, and at most as many as they owe.
+pub record ReadsFew (s : State) (calls : List (Call × Bool)) (cells : ℕ) : Type 0 where
+  pub at_least : redrawn_in_run s.world calls ≤ cells
+  pub at_most : cells ≤ bound_on_reads s.world s.damaged calls
