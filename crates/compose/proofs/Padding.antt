@@ -53,8 +53,8 @@ module _ (windows : Windows) (w py px top left bottom right : ℕ) (h : IsOfPad 
       let same : top + (y - top) ≡ y = omega (arith, from, t) in
       let down = h.down in
       let there : is_some (copywin_drawing windows.window w py px top left bottom right false (top + (y - top)) left) ≡ true =
-          ap (λ o. is_some o) (pad-piece windows w py px top left bottom right h (y - top) (omega (arith, from, to, t, b, down)) left inside)
-          ∙ of-piece (nat_le left left && nat_lt left (left + (right - left + 1))) (cell_at windows.window w (py + (y - top)) (px + (left - left)))
-          (and_from (nat_le left left) (nat_lt left (left + (right - left + 1))) (le-leb left left (omega arith)) (lt-ltb left (left + (right - left + 1)) (omega arith))) in
+      ap (λ o. is_some o) (pad-piece windows w py px top left bottom right h (y - top) (omega (arith, from, to, t, b, down)) left inside)
+      ∙ of-piece (nat_le left left && nat_lt left (left + (right - left + 1))) (cell_at windows.window w (py + (y - top)) (px + (left - left)))
+      (and_from (nat_le left left) (nat_lt left (left + (right - left + 1))) (le-leb left left (omega arith)) (lt-ltb left (left + (right - left + 1)) (omega arith))) in
       any_below-some windows.columns (λ u. is_some (copywin_drawing windows.window w py px top left bottom right false y u)) left inside
       (subst (λ k. is_some (copywin_drawing windows.window w py px top left bottom right false k left) ≡ true) same there)

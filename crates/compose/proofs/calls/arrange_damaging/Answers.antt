@@ -46,21 +46,21 @@ returns-clause-damaged c =
     let are : panels c.arrange.new.stack ≡ panels_after ps s = c.in_ok-reply.ensures.panels in
     let changed = c.changed_panel.ensures ps c.in_ok-reply.ensures.reply in
     let shows : (y x : ℕ) → stacking_shows ws ps s y x ≡ (part_holds before y x || part_holds after y x) = λ y x.
-        let was : part_holds before y x ≡ option_map_or (λ p. panel_shows_at ws.window ps p y x) (named_panel s) false =
-            c.part_of-before.ensures.holds y x ∙ ap (λ o. option_map_or (λ p. panel_shows_at ws.window ps p y x) o false) c.named_panel.ensures in
-        let will : part_holds after y x ≡ option_map_or (λ p. panel_shows_at (windows_after ws ps s).window (panels_after ps s) p y x) (changed_panel ps s) false =
-            c.part_of-after.ensures.holds y x ∙ (λ i. option_map_or (λ p. panel_shows_at (is i).window (are i) p y x) (changed i) false) in
-        both-parts ps s (λ p. panel_shows_at ws.window ps p y x) (λ p. panel_shows_at (windows_after ws ps s).window (panels_after ps s) p y x)
-        (λ p new_is. ap (λ b. b && panel_holds ws.window ps y x p) (new-hidden ps p c.requires.panels.visible new_is))
-        ∙ sym (λ i. was i || will i) in
+    let was : part_holds before y x ≡ option_map_or (λ p. panel_shows_at ws.window ps p y x) (named_panel s) false =
+    c.part_of-before.ensures.holds y x ∙ ap (λ o. option_map_or (λ p. panel_shows_at ws.window ps p y x) o false) c.named_panel.ensures in
+    let will : part_holds after y x ≡ option_map_or (λ p. panel_shows_at (windows_after ws ps s).window (panels_after ps s) p y x) (changed_panel ps s) false =
+    c.part_of-after.ensures.holds y x ∙ (λ i. option_map_or (λ p. panel_shows_at (is i).window (are i) p y x) (changed i) false) in
+    both-parts ps s (λ p. panel_shows_at ws.window ps p y x) (λ p. panel_shows_at (windows_after ws ps s).window (panels_after ps s) p y x)
+    (λ p new_is. ap (λ b. b && panel_holds ws.window ps y x p) (new-hidden ps p c.requires.panels.visible new_is))
+    ∙ sym (λ i. was i || will i) in
     let lines : (y : ℕ) → stacking_has_line ws ps s y ≡ (part_has_line before y || part_has_line after y) = λ y.
-        let was : part_has_line before y ≡ option_map_or (λ p. panel_has_line ws.window ps p y) (named_panel s) false =
-            c.part_of-before.ensures.lines y ∙ ap (λ o. option_map_or (λ p. panel_has_line ws.window ps p y) o false) c.named_panel.ensures in
-        let will : part_has_line after y ≡ option_map_or (λ p. panel_has_line (windows_after ws ps s).window (panels_after ps s) p y) (changed_panel ps s) false =
-            c.part_of-after.ensures.lines y ∙ (λ i. option_map_or (λ p. panel_has_line (is i).window (are i) p y) (changed i) false) in
-        both-parts ps s (λ p. panel_has_line ws.window ps p y) (λ p. panel_has_line (windows_after ws ps s).window (panels_after ps s) p y)
-        (λ p new_is. ap (λ b. b && option_map_or (has_line y) (ws.window (window_or_standard ps (Some p))) false) (new-hidden ps p c.requires.panels.visible new_is))
-        ∙ sym (λ i. was i || will i) in
+    let was : part_has_line before y ≡ option_map_or (λ p. panel_has_line ws.window ps p y) (named_panel s) false =
+    c.part_of-before.ensures.lines y ∙ ap (λ o. option_map_or (λ p. panel_has_line ws.window ps p y) o false) c.named_panel.ensures in
+    let will : part_has_line after y ≡ option_map_or (λ p. panel_has_line (windows_after ws ps s).window (panels_after ps s) p y) (changed_panel ps s) false =
+    c.part_of-after.ensures.lines y ∙ (λ i. option_map_or (λ p. panel_has_line (is i).window (are i) p y) (changed i) false) in
+    both-parts ps s (λ p. panel_has_line ws.window ps p y) (λ p. panel_has_line (windows_after ws ps s).window (panels_after ps s) p y)
+    (λ p new_is. ap (λ b. b && option_map_or (has_line y) (ws.window (window_or_standard ps (Some p))) false) (new-hidden ps p c.requires.panels.visible new_is))
+    ∙ sym (λ i. was i || will i) in
     damages-as t.columns (λ y x. part_holds before y x || part_holds after y x) (stacking_shows ws ps s) (λ y. part_has_line before y || part_has_line after y) (stacking_has_line ws ps s)
     a.damage.now c.damage_part-2.new.damage
     (damages-then t.columns (part_holds before) (part_holds after) (part_has_line before) (part_has_line after) a.damage.now c.damage_part.new.damage c.damage_part-2.new.damage

@@ -45,14 +45,17 @@ lend-cells-requires g c =
     let counted = c.loop-x.invariant.counted in
     let few = c.requires.few in
     let begun = c.loop-x.invariant.from in
-    λ k. ((refl, record {}), (
-      omega (arith, left, further),
+    λ k. (
+      (refl, record {}),
       (
-        rw (top, from) (held-place (g.R.Rows.windows c.loop-x.rows).window span.result.win.0 a.y (end - 1)
-        (span.ensures.holds (end - 1) (omega (arith, further)) (omega (arith, further)))),
-        omega (arith, left, further, within, counted, few, begun)
-      )
-    ))
+        omega (arith, left, further),
+        (
+          rw (top, from) (held-place (g.R.Rows.windows c.loop-x.rows).window span.result.win.0 a.y (end - 1)
+              (span.ensures.holds (end - 1) (omega (arith, further)) (omega (arith, further)))),
+          omega (arith, left, further, within, counted, few, begun),
+        ),
+      ),
+    )
 
 pub loop-x-preserved : goal.loop-x-preserved
 loop-x-preserved g c =
@@ -75,18 +78,18 @@ loop-x-preserved g c =
     let n = end - 1 - rect.left - (x - rect.left) + 1 in
     let size : n ≡ end - x = omega (arith, left, further) in
     let piece : IsPiece window win (a.y - rect.top) (x - rect.left) n cells
-        = subst (λ (ws : Windows). IsPiece ws.window win (a.y - rect.top) (x - rect.left) n cells) kept c.lend-cells.ensures.piece in
+    = subst (λ (ws : Windows). IsPiece ws.window win (a.y - rect.top) (x - rect.left) n cells) kept c.lend-cells.ensures.piece in
     let behind : x + length cells ≡ end = let number = piece.number in omega (arith, number, size, further) in
     let f : ℕ → Shown = λ u. shown a.pairs.now (found_from_top window (panels a.stack.now) a.y u) in
     let h : ℕ → Shown = λ u. shown a.pairs.now (slice_index_or cells (u - x) blank) in
     let held : holds window win a.y x ≡ true = subst (λ (ws : Windows). holds ws.window win a.y x ≡ true) kept (span.ensures.holds x (omega arith) further) in
     let placed : (rect.top, rect.left) ≡ place_of window win = subst (λ (ws : Windows). (rect.top, rect.left) ≡ place_of ws.window win) kept c.rect-rect.ensures.place in
     let same : (u : ℕ) → x ≤ u → u < x + length cells → h u ≡ f u = λ u from before.
-        let inside : u < end = omega (arith, before, behind) in
-        ap (shown a.pairs.now) (
-        piece.each (u - x) (omega (arith, from, inside, size))
-        ∙ span-cell window (panels a.stack.now) win a.y x u (rect.top, rect.left) placed held from
-        (subst (λ (ws : Windows). win ≡ window_or_standard (panels a.stack.now) (owner ws.window (panels a.stack.now) a.y u)) kept (span.ensures.owner u from inside))) in
+    let inside : u < end = omega (arith, before, behind) in
+    ap (shown a.pairs.now) (
+    piece.each (u - x) (omega (arith, from, inside, size))
+    ∙ span-cell window (panels a.stack.now) win a.y x u (rect.top, rect.left) placed held from
+    (subst (λ (ws : Windows). win ≡ window_or_standard (panels a.stack.now) (owner ws.window (panels a.stack.now) a.y u)) kept (span.ensures.owner u from inside))) in
     record {
       from = omega (arith, begun, further);
       within = within;

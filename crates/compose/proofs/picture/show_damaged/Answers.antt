@@ -29,16 +29,28 @@ compose_row-requires c κs =
     let all = c.requires.lines in
     let read = h.read in
     let below : y < t.lines = omega (arith, test, all) in
-    let fits = fits-more t.lines t.columns c.args.damage.now c.requires.within c.requires.windows.few_lines c.requires.windows.few_columns y r below is in
-    ((refl, record {}), (
-      subst AreSoundWindows (sym known) c.requires.windows,
-      (subst (λ (ws : Windows). AreSoundPanels ws.window (panels c.args.stack.now)) (sym known) c.requires.panels,
-      (omega (arith, below, lines),
-      (within.0,
-      (omega (arith, last, columns),
-      (omega (arith, fits, read),
-      subst (λ (n : ℕ). HasSize n c.loop-y.rows.table.now.columns c.loop-y.picture) (sym lines) (subst (λ (n : ℕ). HasSize t.lines n c.loop-y.picture) (sym columns) h.composed.above.size))))))
-    ))
+    let fits = fits-more t.lines t.columns c.args.damage.now c.requires.within c.requires.windows.few_lines c.requires.windows.few_columns y r below is in (
+      (refl, record {}),
+      (
+        subst AreSoundWindows (sym known) c.requires.windows,
+        (
+          subst (λ (ws : Windows). AreSoundPanels ws.window (panels c.args.stack.now)) (sym known) c.requires.panels,
+          (
+            omega (arith, below, lines),
+            (
+              within.0,
+              (
+                omega (arith, last, columns),
+                (
+                  omega (arith, fits, read),
+                  subst (λ (n : ℕ). HasSize n c.loop-y.rows.table.now.columns c.loop-y.picture) (sym lines) (subst (λ (n : ℕ). HasSize t.lines n c.loop-y.picture) (sym columns) h.composed.above.size),
+                ),
+              ),
+            ),
+          ),
+        ),
+      ),
+    )
 
 pub loop-y-preserved : goal.loop-y-preserved
 loop-y-preserved c =

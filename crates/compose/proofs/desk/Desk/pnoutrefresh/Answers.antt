@@ -49,7 +49,7 @@ damages c =
     let t = c.self.inside.windows.table in
     let frame : Frame = record { top = a.sminrow; left = a.smincol; bottom = a.smaxrow; right = a.smaxcol } in
     let of : IsOfPad (windows t) a.pad.0 a.pminrow a.pmincol a.sminrow a.smincol a.smaxrow a.smaxcol =
-        of-pad (windows t) a.pad.0 a.pminrow a.pmincol a.sminrow a.smincol a.smaxrow a.smaxcol c.self.invariant.sound.windows (accepted c) in
+    of-pad (windows t) a.pad.0 a.pminrow a.pmincol a.sminrow a.smincol a.smaxrow a.smaxcol c.self.invariant.sound.windows (accepted c) in
     damages-as t.columns (part_holds (Some frame)) (λ y x. is_some (drawing c y x)) (part_has_line (Some frame)) (draws_on_line t.columns (drawing c)) c.self.inside.damage c.damage_part.new.damage
     (c.damage_part.ensures.damaged t.columns of.on_column)
     (λ y x below inside is. pad-covers (windows t) a.pad.0 a.pminrow a.pmincol a.sminrow a.smincol a.smaxrow a.smaxcol of frame y x refl refl refl refl inside is)

@@ -39,10 +39,10 @@ invariant_of-self c =
     let composed = standard_screen ∷ windows_from_top ps in
     let unmarked = c.unmark_composed.ensures.unmarked in
     let found : (y x : ℕ) → found_from_top (windows t).window ps y x ≡ found_from_top (windows c.unmark_composed.new.table).window ps y x = λ y x.
-        sym (ap (λ (ws : Windows). found_from_top ws.window ps y x) unmarked ∙ found-unmarked (windows t).window composed ps y x) in
+    sym (ap (λ (ws : Windows). found_from_top ws.window ps y x) unmarked ∙ found-unmarked (windows t).window composed ps y x) in
     let shown_now : c.show_damaged-cells.new.picture ≡ picture_of c.unmark_composed.new.table.lines c.unmark_composed.new.table.columns (picture (world (new_desk c))) =
-        c.show_damaged-cells.ensures.shown
-        ∙ (λ i. picture_of (sym (ap (λ (ws : Windows). ws.lines) unmarked) i) (sym (ap (λ (ws : Windows). ws.columns) unmarked) i) (λ y x. shown d.pairs (found y x i))) in
+    c.show_damaged-cells.ensures.shown
+    ∙ (λ i. picture_of (sym (ap (λ (ws : Windows). ws.lines) unmarked) i) (sym (ap (λ (ws : Windows). ws.columns) unmarked) i) (λ y x. shown d.pairs (found y x i))) in
     record {
       sound = IsSound-composed t c.unmark_composed.new.table d.stack d.pairs (record { picture = d.picture; cursor = d.cursor; clear = d.clear }) c.show_damaged-cells.new.picture
           (λ y x. shown d.pairs (found_from_top (windows t).window ps y x)) c.wanted_cursor-self-inside.result _ composed
@@ -58,6 +58,9 @@ returns c =
     let cells = c.show_damaged-cells.result in
     let old = old_desk c in
     let now = c.self.view_is in
-    let may : MayRead (world old) (is_damaged_line old) cells = may-read old c.self.invariant cells c.show_damaged-cells.ensures.read in
-    (refl, (cells, subst (λ (t : DeskTable). MayRead (world t) (is_damaged_line t) cells) now may, refl), subst (λ (t : DeskTable). world (new_desk c) ≡ after_update_panels (world t)) now (left c),
-        λ line is. none-damaged old (new_desk c) c.show_damaged-cells.ensures.none line is)
+    let may : MayRead (world old) (is_damaged_line old) cells = may-read old c.self.invariant cells c.show_damaged-cells.ensures.read in (
+      refl,
+      (cells, subst (λ (t : DeskTable). MayRead (world t) (is_damaged_line t) cells) now may, refl),
+      subst (λ (t : DeskTable). world (new_desk c) ≡ after_update_panels (world t)) now (left c),
+      λ line is. none-damaged old (new_desk c) c.show_damaged-cells.ensures.none line is,
+    )
