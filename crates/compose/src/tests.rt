@@ -1,8 +1,8 @@
 use crate::Desk;
-use cell::{Refusal, WinId};
+use cell::WinId;
 use std::alloc::Global;
 use std::test::Fail;
-use world::{Call, Composed, Making, PanelId, Reply, Stacking, Writing};
+use world::{Call, Composed, Making, PanelId, Reply, Writing};
 
 const SCREEN: WinId = WinId(0);
 
@@ -77,70 +77,16 @@ fn panels_cover_what_is_below_them(rt: HostRuntime) -> Result<(), Fail> {
         b"abb ".as_slice()
     );
     assert_eq!(rt; desk.wanted_cursor(), (0, 2));
-    assert_eq!(rt;
-        [
-            desk.top_panel(first),
-            desk.bottom_panel(first),
-            desk.show_panel(first),
-        ],
-        [Ok(()), Ok(()), Ok(())]
-    );
+    desk.bottom_panel(second)?;
+    desk.move_panel(first, 0, 2)?;
+    assert_eq!(rt; found(&desk, rt.alloc())?.as_slice(), b" baa".as_slice());
+    desk.hide_panel(first)?;
+    desk.del_panel(first)?;
+    desk.replace_panel(second, WinId(1))?;
     assert_eq!(rt;
         composed(&mut desk, rt.alloc())?.as_slice(),
-        b"aab ".as_slice()
+        b"  aa".as_slice()
     );
-    assert_eq!(rt;
-        [desk.hide_panel(first), desk.hide_panel(first)],
-        [Ok(()), Err(Refusal::Hidden)]
-    );
-    assert_eq!(rt;
-        composed(&mut desk, rt.alloc())?.as_slice(),
-        b" bb ".as_slice()
-    );
-    assert_eq!(rt; desk.replace_panel(second, WinId(1)), Err(Refusal::InPanel));
-    assert_eq!(rt;
-        [
-            desk.del_panel(first),
-            desk.replace_panel(second, WinId(1)),
-            desk.del_panel(first),
-        ],
-        [Ok(()), Ok(()), Err(Refusal::NoSuchPanel)]
-    );
-    assert_eq!(rt;
-        composed(&mut desk, rt.alloc())?.as_slice(),
-        b"aa  ".as_slice()
-    );
-    assert_eq!(rt; desk.new_panel(WinId(0)), Err(Refusal::StandardScreen));
-    Ok(())
-}
-
-#[test]
-fn a_desk_makes_calls_on_panels_as_data(rt: HostRuntime) -> Result<(), Fail> {
-    let mut desk = Desk::new(rt.alloc(), 1, 4)?;
-    let first = panel(&mut desk, 0, b'a')?;
-    let second = panel(&mut desk, 1, b'b')?;
-    let calls = [
-        Stacking::MovePanel {
-            panel: second,
-            y: 0,
-            x: 2,
-        },
-        Stacking::PanelAbove { panel: Some(first) },
-        Stacking::PanelWindow { panel: second },
-    ];
-    let replies = [
-        Reply::Nothing,
-        Reply::Panel(Some(second)),
-        Reply::Number(WinId(2)),
-    ];
-    for (call, reply) in calls.into_iter().zip(replies) {
-        assert_eq!(rt; desk.call(&Call::Stacking(call)), Ok(reply));
-    }
-    assert_eq!(rt; found(&desk, rt.alloc())?.as_slice(), b"aabb".as_slice());
-    assert_eq!(rt;
-        [desk.panel_below(None), desk.panel_below(Some(first))],
-        [Ok(Some(second)), Ok(None)]
-    );
-    assert_eq!(rt; desk.panel_hidden(first), Ok(false));
+    assert_eq!(rt; desk.panel_window(second), Ok(WinId(1)));
     Ok(())
 }

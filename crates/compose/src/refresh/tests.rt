@@ -1,5 +1,5 @@
 use crate::Desk;
-use cell::{Refusal, WinId};
+use cell::WinId;
 use std::alloc::Global;
 use std::test::Fail;
 use world::{Call, Making, Refresh, Reply, Writing};
@@ -50,14 +50,6 @@ fn touched_cells_of_a_window_are_taken(rt: HostRuntime) -> Result<(), Fail> {
         (desk.wanted_cursor(), desk.clear_wanted()),
         ((1, 3), false)
     );
-    desk.call(&Call::Writing(Writing::Clear { win }))?;
-    write(&mut desk, win, 0, 1, b"a".as_slice())?;
-    desk.call(&Call::Refresh(Refresh::Noutrefresh { win }))?;
-    assert_eq!(rt;
-        shown(&desk, rt.alloc())?.as_slice(),
-        b"       a  ".as_slice()
-    );
-    assert_eq!(rt; (desk.wanted_cursor(), desk.clear_wanted()), ((1, 3), true));
     Ok(())
 }
 
@@ -83,14 +75,6 @@ fn a_rectangle_of_a_pad_is_taken(rt: HostRuntime) -> Result<(), Fail> {
     assert_eq!(rt;
         shown(&desk, rt.alloc())?.as_slice(),
         b"     end  ".as_slice()
-    );
-    assert_eq!(rt; desk.wanted_cursor(), (0, 0));
-    assert_eq!(rt;
-        [
-            desk.pnoutrefresh(pad, 5, 18, 0, 0, 0, 2),
-            desk.wnoutrefresh(pad),
-        ],
-        [Err(Refusal::OutsideWindow), Err(Refusal::IsPad)]
     );
     Ok(())
 }
