@@ -1,5 +1,5 @@
 -- A picture that was written, or could not be.
-use Rattle.std.proofs.Common.{◌≡◌, ℕ, false, Option, Some, None, inl, inr}
+use Rattle.std.proofs.Common.{◌≡◌, ℕ, false, true, Option, Some, None, inl, inr}
 use Rattle.std.specs.Prelude.{is_some, MatchOption}
 use Rattle.streams.specs.Sinks.{Seen}
 use Rattle.world.specs.World.{World}
@@ -23,3 +23,12 @@ Prints-failed end world told old new status none failed output log = without _ e
 pub Prints-written : (end : ScriptEnd) (world : World) (told : Seen) (old new : Outputs) (status : ℕ) → is_some end.fault ≡ false → status ≡ status_of end
     → IsWritten old.output new.output (picture_text world) → new.log ≡ told → Prints end world told old new status
 Prints-written end world told old new status none is output log = without _ end.fault none (inl (is, output, log))
+
+of-some : {X : Type 0} (A : Type 0) (B : X → Type 0) (o : Option X) → is_some o ≡ true → ((x : X) → B x) → MatchOption o A B
+of-some A B None some h = cc
+of-some A B (Some x) some h = h x
+
+-- Behind a script with a fault nothing is printed, and the log has nothing more.
+pub Prints-nothing : (end : ScriptEnd) (world : World) (told : Seen) (old new : Outputs) (status : ℕ) → is_some end.fault ≡ true → status ≡ status_of end
+    → new.output ≡ old.output → new.log ≡ told → Prints end world told old new status
+Prints-nothing end world told old new status some is output log = of-some _ _ end.fault some (λ fault. (is, output, log))

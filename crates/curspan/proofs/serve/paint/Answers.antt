@@ -1,6 +1,6 @@
-use Rattle.std.proofs.Common.{◌≡◌, false, Some, ap, inr, refl, subst, sym, ◌∙◌}
+use Rattle.std.proofs.Common.{◌≡◌, false, true, Some, ap, inr, refl, subst, sym, ◌∙◌}
 use Rattle.std.specs.Prelude.{is_some}
-use Rattle.curspan.proofs.PictureLemmas.{Prints-failed, Prints-written}
+use Rattle.curspan.proofs.PictureLemmas.{Prints-failed, Prints-nothing, Prints-written}
 use Rattle.compose.specs.Desks.{world}
 use Rattle.world.specs.World.{World}
 use Rattle.cell.specs.Shown.{no_rendition}
@@ -48,4 +48,23 @@ returns-then-print_desk-clause-painted g c =
       prints = Prints-written c.run_told-end.result (world c.run_told-end.new.screen.desk) (g.L.Sink.seen c.run_told-end.new.log)
           (outputs (g.O.Sink.seen c.args.out.now) (g.L.Sink.seen c.args.log.now)) (outputs (g.O.Sink.seen c.print_desk.new.out) (g.L.Sink.seen c.run_told-end.new.log))
           c.status_of-then-print_desk.result fault c.status_of-then-print_desk.ensures.status written refl;
+    })
+
+pub returns-then-is_some-clause-painted : goal.returns-then-is_some-clause-painted
+returns-then-is_some-clause-painted g c =
+    let fault : is_some c.run_told-end.result.fault ≡ true = sym c.is_some.ensures ∙ c.if-is_some.true in
+    inr (record {
+      last = c.run_told-end.new.screen;
+      end = c.run_told-end.result;
+      told = g.L.Sink.seen c.run_told-end.new.log;
+      script = record {
+        first = c.in-Ok.screen;
+        blank = c.in-Ok.ensures.world;
+        unpainted = c.in-Ok.ensures.painter;
+        over = c.in-Ok.ensures.writer;
+        runs = c.run_told-end.ensures.ran;
+      };
+      prints = Prints-nothing c.run_told-end.result (world c.run_told-end.new.screen.desk) (g.L.Sink.seen c.run_told-end.new.log)
+          (outputs (g.O.Sink.seen c.args.out.now) (g.L.Sink.seen c.args.log.now)) (outputs (g.O.Sink.seen c.args.out.now) (g.L.Sink.seen c.run_told-end.new.log))
+          c.status_of.result fault c.status_of.ensures.status refl refl;
     })
