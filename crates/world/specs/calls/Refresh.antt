@@ -1,7 +1,7 @@
 -- The calls that make the virtual screen and show it, and the one that sets how cells of a pair are shown.
 -- X/Open Curses Issue 7: wnoutrefresh, pnoutrefresh, doupdate, init_pair. NetBSD panel(3): update_panels. The order of the tests is
 -- Curspan's own choice.
-use Rattle.std.specs.Prelude.{◌≡◌, ℕ, ◌+◌, ◌-◌, ◌*◌, Bool, false, if◌then◌else◌, ◌==◌, ◌&&◌, ◌||◌, not, nat_lt, nat_le, Option, Some, None, List, [], ◌∷◌, slice_set}
+use Rattle.std.specs.Prelude.{ℕ, ◌+◌, ◌-◌, Bool, false, if◌then◌else◌, ◌==◌, ◌&&◌, ◌||◌, not, nat_lt, nat_le, Option, Some, None, List, [], ◌∷◌, slice_set}
 use Rattle.std.specs.List.{list_any}
 use Rattle.std.specs.Option.{option_map, option_map_or}
 use Rattle.cell.specs.Pictures.{Picture, Place, picture_of, shown_at}
@@ -109,10 +109,6 @@ after_update_panels world = record world {
     clear = world.virtual.clear || list_any (asks_for_clear world.windows.window) (composed_windows world);
   };
 }
-
--- it may read so many cells for that: all of the screen
-abbrev pub MayRead : World → ℕ → Type 0
-MayRead world cells = cells ≡ world.windows.lines * world.windows.columns
 
 -- ---- doupdate that succeeded: the terminal needn't be cleared any more
 abbrev pub after_doupdate : World → World
