@@ -14,6 +14,7 @@ use Rattle.curspan.specs.declared.asked.Kind.TheVariants.{Run, Paint, Show}
 abbrev pub size_rule : Text → Rule
 size_rule name = record (new_rule name) {
   long = Some name;
+  value_names = 1;
   required = true;
   action = Some Set;
   parser = Some (parsers.Signed (pos 1) (pos LARGEST_SCREEN));
@@ -23,9 +24,9 @@ size_rule name = record (new_rule name) {
 abbrev pub mode : Text → App
 mode name = with_rule (with_rule (new_app name) (size_rule (codes "lines"))) (size_rule (codes "cols"))
 
--- a command that is nothing without a subcommand
+-- a command that has a version and is nothing without a subcommand
 abbrev pub demanding : App → App
-demanding a = record { top = record a.top { subcommand_required = true }; subs = a.subs }
+demanding a = record { top = record a.top { has_version = true; subcommand_required = true }; subs = a.subs }
 
 abbrev pub bare : App
 bare = demanding (new_app (codes "curspan"))

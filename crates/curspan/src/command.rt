@@ -5,7 +5,7 @@ ghost use Rattle.clap.specs.Words.{FailsBy, app_of, fault_of, found_of, rows_of,
 ghost use Rattle.clap.specs.declared.builder.command.Command.TheViews.{out-Command};
 ghost use Rattle.curspan.specs.declared.asked.Job.{Job};
 ghost use Rattle.curspan.specs.declared.asked.Kind.{Kind};
-ghost use Rattle.curspan.specs.CommandLine.{Asks, AsksIn, ReadsNone, ReadsNumber, curspan, kind_text, mode, size_rule};
+ghost use Rattle.curspan.specs.CommandLine.{Asks, AsksIn, ReadsNone, ReadsNumber, bare, curspan, kind_text, mode, size_rule};
 
 use crate::asked::{Job, Kind};
 use cell::LARGEST_SCREEN;
@@ -14,36 +14,73 @@ use clap::{Arg, ArgAction, ArgMatches, Command, Error};
 use std::alloc::{AllocError, Global};
 use std::convert::AsStr;
 
+/// The version of the program.
+const VERSION: &str = "0.1.0";
+
+/// What stands below the help of the program.
+const EXAMPLE: &str = "\
+A script has a call a line, and stands on standard input, as the terminal bytes do for show.
+`man curspan` tells the calls.
+
+Example:
+  printf 'addstr 0 hi\\nupdate_panels\\ndoupdate\\n' | curspan run --lines 24 --cols 80";
+
 /// An option for a number of lines or columns of a screen.
-fn size(alloc: Global, name: &str) -> Arg<'_>
+fn size<'a>(alloc: Global, name: &'a str, help: &'a str) -> Arg<'a>
     ensures rule { rule_of result ≡ size_rule name.entry.now }
     ensures local { result.global ≡ false }
 {
     Arg::new(alloc, name)
         .long(name)
+        .value_name("N")
+        .help(help)
         .required(true)
         .action(ArgAction::Set)
         .value_parser(clap::value_parser!(u16).range(1..=i64::from(LARGEST_SCREEN)))
 }
 
 /// A subcommand that needs a size.
-fn subcommand<'a>(alloc: Global, name: &'a str) -> Result<Command<'a>, AllocError>
+fn subcommand<'a>(alloc: Global, name: &'a str, about: &'a str) -> Result<Command<'a>, AllocError>
     ensures mode { IfOk result (λ c. app_of c ≡ mode name.entry.now) }
     ensures local { IfOk result (λ c. (out-Command c).has_globals ≡ false) }
 {
     Command::new(alloc, name)
-        .arg(size(alloc, "lines"))?
-        .arg(size(alloc, "cols"))
+        .about(about)
+        .arg(size(alloc, "lines", "Lines of the screen, 1 to 999"))?
+        .arg(size(alloc, "cols", "Columns of the screen, 1 to 999"))
+}
+
+/// The program without its subcommands.
+fn program<'a>(alloc: Global) -> Command<'a>
+    ensures app { app_of result ≡ bare }
+    ensures local { (out-Command result).has_globals ≡ false }
+{
+    Command::new(alloc, "curspan")
+        .about("Run scripts of curses window calls")
+        .version(VERSION)
+        .after_help(EXAMPLE)
+        .subcommand_required(true)
 }
 
 fn command<'a>(alloc: Global) -> Result<Command<'a>, AllocError>
     ensures { IfOk result (λ c. app_of c ≡ curspan) }
 {
-    let run = subcommand(alloc, "run")?;
-    let paint = subcommand(alloc, "paint")?;
-    let show = subcommand(alloc, "show")?;
-    Command::new(alloc, "curspan")
-        .subcommand_required(true)
+    let run = subcommand(
+        alloc,
+        "run",
+        "Run the script on standard input, and send the terminal bytes",
+    )?;
+    let paint = subcommand(
+        alloc,
+        "paint",
+        "Run the script on standard input, and print the picture that it leaves",
+    )?;
+    let show = subcommand(
+        alloc,
+        "show",
+        "Print the picture that terminal bytes on standard input leave",
+    )?;
+    program(alloc)
         .subcommand(run)?
         .subcommand(paint)?
         .subcommand(show)
