@@ -1,5 +1,5 @@
 -- A line is gathered a byte at a time.
-use Rattle.std.proofs.Common.{◌≡◌, ℕ, ◌≤◌, ◌<◌, true, false, ◌==◌, List, [], ◌∷◌, ◌++◌, length, refl, sym, ap, ◌∙◌, arith, append_assoc, append-nil}
+use Rattle.std.proofs.Common.{◌≡◌, ℕ, ◌≤◌, ◌<◌, true, false, ◌==◌, List, [], ◌∷◌, ◌++◌, length, refl, sym, ap, ◌∙◌, arith, append_assoc, append-nil, length-append}
 use Rattle.std.specs.Io.KnownBytes.{Consumes}
 use Rattle.std.proofs.KnownBytes.{Consumes-nil, Consumes-trans}
 use Rattle.std.proofs.lemmas.List.Folds.{list_any-append}
@@ -7,7 +7,9 @@ use Rattle.std.proofs.lemmas.Bool.Decides.{nat_tests}
 use Rattle.script.specs.Characters.{is_newline, newline}
 use Rattle.script.specs.declared.limits.TheConstants.{LONGEST_LINE}
 use Rattle.streams.specs.Sources.{SourceSeen}
-use Rattle.script.specs.steps.Bytes.{HasNoNewline, ReadsByte, ReadsLine}
+use Rattle.script.specs.steps.Bytes.{EndsLine, HasNoNewline, ReadsByte, ReadsLine, ReadsToEnd, ReadsWhole}
+use Rattle.script.specs.declared.bytes.LineEnd.{LineEnd}
+use Rattle.script.specs.declared.bytes.LineEnd.TheVariants.{Newline, ScriptEnd, ReadFailed}
 use Rattle.script.specs.declared.bytes.Next.TheVariants.{Byte, End, Failed}
 use Rattle.script.specs.declared.bytes.LineRead.TheVariants.{Line, LastLine, TooLong, FailedRead}
 
@@ -101,3 +103,104 @@ gathered_failed old mid new unused left rest line g n h = record {
   no_newline = g.no_newline;
   at_end = λ e. cc;
 }
+
+-- ---- a line of any length
+
+-- The bytes so far are a beginning of some line.
+pub record Skipped (old new : SourceSeen) (unused left : List ℕ) : Type 0 where
+  pub line : List ℕ
+  pub gathered : Gathered old new unused left line
+
+pub skipped_more : (old mid new : SourceSeen) (unused left rest : List ℕ) (b : ℕ) → Skipped old mid unused left → ReadsByte mid new left rest (Byte b)
+    → is_newline b ≡ false → Skipped old new unused rest
+skipped_more old mid new unused left rest b s n e =
+    record { line = s.line ++ b ∷ []; gathered = gathered_more old mid new unused left rest s.line (s.line ++ b ∷ []) b s.gathered n e refl }
+
+pub skipped_line : (old mid new : SourceSeen) (unused left rest : List ℕ) (b : ℕ) → Skipped old mid unused left → ReadsByte mid new left rest (Byte b)
+    → b ≡ newline → ReadsToEnd old new unused rest Newline
+skipped_line old mid new unused left rest b s n e =
+    let j = joined old mid new unused left rest s.line b s.gathered n in
+    record {
+      line = s.line;
+      bytes = s.gathered.bytes ++ n.0;
+      read = j.0;
+      ends = j.1 ∙ ap (λ c. s.line ++ c ∷ rest) e;
+      no_newline = s.gathered.no_newline;
+      at_end = λ e. cc;
+    }
+
+-- nothing more: all bytes are the line
+all_gathered : (old mid : SourceSeen) (unused left line : List ℕ) (g : Gathered old mid unused left line) → left ≡ [] → unused ++ (g.bytes ++ []) ≡ line
+all_gathered old mid unused left line g none = ap (λ l. unused ++ l) (append-nil g.bytes) ∙ g.all ∙ ap (λ l. line ++ l) none ∙ append-nil line
+
+pub skipped_last : (old mid new : SourceSeen) (unused left rest : List ℕ) → Skipped old mid unused left → ReadsByte mid new left rest End → ReadsToEnd old new unused rest ScriptEnd
+skipped_last old mid new unused left rest s n = record {
+  line = s.line;
+  bytes = s.gathered.bytes ++ [];
+  read = Consumes-trans _ _ _ _ _ s.gathered.read n.2;
+  ends = (all_gathered old mid unused left s.line s.gathered n.0, n.1);
+  no_newline = s.gathered.no_newline;
+  at_end = λ e. n.3;
+}
+
+pub skipped_failed : (old mid new : SourceSeen) (unused left rest : List ℕ) → Skipped old mid unused left → ReadsByte mid new left rest Failed → ReadsToEnd old new unused rest ReadFailed
+skipped_failed old mid new unused left rest s n = record {
+  line = s.line;
+  bytes = s.gathered.bytes ++ [];
+  read = Consumes-trans _ _ _ _ _ s.gathered.read n.2;
+  ends = (all_gathered old mid unused left s.line s.gathered n.0, n.1);
+  no_newline = s.gathered.no_newline;
+  at_end = λ e. cc;
+}
+
+-- ---- a line that is kept, or not
+
+pub kept_line : (old new : SourceSeen) (unused left line : List ℕ) → ReadsLine old new unused left line Line
+    → ReadsWhole old new unused left line (record { is_kept = true; end = Newline })
+kept_line old new unused left line r = record {
+  reads = record { line = line; bytes = r.bytes; read = r.read; ends = r.is_line.0; no_newline = r.no_newline; at_end = λ e. cc };
+  is_kept = (refl, r.is_line.1);
+}
+
+pub kept_last : (old new : SourceSeen) (unused left line : List ℕ) → ReadsLine old new unused left line LastLine
+    → ReadsWhole old new unused left line (record { is_kept = true; end = ScriptEnd })
+kept_last old new unused left line r = record {
+  reads = record { line = line; bytes = r.bytes; read = r.read; ends = (r.is_line.0, r.is_line.1); no_newline = r.no_newline; at_end = r.at_end };
+  is_kept = (refl, r.is_line.2);
+}
+
+pub kept_failed : (old new : SourceSeen) (unused left line : List ℕ) → ReadsLine old new unused left line FailedRead
+    → ReadsWhole old new unused left line (record { is_kept = true; end = ReadFailed })
+kept_failed old new unused left line r = record {
+  reads = record { line = line; bytes = r.bytes; read = r.read; ends = (r.is_line.0, r.is_line.1); no_newline = r.no_newline; at_end = λ e. cc };
+  is_kept = (refl, r.is_line.2);
+}
+
+any_joined : (front behind : List ℕ) (b : ℕ) → HasNoNewline front → is_newline b ≡ false → HasNoNewline behind → HasNoNewline (front ++ b ∷ behind)
+any_joined front behind b f e h = rw (list_any-append is_newline front (b ∷ behind), f, e) h
+
+more_bytes : (unused bytes more front left : List ℕ) (b : ℕ) → unused ++ bytes ≡ front ++ b ∷ left → unused ++ (bytes ++ more) ≡ front ++ b ∷ (left ++ more)
+more_bytes unused bytes more front left b e = sym (append_assoc unused bytes more) ∙ ap (λ l. l ++ more) e ∙ append_assoc front (b ∷ left) more
+
+-- what the bytes behind those of a line that is too long come to
+joined_ends : (end : LineEnd) (unused bytes more front left rest line : List ℕ) (b : ℕ) → unused ++ bytes ≡ front ++ b ∷ left → EndsLine end (left ++ more) line rest
+    → EndsLine end (unused ++ (bytes ++ more)) (front ++ b ∷ line) rest
+joined_ends Newline unused bytes more front left rest line b e h = more_bytes unused bytes more front left b e ∙ ap (λ l. front ++ b ∷ l) h ∙ sym (append_assoc front (b ∷ line) (newline ∷ rest))
+joined_ends ScriptEnd unused bytes more front left rest line b e h = (more_bytes unused bytes more front left b e ∙ ap (λ l. front ++ b ∷ l) h.0, h.1)
+joined_ends ReadFailed unused bytes more front left rest line b e h = (more_bytes unused bytes more front left b e ∙ ap (λ l. front ++ b ∷ l) h.0, h.1)
+
+pub left_out : (old mid new : SourceSeen) (unused left rest line : List ℕ) (end : LineEnd) → ReadsLine old mid unused left line TooLong → ReadsToEnd mid new left rest end
+    → ReadsWhole old new unused rest line (record { is_kept = false; end = end })
+left_out old mid new unused left rest line end r s =
+    let b = r.is_line.0 in
+    record {
+      reads = record {
+        line = line ++ b ∷ s.line;
+        bytes = r.bytes ++ s.bytes;
+        read = Consumes-trans _ _ _ _ _ r.read s.read;
+        ends = joined_ends end unused r.bytes s.bytes line left rest s.line b r.is_line.1 s.ends;
+        no_newline = any_joined line s.line b r.no_newline r.is_line.2 s.no_newline;
+        at_end = s.at_end;
+      };
+      is_kept = simp length-append (omega (arith, r.is_line.3));
+    }

@@ -5,3 +5,4 @@ pub mod NumberLemmas
 pub mod LineLemmas
 pub mod ArgumentLemmas
 pub mod ByteLemmas
+pub mod AdviceLemmas

@@ -2,7 +2,7 @@
 
 ghost use Rattle.std.specs.Prelude.{◌≡◌, ◌≤◌, ◌<◌, ◌∷◌, ◌||◌, [], length, false, true};
 ghost use Rattle.streams.specs.Counts.{counted};
-ghost use Rattle.script.specs.steps.Bytes.{ReadsByte, ReadsLine, byte_ended, byte_failed, is_byte, is_line, line_ended, line_failed, work_left};
+ghost use Rattle.script.specs.steps.Bytes.{ReadsByte, ReadsLine, ReadsToEnd, ReadsWhole, byte_ended, byte_failed, end_failed, goes_on, has_newline, is_byte, line_ended, line_failed, met_end, work_left};
 
 use crate::limits::LONGEST_LINE;
 use arrayvec::ArrayVec;
@@ -31,6 +31,24 @@ pub enum LineRead {
     TooLong,
     /// A read failed behind it.
     FailedRead,
+}
+
+/// What stands behind a line of any length.
+#[derive(Clone, Copy, Debug, PartialEq, Eq)]
+pub enum LineEnd {
+    Newline,
+    /// The script ends.
+    ScriptEnd,
+    /// A read failed.
+    ReadFailed,
+}
+
+/// How a line of any length was read.
+#[derive(Clone, Copy, Debug, PartialEq, Eq)]
+pub struct WholeLine {
+    /// Whether it is no longer than a line may be, and was kept.
+    pub is_kept: bool,
+    pub end: LineEnd,
 }
 
 /// Bytes that were read and are not used.
@@ -107,7 +125,7 @@ impl Bytes {
         ensures ended { (R.seen source.new).met_end ≡ (line_ended result || (R.seen source.old).met_end) }
         ensures past { (R.seen source.old).met_end ≡ false → (R.seen source.new).read_past_end ≡ (R.seen source.old).read_past_end }
         ensures failures { (R.seen source.new).failures ≡ counted (line_failed result) (R.seen source.old).failures }
-        ensures progress { is_line result ≡ true → work_left (R.seen source.new) self.new < work_left (R.seen source.old) self.old }
+        ensures progress { goes_on result ≡ true → work_left (R.seen source.new) self.new < work_left (R.seen source.old) self.old }
     {
         line.clear();
         loop {
@@ -125,5 +143,54 @@ impl Bytes {
                 Next::Failed => return LineRead::FailedRead,
             }
         }
+    }
+
+    /// Leaves out the bytes up to the next newline.
+    fn skip_line<R: Source>(&mut self, source: &mut R) -> LineEnd
+        ensures line { ReadsToEnd (R.seen source.old) (R.seen source.new) self.old self.new result }
+        ensures ended { (R.seen source.new).met_end ≡ (met_end result || (R.seen source.old).met_end) }
+        ensures past { (R.seen source.old).met_end ≡ false → (R.seen source.new).read_past_end ≡ (R.seen source.old).read_past_end }
+        ensures failures { (R.seen source.new).failures ≡ counted (end_failed result) (R.seen source.old).failures }
+        ensures progress { has_newline result ≡ true → work_left (R.seen source.new) self.new < work_left (R.seen source.old) self.old }
+    {
+        loop {
+            match self.next(source) {
+                Next::Byte(byte) => {
+                    if byte == b'\n' {
+                        return LineEnd::Newline;
+                    }
+                }
+                Next::End => return LineEnd::ScriptEnd,
+                Next::Failed => return LineEnd::ReadFailed,
+            }
+        }
+    }
+
+    /// The bytes up to the next newline, in place of what was in `line`, where they are no more than a line may have;
+    /// else they are left out. Where the end is met, nothing is read behind it.
+    pub fn next_whole_line<R: Source>(
+        &mut self,
+        source: &mut R,
+        line: &mut ArrayVec<u8, LONGEST_LINE>,
+    ) -> WholeLine
+        ensures line { ReadsWhole (R.seen source.old) (R.seen source.new) self.old self.new line.new.items result }
+        ensures ended { (R.seen source.new).met_end ≡ (met_end result.end || (R.seen source.old).met_end) }
+        ensures past { (R.seen source.old).met_end ≡ false → (R.seen source.new).read_past_end ≡ (R.seen source.old).read_past_end }
+        ensures failures { (R.seen source.new).failures ≡ counted (end_failed result.end) (R.seen source.old).failures }
+        ensures progress { has_newline result.end ≡ true → work_left (R.seen source.new) self.new < work_left (R.seen source.old) self.old }
+    {
+        let end = match self.next_line(source, line) {
+            LineRead::Line => LineEnd::Newline,
+            LineRead::LastLine => LineEnd::ScriptEnd,
+            LineRead::FailedRead => LineEnd::ReadFailed,
+            LineRead::TooLong => {
+                let end = self.skip_line(source);
+                return WholeLine {
+                    is_kept: false,
+                    end,
+                };
+            }
+        };
+        WholeLine { is_kept: true, end }
     }
 }

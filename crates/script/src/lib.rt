@@ -3,6 +3,7 @@
 
 mod arguments;
 mod bytes;
+mod explain;
 mod fault;
 pub mod laws;
 mod limits;
@@ -13,7 +14,8 @@ mod text;
 mod words;
 
 pub use arguments::Arguments;
-pub use bytes::{Bytes, LineRead};
+pub use bytes::{Bytes, LineEnd, LineRead, WholeLine};
+pub use explain::{Finding, finding};
 pub use fault::{ScriptEnd, ScriptFault, TextFault};
 pub use limits::LONGEST_LINE;
 pub use line::read_line;

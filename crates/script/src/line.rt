@@ -1,6 +1,6 @@
 //! What a line of a script says.
 
-ghost use Rattle.std.specs.Prelude.{◌≡◌, ◌≤◌, ◌∷◌, ◌≢◌, List, length, position, IfSome, Some, None, false};
+ghost use Rattle.std.specs.Prelude.{◌≡◌, ◌≤◌, ◌+◌, ◌∷◌, ◌≢◌, List, length, position, IfSome, Some, None, false};
 ghost use Rattle.std.specs.List.{list_any, slice_split};
 ghost use Rattle.std.specs.Bool.{OnTrue};
 ghost use Rattle.script.specs.declared.words.Form.{Form};
@@ -8,7 +8,7 @@ ghost use Rattle.script.specs.Words.{nothing_said};
 ghost use Rattle.script.specs.Texts.{all_said};
 ghost use Rattle.script.specs.Characters.{is_bad_byte, is_space};
 ghost use Rattle.script.specs.Readings.{arguments, is_skipped, is_text, said_by_line};
-ghost use Rattle.script.specs.steps.Reads.{Reads, pieces_of};
+ghost use Rattle.script.specs.steps.Reads.{Reads, pieces_of, room_of};
 
 use crate::arguments::Arguments;
 use crate::fault::TextFault;
@@ -48,10 +48,11 @@ fn first_space(text: &[u8]) -> Option<usize>
 }
 
 /// What stands before the first space, and what stands behind it if there is one.
-fn split_at_space(text: &[u8]) -> (&[u8], Option<&[u8]>)
+pub(crate) fn split_at_space(text: &[u8]) -> (&[u8], Option<&[u8]>)
     ensures pieces { slice_split is_space text.now ≡ result.0.now ∷ pieces_of result.1 }
     ensures short { length result.0.now ≤ length text.now }
-    ensures rest { IfSome result.1 (λ rest. length rest.now ≤ length text.now) }
+    ensures rest { IfSome result.1 (λ rest. length result.0.now + 1 + length rest.now ≤ length text.now) }
+    ensures room { length result.0.now + room_of result.1 ≤ length text.now }
 {
     match first_space(text) {
         Some(at) => (&text[..at], Some(&text[at + 1..])),
@@ -60,11 +61,12 @@ fn split_at_space(text: &[u8]) -> (&[u8], Option<&[u8]>)
 }
 
 /// An argument of a form as it stands at the front of a text, and what stands behind it.
-fn next_argument(form: Form, text: &[u8]) -> (&[u8], Option<&[u8]>)
+pub(crate) fn next_argument(form: Form, text: &[u8]) -> (&[u8], Option<&[u8]>)
     ensures argument { (forms : List Form) → arguments (form ∷ forms) (slice_split is_space text.now)
         ≡ result.0.now ∷ arguments forms (pieces_of result.1) }
     ensures short { length result.0.now ≤ length text.now }
-    ensures rest { IfSome result.1 (λ rest. length rest.now ≤ length text.now) }
+    ensures rest { IfSome result.1 (λ rest. length result.0.now + 1 + length rest.now ≤ length text.now) }
+    ensures room { length result.0.now + room_of result.1 ≤ length text.now }
 {
     if is_text(form) {
         (text, None)

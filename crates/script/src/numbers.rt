@@ -8,7 +8,8 @@ ghost use Rattle.script.specs.Texts.{attributes_of, flag_of, hex_byte, hex_value
 
 use crate::limits::{ALL_ATTRIBUTES, GREATEST_NUMBER, GREATEST_SIGNED, MOST_DIGITS};
 
-fn has_digits_alone(piece: &[u8]) -> bool
+/// Whether all bytes of a piece are decimal digits.
+pub fn has_digits_alone(piece: &[u8]) -> bool
     ensures { result ≡ list_all is_ascii_digit piece.now }
 {
     piece.iter().all(|b| b.is_ascii_digit())

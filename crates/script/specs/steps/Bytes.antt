@@ -1,5 +1,5 @@
 -- What the functions that read a script tell of its bytes: words of their own contracts.
-use Rattle.std.specs.Prelude.{◌≡◌, ◌+◌, ◌*◌, ℕ, Bool, true, false, List, [], ◌∷◌, ◌++◌, ◌≤◌, length}
+use Rattle.std.specs.Prelude.{◌≡◌, ◌+◌, ◌*◌, ℕ, Bool, true, false, List, [], ◌∷◌, ◌++◌, ◌≤◌, ◌<◌, length}
 use Rattle.std.specs.List.{list_any}
 use Rattle.std.specs.Io.KnownBytes.{Consumes, IsAtEnd}
 use Rattle.script.specs.Characters.{is_newline, newline}
@@ -8,6 +8,9 @@ use Rattle.script.specs.declared.limits.TheConstants.{LONGEST_LINE}
 use Rattle.streams.specs.Sources.{SourceSeen}
 use Rattle.script.specs.declared.bytes.LineRead.{LineRead}
 use Rattle.script.specs.declared.bytes.LineRead.TheVariants.{Line, LastLine, TooLong, FailedRead}
+use Rattle.script.specs.declared.bytes.LineEnd.{LineEnd}
+use Rattle.script.specs.declared.bytes.LineEnd.TheVariants.{Newline, ScriptEnd, ReadFailed}
+use Rattle.script.specs.declared.bytes.WholeLine.{WholeLine}
 use Rattle.script.specs.declared.bytes.Next.{Next}
 use Rattle.script.specs.declared.bytes.Next.TheVariants.{Byte, End, Failed}
 
@@ -37,9 +40,11 @@ work_left seen unused = (LONGEST_PIECE + 1) * seen.reads_left + length unused
 abbrev pub HasNoNewline : List ℕ → Type 0
 HasNoNewline piece = list_any is_newline piece ≡ false
 
-abbrev pub is_line : LineRead → Bool
-is_line Line = true
-is_line _ = false
+-- bytes were read, and more may come
+abbrev pub goes_on : LineRead → Bool
+goes_on Line = true
+goes_on TooLong = true
+goes_on _ = false
 
 abbrev pub line_ended : LineRead → Bool
 line_ended LastLine = true
@@ -63,3 +68,41 @@ pub record ReadsLine (old new : SourceSeen) (unused left line : List ℕ) (resul
   pub is_line : IsLine result (unused ++ bytes) line left
   pub no_newline : HasNoNewline line
   pub at_end : line_ended result ≡ true → IsAtEnd new.left
+
+-- ---- a line of any length
+
+abbrev pub has_newline : LineEnd → Bool
+has_newline Newline = true
+has_newline _ = false
+
+abbrev pub met_end : LineEnd → Bool
+met_end ScriptEnd = true
+met_end _ = false
+
+abbrev pub end_failed : LineEnd → Bool
+end_failed ReadFailed = true
+end_failed _ = false
+
+-- All bytes of a script that are known now are a line, its newline and what is not used, or the line.
+abbrev pub EndsLine : LineEnd → List ℕ → List ℕ → List ℕ → Type 0
+EndsLine Newline all line left = all ≡ line ++ newline ∷ left
+EndsLine ScriptEnd all line left = (all ≡ line) × (left ≡ [])
+EndsLine ReadFailed all line left = (all ≡ line) × (left ≡ [])
+
+-- The source gave some bytes. With those that were not used before they are a line of any length.
+pub record ReadsToEnd (old new : SourceSeen) (unused left : List ℕ) (end : LineEnd) : Type 0 where
+  pub line : List ℕ
+  pub bytes : List ℕ
+  pub read : Consumes old.left new.left bytes
+  pub ends : EndsLine end (unused ++ bytes) line left
+  pub no_newline : HasNoNewline line
+  pub at_end : met_end end ≡ true → IsAtEnd new.left
+
+-- A line is kept whole, or is too long.
+abbrev pub IsKept : Bool → List ℕ → List ℕ → Type 0
+IsKept true line kept = (kept ≡ line) × (length line ≤ LONGEST_LINE)
+IsKept false line kept = LONGEST_LINE < length line
+
+pub record ReadsWhole (old new : SourceSeen) (unused left kept : List ℕ) (whole : WholeLine) : Type 0 where
+  pub reads : ReadsToEnd old new unused left whole.end
+  pub is_kept : IsKept whole.is_kept reads.line kept
