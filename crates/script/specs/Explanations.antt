@@ -1,4 +1,4 @@
--- What a person is told of a faulty line. The words are Curspan's own; docs/curspan.1 tells them under CHECK.
+-- What a person is told of a faulty line. The words are Curspan's own.
 use Rattle.std.specs.Prelude.{◌+◌, ◌==◌, ◌&&◌, ℕ, Bool, List, [], ◌∷◌, ◌++◌, codes, decimal, drop, is_some, length, map, nat_le, Option, Some, None, position, slice_index, take, if◌then◌else◌}
 use Rattle.std.specs.Char.{is_ascii_digit}
 use Rattle.std.specs.List.{list_all, slice_split}
