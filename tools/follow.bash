@@ -15,23 +15,36 @@ follow() {
 }
 
 # Puts out, of what `rt` says, which crate is being proved, its place among some crates, and how many of its functions have been
-# looked at, as `proving grids (6 of 12): 40 of 83`.
+# looked at, as `proving grids (6 of 12): 40 of 83`. Where `rt` was told how many provers to take it names a crate only with the first
+# item that is proved.
 tell_progress() {
-    local name=$1 among crate line place
+    local name=$1 among crate='' line
     read -ra among <<< "$2"
     while IFS= read -r line; do
         if [[ $line =~ ^'rt: chose --jobs '[0-9]+' for '(.+) ]]; then
-            crate=${BASH_REMATCH[1]}
-            for place in "${!among[@]}"; do
-                if [ "${among[place]}" = "$crate" ]; then crate+=" ($((place + 1)) of ${#among[@]})"; fi
-            done
+            crate=$(placed "${BASH_REMATCH[1]}" "${among[@]}")
             echo "$name: proving $crate"
-        elif [[ $line =~ ^'so far: '([1-9][0-9]*)' of '([0-9]+) ]]; then
-            echo "$name: proving ${crate:-}: ${BASH_REMATCH[1]} of ${BASH_REMATCH[2]}"
+        elif [[ $line =~ ^'so far: '([0-9]+)' of '([0-9]+) ]]; then
+            echo "$name: proving ${crate:-a crate}: ${BASH_REMATCH[1]} of ${BASH_REMATCH[2]}"
+        elif [[ -z $crate && $line =~ ^[a-z]+' '([a-z_]+)::.*': proved'$ ]]; then
+            crate=$(placed "${BASH_REMATCH[1]}" "${among[@]}")
+            echo "$name: proving $crate"
         elif [[ $line == 'logic=not-proved'* ]]; then
             echo "$name: not proved: ${crate:-}"
+        elif [[ $line == 'logic=proved'* ]]; then
+            crate=
         fi
     done
+}
+
+# Puts out a crate with its place among some crates.
+placed() {
+    local crate=$1 place
+    shift
+    for ((place = 1; place <= $#; place++)); do
+        if [ "${!place}" = "$crate" ]; then crate+=" ($place of $#)"; break; fi
+    done
+    printf '%s\n' "$crate"
 }
 
 # Puts out in a line a crate and before it those of the repository that it stands on, in the order in which `rt` proves them.
