@@ -18,9 +18,9 @@ use Rattle.world.specs.declared.settings.Columns.{Columns}
 use Rattle.world.proofs.Sizes.{SameSize}
 use Rattle.grids.specs.Tables.{WindowTable, windows}
 use Rattle.stack.specs.Tables.{PanelTable, panels}
+use Rattle.picture.specs.Damages.{Damages}
 use Rattle.compose.specs.Desks.{DeskTable, world}
 use Rattle.compose.specs.steps.Changes.{panels_after, stacking_has_line, stacking_shows, windows_after}
-use Rattle.compose.specs.steps.Damages.{Damages}
 use Rattle.compose.proofs.DeskLemmas.{desk_of}
 
 -- windows and panels change each alone

@@ -30,10 +30,10 @@ use Rattle.world.proofs.RefreshLaws.{found-refresh}
 use Rattle.world.proofs.Sizes.{size-call}
 use Rattle.world.proofs.StackingLaws.{found-stacking}
 use Rattle.world.proofs.WritingLaws.{found-copying, found-writing}
+use Rattle.picture.specs.Damages.{Damages, columns_of, has_damage_at}
 use Rattle.compose.specs.Calling.{DamagesFew}
 use Rattle.compose.specs.Covers.{IsCovered, IsDesk}
-use Rattle.compose.specs.Desks.{DeskTable, columns_of, has_damage_at, world}
-use Rattle.compose.specs.steps.Damages.{Damages}
+use Rattle.compose.specs.Desks.{DeskTable, world}
 use Rattle.compose.proofs.DeskLemmas.{IsSound-new}
 
 -- ---- one place

@@ -14,9 +14,9 @@ use Rattle.world.specs.declared.call.Making.{Making}
 use Rattle.world.specs.declared.call.Making.TheVariants.{Newwin, Subwin, Derwin, Newpad, Subpad, Delwin, Mvwin, Mvderwin}
 use Rattle.world.specs.declared.settings.Columns.{Columns}
 use Rattle.world.proofs.ViewLaws.{same-if}
+use Rattle.picture.specs.Damages.{Damages}
+use Rattle.picture.proofs.DamageLaws.{damages-as}
 use Rattle.compose.specs.steps.Changes.{moved_window, moving_affects, moving_shows_at}
-use Rattle.compose.specs.steps.Damages.{Damages}
-use Rattle.compose.proofs.DamageLaws.{damages-as}
 
 parent-kept : (y x : ℕ) (a : Window) → option_and_then (λ (b : Window). parent_number b.backing) (Some (with_part y x a)) ≡ option_and_then (λ (b : Window). parent_number b.backing) (Some a)
 parent-kept y x a = by_backing a.backing refl where

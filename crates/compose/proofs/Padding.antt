@@ -6,7 +6,7 @@ use Rattle.world.specs.Windows.{Windows, cell_at}
 use Rattle.world.specs.calls.Affected.{draws_on_line}
 use Rattle.world.specs.calls.Copies.{copywin_drawing}
 use Rattle.world.proofs.Below.{any_below-some}
-use Rattle.compose.specs.Parts.{frame_has_line, frame_holds}
+use Rattle.picture.specs.Parts.{frame_has_line, frame_holds}
 use Rattle.compose.proofs.Pieces.{IsOfPad, pad-above, pad-below, pad-piece}
 use Rattle.compose.proofs.Touching.{in-piece, of-piece}
 

@@ -9,9 +9,9 @@ use Rattle.world.specs.calls.Affected.{changed_panel}
 use Rattle.world.specs.calls.Stacking.{new_panel_number}
 use Rattle.world.specs.declared.call.Stacking.{Stacking}
 use Rattle.world.specs.declared.call.Stacking.TheVariants.{NewPanel, DelPanel, ShowPanel, HidePanel, TopPanel, BottomPanel, MovePanel, ReplacePanel, PanelAbove, PanelBelow, PanelWindow, PanelHidden}
+use Rattle.picture.specs.Parts.{IsFrameWithin}
+use Rattle.picture.proofs.VisiblePanels.{absent-hidden}
 use Rattle.compose.specs.steps.Changes.{named_panel}
-use Rattle.compose.specs.steps.Damages.{IsFrameWithin}
-use Rattle.compose.proofs.VisiblePanels.{absent-hidden}
 
 none-is : (o : Option ℕ) → is_none o ≡ true → o ≡ None
 none-is None h = refl

@@ -1,22 +1,23 @@
 -- What noutrefresh and pnoutrefresh draw on each line of the screen.
 use Rattle.std.proofs.Common.{◌≡◌, ℕ, ◌+◌, ◌-◌, ◌<◌, ◌≤◌, Bool, true, false, ◌&&◌, ◌||◌, not, [], ◌∷◌, nat_le, nat_lt, if◌then◌else◌, Option, Some, None, refl, sym, ap, subst, ◌∙◌, arith}
-use Rattle.std.specs.Prelude.{IsSomeAnd, MatchOption, unwrap_or, ⊤, option_and_then, is_none}
+use Rattle.std.specs.Prelude.{MatchOption, unwrap_or, ⊤, option_and_then, is_none}
 use Rattle.std.specs.Option.{option_map, option_map_or}
 use Rattle.std.proofs.lemmas.Bool.{leb-true, ltb-true, ltb-false, not-false, and_parts, or_parts}
 use Rattle.std.proofs.lemmas.Bool.Decides.{nat_tests}
 use Rattle.cell.specs.Glyphs.{Glyph}
 use Rattle.cell.specs.Pictures.{Place, origin}
 use Rattle.cell.specs.declared.limits.TheConstants.{LARGEST_PAD, LARGEST_SCREEN}
-use Rattle.world.specs.Windows.{HasPlace, Window, WindowMap, Windows, cell_at}
+use Rattle.world.specs.Windows.{HasPlace, Window, Windows, cell_at}
 use Rattle.world.specs.Sound.{AreColumnsWithin, AreSoundWindows, IsSoundWindow}
 use Rattle.cell.specs.Refusals.{first_of}
 use Rattle.cell.specs.declared.refusal.Refusal.TheVariants.{BadRectangle, NoSuchWindow, NotPad, OffScreen, OutsideWindow}
 use Rattle.world.specs.calls.Copies.{copywin_drawing}
 use Rattle.world.specs.calls.Making.{is_pad}
 use Rattle.world.specs.calls.writing.Options.{lacks_place}
-use Rattle.world.specs.calls.Queries.{place_on_screen, touched_columns, window_size}
+use Rattle.world.specs.calls.Queries.{touched_columns}
 use Rattle.world.specs.calls.Refresh.{among, is_beyond, pnoutrefresh_refusal, touched_cells}
 use Rattle.world.specs.declared.settings.Columns.{Columns}
+use Rattle.picture.proofs.Standing.{StandsAt}
 use Rattle.compose.proofs.Laying.{HasPiece, IsBare}
 
 -- ---- one window
@@ -27,46 +28,6 @@ drawn_at place lines columns touched cells v u =
     if option_map_or (λ p. (nat_le p.0 v && nat_lt v (p.0 + lines)) && (nat_le p.1 u && nat_lt u (p.1 + columns))) place false
     && among (touched (v - (unwrap_or place origin).0)) (u - (unwrap_or place origin).1)
     then Some (cells (v - (unwrap_or place origin).0) (u - (unwrap_or place origin).1)) else None
-
--- the window is there, at this place of the screen
-pub record StandsAt (windows : Windows) (w : ℕ) (place : Place) (lines : ℕ) : Type 0 where
-  pub window : Window
-  pub there : windows.window w ≡ Some window
-  pub height : window.lines ≡ lines
-  pub at : window.place ≡ Some place
-  pub down : place.0 + window.lines ≤ windows.lines
-  pub right : place.1 + window.columns ≤ windows.columns
-  pub few_lines : windows.lines ≤ LARGEST_SCREEN
-  pub few_columns : windows.columns ≤ LARGEST_SCREEN
-  pub has_column : 0 < window.columns
-  pub touched : (y : ℕ) → AreColumnsWithin window.columns (window.touched y)
-
-stands : (windows : Windows) (w : ℕ) (place : Place) (lines : ℕ) (o : Option Window) → windows.window w ≡ o → AreSoundWindows windows
-    → option_and_then (λ (a : Window). a.place) o ≡ Some place → (size : Option (ℕ × ℕ)) → option_map (λ (a : Window). (a.lines, a.columns)) o ≡ size
-    → (columns : ℕ) → size ≡ Some (lines, columns) → StandsAt windows w place lines
-stands windows w place lines None e sound place_is size size_is columns known = cc
-stands windows w place lines (Some a) e sound place_is size size_is columns known =
-    let window : IsSoundWindow windows w a = subst (λ (o : Option Window). MatchOption o ⊤ (IsSoundWindow windows w)) e (sound.each w) in
-    let on : MatchOption (Some place) ⊤ (λ p. (p.0 + a.lines ≤ windows.lines) × (p.1 + a.columns ≤ windows.columns)) =
-    subst (λ (o : Option Place). MatchOption o ⊤ (λ p. (p.0 + a.lines ≤ windows.lines) × (p.1 + a.columns ≤ windows.columns))) place_is window.on_screen in
-    let both : (a.lines, a.columns) ≡ (lines, columns) = cc in
-    let height : a.lines ≡ lines = ap (λ (p : ℕ × ℕ). p.0) both in
-    record {
-      window = a;
-      there = e;
-      height = height;
-      at = place_is;
-      down = on.0;
-      right = on.1;
-      few_lines = sound.few_lines;
-      few_columns = sound.few_columns;
-      has_column = window.has_column;
-      touched = window.touched;
-    }
-
-pub stands-at : (windows : Windows) (w : ℕ) (place : Place) (lines columns : ℕ) → AreSoundWindows windows → place_on_screen windows.window w ≡ Some place → window_size windows.window w ≡ Some (lines, columns)
-    → StandsAt windows w place lines
-stands-at windows w place lines columns sound place_is size_is = stands windows w place lines (windows.window w) refl sound place_is (window_size windows.window w) refl columns size_is
 
 same-if : (t s : Bool) (one other : Glyph) → t ≡ s → (s ≡ true → one ≡ other) → (if t then Some one else None) ≡ (if s then Some other else None)
 same-if t true one other same h = rw same (ap (λ (g : Glyph). Some g) (h refl))
@@ -249,12 +210,3 @@ module _ (windows : Windows) (w py px top left bottom right : ℕ) (h : IsOfPad 
       drawn (nat_le top (top + y) && nat_lt (top + y) (top + (bottom - top + 1))) (nat_le left u && nat_lt u (left + (right - left + 1)))
       (cell_at windows.window w (py + (top + y - top)) (px + (u - left))) (cell_at windows.window w (py + y) (px + (u - left)))
       (grind (arith, nat_tests)) (ap (λ k. cell_at windows.window w (py + k) (px + (u - left))) (let e : top + y - top ≡ y = omega arith in e))
-
--- ---- a piece of a line
-
-place_before : (o : Option Window) (y x z : ℕ) → IsSomeAnd o (λ a. (y < a.lines) × (x < a.columns)) → z ≤ x → IsSomeAnd o (λ a. (y < a.lines) × (z < a.columns))
-place_before None y x z h before = absurd h
-place_before (Some a) y x z h before = let left = h.1 in (h.0, omega arith)
-
-pub place-before : (window : WindowMap) (w y x z : ℕ) → HasPlace window w y x → z ≤ x → HasPlace window w y z
-place-before window w y x z h before = place_before (window w) y x z h before

@@ -11,8 +11,7 @@ use Rattle.cell.specs.Shown.{Rendition, Shown, shown_blank}
 use Rattle.world.specs.Sound.{AreColumnsWithin}
 use Rattle.world.specs.calls.Refresh.{among}
 use Rattle.world.specs.declared.settings.Columns.{Columns}
-use Rattle.compose.specs.Desks.{columns_of, has_damage}
-use Rattle.compose.specs.steps.Damages.{cells_above, cells_of_line}
+use Rattle.picture.specs.Damages.{cells_above, cells_of_line, columns_of, has_damage}
 
 one-line-more : (d : List (Option Columns)) (s : ℕ) → cells_above d (s + 1) ≡ cells_above d s + cells_of_line (columns_of d s)
 one-line-more d s = let e : s + 1 ≡ suc s = omega arith in ap (cells_above d) e

@@ -7,9 +7,9 @@ use Rattle.world.specs.Windows.{Drawing}
 use Rattle.world.specs.calls.Affected.{draws_on_line}
 use Rattle.world.specs.declared.settings.Columns.{Columns}
 use Rattle.world.proofs.Below.{any_below-some}
-use Rattle.compose.specs.Parts.{frame_has_line, frame_holds}
-use Rattle.compose.specs.steps.Damages.{Damages}
-use Rattle.compose.proofs.DamageLaws.{damages-as, damages-none, damages-then}
+use Rattle.picture.specs.Parts.{frame_has_line, frame_holds}
+use Rattle.picture.specs.Damages.{Damages}
+use Rattle.picture.proofs.DamageLaws.{damages-as, damages-none, damages-then}
 use Rattle.compose.proofs.Laying.{HasPiece, IsBare}
 
 -- what the drawing has on the lines before n is damaged

@@ -10,10 +10,10 @@ use Rattle.world.specs.calls.Refresh.{among}
 use Rattle.world.specs.declared.call.Call.TheVariants as calls
 use Rattle.world.specs.declared.call.Refresh.TheVariants.{UpdatePanels}
 use Rattle.world.specs.declared.settings.Columns.{Columns}
+use Rattle.picture.specs.Damages.{cells_above, columns_of}
 use Rattle.compose.specs.Calling.{DamagesFew, MayRead}
 use Rattle.compose.specs.Covers.{IsCovered, IsDesk}
-use Rattle.compose.specs.Desks.{DeskTable, columns_of, is_damaged_line, world}
-use Rattle.compose.specs.steps.Damages.{cells_above}
+use Rattle.compose.specs.Desks.{DeskTable, is_damaged_line, world}
 use Rattle.compose.proofs.Reading.{differs-less, few-cells}
 
 module _ (t : DeskTable) (h : IsDesk t) (cells : ℕ) (read : cells ≡ cells_above t.damage t.windows.lines) where

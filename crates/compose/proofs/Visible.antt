@@ -2,8 +2,8 @@
 use Rattle.std.proofs.Common.{◌≡◌, ℕ, Bool, true, false, ◌||◌, Option, List, [], ◌∷◌, refl, sym, ◌∙◌}
 use Rattle.std.specs.List.{list_any}
 use Rattle.world.specs.declared.settings.Columns.{Columns}
-use Rattle.compose.specs.steps.Damages.{Damages}
-use Rattle.compose.proofs.DamageLaws.{damages-as, damages-none, damages-then}
+use Rattle.picture.specs.Damages.{Damages}
+use Rattle.picture.proofs.DamageLaws.{damages-as, damages-none, damages-then}
 
 or-together : (a b c : Bool) → ((a || b) || c) ≡ (a || (b || c))
 or-together true b c = refl

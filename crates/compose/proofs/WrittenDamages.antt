@@ -14,10 +14,10 @@ use Rattle.world.specs.declared.settings.Columns.{Columns}
 use Rattle.world.proofs.PictureLaws.{SameView, frame_shows-same}
 use Rattle.world.proofs.Sizes.{SameSize, size-copying, size-writing}
 use Rattle.world.proofs.WritingLaws.{view-copying, view-writing}
+use Rattle.picture.specs.Damages.{Damages}
+use Rattle.picture.proofs.DamageLaws.{damages-as}
 use Rattle.compose.specs.declared.damaging.Change.TheVariants.{Written}
 use Rattle.compose.specs.steps.Changes.{IsPossible}
-use Rattle.compose.specs.steps.Damages.{Damages}
-use Rattle.compose.proofs.DamageLaws.{damages-as}
 use Rattle.compose.proofs.WrittenFrames.{IsInWindow, copying-inside, lines-same, window-same, writing-inside}
 
 as-possible : (window : WindowMap) (win : WinId) (frame : Option Frame) → IsInWindow (window win.0) frame → MatchOption frame ⊤ (λ r. IsPossible window (Written win r))

@@ -1,11 +1,11 @@
 -- What a desk keeps, and the world that it stands for.
-use Rattle.std.specs.Prelude.{ℕ, Bool, Option, None, List, is_some, slice_index_or}
+use Rattle.std.specs.Prelude.{ℕ, Bool, Option, List}
 use Rattle.cell.specs.Shown.{Pairs}
 use Rattle.world.specs.World.{VirtualScreen, World}
-use Rattle.world.specs.calls.Refresh.{among}
 use Rattle.world.specs.declared.settings.Columns.{Columns}
 use Rattle.grids.specs.Tables.{WindowTable, windows}
 use Rattle.stack.specs.Tables.{PanelTable, panels}
+use Rattle.picture.specs.Damages.{columns_of, has_damage, has_damage_at}
 
 -- the table of windows, the panels, the colour pairs, the virtual screen, and of each line of the screen the columns that are damaged
 pub record DeskTable : Type 0 where
@@ -21,16 +21,6 @@ world t = record { windows = windows t.windows; panels = panels t.panels; pairs 
 -- ---- damage: where the virtual screen may show something else than the search from the top finds
 
 -- the damaged columns of a line, from the first to the last, or none
-abbrev pub columns_of : List (Option Columns) → ℕ → Option Columns
-columns_of damage y = slice_index_or damage y None
-
-abbrev pub has_damage : List (Option Columns) → ℕ → Bool
-has_damage damage y = is_some (columns_of damage y)
-
-abbrev pub has_damage_at : List (Option Columns) → ℕ → ℕ → Bool
-has_damage_at damage y x = among (columns_of damage y) x
-
--- the same of a desk
 abbrev pub damaged_columns : DeskTable → ℕ → Option Columns
 damaged_columns t y = columns_of t.damage y
 

@@ -1,2 +1,1 @@
-pub mod Damages
 pub mod Changes

@@ -11,15 +11,13 @@ ghost use Rattle.world.specs.calls.Refresh.{touched_cells};
 ghost use Rattle.world.specs.calls.Queries.{place_on_screen};
 ghost use Rattle.grids.specs.Tables.{windows as windows_of};
 ghost use Rattle.stack.specs.Tables.{panels};
-ghost use Rattle.compose.specs.Parts.{part_has_line, part_holds};
+ghost use Rattle.picture.specs.Parts.{IsFrameWithin, part_has_line, part_holds};
+ghost use Rattle.picture.specs.Damages.{Damages};
 ghost use Rattle.compose.specs.steps.Changes.{IsPossible, change_has_line, change_shows_at, moving_affects, moving_shows_at, window_number};
-ghost use Rattle.compose.specs.steps.Damages.{Damages, IsFrameWithin};
 
-use crate::damage::Damage;
-use crate::parts::{following_part, shared_part};
-use crate::search::STANDARD;
 use cell::{Frame, WinId};
 use grids::Grids;
+use picture::{Damage, STANDARD, following_part, shared_part};
 use stack::Stack;
 
 /// What may change what windows show: a write in a rectangle of a window, or a derived window that is moved in its parent.

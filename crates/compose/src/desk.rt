@@ -20,15 +20,12 @@ ghost use Rattle.compose.specs.Desks.{damaged_columns, is_damaged_line, world};
 ghost use Rattle.compose.specs.Calling.{Called};
 
 use crate::calls::{copy_damaging, make_damaging, write_damaging};
-use crate::damage::Damage;
 use crate::damaging::damage_part;
 use crate::dispatch::{query, refresh};
 use crate::marks::{clear_asked, unmark_composed};
-use crate::parts::window_part;
-use crate::picture::show_damaged;
-use crate::search::{STANDARD, cell_found, wanted_cursor};
 use cell::{Colour, Grid, PairId, Pairs, Refusal, Shown};
 use grids::Grids;
+use picture::{Damage, STANDARD, cell_found, show_damaged, wanted_cursor, window_part};
 use stack::Stack;
 use std::alloc::Global;
 use std::marker::Model;

@@ -19,9 +19,9 @@ ghost use Rattle.compose.specs.Desks.{world};
 
 use crate::desk::Desk;
 use crate::panels::{delete_window, move_panel, move_window, new_panel, replace_panel};
-use crate::search::STANDARD;
 use cell::{Frame, Refusal, WinId};
 use grids::Grids;
+use picture::STANDARD;
 use stack::Stack;
 use windows::Windows;
 use world::{Copying, Making, PanelId, Query, Refresh, Reply, Stacking, Writing};

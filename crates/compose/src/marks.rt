@@ -8,9 +8,9 @@ ghost use Rattle.world.specs.calls.Refresh.{asks_for_clear, with_unmarked};
 ghost use Rattle.grids.specs.Tables.{windows as windows_of};
 ghost use Rattle.stack.specs.Tables.{panels};
 
-use crate::search::STANDARD;
 use cell::WinId;
 use grids::Grids;
+use picture::STANDARD;
 use stack::Stack;
 
 /// Whether the standard screen or a visible panel's window asks for a clear screen.

@@ -10,9 +10,9 @@ ghost use Rattle.world.specs.calls.Stacking.{after_move_panel, after_new_panel, 
 ghost use Rattle.grids.specs.Tables.{windows as windows_of};
 ghost use Rattle.stack.specs.Tables.{panels};
 
-use crate::search::STANDARD;
 use cell::{Refusal, WinId};
 use grids::Grids;
+use picture::STANDARD;
 use stack::Stack;
 use world::PanelId;
 

@@ -20,10 +20,9 @@ ghost use Rattle.compose.specs.Desks.{world};
 use crate::damaging::{damage_part, damage_touched};
 use crate::desk::{Desk, size_of_screen};
 use crate::marks::asks;
-use crate::piece::{Source, show_piece};
-use crate::search::cursor_on_screen;
 use cell::{Frame, Grid, Pairs, Refusal, Shown, WinId};
 use grids::Grids;
+use picture::{Source, cursor_on_screen, show_piece};
 use windows::Windows;
 
 #[cfg(test)]

@@ -1,11 +1,10 @@
 -- A change of what windows show, and where one of them shows something of it.
-use Rattle.std.specs.Prelude.{ℕ, ◌≤◌, ◌==◌, ◌&&◌, ◌||◌, Bool, false, Option, Some, None, ⊤}
-use Rattle.std.specs.List.{list_any}
+use Rattle.std.specs.Prelude.{ℕ, ◌≤◌, ◌||◌, Bool, false, Option, Some, None, ⊤}
 use Rattle.std.specs.Option.{option_map, option_map_or}
 use Rattle.cell.specs.declared.window.WinId.{WinId}
 use Rattle.world.specs.declared.call.Making.{Making}
 use Rattle.world.specs.declared.call.Making.TheVariants.{Mvderwin}
-use Rattle.world.specs.Panels.{Panels, has_line, window_or_standard}
+use Rattle.world.specs.Panels.{Panels}
 use Rattle.world.specs.Windows.{Windows}
 use Rattle.world.specs.calls.Affected.{changed_panel, move_affects}
 use Rattle.world.specs.calls.Dispatch.{next_panel}
@@ -16,6 +15,7 @@ use Rattle.world.specs.declared.call.Stacking.TheVariants.{NewPanel, DelPanel, S
 use Rattle.world.specs.Windows.{HasPlace, WindowMap}
 use Rattle.world.specs.calls.Affected.{follows_on_line, shows_on_line}
 use Rattle.world.specs.calls.Places.{follows_at, shows_at}
+use Rattle.picture.specs.Parts.{panel_has_line}
 use Rattle.compose.specs.declared.damaging.Change.{Change}
 use Rattle.compose.specs.declared.damaging.Change.TheVariants.{Written, Moved}
 
@@ -75,11 +75,6 @@ named_panel (BottomPanel panel) = Some panel.0
 named_panel (MovePanel panel y x) = Some panel.0
 named_panel (ReplacePanel panel win) = Some panel.0
 named_panel _ = None
-
--- the panel is visible, and its window has the line
-abbrev pub panel_has_line : WindowMap → Panels → ℕ → ℕ → Bool
-panel_has_line window panels p line =
-    list_any (λ q. q == p) panels.visible && option_map_or (has_line line) (window (window_or_standard panels (Some p))) false
 
 -- the changed panel shows at the place, or has the line, before the call or after it
 abbrev pub stacking_shows : Windows → Panels → Stacking → ℕ → ℕ → Bool

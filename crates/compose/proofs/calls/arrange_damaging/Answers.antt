@@ -7,10 +7,10 @@ use Rattle.world.specs.calls.Affected.{changed_panel}
 use Rattle.world.specs.calls.Places.{panel_shows_at}
 use Rattle.grids.specs.Tables.{windows}
 use Rattle.stack.specs.Tables.{panels}
-use Rattle.compose.specs.Parts.{part_has_line, part_holds}
-use Rattle.compose.specs.steps.Changes.{named_panel, panel_has_line, panels_after, stacking_has_line, stacking_shows, windows_after}
+use Rattle.picture.specs.Parts.{panel_has_line, part_has_line, part_holds}
+use Rattle.picture.proofs.DamageLaws.{damages-as, damages-then, part-right}
+use Rattle.compose.specs.steps.Changes.{named_panel, panels_after, stacking_has_line, stacking_shows, windows_after}
 use Rattle.compose.proofs.Arranging.{arranged-size}
-use Rattle.compose.proofs.DamageLaws.{damages-as, damages-then, part-right}
 use Rattle.compose.proofs.Parting.{both-parts, new-hidden, part-within}
 use Rattle.compose.proofs.calls.arrange_damaging.Goals as goal
 

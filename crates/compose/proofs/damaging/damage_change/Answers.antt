@@ -1,7 +1,7 @@
 use Rattle.grids.specs.Tables.{windows}
-use Rattle.compose.specs.Parts.{part_has_line, part_holds}
+use Rattle.picture.specs.Parts.{part_has_line, part_holds}
+use Rattle.picture.proofs.DamageLaws.{damages-as, part-right}
 use Rattle.compose.specs.steps.Changes.{change_has_line, change_shows_at}
-use Rattle.compose.proofs.DamageLaws.{damages-as, part-right}
 use Rattle.compose.proofs.damaging.damage_change.Goals as goal
 
 pub returns : goal.returns

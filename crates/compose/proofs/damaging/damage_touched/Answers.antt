@@ -2,7 +2,8 @@ use Rattle.std.proofs.Common.{◌≡◌, ◌+◌, ◌-◌, arith, refl, subst, s
 use Rattle.world.specs.Windows.{Drawing, cell_at}
 use Rattle.world.specs.calls.Refresh.{touched_cells}
 use Rattle.grids.specs.Tables.{windows}
-use Rattle.compose.proofs.Pieces.{bare-above, bare-below, bare-untouched, piece-touched, stands-at, touched-inside}
+use Rattle.picture.proofs.Standing.{stands-at}
+use Rattle.compose.proofs.Pieces.{bare-above, bare-below, bare-untouched, piece-touched, touched-inside}
 use Rattle.compose.proofs.Touching.{DamagedAbove, above-all, above-bare, above-more, above-none}
 use Rattle.compose.proofs.damaging.damage_touched.Goals.{in-Some, in_default-touched}
 use Rattle.compose.proofs.damaging.damage_touched.Goals as goal

@@ -4,11 +4,11 @@ use Rattle.world.specs.calls.Refresh.{after_init_pair, init_pair_refusal}
 use Rattle.world.specs.declared.call.Call.TheVariants as calls
 use Rattle.world.specs.declared.call.Refresh.TheVariants.{InitPair}
 use Rattle.grids.specs.Tables.{windows as windows_of}
+use Rattle.picture.specs.Parts.{part_has_line, part_holds}
+use Rattle.picture.proofs.DamageLaws.{damages-as, part-right}
+use Rattle.picture.proofs.Standard.{standard-holds}
 use Rattle.compose.specs.Desks.{DeskTable, world}
-use Rattle.compose.specs.Parts.{part_has_line, part_holds}
 use Rattle.compose.proofs.Covering.{covered-after}
-use Rattle.compose.proofs.DamageLaws.{damages-as, part-right}
-use Rattle.compose.proofs.Standard.{standard-holds}
 use Rattle.compose.proofs.desk.Desk.init_pair.Goals as goal
 
 pub invariant_of-self : goal.invariant_of-self

@@ -7,13 +7,13 @@ use Rattle.world.specs.calls.Refresh.{after_pnoutrefresh, pnoutrefresh_refusal, 
 use Rattle.world.specs.declared.call.Call.TheVariants as calls
 use Rattle.world.specs.declared.call.Refresh.TheVariants.{Pnoutrefresh}
 use Rattle.grids.specs.Tables.{windows}
+use Rattle.picture.specs.Parts.{part_has_line, part_holds}
+use Rattle.picture.specs.Damages.{Damages}
+use Rattle.picture.proofs.DamageLaws.{damages-as}
 use Rattle.compose.specs.Desks.{DeskTable, world}
-use Rattle.compose.specs.Parts.{part_has_line, part_holds}
-use Rattle.compose.specs.steps.Damages.{Damages}
 use Rattle.compose.proofs.Composed.{IsSound-pad}
 use Rattle.compose.specs.Calling.{DamagesFew}
 use Rattle.compose.proofs.Covering.{covered-after, few-after}
-use Rattle.compose.proofs.DamageLaws.{damages-as}
 use Rattle.compose.proofs.Padding.{pad-covers, pad-draws}
 use Rattle.compose.proofs.Pieces.{IsOfPad, of-pad}
 use Rattle.compose.proofs.desk.Desk.pnoutrefresh.Goals as goal

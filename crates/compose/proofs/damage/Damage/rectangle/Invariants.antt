@@ -1,5 +1,0 @@
-use Rattle.compose.proofs.DamageLaws.{Widened}
-use Rattle.compose.proofs.damage.Damage.rectangle.Given as goal
-
-abbrev pub invariant-loop-y : goal.invariant-loop-y
-invariant-loop-y l = Widened l.frame l.y l.fn.self l.self

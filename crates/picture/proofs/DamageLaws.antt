@@ -1,0 +1,164 @@
+-- What steps do to the damage, one after another; and that a rectangle is damaged line by line.
+use Rattle.std.proofs.Common.{◌≡◌, ℕ, ◌+◌, ◌<◌, ◌≤◌, min, max, Bool, true, false, ◌&&◌, ◌||◌, nat_le, nat_lt, if◌then◌else◌, Option, Some, None, is_some, List, length, inl, inr, refl, sym, ap, subst, ◌∙◌, arith, get_or-set_other, get_or-set_same}
+use Rattle.std.specs.Prelude.{MatchOption, slice_set, ⊤}
+use Rattle.std.proofs.lemmas.Bool.{and_parts, and_from, or_left, or_right, or_cases, cases_eq, cases_lt, leb-true, le-leb, lt-ltb}
+use Rattle.std.proofs.lemmas.Bool.Decides.{nat_tests}
+use Rattle.std.proofs.lemmas.List.{length-set}
+use Rattle.cell.specs.declared.window.Frame.{Frame}
+use Rattle.world.specs.Sound.{AreColumnsWithin}
+use Rattle.world.specs.calls.Refresh.{among}
+use Rattle.world.specs.declared.settings.Columns.{Columns}
+use Rattle.picture.specs.Damages.{Damages, columns_of, has_damage, joined_columns}
+use Rattle.picture.specs.Parts.{IsFrameWithin, frame_has_line, frame_holds}
+
+-- ---- one step after another
+
+-- nothing is damaged where no place is named
+pub damages-none : (columns : ℕ) (places : ℕ → ℕ → Bool) (named : ℕ → Bool) (old : List (Option Columns)) → ((y x : ℕ) → places y x ≡ false) → Damages columns places named old old
+damages-none columns places named old none = record {
+  height = refl;
+  within = λ y h. h;
+  keeps = λ y x h. h;
+  covers = λ y x below left h. let never : true ≡ false = sym h ∙ none y x in cc;
+  few = λ y h. or_left (has_damage old y) (named y) h;
+}
+
+few-step : (old mid n m : Bool) → (mid ≡ true → (old || n) ≡ true) → (mid || m) ≡ true → (old || (n || m)) ≡ true
+few-step true mid n m first h = refl
+few-step false mid true m first h = refl
+few-step false true false m first h = let never : false ≡ true = first refl in cc
+few-step false false false m first h = h
+
+pub damages-then : (columns : ℕ) (p q : ℕ → ℕ → Bool) (n m : ℕ → Bool) (old mid new : List (Option Columns)) → Damages columns p n old mid → Damages columns q m mid new
+    → Damages columns (λ y x. p y x || q y x) (λ y. n y || m y) old new
+damages-then columns p q n m old mid new first second = record {
+  height = second.height ∙ first.height;
+  within = λ y h. second.within y (first.within y h);
+  keeps = λ y x h. second.keeps y x (first.keeps y x h);
+  covers = λ y x below left h. elim (or_cases (p y x) (q y x) h) [
+    | inl one ↦ second.keeps y x (first.covers y x below left one)
+    | inr other ↦ second.covers y x (subst (λ k. y < k) (sym first.height) below) left other
+  ];
+  few = λ y h. few-step (has_damage old y) (has_damage mid y) (n y) (m y) (first.few y) (second.few y h);
+}
+
+few-as : (old n m : Bool) → (n ≡ true → m ≡ true) → (old || n) ≡ true → (old || m) ≡ true
+few-as true n m to h = refl
+few-as false n m to h = to h
+
+-- fewer places, and more lines
+pub damages-as : (columns : ℕ) (p q : ℕ → ℕ → Bool) (n m : ℕ → Bool) (old new : List (Option Columns)) → Damages columns p n old new
+    → ((y x : ℕ) → y < length old → x < columns → q y x ≡ true → p y x ≡ true) → ((y : ℕ) → n y ≡ true → m y ≡ true) → Damages columns q m old new
+damages-as columns p q n m old new h covered named = record {
+  height = h.height;
+  within = h.within;
+  keeps = h.keeps;
+  covers = λ y x below left is. h.covers y x below left (covered y x below left is);
+  few = λ y is. few-as (has_damage old y) (n y) (m y) (named y) (h.few y is);
+}
+
+-- ---- a rectangle
+
+-- the lines from the top, before line n, were widened
+pub record Widened (r : Frame) (n : ℕ) (old now : List (Option Columns)) : Type 0 where
+  pub height : length now ≡ length old
+  pub each : (v : ℕ) → columns_of now v ≡ (if frame_has_line r v && nat_lt v n then joined_columns (columns_of old v) r.left r.right else columns_of old v)
+
+not-yet : {A : Type 0} (top bottom n v : ℕ) (a b : A) → n ≤ top → (if (nat_le top v && nat_le v bottom) && nat_lt v n then a else b) ≡ b
+not-yet top bottom n v a b h = grind (arith, nat_tests)
+
+pub widened-none : (r : Frame) (old : List (Option Columns)) → Widened r r.top old old
+widened-none r old = record { height = refl; each = λ v. sym (not-yet r.top r.bottom r.top v (joined_columns (columns_of old v) r.left r.right) (columns_of old v) (omega arith)) }
+
+yes : {A : Type 0} (s t : Bool) (a b : A) → s ≡ true → t ≡ true → (if s && t then a else b) ≡ a
+yes s t a b h k = rw (h, k) refl
+
+other-line : {A : Type 0} (has : Bool) (n v : ℕ) (a b : A) → (v ≡ n → ⊥) → (if has && nat_lt v n then a else b) ≡ (if has && nat_lt v (n + 1) then a else b)
+other-line has n v a b other = ap (λ t. if has && t then a else b) (same-test n v other) where
+  same-test : (n v : ℕ) → (v ≡ n → ⊥) → nat_lt v n ≡ nat_lt v (n + 1)
+  same-test n v other = elim (cases_lt v n) [
+    | inl before ↦ grind (arith, nat_tests)
+    | inr from ↦ let past : n < v = omega (arith, other) in grind (arith, nat_tests)
+  ]
+
+here-not : {A : Type 0} (has : Bool) (n : ℕ) (a b : A) → (if has && nat_lt n n then a else b) ≡ b
+here-not true n a b = grind (arith, nat_tests)
+here-not false n a b = refl
+
+pub widened-more : (r : Frame) (n : ℕ) (old now : List (Option Columns)) → Widened r n old now → r.top ≤ n → n ≤ r.bottom → n < length now
+    → Widened r (n + 1) old (slice_set now n (joined_columns (columns_of now n) r.left r.right))
+widened-more r n old now h from to below = record {
+  height = length-set now n (joined_columns (columns_of now n) r.left r.right) ∙ h.height;
+  each = λ v. elim (cases_eq v n) [
+    | inl same ↦
+        let joined : Option Columns = joined_columns (columns_of old n) r.left r.right in
+        let here : (if frame_has_line r n && nat_lt n n then joined else columns_of old n) ≡ columns_of old n = here-not (frame_has_line r n) n joined (columns_of old n) in
+        subst (λ k. columns_of (slice_set now n (joined_columns (columns_of now n) r.left r.right)) k ≡ (if frame_has_line r k && nat_lt k (n + 1) then joined_columns (columns_of old k) r.left r.right else columns_of old k)) (sym same)
+        (get_or-set_same now n (joined_columns (columns_of now n) r.left r.right) None below
+        ∙ ap (λ c. joined_columns c r.left r.right) (h.each n ∙ here)
+        ∙ sym (yes (frame_has_line r n) (nat_lt n (n + 1)) joined (columns_of old n) (and_from (nat_le r.top n) (nat_le n r.bottom) (le-leb r.top n from) (le-leb n r.bottom to)) (lt-ltb n (n + 1) (omega arith))))
+    | inr other ↦
+        get_or-set_other now n v (joined_columns (columns_of now n) r.left r.right) None other
+        ∙ h.each v
+        ∙ other-line (frame_has_line r v) n v (joined_columns (columns_of old v) r.left r.right) (columns_of old v) other
+  ];
+}
+
+-- columns of one line
+joined-within : (columns : ℕ) (c : Option Columns) (left right : ℕ) → left ≤ right → right < columns → AreColumnsWithin columns c → AreColumnsWithin columns (joined_columns c left right)
+joined-within columns None left right ordered inside h = (ordered, inside)
+joined-within columns (Some c) left right ordered inside h = let first = h.0 in let last = h.1 in (omega arith, omega arith)
+
+joined-keeps : (c : Option Columns) (left right x : ℕ) → among c x ≡ true → among (joined_columns c left right) x ≡ true
+joined-keeps None left right x h = cc
+joined-keeps (Some c) left right x h =
+    let both = and_parts (nat_le c.first x) (nat_le x c.last) h in
+    let first = leb-true c.first x both.0 in
+    let last = leb-true x c.last both.1 in
+    and_from (nat_le (min c.first left) x) (nat_le x (max c.last right)) (le-leb (min c.first left) x (omega arith)) (le-leb x (max c.last right) (omega arith))
+
+joined-covers : (c : Option Columns) (left right x : ℕ) → (nat_le left x && nat_le x right) ≡ true → among (joined_columns c left right) x ≡ true
+joined-covers None left right x h = h
+joined-covers (Some c) left right x h =
+    let both = and_parts (nat_le left x) (nat_le x right) h in
+    let first = leb-true left x both.0 in
+    let last = leb-true x right both.1 in
+    and_from (nat_le (min c.first left) x) (nat_le x (max c.last right)) (le-leb (min c.first left) x (omega arith)) (le-leb x (max c.last right) (omega arith))
+
+within-if : (b : Bool) (columns : ℕ) (c : Option Columns) (left right : ℕ) → left ≤ right → right < columns → AreColumnsWithin columns c → AreColumnsWithin columns (if b then joined_columns c left right else c)
+within-if true columns c left right ordered inside h = joined-within columns c left right ordered inside h
+within-if false columns c left right ordered inside h = h
+
+keeps-if : (b : Bool) (c : Option Columns) (left right x : ℕ) → among c x ≡ true → among (if b then joined_columns c left right else c) x ≡ true
+keeps-if true c left right x h = joined-keeps c left right x h
+keeps-if false c left right x h = h
+
+covers-if : (b : Bool) (c : Option Columns) (left right x : ℕ) → b ≡ true → (nat_le left x && nat_le x right) ≡ true → among (if b then joined_columns c left right else c) x ≡ true
+covers-if true c left right x is h = joined-covers c left right x h
+covers-if false c left right x is h = cc
+
+few-if : (b : Bool) (c : Option Columns) (left right : ℕ) → is_some (if b then joined_columns c left right else c) ≡ true → (is_some c || b) ≡ true
+few-if true c left right h = or_right (is_some c) true refl
+few-if false c left right h = or_left (is_some c) false h
+
+same-lines : (top bottom n v : ℕ) → bottom < n → ((nat_le top v && nat_le v bottom) && nat_lt v n) ≡ (nat_le top v && nat_le v bottom)
+same-lines top bottom n v past = grind (arith, nat_tests)
+
+-- all of it was widened
+pub damages-rectangle : (columns : ℕ) (r : Frame) (n : ℕ) (old new : List (Option Columns)) → Widened r n old new → r.bottom < n → r.left ≤ r.right → r.right < columns
+    → Damages columns (frame_holds r) (frame_has_line r) old new
+damages-rectangle columns r n old new h past ordered inside = record {
+  height = h.height;
+  within = λ y is. rw (at y) (within-if (frame_has_line r y) columns (columns_of old y) r.left r.right ordered inside is);
+  keeps = λ y x is. rw (at y) (keeps-if (frame_has_line r y) (columns_of old y) r.left r.right x is);
+  covers = λ y x below left is.
+      let both = and_parts (frame_has_line r y) (nat_le r.left x && nat_le x r.right) is in
+      rw (at y) (covers-if (frame_has_line r y) (columns_of old y) r.left r.right x both.0 both.1);
+  few = λ y is. few-if (frame_has_line r y) (columns_of old y) r.left r.right (rw (← at y) is);
+} where
+  at : (y : ℕ) → columns_of new y ≡ (if frame_has_line r y then joined_columns (columns_of old y) r.left r.right else columns_of old y)
+  at y = h.each y ∙ ap (λ b. if b then joined_columns (columns_of old y) r.left r.right else columns_of old y) (same-lines r.top r.bottom n y past)
+
+pub part-right : (lines columns : ℕ) (part : Option Frame) → MatchOption part ⊤ (IsFrameWithin lines columns) → MatchOption part ⊤ (λ r. r.right < columns)
+part-right lines columns None h = tt
+part-right lines columns (Some r) h = h.right

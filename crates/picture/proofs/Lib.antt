@@ -1,0 +1,10 @@
+pub mod Held
+pub mod Standing
+pub mod PartLaws
+pub mod VisiblePanels
+pub mod Standard
+pub mod Spans
+pub mod Lines
+pub mod RowPieces
+pub mod DamageLaws
+pub mod Composing

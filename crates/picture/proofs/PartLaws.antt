@@ -1,0 +1,132 @@
+-- The part of the screen on which a window stands, or on which it shows cells of another.
+use Rattle.std.proofs.Common.{◌≡◌, ℕ, ◌+◌, ◌-◌, ◌<◌, ◌≤◌, true, false, ◌&&◌, nat_le, nat_lt, Option, Some, sym, ap, subst, ◌∙◌, arith}
+use Rattle.std.specs.Prelude.{IsSomeAnd, unwrap_or}
+use Rattle.std.specs.Option.{option_map_or}
+use Rattle.std.proofs.lemmas.Bool.{and_parts, and_from, leb-true, le-leb, ltb-true, lt-ltb}
+use Rattle.std.proofs.lemmas.Bool.Decides.{nat_tests}
+use Rattle.cell.specs.Pictures.{Place, origin}
+use Rattle.cell.specs.declared.window.Frame.{Frame}
+use Rattle.world.specs.Frames.{AreRectangle, IsIn, IsSmallest}
+use Rattle.world.specs.Panels.{has_line, holds, holds_place, place_of, screen_place}
+use Rattle.world.specs.Sharing.{SharesPart, shows_part_of}
+use Rattle.world.specs.Windows.{Window, Windows, any_below}
+use Rattle.world.specs.calls.Affected.{shows_on_line}
+use Rattle.world.specs.calls.Places.{shows_at}
+use Rattle.world.proofs.Below.{any_below-some}
+use Rattle.picture.specs.Parts.{IsFrameWithin, frame_has_line, frame_holds}
+use Rattle.picture.proofs.Standing.{StandsAt}
+
+-- a window's own rectangle
+abbrev pub frame_from : ℕ → ℕ → ℕ → ℕ → Frame
+frame_from top left lines columns = record { top = top; left = left; bottom = top + lines - 1; right = left + columns - 1 }
+
+module _ (windows : Windows) (w top left lines : ℕ) (h : StandsAt windows w (top, left) lines) where
+  holds-is : (y x : ℕ) → holds windows.window w y x ≡ ((nat_le top y && nat_lt y (top + h.window.lines)) && (nat_le left x && nat_lt x (left + h.window.columns)))
+  holds-is y x =
+      ap (λ (o : Option Window). option_map_or (holds_place y x) o false) h.there
+      ∙ ap (λ (o : Option Place). option_map_or (λ p. (nat_le p.0 y && nat_lt y (p.0 + h.window.lines)) && (nat_le p.1 x && nat_lt x (p.1 + h.window.columns))) o false) h.at
+
+  line-is : (y : ℕ) → option_map_or (has_line y) (windows.window w) false ≡ (nat_le top y && nat_lt y (top + h.window.lines))
+  line-is y =
+      ap (λ (o : Option Window). option_map_or (has_line y) o false) h.there
+      ∙ ap (λ (o : Option Place). option_map_or (λ p. nat_le p.0 y && nat_lt y (p.0 + h.window.lines)) o false) h.at
+
+  place-is : place_of windows.window w ≡ (top, left)
+  place-is = ap (λ (o : Option Window). option_map_or screen_place o origin) h.there ∙ ap (λ (o : Option Place). unwrap_or o origin) h.at
+
+  pub frame-holds : (columns : ℕ) → 0 < lines → h.window.columns ≡ columns → (y x : ℕ) → frame_holds (frame_from top left lines columns) y x ≡ holds windows.window w y x
+  frame-holds columns some same y x = sym (holds-is y x ∙ rw (h.height, same) (inside-same top left lines columns y x some (let has = h.has_column in omega (arith, same)))) where
+    inside-same : (top left lines columns y x : ℕ) → 0 < lines → 0 < columns
+        → ((nat_le top y && nat_lt y (top + lines)) && (nat_le left x && nat_lt x (left + columns))) ≡ ((nat_le top y && nat_le y (top + lines - 1)) && (nat_le left x && nat_le x (left + columns - 1)))
+    inside-same top left lines columns y x some more = grind (arith, nat_tests)
+
+  pub frame-line : (columns : ℕ) → 0 < lines → (y : ℕ) → frame_has_line (frame_from top left lines columns) y ≡ option_map_or (has_line y) (windows.window w) false
+  frame-line columns some y = sym (line-is y ∙ rw h.height (line-same top lines y some)) where
+    line-same : (top lines y : ℕ) → 0 < lines → (nat_le top y && nat_lt y (top + lines)) ≡ (nat_le top y && nat_le y (top + lines - 1))
+    line-same top lines y some = grind (arith, nat_tests)
+
+  pub frame-within : (columns : ℕ) → 0 < lines → h.window.columns ≡ columns → IsFrameWithin windows.lines windows.columns (frame_from top left lines columns)
+  frame-within columns some same =
+      let down = h.down in
+      let height = h.height in
+      let right = h.right in
+      let has = h.has_column in
+      record { bottom = omega (arith, down, height); ordered = omega (arith, has, same); right = omega (arith, right, same, has) }
+
+  -- ---- cells of another
+
+  module _ (window_shown : ℕ) (r seen : Frame) (rectangle : AreRectangle (SharesPart windows.window window_shown r w) (Some seen)) where
+    abbrev shifted : Frame
+    shifted = record { top = top + seen.top; left = left + seen.left; bottom = top + seen.bottom; right = left + seen.right }
+
+    shares : (y x : ℕ) → shows_at windows.window window_shown r y x w ≡ true → SharesPart windows.window window_shown r w (y - top) (x - left)
+    shares y x is =
+        let both = and_parts (holds windows.window w y x) (shows_part_of windows.window window_shown r w (y - (place_of windows.window w).0) (x - (place_of windows.window w).1)) is in
+        let held = sym (holds-is y x) ∙ both.0 in
+        let parts = and_parts (nat_le top y && nat_lt y (top + h.window.lines)) (nat_le left x && nat_lt x (left + h.window.columns)) held in
+        let line = and_parts (nat_le top y) (nat_lt y (top + h.window.lines)) parts.0 in
+        let column = and_parts (nat_le left x) (nat_lt x (left + h.window.columns)) parts.1 in
+        let from_line = leb-true top y line.0 in
+        let to_line = ltb-true y (top + h.window.lines) line.1 in
+        let from_column = leb-true left x column.0 in
+        let to_column = ltb-true x (left + h.window.columns) column.1 in
+        let inside : (y - top < h.window.lines) × (x - left < h.window.columns) = (omega arith, omega arith) in (
+          subst (λ (o : Option Window). IsSomeAnd o (λ a. (y - top < a.lines) × (x - left < a.columns))) (sym h.there) inside,
+          ap (λ (p : Place). shows_part_of windows.window window_shown r w (y - p.0) (x - p.1)) (sym place-is) ∙ both.1,
+        )
+
+    from-place : (y x : ℕ) → shows_at windows.window window_shown r y x w ≡ true → (top ≤ y) × (left ≤ x)
+    from-place y x is =
+        let both = and_parts (holds windows.window w y x) (shows_part_of windows.window window_shown r w (y - (place_of windows.window w).0) (x - (place_of windows.window w).1)) is in
+        let held = sym (holds-is y x) ∙ both.0 in
+        let parts = and_parts (nat_le top y && nat_lt y (top + h.window.lines)) (nat_le left x && nat_lt x (left + h.window.columns)) held in
+        (leb-true top y (and_parts (nat_le top y) (nat_lt y (top + h.window.lines)) parts.0).0, leb-true left x (and_parts (nat_le left x) (nat_lt x (left + h.window.columns)) parts.1).0)
+
+    pub shared-holds : (y x : ℕ) → shows_at windows.window window_shown r y x w ≡ true → frame_holds shifted y x ≡ true
+    shared-holds y x is =
+        let at = rectangle.0.holds (y - top) (x - left) (shares y x is) in
+        let from = from-place y x is in
+        let down = from.0 in
+        let along = from.1 in
+        let a = at.top in
+        let b = at.bottom in
+        let c = at.left in
+        let d = at.right in
+        and_from (nat_le (top + seen.top) y && nat_le y (top + seen.bottom)) (nat_le (left + seen.left) x && nat_le x (left + seen.right))
+        (and_from (nat_le (top + seen.top) y) (nat_le y (top + seen.bottom)) (le-leb (top + seen.top) y (omega arith)) (le-leb y (top + seen.bottom) (omega arith)))
+        (and_from (nat_le (left + seen.left) x) (nat_le x (left + seen.right)) (le-leb (left + seen.left) x (omega arith)) (le-leb x (left + seen.right) (omega arith)))
+
+    abbrev smallest : IsSmallest (SharesPart windows.window window_shown r w) seen
+    smallest = rectangle.0
+
+    ordered-columns : seen.left ≤ seen.right
+    ordered-columns = (smallest.holds smallest.left.0 seen.left smallest.left.1).right
+
+    in-window : (y x : ℕ) → SharesPart windows.window window_shown r w y x → (y < h.window.lines) × (x < h.window.columns)
+    in-window y x shared = subst (λ (o : Option Window). IsSomeAnd o (λ a. (y < a.lines) × (x < a.columns))) h.there shared.0
+
+    pub shared-within : IsFrameWithin windows.lines windows.columns shifted
+    shared-within =
+        let low = (in-window seen.bottom smallest.bottom.0 smallest.bottom.1).0 in
+        let far = (in-window smallest.right.0 seen.right smallest.right.1).1 in
+        let down = h.down in
+        let right = h.right in
+        let ordered = ordered-columns in
+        record { bottom = omega (arith, low, down); ordered = omega (arith, ordered); right = omega (arith, far, right) }
+
+    pub shared-line : (y : ℕ) → frame_has_line shifted y ≡ true → shows_on_line windows.window window_shown r y w ≡ true
+    shared-line y is =
+        let both = and_parts (nat_le (top + seen.top) y) (nat_le y (top + seen.bottom)) is in
+        let from = leb-true (top + seen.top) y both.0 in
+        let to = leb-true y (top + seen.bottom) both.1 in
+        let columns = ordered-columns in
+        let at : IsIn seen (y - top) seen.left = record { top = omega (arith, from); bottom = omega (arith, to, from); left = omega arith; right = columns } in
+        let shared = rectangle.1 (y - top) seen.left at in
+        let inside = in-window (y - top) seen.left shared in
+        let line : nat_lt y (top + h.window.lines) ≡ true = lt-ltb y (top + h.window.lines) (let below = inside.0 in omega (arith, from, below)) in
+        let first : nat_le top y ≡ true = le-leb top y (omega (arith, from)) in
+        ap (λ (o : Option Window). option_map_or (λ a. has_line y a && any_below a.columns (λ x. shows_part_of windows.window window_shown r w (y - (screen_place a).0) x)) o false) h.there
+        ∙ ap (λ (o : Option Place). option_map_or (λ p. nat_le p.0 y && nat_lt y (p.0 + h.window.lines)) o false && any_below h.window.columns (λ x. shows_part_of windows.window window_shown r w (y - (unwrap_or o origin).0) x)) h.at
+        ∙ and_from (nat_le top y && nat_lt y (top + h.window.lines)) (any_below h.window.columns (λ x. shows_part_of windows.window window_shown r w (y - top) x))
+        (and_from (nat_le top y) (nat_lt y (top + h.window.lines)) first line)
+        (any_below-some h.window.columns (λ x. shows_part_of windows.window window_shown r w (y - top) x) seen.left inside.1 shared.1)

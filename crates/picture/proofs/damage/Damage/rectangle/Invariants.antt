@@ -1,0 +1,5 @@
+use Rattle.picture.proofs.DamageLaws.{Widened}
+use Rattle.picture.proofs.damage.Damage.rectangle.Given as goal
+
+abbrev pub invariant-loop-y : goal.invariant-loop-y
+invariant-loop-y l = Widened l.frame l.y l.fn.self l.self

@@ -1,0 +1,82 @@
+//! The damaged columns of each line of the screen.
+
+ghost use Rattle.std.specs.Prelude.{◌≡◌, ◌<◌, ◌≤◌, ℕ, None, Some, IfOk, length, replicate, slice_set};
+ghost use Rattle.cell.specs.declared.limits.TheConstants.{LARGEST_SCREEN};
+ghost use Rattle.picture.specs.Damages.{Damages, columns_of, joined_columns};
+ghost use Rattle.picture.specs.Parts.{frame_has_line, frame_holds};
+
+use cell::Frame;
+use std::alloc::{AllocError, Global};
+use std::marker::Model;
+use world::Columns;
+
+/// Of each line of the screen the columns, from a first to a last, at which the virtual screen may show something else than the search
+/// from the top finds.
+#[derive(Drop)]
+pub struct Damage {
+    lines: Vec<Option<Columns>>,
+}
+
+impl Model for Damage {
+    ghost use Rattle.std.specs.Prelude.{List, Option};
+    ghost use Rattle.world.specs.declared.settings.Columns.{Columns};
+
+    ghost Value = { List (Option Columns) };
+
+    ghost view = { λ damage. damage.lines.items };
+}
+
+impl Damage {
+    /// So many lines, of which none is damaged.
+    pub fn new(alloc: Global, lines: u16) -> Result<Damage, AllocError>
+        ensures { IfOk result (λ damage. damage ≡ replicate lines None) }
+    {
+        Ok(Damage {
+            lines: vec![in alloc; None; usize::from(lines)]?,
+        })
+    }
+
+    /// The damaged columns of a line.
+    pub fn line(&self, y: u16) -> Option<Columns>
+        requires { y < length self.now }
+        ensures { result ≡ columns_of self.now y }
+    {
+        self.lines[usize::from(y)]
+    }
+
+    /// A line isn't damaged any more.
+    pub fn clear(&mut self, y: u16)
+        requires { y < length self.old }
+        ensures { self.new ≡ slice_set self.old y None }
+    {
+        self.lines[usize::from(y)] = None;
+    }
+
+    /// Damages a rectangle.
+    pub fn rectangle(&mut self, frame: Frame)
+        requires few { length self.old ≤ LARGEST_SCREEN }
+        requires inside { frame.bottom < length self.old }
+        requires ordered { frame.left ≤ frame.right }
+        ensures damaged { (columns : ℕ) → frame.right < columns → Damages columns (frame_holds frame) (frame_has_line frame) self.old self.new }
+    {
+        for y in frame.top..frame.bottom + 1 {
+            self.widen(y, frame.left, frame.right);
+        }
+    }
+
+    /// Damages some columns of a line, from a first to a last, and those between them and the ones that were damaged.
+    fn widen(&mut self, y: u16, first: u16, last: u16)
+        requires { y < length self.old }
+        ensures { self.new ≡ slice_set self.old y (joined_columns (columns_of self.old y) first last) }
+    {
+        let at = usize::from(y);
+        let columns = match self.lines[at] {
+            Some(columns) => Columns {
+                first: columns.first.min(first),
+                last: columns.last.max(last),
+            },
+            None => Columns { first, last },
+        };
+        self.lines[at] = Some(columns);
+    }
+}

@@ -1,0 +1,19 @@
+//! What the picture of the screen is made of: spans of the lines of windows, lent and put into a line, and of each line the damaged columns.
+#![tactic(auto)]
+
+mod damage;
+mod line;
+mod parts;
+mod picture;
+mod piece;
+mod rows;
+mod search;
+mod span;
+
+pub use damage::Damage;
+pub use line::compose_row;
+pub use parts::{following_part, panel_part, shared_part, window_part};
+pub use picture::show_damaged;
+pub use piece::{Source, show_piece};
+pub use rows::Rows;
+pub use search::{STANDARD, cell_found, cursor_on_screen, wanted_cursor};

@@ -1,0 +1,72 @@
+//! A part of a window's line, put into a picture.
+
+ghost use Rattle.std.specs.Prelude.{◌≡◌, ◌<◌, ◌≤◌, ◌+◌, ◌-◌, ◌==◌, ◌&&◌, ℕ, if◌then◌else◌, length, nat_le, nat_lt, slice_index_or};
+ghost use Rattle.cell.specs.Glyphs.{blank};
+ghost use Rattle.cell.specs.Pictures.{HasSize, line_of, shown_at};
+ghost use Rattle.cell.specs.Shown.{shown};
+ghost use Rattle.world.specs.Windows.{HasPlace, cell_at};
+ghost use Rattle.grids.specs.Tables.{windows as windows_of};
+ghost use Rattle.picture.specs.Parts.{IsPiece};
+
+use cell::{Cell, Grid, Pairs, Shown, WinId};
+use grids::Grids;
+
+/// A line and a column of a window.
+#[derive(Clone, Copy)]
+pub struct Source {
+    pub win: WinId,
+    pub line: u16,
+    pub column: u16,
+}
+
+/// So many cells of line `y` of a window from column `left` on. There must be as many, and at least one.
+pub fn piece(table: &Grids, win: WinId, y: u16, left: u16, n: usize) -> &[Cell]
+    requires some { 0 < n }
+    requires place { HasPlace (windows_of table.now).window win.0 y (left + n - 1) }
+    ensures { IsPiece (windows_of table.now).window win.0 y left n result.now }
+{
+    let row = table.row(win, y);
+    let from = usize::from(left);
+    prove!(from + n <= row.len());
+    &row[from..from + n]
+}
+
+/// Puts so many cells of a line of a window, from a place of it on, into line `y` of a picture from column `x` on.
+pub fn show_piece(
+    table: &Grids,
+    pairs: &Pairs,
+    source: Source,
+    n: u16,
+    y: u16,
+    x: u16,
+    picture: &mut Grid<Shown>,
+)
+    requires some { 0 < n }
+    requires from { HasPlace (windows_of table.now).window source.win.0 source.line (source.column + n - 1) }
+    requires line { y < table.now.lines }
+    requires columns { x + n ≤ table.now.columns }
+    requires size { HasSize table.now.lines table.now.columns picture.old }
+    ensures shown { (v u : ℕ) → shown_at picture.new (v, u) ≡ (if (v == y) && (nat_le x u && nat_lt u (x + n)) then shown pairs.now (cell_at (windows_of table.now).window source.win.0 source.line (source.column + (u - x))) else shown_at picture.old (v, u)) }
+    ensures size { HasSize table.now.lines table.now.columns picture.new }
+{
+    let cells = piece(
+        table,
+        source.win,
+        source.line,
+        source.column,
+        usize::from(n),
+    );
+    show_cells(cells, pairs, y, x, picture);
+}
+
+/// Puts cells into line `y` of a picture from column `x` on.
+pub fn show_cells(cells: &[Cell], pairs: &Pairs, y: u16, x: u16, picture: &mut Grid<Shown>)
+    requires line { y < length picture.old }
+    requires columns { x + length cells.now ≤ length (line_of picture.old y) }
+    ensures shown { (v u : ℕ) → shown_at picture.new (v, u) ≡ (if (v == y) && (nat_le x u && nat_lt u (x + length cells.now)) then shown pairs.now (slice_index_or cells.now (u - x) blank) else shown_at picture.old (v, u)) }
+    ensures size { (lines columns : ℕ) → HasSize lines columns picture.old → HasSize lines columns picture.new }
+{
+    for k in 0..cells.len() {
+        picture.set(usize::from(y), usize::from(x) + k, pairs.shown(cells[k]));
+    }
+}

@@ -1,0 +1,72 @@
+//! The search from the top visible panel down to the standard screen, and the topmost's cursor.
+
+ghost use Rattle.std.specs.Prelude.{◌≡◌, ◌<◌, true};
+ghost use Rattle.world.specs.Panels.{cursor_of_topmost, cursor_on_screen, found_from_top, holds, owner, place_of, topmost, window_or_standard};
+ghost use Rattle.world.specs.Sound.{AreSoundPanels, AreSoundWindows};
+ghost use Rattle.grids.specs.Tables.{windows as windows_of};
+ghost use Rattle.stack.specs.Tables.{panels};
+
+use crate::rows::Lent;
+use crate::span::span_found;
+use cell::{Cell, WinId};
+use grids::Grids;
+use stack::Stack;
+
+/// The number of the standard screen.
+pub const STANDARD: WinId = WinId(0);
+
+/// The cell that a search from the top visible panel down to the standard screen finds at line `y` and column `x` of the screen,
+/// which has so many columns.
+pub fn cell_found(table: &Grids, stack: &Stack, y: u16, x: u16, columns: u16) -> Cell
+    requires windows { AreSoundWindows (windows_of table.now) }
+    requires panels { AreSoundPanels (windows_of table.now).window (panels stack.now) }
+    requires line { y < table.now.lines }
+    requires column { x < columns }
+    requires columns { columns ≡ table.now.columns }
+    ensures { result ≡ found_from_top (windows_of table.now).window (panels stack.now) y x }
+{
+    let win = span_found(&Lent::of(table), stack, y, x, columns).win;
+    let (top, left) = place(table, win);
+    table.cell(win, y - top, x - left)
+}
+
+/// Where the cursor of the top visible panel's window stands on the screen, or the standard screen's if no panel is visible.
+pub fn wanted_cursor(table: &Grids, stack: &Stack) -> (u16, u16)
+    ensures { result ≡ cursor_of_topmost (windows_of table.now).window (panels stack.now) }
+{
+    cursor_on_screen(table, window_on_top(stack))
+}
+
+/// Where a window's cursor stands on the screen.
+pub fn cursor_on_screen(table: &Grids, win: WinId) -> (u16, u16)
+    ensures { result ≡ cursor_on_screen (windows_of table.now).window win.0 }
+{
+    let (top, left) = place(table, win);
+    match table.getyx(win) {
+        Ok((y, x)) => (top + y, left + x),
+        Err(_) => (0, 0),
+    }
+}
+
+/// The window of the top visible panel, or the standard screen.
+fn window_on_top(stack: &Stack) -> WinId
+    ensures { result.0 ≡ window_or_standard (panels stack.now) (topmost (panels stack.now)) }
+{
+    match stack.below(None) {
+        Ok(Some(panel)) => match stack.window(panel) {
+            Ok(win) => win,
+            Err(_) => STANDARD,
+        },
+        _ => STANDARD,
+    }
+}
+
+/// Where a window begins on the screen. A pad, or none, begins at the first place.
+fn place(table: &Grids, win: WinId) -> (u16, u16)
+    ensures { result ≡ place_of (windows_of table.now).window win.0 }
+{
+    match table.getbegyx(win) {
+        Ok(place) => place,
+        Err(_) => (0, 0),
+    }
+}
