@@ -9,6 +9,8 @@ mod piece;
 mod rows;
 mod search;
 mod span;
+#[cfg(test)]
+mod tests;
 
 pub use damage::Damage;
 pub use line::compose_row;

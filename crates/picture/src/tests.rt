@@ -1,0 +1,185 @@
+ghost use Rattle.std.specs.Prelude.{IfOk};
+ghost use Rattle.cell.specs.Pictures.{HasSize};
+ghost use Rattle.world.specs.Sound.{AreSoundPanels};
+ghost use Rattle.grids.specs.Tables.{windows as windows_of};
+ghost use Rattle.stack.specs.Tables.{panels};
+
+use crate::rows::Lent;
+use crate::{Rows, STANDARD, Source, compose_row, show_piece};
+use cell::{Attr, Cell, Frame, Grid, Pairs, Shown, WinId};
+use grids::Grids;
+use stack::Stack;
+use std::alloc::Global;
+use std::test::Fail;
+
+/// The window in a panel, and the one in none.
+const IN_PANEL: WinId = WinId(1);
+
+const DASHES: WinId = WinId(2);
+
+/// A piece of a line of a window, from a first to a last column.
+#[derive(Clone, Copy, PartialEq, Eq, Debug)]
+struct Piece {
+    win: WinId,
+    line: u16,
+    first: u16,
+    last: u16,
+}
+
+impl Piece {
+    /// Part of the first line of a window.
+    const fn new(win: WinId, first: u16, last: u16) -> Piece {
+        Piece {
+            win,
+            line: 0,
+            first,
+            last,
+        }
+    }
+}
+
+/// Lends of a table, and notes the pieces that it lends, up to three.
+#[derive(Drop)]
+struct Noted<'a> {
+    lent: Lent<'a>,
+    pieces: [Option<Piece>; 3],
+    noted: usize,
+}
+
+impl<'a> Rows<'a> for Noted<'a> {
+    ghost windows = { λ rows. windows_of rows.lent.table.now };
+
+    ghost lent = { λ rows. rows.lent.cells };
+
+    fn rect(&self, win: WinId) -> Frame {
+        self.lent.rect(win)
+    }
+
+    fn lend(&mut self, win: WinId, y: u16, left: u16, right: u16) -> &'a [Cell] {
+        if self.noted < 3 {
+            self.pieces[self.noted] = Some(Piece {
+                win,
+                line: y,
+                first: left,
+                last: right,
+            });
+            self.noted += 1;
+        }
+        self.lent.lend(win, y, left, right)
+    }
+}
+
+/// Sets the cell of a column of a window's first line to a character.
+fn put(table: &mut Grids, win: WinId, x: u16, character: u8) -> Result<(), Fail> {
+    let (lines, columns) = table.getmaxyx(win)?;
+    let cell = Cell::new(character, Attr::NONE, 0).ok_or("no cell")?;
+    if lines == 0 || columns <= x {
+        return Err("no such place".into());
+    }
+    table.fill(win, 0, x, x, cell);
+    Ok(())
+}
+
+/// A screen of 1 line and 4 columns that shows `abcd`. One window stands at column 1 of it and shows `XY`, one shows `----`.
+fn windows(alloc: Global) -> Result<Grids, Fail> {
+    let mut table = Grids::new(alloc, 1, 4)?;
+    table.newwin(1, 2, 0, 1)?;
+    table.newwin(1, 4, 0, 0)?;
+    for (x, character) in [(0, b'a'), (1, b'b'), (2, b'c'), (3, b'd')] {
+        put(&mut table, STANDARD, x, character)?;
+        put(&mut table, DASHES, x, b'-')?;
+    }
+    put(&mut table, IN_PANEL, 0, b'X')?;
+    put(&mut table, IN_PANEL, 1, b'Y')?;
+    Ok(table)
+}
+
+/// The one window in a panel.
+fn one_panel(alloc: Global, table: &Grids) -> Result<Stack, Fail>
+    ensures { IfOk result (λ stack. AreSoundPanels (windows_of table.now).window (panels stack)) }
+{
+    table.getbegyx(IN_PANEL)?;
+    let mut stack = Stack::new(alloc);
+    stack.new_panel(IN_PANEL)?;
+    Ok(stack)
+}
+
+/// A picture of the screen's size that shows `----`.
+fn dashes(alloc: Global, table: &Grids) -> Result<Grid<Shown>, Fail>
+    ensures { IfOk result (λ picture. HasSize table.now.lines table.now.columns picture) }
+{
+    if table.getmaxyx(STANDARD)? != (1, 4) || table.getmaxyx(DASHES)? != (1, 4) {
+        return Err("another size".into());
+    }
+    let mut picture = Grid::new(alloc, 1, 4)?;
+    let source = Source {
+        win: DASHES,
+        line: 0,
+        column: 0,
+    };
+    show_piece(table, &Pairs::new(), source, 4, 0, 0, &mut picture);
+    Ok(picture)
+}
+
+/// Composes the columns from `left` to `right` over dashes: the characters that the picture has then, and what was lent.
+fn composed<'a>(
+    alloc: Global,
+    table: &'a Grids,
+    stack: &Stack,
+    left: u16,
+    right: u16,
+) -> Result<(Vec<u8>, Noted<'a>), Fail>
+    requires { AreSoundPanels (windows_of table.now).window (panels stack.now) }
+{
+    let mut picture = dashes(alloc, table)?;
+    let (lines, columns) = table.getmaxyx(STANDARD)?;
+    if lines == 0 || columns <= right || right < left {
+        return Err("no such columns".into());
+    }
+    let mut rows = Noted {
+        lent: Lent::of(table),
+        pieces: [None; 3],
+        noted: 0,
+    };
+    compose_row(
+        &mut rows,
+        stack,
+        &Pairs::new(),
+        0,
+        left,
+        right,
+        &mut picture,
+    );
+    let mut shown = Vec::new(alloc);
+    for cell in picture.row(0) {
+        shown.push(cell.ch())?;
+    }
+    Ok((shown, rows))
+}
+
+#[test]
+fn a_line_is_composed_of_lent_pieces(rt: HostRuntime) -> Result<(), Fail> {
+    let table = windows(rt.alloc())?;
+    let stack = one_panel(rt.alloc(), &table)?;
+    let (shown, rows) = composed(rt.alloc(), &table, &stack, 0, 3)?;
+    assert_eq!(rt; shown.as_slice(), b"aXYd".as_slice());
+    assert_eq!(rt; rows.lent.cells, 4);
+    let pieces = [
+        Some(Piece::new(STANDARD, 0, 0)),
+        Some(Piece::new(IN_PANEL, 0, 1)),
+        Some(Piece::new(STANDARD, 3, 3)),
+    ];
+    assert_eq!(rt; rows.pieces, pieces);
+    Ok(())
+}
+
+#[test]
+fn other_columns_are_left(rt: HostRuntime) -> Result<(), Fail> {
+    let table = windows(rt.alloc())?;
+    let stack = one_panel(rt.alloc(), &table)?;
+    let (shown, rows) = composed(rt.alloc(), &table, &stack, 2, 2)?;
+    assert_eq!(rt; shown.as_slice(), b"--Y-".as_slice());
+    assert_eq!(rt; rows.lent.cells, 1);
+    assert_eq!(rt; rows.pieces, [Some(Piece::new(IN_PANEL, 1, 1)), None, None]);
+    Ok(())
+}
