@@ -1,17 +1,18 @@
 -- What a call on panels damages: the part of the panel that it names, as it was, and that of the panel that it changed or made, as it is.
-use Rattle.std.proofs.Common.{◌≡◌, ℕ, ◌+◌, Bool, true, false, ◌==◌, ◌||◌, Option, Some, None, List, [], ◌∷◌, refl, sym, subst, arith}
+use Rattle.std.proofs.Common.{◌≡◌, ℕ, ◌+◌, Bool, true, false, ◌==◌, ◌||◌, Option, Some, None, List, [], ◌∷◌, refl, sym, ap, subst, ◌∙◌, arith}
 use Rattle.std.specs.Prelude.{All, IsSome, MatchOption, ⊤, find, if◌then◌else◌, is_none}
 use Rattle.std.specs.List.{list_any}
 use Rattle.std.specs.Option.{option_map_or}
 use Rattle.cell.specs.declared.window.Frame.{Frame}
 use Rattle.world.specs.Panels.{Panels}
+use Rattle.world.specs.Windows.{Windows}
 use Rattle.world.specs.calls.Affected.{changed_panel}
 use Rattle.world.specs.calls.Stacking.{new_panel_number}
 use Rattle.world.specs.declared.call.Stacking.{Stacking}
 use Rattle.world.specs.declared.call.Stacking.TheVariants.{NewPanel, DelPanel, ShowPanel, HidePanel, TopPanel, BottomPanel, MovePanel, ReplacePanel, PanelAbove, PanelBelow, PanelWindow, PanelHidden}
 use Rattle.picture.specs.Parts.{IsFrameWithin}
 use Rattle.picture.proofs.VisiblePanels.{absent-hidden}
-use Rattle.compose.specs.steps.Changes.{named_panel}
+use Rattle.compose.specs.steps.Changes.{named_panel, panels_after, windows_after}
 
 none-is : (o : Option ℕ) → is_none o ≡ true → o ≡ None
 none-is None h = refl
@@ -53,6 +54,18 @@ both-parts ps (PanelAbove panel) before after hidden = refl
 both-parts ps (PanelBelow panel) before after hidden = refl
 both-parts ps (PanelWindow panel) before after hidden = refl
 both-parts ps (PanelHidden panel) before after hidden = refl
+
+-- The part before the call and the part after it make up what the call changes, where they hold what the panel had that it names, and
+-- what the panel has that it changed.
+pub stacking-parts : (shows : Windows → Panels → ℕ → Bool) (ws new : Windows) (ps rest : Panels) (stacking : Stacking) (named changed : Option ℕ) (before after : Bool)
+    → ((p : ℕ) → new_panel_number ps ≡ Some p → shows ws ps p ≡ false) → new ≡ windows_after ws ps stacking → rest ≡ panels_after ps stacking
+    → named ≡ named_panel stacking → changed ≡ changed_panel ps stacking → before ≡ option_map_or (shows ws ps) named false → after ≡ option_map_or (shows new rest) changed false
+    → option_map_or (λ p. shows ws ps p || shows (windows_after ws ps stacking) (panels_after ps stacking) p) (changed_panel ps stacking) false ≡ (before || after)
+stacking-parts shows ws new ps rest stacking named changed before after hidden is are name change was will =
+    let named_is : before ≡ option_map_or (shows ws ps) (named_panel stacking) false = was ∙ ap (λ o. option_map_or (shows ws ps) o false) name in
+    let changed_is : after ≡ option_map_or (shows (windows_after ws ps stacking) (panels_after ps stacking)) (changed_panel ps stacking) false =
+    will ∙ (λ i. option_map_or (shows (is i) (are i)) (change i) false) in
+    both-parts ps stacking (shows ws ps) (shows (windows_after ws ps stacking) (panels_after ps stacking)) hidden ∙ sym (λ i. named_is i || changed_is i)
 
 pub part-within : (lines columns height : ℕ) (part : Option Frame) → MatchOption part ⊤ (IsFrameWithin lines columns) → lines ≡ height → MatchOption part ⊤ (λ r. IsFrameWithin height (r.right + 1) r)
 part-within lines columns height None h same = tt

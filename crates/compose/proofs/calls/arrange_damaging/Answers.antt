@@ -2,16 +2,16 @@ use Rattle.std.proofs.Common.{◌≡◌, ℕ, false, ◌&&◌, ◌||◌, ◌<◌
 use Rattle.std.specs.Option.{option_map_or}
 use Rattle.std.specs.Prelude.{MatchOption, ⊤}
 use Rattle.cell.specs.declared.window.Frame.{Frame}
-use Rattle.world.specs.Panels.{has_line, panel_holds, window_or_standard}
-use Rattle.world.specs.calls.Affected.{changed_panel}
+use Rattle.world.specs.Panels.{Panels, has_line, panel_holds, window_or_standard}
+use Rattle.world.specs.Windows.{Windows}
 use Rattle.world.specs.calls.Places.{panel_shows_at}
 use Rattle.grids.specs.Tables.{windows}
 use Rattle.stack.specs.Tables.{panels}
 use Rattle.picture.specs.Parts.{panel_has_line, part_has_line, part_holds}
 use Rattle.picture.proofs.DamageLaws.{damages-as, damages-then, part-right}
-use Rattle.compose.specs.steps.Changes.{named_panel, panels_after, stacking_has_line, stacking_shows, windows_after}
+use Rattle.compose.specs.steps.Changes.{panels_after, stacking_has_line, stacking_shows, windows_after}
 use Rattle.compose.proofs.Arranging.{arranged-size}
-use Rattle.compose.proofs.Parting.{both-parts, new-hidden, part-within}
+use Rattle.compose.proofs.Parting.{new-hidden, part-within, stacking-parts}
 use Rattle.compose.proofs.calls.arrange_damaging.Goals as goal
 
 pub damage_part-requires-2-clause-few : goal.damage_part-requires-2-clause-few
@@ -45,22 +45,15 @@ returns-clause-damaged c =
     let is : windows new ≡ windows_after ws ps s = c.in_ok-reply.ensures.windows in
     let are : panels c.arrange.new.stack ≡ panels_after ps s = c.in_ok-reply.ensures.panels in
     let changed = c.changed_panel.ensures ps c.in_ok-reply.ensures.reply in
+    let named = c.named_panel.ensures in
     let shows : (y x : ℕ) → stacking_shows ws ps s y x ≡ (part_holds before y x || part_holds after y x) = λ y x.
-    let was : part_holds before y x ≡ option_map_or (λ p. panel_shows_at ws.window ps p y x) (named_panel s) false =
-    c.part_of-before.ensures.holds y x ∙ ap (λ o. option_map_or (λ p. panel_shows_at ws.window ps p y x) o false) c.named_panel.ensures in
-    let will : part_holds after y x ≡ option_map_or (λ p. panel_shows_at (windows_after ws ps s).window (panels_after ps s) p y x) (changed_panel ps s) false =
-    c.part_of-after.ensures.holds y x ∙ (λ i. option_map_or (λ p. panel_shows_at (is i).window (are i) p y x) (changed i) false) in
-    both-parts ps s (λ p. panel_shows_at ws.window ps p y x) (λ p. panel_shows_at (windows_after ws ps s).window (panels_after ps s) p y x)
-    (λ p new_is. ap (λ b. b && panel_holds ws.window ps y x p) (new-hidden ps p c.requires.panels.visible new_is))
-    ∙ sym (λ i. was i || will i) in
+    stacking-parts (λ (v : Windows) (q : Panels) (p : ℕ). panel_shows_at v.window q p y x) ws (windows new) ps (panels c.arrange.new.stack) s _ _ (part_holds before y x) (part_holds after y x)
+    (λ p new_is. ap (λ b. b && panel_holds ws.window ps y x p) (new-hidden ps p c.requires.panels.visible new_is)) is are named changed
+    (c.part_of-before.ensures.holds y x) (c.part_of-after.ensures.holds y x) in
     let lines : (y : ℕ) → stacking_has_line ws ps s y ≡ (part_has_line before y || part_has_line after y) = λ y.
-    let was : part_has_line before y ≡ option_map_or (λ p. panel_has_line ws.window ps p y) (named_panel s) false =
-    c.part_of-before.ensures.lines y ∙ ap (λ o. option_map_or (λ p. panel_has_line ws.window ps p y) o false) c.named_panel.ensures in
-    let will : part_has_line after y ≡ option_map_or (λ p. panel_has_line (windows_after ws ps s).window (panels_after ps s) p y) (changed_panel ps s) false =
-    c.part_of-after.ensures.lines y ∙ (λ i. option_map_or (λ p. panel_has_line (is i).window (are i) p y) (changed i) false) in
-    both-parts ps s (λ p. panel_has_line ws.window ps p y) (λ p. panel_has_line (windows_after ws ps s).window (panels_after ps s) p y)
-    (λ p new_is. ap (λ b. b && option_map_or (has_line y) (ws.window (window_or_standard ps (Some p))) false) (new-hidden ps p c.requires.panels.visible new_is))
-    ∙ sym (λ i. was i || will i) in
+    stacking-parts (λ (v : Windows) (q : Panels) (p : ℕ). panel_has_line v.window q p y) ws (windows new) ps (panels c.arrange.new.stack) s _ _ (part_has_line before y) (part_has_line after y)
+    (λ p new_is. ap (λ b. b && option_map_or (has_line y) (ws.window (window_or_standard ps (Some p))) false) (new-hidden ps p c.requires.panels.visible new_is)) is are named changed
+    (c.part_of-before.ensures.lines y) (c.part_of-after.ensures.lines y) in
     damages-as t.columns (λ y x. part_holds before y x || part_holds after y x) (stacking_shows ws ps s) (λ y. part_has_line before y || part_has_line after y) (stacking_has_line ws ps s)
     a.damage.now c.damage_part-2.new.damage
     (damages-then t.columns (part_holds before) (part_holds after) (part_has_line before) (part_has_line after) a.damage.now c.damage_part.new.damage c.damage_part-2.new.damage
