@@ -1,9 +1,11 @@
 -- What clap says of this program's command line, and of the number of an option.
-use Rattle.std.proofs.Common.{◌≡◌, ℕ, List, [], Option, None, Some, Ok, Err, Result, true, refl, sym, ap, subst, ◌∙◌}
+use Rattle.std.proofs.Common.{◌≡◌, ℕ, List, [], Option, None, Some, Ok, Err, Result, true, false, refl, sym, ap, ap₂, subst, ◌∙◌}
 use Rattle.std.specs.Prelude.{MatchOption}
 use Rattle.std.specs.Str.Parse.{ParsesUnsigned}
-use Rattle.clap.specs.Words.{App, HasKind, HasMatchesOf, Row, Text, fault_of, is_simple, is_simple_and_free, one_of, one_text, rows_of, subcommand_of, subcommand_rows_of}
+use Rattle.clap.specs.Words.{AddsSubcommand, App, HasKind, HasMatchesOf, Row, Text, app_of, fault_of, is_simple, is_simple_and_free, one_of, one_text, rows_of, subcommand_of, subcommand_rows_of, with_subcommand}
 use Rattle.clap.specs.Matches.{ReadsOne}
+use Rattle.clap.specs.declared.builder.command.Command.{Command}
+use Rattle.clap.specs.declared.builder.command.Command.TheViews.{out-Command}
 use Rattle.clap.specs.declared.error.Error.{Error}
 use Rattle.clap.specs.declared.parser.matches.ArgMatches.{ArgMatches}
 use Rattle.clap.specs.declared.parser.matches.Found.{Found}
@@ -18,6 +20,11 @@ curspan_is_simple = refl
 curspan_is_free : is_simple_and_free curspan ≡ true
 unfolding clap_on_literals
 curspan_is_free = refl
+
+-- what a subcommand adds to an application
+pub subcommand_added : (old sub new : Command) (a s : App) → app_of old ≡ a → app_of sub ≡ s → (out-Command sub).has_globals ≡ false → AddsSubcommand old sub new
+    → app_of new ≡ with_subcommand a s.top
+subcommand_added old sub new a s old_is sub_is local adds = adds.shape local ∙ ap₂ with_subcommand old_is (ap (λ (x : App). x.top) sub_is)
 
 -- what clap says of its errors, of this program's command line
 pub kinds_of_curspan : (a : App) (words : List Text) (e : Error) → a ≡ curspan → (is_simple_and_free a ≡ true → HasKind (fault_of a words) e)

@@ -1,5 +1,5 @@
 -- Where clap refuses nothing of the words, the subcommand at which its walk stops is one of the program's.
-use Rattle.std.proofs.Common.{◌≡◌, ◌∷◌, ℕ, Bool, true, false, cond, List, [], Option, Some, None, is_some, refl, codes}
+use Rattle.std.proofs.Common.{◌≡◌, ◌⊎◌, ◌∷◌, ℕ, Bool, true, false, cond, List, [], Option, Some, None, is_some, refl, codes, inl, inr}
 use Rattle.std.specs.Prelude.{IfSome, fold, option_map}
 use Rattle.std.specs.Str.{bytes_eq}
 use Rattle.clap.specs.Faults.{other_fault, step_fault, turn_fault, walk_fault, word_fault}
@@ -8,7 +8,7 @@ use Rattle.clap.specs.Lexer.{long_of, short_of}
 use Rattle.clap.specs.Simple.{Shape}
 use Rattle.clap.specs.Walk.{Held, Names, Outcome, Rule, Step, Text, Waiting, Walk, after_flag, after_step, answers_to, arg_by_index, done, idle, long_or_other, next, option, plain, plain_word, positional, refused, short_or_plain, subcommand, subcommand_met, subcommand_or_other, to_positional, trailing, value, waits, walked, walked_from, word_met}
 use Rattle.clap.specs.declared.error.kind.ErrorKind.TheVariants as kind
-use Rattle.curspan.specs.CommandLine.{kind_text}
+use Rattle.curspan.specs.CommandLine.{check_text, kind_text}
 use Rattle.curspan.specs.declared.asked.Kind.{Kind}
 use Rattle.curspan.specs.declared.asked.Kind.TheVariants.{Run, Paint, Show}
 use Rattle.curspan.proofs.KeptRows.{both_none}
@@ -49,35 +49,36 @@ other_name c None w position word h = go (bytes_eq word (45 ∷ 45 ∷ []))
 
 -- the subcommands of the program, with the one that clap adds
 abbrev pub program_names : Names
-program_names = (codes "run", []) ∷ (codes "paint", []) ∷ (codes "show", []) ∷ (codes "help", []) ∷ []
+program_names = (codes "run", []) ∷ (codes "paint", []) ∷ (codes "show", []) ∷ (check_text, []) ∷ (codes "help", []) ∷ []
 
 -- a subcommand of the program
 abbrev pub IsKindsName : Text → Type 0
-IsKindsName name = (kind : Kind) × (name ≡ kind_text kind)
+IsKindsName name = ((kind : Kind) × (name ≡ kind_text kind)) ⊎ (name ≡ check_text)
 
 -- nothing, or such a subcommand and what follows it
 abbrev pub StopsAtKind : Option (Text × List Text) → Type 0
 StopsAtKind o = IfSome o (λ p. IsKindsName p.0)
 
 -- by which of the names a word is
-abbrev named : Bool → Bool → Bool → Bool → Option Text
-named a b c d =
+abbrev named : Bool → Bool → Bool → Bool → Bool → Option Text
+named a b c check d =
     option_map {T = Text × List Text} (λ n. n.0)
-    (cond a (Some (codes "run", [])) (cond b (Some (codes "paint", [])) (cond c (Some (codes "show", [])) (cond d (Some (codes "help", [])) None))))
+    (cond a (Some (codes "run", [])) (cond b (Some (codes "paint", [])) (cond c (Some (codes "show", [])) (cond check (Some (check_text, [])) (cond d (Some (codes "help", [])) None)))))
 
 module _ (s : Shape) (has_help : s.disable_help_subcommand ≡ false) where
   kind_is_met : (w : Waiting) (word : Text) (h : Held) → other_fault s (subcommand_met program_names w word) word h ≡ []
       → IfSome (subcommand_met program_names w word) IsKindsName
   kind_is_met (option id) word h none = tt
   kind_is_met positional word h none = tt
-  kind_is_met idle word h none = go (answers_to word (codes "run", [])) (answers_to word (codes "paint", [])) (answers_to word (codes "show", [])) (answers_to word (codes "help", [])) none
+  kind_is_met idle word h none = go (answers_to word (codes "run", [])) (answers_to word (codes "paint", [])) (answers_to word (codes "show", [])) (answers_to word (check_text, [])) (answers_to word (codes "help", [])) none
     where
-      go : (a b c d : Bool) → other_fault s (named a b c d) word h ≡ [] → IfSome (named a b c d) IsKindsName
-      go true b c d e = (Run, refl)
-      go false true c d e = (Paint, refl)
-      go false false true d e = (Show, refl)
-      go false false false false e = tt
-      go false false false true e =
+      go : (a b c check d : Bool) → other_fault s (named a b c check d) word h ≡ [] → IfSome (named a b c check d) IsKindsName
+      go true b c check d e = inl (Run, refl)
+      go false true c check d e = inl (Paint, refl)
+      go false false true check d e = inl (Show, refl)
+      go false false false true d e = inr refl
+      go false false false false false e = tt
+      go false false false false true e =
           let bad : kind.DisplayHelp ∷ kind.InvalidSubcommand ∷ [] ≡ [] = rw has_help at e in
           cc
 

@@ -8,3 +8,4 @@ pub mod PrintLemmas
 pub mod PictureLemmas
 pub mod PictureTexts
 pub mod FeedingLemmas
+pub mod CheckLemmas

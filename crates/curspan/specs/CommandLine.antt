@@ -6,6 +6,8 @@ use Rattle.clap.specs.declared.builder.action.ArgAction.TheVariants.{Set}
 use Rattle.clap.specs.declared.builder.value_parser.ValueParser.TheVariants as parsers
 use Rattle.cell.specs.Limits.{is_no_size}
 use Rattle.cell.specs.declared.limits.TheConstants.{LARGEST_SCREEN}
+use Rattle.curspan.specs.declared.asked.Asked.{Asked}
+use Rattle.curspan.specs.declared.asked.Asked.TheVariants as asked
 use Rattle.curspan.specs.declared.asked.Job.{Job}
 use Rattle.curspan.specs.declared.asked.Kind.{Kind}
 use Rattle.curspan.specs.declared.asked.Kind.TheVariants.{Run, Paint, Show}
@@ -40,8 +42,12 @@ kind_text Run = codes "run"
 kind_text Paint = codes "paint"
 kind_text Show = codes "show"
 
+-- the subcommand that needs no screen
+abbrev pub check_text : Text
+check_text = codes "check"
+
 abbrev pub curspan : App
-curspan = fold (λ app kind. with_subcommand app (mode (kind_text kind)).top) bare kinds
+curspan = with_subcommand (fold (λ app kind. with_subcommand app (mode (kind_text kind)).top) bare kinds) (new_app check_text).top
 
 -- `u16` reads a number from the text
 abbrev pub IsNumber : Text → Type 0
@@ -79,3 +85,16 @@ pub record Asks (words : List Text) (job : Job) : Type 0 where
   pub asked : AsksIn (subcommand_of curspan words) job
   pub lines : IsSize job.lines
   pub cols : IsSize job.cols
+
+-- A subcommand's name asks for what is wrong with a script.
+abbrev pub AsksCheckIn : Option (Text × List Row) → Type 0
+AsksCheckIn subcommand = (rows : List Row) × (subcommand ≡ Some (check_text, rows))
+
+pub record AsksCheck (words : List Text) : Type 0 where
+  pub taken : IsTaken words
+  pub asked : AsksCheckIn (subcommand_of curspan words)
+
+-- what the words ask for
+abbrev pub AsksFor : List Text → Asked → Type 0
+AsksFor words (asked.Job job) = Asks words job
+AsksFor words asked.Check = AsksCheck words

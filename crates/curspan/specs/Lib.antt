@@ -3,5 +3,6 @@ pub mod Printing
 pub mod Written
 pub mod Statuses
 pub mod Shows
+pub mod Checks
 pub mod Serving
 pub mod steps

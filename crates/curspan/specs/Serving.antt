@@ -17,7 +17,8 @@ use Rattle.paint.specs.Updates.{first_painter}
 use Rattle.compose.specs.Desks.{world}
 use Rattle.desk.specs.ScriptEnds.{ScriptEnds, read_failed, write_fault}
 use Rattle.desk.specs.States.{ScreenOver}
-use Rattle.curspan.specs.CommandLine.{Asks, curspan}
+use Rattle.curspan.specs.Checks.{Checks}
+use Rattle.curspan.specs.CommandLine.{Asks, AsksCheck, curspan}
 use Rattle.curspan.specs.Printing.{printed_picture}
 use Rattle.curspan.specs.Shows.{Shows}
 use Rattle.curspan.specs.Statuses.{status_of}
@@ -133,7 +134,8 @@ module _ {W V : Type 0} (seen : W → Seen) (discarded : V → Seen) where
   abbrev pub ServesJob : Job → SourceSeen → SourceSeen → Outputs → Outputs → ℕ → Type 0
   ServesJob job input rest old new status = (LacksMemory old new status × (rest ≡ input)) ⊎ Does job.kind job input rest old new status
 
-  -- The words are refused, and nothing is read, or they ask for a job, and it was done.
+  -- The words are refused, and nothing is read, or they ask for a job, and it was done, or for what is wrong with a script, and that is told.
   abbrev pub Serves : List Text → SourceSeen → SourceSeen → Outputs → Outputs → ℕ → Type 0
   Serves words input rest old new status =
       (Refuses words old new status × (rest ≡ input)) ⊎ ((job : Job) × Asks words job × ServesJob job input rest old new status)
+      ⊎ (AsksCheck words × Checks input rest old new status)

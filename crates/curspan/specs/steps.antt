@@ -1,1 +1,2 @@
 pub mod Feeding
+pub mod Checking

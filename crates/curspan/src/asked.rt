@@ -11,6 +11,15 @@ pub enum Kind {
     Show,
 }
 
+/// What is asked for.
+#[derive(Clone, Copy, PartialEq, Eq, Debug)]
+pub enum Asked {
+    /// Something on a screen.
+    Job(Job),
+    /// What is wrong with a script.
+    Check,
+}
+
 /// What is asked for, on a screen of that many lines and columns.
 #[derive(Clone, Copy, PartialEq, Eq, Debug)]
 pub struct Job {

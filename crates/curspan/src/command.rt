@@ -1,13 +1,13 @@
 //! Reads the command line.
 
-ghost use Rattle.std.specs.Prelude.{◌≡◌, IfOk, MatchOption, false, map};
-ghost use Rattle.clap.specs.Words.{FailsBy, app_of, fault_of, found_of, rows_of, rule_of, subcommand_rows_of};
+ghost use Rattle.std.specs.Prelude.{◌≡◌, IfOk, MatchOption, false, map, true};
+ghost use Rattle.clap.specs.Words.{FailsBy, app_of, fault_of, found_of, new_app, rows_of, rule_of, subcommand_rows_of};
 ghost use Rattle.clap.specs.declared.builder.command.Command.TheViews.{out-Command};
 ghost use Rattle.curspan.specs.declared.asked.Job.{Job};
 ghost use Rattle.curspan.specs.declared.asked.Kind.{Kind};
-ghost use Rattle.curspan.specs.CommandLine.{Asks, AsksIn, ReadsNone, ReadsNumber, bare, curspan, kind_text, mode, size_rule};
+ghost use Rattle.curspan.specs.CommandLine.{AsksCheckIn, AsksFor, AsksIn, ReadsNone, ReadsNumber, bare, check_text, curspan, kind_text, mode, size_rule};
 
-use crate::asked::{Job, Kind};
+use crate::asked::{Asked, Job, Kind};
 use cell::LARGEST_SCREEN;
 use clap::error::ErrorKind;
 use clap::{Arg, ArgAction, ArgMatches, Command, Error};
@@ -62,6 +62,16 @@ fn program<'a>(alloc: Global) -> Command<'a>
         .subcommand_required(true)
 }
 
+/// The subcommand that needs no size.
+fn check<'a>(alloc: Global) -> Command<'a>
+    ensures app { app_of result ≡ new_app check_text }
+    ensures local { (out-Command result).has_globals ≡ false }
+{
+    Command::new(alloc, "check").about(
+        "Tell what is wrong with the script on standard input, and run nothing",
+    )
+}
+
 fn command<'a>(alloc: Global) -> Result<Command<'a>, AllocError>
     ensures { IfOk result (λ c. app_of c ≡ curspan) }
 {
@@ -83,7 +93,8 @@ fn command<'a>(alloc: Global) -> Result<Command<'a>, AllocError>
     program(alloc)
         .subcommand(run)?
         .subcommand(paint)?
-        .subcommand(show)
+        .subcommand(show)?
+        .subcommand(check(alloc))
 }
 
 /// The subcommand of a name.
@@ -117,17 +128,31 @@ fn job_of(matches: &ArgMatches<'_>) -> Option<Job>
     })
 }
 
+/// Whether the matches name the subcommand that needs no size.
+fn asks_check(matches: &ArgMatches<'_>) -> bool
+    ensures yes { result ≡ true → AsksCheckIn (subcommand_rows_of matches.now) }
+    ensures no { result ≡ false → AsksCheckIn (subcommand_rows_of matches.now) → ⊥ }
+{
+    match matches.subcommand() {
+        Some((name, _)) => name == "check",
+        None => false,
+    }
+}
+
 /// What the words ask for. The first word is the program's name. An error is want of memory, or has one of the kinds that
 /// clap's definition gives for the words, a usage fault or a demand for help; where it gives none, want of memory is the
 /// only error.
-pub fn job<S: AsStr>(alloc: Global, words: &[S]) -> Result<Job, Error>
-    ensures job { IfOk result (λ job. Asks (map S.text words.now) job) }
+pub fn job<S: AsStr>(alloc: Global, words: &[S]) -> Result<Asked, Error>
+    ensures job { IfOk result (λ asked. AsksFor (map S.text words.now) asked) }
     ensures faults { FailsBy (fault_of curspan (map S.text words.now)) result }
 {
     let mut command = command(alloc)?;
     let matches = command.try_get_matches_from_mut(words)?;
+    if asks_check(&matches) {
+        return Ok(Asked::Check);
+    }
     match job_of(&matches) {
-        Some(job) => Ok(job),
+        Some(job) => Ok(Asked::Job(job)),
         // What clap takes always asks for a job, so this is never met.
         None => Err(command.error(ErrorKind::MissingSubcommand, "no subcommand")?),
     }

@@ -2,6 +2,7 @@
 #![tactic(auto)]
 
 mod asked;
+mod check;
 mod command;
 mod printing;
 mod put;

@@ -14,7 +14,8 @@ ghost use Rattle.world.specs.World.{first_world};
 ghost use Rattle.world.specs.calls.Making.{new_refusal};
 ghost use Rattle.world.specs.calls.Refresh.{after_update_panels};
 
-use crate::asked::{Job, Kind};
+use crate::asked::{Asked, Job, Kind};
+use crate::check::check;
 use crate::command::job;
 use crate::printing::print;
 use crate::put::{tell, write_out};
@@ -174,7 +175,8 @@ pub fn serve<'a, S: AsStr, R: Source, O: Sink, L: Sink>(
     ensures log { result < 2 → (L.seen log.new).failures ≡ (L.seen log.old).failures }
 {
     match job(alloc, words) {
-        Ok(job) => match job.kind {
+        Ok(Asked::Check) => check(input, out, log),
+        Ok(Asked::Job(job)) => match job.kind {
             Kind::Run => run(alloc, job, input, out, log),
             Kind::Paint => paint(alloc, job, input, out, log),
             Kind::Show => show(alloc, job, input, out, log),

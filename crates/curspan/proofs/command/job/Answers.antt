@@ -1,9 +1,9 @@
 use Rattle.std.proofs.Common.{map, subst, sym}
 use Rattle.clap.proofs.FaultLemmas.{failed_up}
 use Rattle.clap.specs.Words.{fault_of}
-use Rattle.curspan.specs.CommandLine.{AsksIn, curspan}
+use Rattle.curspan.specs.CommandLine.{AsksCheckIn, AsksIn, curspan}
 use Rattle.curspan.proofs.JobLemmas.{kinds_of_curspan, no_fault_of_curspan, subcommand_of_curspan}
-use Rattle.curspan.proofs.TakenLemmas.{asked_sizes, is_asked}
+use Rattle.curspan.proofs.TakenLemmas.{asked_sizes, nothing_else}
 use Rattle.curspan.proofs.command.job.Goals as goal
 
 pub returns-in_err-matches-clause-faults : goal.returns-in_err-matches-clause-faults
@@ -11,6 +11,16 @@ returns-in_err-matches-clause-faults g c =
     let words = map g.S.AsStr.text c.args.words.now in
     failed_up c.from_residual-in_err-matches.result c.in_err-matches.field-0.0 _ (fault_of curspan words) c.from_residual-in_err-matches.ensures.1
     (kinds_of_curspan _ words c.in_err-matches.field-0.0 c.in_ok-command.ensures c.in_err-matches.ensures.kinds)
+
+pub returns-then-asks_check-clause-faults : goal.returns-then-asks_check-clause-faults
+returns-then-asks_check-clause-faults g c = no_fault_of_curspan _ (map g.S.AsStr.text c.args.words.now) c.in_ok-command.ensures c.in_ok-matches.ensures.kinds
+
+pub returns-then-asks_check-clause-job : goal.returns-then-asks_check-clause-job
+returns-then-asks_check-clause-job g c =
+    let words = map g.S.AsStr.text c.args.words.now in
+    let app = c.in_ok-command.ensures in
+    let same = subcommand_of_curspan _ words c.in_ok-matches.matches app c.in_ok-matches.ensures.ok.2 in
+    record { taken = no_fault_of_curspan _ words app c.in_ok-matches.ensures.kinds; asked = subst AsksCheckIn same (c.asks_check.ensures.yes c.if-asks_check.true) }
 
 pub returns-in-Some-clause-faults : goal.returns-in-Some-clause-faults
 returns-in-Some-clause-faults g c = no_fault_of_curspan _ (map g.S.AsStr.text c.args.words.now) c.in_ok-command.ensures c.in_ok-matches.ensures.kinds
@@ -27,5 +37,5 @@ returns-clause-faults g c =
     let words = map g.S.AsStr.text c.args.words.now in
     let app = c.in_ok-command.ensures in
     let same = subcommand_of_curspan _ words c.in_ok-matches.matches app c.in_ok-matches.ensures.ok.2 in
-    let asked = is_asked words (no_fault_of_curspan _ words app c.in_ok-matches.ensures.kinds) in
-    absurd (c.in-None.ensures asked.0 (subst (λ s. AsksIn s asked.0) (sym same) asked.1))
+    absurd (nothing_else words (no_fault_of_curspan _ words app c.in_ok-matches.ensures.kinds) (λ job asked. c.in-None.ensures job (subst (λ s. AsksIn s job) (sym same) asked))
+    (λ check. c.asks_check.ensures.no c.if-asks_check.false (subst AsksCheckIn (sym same) check)))

@@ -1,0 +1,47 @@
+-- What telling of a script's lines one after another does: words of contracts of single steps.
+use Rattle.std.specs.Prelude.{◌≡◌, ◌++◌, ◌∷◌, [], ℕ, Bool, true, false, not, List}
+use Rattle.std.specs.Io.KnownBytes.{Appends}
+use Rattle.std.specs.List.{flat_map}
+use Rattle.streams.specs.Counts.{counted}
+use Rattle.streams.specs.Sinks.{Seen}
+use Rattle.streams.specs.Sources.{SourceSeen}
+use Rattle.script.specs.Explanations.{finding}
+use Rattle.script.specs.Readings.{said_by_line}
+use Rattle.script.specs.declared.bytes.LineEnd.{LineEnd}
+use Rattle.script.specs.declared.bytes.LineEnd.TheVariants.{Newline, ScriptEnd, ReadFailed}
+use Rattle.script.specs.declared.fault.TextFault.TheVariants.{LineTooLong}
+use Rattle.curspan.specs.Checks.{count_of, report, told, told_of}
+use Rattle.curspan.specs.Shows.{ReadsStream}
+use Rattle.curspan.specs.Written.{TakesFront, WritingEnds}
+use Rattle.curspan.specs.declared.check.Report.{Report}
+
+-- what is told of a line as it was read
+abbrev pub told_of_read : ℕ → List ℕ → Bool → LineEnd → List (List ℕ)
+told_of_read number line false end = finding number LineTooLong [] ∷ []
+told_of_read number line true ReadFailed = []
+told_of_read number line true Newline = told_of number line (said_by_line line)
+told_of_read number line true ScriptEnd = told_of number line (said_by_line line)
+
+-- These lines were told, and counted; or a write failed, and the sink took a front of them. Nothing was flushed.
+pub record IsReported (old new : Seen) (report : Report) (lines : List (List ℕ)) : Type 0 where
+  pub taken : report.is_written ≡ true → Appends old.taken new.taken (flat_map (λ line. line) lines)
+  pub cut : report.is_written ≡ false → TakesFront old new (flat_map (λ line. line) lines)
+  pub flushes : new.flushes ≡ old.flushes
+  pub failures : new.failures ≡ counted (not report.is_written) old.failures
+  pub faulty : report.faulty ≡ count_of lines
+
+-- Behind what was reported some lines are, too.
+abbrev pub ReportsMore : Seen → Seen → Report → Report → List (List ℕ) → Type 0
+ReportsMore old new before after lines =
+    (first : Seen) (reported : List (List ℕ)) → IsReported first old before reported → IsReported first new after (reported ++ lines)
+
+-- A script was read to its end, or until a read failed, and is reported.
+pub record ReportsScript (old new : SourceSeen) (output after : Seen) (is_whole : Bool) (report : Report) : Type 0 where
+  pub text : List ℕ
+  pub reads : ReadsStream old new is_whole text
+  pub reported : IsReported output after report (told (not is_whole) text)
+
+-- What was reported is ended and flushed, or that failed.
+abbrev pub EndsReport : Seen → Seen → Bool → Report → Bool → Type 0
+EndsReport old new is_whole before written =
+    (first : Seen) (lines : List (List ℕ)) → IsReported first old before lines → WritingEnds written first new (report is_whole lines)

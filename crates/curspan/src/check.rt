@@ -1,0 +1,198 @@
+//! Tells of each faulty line of a script what is wrong with it. No call is made.
+
+ghost use Rattle.std.specs.Prelude.{◌≡◌, ◌≤◌, ◌<◌, ◌∷◌, [], length};
+ghost use Rattle.std.specs.Option.{option_map_or};
+ghost use Rattle.script.specs.Readings.{said_by_line};
+ghost use Rattle.curspan.specs.Checks.{Checks, count_line, told_of};
+ghost use Rattle.curspan.specs.Written.{outputs};
+ghost use Rattle.curspan.specs.steps.Checking.{EndsReport, ReportsMore, ReportsScript, told_of_read};
+
+use crate::put::{put, write_out};
+use crate::status::{ACCEPTED, BAD_TEXT, failed};
+use arrayvec::ArrayVec;
+use desk::{ScriptFault, Sink, Source};
+use script::{
+    Arguments, Bytes, Finding, LONGEST_LINE, LineEnd, TextFault, WholeLine, finding, read_line,
+};
+use streams::{append, append_decimal};
+
+/// Room for the line on how many lines are faulty: a number, and 14 bytes more.
+const COUNT_ROOM: usize = 64;
+
+/// What was told of a script's lines.
+#[derive(Clone, Copy)]
+struct Report {
+    /// How many are faulty.
+    faulty: u64,
+    /// Whether all that was told went out.
+    is_written: bool,
+}
+
+/// How a script was read, and what was told of it.
+#[derive(Clone, Copy)]
+struct Checked {
+    /// Whether it was read to its end.
+    is_whole: bool,
+    report: Report,
+}
+
+/// The line that tells of a line's fault, if it has one.
+fn told_of(number: u64, line: &[u8], taken: &mut Arguments) -> Option<Finding>
+    requires { length line.now ≤ LONGEST_LINE }
+    ensures { told_of number line.now (said_by_line line.now) ≡ option_map_or (λ text. text.items ∷ []) result [] }
+{
+    match read_line(line, taken) {
+        Ok(_) => None,
+        Err(fault) => Some(finding(number, fault, line)),
+    }
+}
+
+/// The same of a line as it was read: it may be too long, or end where a read failed.
+fn told_of_read(
+    number: u64,
+    whole: WholeLine,
+    line: &[u8],
+    taken: &mut Arguments,
+) -> Option<Finding>
+    requires { length line.now ≤ LONGEST_LINE }
+    ensures { told_of_read number line.now whole.is_kept whole.end ≡ option_map_or (λ text. text.items ∷ []) result [] }
+{
+    if !whole.is_kept {
+        return Some(finding(number, TextFault::LineTooLong, b""));
+    }
+    match whole.end {
+        LineEnd::Newline => told_of(number, line, taken),
+        LineEnd::ScriptEnd => told_of(number, line, taken),
+        LineEnd::ReadFailed => None,
+    }
+}
+
+/// Writes one line more of a report, unless a write failed before.
+fn tell<O: Sink>(out: &mut O, report: Report, text: &[u8]) -> Report
+    ensures { ReportsMore (O.seen out.old) (O.seen out.new) report result (text.now ∷ []) }
+{
+    let faulty = report.faulty.saturating_add(1);
+    if !report.is_written {
+        return Report {
+            faulty,
+            is_written: false,
+        };
+    }
+    if put(out, text) {
+        Report {
+            faulty,
+            is_written: true,
+        }
+    } else {
+        Report {
+            faulty,
+            is_written: false,
+        }
+    }
+}
+
+/// Tells of a line, as it was read, if it has a fault.
+fn tell_line<O: Sink>(
+    out: &mut O,
+    report: Report,
+    number: u64,
+    whole: WholeLine,
+    line: &[u8],
+    taken: &mut Arguments,
+) -> Report
+    requires { length line.now ≤ LONGEST_LINE }
+    ensures { ReportsMore (O.seen out.old) (O.seen out.new) report result (told_of_read number line.now whole.is_kept whole.end) }
+{
+    match told_of_read(number, whole, line, taken) {
+        Some(text) => tell(out, report, text.as_slice()),
+        None => report,
+    }
+}
+
+/// Reads a script to its end or until a read fails, and tells of each faulty line. Nothing is flushed.
+fn tell_lines<R: Source, O: Sink>(input: &mut R, out: &mut O) -> Checked
+    ensures { ReportsScript (R.seen input.old) (R.seen input.new) (O.seen out.old) (O.seen out.new) result.is_whole result.report }
+{
+    let mut bytes = Bytes::new();
+    let mut line = ArrayVec::<u8, LONGEST_LINE>::new();
+    let mut taken = Arguments::new();
+    let mut number = 1u64;
+    let mut report = Report {
+        faulty: 0,
+        is_written: true,
+    };
+    loop {
+        let whole = bytes.next_whole_line(input, &mut line);
+        report = tell_line(out, report, number, whole, line.as_slice(), &mut taken);
+        match whole.end {
+            LineEnd::Newline => number = number.saturating_add(1),
+            LineEnd::ScriptEnd => {
+                return Checked {
+                    is_whole: true,
+                    report,
+                };
+            }
+            LineEnd::ReadFailed => {
+                return Checked {
+                    is_whole: false,
+                    report,
+                };
+            }
+        }
+    }
+}
+
+/// The line that says how many lines are faulty, if one is.
+fn count_line(n: u64) -> ArrayVec<u8, COUNT_ROOM>
+    ensures { result.items ≡ count_line n }
+{
+    let mut text = ArrayVec::<u8, COUNT_ROOM>::new();
+    if n == 0 {
+        return text;
+    }
+    append_decimal(&mut text, n);
+    append(
+        &mut text,
+        if n == 1 {
+            b" faulty line".as_slice()
+        } else {
+            b" faulty lines"
+        },
+    );
+    append(&mut text, b"\n");
+    text
+}
+
+/// Writes what stands behind the lines of a report and flushes, and answers whether all of it went out.
+fn end_report<O: Sink>(out: &mut O, checked: Checked) -> bool
+    ensures { EndsReport (O.seen out.old) (O.seen out.new) checked.is_whole checked.report result }
+{
+    if !checked.report.is_written {
+        return false;
+    }
+    if checked.is_whole {
+        write_out(out, count_line(checked.report.faulty).as_slice())
+    } else {
+        write_out(out, b"")
+    }
+}
+
+/// Reads a script to its end, tells on the output of each faulty line where it is and what is wrong, and behind them how
+/// many they are, and answers the status.
+pub fn check<R: Source, O: Sink, L: Sink>(input: &mut R, out: &mut O, log: &mut L) -> u8
+    ensures checked { Checks (R.seen input.old) (R.seen input.new) (outputs (O.seen out.old) (L.seen log.old)) (outputs (O.seen out.new) (L.seen log.new)) result }
+    ensures log { result < 2 → (L.seen log.new).failures ≡ (L.seen log.old).failures }
+{
+    let checked = tell_lines(input, out);
+    if !end_report(out, checked) {
+        return failed(log, ScriptFault::Log);
+    }
+    if !checked.is_whole {
+        return failed(log, ScriptFault::Reading);
+    }
+    if checked.report.faulty == 0 {
+        ACCEPTED
+    } else {
+        BAD_TEXT
+    }
+}
