@@ -21,6 +21,9 @@ use std::{env, io};
 /// How many bytes are read of standard input at once.
 const READ_AT_ONCE: usize = 4096;
 
+/// How many bytes wait before they are written to standard output. A painter's piece of more goes out as it is.
+const WRITTEN_AT_ONCE: usize = 1024;
+
 fn main(rt: HostRuntime) -> ExitCode {
     let mut log = Counted::new(rt.stderr());
     let status = match run(&rt, &mut log) {
@@ -40,7 +43,11 @@ fn run<L: Sink>(rt: &HostRuntime, log: &mut L) -> io::Result<u8> {
     let alloc = rt.alloc();
     let words: Vec<String> = env::args(rt)?.collect(alloc)?;
     let mut input = CountedReader::new(BufReader::with_capacity(alloc, READ_AT_ONCE, rt.stdin())?);
-    let mut out = Counted::new(BufWriter::new(alloc, rt.stdout())?);
+    let mut out = Counted::new(BufWriter::with_capacity(
+        alloc,
+        WRITTEN_AT_ONCE,
+        rt.stdout(),
+    )?);
     Ok(serve(alloc, words.as_slice(), &mut input, &mut out, log))
 }
 
