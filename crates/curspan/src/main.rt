@@ -43,11 +43,7 @@ fn run<L: Sink>(rt: &HostRuntime, log: &mut L) -> io::Result<u8> {
     let alloc = rt.alloc();
     let words: Vec<String> = env::args(rt)?.collect(alloc)?;
     let mut input = CountedReader::new(BufReader::with_capacity(alloc, READ_AT_ONCE, rt.stdin())?);
-    let mut out = Counted::new(BufWriter::with_capacity(
-        alloc,
-        WRITTEN_AT_ONCE,
-        rt.stdout(),
-    )?);
+    let mut out = Counted::new(BufWriter::with_capacity(alloc, WRITTEN_AT_ONCE, rt.stdout())?);
     Ok(serve(alloc, words.as_slice(), &mut input, &mut out, log))
 }
 
