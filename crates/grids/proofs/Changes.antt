@@ -43,7 +43,7 @@ standard-still t new (Some k) s = standard-kept t new k s
 pub IsWindowTable-set : (t : WindowTable) (new : List (Option Kept)) (at : ℕ) (k : Kept) → IsWindowTable t → SetAt t.slots new at (Some k) → KeepsShape (slot_at t.slots at) (Some k)
     → IsKept k → StandsIn t.slots k k.cells → IsOnScreen t.lines t.columns (window_of k) → (at ≡ 0 → IsStandardOf t k) → (IsChained new → AreOrigins new) → IsWindowTable (record t { slots = new })
 IsWindowTable-set t new at k s set shape kept stands placed standard origins = record {
-  some_slot = omega (arith, s.some_slot, set.more);
+  some_slot = omega (arith, s.some_slot, set.size);
   few_slots = set.few;
   has_line = s.has_line;
   has_column = s.has_column;

@@ -62,7 +62,7 @@ chained_without t new at set s h = record {
 
 pub IsWindowTable-without : (t : WindowTable) (new : List (Option Kept)) (at : ℕ) → SetAt t.slots new at None → IsWindowTable t → at ≢ 0 → has_derived (window_map t.slots) at ≡ false → IsWindowTable (record t { slots = new })
 IsWindowTable-without t new at set s other h = record {
-  some_slot = omega (arith, s.some_slot, set.more);
+  some_slot = omega (arith, s.some_slot, set.size);
   few_slots = set.few;
   has_line = s.has_line;
   has_column = s.has_column;

@@ -88,7 +88,7 @@ module _ (t : WindowTable) (mid : List (Option Kept)) (at y x : ℕ) (s : IsWind
     module _ (new : List (Option Kept)) (settled : Settled mid new) where
       pub IsWindowTable-shifted : IsWindowTable (record t { slots = new })
       IsWindowTable-shifted = record {
-        some_slot = omega (arith, s.some_slot, set_at.more, settled.size);
+        some_slot = omega (arith, s.some_slot, set_at.size, settled.size);
         few_slots = omega (arith, set_at.few, settled.size);
         has_line = s.has_line;
         has_column = s.has_column;

@@ -15,7 +15,7 @@ pub SetAt-set : (slots : List (Option Kept)) (at : ℕ) (o : Option Kept) → le
 SetAt-set slots at o few below = record {
   here = get_or-set_same slots at o None below;
   others = λ w other. get_or-set_other slots at w o None other;
-  more = omega (arith, length-set slots at o);
+  size = omega (arith, length-set slots at o);
   few = omega (arith, length-set slots at o);
 }
 

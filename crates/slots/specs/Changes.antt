@@ -50,6 +50,7 @@ pub record Shifted (old new : List (Option Kept)) (at y x : ℕ) : Type 0 where
   pub window : window_of after ≡ with_part y x (window_of before)
   pub shape : SameShape before after
   pub cells : after.cells ≡ shifted y x before.cells
+  pub origin : after.origin ≡ before.origin
   pub kept : IsKept after
 
 -- each slot has its origin, and its window is as it was
@@ -59,11 +60,11 @@ pub record Settled (old new : List (Option Kept)) : Type 0 where
   pub chained : IsChained new
   pub origins : AreOrigins new
 
--- one slot has another window, or none, and no other slot changed
+-- one slot has another window, or none, no other slot changed, and the list grew only to hold it
 pub record SetAt (old new : List (Option Kept)) (at : ℕ) (o : Option Kept) : Type 0 where
   pub here : slot_at new at ≡ o
   pub others : (w : ℕ) → w ≢ at → slot_at new w ≡ slot_at old w
-  pub more : length old ≤ length new
+  pub size : length new ≡ max (length old) (at + 1)
   pub few : length new ≤ MOST_WINDOWS + 1
 
 -- the least columns that hold these and those from left to right

@@ -269,6 +269,7 @@ impl Slot {
         ensures window { window_of self.new ≡ with_part y x (window_of self.old) }
         ensures shape { SameShape self.old self.new }
         ensures cells { self.new.cells ≡ shifted y x self.old.cells }
+        ensures origin { self.new.origin ≡ self.old.origin }
         ensures kept { IsKept self.new }
     {
         if let Cells::Shared(part) = &mut self.cells {
