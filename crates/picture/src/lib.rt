@@ -4,8 +4,8 @@
 mod damage;
 mod line;
 mod parts;
-mod picture;
 mod piece;
+mod repair;
 mod rows;
 mod search;
 mod span;
@@ -15,7 +15,7 @@ mod tests;
 pub use damage::Damage;
 pub use line::compose_row;
 pub use parts::{following_part, panel_part, shared_part, window_part};
-pub use picture::show_damaged;
 pub use piece::{Source, show_piece};
+pub use repair::show_damaged;
 pub use rows::Rows;
 pub use search::{STANDARD, cell_found, cursor_on_screen, wanted_cursor};

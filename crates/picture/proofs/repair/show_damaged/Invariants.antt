@@ -5,7 +5,7 @@ use Rattle.grids.specs.Tables.{windows as windows_of}
 use Rattle.stack.specs.Tables.{panels}
 use Rattle.picture.specs.Damages.{cells_above}
 use Rattle.picture.proofs.Composing.{ComposedAbove}
-use Rattle.picture.proofs.picture.show_damaged.Given as goal
+use Rattle.picture.proofs.repair.show_damaged.Given as goal
 
 -- the lines before y are composed, and their cells were lent
 abbrev pub invariant-loop-y : goal.invariant-loop-y

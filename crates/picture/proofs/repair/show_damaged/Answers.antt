@@ -9,8 +9,8 @@ use Rattle.stack.specs.Tables.{panels}
 use Rattle.picture.specs.Damages.{cells_above, cells_of_line, columns_of}
 use Rattle.picture.proofs.Composing.{composed-bare, composed-more, fits-more}
 use Rattle.picture.proofs.Lines.{shown-all}
-use Rattle.picture.proofs.picture.show_damaged.Goals.{in-Some, in_default}
-use Rattle.picture.proofs.picture.show_damaged.Goals as goal
+use Rattle.picture.proofs.repair.show_damaged.Goals.{in-Some, in_default}
+use Rattle.picture.proofs.repair.show_damaged.Goals as goal
 
 pub compose_row-requires : goal.compose_row-requires
 compose_row-requires c κs =
