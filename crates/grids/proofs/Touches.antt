@@ -4,10 +4,13 @@ use Rattle.std.specs.Option.{option_map}
 use mathlib.Core.Path.{fun_ext}
 use Rattle.std.proofs.lemmas.Bool.{cases_eq, cases_lt, cond-true, cond-false, lt-ltb, le-ltb}
 use Rattle.std.proofs.lemmas.Iterator.Adapters.{option_map_id}
+use Rattle.cell.specs.Pictures.{Place}
+use Rattle.cell.specs.declared.limits.TheConstants.{LARGEST_PAD}
 use Rattle.world.specs.Windows.{Window, WindowMap, Windows, changed, touched_below}
 use Rattle.world.specs.calls.Marks.{touching}
 use Rattle.world.specs.declared.settings.Columns.{Columns}
 use Rattle.slots.specs.Changes.{spread, with_touched}
+use Rattle.grids.specs.steps.Syncs.{EndsWithin}
 use Rattle.grids.proofs.Writes.{touched-none, touched-past}
 
 -- ---- one window changed twice, and not at all
@@ -190,3 +193,28 @@ module _ (w : Windows) (win : ℕ) (test : ℕ → ℕ → Bool) where
 pub there-and : (o : Option Window) (P : Window → Type 0) → IsSomeAnd o P → (a : Window) × (o ≡ Some a) × P a
 there-and None P h = absurd h
 there-and (Some a) P h = (a, refl, h)
+
+-- ---- a window that is touched where it shows what is touched of another, at its line y
+
+-- The window ends within the limits and has the line; the lines above are touched, and the other window is as it was.
+pub record IsAtLine (w cur : Windows) (win source : ℕ) (at : Place) (test : ℕ → ℕ → Bool) (y : ℕ) : Type 0 where
+  pub window : Window
+  pub there : w.window win ≡ Some window
+  pub fits : (at.0 + window.lines ≤ LARGEST_PAD) × (at.1 + window.columns ≤ LARGEST_PAD)
+  pub below : y < window.lines
+  pub here : cur.window win ≡ Some (touching (before y test) window)
+  pub same : cur.window source ≡ w.window source
+
+pub at-line : (w cur : Windows) (win source : ℕ) (at size : Place) (test : ℕ → ℕ → Bool) (y : ℕ) → win ≢ source → EndsWithin w.window win at
+    → IsSomeAnd (w.window win) (λ a. (size.0 ≡ a.lines) × (size.1 ≡ a.columns)) → y < size.0 → cur ≡ touched_before w win test y → IsAtLine w cur win source at test y
+at-line w cur win source at size test y other ends sized above touched =
+    let b = there-and (w.window win) (λ b. (at.0 + b.lines ≤ LARGEST_PAD) × (at.1 + b.columns ≤ LARGEST_PAD)) ends in
+    let lines = (rw b.1 at sized).0 in
+    record {
+      window = b.0;
+      there = b.1;
+      fits = b.2;
+      below = omega (arith, above, lines);
+      here = touched-here w win test y cur b.0 touched b.1;
+      same = touched-other w win test y cur source touched (λ e. other (sym e));
+    }
