@@ -4,7 +4,7 @@ use Rattle.std.specs.List.{flat_map, slice_split}
 use Rattle.streams.specs.Sinks.{Seen}
 use Rattle.streams.specs.Sources.{SourceSeen}
 use Rattle.script.specs.Characters.{is_newline, newline}
-use Rattle.script.specs.Explanations.{finding}
+use Rattle.explain.specs.Explanations.{finding}
 use Rattle.script.specs.Log.{last_line}
 use Rattle.script.specs.Readings.{next_number, said_by_line}
 use Rattle.script.specs.declared.fault.ScriptFault.TheVariants.{Reading, Log}

@@ -11,9 +11,8 @@ use crate::put::{put, write_out};
 use crate::status::{ACCEPTED, BAD_TEXT, failed};
 use arrayvec::ArrayVec;
 use desk::{ScriptFault, Sink, Source};
-use script::{
-    Arguments, Bytes, Finding, LONGEST_LINE, LineEnd, TextFault, WholeLine, finding, read_line,
-};
+use explain::{Finding, finding};
+use script::{Arguments, Bytes, LONGEST_LINE, LineEnd, TextFault, WholeLine, read_line};
 use streams::{append, append_decimal};
 
 /// Room for the line on how many lines are faulty: a number, and 14 bytes more.

@@ -8,7 +8,7 @@ use Rattle.script.specs.Characters.{is_space}
 use Rattle.script.specs.Readings.{arguments, is_text}
 use Rattle.script.specs.Texts.{all_said}
 use Rattle.script.specs.Words.{Arguments, nothing_said}
-use Rattle.script.specs.steps.Reads.{pieces_of}
+use Rattle.script.specs.Pieces.{pieces_of}
 use Rattle.script.specs.declared.words.Form.{Form}
 
 pub arguments_none : (forms : List Form) → arguments forms [] ≡ []

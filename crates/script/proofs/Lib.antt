@@ -5,4 +5,3 @@ pub mod NumberLemmas
 pub mod LineLemmas
 pub mod ArgumentLemmas
 pub mod ByteLemmas
-pub mod AdviceLemmas

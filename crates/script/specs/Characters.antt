@@ -14,10 +14,6 @@ carriage_return = 13
 abbrev pub space : ℕ
 space = 32
 
--- `"`
-abbrev pub quotation_mark : ℕ
-quotation_mark = 34
-
 -- `#`
 abbrev pub number_sign : ℕ
 number_sign = 35

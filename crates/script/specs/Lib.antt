@@ -1,7 +1,7 @@
 pub mod Characters
 pub mod Words
 pub mod Texts
+pub mod Pieces
 pub mod Readings
-pub mod Explanations
 pub mod Log
 pub mod steps

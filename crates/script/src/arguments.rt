@@ -122,7 +122,7 @@ impl Arguments {
     }
 
     /// Takes what an argument of a form says, and answers whether it has its form.
-    pub(crate) fn take(&mut self, form: Form, piece: &[u8]) -> bool
+    pub fn take(&mut self, form: Form, piece: &[u8]) -> bool
         requires room { length self.old.numbers < MOST_ARGUMENTS }
         requires short { length piece.now ≤ LONGEST_LINE }
         ensures said { OnTrue result (said form piece.now self.old ≡ Some self.new) }

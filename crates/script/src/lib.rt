@@ -3,7 +3,6 @@
 
 mod arguments;
 mod bytes;
-mod explain;
 mod fault;
 pub mod laws;
 mod limits;
@@ -15,12 +14,14 @@ mod words;
 
 pub use arguments::Arguments;
 pub use bytes::{Bytes, LineEnd, LineRead, WholeLine};
-pub use explain::{Finding, finding};
 pub use fault::{ScriptEnd, ScriptFault, TextFault};
-pub use limits::LONGEST_LINE;
-pub use line::read_line;
+pub use limits::{LONGEST_LINE, MOST_ARGUMENTS};
+pub use line::{next_argument, read_line, split_at_space};
 pub use log::{LogLine, last_line, log_answer};
-pub use words::{CopyingWord, MakingWord, QueryWord, RefreshWord, StackingWord, Word, WritingWord};
+pub use numbers::has_digits_alone;
+pub use words::{
+    CopyingWord, Form, MakingWord, QueryWord, RefreshWord, StackingWord, Word, WritingWord,
+};
 
 #[cfg(test)]
 mod tests;

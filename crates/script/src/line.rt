@@ -8,7 +8,8 @@ ghost use Rattle.script.specs.Words.{nothing_said};
 ghost use Rattle.script.specs.Texts.{all_said};
 ghost use Rattle.script.specs.Characters.{is_bad_byte, is_space};
 ghost use Rattle.script.specs.Readings.{arguments, is_skipped, is_text, said_by_line};
-ghost use Rattle.script.specs.steps.Reads.{Reads, pieces_of, room_of};
+ghost use Rattle.script.specs.Pieces.{pieces_of, room_of};
+ghost use Rattle.script.specs.steps.Reads.{Reads};
 
 use crate::arguments::Arguments;
 use crate::fault::TextFault;
@@ -48,7 +49,7 @@ fn first_space(text: &[u8]) -> Option<usize>
 }
 
 /// What stands before the first space, and what stands behind it if there is one.
-pub(crate) fn split_at_space(text: &[u8]) -> (&[u8], Option<&[u8]>)
+pub fn split_at_space(text: &[u8]) -> (&[u8], Option<&[u8]>)
     ensures pieces { slice_split is_space text.now ≡ result.0.now ∷ pieces_of result.1 }
     ensures short { length result.0.now ≤ length text.now }
     ensures rest { IfSome result.1 (λ rest. length result.0.now + 1 + length rest.now ≤ length text.now) }
@@ -61,7 +62,7 @@ pub(crate) fn split_at_space(text: &[u8]) -> (&[u8], Option<&[u8]>)
 }
 
 /// An argument of a form as it stands at the front of a text, and what stands behind it.
-pub(crate) fn next_argument(form: Form, text: &[u8]) -> (&[u8], Option<&[u8]>)
+pub fn next_argument(form: Form, text: &[u8]) -> (&[u8], Option<&[u8]>)
     ensures argument { (forms : List Form) → arguments (form ∷ forms) (slice_split is_space text.now)
         ≡ result.0.now ∷ arguments forms (pieces_of result.1) }
     ensures short { length result.0.now ≤ length text.now }

@@ -23,7 +23,7 @@ pub use writing::WritingWord;
 
 /// The form of an argument.
 #[derive(Clone, Copy, Debug, PartialEq, Eq)]
-pub(crate) enum Form {
+pub enum Form {
     /// A number up to the greatest.
     Number,
     /// A number up to the greatest, or `none`.
@@ -73,7 +73,7 @@ fn first_named(words: &[Word], text: &[u8]) -> Option<Word>
 
 impl Word {
     /// The call of a script word.
-    pub(crate) fn of(text: &[u8]) -> Option<Word>
+    pub fn of(text: &[u8]) -> Option<Word>
         ensures { result ≡ word_of text.now }
     {
         let groups: [&[Word]; 6] = [
@@ -117,7 +117,7 @@ impl Word {
     }
 
     /// The forms of its call's arguments.
-    pub(crate) fn forms(self) -> &'static [Form]
+    pub fn forms(self) -> &'static [Form]
         ensures forms { result.now ≡ (entry_of self).forms }
         ensures count { length result.now ≤ MOST_ARGUMENTS }
     {

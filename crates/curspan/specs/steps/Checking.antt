@@ -5,7 +5,7 @@ use Rattle.std.specs.List.{flat_map}
 use Rattle.streams.specs.Counts.{counted}
 use Rattle.streams.specs.Sinks.{Seen}
 use Rattle.streams.specs.Sources.{SourceSeen}
-use Rattle.script.specs.Explanations.{finding}
+use Rattle.explain.specs.Explanations.{finding}
 use Rattle.script.specs.Readings.{said_by_line}
 use Rattle.script.specs.declared.bytes.LineEnd.{LineEnd}
 use Rattle.script.specs.declared.bytes.LineEnd.TheVariants.{Newline, ScriptEnd, ReadFailed}

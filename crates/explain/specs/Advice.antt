@@ -1,0 +1,52 @@
+-- What stands for a name of curses that no script's word is. The words are Curspan's own.
+use Rattle.std.specs.Prelude.{◌&&◌, ℕ, List, [], ◌∷◌, ◌++◌, codes, drop, is_some, length, map, Option, Some, None, take, if◌then◌else◌}
+use Rattle.std.specs.Option.{option_map_or}
+use Rattle.std.specs.Str.{bytes_eq}
+use Rattle.script.specs.Words.{word_of}
+use Rattle.explain.specs.declared.advice.TheConstants.{ADVICE}
+use Rattle.explain.specs.declared.advice.Advice.{Advice}
+use Rattle.explain.specs.declared.advice.Advice.TheVariants as advice
+
+-- what is said of a name of curses that no script's word is
+abbrev pub advice_text : Advice → List ℕ
+advice_text advice.Refresh = codes "see noutrefresh, doupdate"
+advice_text advice.PadRefresh = codes "see pnoutrefresh, doupdate"
+advice_text advice.Keys = codes "no call reads keys"
+advice_text advice.Screen = codes "the screen is there from the first line on, and ends with the script"
+advice_text advice.Lines = codes "lines are drawn by the characters of addstr"
+advice_text advice.Format = codes "no call formats: see addstr"
+advice_text advice.Text = codes "see addstr"
+advice_text advice.Insert = codes "see insch"
+advice_text advice.InsertLines = codes "see insertln, deleteln"
+advice_text advice.Cell = codes "see inch"
+advice_text advice.Background = codes "see bkgdset, erase"
+advice_text advice.Size = codes "a window keeps its size"
+advice_text advice.Copy = codes "see newwin, overwrite"
+advice_text advice.Standout = codes "see attron, with 10"
+advice_text advice.Standend = codes "see attrset, with 00"
+advice_text advice.Attributes = codes "see attrset, attron, attroff, color_set"
+advice_text advice.Colours = codes "colours are there from the first line on: see init_pair"
+advice_text advice.Scroll = codes "see scrl"
+advice_text advice.Redraw = codes "see clearok, touchwin"
+advice_text advice.Cursor = codes "see getyx"
+advice_text advice.Measure = codes "see getmaxyx"
+advice_text advice.Flag = codes "no window has this flag"
+
+abbrev pub looked_up : List (List ℕ × Advice) → List ℕ → Option Advice
+looked_up [] name = None
+looked_up (entry ∷ entries) name = if bytes_eq name entry.0 then Some entry.1 else looked_up entries name
+
+unfoldable pub listed : List ℕ → Option Advice
+listed = looked_up (map (λ entry. (entry.0.now, entry.1)) ADVICE)
+
+-- the rest of a word behind these bytes, if it is a call
+abbrev pub call_behind : List ℕ → List ℕ → Option (List ℕ)
+call_behind front word = if bytes_eq (take (length front) word) front && is_some (word_of (drop (length front) word)) then Some (drop (length front) word)
+    else None
+
+-- what stands for a word of curses that is no call: as the table has it; behind `mv` and `w` a call
+abbrev pub call_advice : List ℕ → List ℕ
+call_advice word = option_map_or (λ advice. codes ": " ++ advice_text advice) (listed word)
+    (option_map_or (λ rest. codes ": see move, " ++ rest) (call_behind (codes "mvw") word)
+    (option_map_or (λ rest. codes ": see move, " ++ rest) (call_behind (codes "mv") word)
+    (option_map_or (λ rest. codes ": see " ++ rest) (call_behind (codes "w") word) [])))

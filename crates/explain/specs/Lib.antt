@@ -1,0 +1,4 @@
+pub mod Faults
+pub mod Advice
+pub mod Reasons
+pub mod Explanations

@@ -1,0 +1,39 @@
+-- What an argument of a form is, and why a byte or an argument is faulty. The words are Curspan's own.
+use Rattle.std.specs.Prelude.{◌==◌, ℕ, List, [], codes, length, nat_le, slice_index, if◌then◌else◌}
+use Rattle.std.specs.Char.{is_ascii_digit}
+use Rattle.std.specs.List.{list_all}
+use Rattle.script.specs.Characters.{carriage_return, digit_0}
+use Rattle.script.specs.declared.words.Form.{Form}
+use Rattle.script.specs.declared.words.Form.TheVariants.{Number, NumberOrNone, Signed, Attributes, Flag, Character, Text}
+
+-- what is said of a bad byte: a carriage return, a tab, a byte beyond ASCII, or another
+abbrev pub byte_advice : ℕ → List ℕ
+byte_advice b = if b == carriage_return then codes "a line ends with a newline alone"
+    else (if b == 9 then codes "words are separated by single spaces"
+    else (if nat_le 128 b then codes "characters are those of ASCII, from the space to the tilde"
+    else codes "a text has it as a backslash, x and these two digits"))
+
+-- what an argument of a form is
+abbrev pub wanted : Form → List ℕ
+wanted Number = codes "a number from 0 to 65535"
+wanted NumberOrNone = codes "a number from 0 to 65535, or none"
+wanted Signed = codes "a number from -32767 to 32767"
+wanted Attributes = codes "two hexadecimal digits from 00 to 3f"
+wanted Flag = codes "on or off"
+wanted Character = codes "one character, or one of the escapes \\n, \\r, \\b, \\\\ and \\xHH"
+wanted Text = codes "a text with no escapes but \\n, \\r, \\b, \\\\ and \\xHH"
+
+-- why digits are no number
+abbrev pub digits_reason : List ℕ → List ℕ
+digits_reason argument = if length argument == 0 then codes ": single spaces separate words"
+    else (if list_all is_ascii_digit argument then (if slice_index argument 0 == digit_0 then codes ": a number has no 0 in front" else codes ": it is too great")
+    else [])
+
+abbrev pub reason : Form → List ℕ → List ℕ
+reason Number argument = digits_reason argument
+reason NumberOrNone argument = digits_reason argument
+reason Signed argument = digits_reason argument
+reason Attributes argument = []
+reason Flag argument = []
+reason Character argument = []
+reason Text argument = []

@@ -1,0 +1,77 @@
+//! The arguments of a faulty line: how many there are, and the first that lacks its form.
+
+ghost use Rattle.std.specs.Prelude.{◌≡◌, ◌≤◌, ◌+◌, IfSome, length, option_map};
+ghost use Rattle.script.specs.Pieces.{pieces_of, room_of};
+ghost use Rattle.script.specs.Readings.{arguments};
+ghost use Rattle.explain.specs.Faults.{IllFormed as Ill, forms_named, has_form, ill_formed};
+
+use script::{Arguments, Form, LONGEST_LINE, MOST_ARGUMENTS, Word, next_argument, split_at_space};
+
+/// An argument without its form, and its column.
+#[derive(Clone, Copy)]
+pub struct IllFormed<'a> {
+    pub column: usize,
+    pub form: Form,
+    pub argument: &'a [u8],
+}
+
+/// The forms of a call's arguments, if the word is a call's.
+pub fn forms_named(word: &[u8]) -> &'static [Form]
+    ensures forms { result.now ≡ forms_named word.now }
+    ensures count { length result.now ≤ MOST_ARGUMENTS }
+{
+    match Word::of(word) {
+        Some(word) => word.forms(),
+        None => &[],
+    }
+}
+
+/// How many arguments stand in a text.
+pub fn count(forms: &[Form], text: Option<&[u8]>) -> usize
+    requires { room_of text ≤ LONGEST_LINE + 1 }
+    ensures count { result ≡ length (arguments forms.now (pieces_of text.entry)) }
+    ensures short { result ≤ room_of text.entry }
+{
+    let Some(text) = text else { return 0 };
+    match forms.split_first() {
+        Some((form, others)) => 1 + count(others, next_argument(*form, text).1),
+        None => 1 + count(&[], split_at_space(text).1),
+    }
+}
+
+/// Whether an argument has its form.
+fn has_form(form: Form, argument: &[u8]) -> bool
+    requires { length argument.now ≤ LONGEST_LINE }
+    ensures { result ≡ has_form form argument.now }
+{
+    Arguments::new().take(form, argument)
+}
+
+/// The first argument that lacks its form.
+pub fn ill_formed<'a>(
+    column: usize,
+    forms: &[Form],
+    text: Option<&'a [u8]>,
+) -> Option<IllFormed<'a>>
+    requires short { IfSome text (λ t. column + length t.now ≤ LONGEST_LINE + 2) }
+    requires text { IfSome text (λ t. length t.now ≤ LONGEST_LINE) }
+    ensures ill { option_map (λ ill. record { column = ill.column; form = ill.form; argument = ill.argument.now }) result
+        ≡ ill_formed column forms.now (arguments forms.now (pieces_of text.entry)) }
+    ensures short { IfSome result (λ ill. length ill.argument.now ≤ LONGEST_LINE) }
+{
+    match (forms.split_first(), text) {
+        (Some((form, others)), Some(text)) => {
+            let (argument, rest) = next_argument(*form, text);
+            if has_form(*form, argument) {
+                ill_formed(column + argument.len() + 1, others, rest)
+            } else {
+                Some(IllFormed {
+                    column,
+                    form: *form,
+                    argument,
+                })
+            }
+        }
+        _ => None,
+    }
+}

@@ -1,0 +1,72 @@
+//! Where a fault is.
+
+ghost use Rattle.std.specs.Prelude.{◌≡◌, ◌≤◌, ◌+◌, ◌<◌, IfSome, length, position, slice_index};
+ghost use Rattle.script.specs.Characters.{is_bad_byte};
+ghost use Rattle.script.specs.Pieces.{pieces_of};
+ghost use Rattle.script.specs.Readings.{arguments};
+ghost use Rattle.explain.specs.Faults.{bad_place, column_behind, column_of};
+
+use crate::arguments::{forms_named, ill_formed};
+use cell::is_printable;
+use script::{Form, LONGEST_LINE, TextFault, next_argument, split_at_space};
+
+/// Where the first byte is that no line may have, if there is one.
+fn first_bad(line: &[u8]) -> Option<usize>
+    ensures place { result ≡ position is_bad_byte line.now }
+    ensures within { IfSome result (λ place. place < length line.now) }
+{
+    line.iter().position(|b| !is_printable(*b))
+}
+
+/// Where it is, and 0 where there is none.
+fn bad_place(line: &[u8]) -> usize
+    ensures place { result ≡ bad_place line.now }
+    ensures within { result ≤ length line.now }
+{
+    match first_bad(line) {
+        Some(place) => place,
+        None => 0,
+    }
+}
+
+/// The first byte that no line may have.
+pub fn bad_byte(line: &[u8]) -> u8
+    ensures { result ≡ slice_index line.now (bad_place line.now) }
+{
+    match line.get(bad_place(line)) {
+        Some(byte) => *byte,
+        None => 0,
+    }
+}
+
+/// The column behind as many arguments as there are forms, of which the first begins in a column.
+fn column_behind(column: usize, forms: &[Form], text: Option<&[u8]>) -> usize
+    requires short { IfSome text (λ t. column + length t.now ≤ LONGEST_LINE + 2) }
+    ensures { result ≡ column_behind column forms.now (arguments forms.now (pieces_of text.entry)) }
+{
+    match (forms.split_first(), text) {
+        (Some((form, others)), Some(text)) => {
+            let (argument, rest) = next_argument(*form, text);
+            column_behind(column + argument.len() + 1, others, rest)
+        }
+        _ => column,
+    }
+}
+
+/// The column of a fault.
+pub fn column_of(fault: TextFault, line: &[u8]) -> usize
+    requires { length line.now ≤ LONGEST_LINE }
+    ensures { result ≡ column_of fault line.now }
+{
+    let (word, text) = split_at_space(line);
+    match fault {
+        TextFault::LineTooLong => LONGEST_LINE + 1,
+        TextFault::BadByte => bad_place(line) + 1,
+        TextFault::UnknownCall => 1,
+        TextFault::WrongNumberOfArguments => column_behind(word.len() + 2, forms_named(word), text),
+        TextFault::BadArgument => match ill_formed(word.len() + 2, forms_named(word), text) {
+            Some(ill) => ill.column,
+            None => 1,
+        },
+    }
+}

@@ -1,0 +1,13 @@
+//! What a person is told of a script's faulty line.
+#![tactic(auto)]
+
+mod advice;
+mod arguments;
+mod column;
+mod reasons;
+mod telling;
+
+pub use telling::{Finding, finding};
+
+#[cfg(test)]
+mod tests;

@@ -1,0 +1,15 @@
+-- What is left of a line, if something is, and the pieces between its single spaces.
+use Rattle.std.specs.Prelude.{◌+◌, ℕ, List, [], length, Option, Some, None}
+use Rattle.std.specs.List.{slice_split}
+use Rattle.std.specs.Borrow.{Bor}
+use Rattle.script.specs.Characters.{is_space}
+
+-- the pieces between single spaces of what is left of a line, if something is
+abbrev pub pieces_of : Option (Bor (List ℕ)) → List (List ℕ)
+pieces_of None = []
+pieces_of (Some text) = slice_split is_space text.now
+
+-- how many pieces it may have, at most
+abbrev pub room_of : Option (Bor (List ℕ)) → ℕ
+room_of None = 0
+room_of (Some text) = length text.now + 1
