@@ -48,25 +48,14 @@ none_reported out report written none = record {
   faulty = none;
 }
 
-pub line_reported : (first old new : Seen) (before : Report) (lines : List (List ℕ)) (text : List ℕ) (faulty : ℕ) → IsReported first old before lines → before.is_written ≡ true
-    → faulty ≡ next_number before.faulty → Appends old.taken new.taken text → new.flushes ≡ old.flushes → new.failures ≡ old.failures
-    → IsReported first new (record { faulty = faulty; is_written = true }) (lines ++ text ∷ [])
-line_reported first old new before lines text faulty r written more taken flushes failures = record {
-  taken = λ e. rw (flat_more lines text) (Appends-trans _ _ _ _ _ (r.taken written) taken);
-  cut = λ e. cc;
+pub line_reported : (first old new : Seen) (before : Report) (lines : List (List ℕ)) (text : List ℕ) (faulty : ℕ) (is_put : Bool) → IsReported first old before lines
+    → before.is_written ≡ true → faulty ≡ next_number before.faulty → (is_put ≡ true → Appends old.taken new.taken text) → (is_put ≡ false → TakesFront old new text)
+    → new.flushes ≡ old.flushes → new.failures ≡ counted (not is_put) old.failures → IsReported first new (record { faulty = faulty; is_written = is_put }) (lines ++ text ∷ [])
+line_reported first old new before lines text faulty is_put r written more taken cut flushes failures = record {
+  taken = λ e. rw (flat_more lines text) (Appends-trans _ _ _ _ _ (r.taken written) (taken e));
+  cut = λ e. rw (flat_more lines text) (front_behind _ _ _ _ _ (r.taken written) (cut e));
   flushes = flushes ∙ r.flushes;
-  failures = failures ∙ r.failures ∙ ap (λ b. counted (not b) first.failures) written;
-  faulty = more ∙ ap next_number r.faulty ∙ count_more lines text;
-}
-
-pub line_cut : (first old new : Seen) (before : Report) (lines : List (List ℕ)) (text : List ℕ) (faulty : ℕ) → IsReported first old before lines → before.is_written ≡ true
-    → faulty ≡ next_number before.faulty → TakesFront old new text → new.flushes ≡ old.flushes → new.failures ≡ counted true old.failures
-    → IsReported first new (record { faulty = faulty; is_written = false }) (lines ++ text ∷ [])
-line_cut first old new before lines text faulty r written more cut flushes failures = record {
-  taken = λ e. cc;
-  cut = λ e. rw (flat_more lines text) (front_behind _ _ _ _ _ (r.taken written) cut);
-  flushes = flushes ∙ r.flushes;
-  failures = failures ∙ ap (counted true) (r.failures ∙ ap (λ b. counted (not b) first.failures) written);
+  failures = failures ∙ ap (counted (not is_put)) (r.failures ∙ ap (λ b. counted (not b) first.failures) written);
   faulty = more ∙ ap next_number r.faulty ∙ count_more lines text;
 }
 

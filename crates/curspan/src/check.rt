@@ -70,23 +70,10 @@ fn told_of_read(
 fn tell<O: Sink>(out: &mut O, report: Report, text: &[u8]) -> Report
     ensures { ReportsMore (O.seen out.old) (O.seen out.new) report result (text.now ∷ []) }
 {
-    let faulty = report.faulty.saturating_add(1);
-    if !report.is_written {
-        return Report {
-            faulty,
-            is_written: false,
-        };
-    }
-    if put(out, text) {
-        Report {
-            faulty,
-            is_written: true,
-        }
-    } else {
-        Report {
-            faulty,
-            is_written: false,
-        }
+    let is_written = report.is_written && put(out, text);
+    Report {
+        faulty: report.faulty.saturating_add(1),
+        is_written,
     }
 }
 
