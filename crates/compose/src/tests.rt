@@ -1,34 +1,31 @@
+//! Tests of a desk. The proof of a test carries along what is known of each call that it makes, and none of it is needed here: so most
+//! calls are made by helpers without a contract.
+
 use crate::Desk;
-use cell::WinId;
+use cell::{Refusal, WinId};
 use std::alloc::Global;
 use std::test::Fail;
 use world::{Call, Composed, Making, PanelId, Reply, Writing};
 
 const SCREEN: WinId = WinId(0);
 
-/// Makes a window of one line and two columns, shows it in a panel, and fills it with a character.
-fn panel(desk: &mut Desk, x: u16, character: u8) -> Result<PanelId, Fail> {
-    let newwin = Making::Newwin {
-        lines: 1,
-        columns: 2,
-        y: 0,
-        x,
-    };
-    let Reply::Number(win) = desk.call(&Call::Making(newwin))? else {
-        return Err("no number".into());
-    };
-    let text = [character, character];
-    desk.call(&Call::Writing(Writing::Addstr {
-        win,
-        text: text.as_slice(),
-    }))?;
-    let panel = desk.new_panel(win)?;
-    Ok(panel)
+pub(crate) fn new_desk(alloc: Global, lines: u16, columns: u16) -> Result<Desk, Refusal> {
+    Desk::new(alloc, lines, columns)
 }
 
-/// The characters of the picture that is composed now.
-fn composed(desk: &mut Desk, alloc: Global) -> Result<Vec<u8>, Fail> {
-    desk.update_panels();
+pub(crate) fn make(desk: &mut Desk, making: Making) -> Result<WinId, Fail> {
+    match desk.call(&Call::Making(making)) {
+        Ok(Reply::Number(win)) => Ok(win),
+        _ => Err("no number".into()),
+    }
+}
+
+pub(crate) fn write(desk: &mut Desk, writing: Writing<'_>) -> Result<Reply, Refusal> {
+    desk.call(&Call::Writing(writing))
+}
+
+/// The characters of the virtual screen, line after line.
+fn shown(desk: &Desk, alloc: Global) -> Result<Vec<u8>, Fail> {
     let mut shown = Vec::new(alloc);
     for y in 0..desk.size().0 {
         for cell in desk.virtual_row(y) {
@@ -38,55 +35,179 @@ fn composed(desk: &mut Desk, alloc: Global) -> Result<Vec<u8>, Fail> {
     Ok(shown)
 }
 
-/// The characters of what the search finds now.
-fn found(desk: &Desk, alloc: Global) -> Result<Vec<u8>, Fail> {
+fn update_panels(desk: &mut Desk) -> Composed {
+    desk.update_panels()
+}
+
+/// Whether the virtual screen shows a text, line after line.
+pub(crate) fn shows(desk: &Desk, alloc: Global, text: &[u8]) -> Result<bool, Fail> {
+    Ok(shown(desk, alloc)?.as_slice() == text)
+}
+
+/// Whether the picture that is composed now is a text.
+fn composes(desk: &mut Desk, alloc: Global, text: &[u8]) -> Result<bool, Fail> {
+    update_panels(desk);
+    shows(desk, alloc, text)
+}
+
+pub(crate) fn wanted_cursor(desk: &Desk) -> (u16, u16) {
+    desk.wanted_cursor()
+}
+
+/// The character that the search finds at a place of the screen.
+fn found(desk: &Desk, y: u16, x: u16) -> Option<u8> {
     let (lines, columns) = desk.size();
-    let mut found = Vec::new(alloc);
-    for y in 0..lines {
-        for x in 0..columns {
-            found.push(desk.picture(y, x).ch())?;
-        }
+    if y < lines && x < columns {
+        Some(desk.picture(y, x).ch())
+    } else {
+        None
     }
-    Ok(found)
+}
+
+/// Whether the search finds four characters in the first line.
+fn finds(desk: &Desk, text: &[u8; 4]) -> bool {
+    [
+        found(desk, 0, 0),
+        found(desk, 0, 1),
+        found(desk, 0, 2),
+        found(desk, 0, 3),
+    ] == [Some(text[0]), Some(text[1]), Some(text[2]), Some(text[3])]
+}
+
+fn new_panel(desk: &mut Desk, win: WinId) -> Result<PanelId, Refusal> {
+    desk.new_panel(win)
+}
+
+fn bottom_panel(desk: &mut Desk, panel: PanelId) -> Result<(), Refusal> {
+    desk.bottom_panel(panel)
+}
+
+fn move_panel(desk: &mut Desk, panel: PanelId, y: u16, x: u16) -> Result<(), Refusal> {
+    desk.move_panel(panel, y, x)
+}
+
+fn hide_panel(desk: &mut Desk, panel: PanelId) -> Result<(), Refusal> {
+    desk.hide_panel(panel)
+}
+
+fn del_panel(desk: &mut Desk, panel: PanelId) -> Result<(), Refusal> {
+    desk.del_panel(panel)
+}
+
+fn replace_panel(desk: &mut Desk, panel: PanelId, win: WinId) -> Result<(), Refusal> {
+    desk.replace_panel(panel, win)
+}
+
+fn panel_window(desk: &Desk, panel: PanelId) -> Result<WinId, Refusal> {
+    desk.panel_window(panel)
+}
+
+/// Makes a window of one line and two columns, shows it in a panel, and fills it with a text.
+fn panel(desk: &mut Desk, x: u16, text: &[u8]) -> Result<PanelId, Fail> {
+    let newwin = Making::Newwin {
+        lines: 1,
+        columns: 2,
+        y: 0,
+        x,
+    };
+    let win = make(desk, newwin)?;
+    write(desk, Writing::Addstr { win, text })?;
+    Ok(new_panel(desk, win)?)
+}
+
+/// Writes four characters on the standard screen.
+fn write_abcd(desk: &mut Desk) -> Result<(), Fail> {
+    let text = b"abcd".as_slice();
+    match write(desk, Writing::Addstr { win: SCREEN, text }) {
+        Ok(Reply::Nothing) => Ok(()),
+        _ => Err("another answer".into()),
+    }
+}
+
+fn clear_done(desk: &mut Desk) {
+    desk.clear_done();
+}
+
+/// What is composed once the characters are written, where the cursor was wanted before and behind it, and whether the screen shows them.
+#[derive(Clone, Copy)]
+struct Taken {
+    composed: Composed,
+    before: (u16, u16),
+    behind: (u16, u16),
+    is_shown: bool,
+}
+
+fn take(desk: &mut Desk, alloc: Global) -> Result<Taken, Fail> {
+    write_abcd(desk)?;
+    let before = wanted_cursor(desk);
+    let composed = update_panels(desk);
+    let behind = wanted_cursor(desk);
+    clear_done(desk);
+    let is_shown = composes(desk, alloc, b"abcd  ".as_slice())?;
+    Ok(Taken {
+        composed,
+        before,
+        behind,
+        is_shown,
+    })
+}
+
+fn taken_screen(alloc: Global) -> Result<Taken, Fail> {
+    let mut desk = new_desk(alloc, 2, 3)?;
+    take(&mut desk, alloc)
 }
 
 #[test]
 fn a_desk_takes_the_picture_of_the_standard_screen(rt: HostRuntime) -> Result<(), Fail> {
-    let mut desk = Desk::new(rt.alloc(), 2, 3)?;
-    let text = b"abcd".as_slice();
-    let addstr = Call::Writing(Writing::Addstr { win: SCREEN, text });
-    assert_eq!(rt; desk.call(&addstr), Ok(Reply::Nothing));
-    assert_eq!(rt; desk.wanted_cursor(), (0, 0));
-    assert_eq!(rt; desk.update_panels(), Composed { cells: 6 });
-    assert_eq!(rt; desk.wanted_cursor(), (1, 1));
-    desk.clear_done();
-    assert_eq!(rt;
-        composed(&mut desk, rt.alloc())?.as_slice(),
-        b"abcd  ".as_slice()
-    );
+    let taken = taken_screen(rt.alloc())?;
+    assert_eq!(rt; taken.composed, Composed { cells: 6 });
+    assert_eq!(rt; (taken.before, taken.behind), ((0, 0), (1, 1)));
+    assert!(rt; taken.is_shown);
     Ok(())
+}
+
+/// A panel on the first two of four columns, and one above it, a column further right.
+fn two_panels(desk: &mut Desk) -> Result<(PanelId, PanelId), Fail> {
+    let first = panel(desk, 0, b"aa".as_slice())?;
+    let second = panel(desk, 1, b"bb".as_slice())?;
+    Ok((first, second))
+}
+
+/// Puts the second panel at the bottom, and the first two columns further right.
+fn move_both(desk: &mut Desk, first: PanelId, second: PanelId) -> Result<(), Refusal> {
+    bottom_panel(desk, second)?;
+    move_panel(desk, first, 0, 2)
+}
+
+/// Deletes the first panel, hidden, and shows its window in the second.
+fn hand_on(desk: &mut Desk, first: PanelId, second: PanelId) -> Result<(), Refusal> {
+    hide_panel(desk, first)?;
+    del_panel(desk, first)?;
+    replace_panel(desk, second, WinId(1))
+}
+
+/// Whether two panels show as they should when they are made, moved, and the first is deleted.
+fn panels_show(desk: &mut Desk, alloc: Global) -> Result<[bool; 3], Fail> {
+    let (first, second) = two_panels(desk)?;
+    let made = composes(desk, alloc, b"abb ".as_slice())? && wanted_cursor(desk) == (0, 2);
+    move_both(desk, first, second)?;
+    let moved = finds(desk, b" baa");
+    hand_on(desk, first, second)?;
+    let handed_on = composes(desk, alloc, b"  aa".as_slice())?;
+    Ok([
+        made,
+        moved,
+        handed_on && panel_window(desk, second) == Ok(WinId(1)),
+    ])
+}
+
+fn shown_by_panels(alloc: Global) -> Result<[bool; 3], Fail> {
+    let mut desk = new_desk(alloc, 1, 4)?;
+    panels_show(&mut desk, alloc)
 }
 
 #[test]
 fn panels_cover_what_is_below_them(rt: HostRuntime) -> Result<(), Fail> {
-    let mut desk = Desk::new(rt.alloc(), 1, 4)?;
-    let first = panel(&mut desk, 0, b'a')?;
-    let second = panel(&mut desk, 1, b'b')?;
-    assert_eq!(rt;
-        composed(&mut desk, rt.alloc())?.as_slice(),
-        b"abb ".as_slice()
-    );
-    assert_eq!(rt; desk.wanted_cursor(), (0, 2));
-    desk.bottom_panel(second)?;
-    desk.move_panel(first, 0, 2)?;
-    assert_eq!(rt; found(&desk, rt.alloc())?.as_slice(), b" baa".as_slice());
-    desk.hide_panel(first)?;
-    desk.del_panel(first)?;
-    desk.replace_panel(second, WinId(1))?;
-    assert_eq!(rt;
-        composed(&mut desk, rt.alloc())?.as_slice(),
-        b"  aa".as_slice()
-    );
-    assert_eq!(rt; desk.panel_window(second), Ok(WinId(1)));
+    assert_eq!(rt; shown_by_panels(rt.alloc())?, [true; 3]);
     Ok(())
 }
