@@ -24,6 +24,3 @@ pub use limits::{
 pub use refusal::Refusal;
 pub use shown::{Rendition, Shown};
 pub use window::{Frame, WinId};
-
-#[cfg(test)]
-mod tests;

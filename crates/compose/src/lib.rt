@@ -9,8 +9,5 @@ mod dispatch;
 mod marks;
 mod panels;
 mod refresh;
-#[cfg(test)]
-mod tests;
-
 pub use desk::Desk;
 pub use picture::{Rows, compose_row};

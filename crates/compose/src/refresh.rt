@@ -25,9 +25,6 @@ use grids::Grids;
 use picture::{Source, cursor_on_screen, show_piece};
 use windows::Windows;
 
-#[cfg(test)]
-mod tests;
-
 impl Desk {
     /// Takes what is touched of a window into the virtual screen, at the window's place, with its cursor. Then no place of it is touched;
     /// and if it asked for a clear screen, the virtual screen does so in its stead.

@@ -14,6 +14,3 @@ pub use windows::Windows;
 pub use world::{
     Call, Composed, Copying, Making, PanelId, Query, Refresh, Reply, Stacking, Writing,
 };
-
-#[cfg(test)]
-mod tests;

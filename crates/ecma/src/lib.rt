@@ -6,10 +6,7 @@ mod page;
 mod parameter;
 mod selection;
 mod spelling;
-mod terminal;
-#[cfg(test)]
-mod tests;
-mod token;
+mod terminal;mod token;
 
 pub use spelling::{LONGEST_SPELLING, spell};
 pub use terminal::{NotInProfile, Terminal};

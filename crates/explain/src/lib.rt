@@ -8,6 +8,3 @@ mod reasons;
 mod telling;
 
 pub use telling::{Finding, finding};
-
-#[cfg(test)]
-mod tests;

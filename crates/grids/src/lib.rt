@@ -15,6 +15,3 @@ mod table;
 pub use cell::{Attr, Cell, Frame, Refusal, WinId};
 pub use table::Grids;
 pub use world::{Columns, Settings};
-
-#[cfg(test)]
-mod tests;

@@ -12,6 +12,3 @@ mod tail;
 
 pub use painter::Painter;
 pub use streams::{Counted, Sent, Sink, WriteFault};
-
-#[cfg(test)]
-mod tests;

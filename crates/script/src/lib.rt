@@ -22,6 +22,3 @@ pub use numbers::has_digits_alone;
 pub use words::{
     CopyingWord, Form, MakingWord, QueryWord, RefreshWord, StackingWord, Word, WritingWord,
 };
-
-#[cfg(test)]
-mod tests;

@@ -16,6 +16,3 @@ pub use cell::{Refusal, WinId};
 pub use table::Stack;
 pub use visible::Visible;
 pub use world::PanelId;
-
-#[cfg(test)]
-mod tests;

@@ -12,6 +12,3 @@ pub use gather::{MOST_DECIMAL_DIGITS, append, append_decimal};
 pub use sending::{Sent, WriteFault, send};
 pub use sink::{Counted, Sink};
 pub use source::{CountedReader, Source};
-
-#[cfg(test)]
-mod tests;

@@ -14,6 +14,3 @@ pub use cell::{Attr, Cell, Frame, Refusal, WinId};
 pub use grids::Grids;
 pub use table::Windows;
 pub use world::{Columns, Settings};
-
-#[cfg(test)]
-mod tests;

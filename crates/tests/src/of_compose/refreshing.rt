@@ -1,6 +1,6 @@
-use crate::Desk;
-use crate::tests::{make, new_desk, shows, wanted_cursor, write};
+use crate::of_compose::{make, new_desk, shows, wanted_cursor, write};
 use cell::{Refusal, WinId};
+use compose::Desk;
 use std::alloc::Global;
 use std::test::Fail;
 use world::{Call, Making, Refresh, Reply, Writing};

@@ -1,11 +1,13 @@
 //! Tests of a desk. The proof of a test carries along what is known of each call that it makes, and none of it is needed here: so most
 //! calls are made by helpers without a contract.
 
-use crate::Desk;
 use cell::{Refusal, WinId};
+use compose::Desk;
 use std::alloc::Global;
 use std::test::Fail;
 use world::{Call, Composed, Making, PanelId, Reply, Writing};
+
+mod refreshing;
 
 const SCREEN: WinId = WinId(0);
 

@@ -1,60 +1,12 @@
 ghost use Rattle.std.specs.Prelude.{IfOk};
 ghost use Rattle.cell.specs.Pictures.{HasSize};
 
-use crate::{Counted, Painter, Sent, WriteFault};
+use crate::faulty::Halting;
 use cell::{Attr, Colour, ColourPair, Grid, Refusal, Rendition, Shown};
+use paint::{Counted, Painter, Sent, WriteFault};
 use std::alloc::Global;
-use std::io;
-use std::io::{ErrorKind, Write};
 use std::test::Fail;
 use streams::Discard;
-
-/// A writer that fails once where it has taken 5 bytes, or takes none there.
-#[derive(Drop)]
-struct Halting {
-    taken: Vec<u8>,
-    halted: bool,
-    fails: bool,
-}
-
-impl Write for Halting {
-    fn write(&mut self, buf: &[u8]) -> io::Result<usize> {
-        let mut count = buf.len();
-        if !self.halted {
-            count = count.min(5usize.saturating_sub(self.taken.len()));
-            if count == 0 {
-                self.halted = true;
-                if self.fails {
-                    return Err(io::Error::from(ErrorKind::Other));
-                }
-                return Ok(0);
-            }
-        }
-        self.taken.extend_from_slice(&buf[..count])?;
-        Ok(count)
-    }
-
-    fn flush(&mut self) -> io::Result<()> {
-        Ok(())
-    }
-}
-
-/// A writer that can't be flushed.
-#[derive(Drop)]
-struct Stuck {
-    taken: Vec<u8>,
-}
-
-impl Write for Stuck {
-    fn write(&mut self, buf: &[u8]) -> io::Result<usize> {
-        self.taken.extend_from_slice(buf)?;
-        Ok(buf.len())
-    }
-
-    fn flush(&mut self) -> io::Result<()> {
-        Err(io::Error::from(ErrorKind::Other))
-    }
-}
 
 /// The screen of 4 lines and 10 columns with the word hi at its top, and the text that shows it.
 fn greeting(alloc: Global) -> Result<Grid<Shown>, Fail>
@@ -138,11 +90,7 @@ fn shows_all_after_a_fault(rt: HostRuntime) -> Result<(), Fail> {
     for fails in [true, false] {
         let picture = greeting(rt.alloc())?;
         let mut painter = Painter::new(rt.alloc(), 4, 10)?;
-        let mut sink = Counted::new(Halting {
-            taken: Vec::new(rt.alloc()),
-            halted: false,
-            fails,
-        });
+        let mut sink = Counted::new(Halting::stopping(rt.alloc(), 5, fails));
         assert_eq!(rt;
             painter.doupdate(&picture, (0, 2), false, &mut sink),
             Err(WriteFault { sent: 5 })
@@ -161,9 +109,7 @@ fn shows_all_after_a_fault(rt: HostRuntime) -> Result<(), Fail> {
 fn tells_of_a_flush_that_fails(rt: HostRuntime) -> Result<(), Fail> {
     let picture = greeting(rt.alloc())?;
     let mut painter = Painter::new(rt.alloc(), 4, 10)?;
-    let mut sink = Counted::new(Stuck {
-        taken: Vec::new(rt.alloc()),
-    });
+    let mut sink = Counted::new(Halting::taking(rt.alloc(), usize::MAX, true));
     assert_eq!(rt;
         painter.doupdate(&picture, (0, 2), false, &mut sink),
         Err(WriteFault { sent: 16 })

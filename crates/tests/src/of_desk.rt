@@ -1,46 +1,15 @@
-use crate::{
+use crate::faulty::Halting;
+use desk::{
     Call, Counted, CountedReader, Fault, PanelId, Refresh, Refusal, RunEnd, Screen, ScriptEnd,
     ScriptFault, Sink, Source, WinId, WriteFault, Writing,
 };
 use std::alloc::Global;
 use std::io;
-use std::io::{ErrorKind, Read, Write};
+use std::io::{ErrorKind, Read};
 use std::test::Fail;
 
-/// A writer that takes `room` bytes, fails once, and then takes all.
-#[derive(Drop)]
-struct Breaking {
-    taken: Vec<u8>,
-    room: usize,
-    broke: bool,
-}
-
-impl Write for Breaking {
-    fn write(&mut self, buf: &[u8]) -> io::Result<usize> {
-        let mut count = buf.len();
-        if !self.broke {
-            count = count.min(self.room);
-            self.room -= count;
-            if count == 0 {
-                self.broke = true;
-                return Err(io::Error::from(ErrorKind::Other));
-            }
-        }
-        self.taken.extend_from_slice(&buf[..count])?;
-        Ok(count)
-    }
-
-    fn flush(&mut self) -> io::Result<()> {
-        Ok(())
-    }
-}
-
-fn breaking_after(alloc: Global, room: usize) -> Counted<Breaking> {
-    Counted::new(Breaking {
-        taken: Vec::new(alloc),
-        room,
-        broke: false,
-    })
+fn breaking_after(alloc: Global, stop: usize) -> Counted<Halting> {
+    Counted::new(Halting::stopping(alloc, stop, true))
 }
 
 /// A reader that gives a text, fails once, gives another, and is then at its end.

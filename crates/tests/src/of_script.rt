@@ -1,59 +1,14 @@
-use crate::{
+use crate::faulty::{Halting, Pieces};
+use arrayvec::ArrayVec;
+use cell::{Attr, Cell, Refusal, WinId};
+use script::{
     Arguments, Bytes, LONGEST_LINE, LineRead, ScriptFault, TextFault, last_line, log_answer,
     read_line,
 };
-use arrayvec::ArrayVec;
-use cell::{Attr, Cell, Refusal, WinId};
 use std::alloc::Global;
-use std::io;
-use std::io::{ErrorKind, Read, Write};
 use std::test::Fail;
 use streams::{Counted, CountedReader, Sent, WriteFault};
 use world::{Composed, PanelId, Reply};
-
-/// A reader that gives at most so many bytes at once, and behind the last one fails or is at its end.
-#[derive(Drop)]
-struct Pieces {
-    left: &'static [u8],
-    most: usize,
-    fails: bool,
-}
-
-impl Read for Pieces {
-    fn read(&mut self, buf: &mut [u8]) -> io::Result<usize> {
-        if self.left.is_empty() && self.fails {
-            return Err(io::Error::from(ErrorKind::Other));
-        }
-        let count = self.most.min(buf.len()).min(self.left.len());
-        let (piece, left) = self.left.split_at(count);
-        buf[..count].copy_from_slice(piece);
-        self.left = left;
-        Ok(count)
-    }
-}
-
-/// A writer that takes so many bytes, and then fails.
-#[derive(Drop)]
-struct Full {
-    taken: Vec<u8>,
-    room: usize,
-}
-
-impl Write for Full {
-    fn write(&mut self, buf: &[u8]) -> io::Result<usize> {
-        let count = buf.len().min(self.room);
-        if count == 0 {
-            return Err(io::Error::from(ErrorKind::Other));
-        }
-        self.room -= count;
-        self.taken.extend_from_slice(&buf[..count])?;
-        Ok(count)
-    }
-
-    fn flush(&mut self) -> io::Result<()> {
-        Ok(())
-    }
-}
 
 /// What a line says: its call, its fault, or nothing.
 fn said(alloc: Global, line: &[u8]) -> Result<String, Fail> {
@@ -210,46 +165,42 @@ fn faults_are_told_in_their_order(rt: HostRuntime) -> Result<(), Fail> {
     Ok(())
 }
 
+/// Whether a reader gives these lines one after another, each read so.
+fn gives(pieces: Pieces<'_>, lines: &[(&[u8], LineRead)]) -> bool {
+    let mut source = CountedReader::new(pieces);
+    let mut bytes = Bytes::new();
+    let mut line = ArrayVec::new();
+    for (text, read) in lines {
+        if bytes.next_line(&mut source, &mut line) != *read || line.as_slice() != *text {
+            return false;
+        }
+    }
+    true
+}
+
 #[test]
 fn lines_come_whole_from_pieces(rt: HostRuntime) {
+    let bytes = b"newwin 1 1 0 0\n\nlast".as_slice();
     let lines: [(&[u8], LineRead); 4] = [
         (b"newwin 1 1 0 0", LineRead::Line),
         (b"", LineRead::Line),
         (b"last", LineRead::LastLine),
         (b"", LineRead::LastLine),
     ];
-    for most in [1, 3, 600] {
-        let left = b"newwin 1 1 0 0\n\nlast".as_slice();
-        let mut source = CountedReader::new(Pieces {
-            left,
-            most,
-            fails: false,
-        });
-        let mut bytes = Bytes::new();
-        let mut line = ArrayVec::new();
-        for (text, read) in lines {
-            assert_eq!(rt; bytes.next_line(&mut source, &mut line), read);
-            assert_eq!(rt; line.as_slice(), text);
-        }
+    for step in [1, 3, 600] {
+        let fails = false;
+        assert!(rt; gives(Pieces { bytes, step, fails }, &lines));
     }
 }
 
 #[test]
 fn a_failed_read_leaves_what_came_before(rt: HostRuntime) {
-    let left = b"erase 0\nera".as_slice();
-    let mut source = CountedReader::new(Pieces {
-        left,
-        most: 3,
-        fails: true,
-    });
-    let mut bytes = Bytes::new();
-    let mut line = ArrayVec::new();
-    assert_eq!(rt; bytes.next_line(&mut source, &mut line), LineRead::Line);
-    assert_eq!(rt;
-        bytes.next_line(&mut source, &mut line),
-        LineRead::FailedRead
-    );
-    assert_eq!(rt; line.as_slice(), b"era".as_slice());
+    let (bytes, step, fails) = (b"erase 0\nera".as_slice(), 3, true);
+    let lines: [(&[u8], LineRead); 2] = [
+        (b"erase 0", LineRead::Line),
+        (b"era", LineRead::FailedRead),
+    ];
+    assert!(rt; gives(Pieces { bytes, step, fails }, &lines));
 }
 
 static LONG: [u8; 513] = [b'x'; 513];
@@ -257,15 +208,8 @@ static LONG: [u8; 513] = [b'x'; 513];
 #[test]
 fn a_line_has_at_most_512_bytes(rt: HostRuntime) {
     for (length, read) in [(512, LineRead::LastLine), (513, LineRead::TooLong)] {
-        let left = &LONG[..length];
-        let mut source = CountedReader::new(Pieces {
-            left,
-            most: 600,
-            fails: false,
-        });
-        let mut line = ArrayVec::new();
-        assert_eq!(rt; Bytes::new().next_line(&mut source, &mut line), read);
-        assert_eq!(rt; line.as_slice(), &LONG[..512]);
+        let (bytes, step, fails) = (&LONG[..length], 600, false);
+        assert!(rt; gives(Pieces { bytes, step, fails }, &[(&LONG[..512], read)]));
     }
 }
 
@@ -324,10 +268,7 @@ fn answers_have_their_lines(rt: HostRuntime) -> Result<(), Fail> {
 
 #[test]
 fn a_full_log_is_told(rt: HostRuntime) {
-    let mut log = Counted::new(Full {
-        taken: Vec::new(rt.alloc()),
-        room: 6,
-    });
+    let mut log = Counted::new(Halting::stopping(rt.alloc(), 6, true));
     let answer = log_answer(&mut log, 4, Err(Refusal::HasDerived));
     assert_eq!(rt; answer, Err(WriteFault { sent: 6 }));
     assert_eq!(rt; log.get_ref().taken.as_slice(), b"line 4".as_slice());

@@ -2,9 +2,9 @@
 
 ghost use Rattle.ecma.specs.Spelling.{IsToken};
 
-use crate::{Erase, LONGEST_SPELLING, Token, spell};
 use bitflags::Flags;
 use cell::{Attr, Colour, ColourPair, Rendition};
+use ecma::{Erase, LONGEST_SPELLING, Token, spell};
 
 mod terminal;
 

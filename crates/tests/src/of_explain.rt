@@ -1,4 +1,4 @@
-use crate::finding;
+use explain::finding;
 use script::{LONGEST_LINE, TextFault};
 use std::test::Fail;
 

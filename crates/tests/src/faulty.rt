@@ -1,0 +1,87 @@
+//! Readers and writers that give or take pieces, and that fail.
+
+use std::alloc::Global;
+use std::io;
+use std::io::{ErrorKind, Read, Write};
+
+/// A reader that gives some bytes, at most `step` at a time, and then fails or ends.
+#[derive(Drop)]
+pub(crate) struct Pieces<'a> {
+    pub(crate) bytes: &'a [u8],
+    pub(crate) step: usize,
+    pub(crate) fails: bool,
+}
+
+impl Read for Pieces<'_> {
+    fn read(&mut self, buf: &mut [u8]) -> io::Result<usize> {
+        if self.bytes.is_empty() && self.fails {
+            return Err(io::Error::from(ErrorKind::Other));
+        }
+        let count = self.step.min(buf.len()).min(self.bytes.len());
+        let (front, rest) = self.bytes.split_at(count);
+        buf[..count].copy_from_slice(front);
+        self.bytes = rest;
+        Ok(count)
+    }
+}
+
+/// A writer that takes at most `step` bytes a call. Once, where it has taken `stop` bytes, it fails or takes none. One that is stuck
+/// can't be flushed.
+#[derive(Drop)]
+pub(crate) struct Halting {
+    pub(crate) taken: Vec<u8>,
+    step: usize,
+    stop: Option<usize>,
+    fails: bool,
+    is_stuck: bool,
+}
+
+impl Halting {
+    /// One that takes all, at most so many bytes a call.
+    pub(crate) fn taking(alloc: Global, step: usize, is_stuck: bool) -> Halting {
+        Halting {
+            taken: Vec::new(alloc),
+            step,
+            stop: None,
+            fails: false,
+            is_stuck,
+        }
+    }
+
+    /// One that stops once, where it has taken so many bytes.
+    pub(crate) fn stopping(alloc: Global, stop: usize, fails: bool) -> Halting {
+        Halting {
+            taken: Vec::new(alloc),
+            step: usize::MAX,
+            stop: Some(stop),
+            fails,
+            is_stuck: false,
+        }
+    }
+}
+
+impl Write for Halting {
+    fn write(&mut self, buf: &[u8]) -> io::Result<usize> {
+        let mut count = self.step.min(buf.len());
+        if let Some(stop) = self.stop {
+            let room = stop.saturating_sub(self.taken.len());
+            if room == 0 {
+                self.stop = None;
+                if self.fails {
+                    return Err(io::Error::from(ErrorKind::Other));
+                }
+                return Ok(0);
+            }
+            count = count.min(room);
+        }
+        self.taken.extend_from_slice(&buf[..count])?;
+        Ok(count)
+    }
+
+    fn flush(&mut self) -> io::Result<()> {
+        if self.is_stuck {
+            return Err(io::Error::from(ErrorKind::Other));
+        }
+        Ok(())
+    }
+}

@@ -1,0 +1,28 @@
+//! The tests of the libraries, a module for each. They make public calls alone; a library whose tests look at what it keeps to itself has its
+//! own. They are proved once, over the proved libraries: a library with tests in its sources would be proved once more for them.
+#![tactic(auto)]
+
+#[cfg(test)]
+mod faulty;
+#[cfg(test)]
+mod of_cell;
+#[cfg(test)]
+mod of_compose;
+#[cfg(test)]
+mod of_desk;
+#[cfg(test)]
+mod of_ecma;
+#[cfg(test)]
+mod of_explain;
+#[cfg(test)]
+mod of_grids;
+#[cfg(test)]
+mod of_paint;
+#[cfg(test)]
+mod of_script;
+#[cfg(test)]
+mod of_stack;
+#[cfg(test)]
+mod of_streams;
+#[cfg(test)]
+mod of_windows;
