@@ -18,7 +18,7 @@ use Rattle.script.specs.declared.bytes.LineEnd.{LineEnd}
 use Rattle.script.specs.declared.bytes.LineEnd.TheVariants.{Newline, ScriptEnd, ReadFailed}
 use Rattle.script.specs.declared.fault.TextFault.TheVariants.{LineTooLong}
 use Rattle.script.specs.declared.limits.TheConstants.{LONGEST_LINE}
-use Rattle.script.specs.steps.Bytes.{EndsLine, HasNoNewline, IsKept, ReadsToEnd, end_failed, met_end}
+use Rattle.script.specs.steps.Bytes.{EndsLine, HasNoNewline, IsKept, ReadingEnds, ReadsToEnd, end_failed, has_newline, met_end}
 use Rattle.curspan.specs.Checks.{count_line, count_of, report, told, told_from, told_of, told_of_rest}
 use Rattle.curspan.specs.Written.{IsNotWritten, TakesFront, WritingEnds}
 use Rattle.curspan.specs.declared.check.Report.{Report}
@@ -131,9 +131,9 @@ checking_none input out unused report e written none = record {
   says = λ failed more. rw e refl;
 }
 
--- a line was read, and nothing behind the end of the source
-abbrev pub ReadsOnce : SourceSeen → SourceSeen → Type 0
-ReadsOnce old new = old.met_end ≡ false → new.read_past_end ≡ old.read_past_end
+-- How the reading of a whole line ends.
+abbrev pub LineReadingEnds : SourceSeen → SourceSeen → List ℕ → List ℕ → LineEnd → Type 0
+LineReadingEnds old new unused left end = ReadingEnds old new unused left (met_end end) (end_failed end) (has_newline end)
 
 newline_ends : (end : LineEnd) (all line left : List ℕ) → end ≡ Newline → EndsLine end all line left → all ≡ line ++ 10 ∷ left
 newline_ends Newline all line left e h = h
@@ -142,18 +142,18 @@ newline_ends ReadFailed all line left e h = cc
 
 pub checking_next : (input r1 r2 : SourceSeen) (out o1 o2 : Seen) (unused left kept : List ℕ) (n : ℕ) (before after : Report) (is_kept : Bool) (end : LineEnd)
     → Checking input r1 out o1 unused n before → (r : ReadsToEnd r1 r2 unused left end) → IsKept is_kept r.line kept → end ≡ Newline
-    → r2.met_end ≡ (met_end end || r1.met_end) → ReadsOnce r1 r2 → r2.failures ≡ counted (end_failed end) r1.failures
+    → LineReadingEnds r1 r2 unused left end
     → ReportsMore o1 o2 before after (told_of_read n kept is_kept end) → Checking input r2 out o2 left (next_number n) after
-checking_next input r1 r2 out o1 o2 unused left kept n before after is_kept end s r k is ended once failures more =
+checking_next input r1 r2 out o1 o2 unused left kept n before after is_kept end s r k is reading more =
     let all = newline_ends end (unused ++ r.bytes) r.line left is r.ends in
     let same = told_is n r.line kept is_kept end k (ap end_failed is) in
     record {
       text = s.text ++ r.bytes;
       lines = s.lines ++ told_of_read n kept is_kept end;
       read = Consumes-trans _ _ _ _ _ s.read r.read;
-      met = ended ∙ ap (λ e. met_end e || r1.met_end) is ∙ s.met;
-      read_once = λ unmet. once (s.met ∙ unmet) ∙ s.read_once unmet;
-      failures = failures ∙ ap (λ e. counted (end_failed e) r1.failures) is ∙ s.failures;
+      met = reading.ended ∙ ap (λ e. met_end e || r1.met_end) is ∙ s.met;
+      read_once = λ unmet. reading.past (s.met ∙ unmet) ∙ s.read_once unmet;
+      failures = reading.failures ∙ ap (λ e. counted (end_failed e) r1.failures) is ∙ s.failures;
       reported = more out s.lines s.reported;
       says = λ failed m.
           ap (told failed) (append_assoc s.text r.bytes m) ∙ s.says failed (r.bytes ++ m)
@@ -175,9 +175,9 @@ failed_is_all ReadFailed all line left e h = h.0
 
 pub checked_all : (input r1 r2 : SourceSeen) (out o1 o2 : Seen) (unused left kept : List ℕ) (n : ℕ) (before after : Report) (is_kept : Bool) (end : LineEnd)
     → Checking input r1 out o1 unused n before → (r : ReadsToEnd r1 r2 unused left end) → IsKept is_kept r.line kept → end ≡ ScriptEnd
-    → r2.met_end ≡ (met_end end || r1.met_end) → ReadsOnce r1 r2 → r2.failures ≡ counted (end_failed end) r1.failures
+    → LineReadingEnds r1 r2 unused left end
     → ReportsMore o1 o2 before after (told_of_read n kept is_kept end) → ReportsScript input r2 out o2 true after
-checked_all input r1 r2 out o1 o2 unused left kept n before after is_kept end s r k is ended once failures more =
+checked_all input r1 r2 out o1 o2 unused left kept n before after is_kept end s r k is reading more =
     let all = end_is_all end (unused ++ r.bytes) r.line left is r.ends in
     let says : told false (s.text ++ r.bytes) ≡ s.lines ++ told_of_read n kept is_kept end =
     s.says false r.bytes
@@ -188,18 +188,18 @@ checked_all input r1 r2 out o1 o2 unused left kept n before after is_kept end s 
       text = s.text ++ r.bytes;
       reads = record {
         read = Consumes-trans _ _ _ _ _ s.read r.read;
-        whole = (ended ∙ ap (λ e. met_end e || r1.met_end) is, r.at_end (ap met_end is));
-        failures = failures ∙ ap (λ e. counted (end_failed e) r1.failures) is ∙ s.failures;
-        read_once = λ unmet. once (s.met ∙ unmet) ∙ s.read_once unmet;
+        whole = (reading.ended ∙ ap (λ e. met_end e || r1.met_end) is, r.at_end (ap met_end is));
+        failures = reading.failures ∙ ap (λ e. counted (end_failed e) r1.failures) is ∙ s.failures;
+        read_once = λ unmet. reading.past (s.met ∙ unmet) ∙ s.read_once unmet;
       };
       reported = subst (IsReported out o2 after) (sym says) (more out s.lines s.reported);
     }
 
 pub checked_front : (input r1 r2 : SourceSeen) (out o1 o2 : Seen) (unused left kept : List ℕ) (n : ℕ) (before after : Report) (is_kept : Bool) (end : LineEnd)
     → Checking input r1 out o1 unused n before → (r : ReadsToEnd r1 r2 unused left end) → IsKept is_kept r.line kept → end ≡ ReadFailed
-    → ReadsOnce r1 r2 → r2.failures ≡ counted (end_failed end) r1.failures
+    → LineReadingEnds r1 r2 unused left end
     → ReportsMore o1 o2 before after (told_of_read n kept is_kept end) → ReportsScript input r2 out o2 false after
-checked_front input r1 r2 out o1 o2 unused left kept n before after is_kept end s r k is once failures more =
+checked_front input r1 r2 out o1 o2 unused left kept n before after is_kept end s r k is reading more =
     let all = failed_is_all end (unused ++ r.bytes) r.line left is r.ends in
     let says : told true (s.text ++ r.bytes) ≡ s.lines ++ told_of_read n kept is_kept end =
     s.says true r.bytes
@@ -211,8 +211,8 @@ checked_front input r1 r2 out o1 o2 unused left kept n before after is_kept end 
       reads = record {
         read = Consumes-trans _ _ _ _ _ s.read r.read;
         whole = tt;
-        failures = failures ∙ ap (λ e. counted (end_failed e) r1.failures) is ∙ ap (counted true) s.failures;
-        read_once = λ unmet. once (s.met ∙ unmet) ∙ s.read_once unmet;
+        failures = reading.failures ∙ ap (λ e. counted (end_failed e) r1.failures) is ∙ ap (counted true) s.failures;
+        read_once = λ unmet. reading.past (s.met ∙ unmet) ∙ s.read_once unmet;
       };
       reported = subst (IsReported out o2 after) (sym says) (more out s.lines s.reported);
     }

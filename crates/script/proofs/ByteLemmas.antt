@@ -1,13 +1,14 @@
 -- A line is gathered a byte at a time.
-use Rattle.std.proofs.Common.{◌≡◌, ℕ, ◌≤◌, ◌<◌, true, false, ◌==◌, List, [], ◌∷◌, ◌++◌, length, refl, sym, ap, ◌∙◌, arith, append_assoc, append-nil, length-append}
+use Rattle.std.proofs.Common.{◌≡◌, ℕ, ◌≤◌, ◌<◌, Bool, true, false, ◌||◌, ◌==◌, List, [], ◌∷◌, ◌++◌, length, refl, sym, ap, ◌∙◌, arith, append_assoc, append-nil, length-append}
 use Rattle.std.specs.Io.KnownBytes.{Consumes}
 use Rattle.std.proofs.KnownBytes.{Consumes-nil, Consumes-trans}
 use Rattle.std.proofs.lemmas.List.Folds.{list_any-append}
 use Rattle.std.proofs.lemmas.Bool.Decides.{nat_tests}
 use Rattle.script.specs.Characters.{is_newline, newline}
 use Rattle.script.specs.declared.limits.TheConstants.{LONGEST_LINE}
+use Rattle.streams.specs.Counts.{counted}
 use Rattle.streams.specs.Sources.{SourceSeen}
-use Rattle.script.specs.steps.Bytes.{EndsLine, HasNoNewline, ReadsByte, ReadsLine, ReadsToEnd, ReadsWhole}
+use Rattle.script.specs.steps.Bytes.{EndsLine, HasNoNewline, ReadingEnds, ReadsByte, ReadsLine, ReadsToEnd, ReadsWhole, work_left}
 use Rattle.script.specs.declared.bytes.LineEnd.{LineEnd}
 use Rattle.script.specs.declared.bytes.LineEnd.TheVariants.{Newline, ScriptEnd, ReadFailed}
 use Rattle.script.specs.declared.bytes.Next.TheVariants.{Byte, End, Failed}
@@ -24,6 +25,35 @@ room_left line short h = grind (arith, nat_tests)
 
 no_newline_more : (line : List ℕ) (b : ℕ) → HasNoNewline line → is_newline b ≡ false → HasNoNewline (line ++ b ∷ [])
 no_newline_more line b h e = rw (list_any-append is_newline line (b ∷ []), h, e) refl
+
+-- ---- how a reading ends
+
+-- So far no end was met, no read failed, and no more is left than at first.
+pub record ReadsOn (old new : SourceSeen) (unused left : List ℕ) : Type 0 where
+  pub ended : new.met_end ≡ old.met_end
+  pub past : old.met_end ≡ false → new.read_past_end ≡ old.read_past_end
+  pub failures : new.failures ≡ old.failures
+  pub progress : work_left new left ≤ work_left old unused
+
+pub none_read : (old : SourceSeen) (unused : List ℕ) → ReadsOn old old unused unused
+none_read old unused = record { ended = refl; past = λ unmet. refl; failures = refl; progress = omega arith }
+
+pub ends_behind : (old mid new : SourceSeen) (unused between left : List ℕ) (meets_end fails continues : Bool) → ReadsOn old mid unused between
+    → ReadingEnds mid new between left meets_end fails continues → ReadingEnds old new unused left meets_end fails continues
+ends_behind old mid new unused between left meets_end fails continues so_far r = record {
+  ended = r.ended ∙ ap (λ b. meets_end || b) so_far.ended;
+  past = λ unmet. r.past (so_far.ended ∙ unmet) ∙ so_far.past unmet;
+  failures = r.failures ∙ ap (counted fails) so_far.failures;
+  progress = λ more. omega (arith, r.progress more);
+}
+
+pub more_read : (old mid new : SourceSeen) (unused between left : List ℕ) → ReadsOn old mid unused between → ReadingEnds mid new between left false false true
+    → ReadsOn old new unused left
+more_read old mid new unused between left so_far r =
+    let whole = ends_behind old mid new unused between left false false true so_far r in
+    record { ended = whole.ended; past = whole.past; failures = whole.failures; progress = omega (arith, whole.progress refl) }
+
+-- ---- a line, gathered
 
 -- The bytes so far, with those that were not used before, are a beginning of a line and what is not used.
 pub record Gathered (old new : SourceSeen) (unused left line : List ℕ) : Type 0 where

@@ -1,8 +1,7 @@
 //! The bytes of a script, one after another.
 
-ghost use Rattle.std.specs.Prelude.{◌≡◌, ◌≤◌, ◌<◌, ◌∷◌, ◌||◌, [], length, false, true};
-ghost use Rattle.streams.specs.Counts.{counted};
-ghost use Rattle.script.specs.steps.Bytes.{ReadsByte, ReadsLine, ReadsToEnd, ReadsWhole, byte_ended, byte_failed, end_failed, goes_on, has_newline, is_byte, line_ended, line_failed, met_end, work_left};
+ghost use Rattle.std.specs.Prelude.{◌≡◌, ◌<◌, ◌∷◌, [], length};
+ghost use Rattle.script.specs.steps.Bytes.{ReadingEnds, ReadsByte, ReadsLine, ReadsToEnd, ReadsWhole, byte_ended, byte_failed, end_failed, goes_on, has_newline, is_byte, line_ended, line_failed, met_end};
 
 use crate::limits::LONGEST_LINE;
 use arrayvec::ArrayVec;
@@ -95,10 +94,7 @@ impl Bytes {
     /// The next byte. It reads where all bytes are used.
     fn next<R: Source>(&mut self, source: &mut R) -> Next
         ensures byte { ReadsByte (R.seen source.old) (R.seen source.new) self.old self.new result }
-        ensures ended { (R.seen source.new).met_end ≡ (byte_ended result || (R.seen source.old).met_end) }
-        ensures past { (R.seen source.old).met_end ≡ false → (R.seen source.new).read_past_end ≡ (R.seen source.old).read_past_end }
-        ensures failures { (R.seen source.new).failures ≡ counted (byte_failed result) (R.seen source.old).failures }
-        ensures progress { is_byte result ≡ true → work_left (R.seen source.new) self.new < work_left (R.seen source.old) self.old }
+        ensures ends { ReadingEnds (R.seen source.old) (R.seen source.new) self.old self.new (byte_ended result) (byte_failed result) (is_byte result) }
     {
         if self.from < self.to {
             return Next::Byte(self.take());
@@ -122,10 +118,7 @@ impl Bytes {
         line: &mut ArrayVec<u8, LONGEST_LINE>,
     ) -> LineRead
         ensures line { ReadsLine (R.seen source.old) (R.seen source.new) self.old self.new line.new.items result }
-        ensures ended { (R.seen source.new).met_end ≡ (line_ended result || (R.seen source.old).met_end) }
-        ensures past { (R.seen source.old).met_end ≡ false → (R.seen source.new).read_past_end ≡ (R.seen source.old).read_past_end }
-        ensures failures { (R.seen source.new).failures ≡ counted (line_failed result) (R.seen source.old).failures }
-        ensures progress { goes_on result ≡ true → work_left (R.seen source.new) self.new < work_left (R.seen source.old) self.old }
+        ensures ends { ReadingEnds (R.seen source.old) (R.seen source.new) self.old self.new (line_ended result) (line_failed result) (goes_on result) }
     {
         line.clear();
         loop {
@@ -148,10 +141,7 @@ impl Bytes {
     /// Leaves out the bytes up to the next newline.
     fn skip_line<R: Source>(&mut self, source: &mut R) -> LineEnd
         ensures line { ReadsToEnd (R.seen source.old) (R.seen source.new) self.old self.new result }
-        ensures ended { (R.seen source.new).met_end ≡ (met_end result || (R.seen source.old).met_end) }
-        ensures past { (R.seen source.old).met_end ≡ false → (R.seen source.new).read_past_end ≡ (R.seen source.old).read_past_end }
-        ensures failures { (R.seen source.new).failures ≡ counted (end_failed result) (R.seen source.old).failures }
-        ensures progress { has_newline result ≡ true → work_left (R.seen source.new) self.new < work_left (R.seen source.old) self.old }
+        ensures ends { ReadingEnds (R.seen source.old) (R.seen source.new) self.old self.new (met_end result) (end_failed result) (has_newline result) }
     {
         loop {
             match self.next(source) {
@@ -174,10 +164,7 @@ impl Bytes {
         line: &mut ArrayVec<u8, LONGEST_LINE>,
     ) -> WholeLine
         ensures line { ReadsWhole (R.seen source.old) (R.seen source.new) self.old self.new line.new.items result }
-        ensures ended { (R.seen source.new).met_end ≡ (met_end result.end || (R.seen source.old).met_end) }
-        ensures past { (R.seen source.old).met_end ≡ false → (R.seen source.new).read_past_end ≡ (R.seen source.old).read_past_end }
-        ensures failures { (R.seen source.new).failures ≡ counted (end_failed result.end) (R.seen source.old).failures }
-        ensures progress { has_newline result.end ≡ true → work_left (R.seen source.new) self.new < work_left (R.seen source.old) self.old }
+        ensures ends { ReadingEnds (R.seen source.old) (R.seen source.new) self.old self.new (met_end result.end) (end_failed result.end) (has_newline result.end) }
     {
         let end = match self.next_line(source, line) {
             LineRead::Line => LineEnd::Newline,

@@ -1,10 +1,11 @@
 -- What the functions that read a script tell of its bytes: words of their own contracts.
-use Rattle.std.specs.Prelude.{◌≡◌, ◌+◌, ◌*◌, ℕ, Bool, true, false, List, [], ◌∷◌, ◌++◌, ◌≤◌, ◌<◌, length}
+use Rattle.std.specs.Prelude.{◌≡◌, ◌+◌, ◌*◌, ℕ, Bool, true, false, List, [], ◌∷◌, ◌++◌, ◌≤◌, ◌<◌, ◌||◌, length}
 use Rattle.std.specs.List.{list_any}
 use Rattle.std.specs.Io.KnownBytes.{Consumes, IsAtEnd}
 use Rattle.script.specs.Characters.{is_newline, newline}
 use Rattle.script.specs.declared.bytes.TheConstants.{LONGEST_PIECE}
 use Rattle.script.specs.declared.limits.TheConstants.{LONGEST_LINE}
+use Rattle.streams.specs.Counts.{counted}
 use Rattle.streams.specs.Sources.{SourceSeen}
 use Rattle.script.specs.declared.bytes.LineRead.{LineRead}
 use Rattle.script.specs.declared.bytes.LineRead.TheVariants.{Line, LastLine, TooLong, FailedRead}
@@ -35,6 +36,14 @@ ReadsByte old new unused left Failed = (unused ≡ []) × (left ≡ []) × Consu
 -- What is left to be read, at most. A byte that is taken makes it less, and so does a read, which gives no more than a piece.
 abbrev pub work_left : SourceSeen → List ℕ → ℕ
 work_left seen unused = (LONGEST_PIECE + 1) * seen.reads_left + length unused
+
+-- How a reading ends: that it met the end is remembered, that it failed is counted, nothing was read behind an end that it met, and
+-- where it continues less is left.
+pub record ReadingEnds (old new : SourceSeen) (unused left : List ℕ) (meets_end fails continues : Bool) : Type 0 where
+  pub ended : new.met_end ≡ (meets_end || old.met_end)
+  pub past : old.met_end ≡ false → new.read_past_end ≡ old.read_past_end
+  pub failures : new.failures ≡ counted fails old.failures
+  pub progress : continues ≡ true → work_left new left < work_left old unused
 
 -- No byte of a piece ends a line.
 abbrev pub HasNoNewline : List ℕ → Type 0

@@ -9,16 +9,16 @@ pub loop-number-preserved : goal.loop-number-preserved
 loop-number-preserved g c =
     let read = c.next_whole_line-whole.ensures in
     rw c.saturating_add-number.ensures (checking_next _ _ _ _ _ _ _ _ _ _ _ _ _ _
-    c.loop-number.invariant read.line.reads read.line.is_kept c.in-Newline.is read.ended read.past read.failures (rw c.as_slice.ensures.value at c.tell_line-report.ensures))
+    c.loop-number.invariant read.line.reads read.line.is_kept c.in-Newline.is read.ends (rw c.as_slice.ensures.value at c.tell_line-report.ensures))
 
 pub returns-in-ScriptEnd : goal.returns-in-ScriptEnd
 returns-in-ScriptEnd g c =
     let read = c.next_whole_line-whole.ensures in
     checked_all _ _ _ _ _ _ _ _ _ _ _ _ _ _
-    c.loop-number.invariant read.line.reads read.line.is_kept c.in-ScriptEnd.is read.ended read.past read.failures (rw c.as_slice.ensures.value at c.tell_line-report.ensures)
+    c.loop-number.invariant read.line.reads read.line.is_kept c.in-ScriptEnd.is read.ends (rw c.as_slice.ensures.value at c.tell_line-report.ensures)
 
 pub returns-in-ReadFailed : goal.returns-in-ReadFailed
 returns-in-ReadFailed g c =
     let read = c.next_whole_line-whole.ensures in
     checked_front _ _ _ _ _ _ _ _ _ _ _ _ _ _
-    c.loop-number.invariant read.line.reads read.line.is_kept c.in-ReadFailed.is read.past read.failures (rw c.as_slice.ensures.value at c.tell_line-report.ensures)
+    c.loop-number.invariant read.line.reads read.line.is_kept c.in-ReadFailed.is read.ends (rw c.as_slice.ensures.value at c.tell_line-report.ensures)

@@ -1,7 +1,7 @@
-use Rattle.std.proofs.Common.{◌≡◌, ◌≤◌, false, length}
+use Rattle.std.proofs.Common.{◌≤◌, length}
 use Rattle.script.specs.declared.limits.TheConstants.{LONGEST_LINE}
 use Rattle.script.specs.steps.Bytes.{work_left}
-use Rattle.script.proofs.ByteLemmas.{Gathered}
+use Rattle.script.proofs.ByteLemmas.{Gathered, ReadsOn}
 use Rattle.script.proofs.bytes.Bytes.next_line.Given as goal
 
 abbrev pub invariant-loop-byte : goal.invariant-loop-byte
@@ -10,10 +10,7 @@ invariant-loop-byte g l =
     record {
       gathered : Gathered (seen l.fn.source) (seen l.source) l.fn.self l.self l.line.items;
       short : length l.line.items ≤ LONGEST_LINE;
-      ended : (seen l.source).met_end ≡ (seen l.fn.source).met_end;
-      past : (seen l.fn.source).met_end ≡ false → (seen l.source).read_past_end ≡ (seen l.fn.source).read_past_end;
-      failures : (seen l.source).failures ≡ (seen l.fn.source).failures;
-      progress : work_left (seen l.source) l.self ≤ work_left (seen l.fn.source) l.fn.self;
+      reads_on : ReadsOn (seen l.fn.source) (seen l.source) l.fn.self l.self;
     }
 
 abbrev pub decreases-loop-byte : goal.decreases-loop-byte
