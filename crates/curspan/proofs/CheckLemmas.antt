@@ -6,9 +6,9 @@ use Rattle.std.proofs.lemmas.Grind.{flat_map-append}
 use Rattle.std.proofs.lemmas.List.Folds.{list_any_at}
 use Rattle.std.proofs.lemmas.List.Splits.{length-slice_split, slice_split_at, slice_split_none}
 use Rattle.std.proofs.Math.Seq.{take-append-add}
-use Rattle.std.proofs.KnownBytes.{Appends-nil, Appends-trans, Consumes-nil, Consumes-trans}
+use Rattle.std.proofs.KnownBytes.{Appends-trans, Consumes-nil, Consumes-trans}
 use Rattle.std.specs.List.{All, flat_map, slice_split}
-use Rattle.std.specs.Io.KnownBytes.{Appends, Consumes}
+use Rattle.std.specs.Io.KnownBytes.{Consumes}
 use Rattle.streams.specs.Counts.{counted, next_count}
 use Rattle.streams.specs.Sinks.{Seen}
 use Rattle.streams.specs.Sources.{SourceSeen}
@@ -20,10 +20,11 @@ use Rattle.script.specs.declared.fault.TextFault.TheVariants.{LineTooLong}
 use Rattle.script.specs.declared.limits.TheConstants.{LONGEST_LINE}
 use Rattle.script.specs.steps.Bytes.{EndsLine, HasNoNewline, IsKept, ReadingEnds, ReadsToEnd, end_failed, has_newline, met_end}
 use Rattle.curspan.specs.Checks.{count_line, count_of, report, told, told_from, told_of, told_of_rest}
-use Rattle.curspan.specs.Written.{IsNotWritten, TakesFront, WritingEnds}
+use Rattle.curspan.specs.Written.{IsNotWritten, WritingEnds}
 use Rattle.curspan.specs.declared.check.Report.{Report}
 use Rattle.curspan.specs.steps.Checking.{IsReported, ReportsMore, ReportsScript, told_of_read}
-use Rattle.curspan.proofs.PutLemmas.{front_before, front_behind, not_put}
+use Rattle.curspan.specs.steps.Putting.{PuttingEnds}
+use Rattle.curspan.proofs.PutLemmas.{cut_before, not_put, nothing_put, put_behind}
 
 -- ---- lines that are told
 
@@ -41,31 +42,22 @@ count_more lines text = min_more (length lines) 18446744073709551615 ∙ ap (λ 
 
 pub none_reported : (out : Seen) (report : Report) → report.is_written ≡ true → report.faulty ≡ 0 → IsReported out out report []
 none_reported out report written none = record {
-  taken = λ e. Appends-nil out.taken;
-  cut = λ e. let never : true ≡ false = sym written ∙ e in cc;
-  flushes = refl;
-  failures = rw written refl;
+  put = rw written (nothing_put out);
   faulty = none;
 }
 
 pub line_reported : (first old new : Seen) (before : Report) (lines : List (List ℕ)) (text : List ℕ) (faulty : ℕ) (is_put : Bool) → IsReported first old before lines
-    → before.is_written ≡ true → faulty ≡ next_number before.faulty → (is_put ≡ true → Appends old.taken new.taken text) → (is_put ≡ false → TakesFront old new text)
-    → new.flushes ≡ old.flushes → new.failures ≡ counted (not is_put) old.failures → IsReported first new (record { faulty = faulty; is_written = is_put }) (lines ++ text ∷ [])
-line_reported first old new before lines text faulty is_put r written more taken cut flushes failures = record {
-  taken = λ e. rw (flat_more lines text) (Appends-trans _ _ _ _ _ (r.taken written) (taken e));
-  cut = λ e. rw (flat_more lines text) (front_behind _ _ _ _ _ (r.taken written) (cut e));
-  flushes = flushes ∙ r.flushes;
-  failures = failures ∙ ap (counted (not is_put)) (r.failures ∙ ap (λ b. counted (not b) first.failures) written);
+    → before.is_written ≡ true → faulty ≡ next_number before.faulty → PuttingEnds is_put old new text
+    → IsReported first new (record { faulty = faulty; is_written = is_put }) (lines ++ text ∷ [])
+line_reported first old new before lines text faulty is_put r written more p = record {
+  put = rw (flat_more lines text) (put_behind _ _ _ _ _ _ _ r.put written p);
   faulty = more ∙ ap next_number r.faulty ∙ count_more lines text;
 }
 
 pub line_dropped : (first old : Seen) (before : Report) (lines : List (List ℕ)) (text : List ℕ) (faulty : ℕ) → IsReported first old before lines → before.is_written ≡ false
     → faulty ≡ next_number before.faulty → IsReported first old (record { faulty = faulty; is_written = false }) (lines ++ text ∷ [])
 line_dropped first old before lines text faulty r written more = record {
-  taken = λ e. cc;
-  cut = λ e. rw (flat_more lines text) (front_before _ _ _ _ (r.cut written));
-  flushes = r.flushes;
-  failures = r.failures ∙ ap (λ b. counted (not b) first.failures) written;
+  put = rw (flat_more lines text) (cut_before _ _ _ _ _ r.put written);
   faulty = more ∙ ap next_number r.faulty ∙ count_more lines text;
 }
 
@@ -222,7 +214,7 @@ checked_front input r1 r2 out o1 o2 unused left kept n before after is_kept end 
 pub reported_fails : (first old : Seen) (before : Report) (lines : List (List ℕ)) (behind : List ℕ) → IsReported first old before lines → before.is_written ≡ false
     → IsNotWritten first old (flat lines ++ behind)
 reported_fails first old before lines behind r written =
-    not_put first old (flat lines ++ behind) (front_before _ _ _ _ (r.cut written)) (r.failures ∙ ap (λ b. counted (not b) first.failures) written) r.flushes
+    not_put first old (flat lines ++ behind) false (cut_before _ _ _ _ _ r.put written) refl
 
 same_end : (a s b : ℕ) → (s == b) ≡ (a + s == a + b)
 same_end a s b = grind (arith, nat_tests)
@@ -230,17 +222,17 @@ same_end a s b = grind (arith, nat_tests)
 pub reported_ends : (first old new : Seen) (before : Report) (lines : List (List ℕ)) (behind : List ℕ) (written : Bool) → IsReported first old before lines
     → before.is_written ≡ true → WritingEnds written old new behind → WritingEnds written first new (flat lines ++ behind)
 reported_ends first old new before lines behind true r written h = record {
-  taken = Appends-trans _ _ _ _ _ (r.taken written) h.taken;
-  no_failure = h.no_failure ∙ r.failures ∙ ap (λ b. counted (not b) first.failures) written;
-  flushes = h.flushes ∙ ap next_count r.flushes;
+  taken = Appends-trans _ _ _ _ _ (r.put.taken written) h.taken;
+  no_failure = h.no_failure ∙ r.put.failures ∙ ap (λ b. counted (not b) first.failures) written;
+  flushes = h.flushes ∙ ap next_count r.put.flushes;
   flushed = h.flushed;
 }
 reported_ends first old new before lines behind false r written h = record {
   sent = length (flat lines) + h.sent;
   within = omega (arith, h.within, length-append (flat lines) behind);
-  taken = rw (take-append-add (flat lines) behind h.sent) (Appends-trans _ _ _ _ _ (r.taken written) h.taken);
-  failure = h.failure ∙ ap next_count (r.failures ∙ ap (λ b. counted (not b) first.failures) written);
-  flushes = h.flushes ∙ ap (counted (h.sent == length behind)) r.flushes
+  taken = rw (take-append-add (flat lines) behind h.sent) (Appends-trans _ _ _ _ _ (r.put.taken written) h.taken);
+  failure = h.failure ∙ ap next_count (r.put.failures ∙ ap (λ b. counted (not b) first.failures) written);
+  flushes = h.flushes ∙ ap (counted (h.sent == length behind)) r.put.flushes
       ∙ ap (λ b. counted b first.flushes) (same_end (length (flat lines)) h.sent (length behind) ∙ ap (λ n. length (flat lines) + h.sent == n) (sym (length-append (flat lines) behind)));
 }
 

@@ -1,2 +1,3 @@
 pub mod Feeding
+pub mod Putting
 pub mod Checking

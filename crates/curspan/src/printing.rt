@@ -1,12 +1,11 @@
 //! Prints pictures.
 
-ghost use Rattle.std.specs.Prelude.{◌≡◌, ◌≤◌, ◌+◌, ◌*◌, ◌++◌, ◌∷◌, [], if◌then◌else◌, All, false, length, not, true};
+ghost use Rattle.std.specs.Prelude.{◌≡◌, ◌≤◌, ◌+◌, ◌*◌, ◌++◌, ◌∷◌, [], if◌then◌else◌, All, length};
 ghost use Rattle.std.specs.List.{flat_map, list_any};
-ghost use Rattle.std.specs.Io.KnownBytes.{Appends};
-ghost use Rattle.streams.specs.Counts.{counted};
 ghost use Rattle.cell.specs.Shown.{has_colour};
 ghost use Rattle.curspan.specs.Printing.{attributes_text, characters_text, colours_text, cursor_text, has_attributes, line_text, printed_picture, rendition_text, sign, signs};
-ghost use Rattle.curspan.specs.Written.{TakesFront, WritingEnds};
+ghost use Rattle.curspan.specs.Written.{WritingEnds};
+ghost use Rattle.curspan.specs.steps.Putting.{PuttingEnds};
 
 use crate::put::put;
 use arrayvec::ArrayVec;
@@ -175,10 +174,7 @@ fn ending(cursor: Option<(u16, u16)>, rendition: Rendition) -> EndingText
 fn put_lines<O: Sink>(out: &mut O, picture: &Grid<Shown>, lines: u16) -> bool
     requires lines { length picture.now ≡ lines }
     requires columns { All (λ line. length line ≤ LARGEST_SCREEN) picture.now }
-    ensures taken { result ≡ true → Appends (O.seen out.old).taken (O.seen out.new).taken (flat_map line_text picture.now) }
-    ensures cut { result ≡ false → TakesFront (O.seen out.old) (O.seen out.new) (flat_map line_text picture.now) }
-    ensures flushes { (O.seen out.new).flushes ≡ (O.seen out.old).flushes }
-    ensures failures { (O.seen out.new).failures ≡ counted (not result) (O.seen out.old).failures }
+    ensures { PuttingEnds result (O.seen out.old) (O.seen out.new) (flat_map line_text picture.now) }
 {
     for y in 0..lines {
         if !put(out, line_text(picture.row(usize::from(y))).as_slice()) {
@@ -198,10 +194,7 @@ fn put_picture<O: Sink>(
 ) -> bool
     requires lines { length picture.now ≡ lines }
     requires columns { All (λ line. length line ≤ LARGEST_SCREEN) picture.now }
-    ensures taken { result ≡ true → Appends (O.seen out.old).taken (O.seen out.new).taken (printed_picture picture.now cursor rendition) }
-    ensures cut { result ≡ false → TakesFront (O.seen out.old) (O.seen out.new) (printed_picture picture.now cursor rendition) }
-    ensures flushes { (O.seen out.new).flushes ≡ (O.seen out.old).flushes }
-    ensures failures { (O.seen out.new).failures ≡ counted (not result) (O.seen out.old).failures }
+    ensures { PuttingEnds result (O.seen out.old) (O.seen out.new) (printed_picture picture.now cursor rendition) }
 {
     if !put_lines(out, picture, lines) {
         return false;

@@ -1,9 +1,7 @@
 //! Writing a text of any length.
 
-ghost use Rattle.std.specs.Prelude.{◌≡◌, false, is_ok, not, true};
-ghost use Rattle.std.specs.Io.KnownBytes.{Appends};
-ghost use Rattle.streams.specs.Counts.{counted};
-ghost use Rattle.curspan.specs.Written.{IsTold, TakesFront, WritingEnds};
+ghost use Rattle.curspan.specs.Written.{IsTold, WritingEnds};
+ghost use Rattle.curspan.specs.steps.Putting.{PuttingEnds};
 
 use streams::{Sink, send};
 
@@ -12,10 +10,7 @@ const PIECE: usize = 4096;
 
 /// Writes a text, and answers whether all of it went out. If not, a front of it did. It flushes nothing.
 pub fn put<W: Sink>(sink: &mut W, text: &[u8]) -> bool
-    ensures taken { result ≡ true → Appends (W.seen sink.old).taken (W.seen sink.new).taken text.now }
-    ensures cut { result ≡ false → TakesFront (W.seen sink.old) (W.seen sink.new) text.now }
-    ensures flushes { (W.seen sink.new).flushes ≡ (W.seen sink.old).flushes }
-    ensures failures { (W.seen sink.new).failures ≡ counted (not result) (W.seen sink.old).failures }
+    ensures { PuttingEnds result (W.seen sink.old) (W.seen sink.new) text.now }
 {
     let mut rest = text;
     while !rest.is_empty() {

@@ -1,8 +1,6 @@
 -- What telling of a script's lines one after another does: words of contracts of single steps.
 use Rattle.std.specs.Prelude.{◌≡◌, ◌++◌, ◌∷◌, [], ℕ, Bool, true, false, not, List}
-use Rattle.std.specs.Io.KnownBytes.{Appends}
 use Rattle.std.specs.List.{flat_map}
-use Rattle.streams.specs.Counts.{counted}
 use Rattle.streams.specs.Sinks.{Seen}
 use Rattle.streams.specs.Sources.{SourceSeen}
 use Rattle.explain.specs.Explanations.{finding}
@@ -12,8 +10,9 @@ use Rattle.script.specs.declared.bytes.LineEnd.TheVariants.{Newline, ScriptEnd, 
 use Rattle.script.specs.declared.fault.TextFault.TheVariants.{LineTooLong}
 use Rattle.curspan.specs.Checks.{count_of, report, told, told_of}
 use Rattle.curspan.specs.Shows.{ReadsStream}
-use Rattle.curspan.specs.Written.{TakesFront, WritingEnds}
+use Rattle.curspan.specs.Written.{WritingEnds}
 use Rattle.curspan.specs.declared.check.Report.{Report}
+use Rattle.curspan.specs.steps.Putting.{PuttingEnds}
 
 -- what is told of a line as it was read
 abbrev pub told_of_read : ℕ → List ℕ → Bool → LineEnd → List (List ℕ)
@@ -22,12 +21,9 @@ told_of_read number line true ReadFailed = []
 told_of_read number line true Newline = told_of number line (said_by_line line)
 told_of_read number line true ScriptEnd = told_of number line (said_by_line line)
 
--- These lines were told, and counted; or a write failed, and the sink took a front of them. Nothing was flushed.
+-- These lines were put out, all of them or a front, and counted.
 pub record IsReported (old new : Seen) (report : Report) (lines : List (List ℕ)) : Type 0 where
-  pub taken : report.is_written ≡ true → Appends old.taken new.taken (flat_map (λ line. line) lines)
-  pub cut : report.is_written ≡ false → TakesFront old new (flat_map (λ line. line) lines)
-  pub flushes : new.flushes ≡ old.flushes
-  pub failures : new.failures ≡ counted (not report.is_written) old.failures
+  pub put : PuttingEnds report.is_written old new (flat_map (λ line. line) lines)
   pub faulty : report.faulty ≡ count_of lines
 
 -- Behind what was reported some lines are, too.

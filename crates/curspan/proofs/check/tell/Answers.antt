@@ -6,6 +6,6 @@ pub returns : goal.returns
 returns g c = λ first reported r. elim c.if-report.branch [
   | then-report w ↦
       rw (w.is_written-is, w.out-is) (line_reported first _ _ c.args.report reported c.args.text.now _ _ r w.if-report.true c.saturating_add.ensures
-      w.put-is_written.ensures.taken w.put-is_written.ensures.cut w.put-is_written.ensures.flushes w.put-is_written.ensures.failures)
+      w.put-is_written.ensures)
   | else-report w ↦ rw (w.is_written-is, w.out-is, w.if-report.false) (line_dropped first _ c.args.report reported c.args.text.now _ r w.if-report.false c.saturating_add.ensures)
 ]

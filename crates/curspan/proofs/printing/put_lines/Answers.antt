@@ -1,11 +1,23 @@
-use Rattle.std.proofs.Common.{◌<◌, length, arith}
-use Rattle.curspan.proofs.PictureTexts.{lines_around}
-use Rattle.curspan.proofs.PutLemmas.{front_before, front_behind}
+use Rattle.std.proofs.Common.{◌<◌, length, refl, arith}
+use Rattle.cell.specs.Pictures.{line_of}
+use Rattle.curspan.specs.Printing.{line_text}
+use Rattle.curspan.proofs.PictureTexts.{lines_around, lines_through}
+use Rattle.curspan.proofs.PutLemmas.{cut_before, nothing_put, put_behind}
 use Rattle.curspan.proofs.printing.put_lines.Goals as goal
 
-pub returns-then-not-put-clause-cut : goal.returns-then-not-put-clause-cut
-returns-then-not-put-clause-cut g c = λ cut.
+pub loop-y-init : goal.loop-y-init
+loop-y-init g c = nothing_put _
+
+pub loop-y-preserved : goal.loop-y-preserved
+loop-y-preserved g c =
     let picture = c.args.picture.now in
     let inside : c.loop-y.y < length picture = omega (arith, c.loop-y-test.true, c.requires.lines) in
-    let line = rw (c.as_slice.ensures.value, c.line_text.ensures, c.row.ensures.row, c.from.ensures) at (c.put.ensures.cut c.if-not-put.true) in
-    rw (lines_around picture c.loop-y.y inside) (front_before _ _ _ _ (front_behind _ _ _ _ _ c.loop-y.invariant.taken line))
+    let line = rw (c.as_slice.ensures.value, c.line_text.ensures, c.row.ensures.row, c.from.ensures, c.if-not-put.false) at c.put.ensures in
+    rw (lines_through picture c.loop-y.y inside) (put_behind _ _ _ _ (line_text (line_of picture c.loop-y.y)) _ _ c.loop-y.invariant refl line)
+
+pub returns-then-not-put : goal.returns-then-not-put
+returns-then-not-put g c =
+    let picture = c.args.picture.now in
+    let inside : c.loop-y.y < length picture = omega (arith, c.loop-y-test.true, c.requires.lines) in
+    let line = rw (c.as_slice.ensures.value, c.line_text.ensures, c.row.ensures.row, c.from.ensures) at c.put.ensures in
+    rw (lines_around picture c.loop-y.y inside) (cut_before _ _ _ _ _ (put_behind _ _ _ _ (line_text (line_of picture c.loop-y.y)) _ _ c.loop-y.invariant refl line) c.if-not-put.true)

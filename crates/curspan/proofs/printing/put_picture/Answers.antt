@@ -1,7 +1,8 @@
-use Rattle.curspan.proofs.PutLemmas.{front_behind}
+use Rattle.curspan.proofs.PutLemmas.{cut_before, put_behind}
 use Rattle.curspan.proofs.printing.put_picture.Goals as goal
 
-pub returns-clause-cut : goal.returns-clause-cut
-returns-clause-cut g c = λ cut.
-    let ending = rw (c.as_slice.ensures.value, c.ending.ensures) at (c.put.ensures.cut cut) in
-    front_behind _ _ _ _ _ (c.put_lines.ensures.taken c.if-not-put_lines.false) ending
+pub returns-then-not-put_lines : goal.returns-then-not-put_lines
+returns-then-not-put_lines g c = cut_before _ _ _ _ _ c.put_lines.ensures c.if-not-put_lines.true
+
+pub returns : goal.returns
+returns g c = put_behind _ _ _ _ _ _ _ c.put_lines.ensures c.if-not-put_lines.false (rw (c.as_slice.ensures.value, c.ending.ensures) at c.put.ensures)
