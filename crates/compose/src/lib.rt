@@ -9,5 +9,6 @@ mod dispatch;
 mod marks;
 mod panels;
 mod refresh;
+
 pub use desk::Desk;
 pub use picture::{Rows, compose_row};

@@ -6,7 +6,8 @@ mod page;
 mod parameter;
 mod selection;
 mod spelling;
-mod terminal;mod token;
+mod terminal;
+mod token;
 
 pub use spelling::{LONGEST_SPELLING, spell};
 pub use terminal::{NotInProfile, Terminal};
