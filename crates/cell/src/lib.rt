@@ -23,4 +23,4 @@ pub use limits::{
 };
 pub use refusal::Refusal;
 pub use shown::{Rendition, Shown};
-pub use window::{Frame, WinId};
+pub use window::{Rect, WinId};

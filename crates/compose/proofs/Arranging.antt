@@ -8,10 +8,9 @@ use Rattle.world.specs.Panels.{Panels}
 use Rattle.world.specs.Sound.{AreSoundPanels, AreSoundWindows, IsSound}
 use Rattle.world.specs.Windows.{Windows}
 use Rattle.world.specs.World.{VirtualScreen, World}
-use Rattle.world.specs.calls.Affected.{changed_panel, stacking_affects}
+use Rattle.world.specs.calls.Written.{changed_panel}
 use Rattle.world.specs.calls.Dispatch.{after_stacking}
-use Rattle.world.specs.calls.Places.{panel_shows_at, stacking_shows_at}
-use Rattle.world.specs.calls.Stacking.{panel_affects}
+use Rattle.world.specs.calls.Affected.{panel_shows_at, stacking_shows_at}
 use Rattle.world.specs.declared.call.Stacking.{Stacking}
 use Rattle.world.specs.declared.call.Stacking.TheVariants.{NewPanel, DelPanel, ShowPanel, HidePanel, TopPanel, BottomPanel, MovePanel, ReplacePanel, PanelAbove, PanelBelow, PanelWindow, PanelHidden}
 use Rattle.world.specs.declared.settings.Columns.{Columns}
@@ -20,7 +19,7 @@ use Rattle.grids.specs.Tables.{WindowTable, windows}
 use Rattle.stack.specs.Tables.{PanelTable, panels}
 use Rattle.picture.specs.Damages.{Damages}
 use Rattle.compose.specs.Desks.{DeskTable, world}
-use Rattle.compose.specs.steps.Changes.{panels_after, stacking_has_line, stacking_shows, windows_after}
+use Rattle.compose.specs.steps.Changes.{panels_after, stacking_shows, windows_after}
 use Rattle.compose.proofs.DeskLemmas.{desk_of}
 
 -- windows and panels change each alone
@@ -69,15 +68,15 @@ pub arranged-world : {T : Type 0} (old new : DeskTable) (stacking : Stacking) (r
 arranged-world old new stacking (Ok done) pairs virtual is are = (λ i. record { windows = is i; panels = are i; pairs = pairs i; virtual = virtual i }) ∙ sym (stacked-parts (world old) stacking)
 arranged-world old new stacking (Err e) pairs virtual is are = tt
 
-stacked-damages : (w : World) (stacking : Stacking) (columns : ℕ) (before after : List (Option Columns)) → Damages columns (stacking_shows w.windows w.panels stacking) (stacking_has_line w.windows w.panels stacking) before after
-    → Damages columns (stacking_shows_at w stacking) (stacking_affects w stacking) before after
+stacked-damages : (w : World) (stacking : Stacking) (columns : ℕ) (before after : List (Option Columns)) → Damages columns (stacking_shows w.windows w.panels stacking) before after
+    → Damages columns (stacking_shows_at w stacking) before after
 stacked-damages w stacking columns before after h =
     subst (λ (v : World). Damages columns
     (λ y x. option_map_or (λ p. panel_shows_at w.windows.window w.panels p y x || panel_shows_at v.windows.window v.panels p y x) (changed_panel w.panels stacking) false)
-    (λ y. option_map_or (λ p. panel_affects w v p y) (changed_panel w.panels stacking) false) before after) (sym (stacked-parts w stacking)) h
+    before after) (sym (stacked-parts w stacking)) h
 
 pub arranged-damages : {T : Type 0} (w : World) (stacking : Stacking) (columns : ℕ) (before after : List (Option Columns)) (r : Result T Refusal)
-    → OnOk r (Damages columns (stacking_shows w.windows w.panels stacking) (stacking_has_line w.windows w.panels stacking) before after)
-    → OnOk r (Damages columns (stacking_shows_at w stacking) (stacking_affects w stacking) before after)
+    → OnOk r (Damages columns (stacking_shows w.windows w.panels stacking) before after)
+    → OnOk r (Damages columns (stacking_shows_at w stacking) before after)
 arranged-damages w stacking columns before after (Ok done) h = stacked-damages w stacking columns before after h
 arranged-damages w stacking columns before after (Err e) h = tt

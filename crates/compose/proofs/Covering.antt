@@ -15,10 +15,9 @@ use Rattle.world.specs.Windows.{Drawing, window_limit}
 use Rattle.world.specs.World.{VirtualScreen, World, first_world, picture}
 use Rattle.world.specs.Sound.{AreColumnsWithin, AreSoundWindows, IsSound}
 use Rattle.world.specs.declared.settings.Columns.{Columns}
-use Rattle.world.specs.calls.Affected.{accepted_affects}
 use Rattle.world.specs.calls.Copies.{copywin_drawing}
 use Rattle.world.specs.calls.Dispatch.{after_stacking, is_update_panels, refusal, world_after}
-use Rattle.world.specs.calls.Places.{affects_place}
+use Rattle.world.specs.calls.Affected.{affects_place}
 use Rattle.world.specs.calls.Refresh.{shown_over, touched_cells}
 use Rattle.world.specs.declared.call.Call.{Call}
 use Rattle.world.specs.declared.call.Call.TheVariants as calls
@@ -31,68 +30,12 @@ use Rattle.world.proofs.Sizes.{size-call}
 use Rattle.world.proofs.StackingLaws.{found-stacking}
 use Rattle.world.proofs.WritingLaws.{found-copying, found-writing}
 use Rattle.picture.specs.Damages.{Damages, columns_of, has_damage_at}
+use Rattle.picture.proofs.DamageLaws.{damages-line}
+use Rattle.world.proofs.CallLaws.{picture-kept, virtual-kept}
 use Rattle.compose.specs.Calling.{DamagesFew}
 use Rattle.compose.specs.Covers.{IsCovered, IsDesk}
 use Rattle.compose.specs.Desks.{DeskTable, world}
 use Rattle.compose.proofs.DeskLemmas.{IsSound-new}
-
--- ---- one place
-
--- at the place, the picture and the virtual screen stay as they are
-pub record StaysAt (old new : World) (y x : ℕ) : Type 0 where
-  pub found : picture new y x ≡ picture old y x
-  pub shown : shown_at new.virtual.picture (y, x) ≡ shown_at old.virtual.picture (y, x)
-
-stacked-pairs : (w : World) (stacking : Stacking) → ((after_stacking w stacking).pairs ≡ w.pairs) × ((after_stacking w stacking).virtual ≡ w.virtual)
-stacked-pairs w (NewPanel win) = (refl, refl)
-stacked-pairs w (DelPanel panel) = (refl, refl)
-stacked-pairs w (ShowPanel panel) = (refl, refl)
-stacked-pairs w (HidePanel panel) = (refl, refl)
-stacked-pairs w (TopPanel panel) = (refl, refl)
-stacked-pairs w (BottomPanel panel) = (refl, refl)
-stacked-pairs w (MovePanel panel y x) = (refl, refl)
-stacked-pairs w (ReplacePanel panel win) = (refl, refl)
-stacked-pairs w (PanelAbove panel) = (refl, refl)
-stacked-pairs w (PanelBelow panel) = (refl, refl)
-stacked-pairs w (PanelWindow panel) = (refl, refl)
-stacked-pairs w (PanelHidden panel) = (refl, refl)
-
-undrawn : (pairs : Pairs) (o : Option Glyph) (other : Shown) → is_some o ≡ false → option_map_or (shown pairs) o other ≡ other
-undrawn pairs None other h = refl
-undrawn pairs (Some a) other h = cc
-
-unlaid : (w : World) (f : Drawing) (y x : ℕ) → y < w.windows.lines → x < w.windows.columns → is_some (f y x) ≡ false
-    → shown_at (picture_of w.windows.lines w.windows.columns (shown_over w.pairs w.virtual.picture f)) (y, x) ≡ shown_at w.virtual.picture (y, x)
-unlaid w f y x below left free =
-    cell_or-lines_from shown_blank w.windows.lines w.windows.columns (shown_over w.pairs w.virtual.picture f) y x below left
-    ∙ undrawn w.pairs (f y x) (shown_at w.virtual.picture (y, x)) free
-
-pub stays : (w : World) (call : Call) (y x : ℕ) → IsSound w → y < w.windows.lines → x < w.windows.columns → refusal w call ≡ None → is_update_panels call ≡ false
-    → affects_place w call y x ≡ false → StaysAt w (world_after w call) y x
-stays w (calls.Making making) y x sound below left accepted other free =
-    record { found = ap (shown w.pairs) (found-making w.windows w.panels making y x sound.windows sound.panels accepted free); shown = refl }
-stays w (calls.Writing writing) y x sound below left accepted other free =
-    record { found = ap (shown w.pairs) (found-writing w.windows w.panels writing y x sound.windows below left free); shown = refl }
-stays w (calls.Copying copying) y x sound below left accepted other free =
-    record { found = ap (shown w.pairs) (found-copying w.windows w.panels copying y x sound.windows below left free); shown = refl }
-stays w (calls.Query query) y x sound below left accepted other free = record { found = refl; shown = refl }
-stays w (calls.Stacking stacking) y x sound below left accepted other free =
-    let same = stacked-pairs w stacking in
-    record {
-      found = (λ i. shown (same.0 i) (found-stacking w stacking y x sound.panels accepted free i));
-      shown = ap (λ v. shown_at v.picture (y, x)) same.1;
-    }
-stays w (calls.Refresh (Noutrefresh win)) y x sound below left accepted other free =
-    record { found = ap (shown w.pairs) (found-refresh w (Noutrefresh win) y x); shown = unlaid w (touched_cells w.windows.window win.0) y x below left free }
-stays w (calls.Refresh (Pnoutrefresh pad pminrow pmincol sminrow smincol smaxrow smaxcol)) y x sound below left accepted other free = record {
-  found = ap (shown w.pairs) (found-refresh w (Pnoutrefresh pad pminrow pmincol sminrow smincol smaxrow smaxcol) y x);
-  shown = unlaid w (copywin_drawing w.windows.window pad.0 pminrow pmincol sminrow smincol smaxrow smaxcol false) y x below left free;
-}
-stays w (calls.Refresh UpdatePanels) y x sound below left accepted other free = cc
-stays w (calls.Refresh Doupdate) y x sound below left accepted other free = record { found = refl; shown = refl }
-stays w (calls.Refresh (InitPair pair foreground background)) y x sound below left accepted other free = cc
-
--- ---- all places
 
 off-where : (b : Bool) → (b ≡ true → ⊥) → b ≡ false
 off-where true h = absurd (h refl)
@@ -104,7 +47,7 @@ on-off false h k = cc
 
 module _ (old new : DeskTable) (call : Call) (h : IsDesk old) (accepted : refusal (world old) call ≡ None) (other : is_update_panels call ≡ false)
     (left : world new ≡ world_after (world old) call)
-    (damages : Damages old.windows.columns (affects_place (world old) call) (accepted_affects (world old) call) old.damage new.damage) where
+    (damages : Damages old.windows.columns (affects_place (world old) call) old.damage new.damage) where
   same-lines : new.windows.lines ≡ old.windows.lines
   same-lines = ap (λ w. w.windows.lines) left ∙ (size-call (world old) call).lines
 
@@ -125,26 +68,29 @@ module _ (old new : DeskTable) (call : Call) (h : IsDesk old) (accepted : refusa
       let unaffected : affects_place (world old) call y x ≡ false =
       off-where (affects_place (world old) call y x) (λ is. on-off (has_damage_at new.damage y x) (damages.covers y x in_damage on_column is) free) in
       let undamaged : has_damage_at old.damage y x ≡ false = off-where (has_damage_at old.damage y x) (λ is. on-off (has_damage_at new.damage y x) (damages.keeps y x is) free) in
-      let same : StaysAt (world old) (world_after (world old) call) y x = stays (world old) call y x h.sound on_line on_column accepted other unaffected in
-      ap (λ w. shown_at w.virtual.picture (y, x)) left ∙ same.shown ∙ h.covered.shown y x on_line on_column undamaged ∙ sym same.found ∙ sym (ap (λ w. picture w y x) left)
+      ap (λ w. shown_at w.virtual.picture (y, x)) left
+      ∙ virtual-kept (world old) y x on_line on_column call other unaffected
+      ∙ h.covered.shown y x on_line on_column undamaged
+      ∙ sym (picture-kept (world old) y x h.sound on_line on_column call accepted unaffected)
+      ∙ sym (ap (λ w. picture w y x) left)
 
   pub covered-after : IsCovered new
   covered-after = record { height = height-after; within = within-after; shown = shown-after }
 
   pub few-after : DamagesFew old call new
-  few-after line is = rw (other, accepted) (damages.few line is)
+  few-after line is = rw (other, accepted) (damages-line old.windows.columns (affects_place (world old) call) old.damage new.damage damages line is)
 
 -- the same of a call that may be refused
 pub covered-result : {T : Type 0} (old new : DeskTable) (call : Call) (r : Result T Refusal) → IsDesk old → is_update_panels call ≡ false → ((done : T) → r ≡ Ok done → refusal (world old) call ≡ None)
     → OnOk r (world new ≡ world_after (world old) call)
-    → OnOk r (Damages old.windows.columns (affects_place (world old) call) (accepted_affects (world old) call) old.damage new.damage)
+    → OnOk r (Damages old.windows.columns (affects_place (world old) call) old.damage new.damage)
     → OnErr r (new ≡ old) → IsCovered new
 covered-result old new call (Ok done) h other accepted left damages unchanged = covered-after old new call h (accepted done refl) other left damages
 covered-result old new call (Err e) h other accepted left damages unchanged = subst IsCovered (sym unchanged) h.covered
 
 pub few-result : {T : Type 0} (old new : DeskTable) (call : Call) (r : Result T Refusal) → IsDesk old → is_update_panels call ≡ false → ((done : T) → r ≡ Ok done → refusal (world old) call ≡ None)
     → OnOk r (world new ≡ world_after (world old) call)
-    → OnOk r (Damages old.windows.columns (affects_place (world old) call) (accepted_affects (world old) call) old.damage new.damage)
+    → OnOk r (Damages old.windows.columns (affects_place (world old) call) old.damage new.damage)
     → OnOk r (DamagesFew old call new)
 few-result old new call (Ok done) h other accepted left damages = few-after old new call h (accepted done refl) other left damages
 few-result old new call (Err e) h other accepted left damages = tt

@@ -4,19 +4,18 @@ use Rattle.std.specs.Prelude.{option_and_then}
 use Rattle.std.specs.List.{list_any}
 use Rattle.std.specs.Option.{option_map_or}
 use mathlib.Core.Path.{fun_ext}
-use Rattle.world.specs.Panels.{Panels, has_line, holds_place, windows_from_top}
+use Rattle.world.specs.Panels.{Panels, holds_place, windows_from_top}
 use Rattle.world.specs.Windows.{Backing, own_grid, part_of, Window, WindowMap, Windows, ancestors_within, derives, parent_number, parent_of, window_limit}
-use Rattle.world.specs.calls.Affected.{follows_on_line, making_affects, move_affects}
 use Rattle.world.specs.calls.Dispatch.{after_making}
 use Rattle.world.specs.calls.Making.{after_mvderwin, with_part}
-use Rattle.world.specs.calls.Places.{follows_at, making_shows_at, move_shows_at}
+use Rattle.world.specs.calls.Affected.{follows_at, making_shows_at, move_shows_at}
 use Rattle.world.specs.declared.call.Making.{Making}
 use Rattle.world.specs.declared.call.Making.TheVariants.{Newwin, Subwin, Derwin, Newpad, Subpad, Delwin, Mvwin, Mvderwin}
 use Rattle.world.specs.declared.settings.Columns.{Columns}
 use Rattle.world.proofs.ViewLaws.{same-if}
 use Rattle.picture.specs.Damages.{Damages}
 use Rattle.picture.proofs.DamageLaws.{damages-as}
-use Rattle.compose.specs.steps.Changes.{moved_window, moving_affects, moving_shows_at}
+use Rattle.compose.specs.steps.Changes.{moved_window, moving_shows_at}
 
 parent-kept : (y x : ℕ) (a : Window) → option_and_then (λ (b : Window). parent_number b.backing) (Some (with_part y x a)) ≡ option_and_then (λ (b : Window). parent_number b.backing) (Some a)
 parent-kept y x a = by_backing a.backing refl where
@@ -43,32 +42,26 @@ module _ (windows : Windows) (w v z : ℕ) where
   pub follows-kept : (y x u : ℕ) → follows_at moved w y x u ≡ follows_at windows.window w y x u
   follows-kept y x u = (λ i. (u == w || derives-kept u i) && same-if (λ o. option_map_or (holds_place y x) o false) (with_part v z) (λ a. refl) (u == w) (windows.window u) i)
 
-  pub follows-line-kept : (y u : ℕ) → follows_on_line moved w y u ≡ follows_on_line windows.window w y u
-  follows-line-kept y u = (λ i. (u == w || derives-kept u i) && same-if (λ o. option_map_or (has_line y) o false) (with_part v z) (λ a. refl) (u == w) (windows.window u) i)
-
   pub moves-kept : (panels : Panels) (y x : ℕ) → move_shows_at moved panels w y x ≡ move_shows_at windows.window panels w y x
   moves-kept panels y x = ap (λ (test : ℕ → Bool). list_any test (windows_from_top panels)) (fun_ext (follows-kept y x))
-
-  pub lines-kept : (panels : Panels) (y : ℕ) → move_affects moved panels w y ≡ move_affects windows.window panels w y
-  lines-kept panels y = ap (λ (test : ℕ → Bool). list_any test (windows_from_top panels)) (fun_ext (follows-line-kept y))
 
 -- ---- a call of making
 
 unmoved : (old new : Windows) (panels : Panels) (win : Option ℕ) (before after : List (Option Columns)) → new.columns ≡ old.columns → win ≡ None
-    → Damages new.columns (moving_shows_at new.window panels win) (moving_affects new.window panels win) before after → Damages old.columns (λ y x. false) (λ y. false) before after
+    → Damages new.columns (moving_shows_at new.window panels win) before after → Damages old.columns (λ y x. false) before after
 unmoved old new panels win before after same of h =
-    subst (λ n. Damages n (λ y x. false) (λ y. false) before after) same
-    (subst (λ (w : Option ℕ). Damages new.columns (moving_shows_at new.window panels w) (moving_affects new.window panels w) before after) of h)
+    subst (λ n. Damages n (λ y x. false) before after) same
+    (subst (λ (w : Option ℕ). Damages new.columns (moving_shows_at new.window panels w) before after) of h)
 
 abbrev pub Moved : ℕ → WindowMap → Panels → Option ℕ → List (Option Columns) → List (Option Columns) → Type 0
-Moved columns window panels win before after = Damages columns (moving_shows_at window panels win) (moving_affects window panels win) before after
+Moved columns window panels win before after = Damages columns (moving_shows_at window panels win) before after
 
 pub damages-made : (old new : Windows) (panels : Panels) (making : Making) (win : Option ℕ) (before after : List (Option Columns)) → new ≡ after_making old making → win ≡ moved_window making
-    → Moved new.columns new.window panels win before after → Damages old.columns (making_shows_at old.window panels making) (making_affects old.window panels making) before after
+    → Moved new.columns new.window panels win before after → Damages old.columns (making_shows_at old.window panels making) before after
 damages-made old new panels (Mvderwin w v z) win before after is of h =
     let moved_damages : Moved old.columns (after_mvderwin old w.0 v z).window panels (Some w.0) before after = subst (λ (o : Option ℕ). Moved old.columns (after_mvderwin old w.0 v z).window panels o before after) of (subst (λ (ws : Windows). Moved ws.columns ws.window panels win before after) is h) in
-    damages-as old.columns (move_shows_at (after_mvderwin old w.0 v z).window panels w.0) (move_shows_at old.window panels w.0) (move_affects (after_mvderwin old w.0 v z).window panels w.0) (move_affects old.window panels w.0)
-    before after moved_damages (λ y x below left shows. moves-kept old w.0 v z panels y x ∙ shows) (λ y on. sym (lines-kept old w.0 v z panels y) ∙ on)
+    damages-as old.columns (move_shows_at (after_mvderwin old w.0 v z).window panels w.0) (move_shows_at old.window panels w.0) before after moved_damages
+    (λ y x below left shows. moves-kept old w.0 v z panels y x ∙ shows) (λ y x left shows. sym (moves-kept old w.0 v z panels y x) ∙ shows)
 damages-made old new panels (Newwin nlines ncols y x) win before after is of h = unmoved old new panels win before after (λ i. (is i).columns) of h
 damages-made old new panels (Subwin w nlines ncols y x) win before after is of h = unmoved old new panels win before after (λ i. (is i).columns) of h
 damages-made old new panels (Derwin w nlines ncols y x) win before after is of h = unmoved old new panels win before after (λ i. (is i).columns) of h

@@ -5,7 +5,6 @@ pub mod Laying
 pub mod Pieces
 pub mod Unmarking
 mod Covering
-mod WrittenFrames
 mod Visible
 mod WrittenDamages
 mod Reading

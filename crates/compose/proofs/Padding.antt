@@ -1,12 +1,11 @@
 -- The rectangle of the screen to which a pad's cells are copied is what the copy draws.
 use Rattle.std.proofs.Common.{◌≡◌, ℕ, ◌+◌, ◌-◌, ◌<◌, ◌≤◌, true, false, ◌&&◌, nat_le, nat_lt, is_some, inl, inr, sym, ap, subst, ◌∙◌, arith}
 use Rattle.std.proofs.lemmas.Bool.{and_from, and_parts, cases_lt, leb-true, le-leb, lt-ltb, ltb-true}
-use Rattle.cell.specs.declared.window.Frame.{Frame}
+use Rattle.cell.specs.declared.window.Rect.{Rect}
 use Rattle.world.specs.Windows.{Windows, cell_at}
-use Rattle.world.specs.calls.Affected.{draws_on_line}
 use Rattle.world.specs.calls.Copies.{copywin_drawing}
-use Rattle.world.proofs.Below.{any_below-some}
 use Rattle.picture.specs.Parts.{frame_has_line, frame_holds}
+use Rattle.picture.proofs.Held.{held-between}
 use Rattle.compose.proofs.Pieces.{IsOfPad, pad-above, pad-below, pad-piece}
 use Rattle.compose.proofs.Touching.{in-piece, of-piece}
 
@@ -21,7 +20,7 @@ module _ (windows : Windows) (w py px top left bottom right : ℕ) (h : IsOfPad 
       (sym (ap (λ o. is_some o) piece) ∙ subst (λ k. is_some (copywin_drawing windows.window w py px top left bottom right false k u) ≡ true) (sym same) is)
 
   -- each place that it draws is of the rectangle
-  pub pad-covers : (r : Frame) (y u : ℕ) → r.top ≡ top → r.left ≡ left → r.bottom ≡ bottom → r.right ≡ right → u < windows.columns
+  pub pad-covers : (r : Rect) (y u : ℕ) → r.top ≡ top → r.left ≡ left → r.bottom ≡ bottom → r.right ≡ right → u < windows.columns
       → is_some (copywin_drawing windows.window w py px top left bottom right false y u) ≡ true → frame_holds r y u ≡ true
   pad-covers r y u t l b e on is = elim (cases_lt y top) [
     | inl before ↦ let never : false ≡ true = sym (ap (λ o. is_some o) (pad-above windows w py px top left bottom right h y before u on)) ∙ is in cc
@@ -40,21 +39,19 @@ module _ (windows : Windows) (w py px top left bottom right : ℕ) (h : IsOfPad 
     ]
   ]
 
-  -- on each of its lines it draws
-  pub pad-draws : (r : Frame) (y : ℕ) → r.top ≡ top → r.bottom ≡ bottom → frame_has_line r y ≡ true
-      → draws_on_line windows.columns (copywin_drawing windows.window w py px top left bottom right false) y ≡ true
-  pad-draws r y t b has =
-      let both = and_parts (nat_le r.top y) (nat_le y r.bottom) has in
-      let from = leb-true r.top y both.0 in
-      let to = leb-true y r.bottom both.1 in
-      let across = h.across in
-      let on = h.on_column in
-      let inside : left < windows.columns = omega (arith, across, on) in
-      let same : top + (y - top) ≡ y = omega (arith, from, t) in
+  -- at each place of the rectangle it draws
+  pub pad-draws : (r : Rect) (y u : ℕ) → r.top ≡ top → r.left ≡ left → r.bottom ≡ bottom → r.right ≡ right → u < windows.columns → frame_holds r y u ≡ true
+      → is_some (copywin_drawing windows.window w py px top left bottom right false y u) ≡ true
+  pad-draws r y u t l b e on held =
+      let at = held-between r y u held in
+      let from = at.top in
+      let to = at.bottom in
+      let first = at.left in
+      let last = at.right in
       let down = h.down in
-      let there : is_some (copywin_drawing windows.window w py px top left bottom right false (top + (y - top)) left) ≡ true =
-      ap (λ o. is_some o) (pad-piece windows w py px top left bottom right h (y - top) (omega (arith, from, to, t, b, down)) left inside)
-      ∙ of-piece (nat_le left left && nat_lt left (left + (right - left + 1))) (cell_at windows.window w (py + (y - top)) (px + (left - left)))
-      (and_from (nat_le left left) (nat_lt left (left + (right - left + 1))) (le-leb left left (omega arith)) (lt-ltb left (left + (right - left + 1)) (omega arith))) in
-      any_below-some windows.columns (λ u. is_some (copywin_drawing windows.window w py px top left bottom right false y u)) left inside
-      (subst (λ k. is_some (copywin_drawing windows.window w py px top left bottom right false k left) ≡ true) same there)
+      let same : top + (y - top) ≡ y = omega (arith, from, t) in
+      let there : is_some (copywin_drawing windows.window w py px top left bottom right false (top + (y - top)) u) ≡ true =
+      ap (λ o. is_some o) (pad-piece windows w py px top left bottom right h (y - top) (omega (arith, from, to, t, b, down)) u on)
+      ∙ of-piece (nat_le left u && nat_lt u (left + (right - left + 1))) (cell_at windows.window w (py + (y - top)) (px + (u - left)))
+      (and_from (nat_le left u) (nat_lt u (left + (right - left + 1))) (le-leb left u (omega (arith, first, l))) (lt-ltb u (left + (right - left + 1)) (omega (arith, first, last, l, e)))) in
+      subst (λ k. is_some (copywin_drawing windows.window w py px top left bottom right false k u) ≡ true) same there

@@ -3,10 +3,10 @@ use Rattle.std.proofs.Common.{◌≡◌, ℕ, ◌+◌, Bool, true, false, ◌==�
 use Rattle.std.specs.Prelude.{All, IsSome, MatchOption, ⊤, find, if◌then◌else◌, is_none}
 use Rattle.std.specs.List.{list_any}
 use Rattle.std.specs.Option.{option_map_or}
-use Rattle.cell.specs.declared.window.Frame.{Frame}
+use Rattle.cell.specs.declared.window.Rect.{Rect}
 use Rattle.world.specs.Panels.{Panels}
 use Rattle.world.specs.Windows.{Windows}
-use Rattle.world.specs.calls.Affected.{changed_panel}
+use Rattle.world.specs.calls.Written.{changed_panel}
 use Rattle.world.specs.calls.Stacking.{new_panel_number}
 use Rattle.world.specs.declared.call.Stacking.{Stacking}
 use Rattle.world.specs.declared.call.Stacking.TheVariants.{NewPanel, DelPanel, ShowPanel, HidePanel, TopPanel, BottomPanel, MovePanel, ReplacePanel, PanelAbove, PanelBelow, PanelWindow, PanelHidden}
@@ -67,6 +67,6 @@ stacking-parts shows ws new ps rest stacking named changed before after hidden i
     will ∙ (λ i. option_map_or (shows (is i) (are i)) (change i) false) in
     both-parts ps stacking (shows ws ps) (shows (windows_after ws ps stacking) (panels_after ps stacking)) hidden ∙ sym (λ i. named_is i || changed_is i)
 
-pub part-within : (lines columns height : ℕ) (part : Option Frame) → MatchOption part ⊤ (IsFrameWithin lines columns) → lines ≡ height → MatchOption part ⊤ (λ r. IsFrameWithin height (r.right + 1) r)
+pub part-within : (lines columns height : ℕ) (part : Option Rect) → MatchOption part ⊤ (IsFrameWithin lines columns) → lines ≡ height → MatchOption part ⊤ (λ r. IsFrameWithin height (r.right + 1) r)
 part-within lines columns height None h same = tt
 part-within lines columns height (Some r) h same = record { bottom = let bottom = h.bottom in omega (arith, bottom, same); ordered = h.ordered; right = omega arith }

@@ -90,34 +90,23 @@ module _ (windows : Windows) (w : ℕ) (place : Place) (lines : ℕ) (h : Stands
       (λ s. let from : place.1 + r.first ≤ u = leb-true (place.1 + r.first) u (and_parts (nat_le (place.1 + r.first) u) (nat_lt u (place.1 + r.first + (r.last - r.first + 1))) s).0 in
       ap (λ k. cell_at windows.window w y k) (let e : u - place.1 ≡ r.first + (u - (place.1 + r.first)) = omega arith in e))
 
-  columns-of : (y : ℕ) → touched_columns windows.window w y ≡ option_map {U = ℕ × ℕ} (λ (r : Columns). (r.first, r.last)) (h.window.touched y)
-  columns-of y = ap (λ (o : Option Window). option_and_then (λ (a : Window). option_map {U = ℕ × ℕ} (λ (r : Columns). (r.first, r.last)) (a.touched y)) o) h.there
-
-  none-touched : (o : Option Columns) → option_map {U = ℕ × ℕ} (λ (r : Columns). (r.first, r.last)) o ≡ None → o ≡ None
-  none-touched None e = refl
-  none-touched (Some r) e = cc
-
-  some-touched : (o : Option Columns) (columns : ℕ × ℕ) → option_map {U = ℕ × ℕ} (λ (r : Columns). (r.first, r.last)) o ≡ Some columns → o ≡ Some (record { first = columns.0; last = columns.1 })
-  some-touched None columns e = cc
-  some-touched (Some r) columns e =
-      let both : (r.first, r.last) ≡ columns = cc in
-      λ i. Some (record { first = (both i).0; last = (both i).1 })
+  columns-of : (y : ℕ) → touched_columns windows.window w y ≡ h.window.touched y
+  columns-of y = ap (λ (o : Option Window). option_and_then (λ (a : Window). a.touched y) o) h.there
 
   -- by what the table says of the line
   pub bare-untouched : (y : ℕ) → touched_columns windows.window w y ≡ None → IsBare (touched_cells windows.window w) windows.columns (place.0 + y)
-  bare-untouched y none = bare-line y (none-touched (h.window.touched y) (sym (columns-of y) ∙ none))
+  bare-untouched y none = bare-line y (sym (columns-of y) ∙ none)
 
-  pub piece-touched : (y : ℕ) (columns : ℕ × ℕ) → y < lines → touched_columns windows.window w y ≡ Some columns
-      → HasPiece (touched_cells windows.window w) windows.columns (place.0 + y) (place.1 + columns.0) (columns.1 - columns.0 + 1)
-      (λ u. cell_at windows.window w y (columns.0 + (u - (place.1 + columns.0))))
-  piece-touched y columns below some =
-      touched-piece y (record { first = columns.0; last = columns.1 }) below (some-touched (h.window.touched y) columns (sym (columns-of y) ∙ some))
+  pub piece-touched : (y : ℕ) (columns : Columns) → y < lines → touched_columns windows.window w y ≡ Some columns
+      → HasPiece (touched_cells windows.window w) windows.columns (place.0 + y) (place.1 + columns.first) (columns.last - columns.first + 1)
+      (λ u. cell_at windows.window w y (columns.first + (u - (place.1 + columns.first))))
+  piece-touched y columns below some = touched-piece y columns below (sym (columns-of y) ∙ some)
 
   -- they lie in the window, and so on the screen
-  pub touched-inside : (y : ℕ) (columns : ℕ × ℕ) → touched_columns windows.window w y ≡ Some columns → (columns.0 ≤ columns.1) × (place.1 + columns.1 < windows.columns)
+  pub touched-inside : (y : ℕ) (columns : Columns) → touched_columns windows.window w y ≡ Some columns → (columns.first ≤ columns.last) × (place.1 + columns.last < windows.columns)
   touched-inside y columns some =
-      let is : h.window.touched y ≡ Some (record { first = columns.0; last = columns.1 }) = some-touched (h.window.touched y) columns (sym (columns-of y) ∙ some) in
-      let within : (columns.0 ≤ columns.1) × (columns.1 < h.window.columns) = subst (λ (o : Option Columns). AreColumnsWithin h.window.columns o) is (h.touched y) in
+      let within : (columns.first ≤ columns.last) × (columns.last < h.window.columns) =
+      subst (λ (o : Option Columns). AreColumnsWithin h.window.columns o) (sym (columns-of y) ∙ some) (h.touched y) in
       let last = within.1 in
       let right = h.right in
       (within.0, omega (arith, last, right))

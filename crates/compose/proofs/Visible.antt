@@ -13,34 +13,24 @@ or-none : (a : Bool) → (a || false) ≡ a
 or-none true = refl
 or-none false = refl
 
-module _ (columns : ℕ) (P : ℕ → ℕ → ℕ → Bool) (L : ℕ → ℕ → Bool) (all : List ℕ) (old : List (Option Columns)) where
+module _ (columns : ℕ) (P : ℕ → ℕ → ℕ → Bool) (all : List ℕ) (old : List (Option Columns)) where
   -- all windows but these have damaged what they show
   pub record DamagedBut (rest : List ℕ) (now : List (Option Columns)) : Type 0 where
     pub places : ℕ → ℕ → Bool
-    pub named : ℕ → Bool
-    pub damages : Damages columns places named old now
-    pub covers : (y x : ℕ) → list_any (P y x) all ≡ true → (places y x || list_any (P y x) rest) ≡ true
-    pub few : (y : ℕ) → (named y || list_any (L y) rest) ≡ true → list_any (L y) all ≡ true
+    pub damages : Damages columns places old now
+    pub same : (y x : ℕ) → (places y x || list_any (P y x) rest) ≡ list_any (P y x) all
 
   pub damaged-none : DamagedBut all old
-  damaged-none = record {
-    places = λ y x. false;
-    named = λ y. false;
-    damages = damages-none columns (λ y x. false) (λ y. false) old (λ y x. refl);
-    covers = λ y x h. h;
-    few = λ y h. h;
-  }
+  damaged-none = record { places = λ y x. false; damages = damages-none columns (λ y x. false) old (λ y x below left. refl); same = λ y x. refl }
 
-  pub damaged-more : (u : ℕ) (rest : List ℕ) (now new : List (Option Columns)) → DamagedBut (u ∷ rest) now → Damages columns (λ y x. P y x u) (λ y. L y u) now new → DamagedBut rest new
+  pub damaged-more : (u : ℕ) (rest : List ℕ) (now new : List (Option Columns)) → DamagedBut (u ∷ rest) now → Damages columns (λ y x. P y x u) now new → DamagedBut rest new
   damaged-more u rest now new h more = record {
     places = λ y x. h.places y x || P y x u;
-    named = λ y. h.named y || L y u;
-    damages = damages-then columns h.places (λ y x. P y x u) h.named (λ y. L y u) old now new h.damages more;
-    covers = λ y x is. or-together (h.places y x) (P y x u) (list_any (P y x) rest) ∙ h.covers y x is;
-    few = λ y is. h.few y (sym (or-together (h.named y) (L y u) (list_any (L y) rest)) ∙ is);
+    damages = damages-then columns h.places (λ y x. P y x u) old now new h.damages more;
+    same = λ y x. or-together (h.places y x) (P y x u) (list_any (P y x) rest) ∙ h.same y x;
   }
 
-  pub damaged-all : (now : List (Option Columns)) → DamagedBut [] now → Damages columns (λ y x. list_any (P y x) all) (λ y. list_any (L y) all) old now
+  pub damaged-all : (now : List (Option Columns)) → DamagedBut [] now → Damages columns (λ y x. list_any (P y x) all) old now
   damaged-all now h =
-      damages-as columns h.places (λ y x. list_any (P y x) all) h.named (λ y. list_any (L y) all) old now h.damages
-      (λ y x below left is. sym (or-none (h.places y x)) ∙ h.covers y x is) (λ y is. h.few y (or-none (h.named y) ∙ is))
+      damages-as columns h.places (λ y x. list_any (P y x) all) old now h.damages (λ y x below left is. sym (or-none (h.places y x)) ∙ h.same y x ∙ is)
+      (λ y x left is. sym (h.same y x) ∙ or-none (h.places y x) ∙ is)

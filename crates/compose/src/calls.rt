@@ -6,20 +6,20 @@ ghost use Rattle.std.specs.Result.{result_err};
 ghost use Rattle.cell.specs.Refusals.{RefusedBy};
 ghost use Rattle.world.specs.Panels.{is_in_panel};
 ghost use Rattle.world.specs.Sound.{AreSoundPanels, AreSoundWindows};
-ghost use Rattle.world.specs.calls.Affected.{copied_window, copying_frame, frame_affects, making_affects, writing_frame, written_window};
+ghost use Rattle.world.specs.calls.Written.{copied_window, copying_frame, writing_frame, written_window};
 ghost use Rattle.world.specs.calls.Dispatch.{after_copying, after_making, after_writing, copying_refusal, copying_reply, makes_panel, makes_window, making_refusal, making_reply, stacking_refusal, stacking_reply, writing_refusal};
-ghost use Rattle.world.specs.calls.Places.{frame_shows_at, making_shows_at, panel_shows_at};
+ghost use Rattle.world.specs.calls.Affected.{frame_shows_at, making_shows_at, panel_shows_at};
 ghost use Rattle.world.specs.calls.Stacking.{panel_number};
 ghost use Rattle.grids.specs.Tables.{windows as windows_of};
 ghost use Rattle.stack.specs.Tables.{panels};
 ghost use Rattle.world.specs.declared.call.Reply.{Reply};
-ghost use Rattle.picture.specs.Parts.{IsFrameWithin, panel_has_line, part_has_line, part_holds};
+ghost use Rattle.picture.specs.Parts.{IsFrameWithin, part_holds};
 ghost use Rattle.picture.specs.Damages.{Damages};
-ghost use Rattle.compose.specs.steps.Changes.{panels_after, stacking_has_line, stacking_shows, windows_after};
+ghost use Rattle.compose.specs.steps.Changes.{panels_after, stacking_shows, windows_after};
 
 use crate::damaging::{damage_moved, damage_part, damage_written};
 use crate::dispatch::{arrange, changed_panel, copy, make, moved_window, named_panel, write};
-use cell::{Frame, Refusal};
+use cell::{Rect, Refusal};
 use grids::Grids;
 use picture::{Damage, panel_part};
 use stack::Stack;
@@ -39,7 +39,7 @@ pub(crate) fn make_damaging(
     ensures exact { makes_window making ≡ false → result_err result ≡ making_refusal (windows_of table.old) (is_in_panel (panels stack.now)) making }
     ensures reply { IfOk result (λ reply. reply ≡ making_reply (windows_of table.old) making) }
     ensures made { OnOk result (windows_of table.new ≡ after_making (windows_of table.old) making) }
-    ensures damaged { OnOk result (Damages table.old.columns (making_shows_at (windows_of table.old).window (panels stack.now) making) (making_affects (windows_of table.old).window (panels stack.now) making) damage.old damage.new) }
+    ensures damaged { OnOk result (Damages table.old.columns (making_shows_at (windows_of table.old).window (panels stack.now) making) damage.old damage.new) }
     ensures unchanged { OnErr result (table.new ≡ table.old) }
     ensures undamaged { OnErr result (damage.new ≡ damage.old) }
     ensures sound { AreSoundWindows (windows_of table.new) }
@@ -60,7 +60,7 @@ pub(crate) fn write_damaging(
     ensures refused { result_err result ≡ writing_refusal (windows_of windows.old.table) writing.entry }
     ensures reply { IfOk result (λ reply. reply ≡ Reply.Nothing) }
     ensures written { OnOk result (windows_of windows.new.table ≡ after_writing (windows_of windows.old.table) writing.entry) }
-    ensures damaged { OnOk result (Damages windows.old.table.columns (frame_shows_at (windows_of windows.old.table).window (panels stack.now) (written_window writing.entry) (writing_frame (windows_of windows.old.table) writing.entry)) (frame_affects (windows_of windows.old.table).window (panels stack.now) (written_window writing.entry) (writing_frame (windows_of windows.old.table) writing.entry)) damage.old damage.new) }
+    ensures damaged { OnOk result (Damages windows.old.table.columns (frame_shows_at (windows_of windows.old.table).window (panels stack.now) (written_window writing.entry) (writing_frame (windows_of windows.old.table) writing.entry)) damage.old damage.new) }
     ensures unchanged { OnErr result (windows.new.table ≡ windows.old.table) }
     ensures undamaged { OnErr result (damage.new ≡ damage.old) }
     ensures sound { AreSoundWindows (windows_of windows.new.table) }
@@ -81,7 +81,7 @@ pub(crate) fn copy_damaging(
     ensures refused { result_err result ≡ copying_refusal (windows_of windows.old.table) copying }
     ensures reply { IfOk result (λ reply. reply ≡ copying_reply (windows_of windows.old.table) copying) }
     ensures copied { OnOk result (windows_of windows.new.table ≡ after_copying (windows_of windows.old.table) copying) }
-    ensures damaged { OnOk result (Damages windows.old.table.columns (frame_shows_at (windows_of windows.old.table).window (panels stack.now) (copied_window copying) (copying_frame (windows_of windows.old.table) copying)) (frame_affects (windows_of windows.old.table).window (panels stack.now) (copied_window copying) (copying_frame (windows_of windows.old.table) copying)) damage.old damage.new) }
+    ensures damaged { OnOk result (Damages windows.old.table.columns (frame_shows_at (windows_of windows.old.table).window (panels stack.now) (copied_window copying) (copying_frame (windows_of windows.old.table) copying)) damage.old damage.new) }
     ensures unchanged { OnErr result (windows.new.table ≡ windows.old.table) }
     ensures undamaged { OnErr result (damage.new ≡ damage.old) }
     ensures sound { AreSoundWindows (windows_of windows.new.table) }
@@ -105,7 +105,7 @@ pub(crate) fn arrange_damaging(
     ensures reply { IfOk result (λ reply. reply ≡ stacking_reply (panels stack.old) stacking) }
     ensures windows { OnOk result (windows_of table.new ≡ windows_after (windows_of table.old) (panels stack.old) stacking) }
     ensures panels { OnOk result (panels stack.new ≡ panels_after (panels stack.old) stacking) }
-    ensures damaged { OnOk result (Damages table.old.columns (stacking_shows (windows_of table.old) (panels stack.old) stacking) (stacking_has_line (windows_of table.old) (panels stack.old) stacking) damage.old damage.new) }
+    ensures damaged { OnOk result (Damages table.old.columns (stacking_shows (windows_of table.old) (panels stack.old) stacking) damage.old damage.new) }
     ensures unchanged { OnErr result (table.new ≡ table.old) }
     ensures unordered { OnErr result (stack.new ≡ stack.old) }
     ensures undamaged { OnErr result (damage.new ≡ damage.old) }
@@ -121,10 +121,9 @@ pub(crate) fn arrange_damaging(
 }
 
 /// The rectangle of a panel's window on the screen, if there is the panel, and it is visible.
-fn part_of(table: &Grids, stack: &Stack, panel: Option<PanelId>) -> Option<Frame>
+fn part_of(table: &Grids, stack: &Stack, panel: Option<PanelId>) -> Option<Rect>
     requires { AreSoundPanels (windows_of table.now).window (panels stack.now) }
     ensures holds { (y x : ℕ) → part_holds result y x ≡ option_map_or (λ p. panel_shows_at (windows_of table.now).window (panels stack.now) p y x) (panel_number panel) false }
-    ensures lines { (y : ℕ) → part_has_line result y ≡ option_map_or (λ p. panel_has_line (windows_of table.now).window (panels stack.now) p y) (panel_number panel) false }
     ensures within { MatchOption result ⊤ (IsFrameWithin table.now.lines table.now.columns) }
 {
     panel_part(table, stack, panel?)

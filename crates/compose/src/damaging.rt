@@ -5,25 +5,24 @@ ghost use Rattle.std.specs.List.{list_any};
 ghost use Rattle.cell.specs.declared.limits.TheConstants.{LARGEST_SCREEN};
 ghost use Rattle.world.specs.Panels.{windows_from_top};
 ghost use Rattle.world.specs.Sound.{AreSoundPanels, AreSoundWindows};
-ghost use Rattle.world.specs.calls.Affected.{draws_on_line, frame_affects};
-ghost use Rattle.world.specs.calls.Places.{frame_shows_at};
+ghost use Rattle.world.specs.calls.Affected.{frame_shows_at};
 ghost use Rattle.world.specs.calls.Refresh.{touched_cells};
 ghost use Rattle.world.specs.calls.Queries.{place_on_screen};
 ghost use Rattle.grids.specs.Tables.{windows as windows_of};
 ghost use Rattle.stack.specs.Tables.{panels};
-ghost use Rattle.picture.specs.Parts.{IsFrameWithin, part_has_line, part_holds};
+ghost use Rattle.picture.specs.Parts.{IsFrameWithin, part_holds};
 ghost use Rattle.picture.specs.Damages.{Damages};
-ghost use Rattle.compose.specs.steps.Changes.{IsPossible, change_has_line, change_shows_at, moving_affects, moving_shows_at, window_number};
+ghost use Rattle.compose.specs.steps.Changes.{IsPossible, change_shows_at, moving_shows_at, window_number};
 
-use cell::{Frame, WinId};
+use cell::{Rect, WinId};
 use grids::Grids;
-use picture::{Damage, STANDARD, following_part, shared_part};
+use picture::{Damage, following_part, shared_part};
 use stack::Stack;
 
 /// What may change what windows show: a write in a rectangle of a window, or a derived window that is moved in its parent.
 #[derive(Clone, Copy)]
 pub enum Change {
-    Written { win: WinId, frame: Frame },
+    Written { win: WinId, frame: Rect },
     Moved { win: WinId },
 }
 
@@ -33,15 +32,15 @@ pub(crate) fn damage_written(
     table: &Grids,
     stack: &Stack,
     win: WinId,
-    frame: Option<Frame>,
+    frame: Option<Rect>,
 )
     requires height { length damage.old ≡ table.now.lines }
     requires inside { MatchOption frame ⊤ (λ r. IsPossible (windows_of table.now).window (Change.Written win r)) }
-    ensures damaged { Damages table.now.columns (frame_shows_at (windows_of table.now).window (panels stack.now) win.0 frame) (frame_affects (windows_of table.now).window (panels stack.now) win.0 frame) damage.old damage.new }
+    ensures damaged { Damages table.now.columns (frame_shows_at (windows_of table.now).window (panels stack.now) win.0 frame) damage.old damage.new }
 {
     if let Some(frame) = frame {
         let change = Change::Written { win, frame };
-        damage_change(damage, table, change, STANDARD);
+        damage_change(damage, table, change, WinId::STANDARD);
         damage_visible(damage, table, stack, change);
     }
 }
@@ -49,7 +48,7 @@ pub(crate) fn damage_written(
 /// Damages the windows of visible panels that show other cells once a window, if it is one, was moved in its parent.
 pub(crate) fn damage_moved(damage: &mut Damage, table: &Grids, stack: &Stack, win: Option<WinId>)
     requires height { length damage.old ≡ table.now.lines }
-    ensures damaged { Damages table.now.columns (moving_shows_at (windows_of table.now).window (panels stack.now) (window_number win)) (moving_affects (windows_of table.now).window (panels stack.now) (window_number win)) damage.old damage.new }
+    ensures damaged { Damages table.now.columns (moving_shows_at (windows_of table.now).window (panels stack.now) (window_number win)) damage.old damage.new }
 {
     if let Some(win) = win {
         damage_visible(damage, table, stack, Change::Moved { win });
@@ -60,7 +59,7 @@ pub(crate) fn damage_moved(damage: &mut Damage, table: &Grids, stack: &Stack, wi
 fn damage_visible(damage: &mut Damage, table: &Grids, stack: &Stack, change: Change)
     requires height { length damage.old ≡ table.now.lines }
     requires possible { IsPossible (windows_of table.now).window change }
-    ensures damaged { Damages table.now.columns (λ y x. list_any (change_shows_at (windows_of table.now).window change y x) (windows_from_top (panels stack.now))) (λ y. list_any (change_has_line (windows_of table.now).window change y) (windows_from_top (panels stack.now))) damage.old damage.new }
+    ensures damaged { Damages table.now.columns (λ y x. list_any (change_shows_at (windows_of table.now).window change y x) (windows_from_top (panels stack.now))) damage.old damage.new }
 {
     for panel in stack.visible_from_top() {
         if let Ok(u) = stack.window(panel) {
@@ -73,17 +72,16 @@ fn damage_visible(damage: &mut Damage, table: &Grids, stack: &Stack, change: Cha
 fn damage_change(damage: &mut Damage, table: &Grids, change: Change, u: WinId)
     requires height { length damage.old ≡ table.now.lines }
     requires possible { IsPossible (windows_of table.now).window change }
-    ensures damaged { Damages table.now.columns (λ y x. change_shows_at (windows_of table.now).window change y x u.0) (λ y. change_has_line (windows_of table.now).window change y u.0) damage.old damage.new }
+    ensures damaged { Damages table.now.columns (λ y x. change_shows_at (windows_of table.now).window change y x u.0) damage.old damage.new }
 {
-    prove!(table.has_window(STANDARD));
+    prove!(table.has_window(WinId::STANDARD));
     damage_part(damage, changed_part(table, change, u));
 }
 
 /// The rectangle of the screen on which window `u` shows something of a change.
-fn changed_part(table: &Grids, change: Change, u: WinId) -> Option<Frame>
+fn changed_part(table: &Grids, change: Change, u: WinId) -> Option<Rect>
     requires { IsPossible (windows_of table.now).window change }
-    ensures holds { (y x : ℕ) → change_shows_at (windows_of table.now).window change y x u.0 ≡ true → part_holds result y x ≡ true }
-    ensures lines { (y : ℕ) → part_has_line result y ≡ true → change_has_line (windows_of table.now).window change y u.0 ≡ true }
+    ensures holds { (y x : ℕ) → part_holds result y x ≡ change_shows_at (windows_of table.now).window change y x u.0 }
     ensures within { MatchOption result ⊤ (IsFrameWithin table.now.lines table.now.columns) }
 {
     match change {
@@ -93,10 +91,10 @@ fn changed_part(table: &Grids, change: Change, u: WinId) -> Option<Frame>
 }
 
 /// Damages a part of the screen, if there is one.
-pub(crate) fn damage_part(damage: &mut Damage, part: Option<Frame>)
+pub(crate) fn damage_part(damage: &mut Damage, part: Option<Rect>)
     requires few { length damage.old ≤ LARGEST_SCREEN }
     requires inside { MatchOption part ⊤ (λ r. IsFrameWithin (length damage.old) (r.right + 1) r) }
-    ensures damaged { (columns : ℕ) → MatchOption part ⊤ (λ r. r.right < columns) → Damages columns (part_holds part) (part_has_line part) damage.old damage.new }
+    ensures damaged { (columns : ℕ) → MatchOption part ⊤ (λ r. r.right < columns) → Damages columns (part_holds part) damage.old damage.new }
 {
     if let Some(frame) = part {
         damage.rectangle(frame);
@@ -108,18 +106,18 @@ pub(crate) fn damage_touched(damage: &mut Damage, table: &Grids, win: WinId, top
     requires height { length damage.old ≡ table.now.lines }
     requires windows { AreSoundWindows (windows_of table.now) }
     requires place { place_on_screen (windows_of table.now).window win.0 ≡ Some (top, left) }
-    ensures damaged { Damages table.now.columns (λ y x. is_some (touched_cells (windows_of table.now).window win.0 y x)) (draws_on_line table.now.columns (touched_cells (windows_of table.now).window win.0)) damage.old damage.new }
+    ensures damaged { Damages table.now.columns (λ y x. is_some (touched_cells (windows_of table.now).window win.0 y x)) damage.old damage.new }
 {
     let Ok((lines, _)) = table.getmaxyx(win) else {
         unreachable!();
     };
     for y in 0..lines {
-        if let Some((first, last)) = table.touched(win, y) {
-            damage.rectangle(Frame {
+        if let Some(columns) = table.touched(win, y) {
+            damage.rectangle(Rect {
                 top: top + y,
-                left: left + first,
+                left: left + columns.first,
                 bottom: top + y,
-                right: left + last,
+                right: left + columns.last,
             });
         }
     }

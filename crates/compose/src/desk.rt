@@ -1,6 +1,6 @@
 //! The windows and panels under a virtual screen.
 
-ghost use Rattle.std.specs.Prelude.{◌≡◌, ◌<◌, ◌≤◌, ◌==◌, ◌&&◌, ℕ, Ok, Some, IfOk, false, if◌then◌else◌, length, nat_le, nat_lt, slice_index_or};
+ghost use Rattle.std.specs.Prelude.{◌≡◌, ◌<◌, ◌≤◌, ◌-◌, ◌==◌, ◌&&◌, ℕ, Ok, Some, IfOk, false, if◌then◌else◌, length, nat_le, nat_lt, slice_index_or};
 ghost use Rattle.std.specs.Result.{result_err};
 ghost use Rattle.cell.specs.Pictures.{AreShown, HasSize, line_of, picture_of, shown_at};
 ghost use Rattle.cell.specs.Glyphs.{blank};
@@ -8,11 +8,13 @@ ghost use Rattle.cell.specs.Shown.{shown};
 ghost use Rattle.world.specs.Windows.{cell_at};
 ghost use Rattle.world.specs.Panels.{standard_screen};
 ghost use Rattle.world.specs.World.{first_world, picture};
-ghost use Rattle.world.specs.Sound.{AreSoundWindows, IsSound};
+ghost use Rattle.world.specs.Sound.{IsSound};
 ghost use Rattle.world.specs.calls.Making.{new_refusal};
 ghost use Rattle.cell.specs.Refusals.{RefusedBy};
-ghost use Rattle.world.specs.calls.Refresh.{after_update_panels, init_pair_refusal};
+ghost use Rattle.world.specs.calls.Refresh.{after_update_panels, among, init_pair_refusal};
 ghost use Rattle.grids.specs.Tables.{windows as windows_of};
+ghost use Rattle.stack.specs.Tables.{panels};
+ghost use Rattle.picture.specs.Spans.{IsSpan};
 ghost use Rattle.world.specs.declared.call.Call.{Call};
 ghost use Rattle.world.specs.declared.call.Refresh.{Refresh};
 ghost use Rattle.world.specs.calls.Dispatch.{is_doupdate};
@@ -23,9 +25,11 @@ use crate::calls::{copy_damaging, make_damaging, write_damaging};
 use crate::damaging::damage_part;
 use crate::dispatch::{query, refresh};
 use crate::marks::{clear_asked, unmark_composed};
-use cell::{Colour, Grid, PairId, Pairs, Refusal, Shown};
+use cell::{Colour, Grid, PairId, Pairs, Refusal, Shown, WinId};
 use grids::Grids;
-use picture::{Damage, STANDARD, cell_found, show_damaged, wanted_cursor, window_part};
+use picture::{
+    Damage, Lent, Span, cell_found, owner_span, show_damaged, wanted_cursor, window_part,
+};
 use stack::Stack;
 use std::alloc::Global;
 use std::marker::Model;
@@ -134,9 +138,10 @@ impl Desk {
     pub fn update_panels(&mut self) -> Composed
         ensures { Called self.old (Call.Refresh Refresh.UpdatePanels) (Ok (Reply.Composed result)) self.new }
     {
-        let (lines, _) = size_of_screen(&self.windows.table);
+        let (lines, _) = self.windows.table.screen_size();
+        let mut rows = Lent::of(&self.windows.table);
         let cells = show_damaged(
-            &self.windows.table,
+            &mut rows,
             &self.stack,
             &self.pairs,
             lines,
@@ -152,7 +157,8 @@ impl Desk {
     /// The damaged columns of a line, or none: everywhere else the virtual screen shows what the search from the top finds.
     pub fn damaged(&self, y: u16) -> Option<Columns>
         requires { y < self.now.windows.lines }
-        ensures { result ≡ damaged_columns self.now y }
+        ensures columns { result ≡ damaged_columns self.now y }
+        ensures shown { (x : ℕ) → x < self.now.windows.columns → among result x ≡ false → shown_at self.now.virtual.picture (y, x) ≡ picture (world self.now) y x }
     {
         self.damage.line(y)
     }
@@ -172,7 +178,7 @@ impl Desk {
         let (at, foreground, background) = colours_for(pair, foreground, background)?;
         self.pairs.set(at, foreground, background);
         prove!(self.pairs.is_sound());
-        let part = window_part(&self.windows.table, STANDARD);
+        let part = window_part(&self.windows.table, WinId::STANDARD);
         damage_part(&mut self.damage, part);
         Ok(Reply::Nothing)
     }
@@ -194,12 +200,24 @@ impl Desk {
         self.pairs.shown(cell_found(&self.windows.table, &self.stack, y, x, columns))
     }
 
+    /// The panel that the search from the top finds at line `y` and column `x` of the screen, none for the standard screen, and the last
+    /// column up to which it finds the same at every column.
+    pub fn owner_span(&self, y: u16, x: u16) -> Span
+        requires line { y < self.now.windows.lines }
+        requires column { x < self.now.windows.columns }
+        ensures { IsSpan (windows_of self.now.windows).window (panels self.now.panels) y x (self.now.windows.columns - 1) result }
+    {
+        let (_, columns) = self.size();
+        let rows = Lent::of(&self.windows.table);
+        owner_span(&rows, &self.stack, y, x, columns - 1)
+    }
+
     /// How many lines and columns the screen has.
     pub fn size(&self) -> (u16, u16)
         ensures size { result ≡ (self.now.windows.lines, self.now.windows.columns) }
         ensures sound { IsSound (world self.now) }
     {
-        size_of_screen(&self.windows.table)
+        self.windows.table.screen_size()
     }
 
     /// The cells of a line of the virtual screen.
@@ -238,17 +256,6 @@ impl Desk {
         ensures { self.new ≡ record self.old { virtual = record self.old.virtual { clear = false } } }
     {
         self.clear = false;
-    }
-}
-
-/// How many lines and columns the standard screen has.
-pub(crate) fn size_of_screen(table: &Grids) -> (u16, u16)
-    requires { AreSoundWindows (windows_of table.now) }
-    ensures { result ≡ (table.now.lines, table.now.columns) }
-{
-    match table.getmaxyx(STANDARD) {
-        Ok(size) => size,
-        Err(_) => unreachable!(),
     }
 }
 

@@ -3,15 +3,13 @@
 ghost use Rattle.std.specs.Prelude.{◌≡◌, IfOk, OnErr, OnOk, None, false};
 ghost use Rattle.std.specs.Result.{result_err};
 ghost use Rattle.cell.specs.Refusals.{RefusedBy};
-ghost use Rattle.world.specs.Panels.{is_in_panel};
+ghost use Rattle.world.specs.Panels.{is_in_panel, Panels};
 ghost use Rattle.world.specs.Sound.{AreSoundPanels, AreSoundWindows};
 ghost use Rattle.grids.specs.Tables.{windows as windows_of};
 ghost use Rattle.stack.specs.Tables.{panels};
-ghost use Rattle.world.specs.calls.Dispatch.{after_copying, after_making, after_stacking, after_writing, copying_refusal, copying_reply, makes_panel, makes_window, making_refusal, making_reply, query_refusal, query_reply, stacking_refusal, stacking_reply, writing_refusal};
-ghost use Rattle.world.specs.calls.Dispatch.{is_doupdate};
+ghost use Rattle.world.specs.calls.Dispatch.{after_copying, after_making, after_stacking, after_writing, copying_refusal, copying_reply, makes_panel, makes_window, making_refusal, making_reply, query_refusal, query_reply, stacking_refusal, stacking_reply, writing_refusal, is_doupdate};
 ghost use Rattle.world.specs.declared.call.Call.{Call};
-ghost use Rattle.world.specs.Panels.{Panels};
-ghost use Rattle.world.specs.calls.Affected.{changed_panel, copied_window, copying_frame, writing_frame, written_window};
+ghost use Rattle.world.specs.calls.Written.{changed_panel, copied_window, copying_frame, writing_frame, written_window};
 ghost use Rattle.world.specs.calls.Stacking.{panel_number};
 ghost use Rattle.compose.specs.steps.Changes.{moved_window, named_panel, panels_after, window_number, windows_after};
 ghost use Rattle.compose.specs.Calling.{Called};
@@ -19,9 +17,8 @@ ghost use Rattle.compose.specs.Desks.{world};
 
 use crate::desk::Desk;
 use crate::panels::{delete_window, move_panel, move_window, new_panel, replace_panel};
-use cell::{Frame, Refusal, WinId};
+use cell::{Rect, Refusal, WinId};
 use grids::Grids;
-use picture::STANDARD;
 use stack::Stack;
 use windows::Windows;
 use world::{Copying, Making, PanelId, Query, Refresh, Reply, Stacking, Writing};
@@ -70,7 +67,7 @@ pub(crate) fn moved_window(making: Making) -> Option<WinId>
 pub struct Wrote {
     pub reply: Reply,
     pub win: WinId,
-    pub frame: Option<Frame>,
+    pub frame: Option<Rect>,
 }
 
 /// Makes a call of the table of writing.
@@ -163,7 +160,7 @@ pub(crate) fn arrange(table: &mut Grids, stack: &mut Stack, stacking: Stacking) 
     ensures sound { AreSoundWindows (windows_of table.new) }
     ensures sound_panels { AreSoundPanels (windows_of table.new).window (panels stack.new) }
 {
-    prove!(table.has_window(STANDARD));
+    prove!(table.has_window(WinId::STANDARD));
     match stacking {
         Stacking::NewPanel { win } => panel(Some(new_panel(table, stack, win)?)),
         Stacking::DelPanel { panel } => nothing(stack.del(panel)?),
@@ -230,7 +227,7 @@ fn nothing<T: Copy>(_answer: T) -> Result<Reply, Refusal>
 }
 
 /// What came of a call that drew in a window.
-fn drew(win: WinId, frame: Option<Frame>) -> Result<Wrote, Refusal>
+fn drew(win: WinId, frame: Option<Rect>) -> Result<Wrote, Refusal>
     ensures { result ≡ Ok (record { reply = Reply.Nothing; win = win; frame = frame }) }
 {
     Ok(Wrote {

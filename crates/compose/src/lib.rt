@@ -11,4 +11,4 @@ mod panels;
 mod refresh;
 
 pub use desk::Desk;
-pub use picture::{Rows, compose_row};
+pub use picture::{Rows, Span, compose_row};

@@ -10,7 +10,6 @@ ghost use Rattle.stack.specs.Tables.{panels};
 
 use cell::WinId;
 use grids::Grids;
-use picture::STANDARD;
 use stack::Stack;
 
 /// Whether the standard screen or a visible panel's window asks for a clear screen.
@@ -24,7 +23,7 @@ pub(crate) fn clear_asked(table: &Grids, stack: &Stack) -> bool
             }
         }
     }
-    asks(table, STANDARD)
+    asks(table, WinId::STANDARD)
 }
 
 /// Takes the marks and clear flags of the standard screen and of the windows of visible panels away.
@@ -32,7 +31,7 @@ pub(crate) fn unmark_composed(table: &mut Grids, stack: &Stack)
     ensures unmarked { windows_of table.new ≡ record (windows_of table.old) { window = with_unmarked (windows_of table.old).window (standard_screen ∷ windows_from_top (panels stack.now)) } }
     ensures sound { AreSoundWindows (windows_of table.new) }
 {
-    unmark(table, STANDARD);
+    unmark(table, WinId::STANDARD);
     for panel in stack.visible_from_top() {
         if let Ok(win) = stack.window(panel) {
             unmark(table, win);

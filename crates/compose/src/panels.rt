@@ -12,7 +12,6 @@ ghost use Rattle.stack.specs.Tables.{panels};
 
 use cell::{Refusal, WinId};
 use grids::Grids;
-use picture::STANDARD;
 use stack::Stack;
 use world::PanelId;
 
@@ -70,7 +69,7 @@ pub(crate) fn move_panel(
     ensures unchanged { OnErr result (table.new ≡ table.old) }
     ensures sound { AreSoundWindows (windows_of table.new) }
 {
-    prove!(table.has_window(STANDARD));
+    prove!(table.has_window(WinId::STANDARD));
     let win = stack.window(panel)?;
     table.mvwin(win, y, x)
 }
@@ -92,7 +91,7 @@ pub(crate) fn move_window(
     ensures unchanged { OnErr result (table.new ≡ table.old) }
     ensures sound { AreSoundWindows (windows_of table.new) }
 {
-    prove!(table.has_window(STANDARD));
+    prove!(table.has_window(WinId::STANDARD));
     if stack.panel_of(win).is_some() {
         return Err(Refusal::InPanel);
     }
@@ -110,7 +109,7 @@ pub(crate) fn delete_window(table: &mut Grids, stack: &Stack, win: WinId) -> Res
     ensures unchanged { OnErr result (table.new ≡ table.old) }
     ensures sound { AreSoundWindows (windows_of table.new) }
 {
-    prove!(table.has_window(STANDARD));
+    prove!(table.has_window(WinId::STANDARD));
     if stack.panel_of(win).is_some() {
         return Err(Refusal::InPanel);
     }
@@ -124,7 +123,7 @@ fn require_window(table: &Grids, win: WinId) -> Result<(), Refusal>
     if !table.has_window(win) {
         return Err(Refusal::NoSuchWindow);
     }
-    if win == STANDARD {
+    if win == WinId::STANDARD {
         return Err(Refusal::StandardScreen);
     }
     table.getbegyx(win)?;

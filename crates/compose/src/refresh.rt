@@ -18,11 +18,11 @@ ghost use Rattle.compose.specs.Calling.{DamagesFew};
 ghost use Rattle.compose.specs.Desks.{world};
 
 use crate::damaging::{damage_part, damage_touched};
-use crate::desk::{Desk, size_of_screen};
+use crate::desk::Desk;
 use crate::marks::asks;
-use cell::{Frame, Grid, Pairs, Refusal, Shown, WinId};
-use grids::Grids;
-use picture::{Source, cursor_on_screen, show_piece};
+use cell::{Grid, Pairs, Rect, Refusal, Shown, WinId};
+use grids::{Grids, Place};
+use picture::{cursor_on_screen, show_piece};
 use windows::Windows;
 
 impl Desk {
@@ -76,12 +76,12 @@ impl Desk {
         ensures damaged { OnOk result (DamagesFew self.old (Call.Refresh (Refresh.Pnoutrefresh pad pminrow pmincol sminrow smincol smaxrow smaxcol)) self.new) }
         ensures unchanged { OnErr result (self.new ≡ self.old) }
     {
-        let source = Source {
+        let source = Place {
             win: pad,
             line: pminrow,
             column: pmincol,
         };
-        let frame = Frame {
+        let frame = Rect {
             top: sminrow,
             left: smincol,
             bottom: smaxrow,
@@ -121,19 +121,19 @@ fn show_touched(
         unreachable!();
     };
     for y in 0..lines {
-        if let Some((first, last)) = table.touched(win, y) {
-            let source = Source {
+        if let Some(columns) = table.touched(win, y) {
+            let source = Place {
                 win,
                 line: y,
-                column: first,
+                column: columns.first,
             };
             show_piece(
                 table,
                 pairs,
                 source,
-                last - first + 1,
+                columns.last - columns.first + 1,
                 top + y,
-                left + first,
+                left + columns.first,
                 picture,
             );
         }
@@ -146,8 +146,8 @@ fn show_touched(
 fn show_rectangle(
     table: &Grids,
     pairs: &Pairs,
-    source: Source,
-    frame: Frame,
+    source: Place,
+    frame: Rect,
     picture: &mut Grid<Shown>,
 )
     requires windows { AreSoundWindows (windows_of table.now) }
@@ -158,7 +158,7 @@ fn show_rectangle(
 {
     let columns = frame.right - frame.left + 1;
     for y in 0..frame.bottom - frame.top + 1 {
-        let line = Source {
+        let line = Place {
             line: source.line + y,
             ..source
         };
@@ -176,7 +176,7 @@ fn show_rectangle(
 }
 
 /// Tests that a rectangle of a pad may be laid over these lines and columns of the screen.
-fn require_rectangle(table: &Grids, source: Source, frame: Frame) -> Result<(), Refusal>
+fn require_rectangle(table: &Grids, source: Place, frame: Rect) -> Result<(), Refusal>
     requires { AreSoundWindows (windows_of table.now) }
     ensures { result_err result ≡ pnoutrefresh_refusal (windows_of table.now) source.win.0 source.line source.column frame.top frame.left frame.bottom frame.right }
 {
@@ -192,7 +192,7 @@ fn require_rectangle(table: &Grids, source: Source, frame: Frame) -> Result<(), 
     if bottom >= u32::from(lines) || right >= u32::from(columns) {
         return Err(Refusal::OutsideWindow);
     }
-    let (lines, columns) = size_of_screen(table);
+    let (lines, columns) = table.screen_size();
     if frame.bottom >= lines || frame.right >= columns {
         return Err(Refusal::OffScreen);
     }

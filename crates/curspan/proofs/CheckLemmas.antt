@@ -19,10 +19,10 @@ use Rattle.script.specs.declared.bytes.LineEnd.TheVariants.{Newline, ScriptEnd, 
 use Rattle.script.specs.declared.fault.TextFault.TheVariants.{LineTooLong}
 use Rattle.script.specs.declared.limits.TheConstants.{LONGEST_LINE}
 use Rattle.script.specs.steps.Bytes.{EndsLine, HasNoNewline, IsKept, ReadingEnds, ReadsToEnd, end_failed, has_newline, met_end}
-use Rattle.curspan.specs.Checks.{count_line, count_of, report, told, told_from, told_of, told_of_rest}
+use Rattle.curspan.specs.Checks.{count_line, count_of, report, findings, findings_from, finding_of, finding_of_rest}
 use Rattle.curspan.specs.Written.{IsNotWritten, WritingEnds}
 use Rattle.curspan.specs.declared.check.Report.{Report}
-use Rattle.curspan.specs.steps.Checking.{IsReported, ReportsMore, ReportsScript, told_of_read}
+use Rattle.curspan.specs.steps.Checking.{IsReported, ReportsMore, ReportsScript, finding_of_read}
 use Rattle.curspan.specs.steps.Putting.{PuttingEnds}
 use Rattle.curspan.proofs.PutLemmas.{cut_before, not_put, nothing_put, put_behind}
 
@@ -67,15 +67,15 @@ no_newlines : (line : List ℕ) → HasNoNewline line → All (λ b. is_newline 
 no_newlines line h = λ k d lt. false_from_ne_true _ (λ e. both_ways _ h (list_any_at is_newline line k d lt e))
 
 line_first : (failed : Bool) (n : ℕ) (line : List ℕ) (pieces : List (List ℕ)) → 0 < length pieces
-    → told_from failed n (line ∷ pieces) ≡ told_of n line (said_by_line line) ++ told_from failed (next_number n) pieces
+    → findings_from failed n (line ∷ pieces) ≡ finding_of n line (said_by_line line) ++ findings_from failed (next_number n) pieces
 line_first failed n line [] some = absurd (omega arith)
 line_first true n line (p ∷ ps) some = refl
 line_first false n line (p ∷ ps) some = refl
 
 line_of_script : (failed : Bool) (n : ℕ) (line left : List ℕ) → HasNoNewline line
-    → told_from failed n (slice_split is_newline (line ++ 10 ∷ left)) ≡ told_of n line (said_by_line line) ++ told_from failed (next_number n) (slice_split is_newline left)
+    → findings_from failed n (slice_split is_newline (line ++ 10 ∷ left)) ≡ finding_of n line (said_by_line line) ++ findings_from failed (next_number n) (slice_split is_newline left)
 line_of_script failed n line left h =
-    ap (told_from failed n) (slice_split_at is_newline line 10 left (no_newlines line h) refl)
+    ap (findings_from failed n) (slice_split_at is_newline line 10 left (no_newlines line h) refl)
     ∙ line_first failed n line (slice_split is_newline left) (omega (arith, length-slice_split is_newline left))
 
 long_test : (line : List ℕ) → LONGEST_LINE < length line → nat_lt LONGEST_LINE (length line) ≡ true
@@ -89,13 +89,13 @@ long_line line h = rw (long_test line h) refl
 
 -- what is told of a line, kept or not, is what it says
 told_is : (n : ℕ) (line kept : List ℕ) (is_kept : Bool) (end : LineEnd) → IsKept is_kept line kept → end_failed end ≡ false
-    → told_of_read n kept is_kept end ≡ told_of n line (said_by_line line)
-told_is n line kept true Newline k e = ap (λ l. told_of n l (said_by_line l)) k.0
-told_is n line kept true ScriptEnd k e = ap (λ l. told_of n l (said_by_line l)) k.0
+    → finding_of_read n kept is_kept end ≡ finding_of n line (said_by_line line)
+told_is n line kept true Newline k e = ap (λ l. finding_of n l (said_by_line l)) k.0
+told_is n line kept true ScriptEnd k e = ap (λ l. finding_of n l (said_by_line l)) k.0
 told_is n line kept is_kept ReadFailed k e = cc
-told_is n line kept false end k e = sym (ap (told_of n line) (long_line line k))
+told_is n line kept false end k e = sym (ap (finding_of n line) (long_line line k))
 
-told_is_rest : (n : ℕ) (line kept : List ℕ) (is_kept : Bool) → IsKept is_kept line kept → told_of_read n kept is_kept ReadFailed ≡ told_of_rest n line
+told_is_rest : (n : ℕ) (line kept : List ℕ) (is_kept : Bool) → IsKept is_kept line kept → finding_of_read n kept is_kept ReadFailed ≡ finding_of_rest n line
 told_is_rest n line kept true k = rw (short_test line k.1) refl
 told_is_rest n line kept false k = rw (long_test line k) refl
 
@@ -108,7 +108,7 @@ pub record Checking (input rest : SourceSeen) (out after : Seen) (unused : List 
   pub read_once : input.met_end ≡ false → rest.read_past_end ≡ input.read_past_end
   pub failures : rest.failures ≡ input.failures
   pub reported : IsReported out after report lines
-  pub says : (failed : Bool) (more : List ℕ) → told failed (text ++ more) ≡ lines ++ told_from failed number (slice_split is_newline (unused ++ more))
+  pub says : (failed : Bool) (more : List ℕ) → findings failed (text ++ more) ≡ lines ++ findings_from failed number (slice_split is_newline (unused ++ more))
 
 pub checking_none : (input : SourceSeen) (out : Seen) (unused : List ℕ) (report : Report) → unused ≡ [] → report.is_written ≡ true → report.faulty ≡ 0
     → Checking input input out out unused 1 report
@@ -135,24 +135,24 @@ newline_ends ReadFailed all line left e h = cc
 pub checking_next : (input r1 r2 : SourceSeen) (out o1 o2 : Seen) (unused left kept : List ℕ) (n : ℕ) (before after : Report) (is_kept : Bool) (end : LineEnd)
     → Checking input r1 out o1 unused n before → (r : ReadsToEnd r1 r2 unused left end) → IsKept is_kept r.line kept → end ≡ Newline
     → LineReadingEnds r1 r2 unused left end
-    → ReportsMore o1 o2 before after (told_of_read n kept is_kept end) → Checking input r2 out o2 left (next_number n) after
+    → ReportsMore o1 o2 before after (finding_of_read n kept is_kept end) → Checking input r2 out o2 left (next_number n) after
 checking_next input r1 r2 out o1 o2 unused left kept n before after is_kept end s r k is reading more =
     let all = newline_ends end (unused ++ r.bytes) r.line left is r.ends in
     let same = told_is n r.line kept is_kept end k (ap end_failed is) in
     record {
       text = s.text ++ r.bytes;
-      lines = s.lines ++ told_of_read n kept is_kept end;
+      lines = s.lines ++ finding_of_read n kept is_kept end;
       read = Consumes-trans _ _ _ _ _ s.read r.read;
       met = reading.ended ∙ ap (λ e. met_end e || r1.met_end) is ∙ s.met;
       read_once = λ unmet. reading.past (s.met ∙ unmet) ∙ s.read_once unmet;
       failures = reading.failures ∙ ap (λ e. counted (end_failed e) r1.failures) is ∙ s.failures;
       reported = more out s.lines s.reported;
       says = λ failed m.
-          ap (told failed) (append_assoc s.text r.bytes m) ∙ s.says failed (r.bytes ++ m)
-          ∙ ap (λ l. s.lines ++ told_from failed n (slice_split is_newline l)) (sym (append_assoc unused r.bytes m) ∙ ap (λ l. l ++ m) all ∙ append_assoc r.line (10 ∷ left) m)
+          ap (findings failed) (append_assoc s.text r.bytes m) ∙ s.says failed (r.bytes ++ m)
+          ∙ ap (λ l. s.lines ++ findings_from failed n (slice_split is_newline l)) (sym (append_assoc unused r.bytes m) ∙ ap (λ l. l ++ m) all ∙ append_assoc r.line (10 ∷ left) m)
           ∙ ap (λ l. s.lines ++ l) (line_of_script failed n r.line (left ++ m) r.no_newline)
-          ∙ ap (λ l. s.lines ++ (l ++ told_from failed (next_number n) (slice_split is_newline (left ++ m)))) (sym same)
-          ∙ sym (append_assoc s.lines (told_of_read n kept is_kept end) (told_from failed (next_number n) (slice_split is_newline (left ++ m))));
+          ∙ ap (λ l. s.lines ++ (l ++ findings_from failed (next_number n) (slice_split is_newline (left ++ m)))) (sym same)
+          ∙ sym (append_assoc s.lines (finding_of_read n kept is_kept end) (findings_from failed (next_number n) (slice_split is_newline (left ++ m))));
     }
 
 end_is_all : (end : LineEnd) (all line left : List ℕ) → end ≡ ScriptEnd → EndsLine end all line left → all ≡ line
@@ -168,14 +168,14 @@ failed_is_all ReadFailed all line left e h = h.0
 pub checked_all : (input r1 r2 : SourceSeen) (out o1 o2 : Seen) (unused left kept : List ℕ) (n : ℕ) (before after : Report) (is_kept : Bool) (end : LineEnd)
     → Checking input r1 out o1 unused n before → (r : ReadsToEnd r1 r2 unused left end) → IsKept is_kept r.line kept → end ≡ ScriptEnd
     → LineReadingEnds r1 r2 unused left end
-    → ReportsMore o1 o2 before after (told_of_read n kept is_kept end) → ReportsScript input r2 out o2 true after
+    → ReportsMore o1 o2 before after (finding_of_read n kept is_kept end) → ReportsScript input r2 out o2 true after
 checked_all input r1 r2 out o1 o2 unused left kept n before after is_kept end s r k is reading more =
     let all = end_is_all end (unused ++ r.bytes) r.line left is r.ends in
-    let says : told false (s.text ++ r.bytes) ≡ s.lines ++ told_of_read n kept is_kept end =
+    let says : findings false (s.text ++ r.bytes) ≡ s.lines ++ finding_of_read n kept is_kept end =
     s.says false r.bytes
-    ∙ ap (λ l. s.lines ++ told_from false n (slice_split is_newline l)) all
-    ∙ ap (λ ps. s.lines ++ told_from false n ps) (slice_split_none is_newline r.line (no_newlines r.line r.no_newline))
-    ∙ ap (λ l. s.lines ++ l) (append-nil (told_of n r.line (said_by_line r.line)) ∙ sym (told_is n r.line kept is_kept end k (ap end_failed is))) in
+    ∙ ap (λ l. s.lines ++ findings_from false n (slice_split is_newline l)) all
+    ∙ ap (λ ps. s.lines ++ findings_from false n ps) (slice_split_none is_newline r.line (no_newlines r.line r.no_newline))
+    ∙ ap (λ l. s.lines ++ l) (append-nil (finding_of n r.line (said_by_line r.line)) ∙ sym (told_is n r.line kept is_kept end k (ap end_failed is))) in
     record {
       text = s.text ++ r.bytes;
       reads = record {
@@ -190,14 +190,14 @@ checked_all input r1 r2 out o1 o2 unused left kept n before after is_kept end s 
 pub checked_front : (input r1 r2 : SourceSeen) (out o1 o2 : Seen) (unused left kept : List ℕ) (n : ℕ) (before after : Report) (is_kept : Bool) (end : LineEnd)
     → Checking input r1 out o1 unused n before → (r : ReadsToEnd r1 r2 unused left end) → IsKept is_kept r.line kept → end ≡ ReadFailed
     → LineReadingEnds r1 r2 unused left end
-    → ReportsMore o1 o2 before after (told_of_read n kept is_kept end) → ReportsScript input r2 out o2 false after
+    → ReportsMore o1 o2 before after (finding_of_read n kept is_kept end) → ReportsScript input r2 out o2 false after
 checked_front input r1 r2 out o1 o2 unused left kept n before after is_kept end s r k is reading more =
     let all = failed_is_all end (unused ++ r.bytes) r.line left is r.ends in
-    let says : told true (s.text ++ r.bytes) ≡ s.lines ++ told_of_read n kept is_kept end =
+    let says : findings true (s.text ++ r.bytes) ≡ s.lines ++ finding_of_read n kept is_kept end =
     s.says true r.bytes
-    ∙ ap (λ l. s.lines ++ told_from true n (slice_split is_newline l)) all
-    ∙ ap (λ ps. s.lines ++ told_from true n ps) (slice_split_none is_newline r.line (no_newlines r.line r.no_newline))
-    ∙ ap (λ l. s.lines ++ l) (sym (told_is_rest n r.line kept is_kept k) ∙ ap (told_of_read n kept is_kept) (sym is)) in
+    ∙ ap (λ l. s.lines ++ findings_from true n (slice_split is_newline l)) all
+    ∙ ap (λ ps. s.lines ++ findings_from true n ps) (slice_split_none is_newline r.line (no_newlines r.line r.no_newline))
+    ∙ ap (λ l. s.lines ++ l) (sym (told_is_rest n r.line kept is_kept k) ∙ ap (finding_of_read n kept is_kept) (sym is)) in
     record {
       text = s.text ++ r.bytes;
       reads = record {

@@ -2,6 +2,7 @@ pub mod Examples
 pub mod JobLemmas
 pub mod KeptRows
 pub mod PutLemmas
+pub mod SpelledLemmas
 pub mod KindIsNamed
 pub mod TakenLemmas
 pub mod PrintLemmas

@@ -18,23 +18,23 @@ use Rattle.curspan.specs.Written.{IsNotWritten, IsTold, IsWritten, Outputs}
 -- ---- which lines are told
 
 -- the line that tells of what a line says, if that is a fault
-abbrev pub told_of : ℕ → List ℕ → Result (Option Call) TextFault → List (List ℕ)
-told_of number line (Ok call) = []
-told_of number line (Err fault) = finding number fault line ∷ []
+abbrev pub finding_of : ℕ → List ℕ → Result (Option Call) TextFault → List (List ℕ)
+finding_of number line (Ok call) = []
+finding_of number line (Err fault) = finding number fault line ∷ []
 
 -- The bytes behind the last newline, where a read failed behind them: they are no line, unless they are too many.
-abbrev pub told_of_rest : ℕ → List ℕ → List (List ℕ)
-told_of_rest number rest = if nat_lt LONGEST_LINE (length rest) then finding number LineTooLong rest ∷ [] else []
+abbrev pub finding_of_rest : ℕ → List ℕ → List (List ℕ)
+finding_of_rest number rest = if nat_lt LONGEST_LINE (length rest) then finding number LineTooLong rest ∷ [] else []
 
 -- what is told of lines from a number on
-abbrev pub told_from : Bool → ℕ → List (List ℕ) → List (List ℕ)
-told_from failed n [] = []
-told_from true n (rest ∷ []) = told_of_rest n rest
-told_from failed n (line ∷ lines) = told_of n line (said_by_line line) ++ told_from failed (next_number n) lines
+abbrev pub findings_from : Bool → ℕ → List (List ℕ) → List (List ℕ)
+findings_from failed n [] = []
+findings_from true n (rest ∷ []) = finding_of_rest n rest
+findings_from failed n (line ∷ lines) = finding_of n line (said_by_line line) ++ findings_from failed (next_number n) lines
 
 -- A line for each faulty line of a script whose bytes these are. A read failed behind them, or they are all.
-abbrev pub told : Bool → List ℕ → List (List ℕ)
-told failed text = told_from failed 1 (slice_split is_newline text)
+abbrev pub findings : Bool → List ℕ → List (List ℕ)
+findings failed text = findings_from failed 1 (slice_split is_newline text)
 
 -- ---- what is written
 
@@ -65,4 +65,4 @@ pub record Checks (input rest : SourceSeen) (old new : Outputs) (status : ℕ) :
   pub text : List ℕ
   pub is_whole : Bool
   pub reads : ReadsStream input rest is_whole text
-  pub ends : Reports is_whole (told (not is_whole) text) old new status
+  pub ends : Reports is_whole (findings (not is_whole) text) old new status

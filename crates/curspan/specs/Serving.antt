@@ -21,6 +21,7 @@ use Rattle.curspan.specs.Checks.{Checks}
 use Rattle.curspan.specs.CommandLine.{Asks, AsksCheck, curspan}
 use Rattle.curspan.specs.Printing.{printed_picture}
 use Rattle.curspan.specs.Shows.{Shows}
+use Rattle.curspan.specs.Spelled.{spelled}
 use Rattle.curspan.specs.Statuses.{status_of}
 use Rattle.curspan.specs.Written.{IsNotWritten, IsTold, IsWritten, Outputs}
 use Rattle.curspan.specs.declared.asked.Job.{Job}
@@ -50,9 +51,9 @@ ShowsText text old new status =
 abbrev pub ShowsHelp : Outputs → Outputs → ℕ → Type 0
 ShowsHelp old new status = (text : List ℕ) × ShowsText text old new status
 
--- A usage fault is told on the log, by a text of clap's, and nothing went to the output.
+-- A usage fault is told on the log, by the spelling of a text of clap's, and nothing went to the output.
 abbrev pub TellsUsage : Outputs → Outputs → ℕ → Type 0
-TellsUsage old new status = (text : List ℕ) × (status ≡ 2) × (new.output ≡ old.output) × IsTold old.log new.log text
+TellsUsage old new status = (text : List ℕ) × (status ≡ 2) × (new.output ≡ old.output) × IsTold old.log new.log (spelled text)
 
 -- What is said of an error of that kind. There may be no memory for its text.
 abbrev pub Explains : ErrorKind → Outputs → Outputs → ℕ → Type 0

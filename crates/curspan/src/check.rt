@@ -3,16 +3,16 @@
 ghost use Rattle.std.specs.Prelude.{◌≡◌, ◌≤◌, ◌<◌, ◌∷◌, [], length};
 ghost use Rattle.std.specs.Option.{option_map_or};
 ghost use Rattle.script.specs.Readings.{said_by_line};
-ghost use Rattle.curspan.specs.Checks.{Checks, count_line, told_of};
+ghost use Rattle.curspan.specs.Checks.{Checks, count_line, finding_of};
 ghost use Rattle.curspan.specs.Written.{outputs};
-ghost use Rattle.curspan.specs.steps.Checking.{EndsReport, ReportsMore, ReportsScript, told_of_read};
+ghost use Rattle.curspan.specs.steps.Checking.{EndsReport, ReportsMore, ReportsScript, finding_of_read};
 
 use crate::put::{put, write_out};
-use crate::status::{ACCEPTED, BAD_TEXT, failed};
+use crate::status::{ACCEPTED, BAD_TEXT, tell_failure};
 use arrayvec::ArrayVec;
 use desk::{ScriptFault, Sink, Source};
 use explain::{Finding, finding};
-use script::{Arguments, Bytes, LONGEST_LINE, LineEnd, TextFault, WholeLine, read_line};
+use script::{Arguments, Bytes, LONGEST_LINE, LineEnd, TextFault, read_line};
 use streams::{append, append_decimal};
 
 /// Room for the line on how many lines are faulty: a number, and 14 bytes more.
@@ -36,9 +36,9 @@ struct Checked {
 }
 
 /// The line that tells of a line's fault, if it has one.
-fn told_of(number: u64, line: &[u8], taken: &mut Arguments) -> Option<Finding>
+fn finding_of(number: u64, line: &[u8], taken: &mut Arguments) -> Option<Finding>
     requires { length line.now ≤ LONGEST_LINE }
-    ensures { told_of number line.now (said_by_line line.now) ≡ option_map_or (λ text. text.items ∷ []) result [] }
+    ensures { finding_of number line.now (said_by_line line.now) ≡ option_map_or (λ text. text.items ∷ []) result [] }
 {
     match read_line(line, taken) {
         Ok(_) => None,
@@ -47,21 +47,22 @@ fn told_of(number: u64, line: &[u8], taken: &mut Arguments) -> Option<Finding>
 }
 
 /// The same of a line as it was read: it may be too long, or end where a read failed.
-fn told_of_read(
+fn finding_of_read(
     number: u64,
-    whole: WholeLine,
+    end: LineEnd,
+    is_kept: bool,
     line: &[u8],
     taken: &mut Arguments,
 ) -> Option<Finding>
     requires { length line.now ≤ LONGEST_LINE }
-    ensures { told_of_read number line.now whole.is_kept whole.end ≡ option_map_or (λ text. text.items ∷ []) result [] }
+    ensures { finding_of_read number line.now is_kept end ≡ option_map_or (λ text. text.items ∷ []) result [] }
 {
-    if !whole.is_kept {
+    if !is_kept {
         return Some(finding(number, TextFault::LineTooLong, b""));
     }
-    match whole.end {
-        LineEnd::Newline => told_of(number, line, taken),
-        LineEnd::ScriptEnd => told_of(number, line, taken),
+    match end {
+        LineEnd::Newline => finding_of(number, line, taken),
+        LineEnd::ScriptEnd => finding_of(number, line, taken),
         LineEnd::ReadFailed => None,
     }
 }
@@ -77,19 +78,11 @@ fn tell<O: Sink>(out: &mut O, report: Report, text: &[u8]) -> Report
     }
 }
 
-/// Tells of a line, as it was read, if it has a fault.
-fn tell_line<O: Sink>(
-    out: &mut O,
-    report: Report,
-    number: u64,
-    whole: WholeLine,
-    line: &[u8],
-    taken: &mut Arguments,
-) -> Report
-    requires { length line.now ≤ LONGEST_LINE }
-    ensures { ReportsMore (O.seen out.old) (O.seen out.new) report result (told_of_read number line.now whole.is_kept whole.end) }
+/// Writes the line that tells of a fault, if there is one.
+fn tell_finding<O: Sink>(out: &mut O, report: Report, finding: Option<Finding>) -> Report
+    ensures { ReportsMore (O.seen out.old) (O.seen out.new) report result (option_map_or (λ text. text.items ∷ []) finding []) }
 {
-    match told_of_read(number, whole, line, taken) {
+    match finding {
         Some(text) => tell(out, report, text.as_slice()),
         None => report,
     }
@@ -108,9 +101,10 @@ fn tell_lines<R: Source, O: Sink>(input: &mut R, out: &mut O) -> Checked
         is_written: true,
     };
     loop {
-        let whole = bytes.next_whole_line(input, &mut line);
-        report = tell_line(out, report, number, whole, line.as_slice(), &mut taken);
-        match whole.end {
+        let (end, is_kept) = bytes.next_whole_line(input, &mut line);
+        let finding = finding_of_read(number, end, is_kept, line.as_slice(), &mut taken);
+        report = tell_finding(out, report, finding);
+        match end {
             LineEnd::Newline => number = number.saturating_add(1),
             LineEnd::ScriptEnd => {
                 return Checked {
@@ -171,10 +165,10 @@ pub fn check<R: Source, O: Sink, L: Sink>(input: &mut R, out: &mut O, log: &mut 
 {
     let checked = tell_lines(input, out);
     if !end_report(out, checked) {
-        return failed(log, ScriptFault::Log);
+        return tell_failure(log, ScriptFault::Log);
     }
     if !checked.is_whole {
-        return failed(log, ScriptFault::Reading);
+        return tell_failure(log, ScriptFault::Reading);
     }
     if checked.report.faulty == 0 {
         ACCEPTED

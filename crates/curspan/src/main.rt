@@ -8,6 +8,7 @@ mod printing;
 mod put;
 mod serve;
 mod show;
+mod spelled;
 mod status;
 
 use desk::{Counted, CountedReader, Sink};

@@ -20,7 +20,8 @@ use crate::command::job;
 use crate::printing::print;
 use crate::put::{tell, write_out};
 use crate::show::show;
-use crate::status::{ACCEPTED, BAD_TEXT, failed, no_memory, status_of};
+use crate::spelled::tell_spelled;
+use crate::status::{ACCEPTED, BAD_TEXT, no_memory, status_of, tell_failure};
 use cell::Rendition;
 use clap::Error;
 use clap::error::ErrorKind;
@@ -38,11 +39,11 @@ fn show_text<O: Sink, L: Sink>(text: &[u8], out: &mut O, log: &mut L) -> u8
     if write_out(out, text) {
         ACCEPTED
     } else {
-        failed(log, ScriptFault::Log)
+        tell_failure(log, ScriptFault::Log)
     }
 }
 
-/// Prints help on the output and a usage fault on the log, and answers the status.
+/// Prints help on the output and a usage fault, spelled, on the log, and answers the status.
 fn usage<O: Sink, L: Sink>(alloc: Global, error: &Error, out: &mut O, log: &mut L) -> u8
     ensures explained { Explains (kind_of error.now) (outputs (O.seen out.old) (L.seen log.old)) (outputs (O.seen out.new) (L.seen log.new)) result }
     ensures log { result < 2 → log.new ≡ log.old }
@@ -52,7 +53,7 @@ fn usage<O: Sink, L: Sink>(alloc: Global, error: &Error, out: &mut O, log: &mut 
     }
     match error.to_string(alloc) {
         Ok(text) if error.use_stderr() => {
-            tell(log, text.as_bytes());
+            tell_spelled(log, text.as_bytes());
             BAD_TEXT
         }
         Ok(text) => show_text(text.as_bytes(), out, log),
@@ -155,7 +156,7 @@ fn paint<R: Source, O: Sink, L: Sink>(
     if print_desk(out, screen.desk()) {
         status_of(end)
     } else {
-        failed(log, ScriptFault::Log)
+        tell_failure(log, ScriptFault::Log)
     }
 }
 

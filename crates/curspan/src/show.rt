@@ -4,13 +4,13 @@ ghost use Rattle.std.specs.Prelude.{◌≡◌, ◌<◌, ◌⊎◌};
 ghost use Rattle.curspan.specs.CommandLine.{IsSize};
 ghost use Rattle.curspan.specs.Serving.{LacksMemory};
 ghost use Rattle.curspan.specs.Shows.{Shows, offset_line, terminal_text};
-ghost use Rattle.curspan.specs.steps.Feeding.{Feeds, TellsAnswer};
+ghost use Rattle.curspan.specs.steps.Feeding.{Feeds, TellsFault};
 ghost use Rattle.curspan.specs.Written.{WritingEnds, outputs};
 
 use crate::asked::Job;
 use crate::printing::print;
 use crate::put::write_out;
-use crate::status::{ACCEPTED, FAILED, REFUSED, failed, no_memory};
+use crate::status::{ACCEPTED, FAILED, REFUSED, no_memory, tell_failure};
 use arrayvec::ArrayVec;
 use desk::{ScriptFault, Sink, Source};
 use ecma::{NotInProfile, Terminal};
@@ -32,7 +32,7 @@ fn read_stream<R: Source>(input: &mut R, terminal: &mut Terminal) -> bool
         match input.read(&mut piece) {
             Ok(0) => return true,
             Ok(count) => {
-                let _ = terminal.feed(&piece[..count]);
+                terminal.feed(&piece[..count]);
             }
             Err(_) => return false,
         }
@@ -65,12 +65,12 @@ fn offset_line(fault: NotInProfile) -> ArrayVec<u8, ROOM>
 }
 
 /// Tells on the log at which offset a stream fails, if it does, and answers the status.
-fn judge<L: Sink>(log: &mut L, answer: Result<(), NotInProfile>) -> u8
-    ensures { TellsAnswer answer (L.seen log.old) (L.seen log.new) result }
+fn judge<L: Sink>(log: &mut L, fault: Option<NotInProfile>) -> u8
+    ensures { TellsFault fault (L.seen log.old) (L.seen log.new) result }
 {
-    match answer {
-        Ok(()) => ACCEPTED,
-        Err(fault) => {
+    match fault {
+        None => ACCEPTED,
+        Some(fault) => {
             if write_out(log, offset_line(fault).as_slice()) {
                 REFUSED
             } else {
@@ -98,12 +98,11 @@ pub fn show<R: Source, O: Sink, L: Sink>(
         Err(_) => return no_memory(log),
     };
     if !read_stream(input, &mut terminal) {
-        return failed(log, ScriptFault::Reading);
+        return tell_failure(log, ScriptFault::Reading);
     }
-    let answer = terminal.feed(b"");
     if print_terminal(out, &terminal) {
-        judge(log, answer)
+        judge(log, terminal.fault())
     } else {
-        failed(log, ScriptFault::Log)
+        tell_failure(log, ScriptFault::Log)
     }
 }

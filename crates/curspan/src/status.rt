@@ -32,7 +32,7 @@ pub fn no_memory<L: Sink>(log: &mut L) -> u8
 }
 
 /// Says on the log by the line of a fault that reading or writing failed, and answers that status.
-pub fn failed<L: Sink>(log: &mut L, fault: ScriptFault) -> u8
+pub fn tell_failure<L: Sink>(log: &mut L, fault: ScriptFault) -> u8
     ensures status { result ≡ 3 }
     ensures told { IsTold (L.seen log.old) (L.seen log.new) (last_line fault) }
 {

@@ -190,3 +190,16 @@ fn shows_what_a_stream_leaves(rt: HostRuntime) -> Result<(), Fail> {
     );
     Ok(())
 }
+
+#[test]
+fn control_bytes_of_words_are_spelled(rt: HostRuntime) -> Result<(), Fail> {
+    let (bytes, step, fails) = (HELLO, 512, false);
+    let words = ["curspan", "\x1b[2J\x7f"];
+    let end = served(rt.alloc(), &words, Pieces { bytes, step, fails });
+    assert_eq!(rt; end.status, 2);
+    assert!(rt;
+        end.log
+            .starts_with(b"error: unrecognized subcommand '\\x1b[2J\\x7f'\n")
+    );
+    Ok(())
+}

@@ -33,7 +33,7 @@ use Rattle.world.specs.declared.call.Call.{Call}
 use Rattle.desk.specs.States.{HasOneSize, KeepsSize, ScreenOver}
 use Rattle.script.specs.declared.fault.TextFault.{TextFault}
 use Rattle.script.specs.declared.fault.ScriptEnd.{ScriptEnd}
-use Rattle.script.specs.declared.bytes.LineRead.TheVariants.{Line, LastLine, TooLong, FailedRead}
+use Rattle.script.specs.declared.bytes.LineEnd.TheVariants.{Newline, ScriptEnd as Script_end, ReadFailed}
 
 -- calls in front of a reading
 abbrev pub prepend : List (ℕ × Call) → Reading → Reading
@@ -160,7 +160,7 @@ module _ {W : Type 0} (seen : W → Seen) where
 
   -- What the script says up to a line that a newline ends.
   line_says : {old mid : ScreenOver W} {input r1 r2 : SourceSeen} {log l1 : Seen} {unused left line : List ℕ} {n : ℕ} {b : Bool}
-      (s : SoFar old mid input r1 log l1 unused n b) (r : ReadsLine r1 r2 unused left line Line) (failed : Bool) (more : List ℕ)
+      (s : SoFar old mid input r1 log l1 unused n b) (r : ReadsLine r1 r2 unused left line (Some Newline)) (failed : Bool) (more : List ℕ)
       → reading failed ((s.text ++ r.bytes) ++ more)
       ≡ prepend s.made (before_others n (said_by_line line) (reading_of failed (next_number n) (slice_split is_newline (left ++ more))))
   line_says {unused} {left} {line} {n} s r failed more =
@@ -177,7 +177,7 @@ module _ {W : Type 0} (seen : W → Seen) where
 
   -- one more line
   pub so_far_next : (old mid now : ScreenOver W) (input r1 r2 : SourceSeen) (log l1 l2 : Seen) (unused left line : List ℕ) (n : ℕ) (b : Bool) (end : ScriptEnd)
-      → SoFar old mid input r1 log l1 unused n b → ReadsLine r1 r2 unused left line Line → r2.met_end ≡ r1.met_end → ReadsOnce r1 r2
+      → SoFar old mid input r1 log l1 unused n b → ReadsLine r1 r2 unused left line (Some Newline) → r2.met_end ≡ r1.met_end → ReadsOnce r1 r2
       → LineEnds seen mid now n line l1 l2 end → end.fault ≡ None → SoFar old now input r2 log l2 left (next_number n) (b || end.refused)
   so_far_next old mid now input r1 r2 log l1 l2 unused left line n b end s r met once e none =
       let stop : (said_by_line line ≡ Ok e.call) × (now ≡ e.at_stop) = subst (λ f. LineStops seen n (said_by_line line) e.call e.at_stop f now) none e.stop in
@@ -276,7 +276,7 @@ module _ {W : Type 0} (seen : W → Seen) where
 
   -- A line has a fault, and a newline ends it.
   pub ends_in_line : (old mid now : ScreenOver W) (input r1 r2 : SourceSeen) (log l1 l2 : Seen) (unused left line : List ℕ) (n : ℕ) (b : Bool) (end : ScriptEnd)
-      → SoFar old mid input r1 log l1 unused n b → ReadsLine r1 r2 unused left line Line → ReadsOnce r1 r2 → LineEnds seen mid now n line l1 l2 end
+      → SoFar old mid input r1 log l1 unused n b → ReadsLine r1 r2 unused left line (Some Newline) → ReadsOnce r1 r2 → LineEnds seen mid now n line l1 l2 end
       → (end.fault ≡ None → ⊥)
       → RunsLines seen old now input r2 log l2 (record { refused = b || end.refused; fault = end.fault })
   ends_in_line old mid now input r1 r2 log l1 l2 unused left line n b end s r once e some =
@@ -285,19 +285,19 @@ module _ {W : Type 0} (seen : W → Seen) where
 
   -- the last line
   pub ends_in_last_line : (old mid now : ScreenOver W) (input r1 r2 : SourceSeen) (log l1 l2 : Seen) (unused left line : List ℕ) (n : ℕ) (b : Bool) (end : ScriptEnd)
-      → SoFar old mid input r1 log l1 unused n b → ReadsLine r1 r2 unused left line LastLine → ReadsOnce r1 r2 → LineEnds seen mid now n line l1 l2 end → r2.met_end ≡ true
+      → SoFar old mid input r1 log l1 unused n b → ReadsLine r1 r2 unused left line (Some Script_end) → ReadsOnce r1 r2 → LineEnds seen mid now n line l1 l2 end → r2.met_end ≡ true
       → RunsLines seen old now input r2 log l2 (record { refused = b || end.refused; fault = end.fault })
   ends_in_last_line old mid now input r1 r2 log l1 l2 unused left line n b end s r once e ended =
       ends_at_line old mid now input r1 r2 log l1 l2 unused line r.bytes n b end (λ more. ends_with None) s r.read once e
       (λ more h.
       ap (reading false) (append_assoc s.text r.bytes more) ∙ s.says false (r.bytes ++ more)
-      ∙ ap (λ l. prepend s.made (reading_of false n (slice_split is_newline l))) (ap (λ m. unused ++ (r.bytes ++ m)) (h ended) ∙ ap (λ l. unused ++ l) (append-nil r.bytes) ∙ r.is_line.0)
+      ∙ ap (λ l. prepend s.made (reading_of false n (slice_split is_newline l))) (ap (λ m. unused ++ (r.bytes ++ m)) (h ended) ∙ ap (λ l. unused ++ l) (append-nil r.bytes) ∙ r.is_line.0.0)
       ∙ ap (λ ps. prepend s.made (reading_of false n ps)) (slice_split_none is_newline line (no_newlines line r.no_newline)))
       (λ none. (ended, refl)) (λ none. r.at_end refl)
 
   -- A read failed.
   pub ends_in_failed_read : (old mid : ScreenOver W) (input r1 r2 : SourceSeen) (log l1 : Seen) (unused left line : List ℕ) (n : ℕ) (b : Bool)
-      → SoFar old mid input r1 log l1 unused n b → ReadsLine r1 r2 unused left line FailedRead → ReadsOnce r1 r2
+      → SoFar old mid input r1 log l1 unused n b → ReadsLine r1 r2 unused left line (Some ReadFailed) → ReadsOnce r1 r2
       → RunsLines seen old mid input r2 log l1 (record { refused = b; fault = Some Reading_fault })
   ends_in_failed_read old mid input r1 r2 log l1 unused left line n b s r once = record {
     text = s.text ++ r.bytes;
@@ -308,9 +308,9 @@ module _ {W : Type 0} (seen : W → Seen) where
     makes = s.makes;
     stop = (
       ap (reading true) (ap (λ l. s.text ++ l) (sym (append-nil r.bytes))) ∙ s.says true (r.bytes ++ [])
-          ∙ ap (λ l. prepend s.made (reading_of true n (slice_split is_newline l))) (ap (λ l. unused ++ l) (append-nil r.bytes) ∙ r.is_line.0)
+          ∙ ap (λ l. prepend s.made (reading_of true n (slice_split is_newline l))) (ap (λ l. unused ++ l) (append-nil r.bytes) ∙ r.is_line.0.0)
           ∙ ap (λ ps. prepend s.made (reading_of true n ps)) (slice_split_none is_newline line (no_newlines line r.no_newline))
-          ∙ ap (λ (t : Bool). let x : Reading = record { calls = s.made ++ []; fault = Some (if t then Text n LineTooLong else Reading_fault) } in x) (short_line line r.is_line.2)
+          ∙ ap (λ (t : Bool). let x : Reading = record { calls = s.made ++ []; fault = Some (if t then Text n LineTooLong else Reading_fault) } in x) (short_line line r.is_line.1)
           ∙ ap (λ (calls : List (ℕ × Call)). let x : Reading = record { calls = calls; fault = Some Reading_fault } in x) (append-nil s.made),
       refl,
     );
@@ -324,7 +324,7 @@ module _ {W : Type 0} (seen : W → Seen) where
 
   -- A line is too long.
   pub ends_too_long : (old mid : ScreenOver W) (input r1 r2 : SourceSeen) (log l1 : Seen) (unused left line : List ℕ) (n : ℕ) (b : Bool)
-      → SoFar old mid input r1 log l1 unused n b → ReadsLine r1 r2 unused left line TooLong → ReadsOnce r1 r2
+      → SoFar old mid input r1 log l1 unused n b → ReadsLine r1 r2 unused left line None → ReadsOnce r1 r2
       → RunsLines seen old mid input r2 log l1 (record { refused = b; fault = Some (Text n LineTooLong) })
   ends_too_long old mid input r1 r2 log l1 unused left line n b s r once =
       let byte = r.is_line.0 in

@@ -14,7 +14,7 @@ use crate::screen::{Fault, Screen};
 use arrayvec::ArrayVec;
 use cell::Refusal;
 use script::{
-    Arguments, Bytes, LONGEST_LINE, LineRead, ScriptEnd, ScriptFault, TextFault, log_answer,
+    Arguments, Bytes, LONGEST_LINE, LineEnd, ScriptEnd, ScriptFault, TextFault, log_answer,
     read_line,
 };
 use streams::{Sink, Source, WriteFault};
@@ -50,23 +50,23 @@ impl<W: Sink> Screen<W> {
     {
         let word = match read_line(line, taken) {
             Ok(Some(word)) => word,
-            Ok(None) => return ended(false, None),
+            Ok(None) => return script_end(false, None),
             Err(fault) => {
                 let line = number;
-                return ended(false, Some(ScriptFault::Text { line, fault }));
+                return script_end(false, Some(ScriptFault::Text { line, fault }));
             }
         };
         match self.answer(&word.call(taken)) {
             Ok(answer) => {
                 let refused = answer.is_err();
                 match log_answer(log, number, answer) {
-                    Ok(()) => ended(refused, None),
-                    Err(_) => ended(refused, Some(ScriptFault::Log)),
+                    Ok(()) => script_end(refused, None),
+                    Err(_) => script_end(refused, Some(ScriptFault::Log)),
                 }
             }
             Err(fault) => {
                 let line = number;
-                ended(false, Some(ScriptFault::Write { line, fault }))
+                script_end(false, Some(ScriptFault::Write { line, fault }))
             }
         }
     }
@@ -85,24 +85,26 @@ impl<W: Sink> Screen<W> {
         let mut refused = false;
         loop {
             match bytes.next_line(input, &mut line) {
-                LineRead::Line => {
+                Some(LineEnd::Newline) => {
                     let end = self.run_line(number, line.as_slice(), &mut taken, log);
                     refused = either(refused, end.refused);
                     if end.fault.is_some() {
-                        return ended(refused, end.fault);
+                        return script_end(refused, end.fault);
                     }
                     number = number.saturating_add(1);
                 }
-                LineRead::LastLine => {
+                Some(LineEnd::ScriptEnd) => {
                     let end = self.run_line(number, line.as_slice(), &mut taken, log);
-                    return ended(either(refused, end.refused), end.fault);
+                    return script_end(either(refused, end.refused), end.fault);
                 }
-                LineRead::TooLong => {
+                Some(LineEnd::ReadFailed) => {
+                    return script_end(refused, Some(ScriptFault::Reading));
+                }
+                None => {
                     let fault = TextFault::LineTooLong;
                     let line = number;
-                    return ended(refused, Some(ScriptFault::Text { line, fault }));
+                    return script_end(refused, Some(ScriptFault::Text { line, fault }));
                 }
-                LineRead::FailedRead => return ended(refused, Some(ScriptFault::Reading)),
             }
         }
     }
@@ -125,7 +127,7 @@ impl<W: Sink> Screen<W> {
         }
         match log.flush() {
             Ok(()) => end,
-            Err(_) if end.fault.is_none() => ended(end.refused, Some(ScriptFault::Log)),
+            Err(_) if end.fault.is_none() => script_end(end.refused, Some(ScriptFault::Log)),
             Err(_) => end,
         }
     }
@@ -137,7 +139,7 @@ fn log_failed(end: ScriptEnd) -> bool
     matches!(end.fault, Some(ScriptFault::Log))
 }
 
-fn ended(refused: bool, fault: Option<ScriptFault>) -> ScriptEnd
+fn script_end(refused: bool, fault: Option<ScriptFault>) -> ScriptEnd
     ensures { result ≡ record { refused = refused; fault = fault } }
 {
     ScriptEnd { refused, fault }

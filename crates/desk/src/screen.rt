@@ -1,5 +1,7 @@
 //! A screen over a writer, and runs of calls on it.
 
+mod writer;
+
 ghost use Rattle.std.specs.Prelude.{◌≡◌, ◌∷◌, ℕ, [], IfOk, None, is_some, false, true};
 ghost use Rattle.world.specs.calls.Making.{new_refusal};
 ghost use Rattle.cell.specs.Refusals.{RefusedBy};

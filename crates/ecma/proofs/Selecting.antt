@@ -8,7 +8,8 @@ use Rattle.std.proofs.lemmas.List.{append_assoc, map-append, map_push, take-appe
 use Rattle.cell.specs.Attributes.{known, without}
 use Rattle.cell.specs.Shown.{Rendition, rendition_with}
 use Rattle.cell.specs.declared.colour.ColourPair.{ColourPair}
-use Rattle.ecma.specs.steps.Parameters.{Parameter, parameter_of, number_of}
+use Rattle.ecma.specs.Parameters.{Parameter, parameter_of}
+use Rattle.ecma.specs.steps.Parameters.{number_of}
 use Rattle.ecma.specs.Terminals.{number_or, select, select_all, with_on, with_off}
 use Rattle.ecma.proofs.Numbers.{select_all-append}
 

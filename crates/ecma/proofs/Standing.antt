@@ -14,7 +14,8 @@ use Rattle.ecma.specs.declared.terminal.State.TheVariants.{Text, Escape, Paramet
 use Rattle.ecma.specs.Items.{Function, CUP, ED, EL, SGR, Printable, Control, Unfinished, IsDigit, AreParameters, IsBeginning, EndsOrEscapes, final_byte, control_sequence, escape, introducer, separator}
 use Rattle.ecma.specs.Terminals.{Terminal, print, effect}
 use Rattle.ecma.specs.Streams.{FailsAt, IsInProfile, Leads, LeadsWithBreaks}
-use Rattle.ecma.specs.steps.Parameters.{Parameter, parameter_of, no_digits, longer, function_of}
+use Rattle.ecma.specs.Parameters.{Parameter, parameter_of}
+use Rattle.ecma.specs.steps.Parameters.{no_digits, longer, function_of}
 use Rattle.ecma.specs.Standing.{Reader, counted, InText, Unended, InParameters, HasFailed, StandsIn, Follows}
 use Rattle.ecma.proofs.Beginnings.{NoEffect-text, NoEffect-escape, NoEffect-parameters, join-more, no-more_digits, no-more_parameters, no-colon, final-no_digit, final-no_separator}
 use Rattle.ecma.proofs.Joining.{InProfile-append, LeadsWithBreaks-append, LeadsWithBreaks-in_profile, Leads-repairs, Reaches-in_profile}

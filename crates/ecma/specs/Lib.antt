@@ -4,5 +4,6 @@ pub mod Streams
 pub mod Spelling
 pub mod Difference
 pub mod Pages
+pub mod Parameters
 pub mod steps
 pub mod Standing

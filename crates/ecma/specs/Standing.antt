@@ -3,7 +3,7 @@ use Rattle.std.specs.Prelude.{◌≡◌, ℕ, ◌-◌, ◌^◌, min, List, [], �
 use Rattle.std.specs.List.{join_with_byte}
 use Rattle.cell.specs.Pictures.{blank_picture, origin}
 use Rattle.ecma.specs.Items.{AreParameters, escape, introducer, separator}
-use Rattle.ecma.specs.steps.Parameters.{Parameter, parameter_of}
+use Rattle.ecma.specs.Parameters.{Parameter, parameter_of}
 use Rattle.ecma.specs.Terminals.{Terminal}
 use Rattle.ecma.specs.Streams.{FailsAt, IsInProfile, LeadsWithBreaks, showing}
 use Rattle.ecma.specs.declared.terminal.State.{State}

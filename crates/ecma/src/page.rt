@@ -7,7 +7,8 @@ ghost use Rattle.cell.specs.Pictures.{HasSize, is_place, line_of, shown_at};
 ghost use Rattle.cell.specs.Shown.{is_empty};
 ghost use Rattle.cell.specs.declared.limits.TheConstants.{LARGEST_SCREEN};
 ghost use Rattle.ecma.specs.Items.{Control, SGR};
-ghost use Rattle.ecma.specs.steps.Parameters.{function_of, parameter_of};
+ghost use Rattle.ecma.specs.Parameters.{parameter_of};
+ghost use Rattle.ecma.specs.steps.Parameters.{function_of};
 ghost use Rattle.ecma.specs.Standing.{blank_terminal};
 ghost use Rattle.ecma.specs.Terminals.{blanked, effect, erase_line, erase_page, erased_at, move_to, print};
 

@@ -2,7 +2,8 @@
 
 ghost use Rattle.std.specs.Prelude.{◌≡◌, nat_lt, if◌then◌else◌, ℕ, List, ◌∷◌, [], ◌++◌, map};
 ghost use Rattle.ecma.specs.Items.{IsDigit, most_digits};
-ghost use Rattle.ecma.specs.steps.Parameters.{longer, number_of, parameter_of};
+ghost use Rattle.ecma.specs.Parameters.{parameter_of};
+ghost use Rattle.ecma.specs.steps.Parameters.{longer, number_of};
 ghost use Rattle.ecma.specs.Terminals.{erasure, position};
 
 use crate::token::Erase;
@@ -19,7 +20,8 @@ pub struct Parameter {
 }
 
 impl Model for Parameter {
-    ghost use Rattle.ecma.specs.steps.Parameters.{Parameter, IsParameter};
+    ghost use Rattle.ecma.specs.Parameters.{Parameter};
+    ghost use Rattle.ecma.specs.steps.Parameters.{IsParameter};
 
     ghost Value = { Parameter };
 

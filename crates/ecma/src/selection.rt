@@ -2,7 +2,7 @@
 
 ghost use Rattle.std.specs.Prelude.{◌≡◌, ◌<◌, ℕ, List, ◌∷◌, [], ◌++◌, map};
 ghost use Rattle.cell.specs.Attributes.{bits_of};
-ghost use Rattle.ecma.specs.steps.Parameters.{parameter_of};
+ghost use Rattle.ecma.specs.Parameters.{parameter_of};
 ghost use Rattle.ecma.specs.Terminals.{number_or, select, select_all, with_off, with_on};
 
 use crate::parameter::Parameter;

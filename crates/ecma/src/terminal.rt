@@ -1,6 +1,6 @@
 //! A terminal: it reads a stream of bytes in pieces, and shows what the stream says.
 
-ghost use Rattle.std.specs.Prelude.{◌≡◌, ◌↔◌, ◌⊎◌, ◌||◌, ◌+◌, ◌<◌, ◌≤◌, ℕ, All, IfOk, IfErr, IsErrOf, IsTrue, List, [], ◌∷◌, ◌++◌, length, MatchResult, Some, if◌then◌else◌};
+ghost use Rattle.std.specs.Prelude.{◌≡◌, ◌↔◌, ◌⊎◌, ◌||◌, ◌+◌, ◌<◌, ◌≤◌, ℕ, All, IfOk, IfErr, IfNone, IfSome, IsErrOf, IsTrue, List, [], ◌∷◌, length, Some, if◌then◌else◌};
 ghost use Rattle.cell.specs.Limits.{is_no_size};
 ghost use Rattle.cell.specs.Pictures.{is_place, line_of, shown_at};
 ghost use Rattle.ecma.specs.Items.{IsDigit, separator};
@@ -97,18 +97,23 @@ impl Terminal {
     }
 
     /// Reads the next piece of the stream, of any length.
-    pub fn feed(&mut self, piece: &[u8]) -> Result<(), NotInProfile>
-        ensures stands { (stream : List ℕ) (first : Terminals.Terminal) → StandsAfter stream first self.old → StandsAfter (stream ++ piece.now) first self.new }
-        ensures answer { (stream : List ℕ) (first : Terminals.Terminal) → StandsAfter stream first self.old → MatchResult result
-            (λ _. IsInProfile (stream ++ piece.now) first self.new.terminal)
-            (λ fault. HasFailed (stream ++ piece.now) first self.new.terminal fault.at) }
+    pub fn feed(&mut self, piece: &[u8])
+        ensures { Follows piece.now self.old self.new }
     {
         for byte in piece {
             self.step(*byte);
         }
+    }
+
+    /// Where the stream that was read leaves the profile, and none where it is in the profile.
+    pub fn fault(&self) -> Option<NotInProfile>
+        ensures profile { (stream : List ℕ) (first : Terminals.Terminal) → StandsAfter stream first self.now → IfNone result (IsInProfile stream first self.now.terminal) }
+        ensures fault { (stream : List ℕ) (first : Terminals.Terminal) → StandsAfter stream first self.now
+            → IfSome result (λ fault. HasFailed stream first self.now.terminal fault.at) }
+    {
         match self.state {
-            State::Failed => Err(NotInProfile { at: self.start }),
-            _ => Ok(()),
+            State::Failed => Some(NotInProfile { at: self.start }),
+            _ => None,
         }
     }
 

@@ -1,10 +1,10 @@
 -- What stands for a word of curses, by the first of its rules that holds.
 use Rattle.std.proofs.Common.{◌≡◌, ℕ, List, ◌++◌, None, Some, codes, refl}
-use Rattle.explain.specs.Advice.{call_advice, call_behind, listed}
+use Rattle.explain.specs.Advice.{advice_on, call_advice, call_behind}
 
-pub behind_mvw : (word call : List ℕ) → listed word ≡ None → call_behind (codes "mvw") word ≡ Some call → call_advice word ≡ codes ": see move, " ++ call
+pub behind_mvw : (word call : List ℕ) → advice_on word ≡ None → call_behind (codes "mvw") word ≡ Some call → call_advice word ≡ codes ": see move, " ++ call
 behind_mvw word call l b = rw (l, b) refl
 
-pub behind_mv : (word call : List ℕ) → listed word ≡ None → call_behind (codes "mvw") word ≡ None → call_behind (codes "mv") word ≡ Some call
+pub behind_mv : (word call : List ℕ) → advice_on word ≡ None → call_behind (codes "mvw") word ≡ None → call_behind (codes "mv") word ≡ Some call
     → call_advice word ≡ codes ": see move, " ++ call
 behind_mv word call l a b = rw (l, a, b) refl

@@ -32,12 +32,12 @@ advice_text advice.Cursor = codes "see getyx"
 advice_text advice.Measure = codes "see getmaxyx"
 advice_text advice.Flag = codes "no window has this flag"
 
-abbrev pub looked_up : List (List ℕ × Advice) → List ℕ → Option Advice
-looked_up [] name = None
-looked_up (entry ∷ entries) name = if bytes_eq name entry.0 then Some entry.1 else looked_up entries name
+abbrev pub look_up : List (List ℕ × Advice) → List ℕ → Option Advice
+look_up [] name = None
+look_up (entry ∷ entries) name = if bytes_eq name entry.0 then Some entry.1 else look_up entries name
 
-unfoldable pub listed : List ℕ → Option Advice
-listed = looked_up (map (λ entry. (entry.0.now, entry.1)) ADVICE)
+unfoldable pub advice_on : List ℕ → Option Advice
+advice_on = look_up (map (λ entry. (entry.0.now, entry.1)) ADVICE)
 
 -- the rest of a word behind these bytes, if it is a call
 abbrev pub call_behind : List ℕ → List ℕ → Option (List ℕ)
@@ -46,7 +46,7 @@ call_behind front word = if bytes_eq (take (length front) word) front && is_some
 
 -- what stands for a word of curses that is no call: as the table has it; behind `mv` and `w` a call
 abbrev pub call_advice : List ℕ → List ℕ
-call_advice word = option_map_or (λ advice. codes ": " ++ advice_text advice) (listed word)
+call_advice word = option_map_or (λ advice. codes ": " ++ advice_text advice) (advice_on word)
     (option_map_or (λ rest. codes ": see move, " ++ rest) (call_behind (codes "mvw") word)
     (option_map_or (λ rest. codes ": see move, " ++ rest) (call_behind (codes "mv") word)
     (option_map_or (λ rest. codes ": see " ++ rest) (call_behind (codes "w") word) [])))

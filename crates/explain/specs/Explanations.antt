@@ -7,29 +7,29 @@ use Rattle.script.specs.Characters.{is_space, newline}
 use Rattle.script.specs.declared.fault.TextFault.{TextFault}
 use Rattle.script.specs.declared.fault.TextFault.TheVariants.{LineTooLong, BadByte, UnknownCall, WrongNumberOfArguments, BadArgument}
 use Rattle.explain.specs.Advice.{call_advice}
-use Rattle.explain.specs.Faults.{IllFormed, arguments_in, bad_place, column_of, forms_named, ill_formed_in, word_in}
-use Rattle.explain.specs.Reasons.{byte_advice, reason, wanted}
+use Rattle.explain.specs.Faults.{IllFormed, arguments_in, bad_place, column_of, find_ill_formed_in, forms_of, word_in}
+use Rattle.explain.specs.Reasons.{byte_advice, reason, requirement}
 
 -- `"`
 abbrev pub quotation_mark : ℕ
 quotation_mark = 34
 
-abbrev pub quoted : List ℕ → List ℕ
-quoted text = quotation_mark ∷ text ++ quotation_mark ∷ []
+abbrev pub quotation : List ℕ → List ℕ
+quotation text = quotation_mark ∷ text ++ quotation_mark ∷ []
 
 abbrev pub count_text : ℕ → List ℕ
 count_text n = decimal n ++ (if n == 1 then codes " argument" else codes " arguments")
 
 -- what a word wants in place of an argument
 abbrev pub ill_formed_text : List ℕ → IllFormed → List ℕ
-ill_formed_text word ill = word ++ codes " wants " ++ wanted ill.form ++ codes ", not " ++ quoted ill.argument ++ reason ill.form ill.argument
+ill_formed_text word ill = word ++ codes " wants " ++ requirement ill.form ++ codes ", not " ++ quotation ill.argument ++ reason ill.form ill.argument
 
 -- what is told of a bad byte, of a word that is no call, and of a number of arguments
 abbrev pub bad_byte_text : ℕ → List ℕ
 bad_byte_text byte = codes "bad byte " ++ hex_digits byte ++ codes ": " ++ byte_advice byte
 
 abbrev pub unknown_text : List ℕ → List ℕ
-unknown_text word = codes "unknown call " ++ quoted word ++ call_advice word
+unknown_text word = codes "unknown call " ++ quotation word ++ call_advice word
 
 abbrev pub number_text : List ℕ → ℕ → ℕ → List ℕ
 number_text word taken given = word ++ codes " takes " ++ count_text taken ++ codes ", " ++ decimal given ++ codes " given"
@@ -41,10 +41,10 @@ explanation BadByte line = bad_byte_text (slice_index line (bad_place line))
 explanation UnknownCall line = unknown_text (word_in (slice_split is_space line))
 explanation WrongNumberOfArguments line =
     let pieces = slice_split is_space line in
-    number_text (word_in pieces) (length (forms_named (word_in pieces))) (length (arguments_in pieces))
+    number_text (word_in pieces) (length (forms_of (word_in pieces))) (length (arguments_in pieces))
 explanation BadArgument line =
     let pieces = slice_split is_space line in
-    option_map_or (ill_formed_text (word_in pieces)) (ill_formed_in pieces) []
+    option_map_or (ill_formed_text (word_in pieces)) (find_ill_formed_in pieces) []
 
 -- the line that tells of a fault in a script's line with its number
 abbrev pub finding : ℕ → TextFault → List ℕ → List ℕ

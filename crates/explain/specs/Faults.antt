@@ -18,12 +18,12 @@ word_in [] = []
 word_in (word ∷ pieces) = word
 
 -- the forms of a call's arguments, if the word is a call's
-abbrev pub forms_named : List ℕ → List Form
-forms_named word = option_map_or (λ w. (entry_of w).forms) (word_of word) []
+abbrev pub forms_of : List ℕ → List Form
+forms_of word = option_map_or (λ w. (entry_of w).forms) (word_of word) []
 
 abbrev pub arguments_in : List (List ℕ) → List (List ℕ)
 arguments_in [] = []
-arguments_in (word ∷ pieces) = arguments (forms_named word) pieces
+arguments_in (word ∷ pieces) = arguments (forms_of word) pieces
 
 -- The first of the arguments begins in this column, and one space is behind each: the column behind as many as there are forms.
 abbrev pub column_behind : ℕ → List Form → List (List ℕ) → ℕ
@@ -40,18 +40,18 @@ abbrev pub has_form : Form → List ℕ → Bool
 has_form form argument = is_some (said form argument nothing_said)
 
 -- the first of the arguments that lacks its form
-abbrev pub ill_formed : ℕ → List Form → List (List ℕ) → Option IllFormed
-ill_formed column (form ∷ forms) (argument ∷ others) = if has_form form argument
-    then ill_formed (column + length argument + 1) forms others
+abbrev pub find_ill_formed : ℕ → List Form → List (List ℕ) → Option IllFormed
+find_ill_formed column (form ∷ forms) (argument ∷ others) = if has_form form argument
+    then find_ill_formed (column + length argument + 1) forms others
     else Some (record { column = column; form = form; argument = argument })
-ill_formed column _ _ = None
+find_ill_formed column _ _ = None
 
 -- the column of the first argument of a word
 abbrev pub first_column : List ℕ → ℕ
 first_column word = length word + 2
 
-abbrev pub ill_formed_in : List (List ℕ) → Option IllFormed
-ill_formed_in pieces = ill_formed (first_column (word_in pieces)) (forms_named (word_in pieces)) (arguments_in pieces)
+abbrev pub find_ill_formed_in : List (List ℕ) → Option IllFormed
+find_ill_formed_in pieces = find_ill_formed (first_column (word_in pieces)) (forms_of (word_in pieces)) (arguments_in pieces)
 
 -- where the first byte is that no line may have
 abbrev pub bad_place : List ℕ → ℕ
@@ -67,5 +67,5 @@ column_of BadByte line = bad_place line + 1
 column_of UnknownCall line = 1
 column_of WrongNumberOfArguments line =
     let pieces = slice_split is_space line in
-    column_behind (first_column (word_in pieces)) (forms_named (word_in pieces)) (arguments_in pieces)
-column_of BadArgument line = option_map_or (λ ill. ill.column) (ill_formed_in (slice_split is_space line)) 1
+    column_behind (first_column (word_in pieces)) (forms_of (word_in pieces)) (arguments_in pieces)
+column_of BadArgument line = option_map_or (λ ill. ill.column) (find_ill_formed_in (slice_split is_space line)) 1

@@ -14,14 +14,14 @@ byte_advice b = if b == carriage_return then codes "a line ends with a newline a
     else codes "a text has it as a backslash, x and these two digits"))
 
 -- what an argument of a form is
-abbrev pub wanted : Form → List ℕ
-wanted Number = codes "a number from 0 to 65535"
-wanted NumberOrNone = codes "a number from 0 to 65535, or none"
-wanted Signed = codes "a number from -32767 to 32767"
-wanted Attributes = codes "two hexadecimal digits from 00 to 3f"
-wanted Flag = codes "on or off"
-wanted Character = codes "one character, or one of the escapes \\n, \\r, \\b, \\\\ and \\xHH"
-wanted Text = codes "a text with no escapes but \\n, \\r, \\b, \\\\ and \\xHH"
+abbrev pub requirement : Form → List ℕ
+requirement Number = codes "a number from 0 to 65535"
+requirement NumberOrNone = codes "a number from 0 to 65535, or none"
+requirement Signed = codes "a number from -32767 to 32767"
+requirement Attributes = codes "two hexadecimal digits from 00 to 3f"
+requirement Flag = codes "on or off"
+requirement Character = codes "one character, or one of the escapes \\n, \\r, \\b, \\\\ and \\xHH"
+requirement Text = codes "a text with no escapes but \\n, \\r, \\b, \\\\ and \\xHH"
 
 -- why digits are no number
 abbrev pub digits_reason : List ℕ → List ℕ

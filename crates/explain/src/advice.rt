@@ -1,7 +1,7 @@
 //! What stands for a name of curses that is no script's word.
 
 ghost use Rattle.std.specs.Prelude.{◌≡◌, ◌≤◌, IfSome, length, map, option_map};
-ghost use Rattle.explain.specs.Advice.{advice_text, call_behind, listed, looked_up};
+ghost use Rattle.explain.specs.Advice.{advice_on, advice_text, call_behind, look_up};
 
 use script::Word;
 
@@ -109,8 +109,8 @@ impl Advice {
 }
 
 /// What a table says of a name.
-fn looked_up(mut table: &[(&[u8], Advice)], name: &[u8]) -> Option<Advice>
-    ensures { result ≡ looked_up (map (λ entry. (entry.0.now, entry.1)) table.entry.now) name.now }
+fn look_up(mut table: &[(&[u8], Advice)], name: &[u8]) -> Option<Advice>
+    ensures { result ≡ look_up (map (λ entry. (entry.0.now, entry.1)) table.entry.now) name.now }
 {
     while let [entry, rest @ ..] = table {
         if name == entry.0 {
@@ -122,11 +122,11 @@ fn looked_up(mut table: &[(&[u8], Advice)], name: &[u8]) -> Option<Advice>
 }
 
 /// What is said of a name of curses, if something is.
-#[tactic(auto, unfolding(crate::specs::Advice::listed))]
-pub fn listed(name: &[u8]) -> Option<Advice>
-    ensures { result ≡ listed name.now }
+#[tactic(auto, unfolding(crate::specs::Advice::advice_on))]
+pub fn advice_on(name: &[u8]) -> Option<Advice>
+    ensures { result ≡ advice_on name.now }
 {
-    looked_up(&ADVICE, name)
+    look_up(&ADVICE, name)
 }
 
 /// The rest of a word behind these bytes, if it is a call.

@@ -3,7 +3,7 @@
 ghost use Rattle.std.specs.Prelude.{◌≡◌, ◌≤◌, ◌+◌, IfSome, length, option_map};
 ghost use Rattle.script.specs.Pieces.{pieces_of, room_of};
 ghost use Rattle.script.specs.Readings.{arguments};
-ghost use Rattle.explain.specs.Faults.{IllFormed as Ill, forms_named, has_form, ill_formed};
+ghost use Rattle.explain.specs.Faults.{IllFormed as Ill, find_ill_formed, forms_of, has_form};
 
 use script::{Arguments, Form, LONGEST_LINE, MOST_ARGUMENTS, Word, next_argument, split_at_space};
 
@@ -16,8 +16,8 @@ pub struct IllFormed<'a> {
 }
 
 /// The forms of a call's arguments, if the word is a call's.
-pub fn forms_named(word: &[u8]) -> &'static [Form]
-    ensures forms { result.now ≡ forms_named word.now }
+pub fn forms_of(word: &[u8]) -> &'static [Form]
+    ensures forms { result.now ≡ forms_of word.now }
     ensures count { length result.now ≤ MOST_ARGUMENTS }
 {
     match Word::of(word) {
@@ -48,7 +48,7 @@ fn has_form(form: Form, argument: &[u8]) -> bool
 }
 
 /// The first argument that lacks its form.
-pub fn ill_formed<'a>(
+pub fn find_ill_formed<'a>(
     column: usize,
     forms: &[Form],
     text: Option<&'a [u8]>,
@@ -56,14 +56,14 @@ pub fn ill_formed<'a>(
     requires short { IfSome text (λ t. column + length t.now ≤ LONGEST_LINE + 2) }
     requires text { IfSome text (λ t. length t.now ≤ LONGEST_LINE) }
     ensures ill { option_map (λ ill. record { column = ill.column; form = ill.form; argument = ill.argument.now }) result
-        ≡ ill_formed column forms.now (arguments forms.now (pieces_of text.entry)) }
+        ≡ find_ill_formed column forms.now (arguments forms.now (pieces_of text.entry)) }
     ensures short { IfSome result (λ ill. length ill.argument.now ≤ LONGEST_LINE) }
 {
     match (forms.split_first(), text) {
         (Some((form, others)), Some(text)) => {
             let (argument, rest) = next_argument(*form, text);
             if has_form(*form, argument) {
-                ill_formed(column + argument.len() + 1, others, rest)
+                find_ill_formed(column + argument.len() + 1, others, rest)
             } else {
                 Some(IllFormed {
                     column,

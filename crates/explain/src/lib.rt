@@ -7,4 +7,4 @@ mod column;
 mod reasons;
 mod telling;
 
-pub use telling::{Finding, finding};
+pub use telling::{Finding, digits, finding};

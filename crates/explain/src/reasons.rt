@@ -1,7 +1,7 @@
 //! What an argument of a form is, and why a byte or an argument is faulty.
 
 ghost use Rattle.std.specs.Prelude.{◌≡◌, ◌≤◌, length};
-ghost use Rattle.explain.specs.Reasons.{byte_advice, digits_reason, reason, wanted};
+ghost use Rattle.explain.specs.Reasons.{byte_advice, digits_reason, reason, requirement};
 
 use script::{Form, has_digits_alone};
 
@@ -19,8 +19,8 @@ pub fn byte_advice(byte: u8) -> &'static [u8]
 }
 
 /// What an argument of a form is.
-pub fn wanted(form: Form) -> &'static [u8]
-    ensures text { result.now ≡ wanted form }
+pub fn requirement(form: Form) -> &'static [u8]
+    ensures text { result.now ≡ requirement form }
     ensures short { length result.now ≤ 80 }
 {
     match form {

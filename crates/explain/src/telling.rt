@@ -4,12 +4,12 @@ ghost use Rattle.std.specs.Prelude.{◌≡◌, ◌≤◌, ◌+◌, ◌++◌, ◌
 ghost use Rattle.cell.specs.Attributes.{hex_digits};
 ghost use Rattle.explain.specs.Advice.{call_advice};
 ghost use Rattle.explain.specs.Faults.{IllFormed as Ill};
-ghost use Rattle.explain.specs.Explanations.{bad_byte_text, count_text, explanation, finding, ill_formed_text, number_text, quoted, unknown_text};
+ghost use Rattle.explain.specs.Explanations.{bad_byte_text, count_text, explanation, finding, ill_formed_text, number_text, quotation, unknown_text};
 
-use crate::advice::{call_behind, listed};
-use crate::arguments::{IllFormed, count, forms_named, ill_formed};
+use crate::advice::{advice_on, call_behind};
+use crate::arguments::{IllFormed, count, find_ill_formed, forms_of};
 use crate::column::{bad_byte, column_of};
-use crate::reasons::{byte_advice, reason, wanted};
+use crate::reasons::{byte_advice, reason, requirement};
 use arrayvec::ArrayVec;
 use bitflags::Flags;
 use cell::Attr;
@@ -25,7 +25,7 @@ pub type Finding = ArrayVec<u8, FINDING_ROOM>;
 /// Puts a text in quotation marks at the end.
 fn append_quoted(text: &mut Finding, piece: &[u8])
     requires { length text.old.items + length piece.now + 2 ≤ FINDING_ROOM }
-    ensures { text.new.items ≡ text.old.items ++ quoted piece.now }
+    ensures { text.new.items ≡ text.old.items ++ quotation piece.now }
 {
     append(text, b"\"");
     append(text, piece);
@@ -59,14 +59,14 @@ fn append_ill_formed(text: &mut Finding, word: &[u8], ill: IllFormed<'_>)
 {
     append(text, word);
     append(text, b" wants ");
-    append(text, wanted(ill.form));
+    append(text, requirement(ill.form));
     append(text, b", not ");
     append_quoted(text, ill.argument);
     append(text, reason(ill.form, ill.argument));
 }
 
 /// The two hexadecimal digits of a byte.
-fn digits(byte: u8) -> [u8; 2]
+pub fn digits(byte: u8) -> [u8; 2]
     ensures { result ≡ hex_digits byte }
 {
     Attr::from_bits_retain(byte).hex_digits()
@@ -100,7 +100,7 @@ fn append_advice(text: &mut Finding, word: &[u8])
     ensures text { text.new.items ≡ text.old.items ++ call_advice word.now }
     ensures short { length text.new.items < FINDING_ROOM }
 {
-    if let Some(advice) = listed(word) {
+    if let Some(advice) = advice_on(word) {
         append_call(text, b": ", advice.text());
     } else if let Some(call) = call_behind(b"mvw", word) {
         append_call(text, b": see move, ", call);
@@ -151,11 +151,11 @@ fn append_explanation(text: &mut Finding, fault: TextFault, line: &[u8])
         TextFault::BadByte => append_bad_byte(text, bad_byte(line)),
         TextFault::UnknownCall => append_unknown(text, word),
         TextFault::WrongNumberOfArguments => {
-            let forms = forms_named(word);
+            let forms = forms_of(word);
             append_number(text, word, forms.len(), count(forms, arguments));
         }
         TextFault::BadArgument => {
-            if let Some(ill) = ill_formed(word.len() + 2, forms_named(word), arguments) {
+            if let Some(ill) = find_ill_formed(word.len() + 2, forms_of(word), arguments) {
                 append_ill_formed(text, word, ill);
             }
         }

@@ -9,7 +9,7 @@ use Rattle.world.specs.Windows.{Window, WindowMap, Windows, GridPlace, Drawing, 
 use Rattle.world.specs.Rows.{filled, overlaid, copied}
 use Rattle.world.specs.Frames.{joined}
 use Rattle.world.specs.calls.writing.Editing.{drawing_frame}
-use Rattle.cell.specs.declared.window.Frame.{Frame}
+use Rattle.cell.specs.declared.window.Rect.{Rect}
 use Rattle.world.proofs.FrameLaws.{drawing_frame-over, drawing_frame-put}
 use Rattle.world.proofs.WindowLaws.{own-onward, put-put, cell_at-kept, put-nothing, HasPlace-put}
 
@@ -168,12 +168,12 @@ copy-step w v next dst f now h g is same join step =
     ∙ ap (λ (ws : WindowMap). record w { window = ws }) (put-put w.window dst f h ∙ ap (put_windows w.window dst) join)
 
 -- and its rectangle is the smallest that holds both
-pub frame-step : (w v : Windows) (dst : ℕ) (f now h g : Drawing) (before one next : Option Frame) → v ≡ put w dst f → now ≡ h → over h f ≡ g → before ≡ drawing_frame w dst (λ a. f)
+pub frame-step : (w v : Windows) (dst : ℕ) (f now h g : Drawing) (before one next : Option Rect) → v ≡ put w dst f → now ≡ h → over h f ≡ g → before ≡ drawing_frame w dst (λ a. f)
     → one ≡ drawing_frame v dst (λ a. now) → next ≡ joined before one → next ≡ drawing_frame w dst (λ a. g)
 frame-step w v dst f now h g before one next is same join first second both =
     both
-    ∙ ap (λ (o : Option Frame). joined o one) first
-    ∙ ap (λ (o : Option Frame). joined (drawing_frame w dst (λ a. f)) o)
+    ∙ ap (λ (o : Option Rect). joined o one) first
+    ∙ ap (λ (o : Option Rect). joined (drawing_frame w dst (λ a. f)) o)
     (second ∙ ap (λ (u : Windows). drawing_frame u dst (λ a. now)) is ∙ drawing_frame-put w dst f now ∙ ap (λ (d : Drawing). drawing_frame w dst (λ a. d)) same)
     ∙ sym (drawing_frame-over w dst f h)
     ∙ ap (λ (d : Drawing). drawing_frame w dst (λ a. d)) join

@@ -1,7 +1,7 @@
 -- The rectangle of a window in which it shows a part of another.
 use Rattle.std.proofs.Common.{◌≡◌, ℕ, ◌+◌, ◌-◌, ◌<◌, ◌≤◌, true, ◌&&◌, nat_le, Option, Some, None, IsSomeAnd, arith, sym, ◌∙◌, subst}
 use Rattle.std.proofs.lemmas.Bool.{and_from, and_parts, le-leb, leb-true}
-use Rattle.cell.specs.declared.window.Frame.{Frame}
+use Rattle.cell.specs.declared.window.Rect.{Rect}
 use Rattle.world.specs.Frames.{AreRectangle}
 use Rattle.world.specs.Sharing.{SharesPart}
 use Rattle.world.specs.Sound.{AreColumnsWithin}
@@ -42,7 +42,7 @@ module _ (first last from to size : ℕ) where
 
 -- ---- window w begins at the place p of a grid, and window u at q
 
-module _ (window : WindowMap) (w u : ℕ) (r : Frame) (b : Window) (p q : GridPlace) (there : window u ≡ Some b) (leads_w : own window w 0 0 ≡ Some p) (leads_u : own window u 0 0 ≡ Some q) where
+module _ (window : WindowMap) (w u : ℕ) (r : Rect) (b : Window) (p q : GridPlace) (there : window u ≡ Some b) (leads_w : own window w 0 0 ≡ Some p) (leads_u : own window u 0 0 ≡ Some q) where
   inside : (y x : ℕ) → SharesPart window w r u y x → (y < b.lines) × (x < b.columns)
   inside y x has = subst (λ (o : Option Window). IsSomeAnd o (λ a. (y < a.lines) × (x < a.columns))) there has.0
 

@@ -1,7 +1,7 @@
 -- Which places of a window show cells of a rectangle of another, in lines and columns of a grid.
 use Rattle.std.proofs.Common.{◌≡◌, ℕ, ◌+◌, ◌-◌, ◌≤◌, true, Some, ap, arith, sym, ◌∙◌}
 use Rattle.std.specs.Option.{option_map}
-use Rattle.cell.specs.declared.window.Frame.{Frame}
+use Rattle.cell.specs.declared.window.Rect.{Rect}
 use Rattle.world.specs.Windows.{GridPlace, WindowMap, onward, own}
 use Rattle.world.specs.Sharing.{is_same_place, shows_part_of}
 use Rattle.world.proofs.Below.{any_in-some, any_in-true}
@@ -16,14 +16,14 @@ module _ (window : WindowMap) (s t : ℕ) (p q : GridPlace) (leads_s : own windo
       ∙ ap (λ o. is_same_place (Some (onward v z p)) o) (own-onward window t y x ∙ ap (option_map (onward y x)) leads_t)
 
   -- the place (y, x) of t is one of the rectangle
-  pub record Shares (r : Frame) (y x : ℕ) : Type 0 where
+  pub record Shares (r : Rect) (y x : ℕ) : Type 0 where
     pub grid : p.grid ≡ q.grid
     pub top : p.line + r.top ≤ q.line + y
     pub bottom : q.line + y ≤ p.line + r.bottom
     pub left : p.column + r.left ≤ q.column + x
     pub right : q.column + x ≤ p.column + r.right
 
-  pub shared-in : (r : Frame) (y x : ℕ) → shows_part_of window s r t y x ≡ true → Shares r y x
+  pub shared-in : (r : Rect) (y x : ℕ) → shows_part_of window s r t y x ≡ true → Shares r y x
   shared-in r y x h =
       let found = any_in-true r (λ v z. is_same_place (own window s v z) (own window t y x)) h in
       let same = same-true (onward found.line found.column p) (onward y x q) (sym (same-is found.line found.column y x) ∙ found.passes) in
@@ -38,7 +38,7 @@ module _ (window : WindowMap) (s t : ℕ) (p q : GridPlace) (leads_s : own windo
         right = omega (arith, column, inside.right);
       }
 
-  pub from-shared : (r : Frame) (y x : ℕ) → Shares r y x → shows_part_of window s r t y x ≡ true
+  pub from-shared : (r : Rect) (y x : ℕ) → Shares r y x → shows_part_of window s r t y x ≡ true
   from-shared r y x h =
       let line : p.line + (q.line + y - p.line) ≡ q.line + y = omega (arith, h.top) in
       let column : p.column + (q.column + x - p.column) ≡ q.column + x = omega (arith, h.left) in

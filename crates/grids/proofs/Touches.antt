@@ -6,10 +6,10 @@ use Rattle.std.proofs.lemmas.Bool.{cases_eq, cases_lt, cond-true, cond-false, lt
 use Rattle.std.proofs.lemmas.Iterator.Adapters.{option_map_id}
 use Rattle.cell.specs.Pictures.{Place}
 use Rattle.cell.specs.declared.limits.TheConstants.{LARGEST_PAD}
-use Rattle.world.specs.Windows.{Window, WindowMap, Windows, changed, touched_below}
+use Rattle.world.specs.Windows.{Window, WindowMap, Windows, changed, touched_below, joined_columns}
 use Rattle.world.specs.calls.Marks.{touching}
 use Rattle.world.specs.declared.settings.Columns.{Columns}
-use Rattle.slots.specs.Changes.{spread, with_touched}
+use Rattle.slots.specs.Changes.{with_touched}
 use Rattle.grids.specs.steps.Syncs.{EndsWithin}
 use Rattle.grids.proofs.Writes.{touched-none, touched-past}
 
@@ -142,17 +142,17 @@ module _ (a : Window) (test : ℕ → ℕ → Bool) (y : ℕ) (below : y < a.lin
   pub line-some : (first last : ℕ) → first ≤ last → last < a.columns → ((x : ℕ) → x < a.columns → test y x ≡ (nat_le first x && nat_le x last))
       → with_touched y first last (touching (before y test) a) ≡ touching (before (y + 1) test) a
   unfolding on_line
-  line-some first last ordered within h = touching-is a (λ z. if z == y then spread (on_line y z) first last else on_line y z) (before (y + 1) test) (λ z. elim (cases_eq z y) [
+  line-some first last ordered within h = touching-is a (λ z. if z == y then joined_columns (on_line y z) first last else on_line y z) (before (y + 1) test) (λ z. elim (cases_eq z y) [
     | inl same ↦
         let all : a.columns ≡ suc last + (a.columns - suc last) = omega arith in
-        cond-true (z == y) (spread (on_line y z) first last) (on_line y z) (eq-eqb z y same)
-        ∙ ap (λ v. spread (on_line y v) first last) same
-        ∙ ap (λ (r : Option Columns). spread r first last) line-before
+        cond-true (z == y) (joined_columns (on_line y z) first last) (on_line y z) (eq-eqb z y same)
+        ∙ ap (λ v. joined_columns (on_line y v) first last) same
+        ∙ ap (λ (r : Option Columns). joined_columns r first last) line-before
         ∙ sym (touched-same a.columns (test y) (λ x. nat_le first x && nat_le x last) (a.touched y) h
         ∙ ap (λ n. touched_below n (λ x. nat_le first x && nat_le x last) (a.touched y)) all
         ∙ touched-past first last (λ x. nat_le first x && nat_le x last) (a.touched y) (λ x. refl) ordered (a.columns - suc last))
         ∙ sym line-after ∙ ap (on_line (y + 1)) (sym same)
-    | inr other ↦ cond-false (z == y) (spread (on_line y z) first last) (on_line y z) (ne_eqb z y other) ∙ line-other z other
+    | inr other ↦ cond-false (z == y) (joined_columns (on_line y z) first last) (on_line y z) (ne_eqb z y other) ∙ line-other z other
   ])
 
 -- ---- the windows after some lines

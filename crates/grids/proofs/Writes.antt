@@ -6,13 +6,13 @@ use Rattle.std.proofs.lemmas.Bool.{cases_eq, cases_lt, eqb-true, cond-true, cond
 use Rattle.std.proofs.lemmas.Iterator.Adapters.{option_map_id}
 use Rattle.std.proofs.lemmas.Bool.Decides.{nat_tests}
 use Rattle.cell.specs.Glyphs.{Glyph, blank}
-use Rattle.world.specs.Windows.{GridPlace, Window, WindowMap, Drawing, within, moved, laid_over, widened, touched_below, touched_by, drawn, put_from, put_windows, put, HasPlace, own, cell_at}
+use Rattle.world.specs.Windows.{GridPlace, Window, WindowMap, Drawing, within, moved, laid_over, joined_columns, touched_below, touched_by, drawn, put_from, put_windows, put, HasPlace, own, cell_at}
 use Rattle.world.specs.Rows.{filled, listed, copied}
 use Rattle.world.specs.declared.settings.Columns.{Columns}
 use Rattle.slots.specs.Kept.{Kept, window_of}
 use Rattle.grids.specs.Tables.{WindowTable, windows}
 use Rattle.slots.specs.Slots.{slot_at, window_map}
-use Rattle.slots.specs.Changes.{spread, Changed, with_touched, with_drawing}
+use Rattle.slots.specs.Changes.{Changed, with_touched, with_drawing}
 use Rattle.slots.proofs.OneSlot.{slot_below}
 
 -- touching column after column
@@ -23,11 +23,7 @@ touched-none (suc n) test r h =
     let last : test n ≡ false = h n (omega arith) in
     rw last (touched-none n test r (λ x lt. h x (omega arith)))
 
-spread-one : (r : Option Columns) (x : ℕ) → widened r x ≡ spread r x x
-spread-one None x = refl
-spread-one (Some r) x = refl
-
-spread-more : (r : Option Columns) (left n : ℕ) → left ≤ n → widened (spread r left n) (suc n) ≡ spread r left (suc n)
+spread-more : (r : Option Columns) (left n : ℕ) → left ≤ n → joined_columns (joined_columns r left n) (suc n) (suc n) ≡ joined_columns r left (suc n)
 spread-more None left n h = let low : min left (suc n) ≡ left = omega arith in let high : max n (suc n) ≡ suc n = omega arith in cc
 spread-more (Some r) left n h =
     let low : min (min r.first left) (suc n) ≡ min r.first left = omega arith in
@@ -35,22 +31,22 @@ spread-more (Some r) left n h =
     cc
 
 -- the test holds from left to right
-touched-span : (left right : ℕ) (test : ℕ → Bool) (r : Option Columns) → ((x : ℕ) → test x ≡ (nat_le left x && nat_le x right)) → (n : ℕ) → left ≤ n → n ≤ right → touched_below (suc n) test r ≡ spread r left n
+touched-span : (left right : ℕ) (test : ℕ → Bool) (r : Option Columns) → ((x : ℕ) → test x ≡ (nat_le left x && nat_le x right)) → (n : ℕ) → left ≤ n → n ≤ right → touched_below (suc n) test r ≡ joined_columns r left n
 touched-span left right test r h zero l u =
     let here : test 0 ≡ true = grind (arith, nat_tests, h 0) in
     let e : left ≡ 0 = omega arith in
-    rw (here, e) (spread-one r 0)
+    rw (here, e) refl
 touched-span left right test r h (suc n) l u =
     let here : test (suc n) ≡ true = grind (arith, nat_tests, h (suc n)) in
     elim (cases_lt n left) [
       | inl below ↦
           let e : left ≡ suc n = omega arith in
           let none : touched_below (suc n) test r ≡ r = touched-none (suc n) test r (λ x lt. grind (arith, nat_tests, h x)) in
-          rw (here, none, e) (spread-one r (suc n))
+          rw (here, none, e) refl
       | inr up ↦ rw (here, touched-span left right test r h n up (omega arith)) (spread-more r left n up)
     ]
 
-pub touched-past : (left right : ℕ) (test : ℕ → Bool) (r : Option Columns) → ((x : ℕ) → test x ≡ (nat_le left x && nat_le x right)) → left ≤ right → (d : ℕ) → touched_below (suc right + d) test r ≡ spread r left right
+pub touched-past : (left right : ℕ) (test : ℕ → Bool) (r : Option Columns) → ((x : ℕ) → test x ≡ (nat_le left x && nat_le x right)) → left ≤ right → (d : ℕ) → touched_below (suc right + d) test r ≡ joined_columns r left right
 touched-past left right test r h l zero = rw add-zero (touched-span left right test r h right l (omega arith))
 touched-past left right test r h l (suc d) =
     let past : test (suc right + d) ≡ false = grind (arith, nat_tests, h (suc right + d)) in
@@ -63,19 +59,19 @@ row_test_off : (a : Window) (y left right : ℕ) (c : Glyph) (z x : ℕ) → (z 
 row_test_off a y left right c z x other = grind (arith, nat_tests)
 
 -- a row that was written touches its columns
-touched-row : (a : Window) (y left right : ℕ) (c : Glyph) → y < a.lines → left ≤ right → right < a.columns → (z : ℕ) → touched_by (filled y left right c) a z ≡ (if z == y then spread (a.touched z) left right else a.touched z)
+touched-row : (a : Window) (y left right : ℕ) (c : Glyph) → y < a.lines → left ≤ right → right < a.columns → (z : ℕ) → touched_by (filled y left right c) a z ≡ (if z == y then joined_columns (a.touched z) left right else a.touched z)
 touched-row a y left right c in_lines l in_cols z =
     let test : ℕ → Bool = λ x. is_some (within a (filled y left right c) z x) in
     elim (cases_eq z y) [
       | inl same ↦
           let on : (z == y) ≡ true = eq-eqb z y same in
           let all : a.columns ≡ suc right + (a.columns - suc right) = omega arith in
-          let e : touched_below a.columns test (a.touched z) ≡ spread (a.touched z) left right =
+          let e : touched_below a.columns test (a.touched z) ≡ joined_columns (a.touched z) left right =
           ap (λ n. touched_below n test (a.touched z)) all ∙ touched-past left right test (a.touched z) (λ x. row_test a y left right c in_lines in_cols z x same) l (a.columns - suc right) in
-          e ∙ sym (cond-true (z == y) (spread (a.touched z) left right) (a.touched z) on)
+          e ∙ sym (cond-true (z == y) (joined_columns (a.touched z) left right) (a.touched z) on)
       | inr other ↦
           let off : (z == y) ≡ false = ne_eqb z y other in
-          touched-none a.columns test (a.touched z) (λ x lt. row_test_off a y left right c z x other) ∙ sym (cond-false (z == y) (spread (a.touched z) left right) (a.touched z) off)
+          touched-none a.columns test (a.touched z) (λ x lt. row_test_off a y left right c z x other) ∙ sym (cond-false (z == y) (joined_columns (a.touched z) left right) (a.touched z) off)
     ]
 
 moved_row_at : (place : GridPlace) (a : Window) (y left right : ℕ) (c : Glyph) → y < a.lines → right < a.columns → (z x : ℕ) → moved place (within a (filled y left right c)) z x ≡ filled (place.line + y) (place.column + left) (place.column + right) c z x
@@ -113,7 +109,7 @@ window_at : (slots : List (Option Kept)) (u w : ℕ) (b a : Window) → window_m
 window_at slots u w b a is here same = let moved_here = ap (window_map slots) same in cc
 
 -- the grid and the marks, by whether they are this window's
-merged_by : (p q : Bool) (b : Window) (f1 f2 : Drawing) (touched : ℕ → Option Columns) (y left right : ℕ) → f2 ≡ f1 → (q ≡ true → touched ≡ (λ z. if z == y then spread (b.touched z) left right else b.touched z)) →
+merged_by : (p q : Bool) (b : Window) (f1 f2 : Drawing) (touched : ℕ → Option Columns) (y left right : ℕ) → f2 ≡ f1 → (q ≡ true → touched ≡ (λ z. if z == y then joined_columns (b.touched z) left right else b.touched z)) →
     (if q then with_touched y left right (if p then with_drawing f1 b else b) else (if p then with_drawing f1 b else b)) ≡ record b { backing = (if p then laid_over f2 b.backing else b.backing); touched = (if q then touched else b.touched) }
 merged_by true true b f1 f2 touched y left right e h = let t = h refl in rw (e, t) refl
 merged_by true false b f1 f2 touched y left right e h = rw e refl
@@ -123,7 +119,7 @@ merged_by false false b f1 f2 touched y left right e h = refl
 -- what is written in a line through a window, which touches its columns from left to right, is one put
 pub put-any : (a0 a1 a2 : List (Option Kept)) (win : ℕ) (place : GridPlace) (k : Kept) (f g : Drawing) (y left right : ℕ) →
     slot_at a0 win ≡ Some k → own (window_map a0) win 0 0 ≡ Some place → moved place (within (window_of k) f) ≡ g →
-    ((z : ℕ) → touched_by f (window_of k) z ≡ (if z == y then spread ((window_of k).touched z) left right else (window_of k).touched z)) →
+    ((z : ℕ) → touched_by f (window_of k) z ≡ (if z == y then joined_columns ((window_of k).touched z) left right else (window_of k).touched z)) →
     Changed a0 a1 place.grid (with_drawing g) → Changed a1 a2 win (with_touched y left right) → window_map a2 ≡ put_windows (window_map a0) win f
 put-any a0 a1 a2 win place k f g y left right e leads moved_is touched h1 h2 =
     let a = window_of k in
@@ -162,7 +158,7 @@ copied_test a window src sy sx dy dx n z x some = grind (arith, nat_tests)
 
 -- they touch their columns
 touched-copied : (a : Window) (window : WindowMap) (src sy sx dy dx n : ℕ) → dy < a.lines → dx + n - 1 < a.columns → 0 < n → (z : ℕ) →
-    touched_by (copied window src sy sx dy dx n false) a z ≡ (if z == dy then spread (a.touched z) dx (dx + n - 1) else a.touched z)
+    touched_by (copied window src sy sx dy dx n false) a z ≡ (if z == dy then joined_columns (a.touched z) dx (dx + n - 1) else a.touched z)
 touched-copied a window src sy sx dy dx n in_lines in_columns some z =
     ap (λ (test : ℕ → Bool). touched_below a.columns test (a.touched z)) (fun_ext (λ x. copied_test a window src sy sx dy dx n z x some))
     ∙ touched-row a dy dx (dx + n - 1) blank in_lines (omega arith) in_columns z

@@ -3,13 +3,13 @@
 ghost use Rattle.std.specs.Prelude.{◌≡◌};
 ghost use Rattle.world.specs.Frames.{joined};
 
-use cell::Frame;
+use cell::Rect;
 
 /// One place.
-pub fn place(y: u16, x: u16) -> Frame
+pub fn place(y: u16, x: u16) -> Rect
     ensures { result ≡ record { top = y; left = x; bottom = y; right = x } }
 {
-    Frame {
+    Rect {
         top: y,
         left: x,
         bottom: y,
@@ -18,13 +18,13 @@ pub fn place(y: u16, x: u16) -> Frame
 }
 
 /// The smallest rectangle that holds two.
-pub fn joined(one: Option<Frame>, other: Option<Frame>) -> Option<Frame>
+pub fn joined(one: Option<Rect>, other: Option<Rect>) -> Option<Rect>
     ensures { result ≡ joined one other }
 {
     match (one, other) {
         (None, _) => other,
         (Some(_), None) => one,
-        (Some(a), Some(b)) => Some(Frame {
+        (Some(a), Some(b)) => Some(Rect {
             top: a.top.min(b.top),
             left: a.left.min(b.left),
             bottom: a.bottom.max(b.bottom),

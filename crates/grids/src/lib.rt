@@ -12,6 +12,7 @@ mod sharing;
 mod sync;
 mod table;
 
-pub use cell::{Attr, Cell, Frame, Refusal, WinId};
+pub use cell::{Attr, Cell, Rect, Refusal, WinId};
+pub use slots::Place;
 pub use table::Grids;
 pub use world::{Columns, Settings};

@@ -13,17 +13,18 @@ ghost use Rattle.grids.specs.Tables.{windows};
 use crate::table::Grids;
 use cell::{Refusal, WinId};
 use slots::list::{mark_slot, unmark_slot};
+use world::Columns;
 
 impl Grids {
-    /// The first and the last touched column of line `y` of a window, and none without one. The line must be there.
-    pub fn touched(&self, win: WinId, y: u16) -> Option<(u16, u16)>
+    /// The touched columns of line `y` of a window. The line must be there.
+    pub fn touched(&self, win: WinId, y: u16) -> Option<Columns>
         requires { HasPlace (windows self.now).window win.0 y 0 }
         ensures columns { result ≡ touched_columns (windows self.now).window win.0 y }
         ensures sound { AreSoundWindows (windows self.now) }
     {
         prove!(self.is_sound());
         match self.slot(win) {
-            Ok(slot) => slot.touched(y).map(|columns| (columns.first, columns.last)),
+            Ok(slot) => slot.touched(y),
             Err(_) => None,
         }
     }

@@ -11,6 +11,13 @@ use crate::table::Grids;
 use cell::{Refusal, WinId};
 
 impl Grids {
+    /// How many lines and columns the screen has.
+    pub fn screen_size(&self) -> (u16, u16)
+        ensures { result ≡ (self.now.lines, self.now.columns) }
+    {
+        (self.lines, self.columns)
+    }
+
     /// Whether there is a window or pad of that number.
     pub fn has_window(&self, win: WinId) -> bool
         ensures value { result ≡ is_some ((windows self.now).window win.0) }

@@ -9,7 +9,7 @@ ghost use Rattle.grids.specs.Tables.{windows};
 
 use crate::frame::joined;
 use crate::table::Grids;
-use cell::{Frame, WinId};
+use cell::{Rect, WinId};
 use slots::Place;
 use slots::list::origin_of;
 
@@ -28,7 +28,7 @@ impl Grids {
         lines: u16,
         columns: u16,
         overlay: bool,
-    ) -> Option<Frame>
+    ) -> Option<Rect>
         requires from { 0 < lines → 0 < columns → HasPlace (windows self.old).window src.0 (sy + lines - 1) (sx + columns - 1) }
         requires to { 0 < lines → 0 < columns → HasPlace (windows self.old).window dst.0 (dy + lines - 1) (dx + columns - 1) }
         ensures written { windows self.new ≡ put (windows self.old) dst.0 (rectangle_copied (windows self.old).window src.0 sy sx dy dx lines columns overlay) }
@@ -62,7 +62,7 @@ impl Grids {
         lines: u16,
         columns: u16,
         overlay: bool,
-    ) -> Option<Frame>
+    ) -> Option<Rect>
         requires some_line { 0 < lines }
         requires some_column { 0 < columns }
         requires from { HasPlace (windows self.old).window from.win.0 (from.line + lines - 1) (from.column + columns - 1) }

@@ -11,7 +11,7 @@ ghost use Rattle.grids.specs.Tables.{windows};
 
 use crate::frame::{joined, place};
 use crate::table::Grids;
-use cell::{Cell, Frame, WinId};
+use cell::{Cell, Rect, WinId};
 use slots::Place;
 use slots::list::{columns_of, fill_row, origin_of, put_row, row_in, touch_row};
 
@@ -106,7 +106,7 @@ impl Grids {
         to: Place,
         n: u16,
         overlay: bool,
-    ) -> Option<Frame>
+    ) -> Option<Rect>
         requires some { 0 < n }
         requires from { HasPlace (windows self.old).window from.win.0 from.line (from.column + n - 1) }
         requires to { HasPlace (windows self.old).window to.win.0 to.line (to.column + n - 1) }
@@ -121,7 +121,7 @@ impl Grids {
     }
 
     /// Copies all cells: it reads them into the spare line, and then writes that.
-    fn copy_cells(&mut self, from: Place, to: Place, n: u16) -> Option<Frame>
+    fn copy_cells(&mut self, from: Place, to: Place, n: u16) -> Option<Rect>
         requires some { 0 < n }
         requires from { HasPlace (windows self.old).window from.win.0 from.line (from.column + n - 1) }
         requires to { HasPlace (windows self.old).window to.win.0 to.line (to.column + n - 1) }
@@ -146,7 +146,7 @@ impl Grids {
         );
         let right = to.column + n - 1;
         touch_row(&mut self.slots, to.win.0, to.line, to.column, right);
-        Some(Frame {
+        Some(Rect {
             top: to.line,
             left: to.column,
             bottom: to.line,
@@ -155,7 +155,7 @@ impl Grids {
     }
 
     /// Copies the cells that aren't spaces, from the end at which no cell is written before it is read.
-    fn overlay_cells(&mut self, from: Place, to: Place, n: u16) -> Option<Frame>
+    fn overlay_cells(&mut self, from: Place, to: Place, n: u16) -> Option<Rect>
         requires some { 0 < n }
         requires from { HasPlace (windows self.old).window from.win.0 from.line (from.column + n - 1) }
         requires to { HasPlace (windows self.old).window to.win.0 to.line (to.column + n - 1) }
@@ -180,7 +180,7 @@ impl Grids {
     }
 
     /// Copies one cell unless it is a space.
-    fn overlay_cell(&mut self, from: Place, to: Place) -> Option<Frame>
+    fn overlay_cell(&mut self, from: Place, to: Place) -> Option<Rect>
         requires from { HasPlace (windows self.old).window from.win.0 from.line from.column }
         requires to { HasPlace (windows self.old).window to.win.0 to.line to.column }
         ensures written { windows self.new ≡ put (windows self.old) to.win.0 (copied (windows self.old).window from.win.0 from.line from.column to.line to.column 1 true) }

@@ -9,9 +9,9 @@ ghost use Rattle.grids.specs.Tables.{windows};
 ghost use Rattle.slots.specs.Slots.{depth_at, in_parent};
 ghost use Rattle.grids.specs.steps.Syncs.{part_behind};
 
-use crate::sync::clipped;
+use crate::sync::clip;
 use crate::table::Grids;
-use cell::{Frame, WinId};
+use cell::{Rect, WinId};
 use slots::Place;
 use slots::list::origin_of;
 use slots::parents::place_in_parent;
@@ -20,7 +20,7 @@ use world::Columns;
 impl Grids {
     /// The rectangle of window `to` at whose places it shows a cell that `from` shows in a rectangle of it, ends inclusive; none if
     /// there is no such place. Both windows must be there, and `from` hold the rectangle.
-    pub fn seen_in(&self, from: WinId, frame: Frame, to: WinId) -> Option<Frame>
+    pub fn seen_in(&self, from: WinId, frame: Rect, to: WinId) -> Option<Rect>
         requires ordered_lines { frame.top ≤ frame.bottom }
         requires ordered_columns { frame.left ≤ frame.right }
         requires inside { HasPlace (windows self.now).window from.0 frame.bottom frame.right }
@@ -43,9 +43,9 @@ impl Grids {
             first: frame.left,
             last: frame.right,
         };
-        let down = clipped(Some(top_to_bottom), source.line, target.line, lines)?;
-        let along = clipped(Some(left_to_right), source.column, target.column, columns)?;
-        Some(Frame {
+        let down = clip(Some(top_to_bottom), source.line, target.line, lines)?;
+        let along = clip(Some(left_to_right), source.column, target.column, columns)?;
+        Some(Rect {
             top: down.first,
             left: along.first,
             bottom: down.last,

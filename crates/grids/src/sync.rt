@@ -118,7 +118,7 @@ impl Grids {
             return None;
         }
         let touched = self.touched_columns(source, line - source_at.0);
-        clipped(touched, source_at.1, at.1, columns)
+        clip(touched, source_at.1, at.1, columns)
     }
 
     /// The touched columns of a line of a window. The line must be there.
@@ -156,7 +156,7 @@ impl Grids {
 }
 
 /// Which of a line's columns, where it begins at one place, columns of another line are that begins at another.
-pub fn clipped(touched: Option<Columns>, from: u16, to: u16, columns: u16) -> Option<Columns>
+pub fn clip(touched: Option<Columns>, from: u16, to: u16, columns: u16) -> Option<Columns>
     requires some { 0 < columns }
     requires source { MatchOption touched ⊤ (λ r. (r.first ≤ r.last) × (from + r.last < LARGEST_PAD)) }
     requires target { to + columns ≤ LARGEST_PAD }

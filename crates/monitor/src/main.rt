@@ -11,7 +11,6 @@ const LINES: u16 = 8;
 const COLUMNS: u16 = 40;
 
 /// The standard screen, which is always there.
-const STANDARD: WinId = WinId(0);
 
 /// How often the monitor updates what it shows.
 const UPDATES: u64 = 9;
@@ -60,9 +59,9 @@ struct Monitor<W> {
 
 /// Writes the title, and makes the list below it, which has no cells of its own: it shows lines of the standard screen.
 fn make_list<W: Sink>(screen: &mut Screen<W>) -> Result<WinId, Fault> {
-    screen.wattron(STANDARD, Attr::BOLD)?;
-    screen.waddstr(STANDARD, b"updates")?;
-    let list = screen.derwin(STANDARD, LINES - 1, COLUMNS, 1, 0)?;
+    screen.wattron(WinId::STANDARD, Attr::BOLD)?;
+    screen.waddstr(WinId::STANDARD, b"updates")?;
+    let list = screen.derwin(WinId::STANDARD, LINES - 1, COLUMNS, 1, 0)?;
     screen.scrollok(list, true)?;
     Ok(list)
 }

@@ -11,13 +11,13 @@ use Rattle.ecma.specs.declared.token.Token.TheVariants.{Ed}
 use Rattle.ecma.specs.Terminals.{blanked, erased_page}
 use Rattle.streams.specs.Sinks.{Seen}
 use Rattle.paint.specs.declared.pen.Pen.{Pen}
-use Rattle.paint.specs.steps.Strokes.{Draws, Strokes, picture_bytes}
-use Rattle.paint.specs.steps.Walks.{mixed, IsChangedTail, IsPicturePainted, IsReadyToErase}
+use Rattle.paint.specs.steps.Strokes.{Draws, Strokes, line_bytes, picture_bytes}
+use Rattle.paint.specs.steps.Walks.{mixed, AreBlank, IsPicturePainted, IsReadyToErase}
 use Rattle.paint.proofs.Mixed.{drop-mixed, length-mixed, mixed-at, mixed-more, take-mixed}
 use Rattle.paint.proofs.Shows.{blanked-all}
 use Rattle.paint.proofs.Strokes.{Strokes-more, Strokes-then}
 use Rattle.paint.proofs.Tails.{kept-later}
-use Rattle.paint.proofs.Walks.{erased-mixed}
+use Rattle.paint.proofs.Walks.{erased-mixed, line_bytes-changed, picture_bytes-later}
 
 -- lines of one width are blank alike
 blank-rest : (lines columns n : ℕ) (picture : Picture) → HasSize lines columns picture → map blanked (drop n picture) ≡ blank_picture (length (drop n picture)) columns
@@ -25,8 +25,18 @@ blank-rest lines columns n picture size =
     blanked-all columns (drop n picture)
     (recursion_from_All (λ line. length line ≡ columns) (drop n picture) (All-drop (λ line. length line ≡ columns) n picture (All-from_recursion (λ line. length line ≡ columns) picture size.width)))
 
-module _ {lines columns : ℕ} {shown wanted : Picture} (old_size : HasSize lines columns shown) (new_size : HasSize lines columns wanted) {y x blank : ℕ} (inside : y < lines) (below : blank ≤ y + 1)
-    (all_blank : map blanked (drop blank wanted) ≡ drop blank wanted) (tail : IsChangedTail (line_of shown y) (line_of wanted y) x) where
+-- a page of which a line is changed from one on may still cost as much as a blank cell
+pub changed-below : {lines columns : ℕ} {shown wanted : Picture} → HasSize lines columns shown → HasSize lines columns wanted → (y z : ℕ) → y ≤ z → z < lines
+    → (line_of shown z ≡ line_of wanted z → ⊥) → 27 ≤ picture_bytes (drop y shown) (drop y wanted)
+changed-below {lines} {columns} {shown} {wanted} old_size new_size y z below inside changed =
+    let one = drop_more shown z [] (omega (arith, old_size.height)) in
+    let other = drop_more wanted z [] (omega (arith, new_size.height)) in
+    let left : picture_bytes (drop z shown) (drop z wanted) ≡ picture_bytes (line_of shown z ∷ drop (z + 1) shown) (line_of wanted z ∷ drop (z + 1) wanted) = λ i. picture_bytes (one i) (other i) in
+    let same : length (line_of shown z) ≡ length (line_of wanted z) = length-line z old_size inside ∙ sym (length-line z new_size inside) in
+    omega (arith, left, line_bytes-changed (line_of shown z) (line_of wanted z) same changed, picture_bytes-later y z shown wanted below)
+
+module _ {lines columns : ℕ} {shown wanted : Picture} (old_size : HasSize lines columns shown) (new_size : HasSize lines columns wanted) {y e x blank : ℕ} (inside : y < lines) (below : blank ≤ y + 1)
+    (all_blank : map blanked (drop blank wanted) ≡ drop blank wanted) (before_x : e ≤ x) (few : x ≤ length (line_of wanted y)) (tail : AreBlank (drop e (line_of wanted y))) where
   abbrev before : Picture
   before = set (mixed y wanted shown) y (mixed x (line_of wanted y) (line_of shown y))
 
@@ -46,21 +56,29 @@ module _ {lines columns : ℕ} {shown wanted : Picture} (old_size : HasSize line
       ap (map blanked) kept ∙ blank-rest lines columns (y + 1) shown old_size ∙ ap (λ n. blank_picture n columns) long ∙ sym (blank-rest lines columns (y + 1) wanted new_size)
       ∙ kept-later blanked blank (y + 1) wanted below all_blank
 
-  erased : erased_page ToEnd (y, x) before ≡ wanted
+  erased : erased_page ToEnd (y, e) before ≡ wanted
   erased =
-      let line = erased-mixed (mixed y wanted shown) y x (line_of shown y) (line_of wanted y) same-lines (omega (arith, length-mixed y wanted shown same, old_size.height)) tail in
+      let line = erased-mixed (mixed y wanted shown) y e x (line_of shown y) (line_of wanted y) same-lines (omega (arith, length-mixed y wanted shown same, old_size.height)) before_x few tail in
       (λ i. take (y + 1) (line i) ++ back i) ∙ ap (λ rows. rows ++ drop (y + 1) wanted) front ∙ take-append-drop (y + 1) wanted
 
-  pub page-erased : {a b c d : Seen} {first pen next last : Pen} → IsPicturePainted a b first pen y shown wanted → IsReadyToErase b c pen next y x (line_of shown y) (line_of wanted y)
-      → ((picture : Picture) → Draws (spelling (Ed ToEnd)) c d next last picture (erased_page ToEnd (y, x) picture)) → Strokes (picture_bytes shown wanted) a d first last shown wanted
-  page-erased {c} {d} {next} {last} h k draws =
-      let one = drop_more shown y [] (omega (arith, old_size.height)) in
-      let other = drop_more wanted y [] (omega (arith, new_size.height)) in
-      let left : picture_bytes (drop y shown) (drop y wanted) ≡ picture_bytes (line_of shown y ∷ drop (y + 1) shown) (line_of wanted y ∷ drop (y + 1) wanted) = λ i. picture_bytes (one i) (other i) in
-      let erasure : Strokes 4 c d next last before wanted = record {
-        piece = spelling (Ed ToEnd);
-        draws = subst (Draws (spelling (Ed ToEnd)) c d next last before) erased (draws before);
-        short = length-spelling (Ed ToEnd) tt;
-      } in
-      let ready = k.strokes (mixed y wanted shown) (omega (arith, length-mixed y wanted shown same, old_size.height)) (mixed-at [] y wanted shown (omega (arith, old_size.height)) same) in
-      Strokes-more (Strokes-then (Strokes-then h.strokes ready) erasure) (omega (arith, h.within, k.within, left))
+  pub drawn : {c d : Seen} {next last : Pen} → ((picture : Picture) → Draws (spelling (Ed ToEnd)) c d next last picture (erased_page ToEnd (y, e) picture)) → Strokes 4 c d next last before wanted
+  drawn {c} {d} {next} {last} draws = record {
+    piece = spelling (Ed ToEnd);
+    draws = subst (Draws (spelling (Ed ToEnd)) c d next last before) erased (draws before);
+    short = length-spelling (Ed ToEnd) tt;
+  }
+
+pub page-erased : {lines columns : ℕ} {shown wanted : Picture} → HasSize lines columns shown → HasSize lines columns wanted → {y e blank z : ℕ} → blank ≤ y + 1
+    → map blanked (drop blank wanted) ≡ drop blank wanted → y < z → z < lines → (line_of shown z ≡ line_of wanted z → ⊥)
+    → {a b c d : Seen} {first pen next last : Pen} → IsPicturePainted a b first pen y shown wanted
+    → IsReadyToErase (line_bytes (line_of shown y) (line_of wanted y) + 27) b c pen next y e (line_of shown y) (line_of wanted y)
+    → ((picture : Picture) → Draws (spelling (Ed ToEnd)) c d next last picture (erased_page ToEnd (y, e) picture)) → Strokes (picture_bytes shown wanted) a d first last shown wanted
+page-erased {lines} {columns} {shown} {wanted} old_size new_size {y} {e} {blank} {z} below all_blank later last_line changed h k draws =
+    let inside : y < lines = omega arith in
+    let same : length shown ≡ length wanted = old_size.height ∙ sym new_size.height in
+    let one = drop_more shown y [] (omega (arith, old_size.height)) in
+    let other = drop_more wanted y [] (omega (arith, new_size.height)) in
+    let left : picture_bytes (drop y shown) (drop y wanted) ≡ picture_bytes (line_of shown y ∷ drop (y + 1) shown) (line_of wanted y ∷ drop (y + 1) wanted) = λ i. picture_bytes (one i) (other i) in
+    let rest = changed-below old_size new_size (y + 1) z (omega arith) last_line changed in
+    let ready = k.strokes (mixed y wanted shown) (omega (arith, length-mixed y wanted shown same, old_size.height)) (mixed-at [] y wanted shown (omega (arith, old_size.height)) same) in
+    Strokes-more (Strokes-then (Strokes-then h.strokes ready) (drawn old_size new_size inside below all_blank k.beyond k.inside k.blank draws)) (omega (arith, h.within, k.within, left, rest))

@@ -1,8 +1,9 @@
 -- The strokes of a pen, one after another, and what each shows.
-use Rattle.std.proofs.Common.{◌≡◌, ℕ, ◌+◌, ◌<◌, ◌≤◌, true, false, List, [], ◌∷◌, ◌++◌, length, Option, Some, None, inl, inr, get_or, set, take, drop, add-zero, refl, sym, ap, ◌∙◌, subst, arith, append_assoc, append-nil, length-append}
-use Rattle.std.specs.Prelude.{◌&&◌, ◌==◌}
+use Rattle.std.proofs.Common.{◌≡◌, ℕ, ◌+◌, ◌-◌, ◌<◌, ◌≤◌, Bool, true, false, List, [], ◌∷◌, ◌++◌, length, Option, Some, None, inl, inr, get_or, set, take, drop, add-zero, refl, sym, ap, ◌∙◌, subst, arith, append_assoc, append-nil, length-append}
+use Rattle.std.specs.Prelude.{◌&&◌, ◌==◌, if◌then◌else◌, min}
+use Rattle.std.proofs.Math.Nat.{le-min, min-eq_left, min-le_right}
 use Rattle.std.proofs.lemmas.Bool.{and_parts, cases_Bool, eqb-true, lt-ltb}
-use Rattle.std.proofs.lemmas.List.{get_or-drop, get_or-take, set-get_or}
+use Rattle.std.proofs.lemmas.List.{drop_all, drop_more, get_or-drop, get_or-take, length-drop, length-take-le, set-get_or}
 use Rattle.cell.specs.Shown.{shown_blank, no_rendition, Shown, Rendition, IsRendition, IsShown}
 use Rattle.cell.specs.Pictures.{Picture, Place, line_of, with_shown}
 use Rattle.cell.specs.Differences.{same_rendition}
@@ -12,6 +13,7 @@ use Rattle.ecma.specs.declared.token.Erase.TheVariants.{ToEnd}
 use Rattle.std.specs.Fmt.{digits}
 use Rattle.ecma.specs.Spelling.{spelling, codes_of_attributes, token_effect, IsToken}
 use Rattle.ecma.specs.Terminals.{erased_at, erased_page}
+use Rattle.ecma.proofs.Difference.{same_rendition-equal}
 use Rattle.ecma.proofs.Joining.{Leads-append}
 use Rattle.ecma.proofs.Leading.{Leads-nothing, Leads-token}
 use Rattle.ecma.proofs.Lengths.{length-selection, length-spelling}
@@ -21,7 +23,7 @@ use Rattle.streams.specs.Sinks.{Seen}
 use Rattle.paint.specs.declared.outbox.Outbox.{Outbox}
 use Rattle.paint.specs.declared.pen.Pen.{Pen}
 use Rattle.paint.specs.steps.Gathering.{Gathers, IsGathered}
-use Rattle.paint.specs.steps.Strokes.{behind, change, is_at, move_from, under, Draws, Strokes, approach_bytes, cell_bytes}
+use Rattle.paint.specs.steps.Strokes.{behind, change, is_at, move_from, under, ArePrinted, Draws, Strokes, again_bytes, approach_bytes, cell_bytes, most_approach, moved_bytes, reach_bytes}
 
 -- ---- one after another
 
@@ -134,17 +136,11 @@ prints old new place cell picture is known same wide gathers rendition cursor = 
 
 -- ---- cells that are shown already
 
--- the first of them were printed
-pub record ArePrinted (before now : Seen) (old pen : Pen) (line column i : ℕ) (cells : List Shown) : Type 0 where
-  pub strokes : (picture : Picture) → length (line_of picture line) ≡ old.columns → take (length cells) (drop column (line_of picture line)) ≡ cells → Strokes i before now old pen picture picture
-  pub rendition : pen.rendition ≡ old.rendition
-  pub cursor : pen.cursor ≡ Some (line, column + i)
-  pub columns : pen.columns ≡ old.columns
-
 pub printed-none : (seen : Seen) (pen : Pen) (line column : ℕ) (cells : List Shown) → pen.cursor ≡ Some (line, column) → ArePrinted seen seen pen pen line column 0 cells
 printed-none seen pen line column cells cursor = record {
+  spent = 0;
+  left = λ wanted. omega arith;
   strokes = λ picture wide are. Strokes-nothing seen pen picture;
-  rendition = refl;
   cursor = cursor ∙ ap (λ n. Some (line, n)) (sym (add-zero column));
   columns = refl;
 }
@@ -160,25 +156,40 @@ stands picture line column i cells cell are inside is =
     ∙ ap (set picture line) (set-get_or row (column + i) shown_blank)
     ∙ set-get_or picture line []
 
-pub printed-more : {before mid now : Seen} {old pen next : Pen} {line column i : ℕ} {cells : List Shown} (cell : Shown) → ArePrinted before mid old pen line column i cells → i < length cells
-    → cell ≡ get_or cells i shown_blank → column + length cells < old.columns
-    → ((picture : Picture) → length (line_of picture line) ≡ pen.columns → Draws (cell.character ∷ []) mid now pen next picture (with_shown picture (line, column + i) cell))
-    → next.rendition ≡ pen.rendition → next.cursor ≡ behind pen.columns (line, column + i) → next.columns ≡ pen.columns
+-- the next cell is selected and printed
+pub printed-more : {before mid chosen now : Seen} {old pen selected next : Pen} {line column i : ℕ} {cells : List Shown} (cell : Shown) → ArePrinted before mid old pen line column i cells
+    → i < length cells → cell ≡ get_or cells i shown_blank → column + length cells < old.columns
+    → ((picture : Picture) → Draws (change pen.rendition cell.rendition) mid chosen pen selected picture picture) → selected.columns ≡ pen.columns
+    → ((picture : Picture) → length (line_of picture line) ≡ selected.columns
+    → Draws (cell.character ∷ []) chosen now selected next picture (with_shown picture (line, column + i) cell))
+    → next.rendition ≡ cell.rendition → next.cursor ≡ behind selected.columns (line, column + i) → next.columns ≡ selected.columns
     → ArePrinted before now old next line column (i + 1) cells
-printed-more {before} {mid} {now} {old} {pen} {next} {line} {column} {i} {cells} cell h inside is room draws rendition cursor columns = record {
+printed-more {before} {mid} {chosen} {now} {old} {pen} {selected} {next} {line} {column} {i} {cells} cell h inside is room selects same draws rendition cursor columns = record {
+  spent = h.spent + (length (change pen.rendition cell.rendition) + 1);
+  left = λ wanted.
+      let rest : drop i cells ≡ cell ∷ drop (i + 1) cells = drop_more cells i shown_blank inside ∙ ap (λ (c : Shown). c ∷ drop (i + 1) cells) (sym is) in
+      let one : again_bytes pen.rendition (drop i cells) wanted ≡ length (change pen.rendition cell.rendition) + 1 + again_bytes cell.rendition (drop (i + 1) cells) wanted =
+      ap (λ l. again_bytes pen.rendition l wanted) rest in
+      let other : again_bytes next.rendition (drop (i + 1) cells) wanted ≡ again_bytes cell.rendition (drop (i + 1) cells) wanted =
+      ap (λ r. again_bytes r (drop (i + 1) cells) wanted) rendition in
+      omega (arith, h.left wanted, one, other);
   strokes = λ picture wide are.
-      let one : Strokes 1 mid now pen next picture picture = record {
-        piece = cell.character ∷ [];
-        draws = subst (Draws (cell.character ∷ []) mid now pen next picture) (stands picture line column i cells cell are inside is) (draws picture (wide ∙ sym h.columns));
+      let selection : Strokes (length (change pen.rendition cell.rendition)) mid chosen pen selected picture picture = record {
+        piece = change pen.rendition cell.rendition;
+        draws = selects picture;
         short = omega arith;
       } in
-      Strokes-then (h.strokes picture wide are) one;
-  rendition = rendition ∙ h.rendition;
+      let one : Strokes 1 chosen now selected next picture picture = record {
+        piece = cell.character ∷ [];
+        draws = subst (Draws (cell.character ∷ []) chosen now selected next picture) (stands picture line column i cells cell are inside is) (draws picture (wide ∙ sym h.columns ∙ sym same));
+        short = omega arith;
+      } in
+      Strokes-then (h.strokes picture wide are) (Strokes-then selection one);
   cursor =
-      let more : column + i + 1 < pen.columns = omega (arith, room, h.columns) in
+      let more : column + i + 1 < selected.columns = omega (arith, room, h.columns, same) in
       let next_column : column + i + 1 ≡ column + (i + 1) = omega arith in
-      cursor ∙ rw (lt-ltb (column + i + 1) pen.columns more) (ap (λ n. Some (line, n)) next_column);
-  columns = columns ∙ h.columns;
+      cursor ∙ rw (lt-ltb (column + i + 1) selected.columns more) (ap (λ n. Some (line, n)) next_column);
+  columns = columns ∙ same ∙ h.columns;
 }
 
 -- ---- erasing
@@ -219,33 +230,103 @@ length-change old new = elim (cases_Bool (same_rendition new old)) [
 
 -- ---- an approach, and a cell behind it
 
-pub approach-move : {a b c : Seen} {x y z : Pen} {picture : Picture} (place : Place) (rendition : Rendition) → place.0 < LARGEST_SCREEN → place.1 < LARGEST_SCREEN
-    → Draws (move_from x.cursor place) a b x y picture picture → Draws (change y.rendition rendition) b c y z picture picture → Strokes (approach_bytes rendition) a c x z picture picture
-approach-move {x} {y} place rendition few_lines few_columns h k = record {
+pub approach-move : {a b c : Seen} {x y z : Pen} {picture : Picture} (place : Place) (rendition : Rendition)
+    → Draws (move_from x.cursor place) a b x y picture picture → y.rendition ≡ x.rendition → Draws (change y.rendition rendition) b c y z picture picture
+    → Strokes (moved_bytes x.cursor x.rendition place rendition) a c x z picture picture
+approach-move {x} {y} place rendition h same k = record {
   piece = move_from x.cursor place ++ change y.rendition rendition;
   draws = Draws-then h k;
-  short = omega (arith, length-append (move_from x.cursor place) (change y.rendition rendition), length-move x.cursor place few_lines few_columns, length-change y.rendition rendition);
+  short = omega (arith, length-append (move_from x.cursor place) (change y.rendition rendition), ap (λ r. length (change r rendition)) same);
 }
 
 selection-strokes : {a b : Seen} {x y : Pen} {picture : Picture} (rendition : Rendition) → Draws (change x.rendition rendition) a b x y picture picture
-    → Strokes (length (spelling (Sgr rendition))) a b x y picture picture
-selection-strokes {x} rendition h = record { piece = change x.rendition rendition; draws = h; short = length-change x.rendition rendition }
+    → Strokes (length (change x.rendition rendition)) a b x y picture picture
+selection-strokes {x} rendition h = record { piece = change x.rendition rendition; draws = h; short = omega arith }
 
-pub approach-behind : {a b c : Seen} {x y z : Pen} {picture : Picture} {n : ℕ} (rendition : Rendition) → n ≤ 10
-    → Strokes n a b x y picture picture → Draws (change y.rendition rendition) b c y z picture picture → Strokes (approach_bytes rendition) a c x z picture picture
-approach-behind rendition few h k = Strokes-more (Strokes-then h (selection-strokes rendition k)) (omega (arith, few))
+pub approach-again : {a b c : Seen} {x y z : Pen} {picture : Picture} {line column : ℕ} {cells : List Shown} (rendition : Rendition)
+    → ArePrinted a b x y line column (length cells) cells → length (line_of picture line) ≡ x.columns → take (length cells) (drop column (line_of picture line)) ≡ cells
+    → Draws (change y.rendition rendition) b c y z picture picture → Strokes (again_bytes x.rendition cells rendition) a c x z picture picture
+approach-again {y} {picture} {cells} rendition h wide are k =
+    let none : again_bytes y.rendition (drop (length cells) cells) rendition ≡ length (change y.rendition rendition) =
+    ap (λ l. again_bytes y.rendition l rendition) (drop_all (length cells) cells (omega arith)) in
+    Strokes-more (Strokes-then (h.strokes picture wide are) (selection-strokes rendition k)) (omega (arith, h.left rendition, none))
 
-pub approach-before : {a b c : Seen} {x y z : Pen} {picture : Picture} {n : ℕ} (rendition : Rendition) → n ≤ 10
-    → Draws (change x.rendition rendition) a b x y picture picture → Strokes n b c y z picture picture → Strokes (approach_bytes rendition) a c x z picture picture
-approach-before rendition few h k = Strokes-more (Strokes-then (selection-strokes rendition h) k) (omega (arith, few))
+moved-most : (cursor : Option Place) (rendition : Rendition) (place : Place) (wanted : Rendition) → place.0 < LARGEST_SCREEN → place.1 < LARGEST_SCREEN
+    → moved_bytes cursor rendition place wanted ≤ most_approach wanted
+moved-most cursor rendition place wanted few_lines few_columns = omega (arith, length-move cursor place few_lines few_columns, length-change rendition wanted)
 
-pub cell-strokes : {a b c : Seen} {x y z : Pen} {picture drawn : Picture} (cell : Shown) → IsRendition cell.rendition → Strokes (approach_bytes cell.rendition) a b x y picture picture
+least : (b : Bool) (m n most : ℕ) → n ≤ most → (if b then min m n else n) ≤ most
+least true m n most h = omega (arith, min-le_right m n)
+least false m n most h = h
+
+pub approach-most : (cursor : Option Place) (rendition : Rendition) (start : Place) (gap : List Shown) (wanted : Rendition) → start.0 < LARGEST_SCREEN → start.1 + length gap < LARGEST_SCREEN
+    → approach_bytes cursor rendition start gap wanted ≤ most_approach wanted
+approach-most cursor rendition start gap wanted few_lines few_columns =
+    let place : Place = (start.0, start.1 + length gap) in
+    least (is_at cursor start) (again_bytes rendition gap wanted) (moved_bytes cursor rendition place wanted) (most_approach wanted) (moved-most cursor rendition place wanted few_lines few_columns)
+
+pub cell-strokes : {a b c : Seen} {x y z : Pen} {picture drawn : Picture} {n : ℕ} (cell : Shown) → IsRendition cell.rendition → n ≤ most_approach cell.rendition → Strokes n a b x y picture picture
     → Draws (cell.character ∷ []) b c y z picture drawn → Strokes (cell_bytes cell) a c x z picture drawn
-cell-strokes cell is h k = record {
+cell-strokes cell is few h k = record {
   piece = h.piece ++ cell.character ∷ [];
   draws = Draws-then h.draws k;
-  short = omega (arith, h.short, length-append h.piece (cell.character ∷ []), length-selection cell.rendition is);
+  short = omega (arith, h.short, few, length-append h.piece (cell.character ∷ []), length-selection cell.rendition is);
 }
+
+-- ---- which of two ways takes fewer bytes
+
+pub again-all : (cursor : Option Place) (rendition : Rendition) (start : Place) (gap : List Shown) (wanted : Rendition) → is_at cursor start ≡ true
+    → again_bytes rendition gap wanted ≤ moved_bytes cursor rendition (start.0, start.1 + length gap) wanted
+    → approach_bytes cursor rendition start gap wanted ≡ again_bytes rendition gap wanted
+again-all cursor rendition start gap wanted at few = rw at (min-eq_left few)
+
+pub moved-far : (cursor : Option Place) (rendition : Rendition) (start : Place) (gap : List Shown) (wanted : Rendition) → is_at cursor start ≡ false
+    → approach_bytes cursor rendition start gap wanted ≡ moved_bytes cursor rendition (start.0, start.1 + length gap) wanted
+moved-far cursor rendition start gap wanted far = rw far refl
+
+moved-less : (b : Bool) (m n : ℕ) → n ≤ m → (if b then min m n else n) ≡ n
+moved-less true m n h = omega (arith, min-le_right m n, le-min {k = n} {a = m} {b = n} h (omega arith))
+moved-less false m n h = refl
+
+pub moved-all : (cursor : Option Place) (rendition : Rendition) (start : Place) (gap : List Shown) (wanted : Rendition)
+    → moved_bytes cursor rendition (start.0, start.1 + length gap) wanted ≤ again_bytes rendition gap wanted
+    → approach_bytes cursor rendition start gap wanted ≡ moved_bytes cursor rendition (start.0, start.1 + length gap) wanted
+moved-all cursor rendition start gap wanted few =
+    moved-less (is_at cursor start) (again_bytes rendition gap wanted) (moved_bytes cursor rendition (start.0, start.1 + length gap) wanted) few
+
+-- a gap of no cells is left out
+pub moved-empty : (cursor : Option Place) (rendition : Rendition) (start : Place) (gap : List Shown) (wanted : Rendition) → gap ≡ []
+    → approach_bytes cursor rendition start gap wanted ≡ moved_bytes cursor rendition (start.0, start.1 + length gap) wanted
+moved-empty cursor rendition start gap wanted none = elim (cases_Bool (is_at cursor start)) [
+  | inr far ↦ moved-far cursor rendition start gap wanted far
+  | inl at ↦
+      let here : (start.0, start.1 + length gap) ≡ start = let column : start.1 + length gap ≡ start.1 = omega (arith, ap (length {A = Shown}) none) in λ i. (start.0, column i) in
+      let still : length (move_from cursor (start.0, start.1 + length gap)) ≡ 0 = ap (λ place. length (move_from cursor place)) here ∙ ap (length {A = ℕ}) (move-none cursor start at) in
+      let again : again_bytes rendition gap wanted ≡ length (change rendition wanted) = ap (λ l. again_bytes rendition l wanted) none in
+      moved-all cursor rendition start gap wanted (omega (arith, still, again))
+]
+
+pub length-stay : (cursor : Option Place) (place : Place) → is_at cursor place ≡ true → length (move_from cursor place) ≡ 0
+length-stay cursor place at = ap (length {A = ℕ}) (move-none cursor place at)
+
+pub length-go : (cursor : Option Place) (place : Place) → is_at cursor place ≡ false → length (move_from cursor place) ≡ length (spelling (Cup place.0 place.1))
+length-go cursor place far = ap (length {A = ℕ}) (move-some cursor place far)
+
+-- a cell printed again takes a byte at least, and a selection behind it is no longer than one through it
+change-through : (a b c : Rendition) → length (change a c) ≤ length (change a b) + length (change b c)
+change-through a b c = elim (cases_Bool (same_rendition c b)) [
+  | inl same ↦ let is : c ≡ b = same_rendition-equal c b same in omega (arith, ap (λ r. length (change a r)) is)
+  | inr other ↦ omega (arith, length-change a c, ap (length {A = ℕ}) (change-other b c other))
+]
+
+again-least : (rendition : Rendition) (gap : List Shown) (wanted : Rendition) → length gap + length (change rendition wanted) ≤ again_bytes rendition gap wanted
+again-least rendition [] wanted = omega arith
+again-least rendition (cell ∷ gap) wanted = omega (arith, again-least cell.rendition gap wanted, change-through rendition cell.rendition wanted)
+
+pub moved-long : (cursor : Option Place) (rendition : Rendition) (start : Place) (gap : List Shown) (wanted : Rendition) → start.0 < LARGEST_SCREEN → start.1 + length gap < LARGEST_SCREEN
+    → 10 < length gap → moved_bytes cursor rendition (start.0, start.1 + length gap) wanted ≤ again_bytes rendition gap wanted
+moved-long cursor rendition start gap wanted few_lines few_columns long =
+    omega (arith, again-least rendition gap wanted, length-move cursor (start.0, start.1 + length gap) few_lines few_columns)
 
 -- ---- an erasure behind it
 
@@ -258,5 +339,14 @@ pub length-ended : (old : Rendition) → length (change old no_rendition) ≤ 4
 length-ended old = omega (arith, four, length-change old no_rendition)
 
 -- a pen that comes to an erasure needs no more than a changed cell
-pub erasure-room : {a b : Seen} {x y : Pen} {picture : Picture} → Strokes (approach_bytes no_rendition) a b x y picture picture → Strokes 23 a b x y picture picture
-erasure-room h = Strokes-more h (omega (arith, four))
+pub erasure-room : {n : ℕ} → n ≤ most_approach no_rendition → n ≤ 23
+erasure-room few = omega (arith, four)
+
+-- the pen comes to a column of a line's blank end
+pub reach-most : (cursor : Option Place) (rendition : Rendition) (line : ℕ) (cells : List Shown) (gap column : ℕ) → line < LARGEST_SCREEN → column < length cells → length cells ≤ LARGEST_SCREEN
+    → reach_bytes cursor rendition line cells gap column ≤ 23
+reach-most cursor rendition line cells gap column few inside wide =
+    let start = min gap column in
+    let ordered : start ≤ column = min-le_right gap column in
+    let long : length (take (column - start) (drop start cells)) ≡ column - start = length-take-le (column - start) (drop start cells) (omega (arith, length-drop start cells)) in
+    erasure-room (approach-most cursor rendition (line, start) (take (column - start) (drop start cells)) no_rendition few (omega (arith, long)))

@@ -1,9 +1,9 @@
 -- The blank end of a line.
-use Rattle.std.proofs.Common.{◌≡◌, ℕ, zero, suc, ◌+◌, ◌-◌, ◌≤◌, List, [], ◌∷◌, length, map, take, drop, Some, refl, sym, ap, ◌∙◌, arith}
+use Rattle.std.proofs.Common.{◌≡◌, ℕ, zero, suc, ◌+◌, ◌-◌, ◌<◌, ◌≤◌, get_or, List, [], ◌∷◌, length, map, take, drop, Some, refl, sym, ap, ◌∙◌, arith}
 use Rattle.std.proofs.lemmas.List.{drop-drop, get_or-drop, length-drop, take_rest}
 use Rattle.cell.specs.Differences.{DiffersAt}
 use Rattle.cell.specs.Shown.{Shown, shown_blank}
-use Rattle.paint.specs.steps.Walks.{AreBlank, IsErasedFrom}
+use Rattle.paint.specs.steps.Walks.{IsChangedFrom}
 
 kept-drop : {A : Type 0} (f : A → A) (n : ℕ) (items : List A) → map f items ≡ items → map f (drop n items) ≡ drop n items
 kept-drop f zero items h = h
@@ -23,8 +23,20 @@ differs-later n x old new h = record {
   differs = λ same. h.differs (get_or-drop n old x shown_blank ∙ same ∙ sym (get_or-drop n new x shown_blank));
 }
 
-pub erased-from : (shown wanted : List Shown) (first tail start skipped : ℕ) → AreBlank (drop tail wanted) → tail ≤ start → first ≤ start
+pub changed-from : (shown wanted : List Shown) (start skipped : ℕ)
     → DiffersAt (take (length shown - start) (drop start shown)) (take (length wanted - start) (drop start wanted)) skipped
-    → IsErasedFrom shown wanted first (Some (start + skipped))
-erased-from shown wanted first tail start skipped blank from from_first differs =
-    (omega arith, record { blank = kept-later (λ _. shown_blank) tail (start + skipped) wanted (omega arith) blank; changed = differs-later start skipped shown wanted (rw (take_rest shown start, take_rest wanted start) at differs) })
+    → IsChangedFrom shown wanted start (Some (start + skipped))
+changed-from shown wanted start skipped differs = (omega arith, differs-later start skipped shown wanted (rw (take_rest shown start, take_rest wanted start) at differs))
+
+pub kept-from : (shown wanted : List Shown) (start : ℕ) → take (length shown - start) (drop start shown) ≡ take (length wanted - start) (drop start wanted) → drop start shown ≡ drop start wanted
+kept-from shown wanted start same = sym (take_rest shown start) ∙ same ∙ take_rest wanted start
+
+-- what differs stands before the end of what is changed
+pub differs-before : (n x : ℕ) (shown wanted : List Shown) → length shown ≡ length wanted → drop n shown ≡ drop n wanted → DiffersAt shown wanted x → x < n
+differs-before zero x shown wanted same kept h = absurd (h.differs (ap (λ l. get_or l x shown_blank) kept))
+differs-before (suc n) x [] wanted same kept h = absurd (omega (arith, h.inside))
+differs-before (suc n) x (a ∷ shown) [] same kept h = absurd (omega arith)
+differs-before (suc n) zero (a ∷ shown) (b ∷ wanted) same kept h = omega arith
+differs-before (suc n) (suc x) (a ∷ shown) (b ∷ wanted) same kept h =
+    let rest : x < n = differs-before n x shown wanted (omega arith) kept (record { inside = omega (arith, h.inside); differs = h.differs }) in
+    omega arith

@@ -2,7 +2,7 @@
 use Rattle.std.proofs.Common.{◌≡◌, Bool, ℕ, zero, suc, ◌+◌, ◌*◌, ◌<◌, ◌≤◌, true, false, List, [], ◌∷◌, ◌++◌, length, get_or, set, take, drop, Some, inl, inr, ◌-◌, refl, sym, ap, ◌∙◌, subst, arith}
 use Rattle.std.specs.Prelude.{if◌then◌else◌}
 use Rattle.std.proofs.lemmas.Bool.{cases_Bool}
-use Rattle.std.proofs.lemmas.List.{drop_more, get_or-set_same, length-drop, length-take-le, set-set, set-get_or, take-append-drop}
+use Rattle.std.proofs.lemmas.List.{drop_all, drop-drop, drop_more, get_or-set_same, length-drop, length-take-le, set-set, set-get_or, take-append-drop, take-take}
 use Rattle.cell.specs.Shown.{Shown, no_rendition, shown_blank, has_colour}
 use Rattle.cell.specs.Differences.{DiffersAt, same_shown}
 use Rattle.cell.specs.Pictures.{Picture, line_of, with_shown}
@@ -14,10 +14,10 @@ use Rattle.ecma.specs.Terminals.{blanked, erased_at, erased_line}
 use Rattle.ecma.specs.declared.token.Erase.TheVariants.{ToEnd}
 use Rattle.streams.specs.Sinks.{Seen}
 use Rattle.paint.specs.declared.pen.Pen.{Pen}
-use Rattle.paint.specs.steps.Strokes.{Draws, Strokes, cell_bytes, line_bytes, picture_bytes}
-use Rattle.paint.specs.steps.Walks.{mixed, AreBlank, IsChangedTail, IsLinePainted, IsPicturePainted, IsReadyToErase}
+use Rattle.paint.specs.steps.Strokes.{change, Draws, Strokes, cell_bytes, line_bytes, picture_bytes}
+use Rattle.paint.specs.steps.Walks.{mixed, AreBlank, IsLinePainted, IsPicturePainted, IsReadyToErase}
 use Rattle.paint.proofs.Mixed.{mixed-at, mixed-back, mixed-front, mixed-more, mixed-same, length-mixed, between, take-mixed}
-use Rattle.paint.proofs.Strokes.{Strokes-more, Strokes-nothing, Strokes-then}
+use Rattle.paint.proofs.Strokes.{Strokes-more, Strokes-nothing, Strokes-then, length-ended}
 
 -- ---- what the cells of a line may cost
 
@@ -147,54 +147,134 @@ blank-lengths [] (b ∷ other) same = absurd (omega arith)
 blank-lengths (a ∷ one) [] same = absurd (omega arith)
 blank-lengths (a ∷ one) (b ∷ other) same = ap (λ (l : List Shown). shown_blank ∷ l) (blank-lengths one other (omega arith))
 
--- a line, erased from the column where its blank end begins, is the wanted one
-erased-line : (x : ℕ) (shown wanted : List Shown) → length shown ≡ length wanted → x ≤ length wanted → AreBlank (drop x wanted) → erased_line ToEnd x (mixed x wanted shown) ≡ wanted
-erased-line x shown wanted same few blank =
-    let back : length (drop x (mixed x wanted shown)) ≡ length (drop x wanted) =
-    length-drop x (mixed x wanted shown) ∙ ap (λ n. n - x) (length-mixed x wanted shown same ∙ same) ∙ sym (length-drop x wanted) in
-    (λ i. take-mixed x wanted shown few i ++ (blank-lengths (drop x (mixed x wanted shown)) (drop x wanted) back ∙ blank) i) ∙ take-append-drop x wanted
+-- a line whose first cells are the wanted ones, erased from one of them on, is the wanted one where that is blank from there
+erased-line : (e x : ℕ) (shown wanted : List Shown) → length shown ≡ length wanted → e ≤ x → x ≤ length wanted → AreBlank (drop e wanted) → erased_line ToEnd e (mixed x wanted shown) ≡ wanted
+erased-line e x shown wanted same before few blank =
+    let row = mixed x wanted shown in
+    let back : length (drop e row) ≡ length (drop e wanted) =
+    length-drop e row ∙ ap (λ n. n - e) (length-mixed x wanted shown same ∙ same) ∙ sym (length-drop e wanted) in
+    let front : take e row ≡ take e wanted = sym (take-take e x row before) ∙ ap (take e) (take-mixed x wanted shown few) ∙ take-take e x wanted before in
+    (λ i. front i ++ (blank-lengths (drop e row) (drop e wanted) back ∙ blank) i) ∙ take-append-drop e wanted
 
--- the pen comes to the first changed column of the end
-pub line-ready : {before mid now : Seen} {old pen next : Pen} {line x : ℕ} {shown wanted : List Shown} → length shown ≡ length wanted → length shown ≡ old.columns
-    → IsLinePainted before mid old pen line x shown wanted → IsChangedTail shown wanted x
-    → ((picture : Picture) → length (line_of picture line) ≡ pen.columns → take x (line_of picture line) ≡ take x wanted → Strokes 23 mid now pen next picture picture)
-    → next.cursor ≡ Some (line, x) → next.rendition ≡ no_rendition → next.columns ≡ pen.columns → IsReadyToErase before now old next line x shown wanted
-line-ready {line} {x} {shown} {wanted} same wide h tail strokes cursor rendition columns = record {
-  spent = h.spent + 23;
-  within = omega (arith, h.within, changed-bytes x shown wanted same tail.changed);
+-- The pen comes to a column of the blank end, up to whose first changed column the line is painted.
+pub line-ready : {before mid now : Seen} {old pen next : Pen} {line from x n : ℕ} {shown wanted : List Shown} → length shown ≡ length wanted → length shown ≡ old.columns
+    → IsLinePainted before mid old pen line x shown wanted → from ≤ x → AreBlank (drop from wanted) → DiffersAt shown wanted x
+    → ((picture : Picture) → length (line_of picture line) ≡ pen.columns → take from (line_of picture line) ≡ take from wanted → Strokes n mid now pen next picture picture) → n ≤ 23
+    → next.cursor ≡ Some (line, from) → next.rendition ≡ no_rendition → next.columns ≡ pen.columns → IsReadyToErase (line_bytes shown wanted) before now old next line from shown wanted
+line-ready {line} {from} {x} {n} {shown} {wanted} same wide h ordered blank changed strokes few cursor rendition columns = record {
+  blank = blank;
+  reached = x;
+  beyond = ordered;
+  inside = omega (arith, changed.inside);
+  spent = h.spent + n;
+  within = omega (arith, h.within, changed-bytes x shown wanted same changed);
   strokes = λ picture high at.
       let row = mixed x wanted shown in
       let here : line_of (set picture line row) line ≡ row = get_or-set_same picture line row [] high in
       let long = ap length here ∙ length-mixed x wanted shown same ∙ wide ∙ sym h.columns in
-      Strokes-then (h.strokes picture high at) (strokes (set picture line row) long (ap (take x) here ∙ take-mixed x wanted shown (omega (arith, tail.changed.inside))));
+      let front : take from row ≡ take from wanted =
+      sym (take-take from x row ordered) ∙ ap (take from) (take-mixed x wanted shown (omega (arith, changed.inside))) ∙ take-take from x wanted ordered in
+      Strokes-then (h.strokes picture high at) (strokes (set picture line row) long (ap (take from) here ∙ front));
   cursor = cursor;
   rendition = rendition;
   columns = columns ∙ h.columns;
 }
 
--- the line, its end erased behind what was drawn
-pub erased-mixed : (picture : Picture) (line x : ℕ) (shown wanted : List Shown) → length shown ≡ length wanted → line < length picture → IsChangedTail shown wanted x
-    → erased_at ToEnd (line, x) (set picture line (mixed x wanted shown)) ≡ set picture line wanted
-erased-mixed picture line x shown wanted same high tail =
-    let row = mixed x wanted shown in
-    ap (λ cells. set (set picture line row) line (erased_line ToEnd x cells)) (get_or-set_same picture line row [] high)
-    ∙ set-set picture line row (erased_line ToEnd x row)
-    ∙ ap (set picture line) (erased-line x shown wanted same (omega (arith, tail.changed.inside)) tail.blank)
+-- the pen stands in the blank end of a line that is painted, and ends its rendition
+pub line-stands : {before mid now : Seen} {old pen next : Pen} {line from : ℕ} {shown wanted : List Shown} → length shown ≡ length wanted
+    → ((picture : Picture) → line < length picture → line_of picture line ≡ shown → Strokes (line_bytes shown wanted) before mid old pen picture (set picture line wanted)) → pen.columns ≡ old.columns
+    → AreBlank (drop from wanted) → from ≤ length wanted
+    → ((picture : Picture) → Draws (change pen.rendition no_rendition) mid now pen next picture picture) → next.cursor ≡ Some (line, from) → next.rendition ≡ no_rendition → next.columns ≡ pen.columns
+    → IsReadyToErase (line_bytes shown wanted + 27) before now old next line from shown wanted
+line-stands {before} {mid} {now} {old} {pen} {next} {line} {from} {shown} {wanted} same painted kept blank inside ending cursor rendition columns = record {
+  blank = blank;
+  reached = length wanted;
+  beyond = inside;
+  inside = omega arith;
+  spent = line_bytes shown wanted + 4;
+  within = omega arith;
+  strokes = λ picture high at.
+      let whole : mixed (length wanted) wanted shown ≡ wanted = mixed-back (length wanted) wanted shown (drop_all (length wanted) shown (omega (arith, same)) ∙ sym (drop_all (length wanted) wanted (omega arith))) in
+      let ended : Strokes 4 mid now pen next (set picture line wanted) (set picture line wanted) = record {
+        piece = change pen.rendition no_rendition;
+        draws = ending (set picture line wanted);
+        short = length-ended pen.rendition;
+      } in
+      Strokes-then (subst (λ row. Strokes (line_bytes shown wanted) before mid old pen picture (set picture line row)) (sym whole) (painted picture high at))
+      (subst (λ row. Strokes 4 mid now pen next (set picture line row) (set picture line row)) (sym whole) ended);
+  cursor = cursor;
+  rendition = rendition;
+  columns = columns ∙ kept;
+}
 
-pub line-erased : {before mid now : Seen} {old pen next : Pen} {line x : ℕ} {shown wanted : List Shown} → length shown ≡ length wanted
-    → IsReadyToErase before mid old pen line x shown wanted → IsChangedTail shown wanted x
-    → ((picture : Picture) → Draws (spelling (El ToEnd)) mid now pen next picture (erased_at ToEnd (line, x) picture))
+-- within more bytes
+pub ready-more : {m n : ℕ} {before now : Seen} {old pen : Pen} {line from : ℕ} {shown wanted : List Shown} → IsReadyToErase m before now old pen line from shown wanted → m ≤ n
+    → IsReadyToErase n before now old pen line from shown wanted
+ready-more h few = record {
+  blank = h.blank;
+  reached = h.reached;
+  beyond = h.beyond;
+  inside = h.inside;
+  spent = h.spent;
+  within = omega (arith, h.within);
+  strokes = h.strokes;
+  cursor = h.cursor;
+  rendition = h.rendition;
+  columns = h.columns;
+}
+
+-- the line, its end erased behind what was drawn
+pub erased-mixed : (picture : Picture) (line e x : ℕ) (shown wanted : List Shown) → length shown ≡ length wanted → line < length picture → e ≤ x → x ≤ length wanted → AreBlank (drop e wanted)
+    → erased_at ToEnd (line, e) (set picture line (mixed x wanted shown)) ≡ set picture line wanted
+erased-mixed picture line e x shown wanted same high before inside blank =
+    let row = mixed x wanted shown in
+    ap (λ cells. set (set picture line row) line (erased_line ToEnd e cells)) (get_or-set_same picture line row [] high)
+    ∙ set-set picture line row (erased_line ToEnd e row)
+    ∙ ap (set picture line) (erased-line e x shown wanted same before inside blank)
+
+pub line-erased : {before mid now : Seen} {old pen next : Pen} {line from : ℕ} {shown wanted : List Shown} → length shown ≡ length wanted
+    → IsReadyToErase (line_bytes shown wanted) before mid old pen line from shown wanted
+    → ((picture : Picture) → Draws (spelling (El ToEnd)) mid now pen next picture (erased_at ToEnd (line, from) picture))
     → (picture : Picture) → line < length picture → line_of picture line ≡ shown → Strokes (line_bytes shown wanted) before now old next picture (set picture line wanted)
-line-erased {mid} {now} {pen} {next} {line} {x} {shown} {wanted} same h tail draws = λ picture high at.
-    let drawn = erased-mixed picture line x shown wanted same high tail in
-    let erasure : Strokes 4 mid now pen next (set picture line (mixed x wanted shown)) (set picture line wanted) = record {
+line-erased {mid} {now} {pen} {next} {line} {from} {shown} {wanted} same h draws = λ picture high at.
+    let row = mixed h.reached wanted shown in
+    let drawn = erased-mixed picture line from h.reached shown wanted same high h.beyond h.inside h.blank in
+    let erasure : Strokes 4 mid now pen next (set picture line row) (set picture line wanted) = record {
       piece = spelling (El ToEnd);
-      draws = subst (Draws (spelling (El ToEnd)) mid now pen next (set picture line (mixed x wanted shown))) drawn (draws (set picture line (mixed x wanted shown)));
+      draws = subst (Draws (spelling (El ToEnd)) mid now pen next (set picture line row)) drawn (draws (set picture line row));
       short = length-spelling (El ToEnd) tt;
     } in
     Strokes-more (Strokes-then (h.strokes picture high at) erasure) (omega (arith, h.within))
 
 -- ---- a picture
+
+-- lines that are not the same may cost as much as a changed cell
+pub line_bytes-changed : (old new : List Shown) → length old ≡ length new → (old ≡ new → ⊥) → 27 ≤ line_bytes old new
+line_bytes-changed [] [] same changed = absurd (changed refl)
+line_bytes-changed [] (b ∷ new) same changed = absurd (omega arith)
+line_bytes-changed (a ∷ old) [] same changed = absurd (omega arith)
+line_bytes-changed (a ∷ old) (b ∷ new) same changed = elim (cases_Bool (same_shown a b)) [
+  | inr other ↦ omega (arith, line_bytes-other a b old new other)
+  | inl alike ↦ omega (arith, line_bytes-same a b old new alike, line_bytes-changed old new (omega arith) (λ e. changed (λ i. same_shown-equal a b alike i ∷ e i)))
+]
+
+picture_bytes-drop : (x : ℕ) (old new : Picture) → picture_bytes (drop x old) (drop x new) ≤ picture_bytes old new
+picture_bytes-drop zero old new = omega arith
+picture_bytes-drop (suc x) [] new = omega arith
+picture_bytes-drop (suc x) (a ∷ old) [] = elim (drop x old) as (λ (rest : Picture). picture_bytes rest [] ≤ picture_bytes (a ∷ old) []) [
+  | [] ↦ omega arith
+  | b ∷ rest ↦ omega arith
+]
+picture_bytes-drop (suc x) (a ∷ old) (b ∷ new) = omega (arith, picture_bytes-drop x old new)
+
+-- what the lines from a later one on may cost, those from an earlier one on may cost too
+pub picture_bytes-later : (y z : ℕ) (old new : Picture) → y ≤ z → picture_bytes (drop z old) (drop z new) ≤ picture_bytes (drop y old) (drop y new)
+picture_bytes-later y z old new before =
+    let split : y + (z - y) ≡ z = omega arith in
+    let one : drop (z - y) (drop y old) ≡ drop z old = drop-drop (z - y) y old ∙ ap (λ n. drop n old) split in
+    let other : drop (z - y) (drop y new) ≡ drop z new = drop-drop (z - y) y new ∙ ap (λ n. drop n new) split in
+    let less : picture_bytes (drop (z - y) (drop y old)) (drop (z - y) (drop y new)) ≤ picture_bytes (drop y old) (drop y new) = picture_bytes-drop (z - y) (drop y old) (drop y new) in
+    subst (λ n. n ≤ picture_bytes (drop y old) (drop y new)) (λ i. picture_bytes (one i) (other i)) less
 
 pub picture-begun : (seen : Seen) (pen : Pen) (shown wanted : Picture) → IsPicturePainted seen seen pen pen 0 shown wanted
 picture-begun seen pen shown wanted = record { spent = 0; within = omega arith; strokes = Strokes-nothing seen pen shown; columns = refl }

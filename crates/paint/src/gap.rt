@@ -1,18 +1,21 @@
 //! How a pen comes to the next changed cell of a line: over the gap of cells that are shown already, or by a move.
 
-ghost use Rattle.std.specs.Prelude.{◌≡◌, ◌+◌, ◌<◌, ◌≤◌, All, Some, true, drop, take, length};
+ghost use Rattle.std.specs.Prelude.{◌≡◌, ◌+◌, ◌<◌, ◌≤◌, All, Some, false, true, drop, take, length};
 ghost use Rattle.cell.specs.Pictures.{Picture, line_of};
 ghost use Rattle.ecma.specs.Spelling.{spelling};
 ghost use Rattle.ecma.specs.declared.token.Token.TheVariants.{Cup};
-ghost use Rattle.paint.specs.steps.Strokes.{Strokes, approach_bytes};
+ghost use Rattle.paint.specs.steps.Strokes.{Strokes, again_bytes, approach_bytes, change, is_at, moved_bytes};
 
 use crate::pen::Pen;
 use cell::{LARGEST_SCREEN, Rendition, Shown};
 use ecma::{LONGEST_SPELLING, Token, spell};
 use streams::Sink;
 
+/// The most bytes of a move.
+const LONGEST_MOVE: usize = 10;
+
 /// Brings the pen to a place, in a rendition. The cells of the gap stand right before the place, and are shown already: where
-/// they are of one rendition and no more than the bytes of a move, they are printed again.
+/// that takes no more bytes than a move in their place, they are printed again.
 pub fn approach<W: Sink>(
     pen: &mut Pen,
     sink: &mut W,
@@ -25,27 +28,97 @@ pub fn approach<W: Sink>(
     requires inside { start + length gap.now < pen.old.columns }
     requires columns { pen.old.columns ≤ LARGEST_SCREEN }
     ensures strokes { (picture : Picture) → length (line_of picture line) ≡ pen.old.columns → take (length gap.now) (drop start (line_of picture line)) ≡ gap.now
-        → Strokes (approach_bytes rendition) (W.seen sink.old) (W.seen sink.new) pen.old pen.new picture picture }
+        → Strokes (approach_bytes pen.old.cursor pen.old.rendition (line, start) gap.now rendition) (W.seen sink.old) (W.seen sink.new) pen.old pen.new picture picture }
     ensures rendition { pen.new.rendition ≡ rendition }
     ensures cursor { pen.new.cursor ≡ Some (line, start + length gap.now) }
     ensures columns { pen.new.columns ≡ pen.old.columns }
     ensures same { W.name sink.new ≡ W.name sink.old }
 {
-    let column = start + gap.len() as u16;
-    if !gap.is_empty() && pen.is_at(line, start) && gap.len() <= move_length(line, column) {
-        if are_all(gap, pen.rendition()) {
-            pen.print_again(sink, line, start, gap);
-            pen.select(sink, rendition);
-            return;
-        }
-        if are_all(gap, rendition) {
-            pen.select(sink, rendition);
-            pen.print_again(sink, line, start, gap);
-            return;
-        }
+    if is_printed_again(pen, line, start, gap, rendition) {
+        pen.print_again(sink, line, start, gap);
+        pen.select(sink, rendition);
+        return;
     }
-    pen.go(sink, line, column);
+    pen.go(sink, line, start + gap.len() as u16);
     pen.select(sink, rendition);
+}
+
+/// How many bytes an approach takes.
+pub fn approach_length(
+    pen: &Pen,
+    line: u16,
+    start: u16,
+    gap: &[Shown],
+    rendition: Rendition,
+) -> usize
+    requires line { line < LARGEST_SCREEN }
+    requires inside { start + length gap.now < LARGEST_SCREEN }
+    ensures exact { result ≡ approach_bytes pen.now.cursor pen.now.rendition (line, start) gap.now rendition }
+    ensures short { result ≤ 300 }
+{
+    if is_printed_again(pen, line, start, gap, rendition) {
+        again_length(gap, pen.rendition(), rendition)
+    } else {
+        moved_length(pen, line, start + gap.len() as u16, rendition)
+    }
+}
+
+/// Whether the cells of a gap, which the pen stands before, are printed again: where that takes fewer bytes than a move, or as many
+/// and all of them have the rendition in force, or all the wanted one.
+fn is_printed_again(pen: &Pen, line: u16, start: u16, gap: &[Shown], rendition: Rendition) -> bool
+    requires line { line < LARGEST_SCREEN }
+    requires inside { start + length gap.now < LARGEST_SCREEN }
+    ensures few { result ≡ true → length gap.now ≤ 10 }
+    ensures at { result ≡ true → is_at pen.now.cursor (line, start) ≡ true }
+    ensures again { result ≡ true → approach_bytes pen.now.cursor pen.now.rendition (line, start) gap.now rendition ≡ again_bytes pen.now.rendition gap.now rendition }
+    ensures moved { result ≡ false → approach_bytes pen.now.cursor pen.now.rendition (line, start) gap.now rendition
+        ≡ moved_bytes pen.now.cursor pen.now.rendition (line, start + length gap.now) rendition }
+{
+    if gap.is_empty() {
+        return false;
+    }
+    if gap.len() > LONGEST_MOVE {
+        return false;
+    }
+    if !pen.is_at(line, start) {
+        return false;
+    }
+    let again = again_length(gap, pen.rendition(), rendition);
+    let moved = moved_length(pen, line, start + gap.len() as u16, rendition);
+    if again == moved {
+        return are_all(gap, pen.rendition()) || are_all(gap, rendition);
+    }
+    again < moved
+}
+
+/// How many bytes it takes to print cells again, each in its rendition, and to select one behind them.
+fn again_length(gap: &[Shown], from: Rendition, wanted: Rendition) -> usize
+    requires { length gap.now ≤ 10 }
+    ensures exact { result ≡ again_bytes from gap.now wanted }
+    ensures short { result ≤ 300 }
+{
+    let mut length = 0;
+    let mut rendition = from;
+    for cell in gap {
+        length += change_length(rendition, cell.rendition()) + 1;
+        rendition = cell.rendition();
+    }
+    length + change_length(rendition, wanted)
+}
+
+/// How many bytes it takes to go to a place and to select a rendition.
+fn moved_length(pen: &Pen, line: u16, column: u16, rendition: Rendition) -> usize
+    requires line { line < LARGEST_SCREEN }
+    requires column { column < LARGEST_SCREEN }
+    ensures exact { result ≡ moved_bytes pen.now.cursor pen.now.rendition (line, column) rendition }
+    ensures short { result ≤ 32 }
+{
+    let selection = change_length(pen.rendition(), rendition);
+    if pen.is_at(line, column) {
+        selection
+    } else {
+        move_length(line, column) + selection
+    }
 }
 
 /// How many bytes a move to a place has.
@@ -57,6 +130,19 @@ fn move_length(line: u16, column: u16) -> usize
 {
     let mut text = [0; LONGEST_SPELLING];
     spell(&Token::Cup(line, column), &mut text)
+}
+
+/// How many bytes it takes to select a rendition where another one may be in force.
+fn change_length(old: Rendition, new: Rendition) -> usize
+    ensures exact { result ≡ length (change old new) }
+    ensures short { result ≤ 22 }
+{
+    if new == old {
+        return 0;
+    }
+    prove!(new.is_sound());
+    let mut text = [0; LONGEST_SPELLING];
+    spell(&Token::Sgr(new), &mut text)
 }
 
 /// Whether all cells have a rendition.

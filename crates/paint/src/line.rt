@@ -1,17 +1,19 @@
 //! The walk over the cells of a line: a pen draws where the wanted one differs from the one that is shown.
 
-ghost use Rattle.std.specs.Prelude.{◌≡◌, ◌+◌, ◌<◌, ◌≤◌, drop, length, slice_set, take};
+ghost use Rattle.std.specs.Prelude.{◌≡◌, ◌+◌, ◌<◌, ◌≤◌, ⊤, MatchOption, None, Some, drop, length, slice_set, take};
 ghost use Rattle.cell.specs.Pictures.{Picture, line_of, with_shown};
-ghost use Rattle.paint.specs.steps.Strokes.{Strokes, cell_bytes, line_bytes};
-ghost use Rattle.paint.specs.steps.Walks.{IsChangedTail, IsLinePainted, IsReadyToErase};
+ghost use Rattle.cell.specs.Shown.{no_rendition};
+ghost use Rattle.streams.specs.Sinks.{Seen};
+ghost use Rattle.paint.specs.steps.Strokes.{Strokes, cell_bytes, line_bytes, reach_bytes};
+ghost use Rattle.paint.specs.steps.Walks.{IsLinePainted, IsReadyToErase};
 
 use crate::gap::approach;
 use crate::pen::Pen;
-use crate::tail::erased_from;
+use crate::tail::{changed_end, changed_from, erased_from, is_erased, tail_start};
 use cell::{LARGEST_SCREEN, Rendition, Shown, first_diff, last_diff};
 use streams::Sink;
 
-/// Draws a wanted line over the one that is shown. Its blank end is erased, where enough of it is changed.
+/// Draws a wanted line over the one that is shown. Its blank end is erased, where that takes fewer bytes.
 pub fn paint_line<W: Sink>(
     pen: &mut Pen,
     sink: &mut W,
@@ -34,73 +36,115 @@ pub fn paint_line<W: Sink>(
     let Some(last) = last_diff(shown, wanted) else {
         return;
     };
-    match erased_from(shown, wanted, first, last) {
-        Some(column) => {
-            paint_to(pen, sink, line, shown, wanted, first, column);
-            pen.erase_line(sink, line, column as u16);
-        }
-        None => {
-            paint_cells(pen, sink, line, shown, wanted, first, last + 1);
-        }
+    let tail = tail_start(wanted);
+    let Some(column) = changed_from(shown, wanted, tail.max(first)) else {
+        paint_cells(pen, sink, line, shown, wanted, first, first, last + 1);
+        return;
+    };
+    let gap = paint_cells(pen, sink, line, shown, wanted, first, first, column);
+    let from = erased_from(pen, line, wanted, gap, tail, column);
+    if is_erased(pen, line, wanted, gap, from, column, last) {
+        come_to(pen, sink, line, wanted, gap, from);
+        pen.erase_line(sink, line, from as u16);
+        return;
     }
+    paint_cells(pen, sink, line, shown, wanted, gap, column, last + 1);
 }
 
-/// Draws the changed cells of a line from a first column on, before which none is, up to its changed end, and brings the pen there
-/// for an erasure.
-pub fn paint_to<W: Sink>(
+/// Draws a wanted line, below which all is blank, over the one that is shown, and brings the pen to its blank end, to erase the page from
+/// there: where that end is changed, or where the pen stands in it anyway. It answers the column.
+pub fn paint_last_line<W: Sink>(
     pen: &mut Pen,
     sink: &mut W,
     line: u16,
     shown: &[Shown],
     wanted: &[Shown],
-    first: usize,
-    column: usize,
-)
+) -> Option<usize>
     requires line { line < LARGEST_SCREEN }
     requires columns { pen.old.columns ≤ LARGEST_SCREEN }
     requires shown { length shown.now ≡ pen.old.columns }
     requires wanted { length wanted.now ≡ pen.old.columns }
-    requires ordered { first ≤ column }
-    requires front { take first shown.now ≡ take first wanted.now }
-    requires tail { IsChangedTail shown.now wanted.now column }
-    ensures ready { IsReadyToErase (W.seen sink.old) (W.seen sink.new) pen.old pen.new line column shown.now wanted.now }
+    ensures strokes { result ≡ None → (picture : Picture) → line < length picture → line_of picture line ≡ shown.now
+        → Strokes (line_bytes shown.now wanted.now) (W.seen sink.old) (W.seen sink.new) pen.old pen.new picture (slice_set picture line wanted.now) }
+    ensures ready { MatchOption result ⊤ (λ column. IsReadyToErase (line_bytes shown.now wanted.now + 27) (W.seen sink.old) (W.seen sink.new) pen.old pen.new line column shown.now wanted.now) }
+    ensures columns { pen.new.columns ≡ pen.old.columns }
     ensures same { W.name sink.new ≡ W.name sink.old }
 {
-    let gap = paint_cells(pen, sink, line, shown, wanted, first, column);
+    let tail = tail_start(wanted);
+    match changed_end(shown, wanted, tail) {
+        Some((first, column)) => {
+            let gap = paint_cells(pen, sink, line, shown, wanted, first, first, column);
+            let from = erased_from(pen, line, wanted, gap, tail, column);
+            come_to(pen, sink, line, wanted, gap, from);
+            Some(from)
+        }
+        None => {
+            paint_line(pen, sink, line, shown, wanted);
+            let column = pen.stands_in(line, tail, wanted.len())?;
+            pen.select(sink, Rendition::NONE);
+            Some(column)
+        }
+    }
+}
+
+/// Brings the pen to a column of a line's blank end, over the gap behind what was drawn, for an erasure.
+fn come_to<W: Sink>(
+    pen: &mut Pen,
+    sink: &mut W,
+    line: u16,
+    wanted: &[Shown],
+    gap: usize,
+    column: usize,
+)
+    requires line { line < LARGEST_SCREEN }
+    requires columns { pen.old.columns ≤ LARGEST_SCREEN }
+    requires wanted { length wanted.now ≡ pen.old.columns }
+    requires column { column < length wanted.now }
+    ensures strokes { (picture : Picture) → length (line_of picture line) ≡ pen.old.columns → take column (line_of picture line) ≡ take column wanted.now
+        → Strokes (reach_bytes pen.old.cursor pen.old.rendition line wanted.now gap column) (W.seen sink.old) (W.seen sink.new) pen.old pen.new picture picture }
+    ensures rendition { pen.new.rendition ≡ no_rendition }
+    ensures cursor { pen.new.cursor ≡ Some (line, column) }
+    ensures columns { pen.new.columns ≡ pen.old.columns }
+    ensures same { W.name sink.new ≡ W.name sink.old }
+{
+    let start = gap.min(column);
     approach(
         pen,
         sink,
         line,
-        gap as u16,
-        &wanted[gap..column],
+        start as u16,
+        &wanted[start..column],
         Rendition::NONE,
     );
 }
 
-/// Draws the changed cells of a line from a first column on, before which none is, up to an end. It answers the column behind
-/// the last that it drew.
+/// Draws the changed cells of a line from a column on, up to an end, behind a gap of cells that are shown already. It answers the
+/// column behind the last that it drew, or that of the gap.
 fn paint_cells<W: Sink>(
     pen: &mut Pen,
     sink: &mut W,
     line: u16,
     shown: &[Shown],
     wanted: &[Shown],
-    first: usize,
+    gap: usize,
+    start: usize,
     end: usize,
 ) -> usize
     requires line { line < LARGEST_SCREEN }
     requires columns { pen.old.columns ≤ LARGEST_SCREEN }
     requires shown { length shown.now ≡ pen.old.columns }
     requires wanted { length wanted.now ≡ pen.old.columns }
-    requires ordered { first ≤ end }
+    requires gap { gap ≤ start }
+    requires ordered { start ≤ end }
     requires inside { end ≤ length wanted.now }
-    requires front { take first shown.now ≡ take first wanted.now }
-    ensures painted { IsLinePainted (W.seen sink.old) (W.seen sink.new) pen.old pen.new line end shown.now wanted.now }
+    ensures painted { (before : Seen) (old : Pen) → IsLinePainted before (W.seen sink.old) old pen.old line start shown.now wanted.now
+        → IsLinePainted before (W.seen sink.new) old pen.new line end shown.now wanted.now }
+    ensures columns { pen.new.columns ≡ pen.old.columns }
     ensures within { result ≤ end }
     ensures same { W.name sink.new ≡ W.name sink.old }
 {
-    let mut gap = first;
-    for x in first..end {
+    let mut gap = gap;
+    for x in start..end {
         if shown[x] == wanted[x] {
             continue;
         }

@@ -1,19 +1,18 @@
 //! The walk over the lines of a picture.
 
-ghost use Rattle.std.specs.Prelude.{◌≡◌, ℕ, ◌<◌, ◌≤◌, drop, length, map};
+ghost use Rattle.std.specs.Prelude.{◌≡◌, ◌≢◌, ℕ, ◌-◌, ◌<◌, ◌≤◌, drop, length, map};
 ghost use Rattle.cell.specs.Pictures.{HasSize, line_of};
 ghost use Rattle.ecma.specs.Terminals.{blanked};
 ghost use Rattle.paint.specs.steps.Strokes.{Strokes, picture_bytes};
-ghost use Rattle.paint.specs.steps.Walks.{IsPageEnd};
 
-use crate::line::{paint_line, paint_to};
+use crate::line::{paint_last_line, paint_line};
 use crate::pen::Pen;
-use crate::tail::{changed_tail, tail_start};
+use crate::tail::tail_start;
 use cell::{Grid, LARGEST_SCREEN, Shown, first_diff};
 use streams::Sink;
 
 /// Draws the wanted picture over the one that is shown, of which there are so many lines. Where the page's end is blank and more
-/// than one line of it is changed, it is erased.
+/// than one line of it is changed, or the pen stands in it, it is erased.
 pub fn paint_picture<W: Sink>(
     pen: &mut Pen,
     sink: &mut W,
@@ -34,43 +33,22 @@ pub fn paint_picture<W: Sink>(
         let at = usize::from(line);
         let old = shown.row(at);
         let new = wanted.row(at);
-        if let Some((first, column)) = page_end(line, blank, changed, old, new) {
-            paint_to(pen, sink, line, old, new, first, column);
+        if line + 1 < blank || line + 1 == changed {
+            paint_line(pen, sink, line, old, new);
+            continue;
+        }
+        if let Some(column) = paint_last_line(pen, sink, line, old, new) {
             pen.erase_page(sink, line, column as u16);
             return;
         }
-        paint_line(pen, sink, line, old, new);
     }
-}
-
-/// The first changed column of a line, and that of its blank end, if there is one. All lines below are blank, and one of them is
-/// changed.
-fn page_end(
-    line: u16,
-    blank: u16,
-    changed: u16,
-    shown: &[Shown],
-    wanted: &[Shown],
-) -> Option<(usize, usize)>
-    requires few { line < LARGEST_SCREEN }
-    requires same { length shown.now ≡ length wanted.now }
-    ensures { IsPageEnd line blank shown.now wanted.now result }
-{
-    if line + 1 < blank {
-        return None;
-    }
-    if changed <= line + 1 {
-        return None;
-    }
-    let first = first_diff(shown, wanted)?;
-    let column = changed_tail(shown, wanted, first)?;
-    Some((first, column))
 }
 
 /// The line from which on all are blank.
 fn blank_lines(picture: &Grid<Shown>, lines: u16) -> u16
     requires { length picture.now ≡ lines }
     ensures blank { map blanked (drop result picture.now) ≡ drop result picture.now }
+    ensures first { 0 < result → blanked (line_of picture.now (result - 1)) ≢ line_of picture.now (result - 1) }
 {
     let mut start = lines;
     while start > 0 {
@@ -89,6 +67,7 @@ fn changed_lines(shown: &Grid<Shown>, wanted: &Grid<Shown>, lines: u16) -> u16
     requires columns { (y : ℕ) → y < lines → length (line_of shown.now y) ≡ length (line_of wanted.now y) }
     ensures within { result ≤ lines }
     ensures kept { drop result shown.now ≡ drop result wanted.now }
+    ensures changed { 0 < result → line_of shown.now (result - 1) ≢ line_of wanted.now (result - 1) }
 {
     let mut end = lines;
     while end > 0 {

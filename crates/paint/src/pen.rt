@@ -1,6 +1,6 @@
 //! A pen: it knows where a terminal's cursor is and how the terminal prints, and draws there by strokes.
 
-ghost use Rattle.std.specs.Prelude.{◌≡◌, ◌+◌, ◌<◌, ◌≤◌, All, take, drop, ◌++◌, ◌∷◌, [], ℕ, List, length, Some, ◌^◌};
+ghost use Rattle.std.specs.Prelude.{◌≡◌, ◌+◌, ◌<◌, ◌≤◌, ⊤, MatchOption, ◌++◌, ◌∷◌, [], ℕ, List, length, Some, ◌^◌};
 ghost use Rattle.cell.specs.Shown.{no_rendition};
 ghost use Rattle.cell.specs.Pictures.{Picture, line_of, origin, with_shown};
 ghost use Rattle.ecma.specs.Spelling.{spelling, IsToken};
@@ -11,7 +11,7 @@ ghost use Rattle.streams.specs.Sending.{Sends};
 ghost use Rattle.streams.specs.Sinks.{Seen};
 ghost use Rattle.paint.specs.Updates.{opening};
 ghost use Rattle.paint.specs.steps.Gathering.{Gathers, IsGathered};
-ghost use Rattle.paint.specs.steps.Strokes.{behind, change, is_at, move_from, Draws, Strokes};
+ghost use Rattle.paint.specs.steps.Strokes.{behind, change, is_at, move_from, ArePrinted, Draws};
 
 use crate::outbox::Outbox;
 use cell::{LARGEST_SCREEN, Rendition, Shown};
@@ -105,6 +105,19 @@ impl Pen {
         }
     }
 
+    /// The column of the cursor, where it is known to be in a line, between two columns.
+    pub fn stands_in(&self, line: u16, from: usize, to: usize) -> Option<usize>
+        ensures { MatchOption result ⊤ (λ column. (self.now.cursor ≡ Some (line, column)) × (from ≤ column) × (column ≤ to)) }
+    {
+        let (y, x) = self.cursor?;
+        let column = usize::from(x);
+        if y == line && from <= column && column <= to {
+            Some(column)
+        } else {
+            None
+        }
+    }
+
     /// Goes to a place.
     pub fn go<W: Sink>(&mut self, sink: &mut W, line: u16, column: u16)
         requires line { line < LARGEST_SCREEN }
@@ -152,22 +165,19 @@ impl Pen {
         }
     }
 
-    /// Prints cells that the terminal shows already, all of the pen's rendition. The cursor is at the first of them, and there is a
-    /// place behind the last.
+    /// Prints cells that the terminal shows already, each in its rendition. The cursor is at the first of them, and there is a place
+    /// behind the last.
     pub fn print_again<W: Sink>(&mut self, sink: &mut W, line: u16, column: u16, cells: &[Shown])
         requires cursor { self.old.cursor ≡ Some (line, column) }
-        requires rendition { All (λ cell. cell.rendition ≡ self.old.rendition) cells.now }
         requires inside { column + length cells.now < self.old.columns }
         requires columns { self.old.columns ≤ LARGEST_SCREEN }
-        ensures strokes { (picture : Picture) → length (line_of picture line) ≡ self.old.columns → take (length cells.now) (drop column (line_of picture line)) ≡ cells.now
-            → Strokes (length cells.now) (W.seen sink.old) (W.seen sink.new) self.old self.new picture picture }
-        ensures rendition { self.new.rendition ≡ self.old.rendition }
-        ensures cursor { self.new.cursor ≡ Some (line, column + length cells.now) }
-        ensures columns { self.new.columns ≡ self.old.columns }
+        ensures printed { ArePrinted (W.seen sink.old) (W.seen sink.new) self.old self.new line column (length cells.now) cells.now }
         ensures same { W.name sink.new ≡ W.name sink.old }
     {
         for i in 0..cells.len() {
-            self.print(sink, line, column + i as u16, cells[i]);
+            let cell = cells[i];
+            self.select(sink, cell.rendition());
+            self.print(sink, line, column + i as u16, cell);
         }
     }
 

@@ -1,43 +1,124 @@
 //! The blank end of a line, which one erasure draws.
 
-ghost use Rattle.std.specs.Prelude.{◌≡◌, ◌<◌, ◌≤◌, drop, length};
-ghost use Rattle.paint.specs.steps.Walks.{AreBlank, IsErasedFrom};
+ghost use Rattle.std.specs.Prelude.{◌≡◌, ◌≢◌, ◌+◌, ◌-◌, ◌<◌, ◌≤◌, if◌then◌else◌, drop, length, nat_lt, slice_index_or};
+ghost use Rattle.cell.specs.Shown.{shown_blank};
+ghost use Rattle.paint.specs.steps.Strokes.{reach_bytes};
+ghost use Rattle.paint.specs.steps.Walks.{AreBlank, IsChangedEnd, IsChangedFrom};
 
-use cell::{Shown, first_diff};
+use crate::gap::approach_length;
+use crate::pen::Pen;
+use cell::{LARGEST_SCREEN, Rendition, Shown, first_diff};
 
-/// The fewest columns, from a changed one to a changed one, that are erased.
-const FEWEST_ERASED: usize = 4;
+/// How many bytes it takes to erase the end of a line.
+const ERASURE: usize = 3;
 
-/// The first changed column of the line's blank end, if there are enough columns from there to the last changed one. The first
-/// changed column of the line is given.
-pub fn erased_from(shown: &[Shown], wanted: &[Shown], first: usize, last: usize) -> Option<usize>
-    requires same { length shown.now ≡ length wanted.now }
-    requires first { first < length wanted.now }
-    requires last { last < length wanted.now }
-    ensures { IsErasedFrom shown.now wanted.now first result }
+/// The column from which a line's blank end is erased: its first changed one, or, where that takes fewer bytes, the one where it
+/// begins, or where the cursor stands in it.
+pub fn erased_from(
+    pen: &Pen,
+    line: u16,
+    wanted: &[Shown],
+    gap: usize,
+    tail: usize,
+    column: usize,
+) -> usize
+    requires line { line < LARGEST_SCREEN }
+    requires tail { tail ≤ column }
+    requires column { column < length wanted.now }
+    requires few { length wanted.now ≤ LARGEST_SCREEN }
+    ensures from { tail ≤ result }
+    ensures to { result ≤ column }
+    ensures changed { reach_bytes pen.now.cursor pen.now.rendition line wanted.now gap result ≤ reach_bytes pen.now.cursor pen.now.rendition line wanted.now gap column }
+    ensures begun { reach_bytes pen.now.cursor pen.now.rendition line wanted.now gap result ≤ reach_bytes pen.now.cursor pen.now.rendition line wanted.now gap tail }
 {
-    let column = changed_tail(shown, wanted, first)?;
-    if last < column || last - column + 1 < FEWEST_ERASED {
-        return None;
+    let near = nearer(pen, line, wanted, gap, tail, column);
+    match pen.stands_in(line, tail, column) {
+        Some(here) => nearer(pen, line, wanted, gap, here, near),
+        None => near,
     }
-    Some(column)
 }
 
-/// The first changed column of the line's blank end, from a column on.
-pub fn changed_tail(shown: &[Shown], wanted: &[Shown], first: usize) -> Option<usize>
-    requires same { length shown.now ≡ length wanted.now }
-    requires first { first < length wanted.now }
-    ensures { IsErasedFrom shown.now wanted.now first result }
+/// Of two columns of a line's blank end the one to which it takes fewer bytes to come, and else the second.
+fn nearer(pen: &Pen, line: u16, wanted: &[Shown], gap: usize, one: usize, other: usize) -> usize
+    requires line { line < LARGEST_SCREEN }
+    requires one { one < length wanted.now }
+    requires other { other < length wanted.now }
+    requires few { length wanted.now ≤ LARGEST_SCREEN }
+    ensures { result ≡ (if nat_lt (reach_bytes pen.now.cursor pen.now.rendition line wanted.now gap one) (reach_bytes pen.now.cursor pen.now.rendition line wanted.now gap other) then one else other) }
 {
-    let start = tail_start(wanted).max(first);
+    if reach_length(pen, line, wanted, gap, one) < reach_length(pen, line, wanted, gap, other) {
+        one
+    } else {
+        other
+    }
+}
+
+/// Whether to erase from a column takes fewer bytes than to print the cells of a line's blank end from its first changed one to its
+/// last.
+pub fn is_erased(
+    pen: &Pen,
+    line: u16,
+    wanted: &[Shown],
+    gap: usize,
+    from: usize,
+    first: usize,
+    last: usize,
+) -> bool
+    requires line { line < LARGEST_SCREEN }
+    requires from { from ≤ first }
+    requires first { first < length wanted.now }
+    requires last { last < length wanted.now }
+    requires few { length wanted.now ≤ LARGEST_SCREEN }
+    ensures { result ≡ nat_lt (reach_bytes pen.now.cursor pen.now.rendition line wanted.now gap from + 3 + first) (reach_bytes pen.now.cursor pen.now.rendition line wanted.now gap first + last + 1) }
+{
+    let erased = reach_length(pen, line, wanted, gap, from) + ERASURE;
+    erased + first < reach_length(pen, line, wanted, gap, first) + last + 1
+}
+
+/// How many bytes it takes to come to a column of the blank end with the empty rendition, over the gap of cells behind what was drawn.
+fn reach_length(pen: &Pen, line: u16, wanted: &[Shown], gap: usize, column: usize) -> usize
+    requires line { line < LARGEST_SCREEN }
+    requires column { column < length wanted.now }
+    requires few { length wanted.now ≤ LARGEST_SCREEN }
+    ensures exact { result ≡ reach_bytes pen.now.cursor pen.now.rendition line wanted.now gap column }
+    ensures short { result ≤ 300 }
+{
+    let start = gap.min(column);
+    approach_length(
+        pen,
+        line,
+        start as u16,
+        &wanted[start..column],
+        Rendition::NONE,
+    )
+}
+
+/// The first changed column of a line from one on.
+pub fn changed_from(shown: &[Shown], wanted: &[Shown], start: usize) -> Option<usize>
+    requires same { length shown.now ≡ length wanted.now }
+    requires start { start ≤ length wanted.now }
+    ensures { IsChangedFrom shown.now wanted.now start result }
+{
     let skipped = first_diff(&shown[start..], &wanted[start..])?;
     Some(start + skipped)
+}
+
+/// The first changed column of a line, and that of its blank end, if there is one.
+pub fn changed_end(shown: &[Shown], wanted: &[Shown], tail: usize) -> Option<(usize, usize)>
+    requires same { length shown.now ≡ length wanted.now }
+    requires tail { tail ≤ length wanted.now }
+    ensures { IsChangedEnd shown.now wanted.now tail result }
+{
+    let first = first_diff(shown, wanted)?;
+    let column = changed_from(shown, wanted, tail.max(first))?;
+    Some((first, column))
 }
 
 /// Where the longest blank end of a line begins.
 pub fn tail_start(line: &[Shown]) -> usize
     ensures within { result ≤ length line.now }
     ensures blank { AreBlank (drop result line.now) }
+    ensures longest { 0 < result → slice_index_or line.now (result - 1) shown_blank ≢ shown_blank }
 {
     let mut start = line.len();
     while start > 0 {

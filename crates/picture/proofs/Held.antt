@@ -1,21 +1,22 @@
 -- A place that a rectangle holds lies between its sides, and one that a window's rectangle holds is a place of the window.
-use Rattle.std.proofs.Common.{◌≡◌, ℕ, ◌+◌, ◌-◌, ◌<◌, ◌≤◌, true, false, ◌&&◌, nat_le, nat_lt, Option, Some, None, arith}
-use Rattle.std.specs.Prelude.{IsSomeAnd, unwrap_or}
+use Rattle.std.proofs.Common.{◌≡◌, ℕ, ◌+◌, ◌-◌, ◌<◌, ◌≤◌, true, false, ◌&&◌, nat_le, nat_lt, Option, Some, None, refl, arith}
+use Rattle.std.specs.Prelude.{IsSomeAnd, is_some, unwrap_or}
 use Rattle.std.specs.Option.{option_map_or}
 use Rattle.std.proofs.lemmas.Bool.{and_parts, leb-true, ltb-true}
 use Rattle.cell.specs.Pictures.{Place, origin}
-use Rattle.cell.specs.declared.window.Frame.{Frame}
+use Rattle.cell.specs.declared.window.Rect.{Rect}
 use Rattle.world.specs.Panels.{holds, holds_place, place_of, screen_place}
+use Rattle.world.specs.calls.Making.{is_no_pad}
 use Rattle.world.specs.Windows.{HasPlace, Window, WindowMap}
 use Rattle.picture.specs.Parts.{frame_has_line, frame_holds}
 
-pub record IsBetween (r : Frame) (y x : ℕ) : Type 0 where
+pub record IsBetween (r : Rect) (y x : ℕ) : Type 0 where
   pub top : r.top ≤ y
   pub bottom : y ≤ r.bottom
   pub left : r.left ≤ x
   pub right : x ≤ r.right
 
-pub held-between : (r : Frame) (y x : ℕ) → frame_holds r y x ≡ true → IsBetween r y x
+pub held-between : (r : Rect) (y x : ℕ) → frame_holds r y x ≡ true → IsBetween r y x
 held-between r y x h =
     let both = and_parts (frame_has_line r y) (nat_le r.left x && nat_le x r.right) h in
     let line = and_parts (nat_le r.top y) (nat_le y r.bottom) both.0 in
@@ -52,6 +53,11 @@ placed-before (Some p) lines columns y x h =
     let both = and_parts (nat_le p.0 y && nat_lt y (p.0 + lines)) (nat_le p.1 x && nat_lt x (p.1 + columns)) h in
     (leb-true p.0 y (and_parts (nat_le p.0 y) (nat_lt y (p.0 + lines)) both.0).0, leb-true p.1 x (and_parts (nat_le p.1 x) (nat_lt x (p.1 + columns)) both.1).0)
 
+placed-some : (place : Option Place) (lines columns y x : ℕ)
+    → option_map_or (λ p. (nat_le p.0 y && nat_lt y (p.0 + lines)) && (nat_le p.1 x && nat_lt x (p.1 + columns))) place false ≡ true → is_some place ≡ true
+placed-some None lines columns y x h = cc
+placed-some (Some p) lines columns y x h = refl
+
 held_before : (o : Option Window) (y x : ℕ) → option_map_or (holds_place y x) o false ≡ true
     → ((option_map_or screen_place o origin).0 ≤ y) × ((option_map_or screen_place o origin).1 ≤ x)
 held_before None y x h = cc
@@ -60,3 +66,11 @@ held_before (Some a) y x h = placed-before a.place a.lines a.columns y x h
 -- the window begins no later than a place that it holds
 pub held-before : (window : WindowMap) (w y x : ℕ) → holds window w y x ≡ true → ((place_of window w).0 ≤ y) × ((place_of window w).1 ≤ x)
 held-before window w y x h = held_before (window w) y x h
+
+-- it is no pad
+no_pad : (o : Option Window) (y x : ℕ) → option_map_or (holds_place y x) o false ≡ true → option_map_or (λ a. is_some a.place) o false ≡ true
+no_pad None y x h = cc
+no_pad (Some a) y x h = placed-some a.place a.lines a.columns y x h
+
+pub held-no-pad : (window : WindowMap) (w y x : ℕ) → holds window w y x ≡ true → is_no_pad window w ≡ true
+held-no-pad window w y x h = no_pad (window w) y x h

@@ -3,7 +3,9 @@ pub mod Standing
 pub mod PartLaws
 pub mod VisiblePanels
 pub mod Standard
+pub mod Searching
 pub mod Spans
+pub mod Counting
 pub mod Lines
 pub mod RowPieces
 pub mod DamageLaws

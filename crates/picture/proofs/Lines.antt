@@ -3,27 +3,20 @@ use Rattle.std.proofs.Common.{◌≡◌, ℕ, ◌+◌, ◌<◌, ◌≤◌, Bool,
 use Rattle.std.proofs.lemmas.Bool.{cases_eq, cases_lt, eq-eqb, ne_eqb, le-leb, lt-ltb}
 use Rattle.std.proofs.lemmas.Bool.Decides.{nat_tests}
 use Rattle.cell.specs.Shown.{Shown, shown_blank}
-use Rattle.cell.specs.Pictures.{Picture, HasSize, picture_of, line_of, shown_at, with_cell}
-use Rattle.cell.proofs.PictureLemmas.{HasSize-lines_from, HasSize-with_cell, same_pictures, cell_or-lines_from}
-use Rattle.cell.proofs.Fills.{filled-more}
+use Rattle.cell.specs.Pictures.{Picture, HasSize, picture_of, line_of, shown_at}
+use Rattle.cell.proofs.PictureLemmas.{HasSize-lines_from, same_pictures, cell_or-lines_from}
 
 -- the columns of line y from a first one on and before x are made, and all others are those of the old picture
-pub record LineShown (f : ℕ → Shown) (lines columns y start x : ℕ) (old picture : Picture) : Type 0 where
+pub record LineShown (f : ℕ → Shown) (y start x : ℕ) (old picture : Picture) : Type 0 where
   pub shown : (v u : ℕ) → shown_at picture (v, u) ≡ (if (v == y) && (nat_le start u && nat_lt u x) then f u else shown_at old (v, u))
-  pub size : HasSize lines columns picture
+  pub size : (lines columns : ℕ) → HasSize lines columns old → HasSize lines columns picture
+  pub height : length picture ≡ length old
+  pub width : length (line_of picture y) ≡ length (line_of old y)
 
 -- the lines before y are made
 pub record ShownAbove (f : ℕ → ℕ → Shown) (lines columns y : ℕ) (picture : Picture) : Type 0 where
   pub size : HasSize lines columns picture
   pub shown : (v u : ℕ) → v < y → u < columns → shown_at picture (v, u) ≡ f v u
-
--- one column more
-pub LineShown-more : (f : ℕ → Shown) (lines columns y start x : ℕ) (old now : Picture) → LineShown f lines columns y start x old now → y < length now → x < length (line_of now y) → start ≤ x
-    → LineShown f lines columns y start (x + 1) old (with_cell now (y, x) (f x))
-LineShown-more f lines columns y start x old now so_far below left from = record {
-  shown = filled-more shown_blank now old y start x f below left from so_far.shown;
-  size = HasSize-with_cell (y, x) (f x) so_far.size;
-}
 
 -- What is made from x on, up to an end, follows what was made before x.
 joined : (line : Bool) (start x end u : ℕ) (made new old : Shown) → start ≤ x → x ≤ end → (x ≤ u → u < end → new ≡ made)
@@ -38,15 +31,18 @@ joined true start x end u made new old begins ordered same = elim (cases_lt u x)
 ]
 
 -- a span more
-pub LineShown-span : (f g : ℕ → Shown) (lines columns y start x end : ℕ) (old now new : Picture) → LineShown f lines columns y start x old now → start ≤ x → x ≤ end → ((u : ℕ) → x ≤ u → u < end → g u ≡ f u)
-    → ((v u : ℕ) → shown_at new (v, u) ≡ (if (v == y) && (nat_le x u && nat_lt u end) then g u else shown_at now (v, u))) → HasSize lines columns new
-    → LineShown f lines columns y start end old new
-LineShown-span f g lines columns y start x end old now new so_far from ordered same span size = record {
+pub LineShown-span : (f g : ℕ → Shown) (y start x end : ℕ) (old now new : Picture) → LineShown f y start x old now → start ≤ x → x ≤ end → ((u : ℕ) → x ≤ u → u < end → g u ≡ f u)
+    → ((v u : ℕ) → shown_at new (v, u) ≡ (if (v == y) && (nat_le x u && nat_lt u end) then g u else shown_at now (v, u)))
+    → ((lines columns : ℕ) → HasSize lines columns now → HasSize lines columns new) → length new ≡ length now → length (line_of new y) ≡ length (line_of now y)
+    → LineShown f y start end old new
+LineShown-span f g y start x end old now new so_far from ordered same span size height width = record {
   shown = λ v u.
       span v u
       ∙ ap (λ (rest : Shown). if (v == y) && (nat_le x u && nat_lt u end) then g u else rest) (so_far.shown v u)
       ∙ joined (v == y) start x end u (f u) (g u) (shown_at old (v, u)) from ordered (same u);
-  size = size;
+  size = λ lines columns h. size lines columns (so_far.size lines columns h);
+  height = height ∙ so_far.height;
+  width = width ∙ so_far.width;
 }
 
 inside-piece : (line left right : Bool) (one other : Shown) → line ≡ true → left ≡ true → right ≡ true → (if line && (left && right) then one else other) ≡ one

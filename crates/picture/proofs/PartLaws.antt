@@ -1,23 +1,28 @@
 -- The part of the screen on which a window stands, or on which it shows cells of another.
-use Rattle.std.proofs.Common.{◌≡◌, ℕ, ◌+◌, ◌-◌, ◌<◌, ◌≤◌, true, false, ◌&&◌, nat_le, nat_lt, Option, Some, sym, ap, subst, ◌∙◌, arith}
+use Rattle.std.proofs.Common.{◌≡◌, ℕ, ◌+◌, ◌-◌, ◌<◌, ◌≤◌, Bool, true, false, ◌&&◌, nat_le, nat_lt, Option, Some, refl, sym, ap, subst, ◌∙◌, arith}
 use Rattle.std.specs.Prelude.{IsSomeAnd, unwrap_or}
 use Rattle.std.specs.Option.{option_map_or}
 use Rattle.std.proofs.lemmas.Bool.{and_parts, and_from, leb-true, le-leb, ltb-true, lt-ltb}
 use Rattle.std.proofs.lemmas.Bool.Decides.{nat_tests}
 use Rattle.cell.specs.Pictures.{Place, origin}
-use Rattle.cell.specs.declared.window.Frame.{Frame}
+use Rattle.cell.specs.declared.window.Rect.{Rect}
 use Rattle.world.specs.Frames.{AreRectangle, IsIn, IsSmallest}
-use Rattle.world.specs.Panels.{has_line, holds, holds_place, place_of, screen_place}
+use Rattle.world.specs.Panels.{holds, holds_place, place_of, screen_place}
 use Rattle.world.specs.Sharing.{SharesPart, shows_part_of}
 use Rattle.world.specs.Windows.{Window, Windows, any_below}
-use Rattle.world.specs.calls.Affected.{shows_on_line}
-use Rattle.world.specs.calls.Places.{shows_at}
+use Rattle.world.specs.calls.Affected.{shows_at}
 use Rattle.world.proofs.Below.{any_below-some}
 use Rattle.picture.specs.Parts.{IsFrameWithin, frame_has_line, frame_holds}
+use Rattle.picture.proofs.Held.{held-between}
 use Rattle.picture.proofs.Standing.{StandsAt}
 
+true-alike : (b c : Bool) → (b ≡ true → c ≡ true) → (c ≡ true → b ≡ true) → b ≡ c
+true-alike true c to from = sym (to refl)
+true-alike false true to from = from refl
+true-alike false false to from = refl
+
 -- a window's own rectangle
-abbrev pub frame_from : ℕ → ℕ → ℕ → ℕ → Frame
+abbrev pub frame_from : ℕ → ℕ → ℕ → ℕ → Rect
 frame_from top left lines columns = record { top = top; left = left; bottom = top + lines - 1; right = left + columns - 1 }
 
 module _ (windows : Windows) (w top left lines : ℕ) (h : StandsAt windows w (top, left) lines) where
@@ -25,11 +30,6 @@ module _ (windows : Windows) (w top left lines : ℕ) (h : StandsAt windows w (t
   holds-is y x =
       ap (λ (o : Option Window). option_map_or (holds_place y x) o false) h.there
       ∙ ap (λ (o : Option Place). option_map_or (λ p. (nat_le p.0 y && nat_lt y (p.0 + h.window.lines)) && (nat_le p.1 x && nat_lt x (p.1 + h.window.columns))) o false) h.at
-
-  line-is : (y : ℕ) → option_map_or (has_line y) (windows.window w) false ≡ (nat_le top y && nat_lt y (top + h.window.lines))
-  line-is y =
-      ap (λ (o : Option Window). option_map_or (has_line y) o false) h.there
-      ∙ ap (λ (o : Option Place). option_map_or (λ p. nat_le p.0 y && nat_lt y (p.0 + h.window.lines)) o false) h.at
 
   place-is : place_of windows.window w ≡ (top, left)
   place-is = ap (λ (o : Option Window). option_map_or screen_place o origin) h.there ∙ ap (λ (o : Option Place). unwrap_or o origin) h.at
@@ -39,11 +39,6 @@ module _ (windows : Windows) (w top left lines : ℕ) (h : StandsAt windows w (t
     inside-same : (top left lines columns y x : ℕ) → 0 < lines → 0 < columns
         → ((nat_le top y && nat_lt y (top + lines)) && (nat_le left x && nat_lt x (left + columns))) ≡ ((nat_le top y && nat_le y (top + lines - 1)) && (nat_le left x && nat_le x (left + columns - 1)))
     inside-same top left lines columns y x some more = grind (arith, nat_tests)
-
-  pub frame-line : (columns : ℕ) → 0 < lines → (y : ℕ) → frame_has_line (frame_from top left lines columns) y ≡ option_map_or (has_line y) (windows.window w) false
-  frame-line columns some y = sym (line-is y ∙ rw h.height (line-same top lines y some)) where
-    line-same : (top lines y : ℕ) → 0 < lines → (nat_le top y && nat_lt y (top + lines)) ≡ (nat_le top y && nat_le y (top + lines - 1))
-    line-same top lines y some = grind (arith, nat_tests)
 
   pub frame-within : (columns : ℕ) → 0 < lines → h.window.columns ≡ columns → IsFrameWithin windows.lines windows.columns (frame_from top left lines columns)
   frame-within columns some same =
@@ -55,8 +50,8 @@ module _ (windows : Windows) (w top left lines : ℕ) (h : StandsAt windows w (t
 
   -- ---- cells of another
 
-  module _ (window_shown : ℕ) (r seen : Frame) (rectangle : AreRectangle (SharesPart windows.window window_shown r w) (Some seen)) where
-    abbrev shifted : Frame
+  module _ (window_shown : ℕ) (r seen : Rect) (rectangle : AreRectangle (SharesPart windows.window window_shown r w) (Some seen)) where
+    abbrev shifted : Rect
     shifted = record { top = top + seen.top; left = left + seen.left; bottom = top + seen.bottom; right = left + seen.right }
 
     shares : (y x : ℕ) → shows_at windows.window window_shown r y x w ≡ true → SharesPart windows.window window_shown r w (y - top) (x - left)
@@ -114,19 +109,25 @@ module _ (windows : Windows) (w top left lines : ℕ) (h : StandsAt windows w (t
         let ordered = ordered-columns in
         record { bottom = omega (arith, low, down); ordered = omega (arith, ordered); right = omega (arith, far, right) }
 
-    pub shared-line : (y : ℕ) → frame_has_line shifted y ≡ true → shows_on_line windows.window window_shown r y w ≡ true
-    shared-line y is =
-        let both = and_parts (nat_le (top + seen.top) y) (nat_le y (top + seen.bottom)) is in
-        let from = leb-true (top + seen.top) y both.0 in
-        let to = leb-true y (top + seen.bottom) both.1 in
-        let columns = ordered-columns in
-        let at : IsIn seen (y - top) seen.left = record { top = omega (arith, from); bottom = omega (arith, to, from); left = omega arith; right = columns } in
-        let shared = rectangle.1 (y - top) seen.left at in
-        let inside = in-window (y - top) seen.left shared in
-        let line : nat_lt y (top + h.window.lines) ≡ true = lt-ltb y (top + h.window.lines) (let below = inside.0 in omega (arith, from, below)) in
-        let first : nat_le top y ≡ true = le-leb top y (omega (arith, from)) in
-        ap (λ (o : Option Window). option_map_or (λ a. has_line y a && any_below a.columns (λ x. shows_part_of windows.window window_shown r w (y - (screen_place a).0) x)) o false) h.there
-        ∙ ap (λ (o : Option Place). option_map_or (λ p. nat_le p.0 y && nat_lt y (p.0 + h.window.lines)) o false && any_below h.window.columns (λ x. shows_part_of windows.window window_shown r w (y - (unwrap_or o origin).0) x)) h.at
-        ∙ and_from (nat_le top y && nat_lt y (top + h.window.lines)) (any_below h.window.columns (λ x. shows_part_of windows.window window_shown r w (y - top) x))
-        (and_from (nat_le top y) (nat_lt y (top + h.window.lines)) first line)
-        (any_below-some h.window.columns (λ x. shows_part_of windows.window window_shown r w (y - top) x) seen.left inside.1 shared.1)
+    -- each place of the rectangle is one at which the window shows a cell of the other
+    pub holds-shared : (y x : ℕ) → frame_holds shifted y x ≡ true → shows_at windows.window window_shown r y x w ≡ true
+    holds-shared y x is =
+        let at = held-between shifted y x is in
+        let a = at.top in
+        let b = at.bottom in
+        let c = at.left in
+        let d = at.right in
+        let inner : IsIn seen (y - top) (x - left) = record { top = omega (arith, a); bottom = omega (arith, a, b); left = omega (arith, c); right = omega (arith, c, d) } in
+        let shared = rectangle.1 (y - top) (x - left) inner in
+        let inside = in-window (y - top) (x - left) shared in
+        let below = inside.0 in
+        let before = inside.1 in
+        and_from (holds windows.window w y x) (shows_part_of windows.window window_shown r w (y - (place_of windows.window w).0) (x - (place_of windows.window w).1))
+        (holds-is y x
+        ∙ and_from (nat_le top y && nat_lt y (top + h.window.lines)) (nat_le left x && nat_lt x (left + h.window.columns))
+        (and_from (nat_le top y) (nat_lt y (top + h.window.lines)) (le-leb top y (omega (arith, a))) (lt-ltb y (top + h.window.lines) (omega (arith, below, a))))
+        (and_from (nat_le left x) (nat_lt x (left + h.window.columns)) (le-leb left x (omega (arith, c))) (lt-ltb x (left + h.window.columns) (omega (arith, before, c)))))
+        (ap (λ (p : Place). shows_part_of windows.window window_shown r w (y - p.0) (x - p.1)) place-is ∙ shared.1)
+
+    pub shared-same : (y x : ℕ) → frame_holds shifted y x ≡ shows_at windows.window window_shown r y x w
+    shared-same y x = true-alike (frame_holds shifted y x) (shows_at windows.window window_shown r y x w) (holds-shared y x) (shared-holds y x)

@@ -1,6 +1,6 @@
 -- The damaged columns of each line of the screen, from a first to a last, or none; and what a step does to them.
-use Rattle.std.specs.Prelude.{◌≡◌, ℕ, zero, suc, ◌+◌, ◌-◌, ◌<◌, ◌||◌, Bool, true, min, max, Option, Some, None, List, length, is_some, slice_index_or}
-use Rattle.std.specs.Option.{option_map_or}
+use Rattle.std.specs.Prelude.{◌≡◌, ◌⊎◌, ℕ, zero, suc, ◌+◌, ◌-◌, ◌<◌, Bool, true, min, max, MatchOption, Option, Some, None, List, length, is_some, slice_index_or, ⊤}
+use Rattle.std.specs.Option.{option_map, option_map_or}
 use Rattle.world.specs.Sound.{AreColumnsWithin}
 use Rattle.world.specs.calls.Refresh.{among}
 use Rattle.world.specs.declared.settings.Columns.{Columns}
@@ -19,18 +19,23 @@ has_damage_at damage y x = among (columns_of damage y) x
 
 -- ---- a step
 
--- the least columns that hold these, if there are any, and those from a first to a last
-abbrev pub joined_columns : Option Columns → ℕ → ℕ → Option Columns
-joined_columns None first last = Some (record { first = first; last = last })
-joined_columns (Some r) first last = Some (record { first = min r.first first; last = max r.last last })
+-- a column is this one, if there is one, or one of the first n that pass a test
+abbrev pub IsEnd : ℕ → Option ℕ → (ℕ → Bool) → ℕ → Type 0
+IsEnd n before test x = (before ≡ Some x) ⊎ ((x < n) × (test x ≡ true))
 
--- Each of these places of the screen is damaged now, and each that was is. No line is that neither was nor is named.
-pub record Damages (columns : ℕ) (places : ℕ → ℕ → Bool) (named : ℕ → Bool) (old new : List (Option Columns)) : Type 0 where
+-- of some columns the first and the last, where there are any, are those of others or pass a test
+abbrev pub AreEnds : ℕ → Option Columns → (ℕ → Bool) → Option Columns → Type 0
+AreEnds n before test columns =
+    MatchOption columns ⊤ (λ r. IsEnd n (option_map (λ c. c.first) before) test r.first × IsEnd n (option_map (λ c. c.last) before) test r.last)
+
+-- Each of these places of the screen is damaged now, and each that was is. Of each line the first damaged column and the last are those of
+-- before or one of the places.
+pub record Damages (columns : ℕ) (places : ℕ → ℕ → Bool) (old new : List (Option Columns)) : Type 0 where
   pub height : length new ≡ length old
   pub within : (y : ℕ) → AreColumnsWithin columns (columns_of old y) → AreColumnsWithin columns (columns_of new y)
   pub keeps : (y x : ℕ) → has_damage_at old y x ≡ true → has_damage_at new y x ≡ true
   pub covers : (y x : ℕ) → y < length old → x < columns → places y x ≡ true → has_damage_at new y x ≡ true
-  pub few : (y : ℕ) → has_damage new y ≡ true → (has_damage old y || named y) ≡ true
+  pub few : (y : ℕ) → AreEnds columns (columns_of old y) (places y) (columns_of new y)
 
 -- how many columns are damaged of a line, and of the lines before y
 abbrev pub cells_of_line : Option Columns → ℕ

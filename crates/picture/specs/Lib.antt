@@ -1,2 +1,4 @@
 pub mod Parts
 pub mod Damages
+pub mod Counts
+pub mod Spans

@@ -3,35 +3,27 @@ use Rattle.std.specs.Prelude.{◌≡◌, ℕ, ◌+◌, ◌<◌, ◌==◌, Bool, 
 use Rattle.std.specs.List.{list_any}
 use Rattle.std.specs.Option.{option_map_or}
 use Rattle.cell.specs.Glyphs.{Glyph, blank}
-use Rattle.cell.specs.declared.window.Frame.{Frame}
-use Rattle.world.specs.Panels.{Panels, has_line, window_or_standard}
+use Rattle.cell.specs.declared.window.Rect.{Rect}
+use Rattle.world.specs.Panels.{Panels, window_or_standard}
 use Rattle.world.specs.Windows.{WindowMap, cell_at}
 
 -- the rectangle has the line
-abbrev pub frame_has_line : Frame → ℕ → Bool
+abbrev pub frame_has_line : Rect → ℕ → Bool
 frame_has_line r y = nat_le r.top y && nat_le y r.bottom
 
 -- the rectangle holds the place
-abbrev pub frame_holds : Frame → ℕ → ℕ → Bool
+abbrev pub frame_holds : Rect → ℕ → ℕ → Bool
 frame_holds r y x = frame_has_line r y && (nat_le r.left x && nat_le x r.right)
 
 -- the same of one that may be none
-abbrev pub part_has_line : Option Frame → ℕ → Bool
-part_has_line part y = option_map_or (λ r. frame_has_line r y) part false
-
-abbrev pub part_holds : Option Frame → ℕ → ℕ → Bool
+abbrev pub part_holds : Option Rect → ℕ → ℕ → Bool
 part_holds part y x = option_map_or (λ r. frame_holds r y x) part false
 
 -- the rectangle lies on a screen of this size
-pub record IsFrameWithin (lines columns : ℕ) (r : Frame) : Type 0 where
+pub record IsFrameWithin (lines columns : ℕ) (r : Rect) : Type 0 where
   pub bottom : r.bottom < lines
   pub ordered : r.left < r.right + 1
   pub right : r.right < columns
-
--- the panel is visible, and its window has the line
-abbrev pub panel_has_line : WindowMap → Panels → ℕ → ℕ → Bool
-panel_has_line window panels p line =
-    list_any (λ q. q == p) panels.visible && option_map_or (has_line line) (window (window_or_standard panels (Some p))) false
 
 -- these cells are those that window w shows on line y from a column on
 pub record IsPiece (window : WindowMap) (w y left n : ℕ) (cells : List Glyph) : Type 0 where

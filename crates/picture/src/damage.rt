@@ -2,10 +2,11 @@
 
 ghost use Rattle.std.specs.Prelude.{◌≡◌, ◌<◌, ◌≤◌, ℕ, None, Some, IfOk, length, replicate, slice_set};
 ghost use Rattle.cell.specs.declared.limits.TheConstants.{LARGEST_SCREEN};
-ghost use Rattle.picture.specs.Damages.{Damages, columns_of, joined_columns};
-ghost use Rattle.picture.specs.Parts.{frame_has_line, frame_holds};
+ghost use Rattle.world.specs.Windows.{joined_columns};
+ghost use Rattle.picture.specs.Damages.{Damages, columns_of};
+ghost use Rattle.picture.specs.Parts.{frame_holds};
 
-use cell::Frame;
+use cell::Rect;
 use std::alloc::{AllocError, Global};
 use std::marker::Model;
 use world::Columns;
@@ -53,11 +54,11 @@ impl Damage {
     }
 
     /// Damages a rectangle.
-    pub fn rectangle(&mut self, frame: Frame)
+    pub fn rectangle(&mut self, frame: Rect)
         requires few { length self.old ≤ LARGEST_SCREEN }
         requires inside { frame.bottom < length self.old }
         requires ordered { frame.left ≤ frame.right }
-        ensures damaged { (columns : ℕ) → frame.right < columns → Damages columns (frame_holds frame) (frame_has_line frame) self.old self.new }
+        ensures damaged { (columns : ℕ) → frame.right < columns → Damages columns (frame_holds frame) self.old self.new }
     {
         for y in frame.top..frame.bottom + 1 {
             self.widen(y, frame.left, frame.right);
@@ -70,13 +71,6 @@ impl Damage {
         ensures { self.new ≡ slice_set self.old y (joined_columns (columns_of self.old y) first last) }
     {
         let at = usize::from(y);
-        let columns = match self.lines[at] {
-            Some(columns) => Columns {
-                first: columns.first.min(first),
-                last: columns.last.max(last),
-            },
-            None => Columns { first, last },
-        };
-        self.lines[at] = Some(columns);
+        self.lines[at] = Some(Columns::join(self.lines[at], first, last));
     }
 }

@@ -1,20 +1,23 @@
 //! A part of a line of the picture, composed of pieces of windows.
 
-ghost use Rattle.std.specs.Prelude.{◌≡◌, ◌<◌, ◌≤◌, ◌+◌, ◌-◌, ◌==◌, ◌&&◌, ◌^◌, ℕ, if◌then◌else◌, nat_le, nat_lt};
-ghost use Rattle.cell.specs.Pictures.{HasSize, shown_at};
+ghost use Rattle.std.specs.Prelude.{◌≡◌, ◌<◌, ◌≤◌, ◌+◌, ◌-◌, ◌==◌, ◌&&◌, ℕ, true, if◌then◌else◌, length, nat_le, nat_lt};
+ghost use Rattle.cell.specs.Pictures.{HasSize, line_of, shown_at};
 ghost use Rattle.cell.specs.Shown.{shown};
-ghost use Rattle.world.specs.Panels.{found_from_top};
-ghost use Rattle.world.specs.Sound.{AreSoundPanels, AreSoundWindows};
+ghost use Rattle.world.specs.Panels.{found_from_top, holds, standard_screen};
 ghost use Rattle.stack.specs.Tables.{panels};
+ghost use Rattle.picture.specs.Counts.{GrewBy};
+ghost use Rattle.picture.specs.Spans.{HasPanelWindows};
 
 use crate::piece::show_cells;
 use crate::rows::Rows;
-use crate::span::span_found;
+use crate::search::window_of;
+use crate::span::owner_span;
 use cell::{Grid, Pairs, Shown};
 use stack::Stack;
 
 /// Sets the columns of line `y` of a picture of the screen, from `left` to `right`, both inclusive, to what a search from the top visible
-/// panel down to the standard screen finds, and leaves all others. As many cells of windows are lent as there are such columns.
+/// panel down to the standard screen finds, and leaves all others. As many cells of windows are lent as there are such columns. The
+/// standard screen must hold them, and so must the picture's line; and the window of each visible panel must be there.
 pub fn compose_row<'a, R: Rows<'a>>(
     rows: &mut R,
     stack: &Stack,
@@ -24,30 +27,26 @@ pub fn compose_row<'a, R: Rows<'a>>(
     right: u16,
     picture: &mut Grid<Shown>,
 )
-    requires windows { AreSoundWindows (R.windows rows.old) }
-    requires panels { AreSoundPanels (R.windows rows.old).window (panels stack.now) }
-    requires line { y < (R.windows rows.old).lines }
+    requires standard { (u : ℕ) → left ≤ u → u ≤ right → holds (R.windows rows.old).window standard_screen y u ≡ true }
+    requires panels { HasPanelWindows (R.windows rows.old).window (panels stack.now) }
     requires ordered { left ≤ right }
-    requires columns { right < (R.windows rows.old).columns }
-    requires few { R.lent rows.old + (right - left + 1) < 2 ^ 32 }
-    requires size { HasSize (R.windows rows.old).lines (R.windows rows.old).columns picture.old }
+    requires line { y < length picture.old }
+    requires columns { right < length (line_of picture.old y) }
     ensures shown { (v u : ℕ) → shown_at picture.new (v, u) ≡ (if (v == y) && (nat_le left u && nat_lt u (right + 1)) then shown pairs.now (found_from_top (R.windows rows.old).window (panels stack.now) y u) else shown_at picture.old (v, u)) }
-    ensures size { HasSize (R.windows rows.old).lines (R.windows rows.old).columns picture.new }
-    ensures counted { R.lent rows.new ≡ R.lent rows.old + (right - left + 1) }
+    ensures size { (lines columns : ℕ) → HasSize lines columns picture.old → HasSize lines columns picture.new }
+    ensures counted { GrewBy (right - left + 1) (R.lent rows.old) (R.lent rows.new) }
     ensures same { R.windows rows.new ≡ R.windows rows.old }
 {
-    let end = right + 1;
     let mut x = left;
-    while x < end {
-        let span = span_found(rows, stack, y, x, end);
-        let rect = rows.rect(span.win);
-        let cells = rows.lend(
-            span.win,
-            y - rect.top,
-            x - rect.left,
-            span.end - 1 - rect.left,
-        );
+    loop {
+        let span = owner_span(rows, stack, y, x, right);
+        let win = window_of(stack, span.panel);
+        let rect = rows.rect(win);
+        let cells = rows.lend(win, y - rect.top, x - rect.left, span.end - rect.left);
         show_cells(cells, pairs, y, x, picture);
-        x = span.end;
+        if span.end == right {
+            return;
+        }
+        x = span.end + 1;
     }
 }

@@ -3,30 +3,28 @@
 ghost use Rattle.std.specs.Prelude.{◌≡◌, ◌≤◌, ◌==◌, ℕ, true, false, All, IsSome, MatchOption, ⊤};
 ghost use Rattle.std.specs.List.{list_any};
 ghost use Rattle.std.specs.Option.{option_map_or};
-ghost use Rattle.world.specs.Panels.{has_line, holds, place_of};
+ghost use Rattle.world.specs.Panels.{holds, place_of};
 ghost use Rattle.world.specs.Sound.{AreSoundPanels};
 ghost use Rattle.world.specs.Windows.{HasPlace};
-ghost use Rattle.world.specs.calls.Affected.{follows_on_line, shows_on_line};
 ghost use Rattle.world.specs.calls.Making.{is_no_pad};
-ghost use Rattle.world.specs.calls.Places.{follows_at, panel_shows_at, shows_at};
+ghost use Rattle.world.specs.calls.Affected.{follows_at, panel_shows_at, shows_at};
 ghost use Rattle.grids.specs.Tables.{windows as windows_of};
 ghost use Rattle.stack.specs.Tables.{panels};
-ghost use Rattle.picture.specs.Parts.{IsFrameWithin, panel_has_line, part_has_line, part_holds};
+ghost use Rattle.picture.specs.Parts.{IsFrameWithin, part_holds};
 
-use cell::{Frame, WinId};
+use cell::{Rect, WinId};
 use grids::Grids;
 use stack::Stack;
 use world::PanelId;
 
 /// The rectangle of a window on the screen, if it is there and no pad.
-pub fn window_part(table: &Grids, win: WinId) -> Option<Frame>
+pub fn window_part(table: &Grids, win: WinId) -> Option<Rect>
     ensures holds { (y x : ℕ) → part_holds result y x ≡ holds (windows_of table.now).window win.0 y x }
-    ensures lines { (y : ℕ) → part_has_line result y ≡ option_map_or (has_line y) ((windows_of table.now).window win.0) false }
     ensures within { MatchOption result ⊤ (IsFrameWithin table.now.lines table.now.columns) }
     ensures place { MatchOption result (is_no_pad (windows_of table.now).window win.0 ≡ false) (λ frame. (frame.top, frame.left) ≡ place_of (windows_of table.now).window win.0) }
 {
     match (table.getbegyx(win), table.getmaxyx(win)) {
-        (Ok((top, left)), Ok((lines, columns))) => Some(Frame {
+        (Ok((top, left)), Ok((lines, columns))) => Some(Rect {
             top,
             left,
             bottom: top + lines - 1,
@@ -37,17 +35,16 @@ pub fn window_part(table: &Grids, win: WinId) -> Option<Frame>
 }
 
 /// The rectangle of the screen on which window `u` shows cells that `win` shows in a rectangle of it.
-pub fn shared_part(table: &Grids, win: WinId, frame: Frame, u: WinId) -> Option<Frame>
+pub fn shared_part(table: &Grids, win: WinId, frame: Rect, u: WinId) -> Option<Rect>
     requires ordered_lines { frame.top ≤ frame.bottom }
     requires ordered_columns { frame.left ≤ frame.right }
     requires inside { HasPlace (windows_of table.now).window win.0 frame.bottom frame.right }
-    ensures holds { (y x : ℕ) → shows_at (windows_of table.now).window win.0 frame y x u.0 ≡ true → part_holds result y x ≡ true }
-    ensures lines { (y : ℕ) → part_has_line result y ≡ true → shows_on_line (windows_of table.now).window win.0 frame y u.0 ≡ true }
+    ensures holds { (y x : ℕ) → part_holds result y x ≡ shows_at (windows_of table.now).window win.0 frame y x u.0 }
     ensures within { MatchOption result ⊤ (IsFrameWithin table.now.lines table.now.columns) }
 {
     let (top, left) = table.getbegyx(u).ok()?;
     let seen = table.seen_in(win, frame, u)?;
-    Some(Frame {
+    Some(Rect {
         top: top + seen.top,
         left: left + seen.left,
         bottom: top + seen.bottom,
@@ -56,9 +53,8 @@ pub fn shared_part(table: &Grids, win: WinId, frame: Frame, u: WinId) -> Option<
 }
 
 /// The rectangle of window `u` on the screen, if it is `win` or derives from it.
-pub fn following_part(table: &Grids, win: WinId, u: WinId) -> Option<Frame>
+pub fn following_part(table: &Grids, win: WinId, u: WinId) -> Option<Rect>
     ensures holds { (y x : ℕ) → part_holds result y x ≡ follows_at (windows_of table.now).window win.0 y x u.0 }
-    ensures lines { (y : ℕ) → part_has_line result y ≡ follows_on_line (windows_of table.now).window win.0 y u.0 }
     ensures within { MatchOption result ⊤ (IsFrameWithin table.now.lines table.now.columns) }
 {
     if table.has_window(u) && (u == win || table.derives(win, u)) {
@@ -69,10 +65,9 @@ pub fn following_part(table: &Grids, win: WinId, u: WinId) -> Option<Frame>
 }
 
 /// The rectangle of a panel's window on the screen, if the panel is there and visible.
-pub fn panel_part(table: &Grids, stack: &Stack, panel: PanelId) -> Option<Frame>
+pub fn panel_part(table: &Grids, stack: &Stack, panel: PanelId) -> Option<Rect>
     requires { AreSoundPanels (windows_of table.now).window (panels stack.now) }
     ensures holds { (y x : ℕ) → part_holds result y x ≡ panel_shows_at (windows_of table.now).window (panels stack.now) panel.0 y x }
-    ensures lines { (y : ℕ) → part_has_line result y ≡ panel_has_line (windows_of table.now).window (panels stack.now) panel.0 y }
     ensures within { MatchOption result ⊤ (IsFrameWithin table.now.lines table.now.columns) }
 {
     if !is_visible(stack, panel) {

@@ -9,15 +9,7 @@ ghost use Rattle.grids.specs.Tables.{windows as windows_of};
 ghost use Rattle.picture.specs.Parts.{IsPiece};
 
 use cell::{Cell, Grid, Pairs, Shown, WinId};
-use grids::Grids;
-
-/// A line and a column of a window.
-#[derive(Clone, Copy)]
-pub struct Source {
-    pub win: WinId,
-    pub line: u16,
-    pub column: u16,
-}
+use grids::{Grids, Place};
 
 /// So many cells of line `y` of a window from column `left` on. There must be as many, and at least one.
 pub fn piece(table: &Grids, win: WinId, y: u16, left: u16, n: usize) -> &[Cell]
@@ -35,7 +27,7 @@ pub fn piece(table: &Grids, win: WinId, y: u16, left: u16, n: usize) -> &[Cell]
 pub fn show_piece(
     table: &Grids,
     pairs: &Pairs,
-    source: Source,
+    source: Place,
     n: u16,
     y: u16,
     x: u16,
@@ -65,6 +57,8 @@ pub fn show_cells(cells: &[Cell], pairs: &Pairs, y: u16, x: u16, picture: &mut G
     requires columns { x + length cells.now ≤ length (line_of picture.old y) }
     ensures shown { (v u : ℕ) → shown_at picture.new (v, u) ≡ (if (v == y) && (nat_le x u && nat_lt u (x + length cells.now)) then shown pairs.now (slice_index_or cells.now (u - x) blank) else shown_at picture.old (v, u)) }
     ensures size { (lines columns : ℕ) → HasSize lines columns picture.old → HasSize lines columns picture.new }
+    ensures height { length picture.new ≡ length picture.old }
+    ensures width { (v : ℕ) → length (line_of picture.new v) ≡ length (line_of picture.old v) }
 {
     for k in 0..cells.len() {
         picture.set(usize::from(y), usize::from(x) + k, pairs.shown(cells[k]));

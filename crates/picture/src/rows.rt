@@ -1,16 +1,17 @@
 //! Where the lines of windows come from that a picture is composed of, and how many of their cells were lent.
 
-ghost use Rattle.std.specs.Prelude.{◌≡◌, ◌<◌, ◌≤◌, ◌+◌, ◌-◌, ◌^◌, ℕ, true};
+ghost use Rattle.std.specs.Prelude.{◌≡◌, ◌≤◌, ◌+◌, ◌-◌, ℕ, true};
 ghost use Rattle.world.specs.Panels.{holds, place_of};
 ghost use Rattle.world.specs.Sound.{AreSoundWindows};
 ghost use Rattle.world.specs.Windows.{HasPlace, Windows};
 ghost use Rattle.world.specs.calls.Making.{is_no_pad};
 ghost use Rattle.grids.specs.Tables.{windows as windows_of};
+ghost use Rattle.picture.specs.Counts.{GrewBy};
 ghost use Rattle.picture.specs.Parts.{IsPiece, frame_holds};
 
 use crate::parts::window_part;
 use crate::piece::piece;
-use cell::{Cell, Frame, WinId};
+use cell::{Cell, Rect, WinId};
 use grids::Grids;
 
 /// Lends pieces of the lines of windows, and counts their cells. The pieces stand where the count doesn't: they may be read on while more are
@@ -22,19 +23,19 @@ pub trait Rows<'a> {
     ghost lent: { Self → ℕ };
 
     /// The rectangle of a window on the screen. The window must be there, and no pad.
-    fn rect(&self, win: WinId) -> Frame
+    fn rect(&self, win: WinId) -> Rect
         requires { is_no_pad (windows self.now).window win.0 ≡ true }
         ensures place { (result.top, result.left) ≡ place_of (windows self.now).window win.0 }
+        ensures ordered { result.left ≤ result.right }
         ensures holds { (y x : ℕ) → frame_holds result y x ≡ holds (windows self.now).window win.0 y x };
 
-    /// A piece of line `y` of a window, from its column `left` to its column `right`, both inclusive, which must be there. No more than
-    /// 2^32 - 1 cells can be lent.
+    /// A piece of line `y` of a window, from its column `left` to its column `right`, both inclusive, which must be there. The
+    /// count goes up by the number of its cells, modulo 2^64.
     fn lend(&mut self, win: WinId, y: u16, left: u16, right: u16) -> &'a [Cell]
         requires ordered { left ≤ right }
         requires place { HasPlace (windows self.old).window win.0 y right }
-        requires few { lent self.old + (right - left + 1) < 2 ^ 32 }
         ensures piece { IsPiece (windows self.old).window win.0 y left (right - left + 1) result.now }
-        ensures counted { lent self.new ≡ lent self.old + (right - left + 1) }
+        ensures counted { GrewBy (right - left + 1) (lent self.old) (lent self.new) }
         ensures same { windows self.new ≡ windows self.old };
 }
 
@@ -42,7 +43,7 @@ pub trait Rows<'a> {
 #[derive(Drop)]
 pub struct Lent<'a> {
     table: &'a Grids,
-    pub cells: u32,
+    pub cells: u64,
 }
 
 impl<'a> Lent<'a> {
@@ -60,7 +61,7 @@ impl<'a> Rows<'a> for Lent<'a> {
 
     ghost lent = { λ rows. rows.cells };
 
-    fn rect(&self, win: WinId) -> Frame {
+    fn rect(&self, win: WinId) -> Rect {
         match window_part(self.table, win) {
             Some(frame) => frame,
             None => unreachable!(),
@@ -68,7 +69,7 @@ impl<'a> Rows<'a> for Lent<'a> {
     }
 
     fn lend(&mut self, win: WinId, y: u16, left: u16, right: u16) -> &'a [Cell] {
-        self.cells += u32::from(right - left) + 1;
+        self.cells = self.cells.wrapping_add(u64::from(right - left) + 1);
         piece(self.table, win, y, left, usize::from(right - left) + 1)
     }
 }

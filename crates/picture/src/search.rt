@@ -3,17 +3,16 @@
 ghost use Rattle.std.specs.Prelude.{◌≡◌, ◌<◌, true};
 ghost use Rattle.world.specs.Panels.{cursor_of_topmost, cursor_on_screen, found_from_top, holds, owner, place_of, topmost, window_or_standard};
 ghost use Rattle.world.specs.Sound.{AreSoundPanels, AreSoundWindows};
+ghost use Rattle.world.specs.calls.Stacking.{panel_number};
 ghost use Rattle.grids.specs.Tables.{windows as windows_of};
 ghost use Rattle.stack.specs.Tables.{panels};
 
 use crate::rows::Lent;
-use crate::span::span_found;
+use crate::span::owner_span;
 use cell::{Cell, WinId};
 use grids::Grids;
 use stack::Stack;
-
-/// The number of the standard screen.
-pub const STANDARD: WinId = WinId(0);
+use world::PanelId;
 
 /// The cell that a search from the top visible panel down to the standard screen finds at line `y` and column `x` of the screen,
 /// which has so many columns.
@@ -25,7 +24,8 @@ pub fn cell_found(table: &Grids, stack: &Stack, y: u16, x: u16, columns: u16) ->
     requires columns { columns ≡ table.now.columns }
     ensures { result ≡ found_from_top (windows_of table.now).window (panels stack.now) y x }
 {
-    let win = span_found(&Lent::of(table), stack, y, x, columns).win;
+    let span = owner_span(&Lent::of(table), stack, y, x, columns - 1);
+    let win = window_of(stack, span.panel);
     let (top, left) = place(table, win);
     table.cell(win, y - top, x - left)
 }
@@ -53,11 +53,18 @@ fn window_on_top(stack: &Stack) -> WinId
     ensures { result.0 ≡ window_or_standard (panels stack.now) (topmost (panels stack.now)) }
 {
     match stack.below(None) {
-        Ok(Some(panel)) => match stack.window(panel) {
-            Ok(win) => win,
-            Err(_) => STANDARD,
-        },
-        _ => STANDARD,
+        Ok(panel) => window_of(stack, panel),
+        Err(_) => WinId::STANDARD,
+    }
+}
+
+/// The window of a panel, or the standard screen.
+pub(crate) fn window_of(stack: &Stack, panel: Option<PanelId>) -> WinId
+    ensures { result.0 ≡ window_or_standard (panels stack.now) (panel_number panel) }
+{
+    match panel {
+        Some(panel) => stack.window(panel).unwrap_or(WinId::STANDARD),
+        None => WinId::STANDARD,
     }
 }
 

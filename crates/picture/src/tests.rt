@@ -5,9 +5,9 @@ ghost use Rattle.grids.specs.Tables.{windows as windows_of};
 ghost use Rattle.stack.specs.Tables.{panels};
 
 use crate::rows::Lent;
-use crate::{Rows, STANDARD, Source, compose_row, show_piece};
-use cell::{Attr, Cell, Frame, Grid, Pairs, Shown, WinId};
-use grids::Grids;
+use crate::{Rows, compose_row, show_piece};
+use cell::{Attr, Cell, Grid, Pairs, Rect, Shown, WinId};
+use grids::{Grids, Place};
 use stack::Stack;
 use std::alloc::Global;
 use std::test::Fail;
@@ -51,7 +51,7 @@ impl<'a> Rows<'a> for Noted<'a> {
 
     ghost lent = { λ rows. rows.lent.cells };
 
-    fn rect(&self, win: WinId) -> Frame {
+    fn rect(&self, win: WinId) -> Rect {
         self.lent.rect(win)
     }
 
@@ -86,7 +86,7 @@ fn windows(alloc: Global) -> Result<Grids, Fail> {
     table.newwin(1, 2, 0, 1)?;
     table.newwin(1, 4, 0, 0)?;
     for (x, character) in [(0, b'a'), (1, b'b'), (2, b'c'), (3, b'd')] {
-        put(&mut table, STANDARD, x, character)?;
+        put(&mut table, WinId::STANDARD, x, character)?;
         put(&mut table, DASHES, x, b'-')?;
     }
     put(&mut table, IN_PANEL, 0, b'X')?;
@@ -108,11 +108,11 @@ fn one_panel(alloc: Global, table: &Grids) -> Result<Stack, Fail>
 fn dashes(alloc: Global, table: &Grids) -> Result<Grid<Shown>, Fail>
     ensures { IfOk result (λ picture. HasSize table.now.lines table.now.columns picture) }
 {
-    if table.getmaxyx(STANDARD)? != (1, 4) || table.getmaxyx(DASHES)? != (1, 4) {
+    if table.getmaxyx(WinId::STANDARD)? != (1, 4) || table.getmaxyx(DASHES)? != (1, 4) {
         return Err("another size".into());
     }
     let mut picture = Grid::new(alloc, 1, 4)?;
-    let source = Source {
+    let source = Place {
         win: DASHES,
         line: 0,
         column: 0,
@@ -132,7 +132,7 @@ fn composed<'a>(
     requires { AreSoundPanels (windows_of table.now).window (panels stack.now) }
 {
     let mut picture = dashes(alloc, table)?;
-    let (lines, columns) = table.getmaxyx(STANDARD)?;
+    let (lines, columns) = table.getmaxyx(WinId::STANDARD)?;
     if lines == 0 || columns <= right || right < left {
         return Err("no such columns".into());
     }
@@ -165,9 +165,9 @@ fn a_line_is_composed_of_lent_pieces(rt: HostRuntime) -> Result<(), Fail> {
     assert_eq!(rt; shown.as_slice(), b"aXYd".as_slice());
     assert_eq!(rt; rows.lent.cells, 4);
     let pieces = [
-        Some(Piece::new(STANDARD, 0, 0)),
+        Some(Piece::new(WinId::STANDARD, 0, 0)),
         Some(Piece::new(IN_PANEL, 0, 1)),
-        Some(Piece::new(STANDARD, 3, 3)),
+        Some(Piece::new(WinId::STANDARD, 3, 3)),
     ];
     assert_eq!(rt; rows.pieces, pieces);
     Ok(())

@@ -1,5 +1,5 @@
 -- A line is gathered a byte at a time.
-use Rattle.std.proofs.Common.{◌≡◌, ℕ, ◌≤◌, ◌<◌, Bool, true, false, ◌||◌, ◌==◌, List, [], ◌∷◌, ◌++◌, length, refl, sym, ap, ◌∙◌, arith, append_assoc, append-nil, length-append}
+use Rattle.std.proofs.Common.{◌≡◌, ℕ, ◌≤◌, ◌<◌, Bool, true, false, ◌||◌, ◌==◌, List, [], ◌∷◌, ◌++◌, length, refl, sym, ap, ◌∙◌, arith, append_assoc, append-nil, length-append, Some, None}
 use Rattle.std.specs.Io.KnownBytes.{Consumes}
 use Rattle.std.proofs.KnownBytes.{Consumes-nil, Consumes-trans}
 use Rattle.std.proofs.lemmas.List.Folds.{list_any-append}
@@ -12,7 +12,6 @@ use Rattle.script.specs.steps.Bytes.{EndsLine, HasNoNewline, ReadingEnds, ReadsB
 use Rattle.script.specs.declared.bytes.LineEnd.{LineEnd}
 use Rattle.script.specs.declared.bytes.LineEnd.TheVariants.{Newline, ScriptEnd, ReadFailed}
 use Rattle.script.specs.declared.bytes.Next.TheVariants.{Byte, End, Failed}
-use Rattle.script.specs.declared.bytes.LineRead.TheVariants.{Line, LastLine, TooLong, FailedRead}
 
 pub not_newline : (b : ℕ) → (b ≡ newline → ⊥) → is_newline b ≡ false
 not_newline b h = grind (arith, nat_tests)
@@ -89,7 +88,7 @@ gathered_more old mid new unused left rest line after b g n e is =
 
 -- a newline
 pub gathered_line : (old mid new : SourceSeen) (unused left rest line : List ℕ) (b : ℕ) → Gathered old mid unused left line → ReadsByte mid new left rest (Byte b)
-    → b ≡ newline → length line ≤ LONGEST_LINE → ReadsLine old new unused rest line Line
+    → b ≡ newline → length line ≤ LONGEST_LINE → ReadsLine old new unused rest line (Some Newline)
 gathered_line old mid new unused left rest line b g n e h =
     let j = joined old mid new unused left rest line b g n in
     record {
@@ -102,7 +101,7 @@ gathered_line old mid new unused left rest line b g n e h =
 
 -- a byte too many
 pub gathered_too_long : (old mid new : SourceSeen) (unused left rest line : List ℕ) (b : ℕ) → Gathered old mid unused left line → ReadsByte mid new left rest (Byte b)
-    → is_newline b ≡ false → LONGEST_LINE ≤ length line → ReadsLine old new unused rest line TooLong
+    → is_newline b ≡ false → LONGEST_LINE ≤ length line → ReadsLine old new unused rest line None
 gathered_too_long old mid new unused left rest line b g n e h =
     let j = joined old mid new unused left rest line b g n in
     record {
@@ -115,21 +114,21 @@ gathered_too_long old mid new unused left rest line b g n e h =
 
 -- nothing more
 pub gathered_last : (old mid new : SourceSeen) (unused left rest line : List ℕ) → Gathered old mid unused left line → ReadsByte mid new left rest End
-    → length line ≤ LONGEST_LINE → ReadsLine old new unused rest line LastLine
+    → length line ≤ LONGEST_LINE → ReadsLine old new unused rest line (Some ScriptEnd)
 gathered_last old mid new unused left rest line g n h = record {
   bytes = g.bytes ++ [];
   read = Consumes-trans _ _ _ _ _ g.read n.2;
-  is_line = (ap (λ l. unused ++ l) (append-nil g.bytes) ∙ g.all ∙ ap (λ l. line ++ l) n.0 ∙ append-nil line, n.1, h);
+  is_line = ((ap (λ l. unused ++ l) (append-nil g.bytes) ∙ g.all ∙ ap (λ l. line ++ l) n.0 ∙ append-nil line, n.1), h);
   no_newline = g.no_newline;
   at_end = λ e. n.3;
 }
 
 pub gathered_failed : (old mid new : SourceSeen) (unused left rest line : List ℕ) → Gathered old mid unused left line → ReadsByte mid new left rest Failed
-    → length line ≤ LONGEST_LINE → ReadsLine old new unused rest line FailedRead
+    → length line ≤ LONGEST_LINE → ReadsLine old new unused rest line (Some ReadFailed)
 gathered_failed old mid new unused left rest line g n h = record {
   bytes = g.bytes ++ [];
   read = Consumes-trans _ _ _ _ _ g.read n.2;
-  is_line = (ap (λ l. unused ++ l) (append-nil g.bytes) ∙ g.all ∙ ap (λ l. line ++ l) n.0 ∙ append-nil line, n.1, h);
+  is_line = ((ap (λ l. unused ++ l) (append-nil g.bytes) ∙ g.all ∙ ap (λ l. line ++ l) n.0 ∙ append-nil line, n.1), h);
   no_newline = g.no_newline;
   at_end = λ e. cc;
 }
@@ -185,25 +184,11 @@ skipped_failed old mid new unused left rest s n = record {
 
 -- ---- a line that is kept, or not
 
-pub kept_line : (old new : SourceSeen) (unused left line : List ℕ) → ReadsLine old new unused left line Line
-    → ReadsWhole old new unused left line (record { is_kept = true; end = Newline })
-kept_line old new unused left line r = record {
-  reads = record { line = line; bytes = r.bytes; read = r.read; ends = r.is_line.0; no_newline = r.no_newline; at_end = λ e. cc };
-  is_kept = (refl, r.is_line.1);
-}
-
-pub kept_last : (old new : SourceSeen) (unused left line : List ℕ) → ReadsLine old new unused left line LastLine
-    → ReadsWhole old new unused left line (record { is_kept = true; end = ScriptEnd })
-kept_last old new unused left line r = record {
-  reads = record { line = line; bytes = r.bytes; read = r.read; ends = (r.is_line.0, r.is_line.1); no_newline = r.no_newline; at_end = r.at_end };
-  is_kept = (refl, r.is_line.2);
-}
-
-pub kept_failed : (old new : SourceSeen) (unused left line : List ℕ) → ReadsLine old new unused left line FailedRead
-    → ReadsWhole old new unused left line (record { is_kept = true; end = ReadFailed })
-kept_failed old new unused left line r = record {
-  reads = record { line = line; bytes = r.bytes; read = r.read; ends = (r.is_line.0, r.is_line.1); no_newline = r.no_newline; at_end = λ e. cc };
-  is_kept = (refl, r.is_line.2);
+pub kept : (old new : SourceSeen) (unused left line : List ℕ) (end : LineEnd) → ReadsLine old new unused left line (Some end)
+    → ReadsWhole old new unused left line end true
+kept old new unused left line end r = record {
+  reads = record { line = line; bytes = r.bytes; read = r.read; ends = r.is_line.0; no_newline = r.no_newline; at_end = r.at_end };
+  keeps = (refl, r.is_line.1);
 }
 
 any_joined : (front behind : List ℕ) (b : ℕ) → HasNoNewline front → is_newline b ≡ false → HasNoNewline behind → HasNoNewline (front ++ b ∷ behind)
@@ -219,8 +204,8 @@ joined_ends Newline unused bytes more front left rest line b e h = more_bytes un
 joined_ends ScriptEnd unused bytes more front left rest line b e h = (more_bytes unused bytes more front left b e ∙ ap (λ l. front ++ b ∷ l) h.0, h.1)
 joined_ends ReadFailed unused bytes more front left rest line b e h = (more_bytes unused bytes more front left b e ∙ ap (λ l. front ++ b ∷ l) h.0, h.1)
 
-pub left_out : (old mid new : SourceSeen) (unused left rest line : List ℕ) (end : LineEnd) → ReadsLine old mid unused left line TooLong → ReadsToEnd mid new left rest end
-    → ReadsWhole old new unused rest line (record { is_kept = false; end = end })
+pub left_out : (old mid new : SourceSeen) (unused left rest line : List ℕ) (end : LineEnd) → ReadsLine old mid unused left line None → ReadsToEnd mid new left rest end
+    → ReadsWhole old new unused rest line end false
 left_out old mid new unused left rest line end r s =
     let b = r.is_line.0 in
     record {
@@ -232,5 +217,5 @@ left_out old mid new unused left rest line end r s =
         no_newline = any_joined line s.line b r.no_newline r.is_line.2 s.no_newline;
         at_end = s.at_end;
       };
-      is_kept = simp length-append (omega (arith, r.is_line.3));
+      keeps = simp length-append (omega (arith, r.is_line.3));
     }

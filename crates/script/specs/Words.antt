@@ -1,7 +1,8 @@
 -- The calls by their script words, with the forms of their arguments: one line for each call. The words are the names of the calls in X/Open
 -- Curses Issue 7, and of those on panels in NetBSD's panel(3), without the `w` that stands in front of some; their arguments come in the order
 -- that they have there. That a window is named by its number, and a character with attributes by both, is Curspan's own (docs/curspan.1).
-use Rattle.std.specs.Prelude.{ℕ, ℤ, pos, Bool, false, List, [], ◌∷◌, ◌++◌, codes, slice_index, Option, None, option_map, find}
+use Rattle.std.specs.Prelude.{ℕ, ℤ, pos, Bool, false, List, [], ◌∷◌, codes, slice_index, Option, None, option_map, find}
+use Rattle.std.specs.List.{flat_map}
 use Rattle.std.specs.Str.{bytes_eq}
 use Rattle.std.specs.Borrow.{Bor}
 use Rattle.cell.specs.declared.attr.Attr.{Attr}
@@ -15,12 +16,7 @@ use Rattle.world.specs.declared.call.Copying.TheVariants.{Overlay, Overwrite, Co
 use Rattle.world.specs.declared.call.Query.TheVariants.{Getyx, Getbegyx, Getmaxyx, Getparyx, Inch}
 use Rattle.world.specs.declared.call.Stacking.TheVariants.{NewPanel, DelPanel, ShowPanel, HidePanel, TopPanel, BottomPanel, MovePanel, ReplacePanel, PanelAbove, PanelBelow, PanelWindow, PanelHidden}
 use Rattle.world.specs.declared.call.Refresh.TheVariants.{Noutrefresh, Pnoutrefresh, UpdatePanels, Doupdate, InitPair}
-use Rattle.script.specs.declared.words.making.TheConstants.{WORDS as making_words}
-use Rattle.script.specs.declared.words.writing.TheConstants.{WORDS as writing_words}
-use Rattle.script.specs.declared.words.copying.TheConstants.{WORDS as copying_words}
-use Rattle.script.specs.declared.words.query.TheConstants.{WORDS as query_words}
-use Rattle.script.specs.declared.words.stacking.TheConstants.{WORDS as stacking_words}
-use Rattle.script.specs.declared.words.refresh.TheConstants.{WORDS as refresh_words}
+use Rattle.script.specs.declared.words.letters.TheConstants.{WORDS}
 use Rattle.script.specs.declared.words.Form.{Form}
 use Rattle.script.specs.declared.words.Form.TheVariants.{Number, NumberOrNone, Signed, Attributes, Flag, Character, Text}
 use Rattle.script.specs.declared.words.Word.{Word}
@@ -174,9 +170,9 @@ entry_of (Query_word w) = query_entry w
 entry_of (Stacking_word w) = stacking_entry w
 entry_of (Refresh_word w) = refresh_entry w
 
--- every word
+-- every word, by their first letters
 abbrev pub words : List Word
-words = making_words ++ writing_words ++ copying_words ++ query_words ++ stacking_words ++ refresh_words
+words = flat_map (λ letter. letter.now) WORDS
 
 -- the call of a script word
 abbrev pub word_of : List ℕ → Option Word

@@ -70,6 +70,18 @@ impl Arguments {
         }
     }
 
+    /// Forgets what was said.
+    pub fn clear(&mut self)
+        ensures { self.new ≡ nothing_said }
+    {
+        self.numbers.clear();
+        self.number_or_none = None;
+        self.signed = 0;
+        self.attributes = 0;
+        self.flag = false;
+        self.text.clear();
+    }
+
     /// The number at a place, and 0 where there is none.
     pub(crate) fn number(&self, place: usize) -> u16
         ensures { result ≡ number self.now place }

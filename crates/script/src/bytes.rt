@@ -19,20 +19,7 @@ enum Next {
     Failed,
 }
 
-/// How a line was read.
-#[derive(Clone, Copy, Debug, PartialEq, Eq)]
-pub enum LineRead {
-    /// A newline ends it.
-    Line,
-    /// The script ends with it.
-    LastLine,
-    /// A byte more came than a line may have, and is the last of it that was read.
-    TooLong,
-    /// A read failed behind it.
-    FailedRead,
-}
-
-/// What stands behind a line of any length.
+/// What stands behind a line.
 #[derive(Clone, Copy, Debug, PartialEq, Eq)]
 pub enum LineEnd {
     Newline,
@@ -40,14 +27,6 @@ pub enum LineEnd {
     ScriptEnd,
     /// A read failed.
     ReadFailed,
-}
-
-/// How a line of any length was read.
-#[derive(Clone, Copy, Debug, PartialEq, Eq)]
-pub struct WholeLine {
-    /// Whether it is no longer than a line may be, and was kept.
-    pub is_kept: bool,
-    pub end: LineEnd,
 }
 
 /// Bytes that were read and are not used.
@@ -110,13 +89,14 @@ impl Bytes {
         }
     }
 
-    /// The bytes up to the next newline, in place of what was in `line`. Of a line that is too long it takes as many as
-    /// a line may have, and one more. Where the end is met, nothing is read behind it.
+    /// The bytes up to the next newline, in place of what was in `line`, and what stands behind them. Of a line that is
+    /// too long it takes as many as a line may have, and one more, and answers none. Where the end is met, nothing is
+    /// read behind it.
     pub fn next_line<R: Source>(
         &mut self,
         source: &mut R,
         line: &mut ArrayVec<u8, LONGEST_LINE>,
-    ) -> LineRead
+    ) -> Option<LineEnd>
         ensures line { ReadsLine (R.seen source.old) (R.seen source.new) self.old self.new line.new.items result }
         ensures ends { ReadingEnds (R.seen source.old) (R.seen source.new) self.old self.new (line_ended result) (line_failed result) (goes_on result) }
     {
@@ -125,15 +105,15 @@ impl Bytes {
             match self.next(source) {
                 Next::Byte(byte) => {
                     if byte == b'\n' {
-                        return LineRead::Line;
+                        return Some(LineEnd::Newline);
                     }
                     if line.is_full() {
-                        return LineRead::TooLong;
+                        return None;
                     }
                     line.push(byte);
                 }
-                Next::End => return LineRead::LastLine,
-                Next::Failed => return LineRead::FailedRead,
+                Next::End => return Some(LineEnd::ScriptEnd),
+                Next::Failed => return Some(LineEnd::ReadFailed),
             }
         }
     }
@@ -157,27 +137,19 @@ impl Bytes {
     }
 
     /// The bytes up to the next newline, in place of what was in `line`, where they are no more than a line may have;
-    /// else they are left out. Where the end is met, nothing is read behind it.
+    /// else they are left out. It answers what stands behind them, and whether they were kept. Where the end is met,
+    /// nothing is read behind it.
     pub fn next_whole_line<R: Source>(
         &mut self,
         source: &mut R,
         line: &mut ArrayVec<u8, LONGEST_LINE>,
-    ) -> WholeLine
-        ensures line { ReadsWhole (R.seen source.old) (R.seen source.new) self.old self.new line.new.items result }
-        ensures ends { ReadingEnds (R.seen source.old) (R.seen source.new) self.old self.new (met_end result.end) (end_failed result.end) (has_newline result.end) }
+    ) -> (LineEnd, bool)
+        ensures line { ReadsWhole (R.seen source.old) (R.seen source.new) self.old self.new line.new.items result.0 result.1 }
+        ensures ends { ReadingEnds (R.seen source.old) (R.seen source.new) self.old self.new (met_end result.0) (end_failed result.0) (has_newline result.0) }
     {
-        let end = match self.next_line(source, line) {
-            LineRead::Line => LineEnd::Newline,
-            LineRead::LastLine => LineEnd::ScriptEnd,
-            LineRead::FailedRead => LineEnd::ReadFailed,
-            LineRead::TooLong => {
-                let end = self.skip_line(source);
-                return WholeLine {
-                    is_kept: false,
-                    end,
-                };
-            }
-        };
-        WholeLine { is_kept: true, end }
+        match self.next_line(source, line) {
+            Some(end) => (end, true),
+            None => (self.skip_line(source), false),
+        }
     }
 }

@@ -13,7 +13,7 @@ mod text;
 mod words;
 
 pub use arguments::Arguments;
-pub use bytes::{Bytes, LineEnd, LineRead, WholeLine};
+pub use bytes::{Bytes, LineEnd};
 pub use fault::{ScriptEnd, ScriptFault, TextFault};
 pub use limits::{LONGEST_LINE, MOST_ARGUMENTS};
 pub use line::{next_argument, read_line, split_at_space};

@@ -95,25 +95,30 @@ fn has_count(forms: &[Form], text: Option<&[u8]>) -> bool
     }
 }
 
-/// Takes what the arguments say, and answers whether each has its form.
+/// Takes what the arguments say, and answers whether they are as many as the forms and each has its own.
+#[tactic(auto, using(crate::proofs::ArgumentLemmas::too_few, crate::proofs::ArgumentLemmas::too_many, crate::proofs::ArgumentLemmas::as_many))]
 fn take_all(forms: &[Form], text: Option<&[u8]>, taken: &mut Arguments) -> bool
     requires forms { length forms.now ≤ MOST_ARGUMENTS }
-    requires count { length (arguments forms.now (pieces_of text)) ≡ length forms.now }
     requires short { IfSome text (λ t. length t.now ≤ LONGEST_LINE) }
     requires start { taken.old ≡ nothing_said }
+    ensures count { OnTrue result (length (arguments forms.now (pieces_of text.entry)) ≡ length forms.now) }
     ensures right { OnTrue result (all_said forms.now (arguments forms.now (pieces_of text.entry)) nothing_said ≡ Some taken.new) }
-    ensures wrong { result ≡ false → all_said forms.now (arguments forms.now (pieces_of text.entry)) nothing_said ≡ None }
+    ensures wrong { result ≡ false → length (arguments forms.now (pieces_of text.entry)) ≡ length forms.now
+        → all_said forms.now (arguments forms.now (pieces_of text.entry)) nothing_said ≡ None }
 {
     let mut rest = text;
     for form in forms {
-        let Some(text) = rest else { unreachable!() };
+        let Some(text) = rest else { return false };
         let (piece, after) = next_argument(*form, text);
         if !taken.take(*form, piece) {
             return false;
         }
         rest = after;
     }
-    true
+    match rest {
+        Some(_) => false,
+        None => true,
+    }
 }
 
 /// What a line says: the word of a call, whose arguments are put in place of what was taken before, or nothing, or its
@@ -132,13 +137,12 @@ pub fn read_line(line: &[u8], taken: &mut Arguments) -> Result<Option<Word>, Tex
     let Some(word) = Word::of(name) else {
         return Err(TextFault::UnknownCall);
     };
-    if !has_count(word.forms(), text) {
-        return Err(TextFault::WrongNumberOfArguments);
-    }
-    *taken = Arguments::new();
+    taken.clear();
     if take_all(word.forms(), text, taken) {
         Ok(Some(word))
-    } else {
+    } else if has_count(word.forms(), text) {
         Err(TextFault::BadArgument)
+    } else {
+        Err(TextFault::WrongNumberOfArguments)
     }
 }

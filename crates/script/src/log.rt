@@ -5,7 +5,7 @@ ghost use Rattle.std.specs.Option.{option_map_or};
 ghost use Rattle.std.specs.Io.KnownBytes.{Appends};
 ghost use Rattle.std.specs.Prelude.{codes, decimal, [], ◌∷◌};
 ghost use Rattle.script.specs.Characters.{newline};
-ghost use Rattle.script.specs.Log.{last_line, log_line, panel_text, reply_text};
+ghost use Rattle.script.specs.Log.{answer_text, last_line, log_line, panel_text, reply_text};
 ghost use Rattle.streams.specs.Counts.{counted};
 
 use crate::fault::ScriptFault;
@@ -35,15 +35,14 @@ fn append_panel(line: &mut LogLine, panel: Option<PanelId>)
     }
 }
 
-/// Puts what the log says of a reply at the end, and answers whether it says something.
-fn append_reply(line: &mut LogLine, reply: Reply) -> bool
+/// Puts what the log says of a reply at the end, if it says something.
+fn append_reply(line: &mut LogLine, reply: Reply)
     requires { length line.old.items + LONGEST_REPLY ≤ LINE_ROOM }
     ensures text { Some line.new.items ≡ option_map_or (λ text. Some (line.old.items ++ text)) (reply_text reply) (Some line.old.items) }
-    ensures has { result ≡ is_some (reply_text reply) }
     ensures short { length line.new.items ≤ length line.old.items + LONGEST_REPLY }
 {
     match reply {
-        Reply::Nothing | Reply::Composed(_) | Reply::Sent(_) => return false,
+        Reply::Nothing | Reply::Composed(_) | Reply::Sent(_) => {}
         Reply::Number(win) => append_decimal(line, u64::from(win.0)),
         Reply::Pair(y, x) => {
             append_decimal(line, u64::from(y));
@@ -61,7 +60,16 @@ fn append_reply(line: &mut LogLine, reply: Reply) -> bool
             append_decimal(line, u64::from(cell.pair().number()));
         }
     }
-    true
+}
+
+/// Whether the log says something of an answer.
+fn has_line(answer: &Result<Reply, Refusal>) -> bool
+    ensures { result ≡ is_some (answer_text answer.now) }
+{
+    match answer {
+        Ok(Reply::Nothing | Reply::Composed(_) | Reply::Sent(_)) => false,
+        Ok(_) | Err(_) => true,
+    }
 }
 
 /// How a line of the log begins that says something of a script's line.
@@ -77,7 +85,7 @@ fn beginning(number: u64) -> LogLine
 }
 
 /// A line with its last words, and its end.
-fn ended(line: LogLine, text: &[u8]) -> LogLine
+fn end_line(line: LogLine, text: &[u8]) -> LogLine
     requires { length line.items + length text.now < LINE_ROOM }
     ensures { result.items ≡ line.items ++ text.now ++ newline ∷ [] }
 {
@@ -92,15 +100,15 @@ pub fn last_line(fault: ScriptFault) -> LogLine
     ensures { result.items ≡ last_line fault }
 {
     match fault {
-        ScriptFault::Text { line, fault } => ended(beginning(line), fault.text().as_bytes()),
-        ScriptFault::Reading => ended(LogLine::new(), b"reading failed"),
+        ScriptFault::Text { line, fault } => end_line(beginning(line), fault.text().as_bytes()),
+        ScriptFault::Reading => end_line(LogLine::new(), b"reading failed"),
         ScriptFault::Write { line, fault } => {
             let mut text = beginning(line);
             append(&mut text, b"write failed after ");
             append_decimal(&mut text, u64::from(fault.sent));
-            ended(text, b" bytes")
+            end_line(text, b" bytes")
         }
-        ScriptFault::Log => ended(LogLine::new(), b"writing failed"),
+        ScriptFault::Log => end_line(LogLine::new(), b"writing failed"),
     }
 }
 
@@ -117,13 +125,12 @@ pub fn log_answer<L: Sink>(
     ensures failures { (L.seen log.new).failures ≡ counted (is_err result) (L.seen log.old).failures }
     ensures flushes { (L.seen log.new).flushes ≡ (L.seen log.old).flushes }
 {
+    if !has_line(&answer) {
+        return Ok(());
+    }
     let mut line = beginning(number);
     match answer {
-        Ok(reply) => {
-            if !append_reply(&mut line, reply) {
-                return Ok(());
-            }
-        }
+        Ok(reply) => append_reply(&mut line, reply),
         Err(refusal) => append(&mut line, refusal.text().as_bytes()),
     }
     append(&mut line, b"\n");

@@ -2,9 +2,10 @@
 
 ghost use Rattle.std.specs.Prelude.{◌≡◌, ◌≤◌, length};
 ghost use Rattle.script.specs.Words.{entry_of, placeless, word_of};
-ghost use Rattle.script.specs.steps.Rows.{IsRow, first_named};
+ghost use Rattle.script.specs.steps.Rows.{IsRow, find_named};
 
 mod copying;
+mod letters;
 mod making;
 mod query;
 mod refresh;
@@ -14,6 +15,7 @@ mod writing;
 use crate::arguments::Arguments;
 use crate::limits::MOST_ARGUMENTS;
 pub use copying::CopyingWord;
+use letters::words_like;
 pub use making::MakingWord;
 pub use query::QueryWord;
 pub use refresh::RefreshWord;
@@ -59,9 +61,9 @@ pub(crate) struct Row<'a> {
     pub call: Call<'a>,
 }
 
-/// The first of some words that is written so.
-fn first_named(words: &[Word], text: &[u8]) -> Option<Word>
-    ensures { result ≡ first_named words.now text.now }
+/// Finds the first of some words that is written so.
+fn find_named(words: &[Word], text: &[u8]) -> Option<Word>
+    ensures { result ≡ find_named words.now text.now }
 {
     for word in words {
         if text == word.name() {
@@ -76,21 +78,7 @@ impl Word {
     pub fn of(text: &[u8]) -> Option<Word>
         ensures { result ≡ word_of text.now }
     {
-        let groups: [&[Word]; 6] = [
-            &making::WORDS,
-            &writing::WORDS,
-            &copying::WORDS,
-            &query::WORDS,
-            &stacking::WORDS,
-            &refresh::WORDS,
-        ];
-        for words in groups {
-            let found = first_named(words, text);
-            if found.is_some() {
-                return found;
-            }
-        }
-        None
+        find_named(words_like(text), text)
     }
 
     /// The word's row, with the call that the arguments make. It is inlined, so that who asks for the word or its forms alone

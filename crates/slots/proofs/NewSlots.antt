@@ -10,8 +10,7 @@ use Rattle.cell.specs.Glyphs.{Glyph, blank, IsCell}
 use Rattle.cell.specs.Pictures.{Sheet, Place, AreCells, line_of, glyph_at, blank_sheet}
 use Rattle.cell.specs.declared.limits.TheConstants.{LARGEST_PAD}
 use Rattle.world.specs.Windows.{own_grid}
-use Rattle.world.specs.World.{first_settings, blank_grid}
-use Rattle.world.specs.World.{new_window}
+use Rattle.world.specs.World.{first_settings, blank_grid, new_window}
 use Rattle.cell.proofs.PictureLemmas.{IsCell-blank, HasSize-all_of, EachCell-all_of}
 use Rattle.slots.specs.declared.slot.Cells.{Cells}
 use Rattle.slots.specs.declared.slot.Cells.TheVariants.{Own}

@@ -1,7 +1,7 @@
 -- What changes where one slot changes.
 use Rattle.std.specs.Prelude.{◌≡◌, ◌≢◌, ℕ, ◌+◌, ◌<◌, ◌≤◌, List, length, Option, Some, None, is_some, min, max, slice_set, if◌then◌else◌, ◌==◌}
 use Rattle.cell.specs.declared.limits.TheConstants.{MOST_WINDOWS}
-use Rattle.world.specs.Windows.{Window, Drawing, laid_over}
+use Rattle.world.specs.Windows.{joined_columns, Window, Drawing, laid_over}
 use Rattle.world.specs.calls.Making.{with_part}
 use Rattle.slots.specs.declared.slot.Cells.{Cells}
 use Rattle.slots.specs.declared.slot.Cells.TheVariants.{Own, Shared}
@@ -67,14 +67,9 @@ pub record SetAt (old new : List (Option Kept)) (at : ℕ) (o : Option Kept) : T
   pub size : length new ≡ max (length old) (at + 1)
   pub few : length new ≤ MOST_WINDOWS + 1
 
--- the least columns that hold these and those from left to right
-abbrev pub spread : Option Columns → ℕ → ℕ → Option Columns
-spread None left right = Some (record { first = left; last = right })
-spread (Some r) left right = Some (record { first = min r.first left; last = max r.last right })
-
 -- the columns from left to right of a line are touched
 abbrev pub with_touched : ℕ → ℕ → ℕ → Window → Window
-with_touched line left right a = record a { touched = λ y. if y == line then spread (a.touched y) left right else a.touched y }
+with_touched line left right a = record a { touched = λ y. if y == line then joined_columns (a.touched y) left right else a.touched y }
 
 -- a drawing is laid over a window's grid
 abbrev pub with_drawing : Drawing → Window → Window

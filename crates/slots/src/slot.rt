@@ -9,12 +9,11 @@ ghost use Rattle.world.specs.calls.Refresh.{unmarked};
 ghost use Rattle.world.specs.Rows.{filled, listed};
 ghost use Rattle.world.specs.Settings.{with_settings};
 ghost use Rattle.world.specs.calls.Making.{with_place, with_part};
-ghost use Rattle.world.specs.World.{new_window};
+ghost use Rattle.world.specs.World.{new_window, first_settings, blank_grid};
 ghost use Rattle.world.specs.Windows.{any_below, laid_over, cell_of, part_of};
-ghost use Rattle.world.specs.World.{first_settings, blank_grid};
 ghost use Rattle.slots.specs.Kept.{window_of, backing_of, IsGridOf, IsKept, Kept, HasShape};
 ghost use Rattle.slots.specs.Slots.{part_in, names_parent};
-ghost use Rattle.slots.specs.Changes.{spread, with_touched, with_drawing, SameShape, shifted, StaysInPlace};
+ghost use Rattle.slots.specs.Changes.{with_touched, with_drawing, SameShape, shifted, StaysInPlace};
 
 use cell::{Attr, Cell, Grid, LARGEST_PAD, PairId};
 use std::alloc::{AllocError, Global};
@@ -360,7 +359,7 @@ impl Slot {
         ensures place { StaysInPlace self.old self.new }
     {
         let at = usize::from(line);
-        self.touched[at] = Some(spread_over(self.touched[at], left, right));
+        self.touched[at] = Some(Columns::join(self.touched[at], left, right));
     }
 }
 
@@ -408,21 +407,5 @@ fn first_settings(lines: u16) -> Settings
         pair: PairId::DEFAULT,
         scrolling: false,
         clear: false,
-    }
-}
-
-/// The least columns that hold these and those from `left` to `right`.
-fn spread_over(touched: Option<Columns>, left: u16, right: u16) -> Columns
-    ensures { spread touched left right ≡ Some result }
-{
-    match touched {
-        None => Columns {
-            first: left,
-            last: right,
-        },
-        Some(old) => Columns {
-            first: old.first.min(left),
-            last: old.last.max(right),
-        },
     }
 }

@@ -25,8 +25,8 @@ impl Read for Pieces<'_> {
     }
 }
 
-/// A writer that takes at most `step` bytes a call. Once, where it has taken `stop` bytes, it fails or takes none. One that is stuck
-/// can't be flushed.
+/// A writer that takes at most `step` bytes a call. Once, where it has taken `stop` bytes, its next write fails or takes none, or its
+/// next flush fails. One that is stuck can't be flushed.
 #[derive(Drop)]
 pub(crate) struct Halting {
     pub(crate) taken: Vec<u8>,
@@ -79,7 +79,8 @@ impl Write for Halting {
     }
 
     fn flush(&mut self) -> io::Result<()> {
-        if self.is_stuck {
+        if self.is_stuck || (self.fails && self.stop == Some(self.taken.len())) {
+            self.stop = None;
             return Err(io::Error::from(ErrorKind::Other));
         }
         Ok(())

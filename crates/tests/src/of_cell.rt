@@ -8,6 +8,8 @@ use cell::{
 use std::alloc::{AllocError, Global};
 use std::test::Fail;
 
+mod differences;
+
 const BLANK: Cell = Cell::BLANK;
 
 /// The cells of a grid, line after line.

@@ -2,7 +2,7 @@
 //! calls are made by helpers without a contract.
 
 use cell::{Refusal, WinId};
-use compose::Desk;
+use compose::{Desk, Span};
 use std::alloc::Global;
 use std::test::Fail;
 use world::{Call, Composed, Making, PanelId, Reply, Writing};
@@ -211,5 +211,77 @@ fn shown_by_panels(alloc: Global) -> Result<[bool; 3], Fail> {
 #[test]
 fn panels_cover_what_is_below_them(rt: HostRuntime) -> Result<(), Fail> {
     assert_eq!(rt; shown_by_panels(rt.alloc())?, [true; 3]);
+    Ok(())
+}
+
+/// Makes a window, and shows it in a panel.
+fn window_in_a_panel(
+    desk: &mut Desk,
+    size: (u16, u16),
+    place: (u16, u16),
+) -> Result<PanelId, Fail> {
+    let newwin = Making::Newwin {
+        lines: size.0,
+        columns: size.1,
+        y: place.0,
+        x: place.1,
+    };
+    let win = make(desk, newwin)?;
+    Ok(new_panel(desk, win)?)
+}
+
+/// The panel that is found at a place of the screen, none for the standard screen, and the last column up to which it is found.
+fn span(desk: &Desk, y: u16, x: u16) -> Option<(Option<u16>, u16)> {
+    let (lines, columns) = desk.size();
+    if y < lines && x < columns {
+        let Span { panel, end } = desk.owner_span(y, x);
+        Some((panel.map(|panel| panel.0), end))
+    } else {
+        None
+    }
+}
+
+/// The spans of a line on which one panel lies in the middle of another, and its first one when the other is hidden.
+fn spans_of_a_panel_in_another(alloc: Global) -> Result<[Option<(Option<u16>, u16)>; 5], Fail> {
+    let mut desk = new_desk(alloc, 4, 10)?;
+    let first = window_in_a_panel(&mut desk, (1, 6), (0, 0))?;
+    window_in_a_panel(&mut desk, (1, 2), (0, 2))?;
+    let found = [
+        span(&desk, 0, 0),
+        span(&desk, 0, 2),
+        span(&desk, 0, 4),
+        span(&desk, 0, 6),
+    ];
+    hide_panel(&mut desk, first)?;
+    Ok([found[0], found[1], found[2], found[3], span(&desk, 0, 0)])
+}
+
+#[test]
+fn a_span_ends_before_the_column_of_another(rt: HostRuntime) -> Result<(), Fail> {
+    let spans = [
+        Some((Some(1), 1)),
+        Some((Some(2), 3)),
+        Some((Some(1), 5)),
+        Some((None, 9)),
+        Some((None, 1)),
+    ];
+    assert_eq!(rt; spans_of_a_panel_in_another(rt.alloc())?, spans);
+    Ok(())
+}
+
+/// The spans of a line on which two panels lie at one place.
+fn spans_of_two_panels_at_one_place(
+    alloc: Global,
+) -> Result<[Option<(Option<u16>, u16)>; 3], Fail> {
+    let mut desk = new_desk(alloc, 4, 10)?;
+    window_in_a_panel(&mut desk, (2, 3), (1, 2))?;
+    window_in_a_panel(&mut desk, (2, 3), (1, 2))?;
+    Ok([span(&desk, 1, 0), span(&desk, 1, 2), span(&desk, 1, 5)])
+}
+
+#[test]
+fn a_span_is_of_the_upper_panel(rt: HostRuntime) -> Result<(), Fail> {
+    let spans = [Some((None, 1)), Some((Some(2), 4)), Some((None, 9))];
+    assert_eq!(rt; spans_of_two_panels_at_one_place(rt.alloc())?, spans);
     Ok(())
 }

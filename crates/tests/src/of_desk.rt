@@ -8,7 +8,9 @@ use std::io;
 use std::io::{ErrorKind, Read};
 use std::test::Fail;
 
-fn breaking_after(alloc: Global, stop: usize) -> Counted<Halting> {
+mod failing;
+
+pub(crate) fn breaking_after(alloc: Global, stop: usize) -> Counted<Halting> {
     Counted::new(Halting::stopping(alloc, stop, true))
 }
 
@@ -43,25 +45,29 @@ impl Read for Interrupted {
     }
 }
 
-const UPDATE: [Call<'static>; 2] = [
+pub(crate) const UPDATE: [Call<'static>; 2] = [
     Call::Refresh(Refresh::UpdatePanels),
     Call::Refresh(Refresh::Doupdate),
 ];
 
 /// The text of a screen that shows `hi` at its top, with the cursor behind it.
-const HI: &[u8] = b"\x1b[0m\x1b[2J\x1b[1;1Hhi";
+pub(crate) const HI: &[u8] = b"\x1b[0m\x1b[2J\x1b[1;1Hhi";
 
-fn screen(alloc: Global, lines: u16, cols: u16) -> Result<Screen<Counted<Vec<u8>>>, Refusal> {
+pub(crate) fn screen(
+    alloc: Global,
+    lines: u16,
+    cols: u16,
+) -> Result<Screen<Counted<Vec<u8>>>, Refusal> {
     Screen::new(alloc, lines, cols, Counted::new(Vec::new(alloc)))
 }
 
 /// Makes calls. It has no contract, so that the proof of a test needn't carry along what they do.
-fn run<W: Sink>(screen: &mut Screen<W>, calls: &[Call<'_>]) -> RunEnd {
+pub(crate) fn run<W: Sink>(screen: &mut Screen<W>, calls: &[Call<'_>]) -> RunEnd {
     screen.run(calls)
 }
 
 /// Runs a script, likewise.
-fn run_script<W: Sink, R: Source, L: Sink>(
+pub(crate) fn run_script<W: Sink, R: Source, L: Sink>(
     screen: &mut Screen<W>,
     script: &mut R,
     log: &mut L,
@@ -69,7 +75,7 @@ fn run_script<W: Sink, R: Source, L: Sink>(
     screen.run_script(script, log)
 }
 
-fn addstr(win: u16, text: &[u8]) -> Call<'_> {
+pub(crate) fn addstr(win: u16, text: &[u8]) -> Call<'_> {
     Call::Writing(Writing::Addstr {
         win: WinId(win),
         text,

@@ -1,5 +1,5 @@
 use cell::{PairId, Refusal};
-use grids::{Attr, Cell, Frame, Grids, Settings, WinId};
+use grids::{Attr, Cell, Grids, Rect, Settings, WinId};
 use std::test::Fail;
 
 const SCREEN: WinId = WinId(0);
@@ -30,7 +30,11 @@ fn touched(grids: &Grids, win: WinId, y: u16) -> Result<Option<(u16, u16)>, Fail
     if lines <= y {
         return Err("no such line".into());
     }
-    Ok(grids.touched(win, y))
+    Ok(
+        grids
+            .touched(win, y)
+            .map(|columns| (columns.first, columns.last)),
+    )
 }
 
 #[test]
@@ -98,7 +102,7 @@ fn deleted_pad_is_gone(rt: HostRuntime) -> Result<(), Fail> {
 }
 
 /// Copies two places of the screen's first line a column further right, and these below, and answers what was written.
-fn copy_twice(grids: &mut Grids) -> Result<Option<Frame>, Fail> {
+fn copy_twice(grids: &mut Grids) -> Result<Option<Rect>, Fail> {
     let (lines, columns) = grids.getmaxyx(SCREEN)?;
     if lines < 3 || columns < 4 {
         return Err("no such place".into());
@@ -111,7 +115,7 @@ fn copy_twice(grids: &mut Grids) -> Result<Option<Frame>, Fail> {
 fn overlapping_copies_read_before_they_write(rt: HostRuntime) -> Result<(), Fail> {
     let mut grids = Grids::new(rt.alloc(), 3, 4)?;
     put(&mut grids, SCREEN, 0, 0, b'a')?;
-    let copied = Frame {
+    let copied = Rect {
         top: 1,
         left: 1,
         bottom: 2,
@@ -184,8 +188,8 @@ fn two_parts(grids: &mut Grids) -> Result<[WinId; 3], Refusal> {
 }
 
 /// Which places of the second window are places of the first window's lines 0 and 1, columns 1 to 4.
-fn seen_in(grids: &Grids, low: WinId, high: WinId) -> Result<Option<Frame>, Fail> {
-    let part = Frame {
+fn seen_in(grids: &Grids, low: WinId, high: WinId) -> Result<Option<Rect>, Fail> {
+    let part = Rect {
         top: 0,
         left: 1,
         bottom: 1,
@@ -207,7 +211,7 @@ fn derives(grids: &Grids, low: WinId, high: WinId) -> bool {
 fn windows_show_parts_of_one_another(rt: HostRuntime) -> Result<(), Fail> {
     let mut grids = Grids::new(rt.alloc(), 4, 10)?;
     let [low, high, window] = two_parts(&mut grids)?;
-    let shown = Frame {
+    let shown = Rect {
         top: 1,
         left: 0,
         bottom: 1,

@@ -2,7 +2,7 @@ use crate::faulty::{Halting, Pieces};
 use arrayvec::ArrayVec;
 use cell::{Attr, Cell, Refusal, WinId};
 use script::{
-    Arguments, Bytes, LONGEST_LINE, LineRead, ScriptFault, TextFault, last_line, log_answer,
+    Arguments, Bytes, LONGEST_LINE, LineEnd, ScriptFault, TextFault, last_line, log_answer,
     read_line,
 };
 use std::alloc::Global;
@@ -165,13 +165,13 @@ fn faults_are_told_in_their_order(rt: HostRuntime) -> Result<(), Fail> {
     Ok(())
 }
 
-/// Whether a reader gives these lines one after another, each read so.
-fn gives(pieces: Pieces<'_>, lines: &[(&[u8], LineRead)]) -> bool {
+/// Whether a reader gives these lines one after another, each with its end, and none where it is too long.
+fn gives(pieces: Pieces<'_>, lines: &[(&[u8], Option<LineEnd>)]) -> bool {
     let mut source = CountedReader::new(pieces);
     let mut bytes = Bytes::new();
     let mut line = ArrayVec::new();
-    for (text, read) in lines {
-        if bytes.next_line(&mut source, &mut line) != *read || line.as_slice() != *text {
+    for (text, end) in lines {
+        if bytes.next_line(&mut source, &mut line) != *end || line.as_slice() != *text {
             return false;
         }
     }
@@ -181,11 +181,11 @@ fn gives(pieces: Pieces<'_>, lines: &[(&[u8], LineRead)]) -> bool {
 #[test]
 fn lines_come_whole_from_pieces(rt: HostRuntime) {
     let bytes = b"newwin 1 1 0 0\n\nlast".as_slice();
-    let lines: [(&[u8], LineRead); 4] = [
-        (b"newwin 1 1 0 0", LineRead::Line),
-        (b"", LineRead::Line),
-        (b"last", LineRead::LastLine),
-        (b"", LineRead::LastLine),
+    let lines: [(&[u8], Option<LineEnd>); 4] = [
+        (b"newwin 1 1 0 0", Some(LineEnd::Newline)),
+        (b"", Some(LineEnd::Newline)),
+        (b"last", Some(LineEnd::ScriptEnd)),
+        (b"", Some(LineEnd::ScriptEnd)),
     ];
     for step in [1, 3, 600] {
         let fails = false;
@@ -196,9 +196,9 @@ fn lines_come_whole_from_pieces(rt: HostRuntime) {
 #[test]
 fn a_failed_read_leaves_what_came_before(rt: HostRuntime) {
     let (bytes, step, fails) = (b"erase 0\nera".as_slice(), 3, true);
-    let lines: [(&[u8], LineRead); 2] = [
-        (b"erase 0", LineRead::Line),
-        (b"era", LineRead::FailedRead),
+    let lines: [(&[u8], Option<LineEnd>); 2] = [
+        (b"erase 0", Some(LineEnd::Newline)),
+        (b"era", Some(LineEnd::ReadFailed)),
     ];
     assert!(rt; gives(Pieces { bytes, step, fails }, &lines));
 }
@@ -207,9 +207,9 @@ static LONG: [u8; 513] = [b'x'; 513];
 
 #[test]
 fn a_line_has_at_most_512_bytes(rt: HostRuntime) {
-    for (length, read) in [(512, LineRead::LastLine), (513, LineRead::TooLong)] {
+    for (length, end) in [(512, Some(LineEnd::ScriptEnd)), (513, None)] {
         let (bytes, step, fails) = (&LONG[..length], 600, false);
-        assert!(rt; gives(Pieces { bytes, step, fails }, &[(&LONG[..512], read)]));
+        assert!(rt; gives(Pieces { bytes, step, fails }, &[(&LONG[..512], end)]));
     }
 }
 

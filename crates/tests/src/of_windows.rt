@@ -1,6 +1,6 @@
 use bitflags::Flags;
 use std::test::Fail;
-use windows::{Attr, Frame, Refusal, WinId, Windows};
+use windows::{Attr, Rect, Refusal, WinId, Windows};
 
 const SCREEN: WinId = WinId(0);
 
@@ -32,13 +32,13 @@ fn shows(windows: &Windows, texts: &[&str]) -> Result<bool, Fail> {
 }
 
 /// Writes a text on the standard screen.
-fn write(windows: &mut Windows, text: &str) -> Result<Option<Frame>, Refusal> {
+fn write(windows: &mut Windows, text: &str) -> Result<Option<Rect>, Refusal> {
     windows.waddstr(SCREEN, text.as_bytes())
 }
 
 /// A frame.
-fn lines(top: u16, bottom: u16, left: u16, right: u16) -> Option<Frame> {
-    Some(Frame {
+fn lines(top: u16, bottom: u16, left: u16, right: u16) -> Option<Rect> {
+    Some(Rect {
         top,
         left,
         bottom,
@@ -71,7 +71,7 @@ fn text_is_written_and_scrolls_its_region(rt: HostRuntime) -> Result<(), Fail> {
 }
 
 /// What a call answers that writes.
-type Written = Result<Option<Frame>, Refusal>;
+type Written = Result<Option<Rect>, Refusal>;
 
 /// Edits line 1 from column 1 on.
 fn edit(windows: &mut Windows) -> [Written; 4] {

@@ -3,14 +3,13 @@ use Rattle.std.proofs.Common.{◌≡◌, ℕ, ◌+◌, ◌-◌, ◌<◌, Option,
 use Rattle.std.specs.Prelude.{option_and_then}
 use Rattle.std.specs.Option.{option_map_or}
 use Rattle.cell.specs.Pictures.{origin}
-use Rattle.world.specs.Windows.{Window, Windows, put}
+use Rattle.world.specs.Windows.{Window, Windows, put, if_there}
 use Rattle.world.specs.Settings.{set, with_cursor}
 use Rattle.world.specs.Drawings.{written_glyph, everywhere, lines_up, lines_down}
 use Rattle.world.specs.Frames.{frame_of}
 use Rattle.world.specs.calls.writing.Characters.{frame_if_there, drawn_to, insch_drawing, insch_frame, delch_drawing, delch_frame}
-use Rattle.world.specs.Windows.{if_there}
 use Rattle.world.specs.calls.writing.Editing.{erase_drawing, after_erase, erase_frame, clrtoeol_drawing, clrtoeol_frame, clrtobot_drawing, clrtobot_frame, insertln_drawing, after_insertln, insertln_frame, deleteln_drawing, after_deleteln, deleteln_frame}
-use Rattle.cell.specs.declared.window.Frame.{Frame}
+use Rattle.cell.specs.declared.window.Rect.{Rect}
 use Rattle.windows.specs.steps.State.{IsStateOf, window_in_state}
 use Rattle.windows.specs.declared.state.WindowState.{WindowState}
 use Rattle.windows.proofs.Rectangles.{frame-inserted, frame-deleted, frame-to_end_of_line, frame-to_bottom_last, frame-to_bottom_more, frame-lines_up, frame-lines_down, frame-everywhere}
@@ -26,7 +25,7 @@ module _ (windows : Windows) (w : ℕ) (s : WindowState) (h : IsStateOf windows 
       ∙ (λ i. change (record h.window { lines = h.lines i; columns = h.columns i; settings = h.settings i }))
       ∙ same
 
-  pub frame-is : (frame : Window → Option Frame) → frame (with_state s h.window) ≡ frame (window_in_state s) → frame_if_there windows w frame ≡ frame (window_in_state s)
+  pub frame-is : (frame : Window → Option Rect) → frame (with_state s h.window) ≡ frame (window_in_state s) → frame_if_there windows w frame ≡ frame (window_in_state s)
   frame-is frame same =
       ap (λ o. option_and_then frame o) h.there
       ∙ (λ i. frame (record h.window { lines = h.lines i; columns = h.columns i; settings = h.settings i }))
@@ -38,25 +37,25 @@ module _ (windows : Windows) (w : ℕ) (s : WindowState) (h : IsStateOf windows 
   erased now new drawn moved =
       moved ∙ ap (λ v. set v w (with_cursor origin)) drawn ∙ sym (call-is (λ a. drawn_to windows w (erase_drawing a) origin) refl)
 
-  pub erased_frame : (r : Frame) → r ≡ record { top = 0; left = 0; bottom = s.lines - 1; right = s.columns - 1 } → Some r ≡ erase_frame windows w
+  pub erased_frame : (r : Rect) → r ≡ record { top = 0; left = 0; bottom = s.lines - 1; right = s.columns - 1 } → Some r ≡ erase_frame windows w
   erased_frame r e =
       ap Some e ∙ sym (frame-everywhere (window_in_state s) s.settings.background h.has_line h.has_column)
       ∙ sym (frame-is (λ a. frame_of a (erase_drawing a)) refl)
 
-  pub clrtoeol_frame-is : (r : Frame) → r ≡ record { top = s.settings.cursor.0; left = s.settings.cursor.1; bottom = s.settings.cursor.0; right = s.columns - 1 }
+  pub clrtoeol_frame-is : (r : Rect) → r ≡ record { top = s.settings.cursor.0; left = s.settings.cursor.1; bottom = s.settings.cursor.0; right = s.columns - 1 }
       → Some r ≡ clrtoeol_frame windows w
   clrtoeol_frame-is r e =
       ap Some e ∙ sym (frame-to_end_of_line (window_in_state s) s.settings.cursor.0 s.settings.cursor.1 h.within.cursor_line h.within.cursor_column s.settings.background)
       ∙ sym (frame-is (λ a. frame_of a (clrtoeol_drawing a)) refl)
 
-  pub clrtobot_frame-last : (r : Frame) → s.settings.cursor.0 + 1 ≡ s.lines
+  pub clrtobot_frame-last : (r : Rect) → s.settings.cursor.0 + 1 ≡ s.lines
       → r ≡ record { top = s.settings.cursor.0; left = s.settings.cursor.1; bottom = s.settings.cursor.0; right = s.columns - 1 } → Some r ≡ clrtobot_frame windows w
   clrtobot_frame-last r last e =
       ap Some e
       ∙ sym (frame-to_bottom_last (window_in_state s) s.settings.cursor.0 s.settings.cursor.1 h.within.cursor_line h.within.cursor_column s.settings.background last)
       ∙ sym (frame-is (λ a. frame_of a (clrtobot_drawing a)) refl)
 
-  pub clrtobot_frame-more : (r : Frame) → s.settings.cursor.0 + 1 < s.lines
+  pub clrtobot_frame-more : (r : Rect) → s.settings.cursor.0 + 1 < s.lines
       → r ≡ record { top = s.settings.cursor.0; left = 0; bottom = s.lines - 1; right = s.columns - 1 } → Some r ≡ clrtobot_frame windows w
   clrtobot_frame-more r more e =
       ap Some e
@@ -69,7 +68,7 @@ module _ (windows : Windows) (w : ℕ) (s : WindowState) (h : IsStateOf windows 
       → new ≡ after_insertln windows w
   line_inserted new e = e ∙ sym (call-is (λ a. put windows w (insertln_drawing windows.window w a)) refl)
 
-  pub line_inserted_frame : (r : Frame) → r ≡ record { top = s.settings.cursor.0; left = 0; bottom = s.lines - 1; right = s.columns - 1 } → Some r ≡ insertln_frame windows w
+  pub line_inserted_frame : (r : Rect) → r ≡ record { top = s.settings.cursor.0; left = 0; bottom = s.lines - 1; right = s.columns - 1 } → Some r ≡ insertln_frame windows w
   line_inserted_frame r e =
       let line = h.within.cursor_line in let some = h.has_line in
       ap Some e
@@ -80,7 +79,7 @@ module _ (windows : Windows) (w : ℕ) (s : WindowState) (h : IsStateOf windows 
       → new ≡ after_deleteln windows w
   line_deleted new e = e ∙ sym (call-is (λ a. put windows w (deleteln_drawing windows.window w a)) refl)
 
-  pub line_deleted_frame : (r : Frame) → r ≡ record { top = s.settings.cursor.0; left = 0; bottom = s.lines - 1; right = s.columns - 1 } → Some r ≡ deleteln_frame windows w
+  pub line_deleted_frame : (r : Rect) → r ≡ record { top = s.settings.cursor.0; left = 0; bottom = s.lines - 1; right = s.columns - 1 } → Some r ≡ deleteln_frame windows w
   line_deleted_frame r e =
       let line = h.within.cursor_line in let some = h.has_line in
       ap Some e
@@ -89,14 +88,14 @@ module _ (windows : Windows) (w : ℕ) (s : WindowState) (h : IsStateOf windows 
 
   -- ---- characters
 
-  pub character_inserted_frame : (r : Frame) (character : ℕ)
+  pub character_inserted_frame : (r : Rect) (character : ℕ)
       → r ≡ record { top = s.settings.cursor.0; left = s.settings.cursor.1; bottom = s.settings.cursor.0; right = s.columns - 1 } → Some r ≡ insch_frame windows w character
   character_inserted_frame r character e =
       ap Some e
       ∙ sym (frame-inserted (window_in_state s) s.settings.cursor.0 s.settings.cursor.1 h.within.cursor_line h.within.cursor_column windows.window w (written_glyph s.settings character))
       ∙ sym (frame-is (λ a. frame_of a (insch_drawing windows.window w character a)) refl)
 
-  pub character_deleted_frame : (r : Frame)
+  pub character_deleted_frame : (r : Rect)
       → r ≡ record { top = s.settings.cursor.0; left = s.settings.cursor.1; bottom = s.settings.cursor.0; right = s.columns - 1 } → Some r ≡ delch_frame windows w
   character_deleted_frame r e =
       ap Some e

@@ -5,8 +5,7 @@ use Rattle.std.proofs.lemmas.Bool.Decides.{nat_tests}
 use Rattle.cell.specs.Glyphs.{Glyph}
 use Rattle.world.specs.Windows.{Window, WindowMap, Drawing}
 use Rattle.world.specs.Drawings.{at_place, character_inserted, character_deleted, to_end_of_line, to_bottom, everywhere, lines_up, lines_down}
-use Rattle.world.specs.Frames.{frame_of}
-use Rattle.world.specs.Frames.{Covers}
+use Rattle.world.specs.Frames.{frame_of, Covers}
 use Rattle.world.proofs.FrameLaws.{frame_of-only, frame_of-none}
 
 some-if : (t : Bool) (c : Glyph) → (let o : Option Glyph = if t then Some c else None in is_some o) ≡ t

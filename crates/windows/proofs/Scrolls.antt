@@ -3,7 +3,7 @@ use Rattle.std.proofs.Common.{◌≡◌, ℕ, zero, suc, ℤ, pos, negsuc, ◌-�
 use Rattle.world.specs.Windows.{Windows, put}
 use Rattle.world.specs.Frames.{frame_of}
 use Rattle.world.specs.calls.writing.Editing.{scrl_drawing}
-use Rattle.cell.specs.declared.window.Frame.{Frame}
+use Rattle.cell.specs.declared.window.Rect.{Rect}
 use Rattle.world.proofs.WindowLaws.{put-nothing}
 use Rattle.windows.specs.steps.State.{IsStateOf, window_in_state}
 use Rattle.windows.specs.declared.state.WindowState.{WindowState}
@@ -21,7 +21,7 @@ module _ (windows : Windows) (w : ℕ) (s : WindowState) (n : ℤ) where
 
 -- by some
 
-pub scrolled_lines : (windows : Windows) (w : ℕ) (s : WindowState) (n : ℤ) (r : Frame) → IsStateOf windows w s → (n ≡ pos 0 → ⊥)
+pub scrolled_lines : (windows : Windows) (w : ℕ) (s : WindowState) (n : ℤ) (r : Rect) → IsStateOf windows w s → (n ≡ pos 0 → ⊥)
     → r ≡ record { top = s.settings.region.0; left = 0; bottom = s.settings.region.1; right = s.columns - 1 }
     → Some r ≡ frame_of (window_in_state s) (scrl_drawing windows.window w n (window_in_state s))
 scrolled_lines windows w s (pos zero) r h some e = absurd (some refl)

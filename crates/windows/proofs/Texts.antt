@@ -8,7 +8,7 @@ use Rattle.world.specs.Settings.{set_in, set, with_cursor}
 use Rattle.world.specs.Drawings.{written_glyph, at_place, to_end_of_line}
 use Rattle.world.specs.Frames.{joined}
 use Rattle.world.specs.calls.writing.Characters.{newline, carriage_return, backspace, drawn_to, region_up, scrolls, is_last_line, to_next_line, character_printed, line_ended, typed_in, after_addch, addch_frame, after_addstr, addstr_frame}
-use Rattle.cell.specs.declared.window.Frame.{Frame}
+use Rattle.cell.specs.declared.window.Rect.{Rect}
 use Rattle.world.specs.declared.settings.Settings.{Settings}
 
 -- ---- no window comes or goes
@@ -69,11 +69,11 @@ still_there windows new w character a there e = ap (λ (v : Windows). is_some (v
 
 -- ---- one character more
 
-joined-none : (o : Option Frame) → joined o None ≡ o
+joined-none : (o : Option Rect) → joined o None ≡ o
 joined-none None = refl
 joined-none (Some a) = refl
 
-joined-joined : (o p q : Option Frame) → joined (joined o p) q ≡ joined o (joined p q)
+joined-joined : (o p q : Option Rect) → joined (joined o p) q ≡ joined o (joined p q)
 joined-joined None p q = refl
 joined-joined (Some a) None None = refl
 joined-joined (Some a) None (Some c) = refl
@@ -104,7 +104,7 @@ module _ (windows now new : Windows) (w : ℕ) (text : List ℕ) (i : ℕ) (insi
   pub text_more : new ≡ after_addch now w (get_or text i 0) → new ≡ after_addstr windows w (take (i + 1) text)
   text_more e = e ∙ ap (λ v. after_addch v w (get_or text i 0)) before ∙ sym (ap (after_addstr windows w) more_text ∙ after-push (take i text) windows w (get_or text i 0))
 
-  pub frame_more : (frame next o : Option Frame) → frame ≡ addstr_frame windows w (take i text) → next ≡ addch_frame now w (get_or text i 0) → o ≡ joined frame next
+  pub frame_more : (frame next o : Option Rect) → frame ≡ addstr_frame windows w (take i text) → next ≡ addch_frame now w (get_or text i 0) → o ≡ joined frame next
       → o ≡ addstr_frame windows w (take (i + 1) text)
   frame_more frame next o so_far e is =
       is ∙ (λ k. joined (so_far k) (e k)) ∙ ap (λ v. joined (addstr_frame windows w (take i text)) (addch_frame v w (get_or text i 0))) before

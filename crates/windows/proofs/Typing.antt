@@ -12,7 +12,7 @@ use Rattle.world.specs.Settings.{set, with_cursor}
 use Rattle.world.specs.Drawings.{written_glyph, at_place, to_end_of_line, lines_up}
 use Rattle.world.specs.Frames.{joined, frame_of}
 use Rattle.world.specs.calls.writing.Characters.{scrolls, region_up, to_next_line, next_line_frame, character_printed, character_frame, line_ended, line_ended_frame, typed_in, typed_frame, after_addch, addch_frame}
-use Rattle.cell.specs.declared.window.Frame.{Frame}
+use Rattle.cell.specs.declared.window.Rect.{Rect}
 use Rattle.world.specs.declared.settings.Settings.{Settings}
 use Rattle.windows.specs.steps.State.{IsStateOf, window_in_state}
 use Rattle.windows.specs.declared.state.WindowState.{WindowState}
@@ -50,7 +50,7 @@ module _ (windows : Windows) (w : ℕ) (s : WindowState) (h : IsStateOf windows 
   scrolled now new place on last drawn moved =
       moved ∙ ap (λ v. set v w (with_cursor (s.settings.cursor.0, 0))) drawn ∙ sym (if_true (scrolls (window_in_state s)) _ _ (scrolls-is on last))
 
-  pub scrolled_frame : (r : Frame) → s.settings.scrolling ≡ true → s.settings.cursor.0 ≡ s.settings.region.1
+  pub scrolled_frame : (r : Rect) → s.settings.scrolling ≡ true → s.settings.cursor.0 ≡ s.settings.region.1
       → r ≡ record { top = s.settings.region.0; left = 0; bottom = s.settings.region.1; right = s.columns - 1 } → Some r ≡ next_line_frame windows.window w (window_in_state s)
   scrolled_frame r on last e =
       ap Some e
@@ -75,18 +75,18 @@ module _ (windows : Windows) (w : ℕ) (s : WindowState) (h : IsStateOf windows 
         moved ∙ ap (λ v. to_next_line v w (window_in_state s) s.settings.cursor) drawn
         ∙ sym (if_false (nat_lt (s.settings.cursor.1 + 1) s.columns) _ _ (grind (arith, nat_tests)))
 
-    one_place : (r : Frame) → r ≡ record { top = s.settings.cursor.0; left = s.settings.cursor.1; bottom = s.settings.cursor.0; right = s.settings.cursor.1 }
+    one_place : (r : Rect) → r ≡ record { top = s.settings.cursor.0; left = s.settings.cursor.1; bottom = s.settings.cursor.0; right = s.settings.cursor.1 }
         → Some r ≡ frame_of (window_in_state s) (at_place s.settings.cursor (written_glyph s.settings character))
     one_place r e =
         ap Some e ∙ sym (frame-at_place (window_in_state s) s.settings.cursor.0 s.settings.cursor.1 h.within.cursor_line h.within.cursor_column (written_glyph s.settings character))
 
-    pub printed_inside_frame : (r : Frame) → s.settings.cursor.1 + 1 < s.columns
+    pub printed_inside_frame : (r : Rect) → s.settings.cursor.1 + 1 < s.columns
         → r ≡ record { top = s.settings.cursor.0; left = s.settings.cursor.1; bottom = s.settings.cursor.0; right = s.settings.cursor.1 }
         → Some r ≡ character_frame windows w character (window_in_state s)
     printed_inside_frame r inside e =
         one_place r e ∙ sym (if_true (nat_lt (s.settings.cursor.1 + 1) s.columns) _ _ (lt-ltb (s.settings.cursor.1 + 1) s.columns inside))
 
-    pub printed_at_end_frame : (now : Windows) (r : Frame) (below o : Option Frame) → s.columns ≤ s.settings.cursor.1 + 1
+    pub printed_at_end_frame : (now : Windows) (r : Rect) (below o : Option Rect) → s.columns ≤ s.settings.cursor.1 + 1
         → now ≡ put windows w (at_place s.settings.cursor (written_glyph s.settings character))
         → r ≡ record { top = s.settings.cursor.0; left = s.settings.cursor.1; bottom = s.settings.cursor.0; right = s.settings.cursor.1 }
         → below ≡ next_line_frame now.window w (window_in_state s) → o ≡ joined (Some r) below → o ≡ character_frame windows w character (window_in_state s)
@@ -101,7 +101,7 @@ module _ (windows : Windows) (w : ℕ) (s : WindowState) (h : IsStateOf windows 
       → new ≡ to_next_line now w (window_in_state s) (s.settings.cursor.0, 0) → new ≡ line_ended windows w (window_in_state s)
   ended now new drawn moved = moved ∙ ap (λ v. to_next_line v w (window_in_state s) (s.settings.cursor.0, 0)) drawn
 
-  pub ended_frame : (now : Windows) (r : Frame) (below o : Option Frame) → now ≡ put windows w (to_end_of_line s.settings.cursor s.settings.background)
+  pub ended_frame : (now : Windows) (r : Rect) (below o : Option Rect) → now ≡ put windows w (to_end_of_line s.settings.cursor s.settings.background)
       → r ≡ record { top = s.settings.cursor.0; left = s.settings.cursor.1; bottom = s.settings.cursor.0; right = s.columns - 1 }
       → below ≡ next_line_frame now.window w (window_in_state s) → o ≡ joined (Some r) below → o ≡ line_ended_frame windows w (window_in_state s)
   ended_frame now r below o drawn e next is =
@@ -115,7 +115,7 @@ module _ (windows : Windows) (w : ℕ) (s : WindowState) (h : IsStateOf windows 
   pub added : (new : Windows) (character : ℕ) → new ≡ typed_in windows w character (window_in_state s) → new ≡ after_addch windows w character
   added new character e = e ∙ sym (call-is windows w s h (typed_in windows w character) refl)
 
-  pub added_frame : (o : Option Frame) (character : ℕ) → o ≡ typed_frame windows w character (window_in_state s) → o ≡ addch_frame windows w character
+  pub added_frame : (o : Option Rect) (character : ℕ) → o ≡ typed_frame windows w character (window_in_state s) → o ≡ addch_frame windows w character
   added_frame o character e = e ∙ sym (frame-is windows w s h (typed_frame windows w character) refl)
 
 -- ---- the cell of a character

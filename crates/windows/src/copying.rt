@@ -8,7 +8,7 @@ ghost use Rattle.grids.specs.Tables.{windows};
 
 use crate::state::state_of;
 use crate::table::Windows;
-use cell::{Frame, Refusal, WinId};
+use cell::{Rect, Refusal, WinId};
 use grids::Grids;
 
 impl Windows {
@@ -16,7 +16,7 @@ impl Windows {
     ///
     /// # Errors
     /// `NoSuchWindow`, `IsPad`, each for either window.
-    pub fn overlay(&mut self, src: WinId, dst: WinId) -> Result<Option<Frame>, Refusal>
+    pub fn overlay(&mut self, src: WinId, dst: WinId) -> Result<Option<Rect>, Refusal>
         ensures refused { result_err result ≡ overlay_refusal (windows self.old.table) src.0 dst.0 }
         ensures written { OnOk result (windows self.new.table ≡ after_overlay (windows self.old.table) src.0 dst.0 true) }
         ensures frame { IfOk result (λ frame. frame ≡ overlay_frame (windows self.old.table) src.0 dst.0 true) }
@@ -30,7 +30,7 @@ impl Windows {
     ///
     /// # Errors
     /// `NoSuchWindow`, `IsPad`, each for either window.
-    pub fn overwrite(&mut self, src: WinId, dst: WinId) -> Result<Option<Frame>, Refusal>
+    pub fn overwrite(&mut self, src: WinId, dst: WinId) -> Result<Option<Rect>, Refusal>
         ensures refused { result_err result ≡ overlay_refusal (windows self.old.table) src.0 dst.0 }
         ensures written { OnOk result (windows self.new.table ≡ after_overlay (windows self.old.table) src.0 dst.0 false) }
         ensures frame { IfOk result (λ frame. frame ≡ overlay_frame (windows self.old.table) src.0 dst.0 false) }
@@ -57,7 +57,7 @@ impl Windows {
         dmaxrow: u16,
         dmaxcol: u16,
         overlay: bool,
-    ) -> Result<Option<Frame>, Refusal>
+    ) -> Result<Option<Rect>, Refusal>
         ensures refused { result_err result ≡ copywin_refusal (windows self.old.table) src.0 dst.0 sminrow smincol dminrow dmincol dmaxrow dmaxcol }
         ensures written { OnOk result (windows self.new.table ≡ after_copywin (windows self.old.table) src.0 dst.0 sminrow smincol dminrow dmincol dmaxrow dmaxcol overlay) }
         ensures frame { IfOk result (λ frame. frame ≡ copywin_frame (windows self.old.table) src.0 dst.0 sminrow smincol dminrow dmincol dmaxrow dmaxcol overlay) }
@@ -107,7 +107,7 @@ fn copy_common(
     src: WinId,
     dst: WinId,
     overlay: bool,
-) -> Result<Option<Frame>, Refusal>
+) -> Result<Option<Rect>, Refusal>
     ensures refused { result_err result ≡ overlay_refusal (windows table.old) src.0 dst.0 }
     ensures written { OnOk result (windows table.new ≡ after_overlay (windows table.old) src.0 dst.0 overlay) }
     ensures frame { IfOk result (λ frame. frame ≡ overlay_frame (windows table.old) src.0 dst.0 overlay) }

@@ -3,14 +3,14 @@
 ghost use Rattle.std.specs.Prelude.{◌≡◌, ◌-◌, ◌<◌};
 
 use crate::state::WindowState;
-use cell::Frame;
+use cell::Rect;
 
 /// The lines from `top` to `bottom`, both inclusive, from a column on.
-pub fn lines_from(state: &WindowState, top: u16, bottom: u16, left: u16) -> Frame
+pub fn lines_from(state: &WindowState, top: u16, bottom: u16, left: u16) -> Rect
     requires { 0 < state.now.columns }
     ensures { result ≡ record { top = top; left = left; bottom = bottom; right = state.now.columns - 1 } }
 {
-    Frame {
+    Rect {
         top,
         left,
         bottom,

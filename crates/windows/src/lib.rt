@@ -10,7 +10,7 @@ mod state;
 mod table;
 mod writing;
 
-pub use cell::{Attr, Cell, Frame, Refusal, WinId};
+pub use cell::{Attr, Cell, Rect, Refusal, WinId};
 pub use grids::Grids;
 pub use table::Windows;
 pub use world::{Columns, Settings};

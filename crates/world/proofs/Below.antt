@@ -4,7 +4,7 @@ use Rattle.std.proofs.lemmas.Bool.{cases_eq, and_parts, and_from, or_cases, or_l
 use Rattle.world.specs.Windows.{any_below}
 use Rattle.world.specs.Frames.{IsIn}
 use Rattle.world.specs.Sharing.{any_in}
-use Rattle.cell.specs.declared.window.Frame.{Frame}
+use Rattle.cell.specs.declared.window.Rect.{Rect}
 
 pub record FoundBelow (n : ℕ) (test : ℕ → Bool) : Type 0 where
   pub number : ℕ
@@ -28,13 +28,13 @@ any_below-some (suc n) test k h is = elim (cases_eq k n) [
   | inr other ↦ or_right (test n) (any_below n test) (any_below-some n test k (omega arith) is)
 ]
 
-pub record FoundIn (r : Frame) (test : ℕ → ℕ → Bool) : Type 0 where
+pub record FoundIn (r : Rect) (test : ℕ → ℕ → Bool) : Type 0 where
   pub line : ℕ
   pub column : ℕ
   pub inside : IsIn r line column
   pub passes : test line column ≡ true
 
-pub any_in-true : (r : Frame) (test : ℕ → ℕ → Bool) → any_in r test ≡ true → FoundIn r test
+pub any_in-true : (r : Rect) (test : ℕ → ℕ → Bool) → any_in r test ≡ true → FoundIn r test
 any_in-true r test h =
     let line = any_below-true (r.bottom + 1) (λ y. nat_le r.top y && any_below (r.right + 1) (λ x. nat_le r.left x && test y x)) h in
     let lines = and_parts (nat_le r.top line.number) (any_below (r.right + 1) (λ x. nat_le r.left x && test line.number x)) line.passes in
@@ -49,7 +49,7 @@ any_in-true r test h =
       passes = columns.1;
     }
 
-pub any_in-some : (r : Frame) (test : ℕ → ℕ → Bool) (y x : ℕ) → IsIn r y x → test y x ≡ true → any_in r test ≡ true
+pub any_in-some : (r : Rect) (test : ℕ → ℕ → Bool) (y x : ℕ) → IsIn r y x → test y x ≡ true → any_in r test ≡ true
 any_in-some r test y x inside is =
     let bottom = inside.bottom in
     let right = inside.right in

@@ -13,7 +13,7 @@ use Rattle.world.specs.World.{VirtualScreen, World, picture}
 use Rattle.world.specs.calls.Copies.{copywin_drawing}
 use Rattle.world.specs.calls.Refresh.{shown_over, touched_cells}
 use Rattle.world.specs.calls.Dispatch.{after_stacking, is_update_panels, refusal, world_after}
-use Rattle.world.specs.calls.Places.{affects_place}
+use Rattle.world.specs.calls.Affected.{affects_place}
 use Rattle.world.proofs.MoveLaws.{found-making}
 use Rattle.world.proofs.RefreshLaws.{found-refresh}
 use Rattle.world.proofs.StackingLaws.{found-stacking}

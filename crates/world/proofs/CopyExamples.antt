@@ -5,7 +5,7 @@ use Rattle.std.specs.List.{range_with_len}
 use Rattle.world.specs.Windows.{cell_at, window_limit}
 use Rattle.world.specs.Frames.{frame_above, frame_in_line}
 use Rattle.world.specs.World.{World}
-use Rattle.world.specs.calls.Affected.{call_frame}
+use Rattle.world.specs.calls.Written.{call_frame}
 use Rattle.world.specs.calls.Dispatch.{refusal, reply_of, world_after}
 use Rattle.world.specs.calls.Queries.{touched_columns}
 use Rattle.world.proofs.Examples.{screen_after, win}
@@ -93,11 +93,11 @@ unfolding parts line screen_after win typed copy window_limit
 no_lines_past_the_last = refl
 
 -- window 3's touched columns are the last four of window 1, and two of them are window 2's
-handed_up : touched_columns (world_after parts (Copying (Syncup (win 3)))).windows.window 1 0 ≡ Some (2, 5)
+handed_up : touched_columns (world_after parts (Copying (Syncup (win 3)))).windows.window 1 0 ≡ Some (record { first = 2; last = 5 })
 unfolding parts line screen_after win typed copy window_limit
 handed_up = refl
 
-taken_down : touched_columns (world_after (world_after parts (Copying (Touchline (win 1) 0 1))) (Copying (Syncdown (win 2)))).windows.window 2 0 ≡ Some (0, 3)
+taken_down : touched_columns (world_after (world_after parts (Copying (Touchline (win 1) 0 1))) (Copying (Syncdown (win 2)))).windows.window 2 0 ≡ Some (record { first = 0; last = 3 })
 unfolding parts line screen_after win typed copy window_limit
 taken_down = refl
 

@@ -7,8 +7,7 @@ use Rattle.world.specs.Frames.{frame_above, frame_in_line}
 use Rattle.world.specs.Panels.{owner, topmost, panel_limit}
 use Rattle.world.specs.World.{World, first_world}
 use Rattle.world.specs.calls.Dispatch.{refusal, world_after}
-use Rattle.world.specs.calls.Affected.{affected_lines, bound_on_reads, no_lines}
-use Rattle.world.specs.calls.Places.{affects_place}
+use Rattle.world.specs.calls.Affected.{affected_lines, bound_on_reads, no_lines, affects_place}
 use Rattle.cell.specs.declared.refusal.Refusal.TheVariants.{HasDerived, InPanel}
 use Rattle.cell.specs.declared.window.WinId.{WinId}
 use Rattle.world.specs.declared.call.Call.{Call}

@@ -7,14 +7,14 @@ use Rattle.world.specs.Windows.{GridPlace, Window, Windows, Drawing, drawn, over
 use Rattle.world.specs.Frames.{joined, frame_at, frame_in_line, frame_above, frame_of, Covers, IsIn, IsSmallest, IsFrameOf}
 use Rattle.world.specs.calls.writing.Editing.{drawing_frame}
 use Rattle.cell.specs.Glyphs.{Glyph}
-use Rattle.cell.specs.declared.window.Frame.{Frame}
+use Rattle.cell.specs.declared.window.Rect.{Rect}
 
 -- ---- there is only one
 
 le-antisym : (m n : ℕ) → m ≤ n → n ≤ m → m ≡ n
 le-antisym m n h k = omega arith
 
-pub only_frame : (Has : ℕ → ℕ → Type 0) (o p : Option Frame) → IsFrameOf Has o → IsFrameOf Has p → o ≡ p
+pub only_frame : (Has : ℕ → ℕ → Type 0) (o p : Option Rect) → IsFrameOf Has o → IsFrameOf Has p → o ≡ p
 only_frame Has None None h k = refl
 only_frame Has None (Some r) h k = absurd (h r.top k.top.0 k.top.1)
 only_frame Has (Some r) None h k = absurd (k r.top h.top.0 h.top.1)
@@ -25,7 +25,7 @@ only_frame Has (Some r) (Some s) h k =
     let right = le-antisym r.right s.right (k.holds h.right.0 r.right h.right.1).right (h.holds k.right.0 s.right k.right.1).right in
     λ i. Some (record { top = top i; left = left i; bottom = bottom i; right = right i })
 
-pub frame-same : (Has Other : ℕ → ℕ → Type 0) (o : Option Frame) → ((y x : ℕ) → Has y x → Other y x) → ((y x : ℕ) → Other y x → Has y x) → IsFrameOf Has o → IsFrameOf Other o
+pub frame-same : (Has Other : ℕ → ℕ → Type 0) (o : Option Rect) → ((y x : ℕ) → Has y x → Other y x) → ((y x : ℕ) → Other y x → Has y x) → IsFrameOf Has o → IsFrameOf Other o
 frame-same Has Other None to from h = λ y x there. h y x (from y x there)
 frame-same Has Other (Some r) to from h = record {
   holds = λ y x there. h.holds y x (from y x there);
@@ -53,7 +53,7 @@ module _ (Has Other : ℕ → ℕ → Type 0) where
   Either : ℕ → ℕ → Type 0
   Either y x = Has y x ⊎ Other y x
 
-  both-hold : (r s : Frame) → IsSmallest Has r → IsSmallest Other s → (y x : ℕ) → (Has y x ⊎ Other y x)
+  both-hold : (r s : Rect) → IsSmallest Has r → IsSmallest Other s → (y x : ℕ) → (Has y x ⊎ Other y x)
       → IsIn (record { top = min r.top s.top; left = min r.left s.left; bottom = max r.bottom s.bottom; right = max r.right s.right }) y x
   both-hold r s h k y x (inl there) =
       let in_r = h.holds y x there in
@@ -62,7 +62,7 @@ module _ (Has Other : ℕ → ℕ → Type 0) where
       let in_s = k.holds y x there in
       record { top = omega arith; bottom = omega arith; left = omega arith; right = omega arith }
 
-  pub frame-joined : (o p : Option Frame) → IsFrameOf Has o → IsFrameOf Other p → IsFrameOf (λ y x. Has y x ⊎ Other y x) (joined o p)
+  pub frame-joined : (o p : Option Rect) → IsFrameOf Has o → IsFrameOf Other p → IsFrameOf (λ y x. Has y x ⊎ Other y x) (joined o p)
   frame-joined None None h k = λ y x there. elim there [ inl a ↦ h y x a | inr b ↦ k y x b ]
   frame-joined None (Some s) h k = record {
     holds = λ y x there. elim there [ inl a ↦ absurd (h y x a) | inr b ↦ k.holds y x b ];
@@ -148,7 +148,7 @@ above-is f columns (suc n) =
 pub frame_of-is : (a : Window) (f : Drawing) → IsFrameOf (Covers f a.columns a.lines) (frame_of a f)
 frame_of-is a f = above-is f a.columns a.lines
 
-pub frame_of-only : (a : Window) (f : Drawing) (r : Frame) → IsSmallest (Covers f a.columns a.lines) r → frame_of a f ≡ Some r
+pub frame_of-only : (a : Window) (f : Drawing) (r : Rect) → IsSmallest (Covers f a.columns a.lines) r → frame_of a f ≡ Some r
 frame_of-only a f r h = only_frame (Covers f a.columns a.lines) (frame_of a f) (Some r) (frame_of-is a f) h
 
 pub frame_of-none : (a : Window) (f : Drawing) → ((y x : ℕ) → Covers f a.columns a.lines y x → ⊥) → frame_of a f ≡ None

@@ -10,12 +10,11 @@ use Rattle.cell.specs.Refusals.{first_of}
 use Rattle.cell.specs.declared.limits.TheConstants.{LARGEST_PAD, MOST_WINDOWS}
 use Rattle.cell.specs.declared.refusal.Refusal.{Refusal}
 use Rattle.world.specs.Windows.{Backing, own_grid, part_of, GridPlace, Window, WindowMap, Windows, ancestors_within, derives, is_missing, leads, own, own_within, parent_number, parent_of, window_limit}
-use Rattle.world.specs.Panels.{Panels, cell_on_screen, found_from_top, has_line, holds, is_in_panel, place_of, standard_screen, windows_from_top}
+use Rattle.world.specs.Panels.{Panels, cell_on_screen, found_from_top, holds, is_in_panel, place_of, standard_screen, windows_from_top}
 use Rattle.world.specs.Sound.{AreSoundPanels, AreSoundWindows, IsSoundPanel, IsSoundWindow, IsStandardScreen}
-use Rattle.world.specs.calls.Affected.{move_affects}
 use Rattle.world.specs.calls.Dispatch.{after_making, making_refusal, next_window}
 use Rattle.world.specs.calls.Making.{after_mvderwin, after_mvwin, delwin_refusal, free_among, has_derived, has_no_parent, is_before, is_full, is_inside, is_no_pad, is_outside, is_own, is_pad, is_part_of, mvderwin_refusal, mvwin_refusal, new_number, numbered, part_tests, with_part, with_place}
-use Rattle.world.specs.calls.Places.{follows_at, making_shows_at, move_shows_at}
+use Rattle.world.specs.calls.Affected.{follows_at, making_shows_at, move_shows_at}
 use Rattle.world.proofs.AncestorLaws.{cell_at-beside, cell_at-moved, changed-off, derives-moved, replaced-off}
 use Rattle.world.proofs.Below.{any_below-some}
 use Rattle.world.proofs.PanelLaws.{in_panel-some}
@@ -55,16 +54,9 @@ module _ (windows : Windows) (w v z : ℕ) where
   window-moved : (u : ℕ) → outline_of ((after_mvderwin windows w v z).window u) ≡ outline_of (windows.window u)
   window-moved u = same-if (λ o. outline_of o) (with_part v z) (λ a. refl) (u == w) (windows.window u)
 
-  line-moved : (line u : ℕ) → option_map_or (has_line line) ((after_mvderwin windows w v z).window u) false ≡ option_map_or (has_line line) (windows.window u) false
-  line-moved line u = same-if (λ o. option_map_or (has_line line) o false) (with_part v z) (λ a. refl) (u == w) (windows.window u)
-
   pub move_shows-moved : (panels : Panels) (y x : ℕ) → move_shows_at (after_mvderwin windows w v z).window panels w y x ≡ move_shows_at windows.window panels w y x
   move_shows-moved panels y x = ap (λ (test : ℕ → Bool). list_any test (windows_from_top panels)) (fun_ext (λ u. λ i.
       (u == w || derives-moved windows w v z w u i) && holds-same (after_mvderwin windows w v z).window windows.window u (window-moved u) y x i))
-
-  pub move_affects-moved : (panels : Panels) (line : ℕ) → move_affects (after_mvderwin windows w v z).window panels w line ≡ move_affects windows.window panels w line
-  move_affects-moved panels line = ap (λ (test : ℕ → Bool). list_any test (windows_from_top panels)) (fun_ext (λ u. λ i.
-      (u == w || derives-moved windows w v z w u i) && line-moved line u i))
 
 -- ---- mvderwin
 

@@ -8,17 +8,16 @@ use Rattle.std.proofs.lemmas.Bool.{and_parts, and_from, false_from_ne_true, le-l
 use Rattle.cell.specs.Pictures.{Place, origin}
 use Rattle.world.specs.Windows.{Drawing, GridPlace, HasPlace, Window, WindowMap, Windows, any_below, cell_at, cell_in_grid, drawn, own, put_from, put_windows}
 use Rattle.world.specs.Frames.{Covers, IsFrameOf, IsIn, frame_of, joined}
-use Rattle.world.specs.Panels.{Panels, cell_on_screen, found_from_top, has_line, holds, holds_place, place_of, screen_place, standard_screen, windows_from_top, windows_of_picture}
+use Rattle.world.specs.Panels.{Panels, cell_on_screen, found_from_top, holds, holds_place, place_of, screen_place, standard_screen, windows_from_top, windows_of_picture}
 use Rattle.world.specs.Sharing.{any_in, is_same_place, shows_part_of}
 use Rattle.world.specs.Sound.{AreSoundWindows, IsStandardScreen}
-use Rattle.world.specs.calls.Affected.{frame_affects, shows_on_line}
-use Rattle.world.specs.calls.Places.{frame_shows_at, shows_at}
+use Rattle.world.specs.calls.Affected.{frame_shows_at, shows_at}
 use Rattle.world.proofs.Below.{any_in-some, any_in-true}
 use Rattle.world.proofs.FrameLaws.{frame_of-is}
 use Rattle.world.proofs.SharingLaws.{true-same}
 use Rattle.world.proofs.ViewLaws.{Outline, found-same, holds-same, on_screen-same, outline, outline_of, passes-none, place-same}
 use Rattle.world.proofs.WindowLaws.{own-put, put-keeps}
-use Rattle.cell.specs.declared.window.Frame.{Frame}
+use Rattle.cell.specs.declared.window.Rect.{Rect}
 
 -- ---- a write leaves sizes and places
 
@@ -41,39 +40,18 @@ pub record SameView (new old : WindowMap) : Type 0 where
   pub outlines : (u : ℕ) → outline_of (new u) ≡ outline_of (old u)
   pub places : (u y x : ℕ) → own new u y x ≡ own old u y x
 
--- some column of the line passes the test
-outline_line : (ℕ → ℕ → Bool) → ℕ → Outline → Bool
-outline_line test line r =
-    option_map_or (λ p. nat_le p.0 line && nat_lt line (p.0 + r.lines)) r.place false && any_below r.columns (test (line - (unwrap_or r.place origin).0))
-
-lines-outline : (test : ℕ → ℕ → Bool) (line : ℕ) (o : Option Window)
-    → option_map_or (λ a. has_line line a && any_below a.columns (test (line - (screen_place a).0))) o false ≡ option_map_or (outline_line test line) (outline_of o) false
-unfolding outline_line
-lines-outline test line None = refl
-lines-outline test line (Some a) = refl
-
 module _ (new old : WindowMap) (same : SameView new old) where
   own-alike : own new ≡ own old
   own-alike = fun_ext (λ u. fun_ext (λ y. fun_ext (λ x. same.places u y x)))
 
-  shows-same : (w : ℕ) (r : Frame) (y x u : ℕ) → shows_at new w r y x u ≡ shows_at old w r y x u
+  shows-same : (w : ℕ) (r : Rect) (y x u : ℕ) → shows_at new w r y x u ≡ shows_at old w r y x u
   shows-same w r y x u = λ i.
       holds-same new old u (same.outlines u) y x i
       && any_in r (λ v z. is_same_place (own-alike i w v z) (own-alike i u (y - (place-same new old u (same.outlines u) i).0) (x - (place-same new old u (same.outlines u) i).1)))
 
-  pub frame_shows-same : (panels : Panels) (w : ℕ) (o : Option Frame) (y x : ℕ) → frame_shows_at new panels w o y x ≡ frame_shows_at old panels w o y x
+  pub frame_shows-same : (panels : Panels) (w : ℕ) (o : Option Rect) (y x : ℕ) → frame_shows_at new panels w o y x ≡ frame_shows_at old panels w o y x
   frame_shows-same panels w None y x = refl
   frame_shows-same panels w (Some r) y x = ap (λ (test : ℕ → Bool). list_any test (windows_of_picture panels)) (fun_ext (shows-same w r y x))
-
-  lines-same : (w : ℕ) (r : Frame) (line u : ℕ) → shows_on_line new w r line u ≡ shows_on_line old w r line u
-  lines-same w r line u =
-      lines-outline (shows_part_of new w r u) line (new u)
-      ∙ (λ i. option_map_or (outline_line (λ y x. any_in r (λ v z. is_same_place (own-alike i w v z) (own-alike i u y x))) line) (same.outlines u i) false)
-      ∙ sym (lines-outline (shows_part_of old w r u) line (old u))
-
-  pub frame_affects-same : (panels : Panels) (w : ℕ) (o : Option Frame) (line : ℕ) → frame_affects new panels w o line ≡ frame_affects old panels w o line
-  frame_affects-same panels w None line = refl
-  frame_affects-same panels w (Some r) line = ap (λ (test : ℕ → Bool). list_any test (windows_of_picture panels)) (fun_ext (lines-same w r line))
 
 -- ---- the frame of two drawings is shown where either one's is
 
@@ -85,25 +63,25 @@ any-more test more h (u ∷ us) some = elim (or_cases (test u) (list_any test us
 ]
 
 module _ (window : WindowMap) (panels : Panels) (w y x : ℕ) where
-  shows-more : (r s : Frame) → ((v z : ℕ) → IsIn r v z → IsIn s v z) → (u : ℕ) → shows_at window w r y x u ≡ true → shows_at window w s y x u ≡ true
+  shows-more : (r s : Rect) → ((v z : ℕ) → IsIn r v z → IsIn s v z) → (u : ℕ) → shows_at window w r y x u ≡ true → shows_at window w s y x u ≡ true
   shows-more r s h u shown =
       let parts = and_parts (holds window u y x) (shows_part_of window w r u (y - (place_of window u).0) (x - (place_of window u).1)) shown in
       let test : ℕ → ℕ → Bool = λ v z. is_same_place (own window w v z) (own window u (y - (place_of window u).0) (x - (place_of window u).1)) in
       let found = any_in-true r test parts.1 in
       and_from (holds window u y x) (any_in s test) parts.0 (any_in-some s test found.line found.column (h found.line found.column found.inside) found.passes)
 
-  unless-more : (r s : Frame) → ((v z : ℕ) → IsIn r v z → IsIn s v z) → frame_shows_at window panels w (Some s) y x ≡ false → frame_shows_at window panels w (Some r) y x ≡ false
+  unless-more : (r s : Rect) → ((v z : ℕ) → IsIn r v z → IsIn s v z) → frame_shows_at window panels w (Some s) y x ≡ false → frame_shows_at window panels w (Some r) y x ≡ false
   unless-more r s h free = false_from_ne_true (frame_shows_at window panels w (Some r) y x) (λ shown.
       let more = any-more (shows_at window w r y x) (shows_at window w s y x) (shows-more r s h) (windows_of_picture panels) shown in
       let never : true ≡ false = sym more ∙ free in
       cc)
 
-  pub joined-free : (o p : Option Frame) → frame_shows_at window panels w (joined o p) y x ≡ false
+  pub joined-free : (o p : Option Rect) → frame_shows_at window panels w (joined o p) y x ≡ false
       → (frame_shows_at window panels w o y x ≡ false) × (frame_shows_at window panels w p y x ≡ false)
   joined-free None p free = (refl, free)
   joined-free (Some r) None free = (free, refl)
   joined-free (Some r) (Some s) free =
-      let both : Frame = record { top = min r.top s.top; left = min r.left s.left; bottom = max r.bottom s.bottom; right = max r.right s.right } in (
+      let both : Rect = record { top = min r.top s.top; left = min r.left s.left; bottom = max r.bottom s.bottom; right = max r.right s.right } in (
         unless-more r both (λ v z inside.
             let a = inside.top in let b = inside.bottom in let c = inside.left in let d = inside.right in
             record { top = omega arith; bottom = omega arith; left = omega arith; right = omega arith }) free,
@@ -145,7 +123,7 @@ module _ (window : WindowMap) (panels : Panels) (w : ℕ) (a : Window) (f : Draw
       covers : Covers f a.columns a.lines v z
       covers = let place = in-size a v z (window w) size has in record { below = place.0; left = place.1; some = some }
 
-      by_frame : (o : Option Frame) → IsFrameOf (Covers f a.columns a.lines) o → option_map_or (λ r. shows_at window w r y x u) o false ≡ false → ⊥
+      by_frame : (o : Option Rect) → IsFrameOf (Covers f a.columns a.lines) o → option_map_or (λ r. shows_at window w r y x u) o false ≡ false → ⊥
       by_frame None frame free = frame v z covers
       by_frame (Some r) frame free =
           let leads_w : is_some (own window w v z) ≡ true = ap (λ (o : Option GridPlace). is_some o) (same ∙ leads) in
@@ -165,7 +143,7 @@ module _ (window : WindowMap) (panels : Panels) (w : ℕ) (a : Window) (f : Draw
     cell-kept = on_screen-same (put_windows window w f) window u (outline-put window w f u) y x (cell-by (own window u line column) refl)
 
   -- where the frame isn't shown, no window shows it
-  each-free : (o : Option Frame) → frame_shows_at window panels w o y x ≡ false
+  each-free : (o : Option Rect) → frame_shows_at window panels w o y x ≡ false
       → (option_map_or (λ r. shows_at window w r y x standard_screen) o false ≡ false)
       × (list_any (λ u. option_map_or (λ r. shows_at window w r y x u) o false) (windows_from_top panels) ≡ false)
   each-free None h = (refl, passes-none (windows_from_top panels))

@@ -87,7 +87,7 @@ unfolding line_of_virtual end pad screen_after win typed window_limit
 end_shown = (refl, refl, refl)
 
 -- line 5 was copied from, and of line 4 nothing was
-lines_untouched : (touched_columns pad.windows.window 1 5 ≡ Some (17, 19)) × (touched_columns end.windows.window 1 5 ≡ None) × (touched_columns (after_pnoutrefresh pad 1 4 17 0 0 0 2).windows.window 1 5 ≡ Some (17, 19))
+lines_untouched : (touched_columns pad.windows.window 1 5 ≡ Some (record { first = 17; last = 19 })) × (touched_columns end.windows.window 1 5 ≡ None) × (touched_columns (after_pnoutrefresh pad 1 4 17 0 0 0 2).windows.window 1 5 ≡ Some (record { first = 17; last = 19 }))
 unfolding end pad screen_after win typed window_limit
 lines_untouched = (refl, refl, refl)
 

@@ -7,7 +7,7 @@ use Rattle.world.specs.Frames.{AreRectangle}
 use Rattle.world.specs.Sharing.{SharesPart, is_same_place}
 use Rattle.world.proofs.Below.{any_in-some, any_in-true}
 use Rattle.world.proofs.WindowLaws.{own-onward}
-use Rattle.cell.specs.declared.window.Frame.{Frame}
+use Rattle.cell.specs.declared.window.Rect.{Rect}
 
 -- ---- one place of a grid
 
@@ -33,9 +33,9 @@ none-same (Some p) h = cc
 
 -- ---- the shared places of two windows
 
-module _ (window : WindowMap) (w : ℕ) (r : Frame) (u : ℕ) where
+module _ (window : WindowMap) (w : ℕ) (r : Rect) (u : ℕ) where
   abbrev Rectangle : Type 0
-  Rectangle = (o : Option Frame) × AreRectangle (SharesPart window w r u) o
+  Rectangle = (o : Option Rect) × AreRectangle (SharesPart window w r u) o
 
   nowhere : ((y x : ℕ) → SharesPart window w r u y x → ⊥) → Rectangle
   nowhere never = (None, (never, λ y x h. elim h [ ]))
@@ -212,5 +212,5 @@ module _ (window : WindowMap) (w : ℕ) (r : Frame) (u : ℕ) where
   rectangle-by (Some b) (Some p) None there leads_w leads_u = unless-second leads_u
   rectangle-by (Some b) (Some p) (Some q) there leads_w leads_u = rectangle-there b p q there leads_w leads_u
 
-  pub shared-rectangle : (o : Option Frame) × AreRectangle (SharesPart window w r u) o
+  pub shared-rectangle : (o : Option Rect) × AreRectangle (SharesPart window w r u) o
   shared-rectangle = rectangle-by (window u) (own window w 0 0) (own window u 0 0) refl refl refl

@@ -15,7 +15,7 @@ use Rattle.world.specs.Sound.{AreSoundPanels}
 use Rattle.world.specs.World.{World}
 use Rattle.world.specs.calls.Dispatch.{after_stacking, next_panel, stacking_refusal}
 use Rattle.world.specs.calls.Making.{after_mvwin, is_pad}
-use Rattle.world.specs.calls.Places.{panel_shows_at, stacking_shows_at}
+use Rattle.world.specs.calls.Affected.{panel_shows_at, stacking_shows_at}
 use Rattle.world.specs.calls.Stacking.{after_bottom_panel, after_del_panel, after_hide_panel, after_move_panel, after_new_panel, after_replace_panel, after_show_panel, given, new_panel_number, without}
 use Rattle.world.proofs.MoveLaws.{cell-placed, holds-placed, passed, sound-panel}
 use Rattle.world.specs.declared.call.Stacking.{Stacking}

@@ -6,7 +6,7 @@ use mathlib.Core.Path.{fun_ext}
 use Rattle.std.proofs.lemmas.Bool.{cases_lt, lt-ltb, le-ltb, le-leb, lt-leb, eqb-true}
 use Rattle.std.proofs.lemmas.Bool.Decides.{nat_tests}
 use Rattle.cell.specs.Glyphs.{Glyph, blank}
-use Rattle.world.specs.Windows.{Backing, own_grid, part_of, Window, WindowMap, GridPlace, Drawing, leads, own_within, own, cell_of, cell_in_grid, cell_at, within, moved, laid_over, widened, touched_below, touched_by, drawn, put_from, put_windows, HasPlace, window_limit, onward, over}
+use Rattle.world.specs.Windows.{Backing, own_grid, part_of, Window, WindowMap, GridPlace, Drawing, leads, own_within, own, cell_of, cell_in_grid, cell_at, within, moved, laid_over, joined_columns, touched_below, touched_by, drawn, put_from, put_windows, HasPlace, window_limit, onward, over}
 use Rattle.world.specs.declared.settings.Columns.{Columns}
 
 -- a window's places lead to the places of one rectangle of a grid: own is own of (0, 0), moved
@@ -53,6 +53,9 @@ own_within-put_from (suc n) window w (Some a) (Some spot) d u y x =
 
 pub own-put : (window : WindowMap) (w : ℕ) (d : Drawing) (u y x : ℕ) → own (put_windows window w d) u y x ≡ own window u y x
 own-put window w d u y x = own_within-put_from window_limit window w (window w) (own window w 0 0) d u y x
+
+abbrev widened : Option Columns → ℕ → Option Columns
+widened r x = joined_columns r x x
 
 widened-twice : (r : Option Columns) (x : ℕ) → widened (widened r x) x ≡ widened r x
 widened-twice None x = let a : min x x ≡ x = omega arith in let b : max x x ≡ x = omega arith in cc

@@ -9,18 +9,18 @@ use Rattle.world.specs.Drawings.{at_place, to_end_of_line, written_glyph}
 use Rattle.world.specs.Frames.{Covers, IsFrameOf, frame_of, joined}
 use Rattle.world.specs.Panels.{Panels, first_panels, found_from_top, holds, standard_screen}
 use Rattle.world.specs.Sound.{AreSoundWindows}
-use Rattle.world.specs.calls.Affected.{copied_window, copying_frame, writing_frame, written_window}
+use Rattle.world.specs.calls.Written.{copied_window, copying_frame, writing_frame, written_window}
 use Rattle.world.specs.calls.Copies.{common_copied, copywin_drawing}
 use Rattle.world.specs.calls.Dispatch.{after_copying, after_writing}
 use Rattle.world.specs.calls.Marks.{all_marked, lines_marked, shows_touched_of, touching}
-use Rattle.world.specs.calls.Places.{frame_shows_at}
+use Rattle.world.specs.calls.Affected.{frame_shows_at}
 use Rattle.world.specs.calls.writing.Characters.{addch_frame, addstr_frame, after_addch, after_addstr, backspace, carriage_return, character_frame, character_printed, delch_drawing, drawn_to, insch_drawing, is_last_line, line_ended, line_ended_frame, newline, next_line_frame, region_up, scrolls, to_next_line, typed_frame, typed_in}
 use Rattle.world.specs.calls.writing.Editing.{after_drawing, after_erase, clrtobot_drawing, clrtoeol_drawing, deleteln_drawing, drawing_frame, erase_drawing, erase_frame, insertln_drawing, scrl_drawing}
 use Rattle.world.proofs.FrameLaws.{frame_of-is}
 use Rattle.world.proofs.PictureLaws.{SameView, found-put, frame_shows-same, joined-free, outline-put, standard-holds}
 use Rattle.world.proofs.ViewLaws.{Outline, SameCells, backing_of, changed-cells, found-dressed, holds-same, outline, outline_of, own-same, same-if, set-cells}
 use Rattle.world.proofs.WindowLaws.{own-put}
-use Rattle.cell.specs.declared.window.Frame.{Frame}
+use Rattle.cell.specs.declared.window.Rect.{Rect}
 use Rattle.world.specs.declared.call.Copying.{Copying}
 use Rattle.world.specs.declared.call.Copying.TheVariants.{Overlay, Overwrite, Copywin, Touchwin, Untouchwin, Touchline, Touchln, Syncup, Syncdown, IsLinetouched, IsWintouched}
 use Rattle.world.specs.declared.call.Writing.{Writing}
@@ -37,7 +37,7 @@ put-view window w f = record { outlines = outline-put window w f; places = own-p
 
 -- ---- a frame lies in its window
 
-pub record IsInside (window : WindowMap) (w : ℕ) (r : Frame) : Type 0 where
+pub record IsInside (window : WindowMap) (w : ℕ) (r : Rect) : Type 0 where
   pub lines : r.top ≤ r.bottom
   pub columns : r.left ≤ r.right
   pub last : HasPlace window w r.bottom r.right
@@ -61,7 +61,7 @@ both-sizes y x v z (Some b) h k =
     (omega arith, omega arith)
 
 drawing-inside : (window : WindowMap) (w : ℕ) (a : Window) (f : Drawing) → outline_of (window w) ≡ Some (outline a)
-    → (o : Option Frame) → IsFrameOf (Covers f a.columns a.lines) o → MatchOption o ⊤ (IsInside window w)
+    → (o : Option Rect) → IsFrameOf (Covers f a.columns a.lines) o → MatchOption o ⊤ (IsInside window w)
 drawing-inside window w a f size None frame = tt
 drawing-inside window w a f size (Some r) frame =
     let top = frame.top in
@@ -73,7 +73,7 @@ drawing-inside window w a f size (Some r) frame =
       last = has-size a r.bottom r.right (window w) size bottom.1.below right.1.left;
     }
 
-joined-inside : (window : WindowMap) (w : ℕ) (o p : Option Frame) → MatchOption o ⊤ (IsInside window w) → MatchOption p ⊤ (IsInside window w)
+joined-inside : (window : WindowMap) (w : ℕ) (o p : Option Rect) → MatchOption o ⊤ (IsInside window w) → MatchOption p ⊤ (IsInside window w)
     → MatchOption (joined o p) ⊤ (IsInside window w)
 joined-inside window w None p h k = k
 joined-inside window w (Some r) None h k = h
@@ -85,7 +85,7 @@ joined-inside window w (Some r) (Some s) h k =
       last = both-sizes r.bottom r.right s.bottom s.right (window w) h.last k.last;
     }
 
-inside-before : (new old : WindowMap) (w : ℕ) → outline_of (new w) ≡ outline_of (old w) → (o : Option Frame) → MatchOption o ⊤ (IsInside new w) → MatchOption o ⊤ (IsInside old w)
+inside-before : (new old : WindowMap) (w : ℕ) → outline_of (new w) ≡ outline_of (old w) → (o : Option Rect) → MatchOption o ⊤ (IsInside new w) → MatchOption o ⊤ (IsInside old w)
 inside-before new old w same None h = tt
 inside-before new old w same (Some r) h = record { lines = h.lines; columns = h.columns; last = same-size r.bottom r.right (old w) (new w) (sym same) h.last }
 
@@ -93,7 +93,7 @@ inside-before new old w same (Some r) h = record { lines = h.lines; columns = h.
 
 module _ (panels : Panels) (w y x : ℕ) where
   -- from one state of the windows to another, in which the frame of window w was written
-  record Writes (old : Windows) (frame : Option Frame) (new : Windows) : Type 0 where
+  record Writes (old : Windows) (frame : Option Rect) (new : Windows) : Type 0 where
     view : SameView new.window old.window
     kept : holds old.window standard_screen y x ≡ true → frame_shows_at old.window panels w frame y x ≡ false
         → found_from_top new.window panels y x ≡ found_from_top old.window panels y x
@@ -119,7 +119,7 @@ module _ (panels : Panels) (w y x : ℕ) where
   }
 
   -- one frame and then another
-  and-then : (old middle new : Windows) (one other : Option Frame) → Writes old one middle → Writes middle other new → Writes old (joined one other) new
+  and-then : (old middle new : Windows) (one other : Option Rect) → Writes old one middle → Writes middle other new → Writes old (joined one other) new
   and-then old middle new one other first second = record {
     view = record {
       outlines = λ u. second.view.outlines u ∙ first.view.outlines u;
@@ -134,7 +134,7 @@ module _ (panels : Panels) (w y x : ℕ) where
   }
 
   -- and then settings
-  and-set : (old middle : Windows) (frame : Option Frame) (change : Settings → Settings) → Writes old frame middle → Writes old frame (set middle w change)
+  and-set : (old middle : Windows) (frame : Option Rect) (change : Settings → Settings) → Writes old frame middle → Writes old frame (set middle w change)
   and-set old middle frame change first =
       let settings = set-cells middle w change in record {
         view = record {
@@ -148,11 +148,11 @@ module _ (panels : Panels) (w y x : ℕ) where
   settings-set : (old : Windows) (change : Settings → Settings) → Writes old None (set old w change)
   settings-set old change = and-set old old None change (as-it-was old)
 
-  chosen : (b : Bool) (old one other : Windows) (f g : Option Frame) → Writes old f one → Writes old g other → Writes old (if b then f else g) (if b then one else other)
+  chosen : (b : Bool) (old one other : Windows) (f g : Option Rect) → Writes old f one → Writes old g other → Writes old (if b then f else g) (if b then one else other)
   chosen true old one other f g h k = h
   chosen false old one other f g h k = k
 
-  in-window : (old : Windows) (o : Option Window) (frame : Window → Option Frame) (change : Window → Windows)
+  in-window : (old : Windows) (o : Option Window) (frame : Window → Option Rect) (change : Window → Windows)
       → ((a : Window) → o ≡ Some a → Writes old (frame a) (change a)) → Writes old (option_and_then frame o) (option_map_or change o old)
   in-window old None frame change h = as-it-was old
   in-window old (Some a) frame change h = h a refl
@@ -198,7 +198,7 @@ module _ (panels : Panels) (w y x : ℕ) where
         (to-next-line (put windows w rest) (a.settings.cursor.0, 0) (sized-put windows rest size))
 
     -- a carriage return, a backspace or a printed character
-    moved-or-printed : (left right : Bool) (old one other printing : Windows) (f : Option Frame) → Writes old None one → Writes old None other → Writes old f printing
+    moved-or-printed : (left right : Bool) (old one other printing : Windows) (f : Option Rect) → Writes old None one → Writes old None other → Writes old f printing
         → Writes old (if left || right then None else f) (if left then one else if right then other else printing)
     moved-or-printed true right old one other printing f h k l = h
     moved-or-printed false true old one other printing f h k l = k
@@ -209,7 +209,7 @@ module _ (panels : Panels) (w y x : ℕ) where
         let left : Windows = set windows w (with_cursor (a.settings.cursor.0, 0)) in
         let back : Windows = set windows w (with_cursor (a.settings.cursor.0, a.settings.cursor.1 - 1)) in
         let print : Windows = character_printed windows w character a in
-        let frame : Option Frame = character_frame windows w character a in
+        let frame : Option Rect = character_frame windows w character a in
         chosen (character == newline) windows (line_ended windows w a) (if character == carriage_return then left else if character == backspace then back else print)
         (line_ended_frame windows w a) (if character == carriage_return || character == backspace then None else frame) (ended windows size)
         (moved-or-printed (character == carriage_return) (character == backspace) windows left back print frame
@@ -313,17 +313,17 @@ found-copying windows panels copying y x sound below left free =
 
 -- ---- the frame lies in the window
 
-framed : (window : WindowMap) (w : ℕ) (o : Option Frame) (r : Frame) → o ≡ Some r → MatchOption o ⊤ (IsInside window w) → (r.top ≤ r.bottom) × (r.left ≤ r.right) × HasPlace window w r.bottom r.right
+framed : (window : WindowMap) (w : ℕ) (o : Option Rect) (r : Rect) → o ≡ Some r → MatchOption o ⊤ (IsInside window w) → (r.top ≤ r.bottom) × (r.left ≤ r.right) × HasPlace window w r.bottom r.right
 framed window w None r is h = cc
-framed window w (Some s) r is h = let same : s ≡ r = cc in subst (λ (k : Frame). (k.top ≤ k.bottom) × (k.left ≤ k.right) × HasPlace window w k.bottom k.right) same (h.lines, h.columns, h.last)
+framed window w (Some s) r is h = let same : s ≡ r = cc in subst (λ (k : Rect). (k.top ≤ k.bottom) × (k.left ≤ k.right) × HasPlace window w k.bottom k.right) same (h.lines, h.columns, h.last)
 
-pub inside-writing : (windows : Windows) (writing : Writing) (r : Frame) → writing_frame windows writing ≡ Some r
+pub inside-writing : (windows : Windows) (writing : Writing) (r : Rect) → writing_frame windows writing ≡ Some r
     → (r.top ≤ r.bottom) × (r.left ≤ r.right) × HasPlace windows.window (written_window writing) r.bottom r.right
 inside-writing windows writing r is =
     let written = write first_panels 0 0 windows writing in
     framed windows.window (written_window writing) (writing_frame windows writing) r is written.inside
 
-pub inside-copying : (windows : Windows) (copying : Copying) (r : Frame) → copying_frame windows copying ≡ Some r
+pub inside-copying : (windows : Windows) (copying : Copying) (r : Rect) → copying_frame windows copying ≡ Some r
     → (r.top ≤ r.bottom) × (r.left ≤ r.right) × HasPlace windows.window (copied_window copying) r.bottom r.right
 inside-copying windows copying r is =
     let copied = copies first_panels 0 0 windows copying in

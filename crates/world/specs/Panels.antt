@@ -44,10 +44,6 @@ window_or_standard panels (Some p) = unwrap_or (panels.window p) standard_screen
 
 -- ---- the picture
 
--- the line is one of the window's rectangle; a pad has none
-abbrev pub has_line : ℕ → Window → Bool
-has_line line a = option_map_or (λ p. nat_le p.0 line && nat_lt line (p.0 + a.lines)) a.place false
-
 -- whether the window's rectangle holds the place (y, x) of the screen; a pad's holds none
 abbrev pub holds_place : ℕ → ℕ → Window → Bool
 holds_place y x a = option_map_or (λ p. (nat_le p.0 y && nat_lt y (p.0 + a.lines)) && (nat_le p.1 x && nat_lt x (p.1 + a.columns))) a.place false

@@ -120,15 +120,15 @@ abbrev pub laid_over : Drawing → Backing → Backing
 laid_over f (own_grid cells) = own_grid (λ y x. unwrap_or (f y x) (cells y x))
 laid_over f (part_of parent line column) = part_of parent line column
 
--- the least columns that hold these and one more
-abbrev pub widened : Option Columns → ℕ → Option Columns
-widened None x = Some (record { first = x; last = x })
-widened (Some r) x = Some (record { first = min r.first x; last = max r.last x })
+-- the least columns that hold these, if there are any, and those from a first to a last
+abbrev pub joined_columns : Option Columns → ℕ → ℕ → Option Columns
+joined_columns None first last = Some (record { first = first; last = last })
+joined_columns (Some r) first last = Some (record { first = min r.first first; last = max r.last last })
 
 -- the touched columns after each one below n that passes the test was touched
 abbrev pub touched_below : ℕ → (ℕ → Bool) → Option Columns → Option Columns
 touched_below zero test r = r
-touched_below (suc n) test r = if test n then widened (touched_below n test r) n else touched_below n test r
+touched_below (suc n) test r = if test n then joined_columns (touched_below n test r) n n else touched_below n test r
 
 -- the touched columns of a window's lines after a drawing was written through it
 abbrev pub touched_by : Drawing → Window → ℕ → Option Columns

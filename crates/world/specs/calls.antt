@@ -7,5 +7,5 @@ pub mod Queries
 pub mod Stacking
 pub mod Refresh
 pub mod Dispatch
+pub mod Written
 pub mod Affected
-pub mod Places

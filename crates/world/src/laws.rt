@@ -1,15 +1,15 @@
 //! What holds of the definitions alone. Each function does nothing, and its contract is the law.
 
 ghost use Rattle.std.specs.Prelude.{◌≡◌, ◌<◌, ◌≤◌, ℕ, true, false, List, Option, Some, None, IsSome, option_map, ◌⊎◌};
-ghost use Rattle.cell.specs.declared.window.Frame.{Frame};
+ghost use Rattle.cell.specs.declared.window.Rect.{Rect};
 ghost use Rattle.world.specs.Frames.{AreRectangle, Covers, IsFrameOf, frame_of, joined};
 ghost use Rattle.world.specs.Panels.{Panels, cursor_of_topmost, found_from_top, is_in_panel};
 ghost use Rattle.world.specs.Sharing.{SharesPart};
 ghost use Rattle.world.specs.Sound.{AreSoundPanels, AreSoundWindows, IsSound};
 ghost use Rattle.world.specs.World.{World, picture};
-ghost use Rattle.world.specs.calls.Affected.{accepted_affects, copied_window, copying_frame, frame_affects, making_affects, move_affects, refresh_affects, stacking_affects, writing_frame, written_window};
+ghost use Rattle.world.specs.calls.Written.{copied_window, copying_frame, writing_frame, written_window};
 ghost use Rattle.world.specs.calls.Dispatch.{after_copying, after_making, after_stacking, after_writing, is_update_panels, making_refusal, refusal, stacking_refusal, world_after};
-ghost use Rattle.world.specs.calls.Places.{affects_place, frame_shows_at, making_shows_at, move_shows_at, refresh_shows_at, stacking_shows_at};
+ghost use Rattle.world.specs.calls.Affected.{affects_line, affects_place, frame_shows_at, making_shows_at, move_shows_at, stacking_shows_at};
 ghost use Rattle.world.specs.calls.Making.{after_mvderwin, mvderwin_refusal};
 ghost use Rattle.world.specs.calls.Refresh.{with_unmarked};
 ghost use Rattle.cell.specs.Glyphs.{Glyph};
@@ -29,7 +29,7 @@ pub fn own_is_moved()
 
 /// The places at which one window shows cells of a rectangle of another are a rectangle, or there are none.
 pub fn shared_rectangle()
-    ensures { (window : WindowMap) (w : ℕ) (r : Frame) (u : ℕ) → (o : Option Frame) × AreRectangle (SharesPart window w r u) o }
+    ensures { (window : WindowMap) (w : ℕ) (r : Rect) (u : ℕ) → (o : Option Rect) × AreRectangle (SharesPart window w r u) o }
 {}
 
 /// A second write through a window is one write of its drawing laid over the first one's.
@@ -56,17 +56,17 @@ pub fn kept_cell()
         → cell_at (put_windows window w f) u v z ≡ cell_at window u v z }
 {}
 
-/// A write through a window leaves the picture as it is on each line of the screen that its frame doesn't affect; so
-/// does mvderwin on each line that it doesn't affect; and so does every call that isn't refused.
+/// A write through a window leaves the picture as it is at each place of the screen where its frame isn't shown; so does
+/// mvderwin at each place that it doesn't affect; and every call that isn't refused on each line that it doesn't affect.
 pub fn kept_picture()
     ensures written { (windows : Windows) (panels : Panels) (w : ℕ) (a : Window) (f : Drawing) (y x : ℕ) → AreSoundWindows windows
-        → windows.window w ≡ Some a → y < windows.lines → x < windows.columns → frame_affects windows.window panels w (frame_of a f) y ≡ false
+        → windows.window w ≡ Some a → y < windows.lines → x < windows.columns → frame_shows_at windows.window panels w (frame_of a f) y x ≡ false
         → found_from_top (put_windows windows.window w f) panels y x ≡ found_from_top windows.window panels y x }
     ensures moved { (windows : Windows) (panels : Panels) (w v z y x : ℕ) → AreSoundWindows windows → mvderwin_refusal windows w v z ≡ None
-        → move_affects windows.window panels w y ≡ false
+        → move_shows_at windows.window panels w y x ≡ false
         → found_from_top (after_mvderwin windows w v z).window panels y x ≡ found_from_top windows.window panels y x }
     ensures called { (world : World) (call : Call) (y x : ℕ) → IsSound world → refusal world call ≡ None
-        → y < world.windows.lines → x < world.windows.columns → accepted_affects world call y ≡ false
+        → y < world.windows.lines → x < world.windows.columns → affects_line world call y ≡ false
         → picture (world_after world call) y x ≡ picture world y x }
 {}
 
@@ -79,20 +79,6 @@ pub fn kept_places()
     ensures virtual_screen { (world : World) (call : Call) (y x : ℕ)
         → y < world.windows.lines → x < world.windows.columns → is_update_panels call ≡ false → affects_place world call y x ≡ false
         → shown_at (world_after world call).virtual.picture (y, x) ≡ shown_at world.virtual.picture (y, x) }
-{}
-
-/// A place that a call affects is on a line that it affects.
-pub fn place_on_line()
-    ensures written { (window : WindowMap) (panels : Panels) (w : ℕ) (frame : Option Frame) (y x : ℕ)
-        → frame_shows_at window panels w frame y x ≡ true → frame_affects window panels w frame y ≡ true }
-    ensures made { (window : WindowMap) (panels : Panels) (making : Making) (y x : ℕ)
-        → making_shows_at window panels making y x ≡ true → making_affects window panels making y ≡ true }
-    ensures stacked { (world : World) (stacking : Stacking) (y x : ℕ)
-        → stacking_shows_at world stacking y x ≡ true → stacking_affects world stacking y ≡ true }
-    ensures refreshed { (windows : Windows) (refresh : Refresh) (y x : ℕ) → x < windows.columns
-        → refresh_shows_at windows.window refresh y x ≡ true → refresh_affects windows refresh y ≡ true }
-    ensures called { (world : World) (call : Call) (y x : ℕ) → x < world.windows.columns
-        → affects_place world call y x ≡ true → accepted_affects world call y ≡ true }
 {}
 
 /// A call that writes changes the picture at most where its frame is shown.
@@ -134,32 +120,25 @@ pub fn kept_by_refresh()
 
 /// The frame of a write or a copy lies in its window.
 pub fn frames_are_inside()
-    ensures written { (windows : Windows) (writing : Writing) (r : Frame) → writing_frame windows writing ≡ Some r
+    ensures written { (windows : Windows) (writing : Writing) (r : Rect) → writing_frame windows writing ≡ Some r
         → (r.top ≤ r.bottom) × (r.left ≤ r.right) × HasPlace windows.window (written_window writing) r.bottom r.right }
-    ensures copied { (windows : Windows) (copying : Copying) (r : Frame) → copying_frame windows copying ≡ Some r
+    ensures copied { (windows : Windows) (copying : Copying) (r : Rect) → copying_frame windows copying ≡ Some r
         → (r.top ≤ r.bottom) × (r.left ≤ r.right) × HasPlace windows.window (copied_window copying) r.bottom r.right }
 {}
 
 /// A write or a copy leaves windows where they stand, with the cells that they share: a frame is shown after it where
-/// it was before, and affects the same lines. mvderwin leaves which windows derive from which: it affects the same after
-/// it as before.
+/// it was before. mvderwin leaves which windows derive from which: it affects the same after it as before.
 pub fn shapes_are_kept()
-    ensures written { (windows : Windows) (panels : Panels) (writing : Writing) (w : ℕ) (frame : Option Frame) (y x : ℕ)
+    ensures written { (windows : Windows) (panels : Panels) (writing : Writing) (w : ℕ) (frame : Option Rect) (y x : ℕ)
         → frame_shows_at (after_writing windows writing).window panels w frame y x ≡ frame_shows_at windows.window panels w frame y x }
-    ensures written_lines { (windows : Windows) (panels : Panels) (writing : Writing) (w : ℕ) (frame : Option Frame) (y : ℕ)
-        → frame_affects (after_writing windows writing).window panels w frame y ≡ frame_affects windows.window panels w frame y }
     ensures written_there { (windows : Windows) (writing : Writing) (w y x : ℕ)
         → HasPlace windows.window w y x → HasPlace (after_writing windows writing).window w y x }
-    ensures copied { (windows : Windows) (panels : Panels) (copying : Copying) (w : ℕ) (frame : Option Frame) (y x : ℕ)
+    ensures copied { (windows : Windows) (panels : Panels) (copying : Copying) (w : ℕ) (frame : Option Rect) (y x : ℕ)
         → frame_shows_at (after_copying windows copying).window panels w frame y x ≡ frame_shows_at windows.window panels w frame y x }
-    ensures copied_lines { (windows : Windows) (panels : Panels) (copying : Copying) (w : ℕ) (frame : Option Frame) (y : ℕ)
-        → frame_affects (after_copying windows copying).window panels w frame y ≡ frame_affects windows.window panels w frame y }
     ensures copied_there { (windows : Windows) (copying : Copying) (w y x : ℕ)
         → HasPlace windows.window w y x → HasPlace (after_copying windows copying).window w y x }
     ensures moved { (windows : Windows) (panels : Panels) (w v z y x : ℕ)
         → move_shows_at (after_mvderwin windows w v z).window panels w y x ≡ move_shows_at windows.window panels w y x }
-    ensures moved_lines { (windows : Windows) (panels : Panels) (w v z y : ℕ)
-        → move_affects (after_mvderwin windows w v z).window panels w y ≡ move_affects windows.window panels w y }
 {}
 
 /// Where a derived window is moved in its parent, each window that neither is it nor derives from it shows the cells that it showed.

@@ -8,7 +8,7 @@ mod panel;
 mod settings;
 
 pub use call::{Call, Composed, Copying, Making, Query, Refresh, Reply, Stacking, Writing};
-pub use cell::{Attr, Cell, Frame, Refusal, WinId};
+pub use cell::{Attr, Cell, Rect, Refusal, WinId};
 pub use panel::PanelId;
 pub use settings::{Columns, Settings};
 pub use streams::Sent;

@@ -1,5 +1,8 @@
 //! What a window is set to, and what is touched of it.
 
+ghost use Rattle.std.specs.Prelude.{◌≡◌, Some};
+ghost use Rattle.world.specs.Windows.{joined_columns};
+
 use cell::{Attr, Cell, PairId};
 
 /// The columns of a line from a first to a last, both inclusive.
@@ -7,6 +10,21 @@ use cell::{Attr, Cell, PairId};
 pub struct Columns {
     pub first: u16,
     pub last: u16,
+}
+
+impl Columns {
+    /// The least columns that hold these, if there are any, and those from `first` to `last`.
+    pub fn join(columns: Option<Columns>, first: u16, last: u16) -> Columns
+        ensures { joined_columns columns first last ≡ Some result }
+    {
+        match columns {
+            None => Columns { first, last },
+            Some(columns) => Columns {
+                first: columns.first.min(first),
+                last: columns.last.max(last),
+            },
+        }
+    }
 }
 
 /// What a window is set to. The cursor is a line and a column, the region its first and its last line.

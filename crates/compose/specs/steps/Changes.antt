@@ -5,17 +5,13 @@ use Rattle.cell.specs.declared.window.WinId.{WinId}
 use Rattle.world.specs.declared.call.Making.{Making}
 use Rattle.world.specs.declared.call.Making.TheVariants.{Mvderwin}
 use Rattle.world.specs.Panels.{Panels}
-use Rattle.world.specs.Windows.{Windows}
-use Rattle.world.specs.calls.Affected.{changed_panel, move_affects}
+use Rattle.world.specs.Windows.{Windows, HasPlace, WindowMap}
+use Rattle.world.specs.calls.Written.{changed_panel}
 use Rattle.world.specs.calls.Dispatch.{next_panel}
-use Rattle.world.specs.calls.Places.{move_shows_at, panel_shows_at}
+use Rattle.world.specs.calls.Affected.{move_shows_at, panel_shows_at, follows_at, shows_at}
 use Rattle.world.specs.calls.Stacking.{after_bottom_panel, after_del_panel, after_hide_panel, after_move_panel, after_new_panel, after_replace_panel, after_show_panel, after_top_panel}
 use Rattle.world.specs.declared.call.Stacking.{Stacking}
 use Rattle.world.specs.declared.call.Stacking.TheVariants.{NewPanel, DelPanel, ShowPanel, HidePanel, TopPanel, BottomPanel, MovePanel, ReplacePanel}
-use Rattle.world.specs.Windows.{HasPlace, WindowMap}
-use Rattle.world.specs.calls.Affected.{follows_on_line, shows_on_line}
-use Rattle.world.specs.calls.Places.{follows_at, shows_at}
-use Rattle.picture.specs.Parts.{panel_has_line}
 use Rattle.compose.specs.declared.damaging.Change.{Change}
 use Rattle.compose.specs.declared.damaging.Change.TheVariants.{Written, Moved}
 
@@ -29,11 +25,6 @@ abbrev pub change_shows_at : WindowMap → Change → ℕ → ℕ → ℕ → Bo
 change_shows_at window (Written win r) y x u = shows_at window win.0 r y x u
 change_shows_at window (Moved win) y x u = follows_at window win.0 y x u
 
--- on the line
-abbrev pub change_has_line : WindowMap → Change → ℕ → ℕ → Bool
-change_has_line window (Written win r) y u = shows_on_line window win.0 r y u
-change_has_line window (Moved win) y u = follows_on_line window win.0 y u
-
 -- ---- moves: of a window that a call moves in its parent, if it does so
 
 abbrev pub window_number : Option WinId → Option ℕ
@@ -45,9 +36,6 @@ moved_window _ = None
 
 abbrev pub moving_shows_at : WindowMap → Panels → Option ℕ → ℕ → ℕ → Bool
 moving_shows_at window panels win y x = option_map_or (λ w. move_shows_at window panels w y x) win false
-
-abbrev pub moving_affects : WindowMap → Panels → Option ℕ → ℕ → Bool
-moving_affects window panels win y = option_map_or (λ w. move_affects window panels w y) win false
 
 -- ---- calls on panels: windows and panels after one, each alone
 
@@ -76,13 +64,8 @@ named_panel (MovePanel panel y x) = Some panel.0
 named_panel (ReplacePanel panel win) = Some panel.0
 named_panel _ = None
 
--- the changed panel shows at the place, or has the line, before the call or after it
+-- the changed panel shows at the place before the call or after it
 abbrev pub stacking_shows : Windows → Panels → Stacking → ℕ → ℕ → Bool
 stacking_shows windows panels stacking y x =
     option_map_or (λ p. panel_shows_at windows.window panels p y x
     || panel_shows_at (windows_after windows panels stacking).window (panels_after panels stacking) p y x) (changed_panel panels stacking) false
-
-abbrev pub stacking_has_line : Windows → Panels → Stacking → ℕ → Bool
-stacking_has_line windows panels stacking y =
-    option_map_or (λ p. panel_has_line windows.window panels p y
-    || panel_has_line (windows_after windows panels stacking).window (panels_after panels stacking) p y) (changed_panel panels stacking) false

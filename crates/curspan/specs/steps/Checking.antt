@@ -8,18 +8,18 @@ use Rattle.script.specs.Readings.{said_by_line}
 use Rattle.script.specs.declared.bytes.LineEnd.{LineEnd}
 use Rattle.script.specs.declared.bytes.LineEnd.TheVariants.{Newline, ScriptEnd, ReadFailed}
 use Rattle.script.specs.declared.fault.TextFault.TheVariants.{LineTooLong}
-use Rattle.curspan.specs.Checks.{count_of, report, told, told_of}
+use Rattle.curspan.specs.Checks.{count_of, report, findings, finding_of}
 use Rattle.curspan.specs.Shows.{ReadsStream}
 use Rattle.curspan.specs.Written.{WritingEnds}
 use Rattle.curspan.specs.declared.check.Report.{Report}
 use Rattle.curspan.specs.steps.Putting.{PuttingEnds}
 
 -- what is told of a line as it was read
-abbrev pub told_of_read : ℕ → List ℕ → Bool → LineEnd → List (List ℕ)
-told_of_read number line false end = finding number LineTooLong [] ∷ []
-told_of_read number line true ReadFailed = []
-told_of_read number line true Newline = told_of number line (said_by_line line)
-told_of_read number line true ScriptEnd = told_of number line (said_by_line line)
+abbrev pub finding_of_read : ℕ → List ℕ → Bool → LineEnd → List (List ℕ)
+finding_of_read number line false end = finding number LineTooLong [] ∷ []
+finding_of_read number line true ReadFailed = []
+finding_of_read number line true Newline = finding_of number line (said_by_line line)
+finding_of_read number line true ScriptEnd = finding_of number line (said_by_line line)
 
 -- These lines were put out, all of them or a front, and counted.
 pub record IsReported (old new : Seen) (report : Report) (lines : List (List ℕ)) : Type 0 where
@@ -35,7 +35,7 @@ ReportsMore old new before after lines =
 pub record ReportsScript (old new : SourceSeen) (output after : Seen) (is_whole : Bool) (report : Report) : Type 0 where
   pub text : List ℕ
   pub reads : ReadsStream old new is_whole text
-  pub reported : IsReported output after report (told (not is_whole) text)
+  pub reported : IsReported output after report (findings (not is_whole) text)
 
 -- What was reported is ended and flushed, or that failed.
 abbrev pub EndsReport : Seen → Seen → Bool → Report → Bool → Type 0

@@ -1,5 +1,5 @@
 -- What reading a stream into a terminal does: words of contracts of single steps.
-use Rattle.std.specs.Prelude.{◌≡◌, ◌⊎◌, ℕ, Bool, List, Result, Ok, Err}
+use Rattle.std.specs.Prelude.{◌≡◌, ◌⊎◌, ℕ, Bool, List, Option, Some, None}
 use Rattle.ecma.specs.Standing.{Follows, Reader}
 use Rattle.ecma.specs.declared.terminal.NotInProfile.{NotInProfile}
 use Rattle.streams.specs.Sinks.{Seen}
@@ -13,8 +13,8 @@ pub record Feeds (old new : SourceSeen) (before after : Reader) (is_whole : Bool
   pub reads : ReadsStream old new is_whole stream
   pub follows : Follows stream before after
 
--- The log tells of an answer of the terminal, if that is a failure.
-abbrev pub TellsAnswer : Result Unit NotInProfile → Seen → Seen → ℕ → Type 0
-TellsAnswer (Ok x) log told status = (status ≡ 0) × (told ≡ log)
-TellsAnswer (Err fault) log told status =
+-- The log tells of the terminal's fault, if it has one.
+abbrev pub TellsFault : Option NotInProfile → Seen → Seen → ℕ → Type 0
+TellsFault None log told status = (status ≡ 0) × (told ≡ log)
+TellsFault (Some fault) log told status =
     ((status ≡ 1) × IsWritten log told (offset_line fault.at)) ⊎ ((status ≡ 3) × IsNotWritten log told (offset_line fault.at))

@@ -1,15 +1,7 @@
--- The parameters of a control sequence as a reader keeps them, and the byte that ends one.
-use Rattle.std.specs.Prelude.{ℕ, ◌+◌, ◌*◌, ◌-◌, ◌≤◌, ◌<◌, ◌^◌, ◌==◌, if◌then◌else◌, List, [], ◌∷◌, length, find, Option}
-use Rattle.std.specs.Str.Parse.{digits_value}
+-- The parameters of a control sequence, digit by digit, and the byte that ends one.
+use Rattle.std.specs.Prelude.{ℕ, ◌+◌, ◌*◌, ◌-◌, ◌≤◌, ◌<◌, ◌^◌, ◌==◌, if◌then◌else◌, [], ◌∷◌, find, Option}
 use Rattle.ecma.specs.Items.{Function, CUP, ED, EL, SGR, final_byte, most_digits}
-
--- a parameter as it is kept: the number that its digits write, 0 without any, and how many there are
-pub record Parameter : Type 0 where
-  pub value : ℕ
-  pub digits : ℕ
-
-abbrev pub parameter_of : List ℕ → Parameter
-parameter_of digits = record { value = digits_value 10 digits; digits = length digits }
+use Rattle.ecma.specs.Parameters.{Parameter}
 
 abbrev pub no_digits : Parameter
 no_digits = record { value = 0; digits = 0 }

@@ -1,7 +1,7 @@
 -- What the strokes of a pen send, what a terminal shows behind them, and how many bytes they have.
-use Rattle.std.specs.Prelude.{ℕ, ◌+◌, ◌*◌, ◌≤◌, if◌then◌else◌, List, [], length, Option, Some, None, Bool, false, nat_lt}
-use Rattle.cell.specs.Shown.{Rendition, Shown, has_colour}
-use Rattle.cell.specs.Pictures.{Picture, Place}
+use Rattle.std.specs.Prelude.{◌≡◌, ℕ, ◌+◌, ◌-◌, ◌*◌, ◌≤◌, min, if◌then◌else◌, List, [], ◌∷◌, length, take, drop, Option, Some, None, Bool, false, nat_lt}
+use Rattle.cell.specs.Shown.{Rendition, Shown, has_colour, no_rendition}
+use Rattle.cell.specs.Pictures.{Picture, Place, line_of}
 use Rattle.cell.specs.Differences.{same_rendition, line_difference, difference}
 use Rattle.ecma.specs.Difference.{line_colour_difference, colour_difference}
 use Rattle.ecma.specs.Spelling.{spelling}
@@ -49,11 +49,43 @@ pub record Strokes (most : ℕ) (before after : Seen) (old new : Pen) (picture d
   pub draws : Draws piece before after old new picture drawn
   pub short : length piece ≤ most
 
+-- ---- how many bytes they have
+
+-- to go to a place and to select a rendition
+abbrev pub moved_bytes : Option Place → Rendition → Place → Rendition → ℕ
+moved_bytes cursor rendition place wanted = length (move_from cursor place) + length (change rendition wanted)
+
+-- to print cells again, each in its rendition, and to select one behind them
+abbrev pub again_bytes : Rendition → List Shown → Rendition → ℕ
+again_bytes rendition [] wanted = length (change rendition wanted)
+again_bytes rendition (cell ∷ gap) wanted = length (change rendition cell.rendition) + 1 + again_bytes cell.rendition gap wanted
+
+-- To come to the place behind a gap, which begins at a place, with a rendition. Where the cursor is there, the gap may be printed again.
+abbrev pub approach_bytes : Option Place → Rendition → Place → List Shown → Rendition → ℕ
+approach_bytes cursor rendition start gap wanted =
+    let moved = moved_bytes cursor rendition (start.0, start.1 + length gap) wanted in
+    if is_at cursor start then min (again_bytes rendition gap wanted) moved else moved
+
+-- to come to a column of a line with the empty rendition, over the gap that begins at another, or that has no cell
+abbrev pub reach_bytes : Option Place → Rendition → ℕ → List Shown → ℕ → ℕ → ℕ
+reach_bytes cursor rendition line cells gap column =
+    let start = min gap column in
+    approach_bytes cursor rendition (line, start) (take (column - start) (drop start cells)) no_rendition
+
+-- Cells that are shown already were printed again, the first of them. What the others and a selection behind them take is left.
+pub record ArePrinted (before now : Seen) (old pen : Pen) (line column i : ℕ) (cells : List Shown) : Type 0 where
+  pub spent : ℕ
+  pub left : (wanted : Rendition) → spent + again_bytes pen.rendition (drop i cells) wanted ≡ again_bytes old.rendition cells wanted
+  pub strokes : (picture : Picture) → length (line_of picture line) ≡ old.columns → take (length cells) (drop column (line_of picture line)) ≡ cells
+      → Strokes spent before now old pen picture picture
+  pub cursor : pen.cursor ≡ Some (line, column + i)
+  pub columns : pen.columns ≡ old.columns
+
 -- ---- how many bytes they may have
 
--- a position, or a gap in its place, and a selection
-abbrev pub approach_bytes : Rendition → ℕ
-approach_bytes rendition = 10 + length (spelling (Sgr rendition))
+-- an approach: a position, or a gap in its place, and a selection
+abbrev pub most_approach : Rendition → ℕ
+most_approach rendition = 10 + length (spelling (Sgr rendition))
 
 -- these and a character
 abbrev pub cell_bytes : Shown → ℕ

@@ -26,32 +26,32 @@ pub record IsPicturePainted (before now : Seen) (old pen : Pen) (line : ℕ) (sh
   pub strokes : Strokes spent before now old pen shown (mixed line wanted shown)
   pub columns : pen.columns ≡ old.columns
 
--- The cells of a line before a column are the wanted ones, and the pen is there with the empty rendition. An erasure may follow.
-pub record IsReadyToErase (before now : Seen) (old pen : Pen) (line column : ℕ) (shown wanted : List Shown) : Type 0 where
-  pub spent : ℕ
-  pub within : spent + 4 ≤ line_bytes shown wanted
-  pub strokes : (picture : Picture) → line < length picture → line_of picture line ≡ shown
-      → Strokes spent before now old pen picture (slice_set picture line (mixed column wanted shown))
-  pub cursor : pen.cursor ≡ Some (line, column)
-  pub rendition : pen.rendition ≡ no_rendition
-  pub columns : pen.columns ≡ old.columns
-
 -- these cells are blank
 abbrev pub AreBlank : List Shown → Type 0
 AreBlank cells = map (λ _. shown_blank) cells ≡ cells
 
--- The line's end from this column on is blank, and the column is changed.
-pub record IsChangedTail (shown wanted : List Shown) (column : ℕ) : Type 0 where
+-- The pen is at a column of a line with the empty rendition. From there on the wanted line is blank, and its cells before a further
+-- column are the wanted ones. An erasure may follow, within so many bytes.
+pub record IsReadyToErase (most : ℕ) (before now : Seen) (old pen : Pen) (line column : ℕ) (shown wanted : List Shown) : Type 0 where
   pub blank : AreBlank (drop column wanted)
-  pub changed : DiffersAt shown wanted column
+  pub reached : ℕ
+  pub beyond : column ≤ reached
+  pub inside : reached ≤ length wanted
+  pub spent : ℕ
+  pub within : spent + 4 ≤ most
+  pub strokes : (picture : Picture) → line < length picture → line_of picture line ≡ shown
+      → Strokes spent before now old pen picture (slice_set picture line (mixed reached wanted shown))
+  pub cursor : pen.cursor ≡ Some (line, column)
+  pub rendition : pen.rendition ≡ no_rendition
+  pub columns : pen.columns ≡ old.columns
 
--- such a column from a first one on, if one is given
-abbrev pub IsErasedFrom : List Shown → List Shown → ℕ → Option ℕ → Type 0
-IsErasedFrom shown wanted first None = ⊤
-IsErasedFrom shown wanted first (Some column) = (first ≤ column) × IsChangedTail shown wanted column
+-- the first changed column from one on
+abbrev pub IsChangedFrom : List Shown → List Shown → ℕ → Option ℕ → Type 0
+IsChangedFrom shown wanted start None = drop start shown ≡ drop start wanted
+IsChangedFrom shown wanted start (Some column) = (start ≤ column) × DiffersAt shown wanted column
 
--- a first column before which nothing is changed, and such a column from it on, if the lines below this one are blank
-abbrev pub IsPageEnd : ℕ → ℕ → List Shown → List Shown → Option (ℕ × ℕ) → Type 0
-IsPageEnd line blank shown wanted None = ⊤
-IsPageEnd line blank shown wanted (Some columns) =
-    (blank ≤ line + 1) × (take columns.0 shown ≡ take columns.0 wanted) × (columns.0 ≤ columns.1) × IsChangedTail shown wanted columns.1
+-- a column before which nothing is changed, and a changed one of the line's end from it on
+abbrev pub IsChangedEnd : List Shown → List Shown → ℕ → Option (ℕ × ℕ) → Type 0
+IsChangedEnd shown wanted tail None = ⊤
+IsChangedEnd shown wanted tail (Some columns) =
+    (take columns.0 shown ≡ take columns.0 wanted) × (columns.0 ≤ columns.1) × (tail ≤ columns.1) × DiffersAt shown wanted columns.1

@@ -1,5 +1,5 @@
 -- What the functions that read a script tell of its bytes: words of their own contracts.
-use Rattle.std.specs.Prelude.{◌≡◌, ◌+◌, ◌*◌, ℕ, Bool, true, false, List, [], ◌∷◌, ◌++◌, ◌≤◌, ◌<◌, ◌||◌, length}
+use Rattle.std.specs.Prelude.{◌≡◌, ◌+◌, ◌*◌, ℕ, Bool, true, false, List, [], ◌∷◌, ◌++◌, ◌≤◌, ◌<◌, ◌||◌, length, Option, Some, None}
 use Rattle.std.specs.List.{list_any}
 use Rattle.std.specs.Io.KnownBytes.{Consumes, IsAtEnd}
 use Rattle.script.specs.Characters.{is_newline, newline}
@@ -7,11 +7,8 @@ use Rattle.script.specs.declared.bytes.TheConstants.{LONGEST_PIECE}
 use Rattle.script.specs.declared.limits.TheConstants.{LONGEST_LINE}
 use Rattle.streams.specs.Counts.{counted}
 use Rattle.streams.specs.Sources.{SourceSeen}
-use Rattle.script.specs.declared.bytes.LineRead.{LineRead}
-use Rattle.script.specs.declared.bytes.LineRead.TheVariants.{Line, LastLine, TooLong, FailedRead}
 use Rattle.script.specs.declared.bytes.LineEnd.{LineEnd}
 use Rattle.script.specs.declared.bytes.LineEnd.TheVariants.{Newline, ScriptEnd, ReadFailed}
-use Rattle.script.specs.declared.bytes.WholeLine.{WholeLine}
 use Rattle.script.specs.declared.bytes.Next.{Next}
 use Rattle.script.specs.declared.bytes.Next.TheVariants.{Byte, End, Failed}
 
@@ -49,36 +46,7 @@ pub record ReadingEnds (old new : SourceSeen) (unused left : List ℕ) (meets_en
 abbrev pub HasNoNewline : List ℕ → Type 0
 HasNoNewline piece = list_any is_newline piece ≡ false
 
--- bytes were read, and more may come
-abbrev pub goes_on : LineRead → Bool
-goes_on Line = true
-goes_on TooLong = true
-goes_on _ = false
-
-abbrev pub line_ended : LineRead → Bool
-line_ended LastLine = true
-line_ended _ = false
-
-abbrev pub line_failed : LineRead → Bool
-line_failed FailedRead = true
-line_failed _ = false
-
--- All bytes of a script that are known now are a line, its newline and what is not used, or a line that ends so.
-abbrev pub IsLine : LineRead → List ℕ → List ℕ → List ℕ → Type 0
-IsLine Line all line left = (all ≡ line ++ newline ∷ left) × (length line ≤ LONGEST_LINE)
-IsLine TooLong all line left = (byte : ℕ) × (all ≡ line ++ byte ∷ left) × (is_newline byte ≡ false) × (LONGEST_LINE ≤ length line)
-IsLine LastLine all line left = (all ≡ line) × (left ≡ []) × (length line ≤ LONGEST_LINE)
-IsLine FailedRead all line left = (all ≡ line) × (left ≡ []) × (length line ≤ LONGEST_LINE)
-
--- The source gave some bytes. With those that were not used before they are a line.
-pub record ReadsLine (old new : SourceSeen) (unused left line : List ℕ) (result : LineRead) : Type 0 where
-  pub bytes : List ℕ
-  pub read : Consumes old.left new.left bytes
-  pub is_line : IsLine result (unused ++ bytes) line left
-  pub no_newline : HasNoNewline line
-  pub at_end : line_ended result ≡ true → IsAtEnd new.left
-
--- ---- a line of any length
+-- ---- what stands behind a line
 
 abbrev pub has_newline : LineEnd → Bool
 has_newline Newline = true
@@ -98,6 +66,36 @@ EndsLine Newline all line left = all ≡ line ++ newline ∷ left
 EndsLine ScriptEnd all line left = (all ≡ line) × (left ≡ [])
 EndsLine ReadFailed all line left = (all ≡ line) × (left ≡ [])
 
+-- ---- a line, up to its end or to the byte that is too many
+
+-- bytes were read, and more may come
+abbrev pub goes_on : Option LineEnd → Bool
+goes_on None = true
+goes_on (Some end) = has_newline end
+
+abbrev pub line_ended : Option LineEnd → Bool
+line_ended None = false
+line_ended (Some end) = met_end end
+
+abbrev pub line_failed : Option LineEnd → Bool
+line_failed None = false
+line_failed (Some end) = end_failed end
+
+-- The bytes are a line that ends so, or as many as a line may have and one more.
+abbrev pub IsLine : Option LineEnd → List ℕ → List ℕ → List ℕ → Type 0
+IsLine None all line left = (byte : ℕ) × (all ≡ line ++ byte ∷ left) × (is_newline byte ≡ false) × (LONGEST_LINE ≤ length line)
+IsLine (Some end) all line left = EndsLine end all line left × (length line ≤ LONGEST_LINE)
+
+-- The source gave some bytes. With those that were not used before they are a line.
+pub record ReadsLine (old new : SourceSeen) (unused left line : List ℕ) (result : Option LineEnd) : Type 0 where
+  pub bytes : List ℕ
+  pub read : Consumes old.left new.left bytes
+  pub is_line : IsLine result (unused ++ bytes) line left
+  pub no_newline : HasNoNewline line
+  pub at_end : line_ended result ≡ true → IsAtEnd new.left
+
+-- ---- a line of any length
+
 -- The source gave some bytes. With those that were not used before they are a line of any length.
 pub record ReadsToEnd (old new : SourceSeen) (unused left : List ℕ) (end : LineEnd) : Type 0 where
   pub line : List ℕ
@@ -112,6 +110,6 @@ abbrev pub IsKept : Bool → List ℕ → List ℕ → Type 0
 IsKept true line kept = (kept ≡ line) × (length line ≤ LONGEST_LINE)
 IsKept false line kept = LONGEST_LINE < length line
 
-pub record ReadsWhole (old new : SourceSeen) (unused left kept : List ℕ) (whole : WholeLine) : Type 0 where
-  pub reads : ReadsToEnd old new unused left whole.end
-  pub is_kept : IsKept whole.is_kept reads.line kept
+pub record ReadsWhole (old new : SourceSeen) (unused left kept : List ℕ) (end : LineEnd) (is_kept : Bool) : Type 0 where
+  pub reads : ReadsToEnd old new unused left end
+  pub keeps : IsKept is_kept reads.line kept

@@ -1,10 +1,11 @@
 -- What the tables of words tell: words of their own contracts.
-use Rattle.std.specs.Prelude.{◌≡◌, ◌≤◌, ℕ, List, length, Option, find}
+use Rattle.std.specs.Prelude.{◌≡◌, ◌≤◌, ◌%◌, ℕ, List, [], ◌∷◌, length, Option, find, map, slice_index_or}
 use Rattle.std.specs.Str.{bytes_eq}
 use Rattle.script.specs.Words.{Arguments, Entry, entry_of, placeless}
 use Rattle.script.specs.declared.limits.TheConstants.{MOST_ARGUMENTS}
 use Rattle.script.specs.declared.words.Row.{Row}
 use Rattle.script.specs.declared.words.Word.{Word}
+use Rattle.script.specs.declared.words.letters.TheConstants.{WORDS}
 
 -- The row has the word and the forms of the entry, and the call that its arguments make.
 pub record IsRow (row : Row) (entry : Entry) (a : Arguments) : Type 0 where
@@ -14,5 +15,10 @@ pub record IsRow (row : Row) (entry : Entry) (a : Arguments) : Type 0 where
   pub call : placeless row.call ≡ entry.call a
 
 -- the first of some words that is written so
-abbrev pub first_named : List Word → List ℕ → Option Word
-first_named words text = find (λ w. bytes_eq text (entry_of w).word) words
+abbrev pub find_named : List Word → List ℕ → Option Word
+find_named words text = find (λ w. bytes_eq text (entry_of w).word) words
+
+-- the words in the row of a text's first letter
+abbrev pub words_like : List ℕ → List Word
+words_like [] = []
+words_like (letter ∷ letters) = slice_index_or (map (λ row. row.now) WORDS) (letter % 32) []

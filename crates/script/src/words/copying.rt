@@ -4,7 +4,7 @@ ghost use Rattle.script.specs.Words.{copying_entry};
 ghost use Rattle.script.specs.steps.Rows.{IsRow};
 
 use super::Form::{Flag, Number};
-use super::{Row, Word};
+use super::Row;
 use crate::arguments::Arguments;
 use cell::WinId;
 use world::{Call, Copying};
@@ -16,16 +16,6 @@ pub enum CopyingWord {
     Overlay, Overwrite, Copywin, Touchwin, Untouchwin, Touchline, Touchln, Syncup, Syncdown, IsLinetouched,
     IsWintouched,
 }
-
-/// Each of these words.
-#[rattlefmt::skip]
-pub(super) const WORDS: [Word; 11] = [
-    Word::Copying(CopyingWord::Overlay), Word::Copying(CopyingWord::Overwrite), Word::Copying(CopyingWord::Copywin),
-    Word::Copying(CopyingWord::Touchwin), Word::Copying(CopyingWord::Untouchwin),
-    Word::Copying(CopyingWord::Touchline), Word::Copying(CopyingWord::Touchln), Word::Copying(CopyingWord::Syncup),
-    Word::Copying(CopyingWord::Syncdown), Word::Copying(CopyingWord::IsLinetouched),
-    Word::Copying(CopyingWord::IsWintouched),
-];
 
 impl CopyingWord {
     /// The word's row, with the call that the arguments make.

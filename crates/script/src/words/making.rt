@@ -4,7 +4,7 @@ ghost use Rattle.script.specs.Words.{making_entry};
 ghost use Rattle.script.specs.steps.Rows.{IsRow};
 
 use super::Form::Number;
-use super::{Row, Word};
+use super::Row;
 use crate::arguments::Arguments;
 use cell::WinId;
 use world::{Call, Making};
@@ -15,14 +15,6 @@ use world::{Call, Making};
 pub enum MakingWord {
     Newwin, Subwin, Derwin, Newpad, Subpad, Delwin, Mvwin, Mvderwin,
 }
-
-/// Each of these words.
-#[rattlefmt::skip]
-pub(super) const WORDS: [Word; 8] = [
-    Word::Making(MakingWord::Newwin), Word::Making(MakingWord::Subwin), Word::Making(MakingWord::Derwin),
-    Word::Making(MakingWord::Newpad), Word::Making(MakingWord::Subpad), Word::Making(MakingWord::Delwin),
-    Word::Making(MakingWord::Mvwin), Word::Making(MakingWord::Mvderwin),
-];
 
 impl MakingWord {
     /// The word's row, with the call that the arguments make.

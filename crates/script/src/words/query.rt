@@ -4,7 +4,7 @@ ghost use Rattle.script.specs.Words.{query_entry};
 ghost use Rattle.script.specs.steps.Rows.{IsRow};
 
 use super::Form::Number;
-use super::{Row, Word};
+use super::Row;
 use crate::arguments::Arguments;
 use cell::WinId;
 use world::{Call, Query};
@@ -15,13 +15,6 @@ use world::{Call, Query};
 pub enum QueryWord {
     Getyx, Getbegyx, Getmaxyx, Getparyx, Inch,
 }
-
-/// Each of these words.
-#[rattlefmt::skip]
-pub(super) const WORDS: [Word; 5] = [
-    Word::Query(QueryWord::Getyx), Word::Query(QueryWord::Getbegyx), Word::Query(QueryWord::Getmaxyx),
-    Word::Query(QueryWord::Getparyx), Word::Query(QueryWord::Inch),
-];
 
 impl QueryWord {
     /// The word's row, with the call that the arguments make.

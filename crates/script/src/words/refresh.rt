@@ -4,7 +4,7 @@ ghost use Rattle.script.specs.Words.{refresh_entry};
 ghost use Rattle.script.specs.steps.Rows.{IsRow};
 
 use super::Form::Number;
-use super::{Row, Word};
+use super::Row;
 use crate::arguments::Arguments;
 use cell::WinId;
 use world::{Call, Refresh};
@@ -15,14 +15,6 @@ use world::{Call, Refresh};
 pub enum RefreshWord {
     Noutrefresh, Pnoutrefresh, UpdatePanels, Doupdate, InitPair,
 }
-
-/// Each of these words.
-#[rattlefmt::skip]
-pub(super) const WORDS: [Word; 5] = [
-    Word::Refresh(RefreshWord::Noutrefresh), Word::Refresh(RefreshWord::Pnoutrefresh),
-    Word::Refresh(RefreshWord::UpdatePanels), Word::Refresh(RefreshWord::Doupdate),
-    Word::Refresh(RefreshWord::InitPair),
-];
 
 impl RefreshWord {
     /// The word's row, with the call that the arguments make.

@@ -4,7 +4,7 @@ ghost use Rattle.script.specs.Words.{stacking_entry};
 ghost use Rattle.script.specs.steps.Rows.{IsRow};
 
 use super::Form::{Number, NumberOrNone};
-use super::{Row, Word};
+use super::Row;
 use crate::arguments::Arguments;
 use cell::WinId;
 use world::{Call, PanelId, Stacking};
@@ -16,17 +16,6 @@ pub enum StackingWord {
     NewPanel, DelPanel, ShowPanel, HidePanel, TopPanel, BottomPanel, MovePanel, ReplacePanel, PanelAbove, PanelBelow,
     PanelWindow, PanelHidden,
 }
-
-/// Each of these words.
-#[rattlefmt::skip]
-pub(super) const WORDS: [Word; 12] = [
-    Word::Stacking(StackingWord::NewPanel), Word::Stacking(StackingWord::DelPanel),
-    Word::Stacking(StackingWord::ShowPanel), Word::Stacking(StackingWord::HidePanel),
-    Word::Stacking(StackingWord::TopPanel), Word::Stacking(StackingWord::BottomPanel),
-    Word::Stacking(StackingWord::MovePanel), Word::Stacking(StackingWord::ReplacePanel),
-    Word::Stacking(StackingWord::PanelAbove), Word::Stacking(StackingWord::PanelBelow),
-    Word::Stacking(StackingWord::PanelWindow), Word::Stacking(StackingWord::PanelHidden),
-];
 
 impl StackingWord {
     /// The word's row, with the call that the arguments make.

@@ -4,7 +4,7 @@ ghost use Rattle.script.specs.Words.{writing_entry};
 ghost use Rattle.script.specs.steps.Rows.{IsRow};
 
 use super::Form::{Attributes, Character, Flag, Number, Signed, Text};
-use super::{Row, Word};
+use super::Row;
 use crate::arguments::Arguments;
 use cell::WinId;
 use world::{Call, Writing};
@@ -16,18 +16,6 @@ pub enum WritingWord {
     Move, Addch, Addstr, Insch, Delch, Insertln, Deleteln, Erase, Clear, Clrtoeol, Clrtobot, Scrl, Setscrreg, Scrollok,
     Clearok, Attrset, Attron, Attroff, Bkgdset, ColorSet, Bkgdpair,
 }
-
-/// Each of these words.
-#[rattlefmt::skip]
-pub(super) const WORDS: [Word; 21] = [
-    Word::Writing(WritingWord::Move), Word::Writing(WritingWord::Addch), Word::Writing(WritingWord::Addstr),
-    Word::Writing(WritingWord::Insch), Word::Writing(WritingWord::Delch), Word::Writing(WritingWord::Insertln),
-    Word::Writing(WritingWord::Deleteln), Word::Writing(WritingWord::Erase), Word::Writing(WritingWord::Clear),
-    Word::Writing(WritingWord::Clrtoeol), Word::Writing(WritingWord::Clrtobot), Word::Writing(WritingWord::Scrl),
-    Word::Writing(WritingWord::Setscrreg), Word::Writing(WritingWord::Scrollok), Word::Writing(WritingWord::Clearok),
-    Word::Writing(WritingWord::Attrset), Word::Writing(WritingWord::Attron), Word::Writing(WritingWord::Attroff),
-    Word::Writing(WritingWord::Bkgdset), Word::Writing(WritingWord::ColorSet), Word::Writing(WritingWord::Bkgdpair),
-];
 
 impl WritingWord {
     /// The word's row, with the call that the arguments make.

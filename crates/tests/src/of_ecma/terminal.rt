@@ -5,11 +5,11 @@ use ecma::{NotInProfile, Terminal};
 use std::alloc::Global;
 use std::test::Fail;
 
-/// A terminal that has read a stream, and what it answered.
-fn read(alloc: Global, stream: &[u8]) -> Result<(Terminal, Result<(), NotInProfile>), Fail> {
+/// A terminal that has read a stream.
+fn read(alloc: Global, stream: &[u8]) -> Result<Terminal, Fail> {
     let mut terminal = Terminal::new(alloc, 4, 10)?;
-    let answer = terminal.feed(stream);
-    Ok((terminal, answer))
+    terminal.feed(stream);
+    Ok(terminal)
 }
 
 /// Whether two terminals show the same.
@@ -40,8 +40,8 @@ fn refuses_sizes(rt: HostRuntime) -> Result<(), Fail> {
 
 #[test]
 fn begins_blank(rt: HostRuntime) -> Result<(), Fail> {
-    let (terminal, answer) = read(rt.alloc(), b"")?;
-    assert_eq!(rt; answer, Ok(()));
+    let terminal = read(rt.alloc(), b"")?;
+    assert_eq!(rt; terminal.fault(), None);
     let cells = [(0, 0), (3, 9), (3, 10), (4, 0)].map(|(y, x)| terminal.cell(y, x));
     assert_eq!(rt; cells, [Some(Shown::BLANK), Some(Shown::BLANK), None, None]);
     assert_eq!(rt; (terminal.cursor(), terminal.lines()), (Some((0, 0)), 4));
@@ -51,27 +51,24 @@ fn begins_blank(rt: HostRuntime) -> Result<(), Fail> {
 
 #[test]
 fn reads_a_stream(rt: HostRuntime) -> Result<(), Fail> {
-    let (terminal, answer) = read(rt.alloc(), b"\x1b[5\x1b[2;3Hx")?;
-    assert_eq!(rt; answer, Ok(()));
+    let terminal = read(rt.alloc(), b"\x1b[5\x1b[2;3Hx")?;
+    assert_eq!(rt; terminal.fault(), None);
     assert_eq!(rt; terminal.cell(1, 2), Shown::new(b'x', Rendition::NONE));
     assert_eq!(rt; terminal.cursor(), Some((1, 3)));
     Ok(())
 }
 
-/// What a terminal answers to some more bytes.
-fn feed(terminal: &mut Terminal, bytes: &[u8]) -> Result<(), NotInProfile> {
-    terminal.feed(bytes)
+/// The fault of a terminal behind some more bytes.
+fn feed(terminal: &mut Terminal, bytes: &[u8]) -> Option<NotInProfile> {
+    terminal.feed(bytes);
+    terminal.fault()
 }
 
 #[test]
 fn keeps_its_failure(rt: HostRuntime) -> Result<(), Fail> {
-    let (mut terminal, answer) = read(rt.alloc(), b"ab\x1b[9;9H")?;
-    let answers = [
-        answer,
-        feed(&mut terminal, b""),
-        feed(&mut terminal, b"\x1b[1;1Hx"),
-    ];
-    assert_eq!(rt; answers, [Err(NotInProfile { at: 2 }); 3]);
+    let mut terminal = read(rt.alloc(), b"ab\x1b[9;9H")?;
+    let faults = [terminal.fault(), feed(&mut terminal, b"\x1b[1;1Hx")];
+    assert_eq!(rt; faults, [Some(NotInProfile { at: 2 }); 2]);
     assert_eq!(rt; terminal.cell(0, 0), Shown::new(b'a', Rendition::NONE));
     assert_eq!(rt; terminal.cursor(), Some((0, 2)));
     Ok(())
@@ -92,18 +89,18 @@ fn is_cut_anywhere(rt: HostRuntime) -> Result<(), Fail> {
         b"\x1b[1234H".as_slice(),
         b"a\x1b[5;1Hb".as_slice(),
     ] {
-        let (whole, answer) = read(rt.alloc(), stream)?;
+        let whole = read(rt.alloc(), stream)?;
         for cut in 0..stream.len() {
-            let (mut terminal, _) = read(rt.alloc(), &stream[..cut])?;
-            assert_eq!(rt; feed(&mut terminal, &stream[cut..]), answer);
+            let mut terminal = read(rt.alloc(), &stream[..cut])?;
+            assert_eq!(rt; feed(&mut terminal, &stream[cut..]), whole.fault());
             assert!(rt; is_same(&terminal, &whole));
         }
         let mut terminal = Terminal::new(rt.alloc(), 4, 10)?;
         for byte in stream {
-            let told = feed(&mut terminal, &[*byte]);
-            assert!(rt; told.is_ok() || told == answer);
+            let fault = feed(&mut terminal, &[*byte]);
+            assert!(rt; fault.is_none() || fault == whole.fault());
         }
-        assert_eq!(rt; feed(&mut terminal, b""), answer);
+        assert_eq!(rt; terminal.fault(), whole.fault());
         assert!(rt; is_same(&terminal, &whole));
     }
     Ok(())

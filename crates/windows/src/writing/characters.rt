@@ -17,7 +17,7 @@ use crate::frame::lines_from;
 use crate::state::{WindowState, set_cursor, state_of};
 use crate::table::Windows;
 use bitflags::Flags;
-use cell::{Cell, Frame, PairId, Refusal, WinId, is_printable};
+use cell::{Cell, PairId, Rect, Refusal, WinId, is_printable};
 use grids::Grids;
 use grids::frame::{joined, place};
 use world::Settings;
@@ -33,7 +33,7 @@ impl Windows {
     ///
     /// # Errors
     /// `NoSuchWindow`; `BadCharacter` for another character outside 32 to 126.
-    pub fn waddch(&mut self, win: WinId, ch: u8) -> Result<Option<Frame>, Refusal>
+    pub fn waddch(&mut self, win: WinId, ch: u8) -> Result<Option<Rect>, Refusal>
         ensures refused { result_err result ≡ addch_refusal (windows self.old.table) win.0 ch }
         ensures written { OnOk result (windows self.new.table ≡ after_addch (windows self.old.table) win.0 ch) }
         ensures frame { IfOk result (λ frame. frame ≡ addch_frame (windows self.old.table) win.0 ch) }
@@ -51,7 +51,7 @@ impl Windows {
     ///
     /// # Errors
     /// `NoSuchWindow`; `BadCharacter` for a character other than 8, 10, 13 and 32 to 126.
-    pub fn waddstr(&mut self, win: WinId, text: &[u8]) -> Result<Option<Frame>, Refusal>
+    pub fn waddstr(&mut self, win: WinId, text: &[u8]) -> Result<Option<Rect>, Refusal>
         ensures refused { result_err result ≡ addstr_refusal (windows self.old.table) win.0 text.now }
         ensures written { OnOk result (windows self.new.table ≡ after_addstr (windows self.old.table) win.0 text.now) }
         ensures frame { IfOk result (λ frame. frame ≡ addstr_frame (windows self.old.table) win.0 text.now) }
@@ -69,7 +69,7 @@ impl Windows {
     ///
     /// # Errors
     /// `NoSuchWindow`; `BadCharacter` for a character outside 32 to 126.
-    pub fn winsch(&mut self, win: WinId, ch: u8) -> Result<Option<Frame>, Refusal>
+    pub fn winsch(&mut self, win: WinId, ch: u8) -> Result<Option<Rect>, Refusal>
         ensures refused { result_err result ≡ insch_refusal (windows self.old.table) win.0 ch }
         ensures written { OnOk result (windows self.new.table ≡ after_insch (windows self.old.table) win.0 ch) }
         ensures frame { IfOk result (λ frame. frame ≡ insch_frame (windows self.old.table) win.0 ch) }
@@ -91,7 +91,7 @@ impl Windows {
     ///
     /// # Errors
     /// `NoSuchWindow`.
-    pub fn wdelch(&mut self, win: WinId) -> Result<Option<Frame>, Refusal>
+    pub fn wdelch(&mut self, win: WinId) -> Result<Option<Rect>, Refusal>
         ensures refused { result_err result ≡ missing_refusal (windows self.old.table).window win.0 }
         ensures written { OnOk result (windows self.new.table ≡ after_delch (windows self.old.table) win.0) }
         ensures frame { IfOk result (λ frame. frame ≡ delch_frame (windows self.old.table) win.0) }
@@ -113,7 +113,7 @@ fn has_bad_character(text: &[u8]) -> bool
 }
 
 /// Writes an accepted text in a window that is there.
-fn type_text(table: &mut Grids, win: WinId, text: &[u8]) -> Option<Frame>
+fn type_text(table: &mut Grids, win: WinId, text: &[u8]) -> Option<Rect>
     requires there { IsSome ((windows table.old).window win.0) }
     requires accepted { list_any is_bad_character text.now ≡ false }
     requires sound { AreSoundWindows (windows table.old) }
@@ -129,7 +129,7 @@ fn type_text(table: &mut Grids, win: WinId, text: &[u8]) -> Option<Frame>
 }
 
 /// Writes an accepted character in a window that is there.
-fn type_next(table: &mut Grids, win: WinId, ch: u8) -> Option<Frame>
+fn type_next(table: &mut Grids, win: WinId, ch: u8) -> Option<Rect>
     requires there { IsSome ((windows table.old).window win.0) }
     requires accepted { is_bad_character ch ≡ false }
     ensures written { windows table.new ≡ after_addch (windows table.old) win.0 ch }
@@ -151,7 +151,7 @@ fn is_bad_character(ch: u8) -> bool
 }
 
 /// Writes an accepted character. The window must be there, with the state handed over.
-fn type_character(table: &mut Grids, win: WinId, state: &WindowState, ch: u8) -> Option<Frame>
+fn type_character(table: &mut Grids, win: WinId, state: &WindowState, ch: u8) -> Option<Rect>
     requires state { IsStateOf (windows table.old) win.0 state.now }
     requires accepted { is_bad_character ch ≡ false }
     ensures written { windows table.new ≡ typed_in (windows table.old) win.0 ch (window_in_state state.now) }
@@ -174,7 +174,7 @@ fn type_character(table: &mut Grids, win: WinId, state: &WindowState, ch: u8) ->
 }
 
 /// Prints a character at the cursor.
-fn print(table: &mut Grids, win: WinId, state: &WindowState, ch: u8) -> Option<Frame>
+fn print(table: &mut Grids, win: WinId, state: &WindowState, ch: u8) -> Option<Rect>
     requires state { IsStateOf (windows table.old) win.0 state.now }
     requires printable { is_printable ch ≡ true }
     ensures written { windows table.new ≡ character_printed (windows table.old) win.0 ch (window_in_state state.now) }
@@ -192,7 +192,7 @@ fn print(table: &mut Grids, win: WinId, state: &WindowState, ch: u8) -> Option<F
 }
 
 /// Clears the rest of the cursor's line and goes to the next.
-fn end_line(table: &mut Grids, win: WinId, state: &WindowState) -> Option<Frame>
+fn end_line(table: &mut Grids, win: WinId, state: &WindowState) -> Option<Rect>
     requires state { IsStateOf (windows table.old) win.0 state.now }
     ensures written { windows table.new ≡ line_ended (windows table.old) win.0 (window_in_state state.now) }
     ensures frame { result ≡ line_ended_frame (windows table.old) win.0 (window_in_state state.now) }
@@ -205,7 +205,7 @@ fn end_line(table: &mut Grids, win: WinId, state: &WindowState) -> Option<Frame>
 }
 
 /// Goes to the next line, or scrolls the region; at the end of a last line the cursor goes to the place (y, x) instead.
-fn to_next_line(table: &mut Grids, win: WinId, state: &WindowState, y: u16, x: u16) -> Option<Frame>
+fn to_next_line(table: &mut Grids, win: WinId, state: &WindowState, y: u16, x: u16) -> Option<Rect>
     requires state { IsStateOf (windows table.old) win.0 state.now }
     requires line { y < state.now.lines }
     requires column { x < state.now.columns }

@@ -11,14 +11,14 @@ use crate::drawing::{clear_all, clear_below, clear_rest, move_down, move_up};
 use crate::frame::lines_from;
 use crate::state::{set_cursor, state_of};
 use crate::table::Windows;
-use cell::{Frame, Refusal, WinId};
+use cell::{Rect, Refusal, WinId};
 
 impl Windows {
     /// Sets all cells of a window to its background, and its cursor to line 0 and column 0.
     ///
     /// # Errors
     /// `NoSuchWindow`.
-    pub fn werase(&mut self, win: WinId) -> Result<Option<Frame>, Refusal>
+    pub fn werase(&mut self, win: WinId) -> Result<Option<Rect>, Refusal>
         ensures refused { result_err result ≡ missing_refusal (windows self.old.table).window win.0 }
         ensures written { OnOk result (windows self.new.table ≡ after_erase (windows self.old.table) win.0) }
         ensures frame { IfOk result (λ frame. frame ≡ erase_frame (windows self.old.table) win.0) }
@@ -36,7 +36,7 @@ impl Windows {
     ///
     /// # Errors
     /// `NoSuchWindow`.
-    pub fn wclear(&mut self, win: WinId) -> Result<Option<Frame>, Refusal>
+    pub fn wclear(&mut self, win: WinId) -> Result<Option<Rect>, Refusal>
         ensures refused { result_err result ≡ missing_refusal (windows self.old.table).window win.0 }
         ensures written { OnOk result (windows self.new.table ≡ after_clear (windows self.old.table) win.0) }
         ensures frame { IfOk result (λ frame. frame ≡ erase_frame (windows self.old.table) win.0) }
@@ -54,7 +54,7 @@ impl Windows {
     ///
     /// # Errors
     /// `NoSuchWindow`.
-    pub fn wclrtoeol(&mut self, win: WinId) -> Result<Option<Frame>, Refusal>
+    pub fn wclrtoeol(&mut self, win: WinId) -> Result<Option<Rect>, Refusal>
         ensures refused { result_err result ≡ missing_refusal (windows self.old.table).window win.0 }
         ensures written { OnOk result (windows self.new.table ≡ after_clrtoeol (windows self.old.table) win.0) }
         ensures frame { IfOk result (λ frame. frame ≡ clrtoeol_frame (windows self.old.table) win.0) }
@@ -71,7 +71,7 @@ impl Windows {
     ///
     /// # Errors
     /// `NoSuchWindow`.
-    pub fn wclrtobot(&mut self, win: WinId) -> Result<Option<Frame>, Refusal>
+    pub fn wclrtobot(&mut self, win: WinId) -> Result<Option<Rect>, Refusal>
         ensures refused { result_err result ≡ missing_refusal (windows self.old.table).window win.0 }
         ensures written { OnOk result (windows self.new.table ≡ after_clrtobot (windows self.old.table) win.0) }
         ensures frame { IfOk result (λ frame. frame ≡ clrtobot_frame (windows self.old.table) win.0) }
@@ -93,7 +93,7 @@ impl Windows {
     ///
     /// # Errors
     /// `NoSuchWindow`.
-    pub fn winsertln(&mut self, win: WinId) -> Result<Option<Frame>, Refusal>
+    pub fn winsertln(&mut self, win: WinId) -> Result<Option<Rect>, Refusal>
         ensures refused { result_err result ≡ missing_refusal (windows self.old.table).window win.0 }
         ensures written { OnOk result (windows self.new.table ≡ after_insertln (windows self.old.table) win.0) }
         ensures frame { IfOk result (λ frame. frame ≡ insertln_frame (windows self.old.table) win.0) }
@@ -111,7 +111,7 @@ impl Windows {
     ///
     /// # Errors
     /// `NoSuchWindow`.
-    pub fn wdeleteln(&mut self, win: WinId) -> Result<Option<Frame>, Refusal>
+    pub fn wdeleteln(&mut self, win: WinId) -> Result<Option<Rect>, Refusal>
         ensures refused { result_err result ≡ missing_refusal (windows self.old.table).window win.0 }
         ensures written { OnOk result (windows self.new.table ≡ after_deleteln (windows self.old.table) win.0) }
         ensures frame { IfOk result (λ frame. frame ≡ deleteln_frame (windows self.old.table) win.0) }

@@ -15,7 +15,7 @@ use crate::drawing::{move_down, move_up};
 use crate::frame::lines_from;
 use crate::state::{WindowState, state_of};
 use crate::table::Windows;
-use cell::{Frame, Refusal, WinId};
+use cell::{Rect, Refusal, WinId};
 use grids::Grids;
 use world::Settings;
 
@@ -25,7 +25,7 @@ impl Windows {
     ///
     /// # Errors
     /// `NoSuchWindow`; `ScrollingOff` for a window that doesn't scroll.
-    pub fn wscrl(&mut self, win: WinId, n: i16) -> Result<Option<Frame>, Refusal>
+    pub fn wscrl(&mut self, win: WinId, n: i16) -> Result<Option<Rect>, Refusal>
         ensures refused { result_err result ≡ scrl_refusal (windows self.old.table) win.0 }
         ensures written { OnOk result (windows self.new.table ≡ after_scrl (windows self.old.table) win.0 n) }
         ensures frame { IfOk result (λ frame. frame ≡ scrl_frame (windows self.old.table) win.0 n) }
@@ -82,7 +82,7 @@ impl Windows {
 }
 
 /// Moves the lines of the scroll region up by `n`, or down by `-n`. The window must be there, with the state handed over.
-fn scroll(table: &mut Grids, win: WinId, state: &WindowState, n: i16) -> Option<Frame>
+fn scroll(table: &mut Grids, win: WinId, state: &WindowState, n: i16) -> Option<Rect>
     requires state { IsStateOf (windows table.old) win.0 state.now }
     ensures written { windows table.new ≡ put (windows table.old) win.0 (scrl_drawing (windows table.old).window win.0 n (window_in_state state.now)) }
     ensures frame { result ≡ frame_of (window_in_state state.now) (scrl_drawing (windows table.old).window win.0 n (window_in_state state.now)) }

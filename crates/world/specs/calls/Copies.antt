@@ -9,7 +9,7 @@ use Rattle.world.specs.Rows.{overlaid}
 use Rattle.world.specs.calls.Making.{is_pad}
 use Rattle.world.specs.calls.writing.Editing.{drawing_frame}
 use Rattle.world.specs.calls.writing.Options.{lacks_place}
-use Rattle.cell.specs.declared.window.Frame.{Frame}
+use Rattle.cell.specs.declared.window.Rect.{Rect}
 use Rattle.cell.specs.declared.refusal.Refusal.{Refusal}
 use Rattle.cell.specs.declared.refusal.Refusal.TheVariants.{NoSuchWindow, OutsideWindow, IsPad, BadRectangle}
 
@@ -38,7 +38,7 @@ overlay_refusal windows src dst = first_of (
 abbrev pub after_overlay : Windows → ℕ → ℕ → Bool → Windows
 after_overlay windows src dst overlay = put windows dst (common_copied windows.window src dst overlay)
 
-abbrev pub overlay_frame : Windows → ℕ → ℕ → Bool → Option Frame
+abbrev pub overlay_frame : Windows → ℕ → ℕ → Bool → Option Rect
 overlay_frame windows src dst overlay = drawing_frame windows dst (λ a. common_copied windows.window src dst overlay)
 
 -- ---- copywin
@@ -59,6 +59,6 @@ abbrev pub after_copywin : Windows → ℕ → ℕ → ℕ → ℕ → ℕ → �
 after_copywin windows src dst sy sx top left bottom right overlay =
     put windows dst (copywin_drawing windows.window src sy sx top left bottom right overlay)
 
-abbrev pub copywin_frame : Windows → ℕ → ℕ → ℕ → ℕ → ℕ → ℕ → ℕ → ℕ → Bool → Option Frame
+abbrev pub copywin_frame : Windows → ℕ → ℕ → ℕ → ℕ → ℕ → ℕ → ℕ → ℕ → Bool → Option Rect
 copywin_frame windows src dst sy sx top left bottom right overlay =
     drawing_frame windows dst (λ a. copywin_drawing windows.window src sy sx top left bottom right overlay)

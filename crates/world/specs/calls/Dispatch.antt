@@ -15,8 +15,7 @@ use Rattle.world.specs.calls.writing.Editing.{after_insertln, after_deleteln, af
 use Rattle.world.specs.calls.writing.Options.{move_refusal, after_move, setscrreg_refusal, after_setscrreg, after_scrollok, after_clearok, after_attrset, after_attron, after_attroff, bkgdset_refusal, after_bkgdset, pair_refusal, after_color_set, after_bkgdpair}
 use Rattle.world.specs.calls.Copies.{overlay_refusal, after_overlay, copywin_refusal, after_copywin}
 use Rattle.world.specs.calls.Marks.{touchln_refusal, after_touchln, after_touchwin, after_syncup, after_syncdown, is_linetouched_refusal, is_linetouched, is_wintouched}
-use Rattle.world.specs.calls.Queries.{cell_at_cursor}
-use Rattle.world.specs.calls.Queries.{cursor_of, getbegyx_refusal, place_on_screen, window_size, getparyx_refusal, offset_in_parent}
+use Rattle.world.specs.calls.Queries.{cell_at_cursor, cursor_of, getbegyx_refusal, place_on_screen, window_size, getparyx_refusal, offset_in_parent}
 use Rattle.world.specs.calls.Stacking.{panel_number, numbered_panel, new_panel_number, new_panel_refusal, missing_panel_refusal, hidden_panel_refusal, move_panel_refusal, replace_panel_refusal, neighbour_refusal, after_new_panel, after_del_panel, after_show_panel, after_hide_panel, after_top_panel, after_bottom_panel, after_move_panel, after_replace_panel, panel_above, panel_below, is_hidden}
 use Rattle.world.specs.calls.Refresh.{noutrefresh_refusal, after_noutrefresh, pnoutrefresh_refusal, after_pnoutrefresh, after_update_panels, after_doupdate, init_pair_refusal, after_init_pair}
 use Rattle.cell.specs.declared.refusal.Refusal.{Refusal}

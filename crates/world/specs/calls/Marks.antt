@@ -8,7 +8,7 @@ use Rattle.cell.specs.Refusals.{first_of}
 use Rattle.world.specs.Windows.{Window, WindowMap, Windows, ancestors, any_below, changed, derives, is_missing, touched_below}
 use Rattle.world.specs.Sharing.{shows_part_of}
 use Rattle.world.specs.declared.settings.Columns.{Columns}
-use Rattle.cell.specs.declared.window.Frame.{Frame}
+use Rattle.cell.specs.declared.window.Rect.{Rect}
 use Rattle.cell.specs.declared.refusal.Refusal.{Refusal}
 use Rattle.cell.specs.declared.refusal.Refusal.TheVariants.{NoSuchWindow, OutsideWindow}
 
@@ -43,7 +43,7 @@ after_touchwin windows w flag = record windows { window = changed windows.window
 -- ---- syncup, syncdown
 
 -- the columns of a line, as a rectangle
-abbrev pub in_line : ℕ → Columns → Frame
+abbrev pub in_line : ℕ → Columns → Rect
 in_line y r = record { top = y; left = r.first; bottom = y; right = r.last }
 
 -- window u shows at (y, x) a cell that window w shows in the touched columns of one of its lines

@@ -5,10 +5,10 @@ use Rattle.std.specs.Option.{option_map}
 use Rattle.cell.specs.Glyphs.{Glyph}
 use Rattle.cell.specs.Pictures.{Place}
 use Rattle.cell.specs.Refusals.{first_of}
-use Rattle.world.specs.Windows.{Backing, own_grid, part_of, WindowMap, cell_at}
+use Rattle.world.specs.Windows.{Backing, own_grid, part_of, WindowMap, cell_at, is_missing}
 use Rattle.world.specs.calls.Making.{is_pad, has_no_parent}
-use Rattle.world.specs.Windows.{is_missing}
 use Rattle.cell.specs.declared.refusal.Refusal.{Refusal}
+use Rattle.world.specs.declared.settings.Columns.{Columns}
 use Rattle.cell.specs.declared.refusal.Refusal.TheVariants.{NoSuchWindow, IsPad, NotDerived}
 
 -- getyx: the cursor
@@ -47,5 +47,5 @@ abbrev pub cell_at_cursor : WindowMap → ℕ → Option Glyph
 cell_at_cursor window w = option_map (λ a. cell_at window w a.settings.cursor.0 a.settings.cursor.1) (window w)
 
 -- ---- touched: the first and the last touched column of a line, which an untouched line has not
-abbrev pub touched_columns : WindowMap → ℕ → ℕ → Option (ℕ × ℕ)
-touched_columns window w y = option_and_then (λ a. option_map (λ r. (r.first, r.last)) (a.touched y)) (window w)
+abbrev pub touched_columns : WindowMap → ℕ → ℕ → Option Columns
+touched_columns window w y = option_and_then (λ a. a.touched y) (window w)

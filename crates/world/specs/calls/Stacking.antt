@@ -11,7 +11,7 @@ use Rattle.cell.specs.declared.limits.TheConstants.{MOST_PANELS}
 use Rattle.cell.specs.declared.refusal.Refusal.{Refusal}
 use Rattle.cell.specs.declared.refusal.Refusal.TheVariants.{NoSuchWindow, NoSuchPanel, OffScreen, IsPad, InPanel, Hidden, StandardScreen, TooMany}
 use Rattle.world.specs.Windows.{WindowMap, Windows, is_missing}
-use Rattle.world.specs.Panels.{Panels, has_line, panel_limit, is_in_panel, standard_screen, topmost, window_or_standard}
+use Rattle.world.specs.Panels.{Panels, panel_limit, is_in_panel, standard_screen, topmost, window_or_standard}
 use Rattle.world.specs.World.{World}
 use Rattle.world.specs.calls.Making.{after_mvwin, is_off_screen, is_pad}
 use Rattle.world.specs.declared.panel.PanelId.{PanelId}
@@ -124,18 +124,6 @@ after_replace_panel panels p w = record panels { window = given panels.window p 
 -- the panel's window has another place, and the panel the same depth
 abbrev pub after_move_panel : Windows → Panels → ℕ → ℕ → ℕ → Windows
 after_move_panel windows panels p y x = after_mvwin windows (window_or_standard panels (Some p)) y x
-
--- ---- lines of the screen
-
--- the panel is visible, and its window has the line
-abbrev pub shows_line : World → ℕ → ℕ → Bool
-shows_line world p line =
-    list_any (λ q. q == p) world.panels.visible && option_map_or (has_line line) (world.windows.window (window_or_standard world.panels (Some p))) false
-
--- The lines that an accepted call on the panel p affects: those of its window's rectangle before and after, each if the panel is visible
--- then.
-abbrev pub panel_affects : World → World → ℕ → ℕ → Bool
-panel_affects old new p line = shows_line old p line || shows_line new p line
 
 -- ---- answers
 

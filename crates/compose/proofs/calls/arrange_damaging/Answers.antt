@@ -1,15 +1,15 @@
 use Rattle.std.proofs.Common.{◌≡◌, ℕ, false, ◌&&◌, ◌||◌, ◌<◌, Some, length, sym, ap, subst, ◌∙◌, arith}
 use Rattle.std.specs.Option.{option_map_or}
 use Rattle.std.specs.Prelude.{MatchOption, ⊤}
-use Rattle.cell.specs.declared.window.Frame.{Frame}
-use Rattle.world.specs.Panels.{Panels, has_line, panel_holds, window_or_standard}
+use Rattle.cell.specs.declared.window.Rect.{Rect}
+use Rattle.world.specs.Panels.{Panels, panel_holds, window_or_standard}
 use Rattle.world.specs.Windows.{Windows}
-use Rattle.world.specs.calls.Places.{panel_shows_at}
+use Rattle.world.specs.calls.Affected.{panel_shows_at}
 use Rattle.grids.specs.Tables.{windows}
 use Rattle.stack.specs.Tables.{panels}
-use Rattle.picture.specs.Parts.{panel_has_line, part_has_line, part_holds}
+use Rattle.picture.specs.Parts.{part_holds}
 use Rattle.picture.proofs.DamageLaws.{damages-as, damages-then, part-right}
-use Rattle.compose.specs.steps.Changes.{panels_after, stacking_has_line, stacking_shows, windows_after}
+use Rattle.compose.specs.steps.Changes.{panels_after, stacking_shows, windows_after}
 use Rattle.compose.proofs.Arranging.{arranged-size}
 use Rattle.compose.proofs.Parting.{new-hidden, part-within, stacking-parts}
 use Rattle.compose.proofs.calls.arrange_damaging.Goals as goal
@@ -50,13 +50,8 @@ returns-clause-damaged c =
     stacking-parts (λ (v : Windows) (q : Panels) (p : ℕ). panel_shows_at v.window q p y x) ws (windows new) ps (panels c.arrange.new.stack) s _ _ (part_holds before y x) (part_holds after y x)
     (λ p new_is. ap (λ b. b && panel_holds ws.window ps y x p) (new-hidden ps p c.requires.panels.visible new_is)) is are named changed
     (c.part_of-before.ensures.holds y x) (c.part_of-after.ensures.holds y x) in
-    let lines : (y : ℕ) → stacking_has_line ws ps s y ≡ (part_has_line before y || part_has_line after y) = λ y.
-    stacking-parts (λ (v : Windows) (q : Panels) (p : ℕ). panel_has_line v.window q p y) ws (windows new) ps (panels c.arrange.new.stack) s _ _ (part_has_line before y) (part_has_line after y)
-    (λ p new_is. ap (λ b. b && option_map_or (has_line y) (ws.window (window_or_standard ps (Some p))) false) (new-hidden ps p c.requires.panels.visible new_is)) is are named changed
-    (c.part_of-before.ensures.lines y) (c.part_of-after.ensures.lines y) in
-    damages-as t.columns (λ y x. part_holds before y x || part_holds after y x) (stacking_shows ws ps s) (λ y. part_has_line before y || part_has_line after y) (stacking_has_line ws ps s)
-    a.damage.now c.damage_part-2.new.damage
-    (damages-then t.columns (part_holds before) (part_holds after) (part_has_line before) (part_has_line after) a.damage.now c.damage_part.new.damage c.damage_part-2.new.damage
+    damages-as t.columns (λ y x. part_holds before y x || part_holds after y x) (stacking_shows ws ps s) a.damage.now c.damage_part-2.new.damage
+    (damages-then t.columns (part_holds before) (part_holds after) a.damage.now c.damage_part.new.damage c.damage_part-2.new.damage
     (c.damage_part.ensures.damaged t.columns (part-right t.lines t.columns before c.part_of-before.ensures.within))
-    (c.damage_part-2.ensures.damaged t.columns (subst (λ n. MatchOption after ⊤ (λ (r : Frame). r.right < n)) size.columns (part-right new.lines new.columns after c.part_of-after.ensures.within))))
-    (λ y x below left shown. sym (shows y x) ∙ shown) (λ y has. lines y ∙ has)
+    (c.damage_part-2.ensures.damaged t.columns (subst (λ n. MatchOption after ⊤ (λ (r : Rect). r.right < n)) size.columns (part-right new.lines new.columns after c.part_of-after.ensures.within))))
+    (λ y x below left shown. sym (shows y x) ∙ shown) (λ y x left held. shows y x ∙ held)

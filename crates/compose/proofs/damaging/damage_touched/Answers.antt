@@ -40,21 +40,21 @@ loop-y-preserved c =
     record {
       height = elim c.match-touched.branch [
         | in-Some s ↦
-            let inside = touched-inside ws w (a.top, a.left) c.in-Ok.lines stands y (s.in-Some.first, s.in-Some.last) (sym s.in-Some.ensures.columns) in
+            let inside = touched-inside ws w (a.top, a.left) c.in-Ok.lines stands y s.in-Some.columns (sym s.in-Some.ensures.columns) in
             rw s.damage-is ((s.rectangle.ensures.damaged ws.columns inside.1).height ∙ c.loop-y.invariant.height)
         | in_default-touched s ↦ rw s.damage-is c.loop-y.invariant.height
       ];
       above = subst (λ n. DamagedAbove ws.columns f a.damage.now n c.match-touched.damage) next (elim c.match-touched.branch [
         | in-Some s ↦
-            let first = s.in-Some.first in
-            let last = s.in-Some.last in
-            let inside = touched-inside ws w (a.top, a.left) c.in-Ok.lines stands y (first, last) (sym s.in-Some.ensures.columns) in
+            let first = s.in-Some.columns.first in
+            let last = s.in-Some.columns.last in
+            let inside = touched-inside ws w (a.top, a.left) c.in-Ok.lines stands y s.in-Some.columns (sym s.in-Some.ensures.columns) in
             let ordered = inside.0 in
             let right = inside.1 in
             rw s.damage-is
             (above-more ws.columns f a.damage.now (a.top + y) (a.left + first) (last - first + 1) (λ u. cell_at ws.window w y (first + (u - (a.left + first))))
             (record { top = a.top + y; left = a.left + first; bottom = a.top + y; right = a.left + last }) c.loop-y.damage s.rectangle.new.self c.loop-y.invariant.above
-            (piece-touched ws w (a.top, a.left) c.in-Ok.lines stands y (first, last) c.loop-y-test.true (sym s.in-Some.ensures.columns))
+            (piece-touched ws w (a.top, a.left) c.in-Ok.lines stands y s.in-Some.columns c.loop-y-test.true (sym s.in-Some.ensures.columns))
             (omega arith) (omega (arith, ordered, right)) refl refl refl (omega (arith, ordered)) (s.rectangle.ensures.damaged ws.columns right))
         | in_default-touched s ↦ rw s.damage-is (above-bare ws.columns f a.damage.now (a.top + y) c.loop-y.damage c.loop-y.invariant.above
             (bare-untouched ws w (a.top, a.left) c.in-Ok.lines stands y (sym s.in_default-touched.ensures.columns)))

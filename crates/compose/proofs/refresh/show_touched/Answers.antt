@@ -21,12 +21,12 @@ loop-y-preserved c =
     subst (λ n. LaidAbove a.pairs.now f table.lines table.columns a.picture.now n c.match-touched.picture) next
     (elim c.match-touched.branch [
       | in-Some s ↦
-          let first = s.in-Some.first in
-          let last = s.in-Some.last in
+          let first = s.in-Some.columns.first in
+          let last = s.in-Some.columns.last in
           rw s.picture-is
           (laid-more a.pairs.now f table.lines table.columns a.picture.now (a.top + y) (a.left + first) (last - first + 1) (λ u. cell_at ws.window w y (first + (u - (a.left + first))))
           c.loop-y.picture s.show_piece.new.picture c.loop-y.invariant
-          (piece-touched ws w (a.top, a.left) c.in-Ok.lines stands y (first, last) c.loop-y-test.true (sym s.in-Some.ensures.columns))
+          (piece-touched ws w (a.top, a.left) c.in-Ok.lines stands y s.in-Some.columns c.loop-y-test.true (sym s.in-Some.ensures.columns))
           s.show_piece.ensures.shown s.show_piece.ensures.size)
       | in_default-touched s ↦ rw s.picture-is (laid-bare a.pairs.now f table.lines table.columns a.picture.now (a.top + y) c.loop-y.picture c.loop-y.invariant
           (bare-untouched ws w (a.top, a.left) c.in-Ok.lines stands y (sym s.in_default-touched.ensures.columns)))

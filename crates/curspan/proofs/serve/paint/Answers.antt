@@ -25,8 +25,8 @@ returns-clause-painted g c =
         runs = c.run_told-end.ensures.ran;
       };
       prints = Prints-failed c.run_told-end.result (world c.run_told-end.new.screen.desk) (g.L.Sink.seen c.run_told-end.new.log)
-          (outputs (g.O.Sink.seen c.args.out.now) (g.L.Sink.seen c.args.log.now)) (outputs (g.O.Sink.seen c.print_desk.new.out) (g.L.Sink.seen c.failed.new.log))
-          c.failed.result fault c.failed.ensures.status not_written c.failed.ensures.told;
+          (outputs (g.O.Sink.seen c.args.out.now) (g.L.Sink.seen c.args.log.now)) (outputs (g.O.Sink.seen c.print_desk.new.out) (g.L.Sink.seen c.tell_failure.new.log))
+          c.tell_failure.result fault c.tell_failure.ensures.status not_written c.tell_failure.ensures.told;
     })
 
 pub returns-then-print_desk-clause-painted : goal.returns-then-print_desk-clause-painted

@@ -9,5 +9,5 @@ returns-then-not-read_stream-clause-shown g c =
       is_whole = false;
       reads = rw c.if-not-read_stream.true at c.read_stream.ensures.reads;
       last = blank_terminal c.args.job.lines c.args.job.cols;
-      ends = (c.failed.ensures.status, refl, c.failed.ensures.told);
+      ends = (c.tell_failure.ensures.status, refl, c.tell_failure.ensures.told);
     })

@@ -4,11 +4,11 @@ use Rattle.explain.proofs.telling.append_advice.Goals as goal
 
 pub returns-in-Some-call_behind-clause-text : goal.returns-in-Some-call_behind-clause-text
 returns-in-Some-call_behind-clause-text c =
-    c.append_call-in-Some-call_behind.ensures ∙ ap (λ l. c.args.text.now.items ++ l) (sym (behind_mvw _ _ (sym c.listed.ensures ∙ c.in_default.is)
+    c.append_call-in-Some-call_behind.ensures ∙ ap (λ l. c.args.text.now.items ++ l) (sym (behind_mvw _ _ (sym c.advice_on.ensures ∙ c.in_default.is)
     (sym c.call_behind.ensures.rest ∙ ap (option_map (λ rest. rest.now)) c.in-Some-call_behind.is)))
 
 pub returns-in-Some-call_behind-2-clause-text : goal.returns-in-Some-call_behind-2-clause-text
 returns-in-Some-call_behind-2-clause-text c =
-    c.append_call-in-Some-call_behind-2.ensures ∙ ap (λ l. c.args.text.now.items ++ l) (sym (behind_mv _ _ (sym c.listed.ensures ∙ c.in_default.is)
+    c.append_call-in-Some-call_behind-2.ensures ∙ ap (λ l. c.args.text.now.items ++ l) (sym (behind_mv _ _ (sym c.advice_on.ensures ∙ c.in_default.is)
     (sym c.call_behind.ensures.rest ∙ ap (option_map (λ rest. rest.now)) c.in_default-call_behind.is)
     (sym c.call_behind-in_default-call_behind.ensures.rest ∙ ap (option_map (λ rest. rest.now)) c.in-Some-call_behind-2.is)))

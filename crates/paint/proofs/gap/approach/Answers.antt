@@ -1,21 +1,18 @@
-use Rattle.std.proofs.Common.{◌+◌, ◌<◌, ◌≤◌, ◌∙◌, length, sym, arith}
-use Rattle.cell.specs.declared.limits.TheConstants.{LARGEST_SCREEN}
-use Rattle.paint.proofs.Strokes.{approach-before, approach-behind, approach-move}
+use Rattle.std.proofs.Common.{◌+◌, length, arith}
+use Rattle.paint.proofs.Strokes.{approach-again, approach-move, is_at-known}
 use Rattle.paint.proofs.gap.approach.Goals as goal
 
-pub returns-then-are_all-clause-strokes : goal.returns-then-are_all-clause-strokes
-returns-then-are_all-clause-strokes g c = λ picture wide are.
-    let few : length c.args.gap.now ≤ 10 = omega (arith, c.if-gap-move_length.true, c.move_length.ensures.short) in
-    approach-behind c.args.rendition few (c.print_again.ensures.strokes picture wide are) (c.select.ensures.draws picture)
+pub print_again-requires-clause-cursor : goal.print_again-requires-clause-cursor
+print_again-requires-clause-cursor g c =
+    is_at-known c.args.pen.now.cursor (c.args.line, c.args.start) (c.is_printed_again.ensures.at c.if-is_printed_again.true)
 
-pub returns-then-are_all-2-clause-strokes : goal.returns-then-are_all-2-clause-strokes
-returns-then-are_all-2-clause-strokes g c = λ picture wide are.
-    let few : length c.args.gap.now ≤ 10 = omega (arith, c.if-gap-move_length.true, c.move_length.ensures.short) in
-    approach-before c.args.rendition few (c.select-then-are_all-2.ensures.draws picture)
-    (c.print_again-then-are_all-2.ensures.strokes picture (wide ∙ sym c.select-then-are_all-2.ensures.columns) are)
+pub returns-then-is_printed_again-clause-strokes : goal.returns-then-is_printed_again-clause-strokes
+returns-then-is_printed_again-clause-strokes g c = λ picture wide are.
+    rw (c.is_printed_again.ensures.again c.if-is_printed_again.true)
+    (approach-again c.args.rendition c.print_again.ensures.printed wide are (c.select.ensures.draws picture))
 
 pub returns-clause-strokes : goal.returns-clause-strokes
 returns-clause-strokes g c = λ picture wide are.
-    let column : c.args.start + length c.args.gap.now < LARGEST_SCREEN = omega (arith, c.requires.inside, c.requires.columns) in
-    approach-move (c.args.line, c.args.start + length c.args.gap.now) c.args.rendition c.requires.line column
-    (c.go.ensures.draws picture (omega (arith, wide, c.requires.inside))) (c.select-2.ensures.draws picture)
+    rw (c.is_printed_again.ensures.moved c.if-is_printed_again.false)
+    (approach-move (c.args.line, c.args.start + length c.args.gap.now) c.args.rendition
+    (c.go.ensures.draws picture (omega (arith, wide, c.requires.inside))) c.go.ensures.rendition (c.select-2.ensures.draws picture))

@@ -4,13 +4,14 @@ use Rattle.cell.specs.Shown.{shown_blank}
 use Rattle.cell.specs.Pictures.{Picture, line_of, with_shown}
 use Rattle.paint.specs.steps.Strokes.{Strokes, cell_bytes}
 use Rattle.cell.specs.Differences.{same_shown}
-use Rattle.paint.proofs.Walks.{gap-before, line-begun, line-drawn, line-kept}
+use Rattle.paint.proofs.Walks.{gap-before, line-drawn, line-kept}
 use Rattle.paint.proofs.line.paint_cells.Goals as goal
 
 pub loop-x-init : goal.loop-x-init
 loop-x-init g c = record {
-  painted = line-begun _ _ c.args.line c.args.first c.args.shown.now c.args.wanted.now c.requires.front;
+  painted = λ before old h. h;
   gap = omega arith;
+  columns = refl;
   same = refl;
 }
 
@@ -23,8 +24,9 @@ loop-x-preserved-then-eq g c =
     let wanted = c.index-wanted-x.is ∙ get_or_default c.args.wanted.now x c.index-wanted-x.result shown_blank (omega arith) in
     let alike : same_shown (get_or c.args.shown.now x shown_blank) (get_or c.args.wanted.now x shown_blank) ≡ true = (λ i. same_shown (sym shown i) (sym wanted i)) ∙ sym c.if-eq.ensures in
     record {
-      painted = line-kept same inside c.loop-x.invariant.painted alike;
+      painted = λ before old h. line-kept same inside (c.loop-x.invariant.painted before old h) alike;
       gap = omega (arith, c.loop-x.invariant.gap);
+      columns = c.loop-x.invariant.columns;
       same = c.loop-x.invariant.same;
     }
 
@@ -42,7 +44,8 @@ loop-x-preserved g c =
     subst (λ at. Strokes (cell_bytes c.index-wanted-x-in-loop-x.result) (g.W.Sink.seen c.loop-x.sink) (g.W.Sink.seen c.paint_cell.new.sink) c.loop-x.pen c.paint_cell.new.pen picture
     (with_shown picture (c.args.line, at) c.index-wanted-x-in-loop-x.result)) gap.end (c.paint_cell.ensures.strokes picture wide gap.shown) in
     record {
-      painted = line-drawn c.index-wanted-x-in-loop-x.result same inside c.loop-x.invariant.painted c.requires.shown cell differs strokes c.paint_cell.ensures.columns;
+      painted = λ before old h. line-drawn c.index-wanted-x-in-loop-x.result same inside (c.loop-x.invariant.painted before old h) (c.requires.shown ∙ sym c.loop-x.invariant.columns ∙ (c.loop-x.invariant.painted before old h).columns) cell differs strokes c.paint_cell.ensures.columns;
       gap = omega arith;
+      columns = c.paint_cell.ensures.columns ∙ c.loop-x.invariant.columns;
       same = c.paint_cell.ensures.same ∙ c.loop-x.invariant.same;
     }

@@ -1,10 +1,14 @@
 use Rattle.std.proofs.Common.{◌≡◌, ◌≤◌}
+use Rattle.streams.specs.Sinks.{Seen}
+use Rattle.paint.specs.declared.pen.Pen.{Pen}
 use Rattle.paint.specs.steps.Walks.{IsLinePainted}
 use Rattle.paint.proofs.line.paint_cells.Given as goal
 
 abbrev pub invariant-loop-x : goal.invariant-loop-x
 invariant-loop-x g l = record {
-  painted : IsLinePainted (g.W.Sink.seen l.fn.sink) (g.W.Sink.seen l.sink) l.fn.pen l.pen l.line l.x l.shown l.wanted;
+  painted : (before : Seen) (old : Pen) → IsLinePainted before (g.W.Sink.seen l.fn.sink) old l.fn.pen l.line l.start l.shown l.wanted
+      → IsLinePainted before (g.W.Sink.seen l.sink) old l.pen l.line l.x l.shown l.wanted;
   gap : l.gap ≤ l.x;
+  columns : l.pen.columns ≡ l.fn.pen.columns;
   same : g.W.Sink.name l.sink ≡ g.W.Sink.name l.fn.sink;
 }

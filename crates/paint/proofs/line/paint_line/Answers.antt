@@ -1,11 +1,36 @@
-use Rattle.std.proofs.Common.{◌≡◌, ◌∙◌, length, sym}
-use Rattle.paint.proofs.Walks.{line-erased, line-painted}
+use Rattle.std.proofs.Common.{◌≡◌, ◌+◌, ◌∙◌, length, drop, sym, arith}
+use Rattle.cell.specs.Shown.{shown_blank}
+use Rattle.paint.specs.steps.Walks.{AreBlank}
+use Rattle.paint.proofs.Strokes.{reach-most}
+use Rattle.paint.proofs.Tails.{differs-before, kept-later}
+use Rattle.paint.proofs.Walks.{line-begun, line-erased, line-painted, line-ready}
 use Rattle.paint.proofs.line.paint_line.Goals as goal
 
-pub returns-in-Some-erased_from-clause-strokes : goal.returns-in-Some-erased_from-clause-strokes
-returns-in-Some-erased_from-clause-strokes g c =
+pub paint_cells-requires-2-clause-ordered : goal.paint_cells-requires-2-clause-ordered
+paint_cells-requires-2-clause-ordered g c =
     let same : length c.args.shown.now ≡ length c.args.wanted.now = c.requires.shown ∙ sym c.requires.wanted in
-    line-erased same c.paint_to.ensures.ready c.in-Some-erased_from.ensures.1 c.erase_line.ensures.draws
+    omega (arith, differs-before (c.in-Some-last_diff.last + 1) c.in-Some-changed_from.column c.args.shown.now c.args.wanted.now same c.in-Some-last_diff.ensures.1 c.in-Some-changed_from.ensures.1)
 
-pub returns-in-None-clause-strokes : goal.returns-in-None-clause-strokes
-returns-in-None-clause-strokes g c = line-painted c.paint_cells.ensures.painted c.in-Some-last_diff.ensures.1
+pub returns-in_default-changed_from-clause-strokes : goal.returns-in_default-changed_from-clause-strokes
+returns-in_default-changed_from-clause-strokes g c =
+    line-painted (c.paint_cells.ensures.painted _ _ (line-begun _ _ c.args.line c.in-Some.first c.args.shown.now c.args.wanted.now c.in-Some.ensures.1)) c.in-Some-last_diff.ensures.1
+
+pub returns-then-is_erased-clause-strokes : goal.returns-then-is_erased-clause-strokes
+returns-then-is_erased-clause-strokes g c =
+    let shown = c.args.shown.now in
+    let wanted = c.args.wanted.now in
+    let from = c.erased_from-from.result in
+    let same : length shown ≡ length wanted = c.requires.shown ∙ sym c.requires.wanted in
+    let painted = c.paint_cells-gap.ensures.painted _ _ (line-begun _ _ c.args.line c.in-Some.first shown wanted c.in-Some.ensures.1) in
+    let blank : AreBlank (drop from wanted) = kept-later (λ _. shown_blank) c.tail_start-tail.result from wanted c.erased_from-from.ensures.from c.tail_start-tail.ensures.blank in
+    let changed = c.in-Some-changed_from.ensures.1 in
+    let few = reach-most c.paint_cells-gap.new.pen.cursor c.paint_cells-gap.new.pen.rendition c.args.line wanted c.paint_cells-gap.result from c.requires.line
+    (omega (arith, c.erased_from-from.ensures.to, changed.inside)) (omega (arith, c.requires.wanted, c.requires.columns)) in
+    line-erased same
+    (line-ready same c.requires.shown painted c.erased_from-from.ensures.to blank changed c.come_to.ensures.strokes few c.come_to.ensures.cursor c.come_to.ensures.rendition c.come_to.ensures.columns)
+    c.erase_line.ensures.draws
+
+pub returns-clause-strokes : goal.returns-clause-strokes
+returns-clause-strokes g c =
+    let begun = line-begun _ _ c.args.line c.in-Some.first c.args.shown.now c.args.wanted.now c.in-Some.ensures.1 in
+    line-painted (c.paint_cells-2.ensures.painted _ _ (c.paint_cells-gap.ensures.painted _ _ begun)) c.in-Some-last_diff.ensures.1

@@ -1,4 +1,4 @@
-use Rattle.std.proofs.Common.{◌≡◌, ◌<◌, ◌∙◌, length, refl, sym, arith}
+use Rattle.std.proofs.Common.{◌≡◌, ◌+◌, ◌-◌, ◌<◌, ◌≤◌, ◌∙◌, length, refl, sym, arith}
 use Rattle.paint.proofs.Mixed.{drop-later}
 use Rattle.paint.proofs.Pages.{page-erased}
 use Rattle.paint.proofs.Walks.{picture-begun, picture-drawn, picture-painted}
@@ -7,8 +7,8 @@ use Rattle.paint.proofs.page.paint_picture.Goals as goal
 pub loop-line-init : goal.loop-line-init
 loop-line-init g c = record { painted = picture-begun _ _ c.args.shown.now c.args.wanted.now; same = refl }
 
-pub loop-line-preserved : goal.loop-line-preserved
-loop-line-preserved g c =
+pub loop-line-preserved-then-line-blank : goal.loop-line-preserved-then-line-blank
+loop-line-preserved-then-line-blank g c =
     let same : length c.args.shown.now ≡ length c.args.wanted.now = c.requires.shown.height ∙ sym c.requires.wanted.height in
     let inside : c.loop-line.line < length c.args.shown.now = omega (arith, c.requires.shown.height, c.loop-line-test.true, c.changed_lines-changed.ensures.within) in
     let shown = rw c.from-at.ensures at c.row-old.ensures.row in
@@ -18,14 +18,28 @@ loop-line-preserved g c =
       same = c.paint_line.ensures.same ∙ c.loop-line.invariant.same;
     }
 
-pub returns-in-Some-clause-strokes : goal.returns-in-Some-clause-strokes
-returns-in-Some-clause-strokes g c =
-    let inside : c.loop-line.line < c.args.lines = omega (arith, c.loop-line-test.true, c.changed_lines-changed.ensures.within) in
+pub loop-line-preserved : goal.loop-line-preserved
+loop-line-preserved g c =
+    let same : length c.args.shown.now ≡ length c.args.wanted.now = c.requires.shown.height ∙ sym c.requires.wanted.height in
+    let inside : c.loop-line.line < length c.args.shown.now = omega (arith, c.requires.shown.height, c.loop-line-test.true, c.changed_lines-changed.ensures.within) in
     let shown = rw c.from-at.ensures at c.row-old.ensures.row in
     let wanted = rw c.from-at.ensures at c.row-new.ensures.row in
-    let end = rw (shown, wanted) at c.in-Some.ensures in
-    let ready = rw (shown, wanted) at c.paint_to.ensures.ready in
-    page-erased c.requires.shown c.requires.wanted inside end.0 c.blank_lines-blank.ensures.blank end.3 c.loop-line.invariant.painted ready c.erase_page.ensures.draws
+    record {
+      painted = picture-drawn same inside c.loop-line.invariant.painted (rw (shown, wanted) at (c.paint_last_line.ensures.strokes c.in_default.is)) c.paint_last_line.ensures.columns;
+      same = c.paint_last_line.ensures.same ∙ c.loop-line.invariant.same;
+    }
+
+pub returns-in-Some-clause-strokes : goal.returns-in-Some-clause-strokes
+returns-in-Some-clause-strokes g c =
+    let y = c.loop-line.line in
+    let changed = c.changed_lines-changed.result in
+    let below : c.blank_lines-blank.result ≤ y + 1 = omega arith in
+    let later : y < changed - 1 = omega arith in
+    let inside : changed - 1 < c.args.lines = omega (arith, c.changed_lines-changed.ensures.within) in
+    let shown = rw c.from-at.ensures at c.row-old.ensures.row in
+    let wanted = rw c.from-at.ensures at c.row-new.ensures.row in
+    let ready = rw (shown, wanted) at c.in-Some.ensures.ready in
+    page-erased c.requires.shown c.requires.wanted below c.blank_lines-blank.ensures.blank later inside (c.changed_lines-changed.ensures.changed (omega arith)) c.loop-line.invariant.painted ready c.erase_page.ensures.draws
 
 pub returns-clause-strokes : goal.returns-clause-strokes
 returns-clause-strokes g c =

@@ -2,12 +2,12 @@ use Rattle.std.proofs.Common.{rules, ◌≡◌, Some}
 use Rattle.world.specs.calls.Queries.{place_on_screen}
 use Rattle.grids.specs.Tables.{windows}
 use Rattle.picture.proofs.Standing.{placed}
-use Rattle.picture.proofs.PartLaws.{shared-line}
+use Rattle.picture.proofs.PartLaws.{shared-same}
 use Rattle.picture.proofs.parts.shared_part.Goals as goal
 
-pub returns-clause-lines : goal.returns-clause-lines
-returns-clause-lines c =
+pub returns-clause-holds : goal.returns-clause-holds
+returns-clause-holds c =
     let ws = windows c.args.table.now in
     let place : place_on_screen ws.window c.args.u.0 ≡ Some (c.in_ok-top.top, c.in_ok-top.left) = search rules in
     let stands = placed ws c.args.u.0 (c.in_ok-top.top, c.in_ok-top.left) c.getbegyx.ensures.sound place in
-    shared-line ws c.args.u.0 c.in_ok-top.top c.in_ok-top.left stands.0 stands.1 c.args.win.0 c.args.frame c.in_ok-seen.seen c.in_ok-seen.ensures.seen
+    shared-same ws c.args.u.0 c.in_ok-top.top c.in_ok-top.left stands.0 stands.1 c.args.win.0 c.args.frame c.in_ok-seen.seen c.in_ok-seen.ensures.seen

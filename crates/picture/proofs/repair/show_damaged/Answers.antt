@@ -1,106 +1,127 @@
-use Rattle.std.proofs.Common.{◌≡◌, ℕ, suc, ◌+◌, ◌-◌, ◌<◌, ◌≤◌, ◌==◌, ◌&&◌, nat_le, nat_lt, if◌then◌else◌, None, Some, refl, ap, subst, sym, ◌∙◌, arith}
-use Rattle.cell.specs.Pictures.{HasSize, shown_at}
+use Rattle.std.proofs.Common.{◌≡◌, ℕ, suc, ◌+◌, ◌-◌, ◌<◌, ◌≤◌, ◌==◌, ◌&&◌, true, nat_le, nat_lt, if◌then◌else◌, None, Some, refl, ap, subst, sym, ◌∙◌, arith}
+use Rattle.cell.specs.Pictures.{shown_at}
 use Rattle.cell.specs.Shown.{Shown, shown}
-use Rattle.world.specs.Panels.{found_from_top}
-use Rattle.world.specs.Sound.{AreColumnsWithin, AreSoundPanels, AreSoundWindows}
+use Rattle.cell.proofs.PictureLemmas.{length-line}
+use Rattle.world.specs.Panels.{found_from_top, holds, standard_screen}
+use Rattle.world.specs.Sound.{AreColumnsWithin}
 use Rattle.world.specs.Windows.{Windows}
-use Rattle.grids.specs.Tables.{windows as windows_of}
 use Rattle.stack.specs.Tables.{panels}
+use Rattle.picture.specs.Counts.{GrewBy}
 use Rattle.picture.specs.Damages.{cells_above, cells_of_line, columns_of}
+use Rattle.picture.specs.Spans.{HasPanelWindows}
 use Rattle.picture.proofs.Composing.{composed-bare, composed-more, fits-more}
+use Rattle.picture.proofs.Counting.{grew-more}
 use Rattle.picture.proofs.Lines.{shown-all}
+use Rattle.picture.proofs.Standard.{sound-windows, standard-holds}
 use Rattle.picture.proofs.repair.show_damaged.Goals.{in-Some, in_default}
 use Rattle.picture.proofs.repair.show_damaged.Goals as goal
 
 pub compose_row-requires : goal.compose_row-requires
-compose_row-requires c κs =
-    let t = c.args.table.now in
+compose_row-requires g c κs =
+    let old = g.R.Rows.windows c.args.rows.now in
     let y = c.loop-y.y in
     let r = c.in-Some.field-0 in
     let h = c.loop-y.invariant in
-    let known = h.table in
-    let lines : c.loop-y.rows.table.now.lines ≡ t.lines = ap (λ (ws : Windows). ws.lines) known in
-    let columns : c.loop-y.rows.table.now.columns ≡ t.columns = ap (λ (ws : Windows). ws.columns) known in
     let is : columns_of c.args.damage.now y ≡ Some r = sym (h.composed.left y (omega arith)) ∙ sym c.line.ensures ∙ c.in-Some.is in
-    let within : (r.first ≤ r.last) × (r.last < t.columns) = subst (λ o. AreColumnsWithin t.columns o) is (c.requires.within y) in
+    let within : (r.first ≤ r.last) × (r.last < old.columns) = subst (λ o. AreColumnsWithin old.columns o) is (c.requires.within y) in
     let last = within.1 in
     let test = c.loop-y-test.true in
     let all = c.requires.lines in
-    let read = h.read in
-    let below : y < t.lines = omega (arith, test, all) in
-    let fits = fits-more t.lines t.columns c.args.damage.now c.requires.within c.requires.windows.few_lines c.requires.windows.few_columns y r below is in (
+    let below : y < old.lines = omega (arith, test, all) in
+    let height = h.composed.above.size.height in
+    let width = length-line y h.composed.above.size below in (
       (refl, record {}),
       (
-        subst AreSoundWindows (sym known) c.requires.windows,
+        λ u from upto. subst (λ (ws : Windows). holds ws.window standard_screen y u ≡ true) (sym h.windows) (standard-holds old y u c.requires.windows below (omega (arith, upto, last))),
         (
-          subst (λ (ws : Windows). AreSoundPanels ws.window (panels c.args.stack.now)) (sym known) c.requires.panels,
+          subst (λ (ws : Windows). HasPanelWindows ws.window (panels c.args.stack.now)) (sym h.windows) (sound-windows old.window (panels c.args.stack.now) c.requires.panels),
           (
-            omega (arith, below, lines),
+            within.0,
             (
-              within.0,
-              (
-                omega (arith, last, columns),
-                (
-                  omega (arith, fits, read),
-                  subst (λ (n : ℕ). HasSize n c.loop-y.rows.table.now.columns c.loop-y.picture) (sym lines) (subst (λ (n : ℕ). HasSize t.lines n c.loop-y.picture) (sym columns) h.composed.above.size),
-                ),
-              ),
+              omega (arith, below, height),
+              omega (arith, last, width),
             ),
           ),
         ),
       ),
     )
 
+pub overflow_add-cells-in-Some : goal.overflow_add-cells-in-Some
+overflow_add-cells-in-Some g c =
+    let old = g.R.Rows.windows c.args.rows.now in
+    let y = c.loop-y.y in
+    let r = c.in-Some.field-0 in
+    let h = c.loop-y.invariant in
+    let is : columns_of c.args.damage.now y ≡ Some r = sym (h.composed.left y (omega arith)) ∙ sym c.line.ensures ∙ c.in-Some.is in
+    let test = c.loop-y-test.true in
+    let all = c.requires.lines in
+    let read = h.read in
+    let number = c.from.ensures in
+    let fits = fits-more old.lines old.columns c.args.damage.now c.requires.within c.requires.windows.few_lines c.requires.windows.few_columns y r (omega (arith, test, all)) is in
+    omega (arith, fits, read, number)
+
 pub loop-y-preserved : goal.loop-y-preserved
-loop-y-preserved c =
-    let t = c.args.table.now in
-    let ws = windows_of t in
+loop-y-preserved g c =
+    let old = g.R.Rows.windows c.args.rows.now in
     let ps = panels c.args.stack.now in
     let y = c.loop-y.y in
     let h = c.loop-y.invariant in
     let test = c.loop-y-test.true in
     let all = c.requires.lines in
-    let below : y < t.lines = omega (arith, test, all) in
-    let f : ℕ → ℕ → Shown = λ v u. shown c.args.pairs.now (found_from_top ws.window ps v u) in
+    let below : y < old.lines = omega (arith, test, all) in
+    let f : ℕ → ℕ → Shown = λ v u. shown c.args.pairs.now (found_from_top old.window ps v u) in
     let before = c.args.damage.now in
+    let lent = g.R.Rows.lent c.args.rows.now in
     let more : cells_above before (y + 1) ≡ cells_above before y + cells_of_line (columns_of before y) = let e : y + 1 ≡ suc y = omega arith in ap (cells_above before) e in
     record {
-      table = elim c.match-line.branch [
-        | in-Some s ↦ rw s.rows-is (s.compose_row.ensures.same ∙ h.table)
-        | in_default s ↦ rw s.rows-is h.table
+      windows = elim c.match-line.branch [
+        | in-Some s ↦ rw s.rows-is (s.compose_row.ensures.same ∙ h.windows)
+        | in_default s ↦ rw s.rows-is h.windows
       ];
       read = elim c.match-line.branch [
         | in-Some s ↦
             let r = s.in-Some.field-0 in
             let is : columns_of before y ≡ Some r = sym (h.composed.left y (omega arith)) ∙ sym c.line.ensures ∙ s.in-Some.is in
-            let within : (r.first ≤ r.last) × (r.last < t.columns) = subst (λ o. AreColumnsWithin t.columns o) is (c.requires.within y) in
+            let within : (r.first ≤ r.last) × (r.last < old.columns) = subst (λ o. AreColumnsWithin old.columns o) is (c.requires.within y) in
             let ordered = within.0 in
             let line : cells_of_line (columns_of before y) ≡ r.last + 1 - r.first = ap cells_of_line is in
-            let counted = s.compose_row.ensures.counted in
+            let number = s.from.ensures in
             let read = h.read in
-            rw s.rows-is (omega (arith, counted, read, more, line, ordered))
+            let cells = s.cells-is in
+            omega (arith, cells, number, read, more, line, ordered)
         | in_default s ↦
             let none : columns_of before y ≡ None = sym (h.composed.left y (omega arith)) ∙ sym c.line.ensures ∙ s.in_default.is in
             let line : cells_of_line (columns_of before y) ≡ 0 = ap cells_of_line none in
             let read = h.read in
-            rw s.rows-is (omega (arith, read, more, line))
+            let cells = s.cells-is in
+            omega (arith, cells, read, more, line)
+      ];
+      counted = elim c.match-line.branch [
+        | in-Some s ↦
+            let r = s.in-Some.field-0 in
+            let number = s.from.ensures in
+            let cells = s.cells-is in
+            let sum : c.loop-y.cells + (r.last - r.first + 1) ≡ c.match-line.cells = omega (arith, number, cells) in
+            rw s.rows-is (subst (λ n. GrewBy n lent (g.R.Rows.lent s.compose_row.new.rows)) sum
+            (grew-more c.loop-y.cells (r.last - r.first + 1) lent (g.R.Rows.lent c.loop-y.rows) (g.R.Rows.lent s.compose_row.new.rows) h.counted s.compose_row.ensures.counted))
+        | in_default s ↦ rw (s.rows-is, s.cells-is) h.counted
       ];
       composed = elim c.match-line.branch [
         | in-Some s ↦
             let r = s.in-Some.field-0 in
             rw (s.damage-is, s.picture-is, s.clear.ensures)
-            (composed-more f t.lines t.columns before c.args.picture.now c.requires.covered y r c.loop-y.damage c.loop-y.picture s.compose_row.new.picture h.composed below (sym c.line.ensures ∙ s.in-Some.is)
+            (composed-more f old.lines old.columns before c.args.picture.now c.requires.covered y r c.loop-y.damage c.loop-y.picture s.compose_row.new.picture h.composed below (sym c.line.ensures ∙ s.in-Some.is)
             (λ v u. s.compose_row.ensures.shown v u
-            ∙ ap (λ (ws : Windows). if (v == y) && (nat_le r.first u && nat_lt u (r.last + 1)) then shown c.args.pairs.now (found_from_top ws.window ps y u) else shown_at c.loop-y.picture (v, u)) h.table)
-            (subst (λ (ws : Windows). HasSize ws.lines ws.columns s.compose_row.new.picture) h.table s.compose_row.ensures.size))
+            ∙ ap (λ (ws : Windows). if (v == y) && (nat_le r.first u && nat_lt u (r.last + 1)) then shown c.args.pairs.now (found_from_top ws.window ps y u) else shown_at c.loop-y.picture (v, u)) h.windows)
+            (s.compose_row.ensures.size old.lines old.columns h.composed.above.size))
         | in_default s ↦ rw (s.damage-is, s.picture-is)
-            (composed-bare f t.lines t.columns before c.args.picture.now c.requires.covered y c.loop-y.damage c.loop-y.picture h.composed below (sym c.line.ensures ∙ s.in_default.is))
+            (composed-bare f old.lines old.columns before c.args.picture.now c.requires.covered y c.loop-y.damage c.loop-y.picture h.composed below (sym c.line.ensures ∙ s.in_default.is))
       ];
     }
 
 pub returns-clause-shown : goal.returns-clause-shown
-returns-clause-shown c =
-    let t = c.args.table.now in
+returns-clause-shown g c =
+    let old = g.R.Rows.windows c.args.rows.now in
     let end = c.loop-y-test.false in
     let all = c.requires.lines in
-    shown-all (λ v u. shown c.args.pairs.now (found_from_top (windows_of t).window (panels c.args.stack.now) v u)) t.lines t.columns c.loop-y.y c.loop-y.picture (omega (arith, end, all)) c.loop-y.invariant.composed.above
+    shown-all (λ v u. shown c.args.pairs.now (found_from_top old.window (panels c.args.stack.now) v u)) old.lines old.columns c.loop-y.y c.loop-y.picture (omega (arith, end, all)) c.loop-y.invariant.composed.above

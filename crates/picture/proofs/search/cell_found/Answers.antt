@@ -1,29 +1,80 @@
-use Rattle.std.proofs.Common.{◌≡◌, true, ap, subst, arith}
-use Rattle.world.specs.Windows.{Windows}
+use Rattle.std.proofs.Common.{◌≡◌, ◌<◌, ◌-◌, ℕ, true, refl, ap, sym, subst, ◌∙◌, arith}
+use Rattle.world.specs.Windows.{Windows, cell_at}
 use Rattle.cell.specs.Pictures.{Place}
-use Rattle.world.specs.Panels.{holds, place_of}
+use Rattle.world.specs.Panels.{Panels, cell_on_screen, holds, owner, place_of, window_or_standard}
+use Rattle.world.specs.Sound.{AreSoundWindows}
+use Rattle.world.specs.calls.Stacking.{panel_number}
 use Rattle.grids.specs.Tables.{windows as windows_of}
+use Rattle.stack.specs.Tables.{panels}
+use Rattle.picture.specs.Spans.{HasPanelWindows, IsSpan}
+use Rattle.picture.specs.declared.span.Span.{Span}
 use Rattle.picture.proofs.Held.{held-before, held-place}
+use Rattle.picture.proofs.Searching.{owner-held}
+use Rattle.picture.proofs.Standard.{sound-windows, standard-holds}
 use Rattle.picture.proofs.search.cell_found.Goals as goal
+
+-- the search's window is that of the owner, and holds the place
+found : (old now : Windows) (ps : Panels) (y x edge w : ℕ) (span : Span) → now ≡ old → IsSpan now.window ps y x edge span → w ≡ window_or_standard ps (panel_number span.panel)
+    → w ≡ window_or_standard ps (owner old.window ps y x)
+found old now ps y x edge w span kept is window =
+    let before : IsSpan old.window ps y x edge span = subst (λ (ws : Windows). IsSpan ws.window ps y x edge span) kept is in
+    window ∙ ap (window_or_standard ps) (sym (before.same x (omega arith) before.from))
+
+held : (ws : Windows) (ps : Panels) (y x w : ℕ) → AreSoundWindows ws → y < ws.lines → x < ws.columns → w ≡ window_or_standard ps (owner ws.window ps y x) → holds ws.window w y x ≡ true
+held ws ps y x w sound below left is =
+    ap (λ v. holds ws.window v y x) is ∙ owner-held ws.window ps y x (owner ws.window ps y x) refl (standard-holds ws y x sound below left)
+
+is_held : (c : goal.After-place-top) → holds (windows_of c.args.table.now).window c.window_of-win.result.0 c.args.y c.args.x ≡ true
+is_held c =
+    let a = c.args in
+    let ws = windows_of a.table.now in
+    let ps = panels a.stack.now in
+    let win = c.window_of-win.result.0 in
+    let column : a.x < a.table.now.columns = let inside = c.requires.column in let all = c.requires.columns in omega (arith, inside, all) in
+    held ws ps a.y a.x win c.requires.windows c.requires.line column
+    (found ws (windows_of c.of.result.table.now) ps a.y a.x (a.columns - 1) win c.owner_span-span.result c.of.ensures.windows c.owner_span-span.ensures c.window_of-win.ensures)
+
+pub owner_span-span-requires : goal.owner_span-span-requires
+owner_span-span-requires c κs =
+    let inside = c.requires.column in (
+      (refl, record {}),
+      (
+        subst (λ (ws : Windows). HasPanelWindows ws.window (panels c.args.stack.now)) (sym c.of.ensures.windows) (sound-windows (windows_of c.args.table.now).window (panels c.args.stack.now) c.requires.panels),
+        omega (arith, inside),
+      ),
+    )
 
 pub overflow_sub-y : goal.overflow_sub-y
 overflow_sub-y c =
     let a = c.args in
-    let held : holds (windows_of a.table.now).window c.span_found.result.win.0 a.y a.x ≡ true = subst (λ (ws : Windows). holds ws.window c.span_found.result.win.0 a.y a.x ≡ true) c.of.ensures.windows (c.span_found.ensures.holds a.x (omega arith) c.span_found.ensures.further) in
-    let top : c.place-top.result.0 ≡ (place_of (windows_of a.table.now).window c.span_found.result.win.0).0 = ap (λ (p : Place). p.0) c.place-top.ensures in
-    let before = (held-before (windows_of a.table.now).window c.span_found.result.win.0 a.y a.x held).0 in
+    let top : c.place-top.result.0 ≡ (place_of (windows_of a.table.now).window c.window_of-win.result.0).0 = ap (λ (p : Place). p.0) c.place-top.ensures in
+    let before = (held-before (windows_of a.table.now).window c.window_of-win.result.0 a.y a.x (is_held c)).0 in
     omega (arith, top, before)
 
 pub overflow_sub-x : goal.overflow_sub-x
 overflow_sub-x c =
     let a = c.args in
-    let held : holds (windows_of a.table.now).window c.span_found.result.win.0 a.y a.x ≡ true = subst (λ (ws : Windows). holds ws.window c.span_found.result.win.0 a.y a.x ≡ true) c.of.ensures.windows (c.span_found.ensures.holds a.x (omega arith) c.span_found.ensures.further) in
-    let left : c.place-top.result.1 ≡ (place_of (windows_of a.table.now).window c.span_found.result.win.0).1 = ap (λ (p : Place). p.1) c.place-top.ensures in
-    let before = (held-before (windows_of a.table.now).window c.span_found.result.win.0 a.y a.x held).1 in
+    let left : c.place-top.result.1 ≡ (place_of (windows_of a.table.now).window c.window_of-win.result.0).1 = ap (λ (p : Place). p.1) c.place-top.ensures in
+    let before = (held-before (windows_of a.table.now).window c.window_of-win.result.0 a.y a.x (is_held c)).1 in
     omega (arith, left, before)
 
 pub cell-requires : goal.cell-requires
 cell-requires c =
     let a = c.args in
-    let held : holds (windows_of a.table.now).window c.span_found.result.win.0 a.y a.x ≡ true = subst (λ (ws : Windows). holds ws.window c.span_found.result.win.0 a.y a.x ≡ true) c.of.ensures.windows (c.span_found.ensures.holds a.x (omega arith) c.span_found.ensures.further) in
-    rw (c.place-top.ensures) (held-place (windows_of a.table.now).window c.span_found.result.win.0 a.y a.x held)
+    let ws = windows_of a.table.now in
+    let ps = panels a.stack.now in
+    let win = c.window_of-win.result.0 in
+    let column : a.x < a.table.now.columns = let inside = c.requires.column in let all = c.requires.columns in omega (arith, inside, all) in
+    let on : holds ws.window win a.y a.x ≡ true = held ws ps a.y a.x win c.requires.windows c.requires.line column
+    (found ws (windows_of c.of.result.table.now) ps a.y a.x (a.columns - 1) win c.owner_span-span.result c.of.ensures.windows c.owner_span-span.ensures c.window_of-win.ensures) in
+    rw c.place-top.ensures (held-place ws.window win a.y a.x on)
+
+pub returns : goal.returns
+returns c =
+    let a = c.args in
+    let ws = windows_of a.table.now in
+    let ps = panels a.stack.now in
+    let win = c.window_of-win.result.0 in
+    c.cell.ensures.cell
+    ∙ ap (λ (p : Place). cell_at ws.window win (a.y - p.0) (a.x - p.1)) c.place-top.ensures
+    ∙ ap (λ v. cell_on_screen ws.window v a.y a.x) (found ws (windows_of c.of.result.table.now) ps a.y a.x (a.columns - 1) win c.owner_span-span.result c.of.ensures.windows c.owner_span-span.ensures c.window_of-win.ensures)

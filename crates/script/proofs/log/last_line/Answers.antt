@@ -8,5 +8,5 @@ joined beginning before sent behind end = rw (append_assoc beginning before sent
 
 pub returns-in-Write : goal.returns-in-Write
 returns-in-Write c =
-    rw (c.ended-in-Write.ensures, c.append_decimal.ensures.text, c.append.ensures, c.beginning-text.ensures.text, c.from.ensures, c.in-Write.is)
+    rw (c.end_line-in-Write.ensures, c.append_decimal.ensures.text, c.append.ensures, c.beginning-text.ensures.text, c.from.ensures, c.in-Write.is)
     (joined (codes "line " ++ decimal c.in-Write.line ++ codes ": ") (codes "write failed after ") (decimal c.in-Write.fault.sent) (codes " bytes") (newline ∷ []))

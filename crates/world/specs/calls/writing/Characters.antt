@@ -11,7 +11,7 @@ use Rattle.world.specs.Windows.{Drawing, Window, WindowMap, Windows, is_missing,
 use Rattle.world.specs.Settings.{set, with_cursor}
 use Rattle.world.specs.Drawings.{written_glyph, at_place, character_inserted, character_deleted, to_end_of_line, lines_up}
 use Rattle.world.specs.Frames.{joined, frame_of}
-use Rattle.cell.specs.declared.window.Frame.{Frame}
+use Rattle.cell.specs.declared.window.Rect.{Rect}
 use Rattle.cell.specs.declared.refusal.Refusal.{Refusal}
 use Rattle.cell.specs.declared.refusal.Refusal.TheVariants.{NoSuchWindow, BadCharacter}
 
@@ -36,7 +36,7 @@ is_bad_character character = not (is_printable character || (character == backsp
 abbrev pub drawn_to : Windows → ℕ → Drawing → Place → Windows
 drawn_to windows w f place = set (put windows w f) w (with_cursor place)
 
-abbrev pub frame_if_there : Windows → ℕ → (Window → Option Frame) → Option Frame
+abbrev pub frame_if_there : Windows → ℕ → (Window → Option Rect) → Option Rect
 frame_if_there windows w frame = option_and_then frame (windows.window w)
 
 -- ---- the end of a line
@@ -61,7 +61,7 @@ to_next_line windows w a place =
     else if is_last_line a a.settings.cursor.0 then set windows w (with_cursor place)
     else set windows w (with_cursor (a.settings.cursor.0 + 1, 0))
 
-abbrev pub next_line_frame : WindowMap → ℕ → Window → Option Frame
+abbrev pub next_line_frame : WindowMap → ℕ → Window → Option Rect
 next_line_frame window w a = if scrolls a then frame_of a (region_up window w a) else None
 
 -- ---- addch
@@ -73,7 +73,7 @@ character_printed windows w character a =
     if nat_lt (a.settings.cursor.1 + 1) a.columns then drawn_to windows w glyph (a.settings.cursor.0, a.settings.cursor.1 + 1)
     else to_next_line (put windows w glyph) w a a.settings.cursor
 
-abbrev pub character_frame : Windows → ℕ → ℕ → Window → Option Frame
+abbrev pub character_frame : Windows → ℕ → ℕ → Window → Option Rect
 character_frame windows w character a =
     let glyph = at_place a.settings.cursor (written_glyph a.settings character) in
     if nat_lt (a.settings.cursor.1 + 1) a.columns then frame_of a glyph
@@ -84,7 +84,7 @@ abbrev pub line_ended : Windows → ℕ → Window → Windows
 line_ended windows w a =
     to_next_line (put windows w (to_end_of_line a.settings.cursor a.settings.background)) w a (a.settings.cursor.0, 0)
 
-abbrev pub line_ended_frame : Windows → ℕ → Window → Option Frame
+abbrev pub line_ended_frame : Windows → ℕ → Window → Option Rect
 line_ended_frame windows w a =
     let rest = to_end_of_line a.settings.cursor a.settings.background in
     joined (frame_of a rest) (next_line_frame (put windows w rest).window w a)
@@ -96,7 +96,7 @@ typed_in windows w character a =
     else if character == backspace then set windows w (with_cursor (a.settings.cursor.0, a.settings.cursor.1 - 1))
     else character_printed windows w character a
 
-abbrev pub typed_frame : Windows → ℕ → ℕ → Window → Option Frame
+abbrev pub typed_frame : Windows → ℕ → ℕ → Window → Option Rect
 typed_frame windows w character a =
     if character == newline then line_ended_frame windows w a
     else if character == carriage_return || character == backspace then None
@@ -111,7 +111,7 @@ addch_refusal windows w character = first_of (
 abbrev pub after_addch : Windows → ℕ → ℕ → Windows
 after_addch windows w character = if_there windows w (typed_in windows w character)
 
-abbrev pub addch_frame : Windows → ℕ → ℕ → Option Frame
+abbrev pub addch_frame : Windows → ℕ → ℕ → Option Rect
 addch_frame windows w character = frame_if_there windows w (typed_frame windows w character)
 
 -- ---- addstr: the characters of a text in order; no character of a refused text is written
@@ -125,7 +125,7 @@ addstr_refusal windows w text = first_of (
 abbrev pub after_addstr : Windows → ℕ → List ℕ → Windows
 after_addstr windows w text = fold (λ before character. after_addch before w character) windows text
 
-abbrev pub addstr_frame : Windows → ℕ → List ℕ → Option Frame
+abbrev pub addstr_frame : Windows → ℕ → List ℕ → Option Rect
 addstr_frame windows w [] = None
 addstr_frame windows w (character ∷ text) = joined (addch_frame windows w character) (addstr_frame (after_addch windows w character) w text)
 
@@ -143,7 +143,7 @@ insch_drawing window w character a = character_inserted window w a.settings.curs
 abbrev pub after_insch : Windows → ℕ → ℕ → Windows
 after_insch windows w character = if_there windows w (λ a. put windows w (insch_drawing windows.window w character a))
 
-abbrev pub insch_frame : Windows → ℕ → ℕ → Option Frame
+abbrev pub insch_frame : Windows → ℕ → ℕ → Option Rect
 insch_frame windows w character = frame_if_there windows w (λ a. frame_of a (insch_drawing windows.window w character a))
 
 abbrev pub delch_drawing : WindowMap → ℕ → Window → Drawing
@@ -152,5 +152,5 @@ delch_drawing window w a = character_deleted window w a.settings.cursor (a.colum
 abbrev pub after_delch : Windows → ℕ → Windows
 after_delch windows w = if_there windows w (λ a. put windows w (delch_drawing windows.window w a))
 
-abbrev pub delch_frame : Windows → ℕ → Option Frame
+abbrev pub delch_frame : Windows → ℕ → Option Rect
 delch_frame windows w = frame_if_there windows w (λ a. frame_of a (delch_drawing windows.window w a))

@@ -4,13 +4,12 @@ use Rattle.std.specs.Prelude.{ℕ, zero, suc, ℤ, pos, negsuc, ◌-◌, Bool, t
 use Rattle.std.specs.Option.{option_map_or}
 use Rattle.cell.specs.Pictures.{origin}
 use Rattle.cell.specs.Refusals.{first_of}
-use Rattle.world.specs.Windows.{Drawing, Window, WindowMap, Windows, put}
+use Rattle.world.specs.Windows.{Drawing, Window, WindowMap, Windows, put, is_missing, if_there}
 use Rattle.world.specs.Drawings.{to_end_of_line, to_bottom, everywhere, lines_up, lines_down}
 use Rattle.world.specs.Frames.{frame_of}
 use Rattle.world.specs.calls.writing.Characters.{drawn_to, frame_if_there}
 use Rattle.world.specs.calls.writing.Options.{after_clearok}
-use Rattle.world.specs.Windows.{is_missing, if_there}
-use Rattle.cell.specs.declared.window.Frame.{Frame}
+use Rattle.cell.specs.declared.window.Rect.{Rect}
 use Rattle.cell.specs.declared.refusal.Refusal.{Refusal}
 use Rattle.cell.specs.declared.refusal.Refusal.TheVariants.{NoSuchWindow, ScrollingOff}
 
@@ -18,7 +17,7 @@ use Rattle.cell.specs.declared.refusal.Refusal.TheVariants.{NoSuchWindow, Scroll
 abbrev pub after_drawing : Windows → ℕ → (Window → Drawing) → Windows
 after_drawing windows w drawing = if_there windows w (λ a. put windows w (drawing a))
 
-abbrev pub drawing_frame : Windows → ℕ → (Window → Drawing) → Option Frame
+abbrev pub drawing_frame : Windows → ℕ → (Window → Drawing) → Option Rect
 drawing_frame windows w drawing = frame_if_there windows w (λ a. frame_of a (drawing a))
 
 -- ---- erase, clear: all of the window, and the cursor goes to its origin; clear asks for a clear screen too
@@ -29,7 +28,7 @@ erase_drawing a = everywhere a.settings.background
 abbrev pub after_erase : Windows → ℕ → Windows
 after_erase windows w = if_there windows w (λ a. drawn_to windows w (erase_drawing a) origin)
 
-abbrev pub erase_frame : Windows → ℕ → Option Frame
+abbrev pub erase_frame : Windows → ℕ → Option Rect
 erase_frame windows w = drawing_frame windows w erase_drawing
 
 abbrev pub after_clear : Windows → ℕ → Windows
@@ -43,7 +42,7 @@ clrtoeol_drawing a = to_end_of_line a.settings.cursor a.settings.background
 abbrev pub after_clrtoeol : Windows → ℕ → Windows
 after_clrtoeol windows w = after_drawing windows w clrtoeol_drawing
 
-abbrev pub clrtoeol_frame : Windows → ℕ → Option Frame
+abbrev pub clrtoeol_frame : Windows → ℕ → Option Rect
 clrtoeol_frame windows w = drawing_frame windows w clrtoeol_drawing
 
 abbrev pub clrtobot_drawing : Window → Drawing
@@ -52,7 +51,7 @@ clrtobot_drawing a = to_bottom a.settings.cursor a.settings.background
 abbrev pub after_clrtobot : Windows → ℕ → Windows
 after_clrtobot windows w = after_drawing windows w clrtobot_drawing
 
-abbrev pub clrtobot_frame : Windows → ℕ → Option Frame
+abbrev pub clrtobot_frame : Windows → ℕ → Option Rect
 clrtobot_frame windows w = drawing_frame windows w clrtobot_drawing
 
 -- ---- insertln, deleteln: to the bottom of the window, whatever its region
@@ -63,7 +62,7 @@ insertln_drawing window w a = lines_down window w a.settings.cursor.0 (a.lines -
 abbrev pub after_insertln : Windows → ℕ → Windows
 after_insertln windows w = after_drawing windows w (insertln_drawing windows.window w)
 
-abbrev pub insertln_frame : Windows → ℕ → Option Frame
+abbrev pub insertln_frame : Windows → ℕ → Option Rect
 insertln_frame windows w = drawing_frame windows w (insertln_drawing windows.window w)
 
 abbrev pub deleteln_drawing : WindowMap → ℕ → Window → Drawing
@@ -72,7 +71,7 @@ deleteln_drawing window w a = lines_up window w a.settings.cursor.0 (a.lines - 1
 abbrev pub after_deleteln : Windows → ℕ → Windows
 after_deleteln windows w = after_drawing windows w (deleteln_drawing windows.window w)
 
-abbrev pub deleteln_frame : Windows → ℕ → Option Frame
+abbrev pub deleteln_frame : Windows → ℕ → Option Rect
 deleteln_frame windows w = drawing_frame windows w (deleteln_drawing windows.window w)
 
 -- ---- scrl: the lines of the region, up by a number of lines, or down by a negative one
@@ -94,5 +93,5 @@ scrl_drawing window w (negsuc n) a = lines_down window w a.settings.region.0 a.s
 abbrev pub after_scrl : Windows → ℕ → ℤ → Windows
 after_scrl windows w n = after_drawing windows w (scrl_drawing windows.window w n)
 
-abbrev pub scrl_frame : Windows → ℕ → ℤ → Option Frame
+abbrev pub scrl_frame : Windows → ℕ → ℤ → Option Rect
 scrl_frame windows w n = drawing_frame windows w (scrl_drawing windows.window w n)

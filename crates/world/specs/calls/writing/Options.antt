@@ -8,9 +8,8 @@ use Rattle.cell.specs.Attributes.{bits_of, known, without}
 use Rattle.cell.specs.Glyphs.{Glyph, is_printable}
 use Rattle.cell.specs.Refusals.{first_of}
 use Rattle.cell.specs.declared.limits.TheConstants.{LAST_PAIR}
-use Rattle.world.specs.Windows.{WindowMap, Windows}
+use Rattle.world.specs.Windows.{WindowMap, Windows, is_missing}
 use Rattle.world.specs.Settings.{set, with_cursor}
-use Rattle.world.specs.Windows.{is_missing}
 use Rattle.cell.specs.declared.refusal.Refusal.{Refusal}
 use Rattle.cell.specs.declared.refusal.Refusal.TheVariants.{NoSuchWindow, OutsideWindow, BadRegion, BadCharacter, BadPair}
 use Rattle.world.specs.declared.settings.Settings.{Settings}

@@ -1,12 +1,14 @@
-use Rattle.std.proofs.Common.{refl}
+use Rattle.std.proofs.Common.{refl, subst}
+use Rattle.std.specs.Prelude.{OnOk}
 use Rattle.world.specs.World.{VirtualScreen}
 use Rattle.world.specs.calls.Dispatch.{stacking_refusal}
 use Rattle.world.specs.declared.call.Call.TheVariants as calls
 use Rattle.grids.specs.Tables.{windows}
 use Rattle.stack.specs.Tables.{panels}
+use Rattle.compose.specs.Calling.{DamagesFew}
 use Rattle.compose.specs.Desks.{DeskTable, world}
 use Rattle.compose.proofs.Arranging.{arranged-damages, arranged-size, arranged-sound, arranged-world}
-use Rattle.compose.proofs.Covering.{covered-result}
+use Rattle.compose.proofs.Covering.{covered-result, few-result}
 use Rattle.compose.proofs.DeskLemmas.{accepted-by, err-three}
 use Rattle.compose.proofs.desk.Desk.arrange.Goals as goal
 
@@ -29,3 +31,22 @@ invariant_of-self c =
           (arranged-world old new s r refl refl e.windows e.panels) (arranged-damages (world old) s old.windows.columns d.damage damage r e.damaged)
           (err-three r (λ table order undamaged i. record { windows = table i; panels = order i; pairs = d.pairs; virtual = virtual; damage = undamaged i }) e.unchanged e.unordered e.undamaged);
     }
+
+pub returns-clause-damaged : goal.returns-clause-damaged
+returns-clause-damaged c =
+    let d = c.self.inside in
+    let virtual : VirtualScreen = record { picture = d.picture; cursor = d.cursor; clear = d.clear } in
+    let e = c.arrange_damaging.ensures in
+    let r = c.arrange_damaging.result in
+    let old : DeskTable = record { windows = d.windows.table; panels = d.stack; pairs = d.pairs; virtual = virtual; damage = d.damage } in
+    let new : DeskTable = record {
+      windows = c.arrange_damaging.new.table;
+      panels = c.arrange_damaging.new.stack;
+      pairs = d.pairs;
+      virtual = virtual;
+      damage = c.arrange_damaging.new.damage;
+    } in
+    let s = c.args.stacking in
+    subst (λ (t : DeskTable). OnOk r (DamagesFew t (calls.Stacking s) new)) c.self.view_is
+    (few-result old new (calls.Stacking s) r c.self.invariant refl (accepted-by (stacking_refusal (windows d.windows.table) (panels d.stack) s) r e.refused)
+    (arranged-world old new s r refl refl e.windows e.panels) (arranged-damages (world old) s old.windows.columns d.damage new.damage r e.damaged))

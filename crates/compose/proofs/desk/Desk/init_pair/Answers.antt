@@ -4,7 +4,7 @@ use Rattle.world.specs.calls.Refresh.{after_init_pair, init_pair_refusal}
 use Rattle.world.specs.declared.call.Call.TheVariants as calls
 use Rattle.world.specs.declared.call.Refresh.TheVariants.{InitPair}
 use Rattle.grids.specs.Tables.{windows as windows_of}
-use Rattle.picture.specs.Parts.{part_has_line, part_holds}
+use Rattle.picture.specs.Parts.{part_holds}
 use Rattle.picture.proofs.DamageLaws.{damages-as, part-right}
 use Rattle.picture.proofs.Standard.{standard-holds}
 use Rattle.compose.specs.Desks.{DeskTable, world}
@@ -27,8 +27,8 @@ invariant_of-self c =
     record {
       sound = record { windows = h.sound.windows; panels = h.sound.panels; pairs = c.is_sound.ensures.sound; virtual = h.sound.virtual };
       covered = covered-after old new (calls.Refresh (InitPair a.pair a.foreground a.background)) h accepted refl left
-          (damages-as t.columns (part_holds part) (λ y x. true) (part_has_line part) (λ y. true) d.damage c.damage_part.new.damage
+          (damages-as t.columns (part_holds part) (λ y x. true) d.damage c.damage_part.new.damage
           (c.damage_part.ensures.damaged t.columns (part-right t.lines t.columns part c.window_part-part.ensures.within))
           (λ y x below inside is. c.window_part-part.ensures.holds y x ∙ standard-holds ws y x h.sound.windows (subst (λ n. y < n) h.covered.height below) inside)
-          (λ y is. refl));
+          (λ y x left is. refl));
     }

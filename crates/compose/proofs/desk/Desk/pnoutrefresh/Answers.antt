@@ -1,13 +1,12 @@
 use Rattle.std.proofs.Common.{rules, ◌≡◌, ◌||◌, false, None, Some, is_some, refl, subst}
-use Rattle.cell.specs.declared.window.Frame.{Frame}
+use Rattle.cell.specs.declared.window.Rect.{Rect}
 use Rattle.world.specs.Windows.{Drawing}
-use Rattle.world.specs.calls.Affected.{draws_on_line}
 use Rattle.world.specs.calls.Copies.{copywin_drawing}
 use Rattle.world.specs.calls.Refresh.{after_pnoutrefresh, pnoutrefresh_refusal, shown_over}
 use Rattle.world.specs.declared.call.Call.TheVariants as calls
 use Rattle.world.specs.declared.call.Refresh.TheVariants.{Pnoutrefresh}
 use Rattle.grids.specs.Tables.{windows}
-use Rattle.picture.specs.Parts.{part_has_line, part_holds}
+use Rattle.picture.specs.Parts.{part_holds}
 use Rattle.picture.specs.Damages.{Damages}
 use Rattle.picture.proofs.DamageLaws.{damages-as}
 use Rattle.compose.specs.Desks.{DeskTable, world}
@@ -43,17 +42,17 @@ left c = search rules
 abbrev drawing : goal.After-unmark_lines → Drawing
 drawing c = copywin_drawing (windows c.self.inside.windows.table).window c.args.pad.0 c.args.pminrow c.args.pmincol c.args.sminrow c.args.smincol c.args.smaxrow c.args.smaxcol false
 
-damages : (c : goal.After-unmark_lines) → Damages c.self.inside.windows.table.columns (λ y x. is_some (drawing c y x)) (draws_on_line c.self.inside.windows.table.columns (drawing c)) c.self.inside.damage c.damage_part.new.damage
+damages : (c : goal.After-unmark_lines) → Damages c.self.inside.windows.table.columns (λ y x. is_some (drawing c y x)) c.self.inside.damage c.damage_part.new.damage
 damages c =
     let a = c.args in
     let t = c.self.inside.windows.table in
-    let frame : Frame = record { top = a.sminrow; left = a.smincol; bottom = a.smaxrow; right = a.smaxcol } in
+    let frame : Rect = record { top = a.sminrow; left = a.smincol; bottom = a.smaxrow; right = a.smaxcol } in
     let of : IsOfPad (windows t) a.pad.0 a.pminrow a.pmincol a.sminrow a.smincol a.smaxrow a.smaxcol =
     of-pad (windows t) a.pad.0 a.pminrow a.pmincol a.sminrow a.smincol a.smaxrow a.smaxcol c.self.invariant.sound.windows (accepted c) in
-    damages-as t.columns (part_holds (Some frame)) (λ y x. is_some (drawing c y x)) (part_has_line (Some frame)) (draws_on_line t.columns (drawing c)) c.self.inside.damage c.damage_part.new.damage
+    damages-as t.columns (part_holds (Some frame)) (λ y x. is_some (drawing c y x)) c.self.inside.damage c.damage_part.new.damage
     (c.damage_part.ensures.damaged t.columns of.on_column)
     (λ y x below inside is. pad-covers (windows t) a.pad.0 a.pminrow a.pmincol a.sminrow a.smincol a.smaxrow a.smaxcol of frame y x refl refl refl refl inside is)
-    (λ y is. pad-draws (windows t) a.pad.0 a.pminrow a.pmincol a.sminrow a.smincol a.smaxrow a.smaxcol of frame y refl refl is)
+    (λ y x inside is. pad-draws (windows t) a.pad.0 a.pminrow a.pmincol a.sminrow a.smincol a.smaxrow a.smaxcol of frame y x refl refl refl refl inside is)
 
 pub invariant_of-self : goal.invariant_of-self
 invariant_of-self c =

@@ -1,12 +1,13 @@
-use Rattle.std.proofs.Common.{rules, ◌≡◌, None, refl}
+use Rattle.std.proofs.Common.{rules, ◌≡◌, ◌||◌, None, refl, subst}
 use Rattle.world.specs.World.{VirtualScreen}
 use Rattle.world.specs.calls.Refresh.{after_noutrefresh, noutrefresh_refusal, shown_over, touched_cells}
 use Rattle.world.specs.declared.call.Call.TheVariants as calls
 use Rattle.world.specs.declared.call.Refresh.TheVariants.{Noutrefresh}
 use Rattle.grids.specs.Tables.{windows}
+use Rattle.compose.specs.Calling.{DamagesFew}
 use Rattle.compose.specs.Desks.{DeskTable, world}
 use Rattle.compose.proofs.Composed.{IsSound-refreshed}
-use Rattle.compose.proofs.Covering.{covered-after}
+use Rattle.compose.proofs.Covering.{covered-after, few-after}
 use Rattle.compose.proofs.desk.Desk.wnoutrefresh.Goals as goal
 
 pub invariant_of-self : goal.invariant_of-self
@@ -26,3 +27,15 @@ invariant_of-self c =
           h.sound c.unmark.ensures.sound c.unmark.ensures.unmarked c.in_ok-top.ensures.place c.show_touched.ensures.shown c.show_touched.ensures.cells c.cursor_on_screen-self-inside.ensures;
       covered = covered-after old new (calls.Refresh (Noutrefresh c.args.win)) h accepted refl left c.damage_touched.ensures.damaged;
     }
+
+pub returns-clause-damaged : goal.returns-clause-damaged
+returns-clause-damaged c =
+    let d = c.self.inside in
+    let virtual : VirtualScreen = record { picture = d.picture; cursor = d.cursor; clear = d.clear } in
+    let old : DeskTable = record { windows = d.windows.table; panels = d.stack; pairs = d.pairs; virtual = virtual; damage = d.damage } in
+    let shown_now : VirtualScreen = record { picture = c.show_touched.new.picture; cursor = c.cursor_on_screen-self-inside.result; clear = d.clear || c.asks.result } in
+    let new : DeskTable = record { windows = c.unmark.new.self; panels = d.stack; pairs = d.pairs; virtual = shown_now; damage = c.damage_touched.new.damage } in
+    let call = calls.Refresh (Noutrefresh c.args.win) in
+    let accepted : noutrefresh_refusal (windows d.windows.table) c.args.win.0 ≡ None = search rules in
+    let left : world new ≡ after_noutrefresh (world old) c.args.win.0 = search rules in
+    subst (λ (t : DeskTable). DamagesFew t call new) c.self.view_is (few-after old new call c.self.invariant accepted refl left c.damage_touched.ensures.damaged)

@@ -20,7 +20,7 @@ returns-in-Ok-clause-script g c =
 pub returns-in-Err-clause-script : goal.returns-in-Err-clause-script
 returns-in-Err-clause-script g c =
     let none = none_is _ c.if-is_none.ensures in
-    rw c.ended.ensures (script_ends g.W.Sink.seen c.is_sound.ensures.size c.run_lines-end.ensures.lines
+    rw c.script_end.ensures (script_ends g.W.Sink.seen c.is_sound.ensures.size c.run_lines-end.ensures.lines
     (closes_unflushed _ _ _ none (record { kept = c.in-Err.ensures.bytes; failure = c.in-Err.ensures.failures; flushes = c.in-Err.ensures.flushes }))
     refl (sym (ap write_fault none)))
 

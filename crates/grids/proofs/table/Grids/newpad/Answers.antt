@@ -1,5 +1,4 @@
-use Rattle.world.specs.World.{blank_grid}
-use Rattle.world.specs.World.{new_window}
+use Rattle.world.specs.World.{blank_grid, new_window}
 use Rattle.std.proofs.Common.{None}
 use Rattle.grids.specs.contracts.table.Grids.{the_view}
 use Rattle.grids.proofs.NewWindows.{IsWindowTable-added, windows-added, stands_alone, placed_pad}

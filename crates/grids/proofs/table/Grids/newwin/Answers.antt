@@ -1,8 +1,7 @@
 use Rattle.std.proofs.Common.{◌≡◌, ℕ, Some, ◌∙◌, sym}
 use Rattle.world.specs.Windows.{Window}
-use Rattle.world.specs.World.{blank_grid}
+use Rattle.world.specs.World.{blank_grid, new_window}
 use Rattle.world.specs.calls.Making.{extent}
-use Rattle.world.specs.World.{new_window}
 use Rattle.grids.specs.contracts.table.Grids.{the_view}
 use Rattle.grids.proofs.NewWindows.{IsWindowTable-added, windows-added, stands_alone, extent-is, placed_new}
 use Rattle.slots.proofs.Origins.{origin-alone}

@@ -1,5 +1,5 @@
 use Rattle.std.proofs.Common.{◌≡◌}
-use Rattle.paint.proofs.Strokes.{ArePrinted}
+use Rattle.paint.specs.steps.Strokes.{ArePrinted}
 use Rattle.paint.proofs.pen.Pen.print_again.Given as goal
 
 abbrev pub invariant-loop-i : goal.invariant-loop-i

@@ -1,11 +1,7 @@
-use Rattle.std.proofs.Common.{ap, sym, ◌∙◌, is_some}
-use Rattle.script.proofs.WordLemmas.{found_in_group, next_group}
+use Rattle.std.proofs.Common.{ap, ◌∙◌}
+use Rattle.script.proofs.WordLaws.{found_by_letter}
+use Rattle.script.specs.steps.Rows.{find_named}
 use Rattle.script.proofs.words.Word.of.Goals as goal
 
-pub returns-then-is_some : goal.returns-then-is_some
-returns-then-is_some c =
-    c.first_named-found.ensures ∙ found_in_group _ _ c.loop-words.words-index _ _ c.loop-words-test.true (ap is_some (sym c.first_named-found.ensures) ∙ sym c.if-is_some.ensures) c.loop-words.invariant
-
-pub loop-words-preserved : goal.loop-words-preserved
-loop-words-preserved c =
-    next_group _ _ c.loop-words.words-index _ _ c.loop-words-test.true (ap is_some (sym c.first_named-found.ensures) ∙ sym c.if-is_some.ensures) c.loop-words.invariant
+pub returns : goal.returns
+returns c = c.find_named.ensures ∙ ap (λ words. find_named words c.args.text.now) c.words_like.ensures ∙ found_by_letter c.args.text.now

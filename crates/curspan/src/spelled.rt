@@ -1,0 +1,79 @@
+//! Writing a text that may hold any byte, as the words of a command line do, to where a terminal may be.
+
+ghost use Rattle.std.specs.Prelude.{◌≡◌, ◌≤◌, ◌+◌, ◌++◌, length};
+ghost use Rattle.curspan.specs.Spelled.{spelled, spelled_byte};
+ghost use Rattle.curspan.specs.Written.{IsTold, WritingEnds};
+ghost use Rattle.curspan.specs.steps.Putting.{PuttingEnds};
+
+use crate::put::put;
+use arrayvec::ArrayVec;
+use cell::is_printable;
+use explain::digits;
+use streams::{Sink, append};
+
+/// How many bytes are spelled at once.
+const PIECE: usize = 256;
+
+/// Room for the spelling of a piece: four bytes for each of its own.
+const ROOM: usize = 1024;
+
+/// The spelling of a piece.
+type Spelling = ArrayVec<u8, ROOM>;
+
+/// Puts a byte at the end, as it is if it is printed or a newline, and else as `\x1b`.
+fn append_spelled(text: &mut Spelling, byte: u8)
+    requires { length text.old.items + 4 ≤ ROOM }
+    ensures text { text.new.items ≡ text.old.items ++ spelled_byte byte }
+    ensures short { length text.new.items ≤ length text.old.items + 4 }
+{
+    if is_printable(byte) || byte == b'\n' {
+        append(text, &[byte]);
+    } else {
+        append(text, b"\\x");
+        append(text, &digits(byte));
+    }
+}
+
+/// The spelling of a piece.
+fn spelled(piece: &[u8]) -> Spelling
+    requires { length piece.now ≤ PIECE }
+    ensures { result.items ≡ spelled piece.now }
+{
+    let mut text = Spelling::new();
+    for byte in piece {
+        append_spelled(&mut text, *byte);
+    }
+    text
+}
+
+/// Writes the spelling of a text, and answers whether all of it went out. Nothing is flushed.
+fn put_spelled<W: Sink>(sink: &mut W, text: &[u8]) -> bool
+    ensures { PuttingEnds result (W.seen sink.old) (W.seen sink.new) (spelled text.now) }
+{
+    let mut rest = text;
+    while !rest.is_empty() {
+        let (piece, after) = rest.split_at(rest.len().min(PIECE));
+        if !put(sink, spelled(piece).as_slice()) {
+            return false;
+        }
+        rest = after;
+    }
+    true
+}
+
+/// Writes the spelling of a text and flushes, and answers whether all of it went out.
+fn write_spelled<W: Sink>(sink: &mut W, text: &[u8]) -> bool
+    ensures { WritingEnds result (W.seen sink.old) (W.seen sink.new) (spelled text.now) }
+{
+    if !put_spelled(sink, text) {
+        return false;
+    }
+    sink.flush().is_ok()
+}
+
+/// Writes the spelling of a text on the log and flushes it, as `tell` does a line.
+pub fn tell_spelled<L: Sink>(log: &mut L, text: &[u8])
+    ensures { IsTold (L.seen log.old) (L.seen log.new) (spelled text.now) }
+{
+    write_spelled(log, text);
+}

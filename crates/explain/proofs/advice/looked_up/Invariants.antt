@@ -1,9 +1,0 @@
-use Rattle.std.proofs.Common.{◌≡◌, length, map}
-use Rattle.explain.specs.Advice.{looked_up}
-use Rattle.explain.proofs.advice.looked_up.Given as goal
-
-abbrev pub invariant-loop-table : goal.invariant-loop-table
-invariant-loop-table l = looked_up (map (λ entry. (entry.0.now, entry.1)) l.table) l.name ≡ looked_up (map (λ entry. (entry.0.now, entry.1)) l.initial.table) l.name
-
-abbrev pub decreases-loop-table : goal.decreases-loop-table
-decreases-loop-table l = length l.table
