@@ -1,0 +1,70 @@
+/* Borders and drawn lines, and cells whose rendition is changed where they stand. Nothing here is proved. */
+#include "inside.h"
+
+/* What a character is in a window: with the window's attributes and those of its background, which a blank one takes whole. */
+static chtype rendered(const WINDOW *win, chtype ch) {
+    chtype text = ch == ' ' ? win->background & A_CHARTEXT : ch & A_CHARTEXT;
+    chtype pair = ch & A_COLOR ? ch : win->attrs & A_COLOR ? win->attrs : win->background;
+    return text | (pair & A_COLOR) | ((ch | win->attrs | win->background) & A_ATTRIBUTES & ~A_COLOR);
+}
+
+/* Draws n cells of a window, of one character each in its rendition, from a place on to the right or downwards. */
+static int draw(WINDOW *win, int y, int x, int n, chtype ch, bool down) {
+    chtype row[LONGEST], cell = rendered(win, ch);
+    if (down) return curspan_put_column(win, y, x, n, cell);
+    for (int i = 0; i < n; i++) row[i] = cell;
+    return curspan_put_cells(win, y, x, row, n);
+}
+
+static int least(int a, int b) { return a < b ? a : b; }
+
+int whline(WINDOW *win, chtype ch, int n) {
+    int y = getcury(win), x = getcurx(win);
+    return y == ERR ? ERR : draw(win, y, x, least(n, getmaxx(win) - x), ch ? ch : ACS_HLINE, false);
+}
+
+int wvline(WINDOW *win, chtype ch, int n) {
+    int y = getcury(win), x = getcurx(win);
+    return y == ERR ? ERR : draw(win, y, x, least(n, getmaxy(win) - y), ch ? ch : ACS_VLINE, true);
+}
+
+int wborder(WINDOW *win, chtype left, chtype right, chtype top, chtype bottom, chtype top_left, chtype top_right,
+            chtype bottom_left, chtype bottom_right) {
+    int last_y = getmaxy(win) - 1, last_x = getmaxx(win) - 1;
+    if (is_there(win) == ERR) return ERR;
+    if (draw(win, 0, 0, last_x + 1, top ? top : ACS_HLINE, false) == ERR) return ERR;
+    if (draw(win, last_y, 0, last_x + 1, bottom ? bottom : ACS_HLINE, false) == ERR) return ERR;
+    if (draw(win, 0, 0, last_y + 1, left ? left : ACS_VLINE, true) == ERR) return ERR;
+    if (draw(win, 0, last_x, last_y + 1, right ? right : ACS_VLINE, true) == ERR) return ERR;
+    if (draw(win, 0, 0, 1, top_left ? top_left : ACS_ULCORNER, false) == ERR) return ERR;
+    if (draw(win, 0, last_x, 1, top_right ? top_right : ACS_URCORNER, false) == ERR) return ERR;
+    if (draw(win, last_y, 0, 1, bottom_left ? bottom_left : ACS_LLCORNER, false) == ERR) return ERR;
+    return draw(win, last_y, last_x, 1, bottom_right ? bottom_right : ACS_LRCORNER, false);
+}
+
+int wchgat(WINDOW *win, int n, attr_t attrs, short pair, const void *none) {
+    chtype cells[LONGEST];
+    int y = getcury(win), x = getcurx(win);
+    if (y == ERR || none || pair < 0 || pair > LAST_PAIR) return ERR;
+    int count = curspan_read_cells(win, y, x, cells, n);
+    for (int i = 0; i < count; i++) cells[i] = (cells[i] & A_CHARTEXT) | (attrs & A_ATTRIBUTES & ~A_COLOR) | COLOR_PAIR(pair);
+    return curspan_put_cells(win, y, x, cells, count);
+}
+
+int wbkgd(WINDOW *win, chtype ch) {
+    chtype cells[LONGEST];
+    if (is_there(win) == ERR) return ERR;
+    chtype old = win->background;
+    if (curspan_change_background(win, ch) == ERR) return ERR;
+    for (int y = 0; y < getmaxy(win); y++) {
+        int count = curspan_read_cells(win, y, 0, cells, -1);
+        for (int i = 0; i < count; i++) {
+            chtype text = (cells[i] & A_CHARTEXT) == (old & A_CHARTEXT) ? win->background & A_CHARTEXT : cells[i] & A_CHARTEXT;
+            chtype pair = (cells[i] & A_COLOR) == (old & A_COLOR) ? win->background & A_COLOR : cells[i] & A_COLOR;
+            chtype attrs = (cells[i] & ~old) | win->background;
+            cells[i] = text | pair | (attrs & A_ATTRIBUTES & ~A_COLOR);
+        }
+        if (curspan_put_cells(win, y, 0, cells, count) == ERR) return ERR;
+    }
+    return OK;
+}

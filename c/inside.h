@@ -1,0 +1,67 @@
+/* What the files of this folder share. */
+#ifndef CURSPAN_INSIDE_H
+#define CURSPAN_INSIDE_H
+
+#include "curses.h"
+
+enum {
+    MOST = 1001,     /* windows with the standard screen, and panels with none */
+    NUMBER = 65535,  /* the greatest number that crosses to curspan.h */
+    LAST_PAIR = 63,
+    LONGEST = 1000   /* the longest line of a window or pad */
+};
+
+/* What curspan.h doesn't tell back of a window, by its number. */
+struct curspan_window {
+    bool is_there, is_pad, scrolls;
+    attr_t attrs; /* the attributes and the pair that the window has */
+    attr_t told;  /* those that Curspan was told last */
+    chtype background;
+    int top, bottom; /* the scroll region */
+    WINDOW *parent;
+    int part[6]; /* of a pad, which part of it was refreshed last, and to where */
+};
+
+extern curspan curspan_the_screen;
+
+/* The number of a window, and for a pointer to none a number that no window has. */
+uint16_t curspan_number(const WINDOW *win);
+/* The window of an answer that is its number, and NULL of a refusal. */
+WINDOW *curspan_window_of(curspan_answer answer);
+/* Makes the standard screen of an answer that is its number. */
+void curspan_begin(curspan_answer answer);
+/* Forgets all windows. */
+void curspan_forget_all(void);
+
+/* The screen, and a window of it, as arguments. */
+#define SCREEN_AND(win) &curspan_the_screen, curspan_number(win)
+
+/* Tells Curspan with which attributes a window writes next. */
+int curspan_tell(WINDOW *win, attr_t attrs);
+/* One set of attributes with another added, whose pair goes before where it has one. */
+attr_t curspan_with(attr_t attrs, attr_t more);
+/* Sets the background, that of the window in `win` or another. */
+int curspan_set_background(WINDOW *win, chtype ch);
+/* Sets the background and what the window's attributes have of it. */
+int curspan_change_background(WINDOW *win, chtype ch);
+
+/* Sets cells of a line of a window to some cells, as they are: the cursor, the background and scrolling have no part in it. */
+int curspan_put_cells(WINDOW *win, int y, int x, const chtype *cells, int n);
+/* Sets a column of cells of a window to one cell. */
+int curspan_put_column(WINDOW *win, int y, int x, int n, chtype cell);
+/* Reads up to n cells from a place on, or all where n is negative, and leaves the cursor where it is. It answers how many they are. */
+int curspan_read_cells(WINDOW *win, int y, int x, chtype *cells, int n);
+/* Forgets the pad in which rows are made. */
+void curspan_forget_rows(void);
+
+static inline bool is_number(int n) { return n >= 0 && n <= NUMBER; }
+
+static inline bool are_numbers(int a, int b, int c, int d) {
+    return is_number(a) && is_number(b) && is_number(c) && is_number(d);
+}
+
+static inline int is_there(const WINDOW *win) { return curspan_number(win) == NUMBER ? ERR : OK; }
+static inline int done(curspan_answer answer) { return answer.status == CURSPAN_OK ? OK : ERR; }
+static inline int first_of(curspan_answer answer) { return answer.status == CURSPAN_OK ? (int)answer.first : ERR; }
+
+#endif

@@ -1,0 +1,74 @@
+/* Copies and marks, and how windows come into the virtual screen. Nothing here is proved. */
+#include "inside.h"
+
+#include <string.h>
+
+/* ---- copies and marks */
+
+int overlay(const WINDOW *from, WINDOW *to) { return done(curspan_overlay(SCREEN_AND(from), curspan_number(to))); }
+int overwrite(const WINDOW *from, WINDOW *to) { return done(curspan_overwrite(SCREEN_AND(from), curspan_number(to))); }
+
+int copywin(const WINDOW *from, WINDOW *to, int from_y, int from_x, int to_top, int to_left, int to_bottom, int to_right,
+            int overlays) {
+    if (!are_numbers(from_y, from_x, to_top, to_left) || !are_numbers(to_bottom, to_right, 0, 0)) return ERR;
+    return done(curspan_copywin(SCREEN_AND(from), curspan_number(to), (uint16_t)from_y, (uint16_t)from_x, (uint16_t)to_top,
+                                (uint16_t)to_left, (uint16_t)to_bottom, (uint16_t)to_right, overlays != 0));
+}
+
+int touchwin(WINDOW *win) { return done(curspan_touchwin(SCREEN_AND(win))); }
+int untouchwin(WINDOW *win) { return done(curspan_untouchwin(SCREEN_AND(win))); }
+
+int wtouchln(WINDOW *win, int y, int n, int changed) {
+    if (!are_numbers(y, n, 0, 0)) return ERR;
+    return done(curspan_wtouchln(SCREEN_AND(win), (uint16_t)y, (uint16_t)n, changed != 0));
+}
+
+int touchline(WINDOW *win, int y, int n) { return wtouchln(win, y, n, TRUE); }
+
+bool is_linetouched(WINDOW *win, int y) { return is_number(y) && first_of(curspan_is_linetouched(SCREEN_AND(win), (uint16_t)y)) == 1; }
+bool is_wintouched(WINDOW *win) { return first_of(curspan_is_wintouched(SCREEN_AND(win))) == 1; }
+void wsyncup(WINDOW *win) { curspan_wsyncup(SCREEN_AND(win)); }
+void wsyncdown(WINDOW *win) { curspan_wsyncdown(SCREEN_AND(win)); }
+
+void wcursyncup(WINDOW *win) {
+    for (; is_there(win) == OK && win->parent; win = win->parent)
+        wmove(win->parent, getcury(win) + getpary(win), getcurx(win) + getparx(win));
+}
+
+/* ---- refresh */
+
+int wnoutrefresh(WINDOW *win) {
+    if (win && win == curscr) return clearok(curscr, TRUE);
+    return done(curspan_wnoutrefresh(SCREEN_AND(win)));
+}
+
+int wrefresh(WINDOW *win) { return wnoutrefresh(win) == ERR ? ERR : doupdate(); }
+
+static int not_negative(int n) { return n < 0 ? 0 : n; }
+
+int pnoutrefresh(WINDOW *pad, int pad_y, int pad_x, int top, int left, int bottom, int right) {
+    const int part[6] = {not_negative(pad_y), not_negative(pad_x), not_negative(top), not_negative(left), bottom, right};
+    if (is_there(pad) == ERR || !are_numbers(part[0], part[1], part[2], part[3]) || !are_numbers(bottom, right, 0, 0)) return ERR;
+    memcpy(pad->part, part, sizeof part);
+    return done(curspan_pnoutrefresh(SCREEN_AND(pad), (uint16_t)part[0], (uint16_t)part[1], (uint16_t)part[2], (uint16_t)part[3],
+                                     (uint16_t)bottom, (uint16_t)right));
+}
+
+int prefresh(WINDOW *pad, int pad_y, int pad_x, int top, int left, int bottom, int right) {
+    return pnoutrefresh(pad, pad_y, pad_x, top, left, bottom, right) == ERR ? ERR : doupdate();
+}
+
+int pechochar(WINDOW *pad, const chtype ch) {
+    if (waddch(pad, ch) == ERR) return ERR;
+    const int *part = pad->part;
+    return prefresh(pad, part[0], part[1], part[2], part[3], part[4], part[5]);
+}
+
+int wredrawln(WINDOW *win, int y, int n) {
+    if (win && win == curscr) return clearok(curscr, TRUE);
+    if (touchline(win, y, n) == ERR) return ERR;
+    curspan_invalidate(&curspan_the_screen);
+    return OK;
+}
+
+int redrawwin(WINDOW *win) { return wredrawln(win, 0, win && win == curscr ? 0 : not_negative(getmaxy(win))); }

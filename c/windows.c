@@ -1,0 +1,163 @@
+/* Windows and pads: making and placing them, asking about them, and their options. Nothing here is proved: it looks at what C alone can
+   pass, as null and negative arguments, and keeps what Curspan doesn't tell back. */
+#include "inside.h"
+
+#include <stddef.h>
+
+WINDOW *stdscr, *curscr;
+
+static struct curspan_window windows[MOST];
+static struct curspan_window the_terminal;
+
+uint16_t curspan_number(const WINDOW *win) {
+    uintptr_t at = (uintptr_t)win, first = (uintptr_t)windows;
+    if (at < first || at >= first + sizeof windows || !win->is_there) return NUMBER;
+    return (uint16_t)(win - windows);
+}
+
+static void forget(WINDOW *win) {
+    const struct curspan_window none = {.is_there = false, .background = ' '};
+    *win = none;
+}
+
+void curspan_forget_all(void) {
+    for (int i = 0; i < MOST; i++) forget(&windows[i]);
+    curspan_forget_rows();
+    stdscr = curscr = NULL;
+}
+
+WINDOW *curspan_window_of(curspan_answer answer) {
+    return answer.status == CURSPAN_OK ? &windows[answer.first] : NULL;
+}
+
+/* A window that was made by an answer, with its size. A derived one begins with its parent's attributes and background. */
+static WINDOW *made(curspan_answer answer, bool is_pad, WINDOW *parent) {
+    WINDOW *win = curspan_window_of(answer);
+    if (!win) return NULL;
+    forget(win);
+    win->is_there = true;
+    win->is_pad = is_pad;
+    win->parent = parent;
+    win->bottom = getmaxy(win) - 1;
+    if (parent) {
+        wbkgdset(win, parent->background);
+        win->attrs = parent->attrs;
+    }
+    touchwin(win); /* as in System V: a new window covers what is below it */
+    return win;
+}
+
+void curspan_begin(curspan_answer answer) {
+    curspan_forget_all();
+    stdscr = made(answer, false, NULL);
+    curscr = &the_terminal;
+}
+
+
+
+WINDOW *newwin(int lines, int columns, int y, int x) {
+    if (!are_numbers(lines, columns, y, x)) return NULL;
+    return made(curspan_newwin(&curspan_the_screen, (uint16_t)lines, (uint16_t)columns, (uint16_t)y, (uint16_t)x), false, NULL);
+}
+
+WINDOW *subwin(WINDOW *win, int lines, int columns, int y, int x) {
+    if (!are_numbers(lines, columns, y, x)) return NULL;
+    return made(curspan_subwin(SCREEN_AND(win), (uint16_t)lines, (uint16_t)columns, (uint16_t)y, (uint16_t)x), false, win);
+}
+
+WINDOW *derwin(WINDOW *win, int lines, int columns, int y, int x) {
+    if (!are_numbers(lines, columns, y, x)) return NULL;
+    return made(curspan_derwin(SCREEN_AND(win), (uint16_t)lines, (uint16_t)columns, (uint16_t)y, (uint16_t)x), false, win);
+}
+
+WINDOW *newpad(int lines, int columns) {
+    if (!are_numbers(lines, columns, 0, 0)) return NULL;
+    return made(curspan_newpad(&curspan_the_screen, (uint16_t)lines, (uint16_t)columns), true, NULL);
+}
+
+WINDOW *subpad(WINDOW *pad, int lines, int columns, int y, int x) {
+    if (!are_numbers(lines, columns, y, x)) return NULL;
+    return made(curspan_subpad(SCREEN_AND(pad), (uint16_t)lines, (uint16_t)columns, (uint16_t)y, (uint16_t)x), true, pad);
+}
+
+WINDOW *dupwin(WINDOW *win) {
+    int lines = getmaxy(win), columns = getmaxx(win);
+    if (lines == ERR) return NULL;
+    WINDOW *copy = win->is_pad ? newpad(lines, columns) : newwin(lines, columns, getbegy(win), getbegx(win));
+    if (!copy) return NULL;
+    copywin(win, copy, 0, 0, 0, 0, lines - 1, columns - 1, FALSE);
+    wbkgdset(copy, win->background);
+    copy->attrs = win->attrs;
+    scrollok(copy, win->scrolls);
+    wsetscrreg(copy, win->top, win->bottom);
+    wmove(copy, getcury(win), getcurx(win));
+    return copy;
+}
+
+int delwin(WINDOW *win) {
+    if (done(curspan_delwin(SCREEN_AND(win))) == ERR) return ERR;
+    forget(win);
+    return OK;
+}
+
+int mvwin(WINDOW *win, int y, int x) {
+    if (!are_numbers(y, x, 0, 0)) return ERR;
+    if (done(curspan_mvwin(SCREEN_AND(win), (uint16_t)y, (uint16_t)x)) == ERR) return ERR;
+    return touchwin(win);
+}
+
+int mvderwin(WINDOW *win, int y, int x) {
+    if (!are_numbers(y, x, 0, 0)) return ERR;
+    return done(curspan_mvderwin(SCREEN_AND(win), (uint16_t)y, (uint16_t)x));
+}
+
+static int second_of(curspan_answer answer) { return answer.status == CURSPAN_OK ? (int)answer.second : ERR; }
+
+int getcury(const WINDOW *win) { return first_of(curspan_getyx(SCREEN_AND(win))); }
+int getcurx(const WINDOW *win) { return second_of(curspan_getyx(SCREEN_AND(win))); }
+int getbegy(const WINDOW *win) { return first_of(curspan_getbegyx(SCREEN_AND(win))); }
+int getbegx(const WINDOW *win) { return second_of(curspan_getbegyx(SCREEN_AND(win))); }
+int getmaxy(const WINDOW *win) { return first_of(curspan_getmaxyx(SCREEN_AND(win))); }
+int getmaxx(const WINDOW *win) { return second_of(curspan_getmaxyx(SCREEN_AND(win))); }
+int getpary(const WINDOW *win) { return first_of(curspan_getparyx(SCREEN_AND(win))); }
+int getparx(const WINDOW *win) { return second_of(curspan_getparyx(SCREEN_AND(win))); }
+
+/* ---- options */
+
+int clearok(WINDOW *win, bool flag) {
+    if (win && win == curscr) {
+        if (flag) curspan_invalidate(&curspan_the_screen);
+        return OK;
+    }
+    return done(curspan_clearok(SCREEN_AND(win), flag));
+}
+
+int scrollok(WINDOW *win, bool flag) {
+    if (done(curspan_scrollok(SCREEN_AND(win), flag)) == ERR) return ERR;
+    win->scrolls = flag;
+    return OK;
+}
+
+int wsetscrreg(WINDOW *win, int top, int bottom) {
+    if (!are_numbers(top, bottom, 0, 0)) return ERR;
+    if (done(curspan_wsetscrreg(SCREEN_AND(win), (uint16_t)top, (uint16_t)bottom)) == ERR) return ERR;
+    win->top = top;
+    win->bottom = bottom;
+    return OK;
+}
+
+
+int idlok(WINDOW *win, bool flag) {
+    (void)flag;
+    return is_there(win);
+}
+
+void idcok(WINDOW *win, bool flag) {
+    (void)win;
+    (void)flag;
+}
+
+int leaveok(WINDOW *win, bool flag) {
+    (void)flag;
+    return is_there(win);
+}

@@ -1,0 +1,109 @@
+/* Writing in windows: characters, texts, and what is inserted, deleted and cleared. Nothing here is proved. */
+#include "inside.h"
+
+#include <stdlib.h>
+#include <string.h>
+
+/* Makes a window ready to be written in with its own attributes. */
+static int ready(WINDOW *win) { return is_there(win) == ERR ? ERR : curspan_tell(win, win->attrs); }
+
+int wmove(WINDOW *win, int y, int x) {
+    if (!are_numbers(y, x, 0, 0)) return ERR;
+    return done(curspan_wmove(SCREEN_AND(win), (uint16_t)y, (uint16_t)x));
+}
+
+/* Writes a character with the attributes that were told: a tab as spaces, and another control character in two. */
+static int add_character(WINDOW *win, uint8_t ch) {
+    static const char tab[] = "        ";
+    uint8_t caret[2] = {'^', (uint8_t)(ch ^ 64)};
+    curspan_answer answer = curspan_waddch(SCREEN_AND(win), ch);
+    if (answer.status != CURSPAN_BAD_CHARACTER || ch > 127) return done(answer);
+    if (ch == '\t') return done(curspan_waddstr(SCREEN_AND(win), (const uint8_t *)tab, (size_t)(8 - getcurx(win) % 8)));
+    return done(curspan_waddstr(SCREEN_AND(win), caret, sizeof caret));
+}
+
+int waddch(WINDOW *win, const chtype ch) {
+    int answer;
+    if (is_there(win) == ERR || PAIR_NUMBER(ch) > LAST_PAIR) return ERR;
+    if (curspan_tell(win, curspan_with(win->attrs, ch)) == ERR) return ERR;
+    if (!(ch & A_ATTRIBUTES) || (ch & A_CHARTEXT) != ' ' || (win->background & A_CHARTEXT) == ' ')
+        return add_character(win, (uint8_t)(ch & A_CHARTEXT));
+    /* A space with attributes is one, and isn't the background's character. */
+    curspan_set_background(win, (win->background & A_ATTRIBUTES) | ' ');
+    answer = add_character(win, ' ');
+    curspan_set_background(win, win->background);
+    return answer;
+}
+
+/* How many bytes of a text are written, of which at most n where that isn't negative. */
+static size_t length_of(const char *text, int n) {
+    const char *end = n < 0 ? NULL : memchr(text, 0, (size_t)n);
+    return n < 0 ? strlen(text) : end ? (size_t)(end - text) : (size_t)n;
+}
+
+int waddnstr(WINDOW *win, const char *text, int n) {
+    if (!text || ready(win) == ERR) return ERR;
+    size_t length = length_of(text, n);
+    curspan_answer answer = curspan_waddstr(SCREEN_AND(win), (const uint8_t *)text, length);
+    if (answer.status != CURSPAN_BAD_CHARACTER) return done(answer);
+    for (size_t i = 0; i < length; i++)
+        if (add_character(win, (uint8_t)text[i]) == ERR) return ERR;
+    return OK;
+}
+
+int waddstr(WINDOW *win, const char *text) { return waddnstr(win, text, -1); }
+
+int waddchnstr(WINDOW *win, const chtype *row, int n) {
+    int y = getcury(win), x = getcurx(win), most = getmaxx(win) - x, count;
+    if (y == ERR || !row) return ERR;
+    if (n >= 0 && n < most) most = n;
+    for (count = 0; count < most && row[count]; count++) continue;
+    return curspan_put_cells(win, y, x, row, count);
+}
+
+int vw_printw(WINDOW *win, const char *format, va_list arguments) {
+    char few[256], *text = few;
+    va_list again;
+    int answer = ERR;
+    if (!format) return ERR;
+    va_copy(again, arguments);
+    int length = vsnprintf(few, sizeof few, format, arguments);
+    if (length >= (int)sizeof few && (text = malloc((size_t)length + 1))) vsnprintf(text, (size_t)length + 1, format, again);
+    va_end(again);
+    if (length >= 0 && text) answer = waddnstr(win, text, length);
+    if (text != few) free(text);
+    return answer;
+}
+
+int winsch(WINDOW *win, chtype ch) {
+    if (is_there(win) == ERR || PAIR_NUMBER(ch) > LAST_PAIR || curspan_tell(win, curspan_with(win->attrs, ch)) == ERR) return ERR;
+    return done(curspan_winsch(SCREEN_AND(win), (uint8_t)(ch & A_CHARTEXT)));
+}
+
+int winsnstr(WINDOW *win, const char *text, int n) {
+    if (!text || is_there(win) == ERR) return ERR;
+    for (size_t length = length_of(text, n); length > 0; length--)
+        if (winsch(win, (uint8_t)text[length - 1]) == ERR) return ERR;
+    return OK;
+}
+
+int wdelch(WINDOW *win) { return done(curspan_wdelch(SCREEN_AND(win))); }
+int winsertln(WINDOW *win) { return done(curspan_winsertln(SCREEN_AND(win))); }
+int wdeleteln(WINDOW *win) { return done(curspan_wdeleteln(SCREEN_AND(win))); }
+
+int winsdelln(WINDOW *win, int n) {
+    int lines = getmaxy(win), answer = is_there(win);
+    int times = n < -lines || n > lines ? lines : n < 0 ? -n : n;
+    while (times-- > 0 && answer == OK) answer = n > 0 ? winsertln(win) : wdeleteln(win);
+    return answer;
+}
+
+int werase(WINDOW *win) { return done(curspan_werase(SCREEN_AND(win))); }
+int wclear(WINDOW *win) { return done(curspan_wclear(SCREEN_AND(win))); }
+int wclrtoeol(WINDOW *win) { return done(curspan_wclrtoeol(SCREEN_AND(win))); }
+int wclrtobot(WINDOW *win) { return done(curspan_wclrtobot(SCREEN_AND(win))); }
+
+int wscrl(WINDOW *win, int n) {
+    int lines = getmaxy(win), most = n < -lines ? -lines : n > lines ? lines : n;
+    return done(curspan_wscrl(SCREEN_AND(win), (int16_t)most));
+}

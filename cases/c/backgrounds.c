@@ -1,0 +1,60 @@
+/* Backgrounds, and what is cleared to them. */
+#include "shot.h"
+
+int main(void) {
+    initscr();
+    start_color();
+    init_pair(1, COLOR_YELLOW, COLOR_BLUE);
+    init_pair(2, COLOR_WHITE, COLOR_RED);
+    WINDOW *win = newwin(8, 40, 3, 10);
+    wbkgdset(win, A_REVERSE | '.');
+    werase(win);
+    mvwaddstr(win, 1, 1, "a text with spaces");
+    wrefresh(win);
+    shot();
+    wbkgdset(win, COLOR_PAIR(1) | ' ');
+    wmove(win, 3, 5);
+    wclrtobot(win);
+    wrefresh(win);
+    shot();
+    wmove(win, 1, 5);
+    wclrtoeol(win);
+    wrefresh(win);
+    shot();
+    WINDOW *other = newwin(6, 30, 12, 20);
+    mvwaddstr(other, 2, 2, "before its background");
+    wbkgd(other, COLOR_PAIR(2) | A_BOLD | ' ');
+    waddstr(other, ", after");
+    wrefresh(other);
+    shot();
+    wbkgd(other, COLOR_PAIR(1) | ' ');
+    wrefresh(other);
+    shot();
+    mvprintw(0, 0, "it is: %d", getbkgd(other) == (COLOR_PAIR(1) | ' '));
+    refresh();
+    shot();
+    bkgdset(COLOR_PAIR(2) | ' ');
+    clear();
+    addstr("clear");
+    refresh();
+    shot();
+    bkgd(A_UNDERLINE | ' ');
+    mvaddstr(3, 3, "underlined");
+    refresh();
+    shot();
+    erase();
+    move(2, 2);
+    addstr("erased");
+    move(5, 0);
+    clrtobot();
+    mvaddstr(4, 4, "gone");
+    move(4, 5);
+    clrtoeol();
+    refresh();
+    shot();
+    wclear(win);
+    wrefresh(win);
+    shot();
+    endwin();
+    return 0;
+}

@@ -1,0 +1,65 @@
+/* Borders and drawn lines. */
+#include "shot.h"
+
+int main(void) {
+    initscr();
+    border('l', 'r', 't', 'b', '1', '2', '3', '4');
+    refresh();
+    shot();
+    WINDOW *boxed = newwin(6, 20, 2, 3), *plain = newwin(6, 20, 2, 30), *bold = newwin(6, 20, 10, 3);
+    box(boxed, '|', '-');
+    box(plain, 0, 0);
+    wattron(bold, A_BOLD);
+    wbkgdset(bold, A_UNDERLINE | ' ');
+    wborder(bold, 0, 0, '=', 0, 0, '*', 0, 0);
+    mvwhline(plain, 2, 1, 0, 18);
+    mvwvline(plain, 1, 8, 0, 100);
+    mvwhline(boxed, 3, 2, '~' | A_REVERSE, 5);
+    wmove(boxed, 2, 10);
+    wvline(boxed, '!', 2);
+    whline(boxed, '=', 3);
+    mvwprintw(bold, 2, 2, "%d %d", getcury(boxed), getcurx(boxed));
+    wnoutrefresh(boxed);
+    wnoutrefresh(plain);
+    wnoutrefresh(bold);
+    doupdate();
+    shot();
+    mvhline(18, 30, ACS_HLINE, 30);
+    mvvline(12, 40, ACS_VLINE, 5);
+    move(20, 30);
+    hline('h', 10);
+    move(12, 60);
+    vline('v', 8);
+    mvaddch(18, 40, ACS_PLUS);
+    mvaddch(17, 30, ACS_ULCORNER);
+    addch(ACS_URCORNER);
+    addch(ACS_LLCORNER);
+    addch(ACS_LRCORNER);
+    addch(ACS_LTEE);
+    addch(ACS_RTEE);
+    addch(ACS_BTEE);
+    addch(ACS_TTEE);
+    move(20, 50);
+    addch(ACS_S1);
+    addch(ACS_S9);
+    addch(ACS_DIAMOND);
+    addch(ACS_CKBOARD);
+    addch(ACS_DEGREE);
+    addch(ACS_PLMINUS);
+    addch(ACS_BULLET);
+    addch(ACS_LARROW);
+    addch(ACS_RARROW);
+    addch(ACS_DARROW);
+    addch(ACS_UARROW);
+    addch(ACS_BOARD);
+    addch(ACS_LANTERN);
+    addch(ACS_BLOCK);
+    refresh();
+    shot();
+    WINDOW *one = newwin(1, 10, 22, 3);
+    box(one, 'x', 'y');
+    wrefresh(one);
+    shot();
+    endwin();
+    return 0;
+}

@@ -1,0 +1,36 @@
+/* Pads, and the parts of them that are shown. */
+#include "shot.h"
+
+/* Puts the cursor where the standard screen has it, whether a pad's is shown or not, and looks. */
+static void look(void) {
+    refresh();
+    shot();
+}
+
+int main(void) {
+    initscr();
+    WINDOW *pad = newpad(60, 100);
+    for (int y = 0; y < 60; y++) mvwprintw(pad, y, 0, "line %d of a pad that is larger than the screen, to the right too", y);
+    look();
+    prefresh(pad, 10, 5, 2, 10, 12, 60);
+    look();
+    prefresh(pad, 30, 0, 2, 10, 12, 60);
+    look();
+    WINDOW *part = subpad(pad, 5, 30, 32, 8);
+    wattron(part, A_REVERSE);
+    mvwaddstr(part, 0, 0, "through a pad of a pad");
+    touchwin(pad);
+    pnoutrefresh(pad, 30, 0, 2, 10, 12, 60);
+    pnoutrefresh(part, 0, 0, 15, 0, 18, 25);
+    doupdate();
+    look();
+    prefresh(pad, -3, -1, 0, 0, 3, 20);
+    look();
+    wmove(pad, 1, 4);
+    pechochar(pad, 'X');
+    look();
+    delwin(part);
+    delwin(pad);
+    endwin();
+    return 0;
+}

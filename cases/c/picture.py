@@ -1,0 +1,54 @@
+"""Puts out, of what `tmux capture-pane -e -p -N` puts out with lines that tell the cursor after each screen, the pictures in the form of
+`curspan paint`: each line between bars, and below it a line of attributes and one of colours where some cell has them. Blanks that
+were written and those that weren't are the same.
+
+usage: picture.py COLUMNS < CAPTURE"""
+import re
+import sys
+
+BITS = {1: 0x01, 2: 0x02, 4: 0x04, 5: 0x08, 7: 0x10, 8: 0x20}
+
+
+def select(rendition, codes):
+    attributes, foreground, background = rendition
+    for code in codes:
+        if code == 0:
+            attributes, foreground, background = 0, "-", "-"
+        elif code in BITS:
+            attributes |= BITS[code]
+        elif 30 <= code <= 37:
+            foreground = str(code - 30)
+        elif 40 <= code <= 47:
+            background = str(code - 40)
+        elif code == 39:
+            foreground = "-"
+        elif code == 49:
+            background = "-"
+        else:
+            sys.exit(f"picture.py: rendition {code} is none of a picture")
+    return attributes, foreground, background
+
+
+def main():
+    columns = int(sys.argv[1])
+    rendition = (0, "-", "-")
+    for line in sys.stdin.read().split("\n")[:-1]:
+        if line.startswith("--- cursor "):
+            print(line[4:] + "\n")
+            rendition = (0, "-", "-")
+            continue
+        cells = []
+        for codes, other in re.findall(r"\x1b\[([0-9;]*)m|(.)", line):
+            if other:
+                cells.append((other, rendition))
+            else:
+                rendition = select(rendition, [int(code or 0) for code in codes.split(";")])
+        cells += [(" ", (0, "-", "-"))] * (columns - len(cells))
+        print("|" + "".join(character for character, _ in cells) + "|")
+        if any(attributes for _, (attributes, _, _) in cells):
+            print(":" + "".join(f"{attributes:02x}" for _, (attributes, _, _) in cells))
+        if any(foreground + background != "--" for _, (_, foreground, background) in cells):
+            print("%" + "".join(foreground + background for _, (_, foreground, background) in cells))
+
+
+main()

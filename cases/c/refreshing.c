@@ -1,0 +1,64 @@
+/* Refresh without panels: what is touched of windows, in which order they are taken, and the whole screen drawn anew. */
+#include "shot.h"
+
+int main(void) {
+    initscr();
+    WINDOW *left = newwin(8, 30, 3, 5), *right = newwin(8, 30, 6, 20);
+    fill(left, 'a');
+    fill(right, 'A');
+    refresh();
+    wnoutrefresh(left);
+    wnoutrefresh(right);
+    doupdate();
+    shot();
+    touchwin(left);
+    wrefresh(left);
+    shot();
+    touchline(right, 1, 2);
+    wrefresh(right);
+    shot();
+    mvwaddstr(left, 6, 20, "XX");
+    mvprintw(20, 0, "touched: %d %d %d", is_wintouched(left), is_linetouched(left, 6), is_linetouched(left, 2));
+    untouchwin(left);
+    printw(", %d", is_wintouched(left));
+    wnoutrefresh(stdscr);
+    wrefresh(left);
+    shot();
+    wtouchln(right, 0, 8, 1);
+    wtouchln(right, 3, 4, 0);
+    mvprintw(21, 0, "lines:");
+    for (int y = 0; y < 8; y++) printw(" %d", is_linetouched(right, y));
+    wnoutrefresh(stdscr);
+    wrefresh(right);
+    shot();
+    mvwaddstr(left, 0, 0, "the cursor goes");
+    wnoutrefresh(right);
+    wnoutrefresh(left);
+    doupdate();
+    shot();
+    redrawwin(left);
+    wrefresh(left);
+    shot();
+    wredrawln(right, 2, 2);
+    wrefresh(right);
+    shot();
+    clearok(left, TRUE);
+    touchwin(left);
+    wrefresh(left);
+    shot();
+    wrefresh(curscr);
+    clearok(curscr, TRUE);
+    doupdate();
+    shot();
+    echochar('e');
+    wechochar(right, 'w' | A_BOLD);
+    shot();
+    mvprintw(22, 0, "of none: %d %d %d %d", wrefresh(NULL), wnoutrefresh(NULL), touchwin((WINDOW *)NULL), touchline(left, 9, 1));
+    leaveok(left, FALSE);
+    idlok(left, FALSE);
+    idcok(left, FALSE);
+    refresh();
+    shot();
+    endwin();
+    return 0;
+}

@@ -1,0 +1,23 @@
+-- What a call from C leaves of a handle. The relation of a call stands here alone, for all calls.
+use Rattle.std.specs.Prelude.{◌≡◌, Option, Some, None, Result}
+use Rattle.world.specs.declared.call.Call.{Call}
+use Rattle.world.specs.declared.call.Reply.{Reply}
+use Rattle.desk.specs.declared.screen.Fault.{Fault}
+use Rattle.desk.specs.Methods.{CallMade}
+use Rattle.streams.specs.declared.sink.Sink.{Ghosts}
+use Rattle.capi.specs.Outlets.{Outlet}
+use Rattle.capi.specs.declared.answer.Answer.{Answer}
+use Rattle.capi.specs.declared.surface.Surface.{Surface}
+use Rattle.capi.specs.Answers.{closed, of_end}
+
+module _ (sink : Ghosts Outlet) where
+  -- The call was made on the screen, ended so, and C is told that.
+  pub record Makes (old : Surface) (call : Call) (answer : Answer) (new : Surface) : Type 0 where
+    pub end : Result Reply Fault
+    pub made : CallMade sink.seen sink.name old.screen call end new.screen
+    pub told : answer ≡ of_end end
+
+  -- A closed handle stays closed, and an open one open.
+  abbrev pub Called : Option Surface → Call → Answer → Option Surface → Type 0
+  Called None call answer new = (answer ≡ closed) × (new ≡ None)
+  Called (Some old) call answer new = (after : Surface) × Makes old call answer after × (new ≡ Some after)

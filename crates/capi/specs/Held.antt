@@ -1,0 +1,16 @@
+-- The screen of an open handle.
+use Rattle.std.specs.Prelude.{◌≡◌, ℕ, List, []}
+use Rattle.compose.specs.Desks.{world}
+use Rattle.world.specs.World.{first_world}
+use Rattle.paint.specs.Updates.{first_painter}
+use Rattle.capi.specs.declared.surface.Surface.{Surface}
+
+-- the bytes that were sent and not taken yet
+abbrev pub pending : Surface → List ℕ
+pending s = s.screen.writer.writer.items
+
+-- a blank screen, of which nothing was sent yet
+pub record IsBlank (lines columns : ℕ) (s : Surface) : Type 0 where
+  pub world : world s.screen.desk ≡ first_world lines columns
+  pub painter : s.screen.painter ≡ first_painter lines columns
+  pub pending : pending s ≡ []

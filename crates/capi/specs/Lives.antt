@@ -1,0 +1,52 @@
+-- Opening a screen, taking its bytes, and forgetting what its terminal shows.
+use Rattle.std.specs.Prelude.{◌≡◌, ◌≤◌, ◌<◌, ◌++◌, ◌⊎◌, ℕ, List, [], drop, length, Option, Some, None, Err}
+use Rattle.cell.specs.declared.refusal.Refusal.{Refusal}
+use Rattle.cell.specs.declared.refusal.Refusal.TheVariants.{NoMemory}
+use Rattle.world.specs.calls.Making.{new_refusal}
+use Rattle.desk.specs.declared.screen.Fault.TheVariants.{Refused}
+use Rattle.capi.specs.declared.answer.Answer.{Answer}
+use Rattle.capi.specs.declared.surface.Surface.{Surface}
+use Rattle.capi.specs.Answers.{of_end, ok}
+use Rattle.capi.specs.Held.{IsBlank, pending}
+
+-- There is a blank screen in the handle, whatever was there before.
+pub record OpenedBlank (lines columns : ℕ) (answer : Answer) (new : Option Surface) : Type 0 where
+  pub screen : Surface
+  pub allowed : new_refusal lines columns ≡ None
+  pub told : answer ≡ ok 0 0
+  pub blank : IsBlank lines columns screen
+  pub now : new ≡ Some screen
+
+-- The size is none, or there is no memory; and the handle is as before.
+pub record NotOpened (lines columns : ℕ) (old : Option Surface) (answer : Answer) (new : Option Surface) : Type 0 where
+  pub refusal : Refusal
+  pub why : (new_refusal lines columns ≡ Some refusal) ⊎ ((new_refusal lines columns ≡ None) × (refusal ≡ NoMemory))
+  pub told : answer ≡ of_end (Err (Refused refusal))
+  pub same : new ≡ old
+
+abbrev pub Opened : ℕ → ℕ → Option Surface → Answer → Option Surface → Type 0
+Opened lines columns old answer new = OpenedBlank lines columns answer new ⊎ NotOpened lines columns old answer new
+
+-- Where there is room the bytes go out, and the rest of the buffer stays; and else they stay pending. The windows and what is known of the
+-- terminal stay.
+pub record TakenFrom (old : Surface) (out : List ℕ) (count : ℕ) (out' : List ℕ) (new : Surface) : Type 0 where
+  pub desk : new.screen.desk ≡ old.screen.desk
+  pub painter : new.screen.painter ≡ old.screen.painter
+  pub all : count ≡ length (pending old)
+  pub moved : count ≤ length out → (out' ≡ pending old ++ drop count out) × (pending new ≡ [])
+  pub kept : length out < count → (out' ≡ out) × (pending new ≡ pending old)
+
+-- of a closed handle nothing
+abbrev pub Taken : Option Surface → List ℕ → ℕ → List ℕ → Option Surface → Type 0
+Taken None out count out' new = (count ≡ 0) × (out' ≡ out) × (new ≡ None)
+Taken (Some old) out count out' new = (after : Surface) × TakenFrom old out count out' after × (new ≡ Some after)
+
+-- What the terminal shows is unknown. The windows stay, and so do the pending bytes.
+pub record ForgottenOf (old new : Surface) : Type 0 where
+  pub desk : new.screen.desk ≡ old.screen.desk
+  pub writer : new.screen.writer ≡ old.screen.writer
+  pub painter : new.screen.painter ≡ record old.screen.painter { last = None }
+
+abbrev pub Forgotten : Option Surface → Option Surface → Type 0
+Forgotten None new = new ≡ None
+Forgotten (Some old) new = (after : Surface) × ForgottenOf old after × (new ≡ Some after)

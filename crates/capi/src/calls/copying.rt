@@ -1,0 +1,182 @@
+//! The calls that copy cells from window to window, and those on what is touched of a window.
+
+ghost use Rattle.capi.specs.Called.{Called};
+
+use crate::answer::Answer;
+use crate::handle::Handle;
+use crate::surface::Outlet;
+use desk::{Call, Copying, Sink, WinId};
+use std::alloc::Global;
+
+/// Copies the cells that aren't spaces, where both windows cover the screen.
+#[unsafe(no_mangle)]
+pub extern "C" fn curspan_overlay(alloc: Global, screen: &mut Handle, src: u16, dst: u16) -> Answer
+    ensures { Called ⟦<Outlet as Sink>⟧ screen.old.value (Call.Copying (Copying.Overlay (record { 0 = src }) (record { 0 = dst }))) result screen.new.value }
+{
+    screen.call(
+        alloc,
+        &Call::Copying(Copying::Overlay {
+            src: WinId(src),
+            dst: WinId(dst),
+        }),
+    )
+}
+
+/// Copies all cells, where both windows cover the screen.
+#[unsafe(no_mangle)]
+pub extern "C" fn curspan_overwrite(
+    alloc: Global,
+    screen: &mut Handle,
+    src: u16,
+    dst: u16,
+) -> Answer
+    ensures { Called ⟦<Outlet as Sink>⟧ screen.old.value (Call.Copying (Copying.Overwrite (record { 0 = src }) (record { 0 = dst }))) result screen.new.value }
+{
+    screen.call(
+        alloc,
+        &Call::Copying(Copying::Overwrite {
+            src: WinId(src),
+            dst: WinId(dst),
+        }),
+    )
+}
+
+/// Copies the cells from a line and a column of the source on to a rectangle, both ends inclusive; with the flag, all but
+/// the spaces.
+#[unsafe(no_mangle)]
+pub extern "C" fn curspan_copywin(
+    alloc: Global,
+    screen: &mut Handle,
+    src: u16,
+    dst: u16,
+    sminrow: u16,
+    smincol: u16,
+    dminrow: u16,
+    dmincol: u16,
+    dmaxrow: u16,
+    dmaxcol: u16,
+    overlay: bool,
+) -> Answer
+    ensures { Called ⟦<Outlet as Sink>⟧ screen.old.value (Call.Copying (Copying.Copywin (record { 0 = src }) (record { 0 = dst }) sminrow smincol dminrow dmincol dmaxrow dmaxcol overlay)) result screen.new.value }
+{
+    screen.call(
+        alloc,
+        &Call::Copying(Copying::Copywin {
+            src: WinId(src),
+            dst: WinId(dst),
+            sminrow,
+            smincol,
+            dminrow,
+            dmincol,
+            dmaxrow,
+            dmaxcol,
+            overlay,
+        }),
+    )
+}
+
+/// Touches all lines.
+#[unsafe(no_mangle)]
+pub extern "C" fn curspan_touchwin(alloc: Global, screen: &mut Handle, win: u16) -> Answer
+    ensures { Called ⟦<Outlet as Sink>⟧ screen.old.value (Call.Copying (Copying.Touchwin (record { 0 = win }))) result screen.new.value }
+{
+    screen.call(alloc, &Call::Copying(Copying::Touchwin { win: WinId(win) }))
+}
+
+/// Takes all touches away.
+#[unsafe(no_mangle)]
+pub extern "C" fn curspan_untouchwin(alloc: Global, screen: &mut Handle, win: u16) -> Answer
+    ensures { Called ⟦<Outlet as Sink>⟧ screen.old.value (Call.Copying (Copying.Untouchwin (record { 0 = win }))) result screen.new.value }
+{
+    screen.call(
+        alloc,
+        &Call::Copying(Copying::Untouchwin { win: WinId(win) }),
+    )
+}
+
+/// Touches lines, from one on.
+#[unsafe(no_mangle)]
+pub extern "C" fn curspan_touchline(
+    alloc: Global,
+    screen: &mut Handle,
+    win: u16,
+    y: u16,
+    n: u16,
+) -> Answer
+    ensures { Called ⟦<Outlet as Sink>⟧ screen.old.value (Call.Copying (Copying.Touchline (record { 0 = win }) y n)) result screen.new.value }
+{
+    screen.call(
+        alloc,
+        &Call::Copying(Copying::Touchline {
+            win: WinId(win),
+            y,
+            n,
+        }),
+    )
+}
+
+/// Touches lines, from one on, or takes their touches away.
+#[unsafe(no_mangle)]
+pub extern "C" fn curspan_wtouchln(
+    alloc: Global,
+    screen: &mut Handle,
+    win: u16,
+    y: u16,
+    n: u16,
+    flag: bool,
+) -> Answer
+    ensures { Called ⟦<Outlet as Sink>⟧ screen.old.value (Call.Copying (Copying.Touchln (record { 0 = win }) y n flag)) result screen.new.value }
+{
+    screen.call(
+        alloc,
+        &Call::Copying(Copying::Touchln {
+            win: WinId(win),
+            y,
+            n,
+            flag,
+        }),
+    )
+}
+
+/// Touches in each ancestor what is touched of the window.
+#[unsafe(no_mangle)]
+pub extern "C" fn curspan_wsyncup(alloc: Global, screen: &mut Handle, win: u16) -> Answer
+    ensures { Called ⟦<Outlet as Sink>⟧ screen.old.value (Call.Copying (Copying.Syncup (record { 0 = win }))) result screen.new.value }
+{
+    screen.call(alloc, &Call::Copying(Copying::Syncup { win: WinId(win) }))
+}
+
+/// Touches what is touched of some ancestor.
+#[unsafe(no_mangle)]
+pub extern "C" fn curspan_wsyncdown(alloc: Global, screen: &mut Handle, win: u16) -> Answer
+    ensures { Called ⟦<Outlet as Sink>⟧ screen.old.value (Call.Copying (Copying.Syncdown (record { 0 = win }))) result screen.new.value }
+{
+    screen.call(alloc, &Call::Copying(Copying::Syncdown { win: WinId(win) }))
+}
+
+/// Answers whether a line is touched.
+#[unsafe(no_mangle)]
+pub extern "C" fn curspan_is_linetouched(
+    alloc: Global,
+    screen: &mut Handle,
+    win: u16,
+    y: u16,
+) -> Answer
+    ensures { Called ⟦<Outlet as Sink>⟧ screen.old.value (Call.Copying (Copying.IsLinetouched (record { 0 = win }) y)) result screen.new.value }
+{
+    screen.call(
+        alloc,
+        &Call::Copying(Copying::IsLinetouched { win: WinId(win), y }),
+    )
+}
+
+/// Answers whether some line is touched.
+#[unsafe(no_mangle)]
+pub extern "C" fn curspan_is_wintouched(alloc: Global, screen: &mut Handle, win: u16) -> Answer
+    ensures { Called ⟦<Outlet as Sink>⟧ screen.old.value (Call.Copying (Copying.IsWintouched (record { 0 = win }))) result screen.new.value }
+{
+    screen.call(
+        alloc,
+        &Call::Copying(Copying::IsWintouched { win: WinId(win) }),
+    )
+}

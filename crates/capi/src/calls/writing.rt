@@ -1,0 +1,312 @@
+//! The calls that write in a window or pad, or set how it is written in.
+
+ghost use Rattle.capi.specs.Called.{Called};
+ghost use Rattle.capi.specs.Answers.{attrs_of};
+
+use crate::answer::{Answer, attrs_of};
+use crate::handle::Handle;
+use crate::surface::Outlet;
+use desk::{Call, Sink, WinId, Writing};
+use std::alloc::Global;
+
+/// Moves the cursor to a line and a column.
+#[unsafe(no_mangle)]
+pub extern "C" fn curspan_wmove(
+    alloc: Global,
+    screen: &mut Handle,
+    win: u16,
+    y: u16,
+    x: u16,
+) -> Answer
+    ensures { Called ⟦<Outlet as Sink>⟧ screen.old.value (Call.Writing (Writing.Move (record { 0 = win }) y x)) result screen.new.value }
+{
+    screen.call(
+        alloc,
+        &Call::Writing(Writing::Move {
+            win: WinId(win),
+            y,
+            x,
+        }),
+    )
+}
+
+/// Writes a character at the cursor.
+#[unsafe(no_mangle)]
+pub extern "C" fn curspan_waddch(alloc: Global, screen: &mut Handle, win: u16, ch: u8) -> Answer
+    ensures { Called ⟦<Outlet as Sink>⟧ screen.old.value (Call.Writing (Writing.Addch (record { 0 = win }) ch)) result screen.new.value }
+{
+    screen.call(
+        alloc,
+        &Call::Writing(Writing::Addch {
+            win: WinId(win),
+            ch,
+        }),
+    )
+}
+
+/// Writes the characters of a text at the cursor.
+#[unsafe(no_mangle)]
+pub extern "C" fn curspan_waddstr(
+    alloc: Global,
+    screen: &mut Handle,
+    win: u16,
+    text: &[u8],
+) -> Answer
+    ensures { Called ⟦<Outlet as Sink>⟧ screen.old.value (Call.Writing (Writing.Addstr (record { 0 = win }) text.entry)) result screen.new.value }
+{
+    screen.call(
+        alloc,
+        &Call::Writing(Writing::Addstr {
+            win: WinId(win),
+            text,
+        }),
+    )
+}
+
+/// Inserts a character at the cursor.
+#[unsafe(no_mangle)]
+pub extern "C" fn curspan_winsch(alloc: Global, screen: &mut Handle, win: u16, ch: u8) -> Answer
+    ensures { Called ⟦<Outlet as Sink>⟧ screen.old.value (Call.Writing (Writing.Insch (record { 0 = win }) ch)) result screen.new.value }
+{
+    screen.call(
+        alloc,
+        &Call::Writing(Writing::Insch {
+            win: WinId(win),
+            ch,
+        }),
+    )
+}
+
+/// Deletes the character at the cursor.
+#[unsafe(no_mangle)]
+pub extern "C" fn curspan_wdelch(alloc: Global, screen: &mut Handle, win: u16) -> Answer
+    ensures { Called ⟦<Outlet as Sink>⟧ screen.old.value (Call.Writing (Writing.Delch (record { 0 = win }))) result screen.new.value }
+{
+    screen.call(alloc, &Call::Writing(Writing::Delch { win: WinId(win) }))
+}
+
+/// Inserts a line at the cursor's.
+#[unsafe(no_mangle)]
+pub extern "C" fn curspan_winsertln(alloc: Global, screen: &mut Handle, win: u16) -> Answer
+    ensures { Called ⟦<Outlet as Sink>⟧ screen.old.value (Call.Writing (Writing.Insertln (record { 0 = win }))) result screen.new.value }
+{
+    screen.call(alloc, &Call::Writing(Writing::Insertln { win: WinId(win) }))
+}
+
+/// Deletes the cursor's line.
+#[unsafe(no_mangle)]
+pub extern "C" fn curspan_wdeleteln(alloc: Global, screen: &mut Handle, win: u16) -> Answer
+    ensures { Called ⟦<Outlet as Sink>⟧ screen.old.value (Call.Writing (Writing.Deleteln (record { 0 = win }))) result screen.new.value }
+{
+    screen.call(alloc, &Call::Writing(Writing::Deleteln { win: WinId(win) }))
+}
+
+/// Clears the window, and moves the cursor to its first place.
+#[unsafe(no_mangle)]
+pub extern "C" fn curspan_werase(alloc: Global, screen: &mut Handle, win: u16) -> Answer
+    ensures { Called ⟦<Outlet as Sink>⟧ screen.old.value (Call.Writing (Writing.Erase (record { 0 = win }))) result screen.new.value }
+{
+    screen.call(alloc, &Call::Writing(Writing::Erase { win: WinId(win) }))
+}
+
+/// Clears the window, moves the cursor to its first place, and asks for a clear screen.
+#[unsafe(no_mangle)]
+pub extern "C" fn curspan_wclear(alloc: Global, screen: &mut Handle, win: u16) -> Answer
+    ensures { Called ⟦<Outlet as Sink>⟧ screen.old.value (Call.Writing (Writing.Clear (record { 0 = win }))) result screen.new.value }
+{
+    screen.call(alloc, &Call::Writing(Writing::Clear { win: WinId(win) }))
+}
+
+/// Clears from the cursor to the end of the line.
+#[unsafe(no_mangle)]
+pub extern "C" fn curspan_wclrtoeol(alloc: Global, screen: &mut Handle, win: u16) -> Answer
+    ensures { Called ⟦<Outlet as Sink>⟧ screen.old.value (Call.Writing (Writing.Clrtoeol (record { 0 = win }))) result screen.new.value }
+{
+    screen.call(alloc, &Call::Writing(Writing::Clrtoeol { win: WinId(win) }))
+}
+
+/// Clears from the cursor to the end of the window.
+#[unsafe(no_mangle)]
+pub extern "C" fn curspan_wclrtobot(alloc: Global, screen: &mut Handle, win: u16) -> Answer
+    ensures { Called ⟦<Outlet as Sink>⟧ screen.old.value (Call.Writing (Writing.Clrtobot (record { 0 = win }))) result screen.new.value }
+{
+    screen.call(alloc, &Call::Writing(Writing::Clrtobot { win: WinId(win) }))
+}
+
+/// Scrolls the region up by a number of lines, or down by a negative one.
+#[unsafe(no_mangle)]
+pub extern "C" fn curspan_wscrl(alloc: Global, screen: &mut Handle, win: u16, n: i16) -> Answer
+    ensures { Called ⟦<Outlet as Sink>⟧ screen.old.value (Call.Writing (Writing.Scrl (record { 0 = win }) n)) result screen.new.value }
+{
+    screen.call(alloc, &Call::Writing(Writing::Scrl { win: WinId(win), n }))
+}
+
+/// Sets the region that scrolls, from a first line to a last.
+#[unsafe(no_mangle)]
+pub extern "C" fn curspan_wsetscrreg(
+    alloc: Global,
+    screen: &mut Handle,
+    win: u16,
+    top: u16,
+    bottom: u16,
+) -> Answer
+    ensures { Called ⟦<Outlet as Sink>⟧ screen.old.value (Call.Writing (Writing.Setscrreg (record { 0 = win }) top bottom)) result screen.new.value }
+{
+    screen.call(
+        alloc,
+        &Call::Writing(Writing::Setscrreg {
+            win: WinId(win),
+            top,
+            bottom,
+        }),
+    )
+}
+
+/// Sets whether the window scrolls.
+#[unsafe(no_mangle)]
+pub extern "C" fn curspan_scrollok(
+    alloc: Global,
+    screen: &mut Handle,
+    win: u16,
+    flag: bool,
+) -> Answer
+    ensures { Called ⟦<Outlet as Sink>⟧ screen.old.value (Call.Writing (Writing.Scrollok (record { 0 = win }) flag)) result screen.new.value }
+{
+    screen.call(
+        alloc,
+        &Call::Writing(Writing::Scrollok {
+            win: WinId(win),
+            flag,
+        }),
+    )
+}
+
+/// Sets whether the window asks for a clear screen where it is next taken into the virtual screen.
+#[unsafe(no_mangle)]
+pub extern "C" fn curspan_clearok(
+    alloc: Global,
+    screen: &mut Handle,
+    win: u16,
+    flag: bool,
+) -> Answer
+    ensures { Called ⟦<Outlet as Sink>⟧ screen.old.value (Call.Writing (Writing.Clearok (record { 0 = win }) flag)) result screen.new.value }
+{
+    screen.call(
+        alloc,
+        &Call::Writing(Writing::Clearok {
+            win: WinId(win),
+            flag,
+        }),
+    )
+}
+
+/// Sets the attributes.
+#[unsafe(no_mangle)]
+pub extern "C" fn curspan_wattrset(
+    alloc: Global,
+    screen: &mut Handle,
+    win: u16,
+    attrs: u8,
+) -> Answer
+    ensures { Called ⟦<Outlet as Sink>⟧ screen.old.value (Call.Writing (Writing.Attrset (record { 0 = win }) (attrs_of attrs))) result screen.new.value }
+{
+    screen.call(
+        alloc,
+        &Call::Writing(Writing::Attrset {
+            win: WinId(win),
+            attrs: attrs_of(attrs),
+        }),
+    )
+}
+
+/// Adds attributes.
+#[unsafe(no_mangle)]
+pub extern "C" fn curspan_wattron(alloc: Global, screen: &mut Handle, win: u16, attrs: u8) -> Answer
+    ensures { Called ⟦<Outlet as Sink>⟧ screen.old.value (Call.Writing (Writing.Attron (record { 0 = win }) (attrs_of attrs))) result screen.new.value }
+{
+    screen.call(
+        alloc,
+        &Call::Writing(Writing::Attron {
+            win: WinId(win),
+            attrs: attrs_of(attrs),
+        }),
+    )
+}
+
+/// Takes attributes away.
+#[unsafe(no_mangle)]
+pub extern "C" fn curspan_wattroff(
+    alloc: Global,
+    screen: &mut Handle,
+    win: u16,
+    attrs: u8,
+) -> Answer
+    ensures { Called ⟦<Outlet as Sink>⟧ screen.old.value (Call.Writing (Writing.Attroff (record { 0 = win }) (attrs_of attrs))) result screen.new.value }
+{
+    screen.call(
+        alloc,
+        &Call::Writing(Writing::Attroff {
+            win: WinId(win),
+            attrs: attrs_of(attrs),
+        }),
+    )
+}
+
+/// Sets the background to a character with attributes, of pair 0.
+#[unsafe(no_mangle)]
+pub extern "C" fn curspan_wbkgdset(
+    alloc: Global,
+    screen: &mut Handle,
+    win: u16,
+    attrs: u8,
+    ch: u8,
+) -> Answer
+    ensures { Called ⟦<Outlet as Sink>⟧ screen.old.value (Call.Writing (Writing.Bkgdset (record { 0 = win }) (attrs_of attrs) ch)) result screen.new.value }
+{
+    screen.call(
+        alloc,
+        &Call::Writing(Writing::Bkgdset {
+            win: WinId(win),
+            attrs: attrs_of(attrs),
+            ch,
+        }),
+    )
+}
+
+/// Sets the colour pair.
+#[unsafe(no_mangle)]
+pub extern "C" fn curspan_wcolor_set(
+    alloc: Global,
+    screen: &mut Handle,
+    win: u16,
+    pair: u16,
+) -> Answer
+    ensures { Called ⟦<Outlet as Sink>⟧ screen.old.value (Call.Writing (Writing.ColorSet (record { 0 = win }) pair)) result screen.new.value }
+{
+    screen.call(
+        alloc,
+        &Call::Writing(Writing::ColorSet {
+            win: WinId(win),
+            pair,
+        }),
+    )
+}
+
+/// Sets the background's colour pair.
+#[unsafe(no_mangle)]
+pub extern "C" fn curspan_wbkgdpair(
+    alloc: Global,
+    screen: &mut Handle,
+    win: u16,
+    pair: u16,
+) -> Answer
+    ensures { Called ⟦<Outlet as Sink>⟧ screen.old.value (Call.Writing (Writing.Bkgdpair (record { 0 = win }) pair)) result screen.new.value }
+{
+    screen.call(
+        alloc,
+        &Call::Writing(Writing::Bkgdpair {
+            win: WinId(win),
+            pair,
+        }),
+    )
+}

@@ -1,0 +1,159 @@
+//! A handle for C: the pointer of a box with a surface, or null.
+
+ghost use Rattle.std.specs.Prelude.{◌≡◌, IfOk, None, Option, Some};
+ghost use Rattle.std.specs.Option.{MatchOption};
+ghost use Rattle.cell.specs.Refusals.{RefusedBy};
+ghost use Rattle.world.specs.calls.Making.{new_refusal};
+ghost use Rattle.capi.specs.Called.{Called};
+ghost use Rattle.capi.specs.Held.{IsBlank};
+ghost use Rattle.capi.specs.Lives.{Forgotten, Opened, Taken};
+ghost use Rattle.capi.specs.declared.surface.Surface.{Surface as TheSurface};
+
+use crate::answer::{Answer, refused};
+use crate::surface::{Outlet, Surface};
+use desk::{Call, Refusal, Reply, Sink};
+use loose::Loose;
+use std::alloc::Global;
+use std::marker::Model;
+use std::mem::replace;
+use std::ptr::null_mut;
+
+/// What C holds. One of zeros is closed.
+#[repr(C)]
+pub struct Handle {
+    at: *mut u8,
+    pub ghost value: { Option TheSurface },
+}
+
+impl Model for Handle {
+    ghost use Rattle.capi.specs.Owned.{owned};
+
+    ghost also_owns = { λ h. owned h.at h.value };
+}
+
+impl Handle {
+    /// A closed one.
+    pub fn empty() -> Handle
+        ensures { result.value ≡ None }
+    {
+        Handle { at: null_mut() }
+    }
+
+    /// One that owns a box.
+    pub fn of(loose: Loose<Surface, Global>) -> Handle
+        ensures { result.value ≡ Some loose.value }
+    {
+        let Loose { at, alloc: _ } = loose;
+        Handle { at: at as *mut u8 }
+    }
+
+    /// The box again, where it is open.
+    pub fn into_loose(self, alloc: Global) -> Option<Loose<Surface, Global>>
+        ensures { MatchOption result (self.value ≡ None) (λ l. self.value ≡ Some l.value) }
+    {
+        let Handle { at } = self;
+        if at.is_null() {
+            None
+        } else {
+            Some(Loose {
+                at: at as *mut Surface,
+                alloc,
+            })
+        }
+    }
+
+    /// Frees what it owns.
+    fn free(self, alloc: Global) {
+        if let Some(loose) = self.into_loose(alloc) {
+            drop(loose.into_box());
+        }
+    }
+
+    /// Takes the surface out, where it is open. The handle is closed then.
+    fn lift(&mut self, alloc: Global) -> Option<Box<Surface>>
+        ensures lifted { MatchOption result (self.old.value ≡ None) (λ surface. self.old.value ≡ Some surface.value) }
+        ensures closed { self.new.value ≡ None }
+    {
+        match replace(self, Handle::empty()).into_loose(alloc) {
+            Some(loose) => Some(loose.into_box()),
+            None => None,
+        }
+    }
+
+    /// Puts a surface in. One that was there is freed.
+    fn put(&mut self, alloc: Global, surface: Box<Surface>)
+        ensures { self.new.value ≡ Some surface.value }
+    {
+        replace(self, Handle::of(Loose::of(surface))).free(alloc);
+    }
+
+    /// Frees what it owns. It is closed then.
+    pub fn close(&mut self, alloc: Global)
+        ensures { self.new.value ≡ None }
+    {
+        replace(self, Handle::empty()).free(alloc);
+    }
+
+    /// Puts a blank screen in, in the place of one that was there.
+    pub fn open(&mut self, alloc: Global, lines: u16, columns: u16) -> Answer
+        ensures { Opened lines columns self.old.value result self.new.value }
+    {
+        match boxed(alloc, lines, columns) {
+            Ok(surface) => {
+                self.put(alloc, surface);
+                Answer::of(Ok(Reply::Nothing))
+            }
+            Err(refusal) => refused(refusal),
+        }
+    }
+
+    /// Makes a call on the screen.
+    pub fn call(&mut self, alloc: Global, call: &Call<'_>) -> Answer
+        ensures { Called ⟦<Outlet as Sink>⟧ self.old.value call.now result self.new.value }
+    {
+        match self.lift(alloc) {
+            Some(mut surface) => {
+                let answer = surface.call(call);
+                self.put(alloc, surface);
+                answer
+            }
+            None => Answer::closed(),
+        }
+    }
+
+    /// Moves the bytes that were sent into a buffer, and says how many they are. Where the buffer is too short, they stay.
+    pub fn take(&mut self, alloc: Global, out: &mut [u8]) -> usize
+        ensures { Taken self.old.value out.old result out.new self.new.value }
+    {
+        match self.lift(alloc) {
+            Some(mut surface) => {
+                let length = surface.take(alloc, out);
+                self.put(alloc, surface);
+                length
+            }
+            None => 0,
+        }
+    }
+
+    /// Forgets what the terminal shows.
+    pub fn invalidate(&mut self, alloc: Global)
+        ensures { Forgotten self.old.value self.new.value }
+    {
+        if let Some(mut surface) = self.lift(alloc) {
+            surface.invalidate();
+            self.put(alloc, surface);
+        }
+    }
+}
+
+/// A blank screen in a box.
+fn boxed(alloc: Global, lines: u16, columns: u16) -> Result<Box<Surface>, Refusal>
+    ensures blank { IfOk result (λ surface. IsBlank lines columns surface.value) }
+    ensures refused { RefusedBy (new_refusal lines columns) result }
+{
+    let surface = Surface::new(alloc, lines, columns)?;
+    match Box::new(alloc, surface) {
+        Ok(surface) => Ok(surface),
+        Err(_) => Err(Refusal::NoMemory),
+    }
+}

@@ -1,0 +1,334 @@
+/* curses.h: the output half of X/Open Curses over Curspan (curspan.h), in C99 or C++.
+
+   A program that draws by these names compiles unchanged. What isn't here is absent: input (getch and its modes), wide
+   and complex characters, soft labels, terminfo, several screens. A program that needs it doesn't compile.
+   curspan(3) has a table of all of X/Open's windowing names, with what stands for each.
+
+   One screen. It is proved what the functions of curspan.h do. What is C here is not proved: it turns these names and types
+   into calls of curspan.h, and writes their bytes to the terminal. It is tested against ncurses. */
+#ifndef CURSPAN_CURSES_H
+#define CURSPAN_CURSES_H
+
+#include <stdarg.h>
+#include <stdbool.h>
+#include <stdint.h>
+#include <stdio.h>
+
+#include "curspan.h"
+
+#ifdef __cplusplus
+extern "C" {
+#endif
+
+#ifdef __GNUC__
+#define CURSPAN_PRINTS(text, first) __attribute__((format(printf, text, first)))
+#else
+#define CURSPAN_PRINTS(text, first)
+#endif
+
+/* ---- types and constants */
+
+typedef struct curspan_window WINDOW;
+typedef struct curspan_screen SCREEN;
+typedef uint32_t chtype; /* a character in the low byte, attributes in the next, a colour pair above */
+typedef chtype attr_t;
+
+#ifndef TRUE
+#define TRUE 1
+#endif
+#ifndef FALSE
+#define FALSE 0
+#endif
+#define OK 0
+#define ERR (-1)
+
+#define A_NORMAL ((chtype)0)
+#define A_BOLD ((chtype)CURSPAN_BOLD << 8)
+#define A_DIM ((chtype)CURSPAN_DIM << 8)
+#define A_UNDERLINE ((chtype)CURSPAN_UNDERLINE << 8)
+#define A_BLINK ((chtype)CURSPAN_BLINK << 8)
+#define A_REVERSE ((chtype)CURSPAN_REVERSE << 8)
+#define A_INVIS ((chtype)CURSPAN_INVIS << 8)
+#define A_STANDOUT A_REVERSE
+#define A_CHARTEXT ((chtype)0xff)
+#define A_COLOR ((chtype)0xff0000)
+#define A_ATTRIBUTES ((chtype)0xffff00)
+#define WA_NORMAL A_NORMAL
+#define WA_BOLD A_BOLD
+#define WA_DIM A_DIM
+#define WA_UNDERLINE A_UNDERLINE
+#define WA_BLINK A_BLINK
+#define WA_REVERSE A_REVERSE
+#define WA_INVIS A_INVIS
+#define WA_STANDOUT A_STANDOUT
+
+#define COLOR_PAIR(pair) (((chtype)(pair) << 16) & A_COLOR)
+#define PAIR_NUMBER(attrs) ((int)(((attrs) & A_COLOR) >> 16))
+#define COLOR_BLACK 0
+#define COLOR_RED 1
+#define COLOR_GREEN 2
+#define COLOR_YELLOW 3
+#define COLOR_BLUE 4
+#define COLOR_MAGENTA 5
+#define COLOR_CYAN 6
+#define COLOR_WHITE 7
+
+/* X/Open's characters for terminals without an alternate character set */
+#define ACS_ULCORNER ((chtype)'+')
+#define ACS_LLCORNER ((chtype)'+')
+#define ACS_URCORNER ((chtype)'+')
+#define ACS_LRCORNER ((chtype)'+')
+#define ACS_LTEE ((chtype)'+')
+#define ACS_RTEE ((chtype)'+')
+#define ACS_BTEE ((chtype)'+')
+#define ACS_TTEE ((chtype)'+')
+#define ACS_HLINE ((chtype)'-')
+#define ACS_VLINE ((chtype)'|')
+#define ACS_PLUS ((chtype)'+')
+#define ACS_S1 ((chtype)'~')
+#define ACS_S9 ((chtype)'_')
+#define ACS_DIAMOND ((chtype)'+')
+#define ACS_CKBOARD ((chtype)':')
+#define ACS_DEGREE ((chtype)'\'')
+#define ACS_PLMINUS ((chtype)'#')
+#define ACS_BULLET ((chtype)'o')
+#define ACS_LARROW ((chtype)'<')
+#define ACS_RARROW ((chtype)'>')
+#define ACS_DARROW ((chtype)'v')
+#define ACS_UARROW ((chtype)'^')
+#define ACS_BOARD ((chtype)'#')
+#define ACS_LANTERN ((chtype)'#')
+#define ACS_BLOCK ((chtype)'#')
+
+extern WINDOW *stdscr; /* the standard screen, from initscr on */
+extern WINDOW *curscr; /* what the terminal shows: for wrefresh, clearok and redrawwin alone, which draw all anew */
+extern int LINES, COLS;
+extern int COLORS, COLOR_PAIRS;
+
+/* ---- the screen */
+
+WINDOW *initscr(void);                                   /* ends the program where there is no screen */
+SCREEN *newterm(const char *type, FILE *out, FILE *in);  /* the type and the input are not looked at */
+int endwin(void);                                        /* the next refresh brings the picture back */
+bool isendwin(void);
+void delscreen(SCREEN *screen);
+int curs_set(int visibility);
+int beep(void);
+int flash(void);
+int napms(int milliseconds);
+
+int start_color(void);
+bool has_colors(void);
+bool can_change_color(void);
+int init_pair(short pair, short foreground, short background);
+int pair_content(short pair, short *foreground, short *background);
+
+/* ---- windows and pads */
+
+WINDOW *newwin(int lines, int columns, int y, int x);
+WINDOW *subwin(WINDOW *win, int lines, int columns, int y, int x);
+WINDOW *derwin(WINDOW *win, int lines, int columns, int y, int x);
+WINDOW *dupwin(WINDOW *win);
+WINDOW *newpad(int lines, int columns);
+WINDOW *subpad(WINDOW *pad, int lines, int columns, int y, int x);
+int delwin(WINDOW *win);
+int mvwin(WINDOW *win, int y, int x);
+int mvderwin(WINDOW *win, int y, int x);
+
+int getcury(const WINDOW *win);
+int getcurx(const WINDOW *win);
+int getbegy(const WINDOW *win);
+int getbegx(const WINDOW *win);
+int getmaxy(const WINDOW *win);
+int getmaxx(const WINDOW *win);
+int getpary(const WINDOW *win);
+int getparx(const WINDOW *win);
+#define getyx(win, y, x) ((y) = getcury(win), (x) = getcurx(win))
+#define getbegyx(win, y, x) ((y) = getbegy(win), (x) = getbegx(win))
+#define getmaxyx(win, y, x) ((y) = getmaxy(win), (x) = getmaxx(win))
+#define getparyx(win, y, x) ((y) = getpary(win), (x) = getparx(win))
+
+/* ---- options */
+
+int clearok(WINDOW *win, bool flag);
+int scrollok(WINDOW *win, bool flag);
+int setscrreg(int top, int bottom);
+int wsetscrreg(WINDOW *win, int top, int bottom);
+int idlok(WINDOW *win, bool flag);   /* a hint, which changes nothing */
+void idcok(WINDOW *win, bool flag);  /* so too */
+int leaveok(WINDOW *win, bool flag); /* so too: the cursor is always moved */
+
+/* ---- attributes, colours and backgrounds */
+
+int attron(int attrs);
+int attroff(int attrs);
+int attrset(int attrs);
+int wattron(WINDOW *win, int attrs);
+int wattroff(WINDOW *win, int attrs);
+int wattrset(WINDOW *win, int attrs);
+int attr_on(attr_t attrs, void *none);
+int attr_off(attr_t attrs, void *none);
+int attr_set(attr_t attrs, short pair, void *none);
+int attr_get(attr_t *attrs, short *pair, void *none);
+int wattr_on(WINDOW *win, attr_t attrs, void *none);
+int wattr_off(WINDOW *win, attr_t attrs, void *none);
+int wattr_set(WINDOW *win, attr_t attrs, short pair, void *none);
+int wattr_get(WINDOW *win, attr_t *attrs, short *pair, void *none);
+int color_set(short pair, void *none);
+int wcolor_set(WINDOW *win, short pair, void *none);
+int standout(void);
+int standend(void);
+int wstandout(WINDOW *win);
+int wstandend(WINDOW *win);
+int chgat(int n, attr_t attrs, short pair, const void *none);
+int wchgat(WINDOW *win, int n, attr_t attrs, short pair, const void *none);
+int mvchgat(int y, int x, int n, attr_t attrs, short pair, const void *none);
+int mvwchgat(WINDOW *win, int y, int x, int n, attr_t attrs, short pair, const void *none);
+void bkgdset(chtype ch);
+void wbkgdset(WINDOW *win, chtype ch);
+int bkgd(chtype ch);
+int wbkgd(WINDOW *win, chtype ch);
+chtype getbkgd(WINDOW *win);
+
+/* ---- writing */
+
+int move(int y, int x);
+int wmove(WINDOW *win, int y, int x);
+
+int addch(const chtype ch);
+int waddch(WINDOW *win, const chtype ch);
+int mvaddch(int y, int x, const chtype ch);
+int mvwaddch(WINDOW *win, int y, int x, const chtype ch);
+int echochar(const chtype ch);
+int wechochar(WINDOW *win, const chtype ch);
+int pechochar(WINDOW *pad, const chtype ch);
+
+int addstr(const char *text);
+int addnstr(const char *text, int n);
+int waddstr(WINDOW *win, const char *text);
+int waddnstr(WINDOW *win, const char *text, int n);
+int mvaddstr(int y, int x, const char *text);
+int mvaddnstr(int y, int x, const char *text, int n);
+int mvwaddstr(WINDOW *win, int y, int x, const char *text);
+int mvwaddnstr(WINDOW *win, int y, int x, const char *text, int n);
+
+int addchstr(const chtype *row);
+int addchnstr(const chtype *row, int n);
+int waddchstr(WINDOW *win, const chtype *row);
+int waddchnstr(WINDOW *win, const chtype *row, int n);
+int mvaddchstr(int y, int x, const chtype *row);
+int mvaddchnstr(int y, int x, const chtype *row, int n);
+int mvwaddchstr(WINDOW *win, int y, int x, const chtype *row);
+int mvwaddchnstr(WINDOW *win, int y, int x, const chtype *row, int n);
+
+int printw(const char *format, ...) CURSPAN_PRINTS(1, 2);
+int wprintw(WINDOW *win, const char *format, ...) CURSPAN_PRINTS(2, 3);
+int mvprintw(int y, int x, const char *format, ...) CURSPAN_PRINTS(3, 4);
+int mvwprintw(WINDOW *win, int y, int x, const char *format, ...) CURSPAN_PRINTS(4, 5);
+int vw_printw(WINDOW *win, const char *format, va_list arguments) CURSPAN_PRINTS(2, 0);
+int vwprintw(WINDOW *win, const char *format, va_list arguments) CURSPAN_PRINTS(2, 0);
+
+int insch(chtype ch);
+int winsch(WINDOW *win, chtype ch);
+int mvinsch(int y, int x, chtype ch);
+int mvwinsch(WINDOW *win, int y, int x, chtype ch);
+int insstr(const char *text);
+int insnstr(const char *text, int n);
+int winsstr(WINDOW *win, const char *text);
+int winsnstr(WINDOW *win, const char *text, int n);
+int mvinsstr(int y, int x, const char *text);
+int mvinsnstr(int y, int x, const char *text, int n);
+int mvwinsstr(WINDOW *win, int y, int x, const char *text);
+int mvwinsnstr(WINDOW *win, int y, int x, const char *text, int n);
+int delch(void);
+int wdelch(WINDOW *win);
+int mvdelch(int y, int x);
+int mvwdelch(WINDOW *win, int y, int x);
+int insertln(void);
+int winsertln(WINDOW *win);
+int deleteln(void);
+int wdeleteln(WINDOW *win);
+int insdelln(int n);
+int winsdelln(WINDOW *win, int n);
+
+int erase(void);
+int werase(WINDOW *win);
+int clear(void);
+int wclear(WINDOW *win);
+int clrtoeol(void);
+int wclrtoeol(WINDOW *win);
+int clrtobot(void);
+int wclrtobot(WINDOW *win);
+int scroll(WINDOW *win);
+int scrl(int n);
+int wscrl(WINDOW *win, int n);
+
+/* Where a character of a border or a line is 0, the ACS one is taken. */
+int border(chtype left, chtype right, chtype top, chtype bottom, chtype top_left, chtype top_right, chtype bottom_left,
+           chtype bottom_right);
+int wborder(WINDOW *win, chtype left, chtype right, chtype top, chtype bottom, chtype top_left, chtype top_right,
+            chtype bottom_left, chtype bottom_right);
+int box(WINDOW *win, chtype sides, chtype ends);
+int hline(chtype ch, int n);
+int whline(WINDOW *win, chtype ch, int n);
+int mvhline(int y, int x, chtype ch, int n);
+int mvwhline(WINDOW *win, int y, int x, chtype ch, int n);
+int vline(chtype ch, int n);
+int wvline(WINDOW *win, chtype ch, int n);
+int mvvline(int y, int x, chtype ch, int n);
+int mvwvline(WINDOW *win, int y, int x, chtype ch, int n);
+
+/* ---- reading back: texts and rows end with a 0, which `n` doesn't count */
+
+chtype inch(void);
+chtype winch(WINDOW *win);
+chtype mvinch(int y, int x);
+chtype mvwinch(WINDOW *win, int y, int x);
+int instr(char *text);
+int innstr(char *text, int n);
+int winstr(WINDOW *win, char *text);
+int winnstr(WINDOW *win, char *text, int n);
+int mvinstr(int y, int x, char *text);
+int mvinnstr(int y, int x, char *text, int n);
+int mvwinstr(WINDOW *win, int y, int x, char *text);
+int mvwinnstr(WINDOW *win, int y, int x, char *text, int n);
+int inchstr(chtype *row);
+int inchnstr(chtype *row, int n);
+int winchstr(WINDOW *win, chtype *row);
+int winchnstr(WINDOW *win, chtype *row, int n);
+int mvinchstr(int y, int x, chtype *row);
+int mvinchnstr(int y, int x, chtype *row, int n);
+int mvwinchstr(WINDOW *win, int y, int x, chtype *row);
+int mvwinchnstr(WINDOW *win, int y, int x, chtype *row, int n);
+
+/* ---- copies and marks */
+
+int overlay(const WINDOW *from, WINDOW *to);
+int overwrite(const WINDOW *from, WINDOW *to);
+int copywin(const WINDOW *from, WINDOW *to, int from_y, int from_x, int to_top, int to_left, int to_bottom, int to_right,
+            int overlays);
+int touchwin(WINDOW *win);
+int untouchwin(WINDOW *win);
+int touchline(WINDOW *win, int y, int n);
+int wtouchln(WINDOW *win, int y, int n, int changed);
+bool is_linetouched(WINDOW *win, int y);
+bool is_wintouched(WINDOW *win);
+void wsyncup(WINDOW *win);
+void wsyncdown(WINDOW *win);
+void wcursyncup(WINDOW *win);
+
+/* ---- refresh: ERR where the bytes didn't reach the terminal, and then the next one clears it and draws all */
+
+int refresh(void);
+int wrefresh(WINDOW *win);
+int wnoutrefresh(WINDOW *win);
+int doupdate(void);
+int prefresh(WINDOW *pad, int pad_y, int pad_x, int top, int left, int bottom, int right);
+int pnoutrefresh(WINDOW *pad, int pad_y, int pad_x, int top, int left, int bottom, int right);
+int redrawwin(WINDOW *win);
+int wredrawln(WINDOW *win, int y, int n);
+
+#ifdef __cplusplus
+}
+#endif
+#endif
