@@ -34,17 +34,17 @@ list=$answer
 for ((i = 0; i < count; i++)); do write_item "$i"; done
 
 at=0
-chosen=
+chosen=none
 point_at 0
 while read_key; do
     write_item "$at"
     case $key in
         up | k) at=$(((at + count - 1) % count)) ;;
         down | j) at=$(((at + 1) % count)) ;;
-        enter) chosen=${items[at]}; break ;;
+        enter) chosen=$at; break ;;
         q | escape) break ;;
     esac
     point_at "$at"
 done
 close_screen
-[ -n "$chosen" ] && printf '%s\n' "$chosen"
+[ "$chosen" != none ] && printf '%s\n' "${items[chosen]}"

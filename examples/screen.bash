@@ -2,8 +2,9 @@
 # another pipe, its standard error. Another script takes this one in with `.` and calls:
 #
 #   open_screen LINES COLUMNS  the terminal becomes a screen of this size; it is given back when the script ends, also by Ctrl-C
+#                              (Ctrl-\ ends nothing, as bash has it)
 #   call WORD..                a call, as in `call move 0 2 3`
-#   write_text WINDOW TEXT     addstr of any text: what can't be shown becomes a question mark
+#   write_text WINDOW TEXT     addstr of any text, of any length: what can't be shown becomes a question mark
 #   ask WORD..                 a call that answers: the answer is in `answer`; status 1 where it was refused
 #   show                       what was drawn stands on the terminal
 #   read_key [SECONDS]         a key, or its name, is in `key`; status 1 where none came in that time
@@ -13,14 +14,21 @@
 curspan=${CURSPAN:-$(readlink -f "${BASH_SOURCE[0]}" | sed 's|/examples/[^/]*$|/curspan|')}
 [ -x "$curspan" ] || curspan=curspan
 
+# Becomes the program, whose name among its words is in UTF-8 whatever its folder's is.
+run_program() { exec -a curspan "$curspan" "$@"; }
+
 open_screen() {
     local lines columns
+    if ! { : < /dev/tty; } 2> /dev/null; then
+        echo 'There is no terminal to draw on.' >&2
+        exit 1
+    fi
     read -r lines columns < <(stty size < /dev/tty)
     if [ "$lines" -lt "$1" ] || [ "$columns" -lt "$2" ]; then
         echo "The terminal has $lines lines of $columns columns, and $1 of $2 are needed." >&2
         exit 1
     fi
-    "$curspan" --help > /dev/null || exit
+    (run_program --help) > /dev/null || exit
     tty_before=$(stty -g < /dev/tty)
     told=()
     sent=0
@@ -33,7 +41,7 @@ open_screen() {
     # What ends the script doesn't end the program: the end of its input does. Where it ended by itself, `call` meets a closed pipe.
     trap '' PIPE
     # shellcheck disable=SC2069 # answers go to the pipe, and what is drawn to the terminal
-    coproc screen { trap '' HUP INT TERM; exec "$curspan" run --lines "$1" --cols "$2" 2>&1 > /dev/tty; }
+    coproc screen { trap '' HUP INT QUIT TERM; run_program run --lines "$1" --cols "$2" 2>&1 > /dev/tty; }
     # shellcheck disable=SC2154 # coproc sets it
     program=$screen_PID
     exec {answers}<&"${screen[0]}" {calls}>&"${screen[1]}"
@@ -43,7 +51,7 @@ open_screen() {
 close_screen() {
     local line status=0
     trap - EXIT
-    trap '' HUP INT TERM
+    trap '' HUP INT QUIT TERM
     exec {calls}>&-
     while read -r -u "$answers" line; do told+=("$line"); done
     wait "$program" || status=$?
@@ -58,9 +66,13 @@ call() {
     { printf '%s\n' "$*" >&"$calls"; } 2> /dev/null || exit
 }
 
+# A line of a script has 512 bytes at most, and a backslash takes two of them.
 write_text() {
-    local text=${2//[^ -~]/?}
-    call addstr "$1" "${text//\\/\\\\}"
+    local text=${2//[^ -~]/?} piece at
+    for ((at = 0; at < ${#text}; at += 240)); do
+        piece=${text:at:240}
+        call addstr "$1" "${piece//\\/\\\\}"
+    done
 }
 
 ask() {

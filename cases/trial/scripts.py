@@ -1,0 +1,184 @@
+"""Writes scripts: a walk through the calls, which the oracle makes as they are written, so that arguments fit the world."""
+from oracle.calls import CALLS
+from oracle.running import Run
+from oracle.script import LONGEST_LINE
+
+from .arguments import LETTERS, Arguments
+from .spoiling import quiet_line, spoiled
+
+GROUPS = {
+    'windows': 'newwin subwin derwin newpad subpad delwin mvwin mvderwin',
+    'texts': 'move addch addstr addstr addstr',
+    'editing': 'insch delch insertln deleteln erase clear clrtoeol clrtobot scrl setscrreg scrollok',
+    'settings': 'attrset attron attroff bkgdset color_set bkgdpair init_pair clearok',
+    'copies': 'overlay overwrite copywin copywin copywin',
+    'marks': 'touchwin untouchwin touchline touchln syncup syncdown is_linetouched is_wintouched',
+    'queries': 'getyx getbegyx getmaxyx getparyx inch',
+    'panels': 'new_panel del_panel show_panel hide_panel top_panel bottom_panel move_panel replace_panel',
+    'neighbours': 'panel_above panel_below panel_window panel_hidden',
+    'refresh': 'noutrefresh pnoutrefresh doupdate update_panels',
+}
+PLACED = ('addch', 'addstr', 'insch', 'delch', 'insertln', 'deleteln', 'clrtoeol', 'clrtobot', 'inch')   # at the cursor
+UP = (b'update_panels', b'doupdate')
+ESCAPED = {10: b'\\n', 13: b'\\r', 8: b'\\b', 92: b'\\\\'}
+
+
+def size(chance):
+    """Lines and columns of a screen: small ones, in which much meets much, and some at the limits."""
+    kind = chance.random()
+    if kind < 0.6:
+        return chance.randint(1, 6), chance.randint(1, 12)
+    if kind < 0.9:
+        return chance.randint(1, 12), chance.randint(1, 40)
+    return chance.choice(((1, 999), (999, 1), (2, 300), (120, 2), (1, 1), (1, 100), (11, 101)))
+
+
+def spelled(chance, text):
+    """A text as a script has it, each byte by an escape where it must be, and sometimes where it needn't."""
+    return b''.join(ESCAPED[byte] if byte in ESCAPED and chance.random() < 0.9
+                    else b'\\x%02x' % byte if not 32 <= byte <= 126 or byte == 92 or chance.random() < 0.02 else bytes([byte])
+                    for byte in text)
+
+
+def word_of(chance, said, form):
+    """An argument as a script has it."""
+    if form in ('text', 'character'):
+        return spelled(chance, said)
+    if isinstance(said, bool):
+        return b'on' if said else b'off'
+    return said if isinstance(said, bytes) else str(said).encode()
+
+
+class Walk:
+    """A script that is being written, and its run."""
+
+    def __init__(self, chance):
+        self.chance = chance
+        self.lines, self.columns = size(chance)
+        self.run = Run(self.lines, self.columns)
+        self.arguments = Arguments(chance, self.run.world, chance.choice((0.0, 0.02, 0.02, 0.15)))
+        self.written = []
+        self.words = self.weighted_words()
+        self.updating = chance.choice((0.05, 0.15, 0.3))
+        self.filling = chance.choice((0, 0.5, 0.9))
+
+    def weighted_words(self):
+        """Each script has a liking of its own for some groups of calls, and for some calls."""
+        words = []
+        theme = self.chance.choice(list(GROUPS))
+        for name, group in GROUPS.items():
+            liking = self.chance.choice((0, 1, 1, 2, 3)) + (name == 'texts') + 5 * (name == theme)
+            for word in group.split():
+                words += [word] * (liking * self.chance.choice((0, 1, 1, 3)))
+        return words or ['addstr']
+
+    def line_of(self, word):
+        said = self.arguments.of(word)
+        forms = CALLS[word][0]
+        return b' '.join([word.encode(), *(word_of(self.chance, *pair) for pair in zip(said, forms))])
+
+    def next_word(self):
+        world = self.run.world
+        if len(world.windows) < 4 and self.chance.random() < 0.4:
+            return self.chance.choice(('newwin', 'newwin', 'derwin', 'subwin', 'newpad'))
+        if len(world.panels) < 3 and self.arguments.free_windows() and self.chance.random() < 0.3:
+            return 'new_panel'
+        return self.chance.choice(self.words)
+
+    def write(self, line):
+        if len(line) <= LONGEST_LINE and self.run.take(line):
+            self.written.append(line)
+
+    def step(self):
+        kind = self.chance.random()
+        if kind < 0.02:
+            self.write(quiet_line(self.chance))
+            return
+        word = self.next_word()
+        for _ in range(self.chance.choice((1,) * 9 + (4,))):
+            self.call(word)
+
+    def call(self, word):
+        """Writes a call, and perhaps what shows its effect."""
+        before = list(self.run.world.windows)
+        if word in PLACED and self.chance.random() < 0.3:
+            self.write(self.line_of('move'))
+        self.write(self.line_of(word))
+        for w in self.run.world.windows:
+            if w not in before and self.chance.random() < self.filling:
+                self.fill(w)
+        if word in GROUPS['copies'] and self.chance.random() < 0.6 and self.arguments.last in self.run.world.windows:
+            self.ask(self.arguments.last)
+        if word in ('clear', 'clearok') and self.chance.random() < 0.5:
+            self.write(b'noutrefresh %d' % self.arguments.last)
+            self.write(self.line_of('noutrefresh'))
+            self.write(b'doupdate')
+        if self.chance.random() < self.updating * (3 if word.endswith('_panel') else 1):
+            for line in UP:
+                self.write(line)
+
+    def fill(self, w):
+        """Writes in all of a new window, and perhaps lets it scroll."""
+        window = self.run.world.windows[w]
+        letters = bytes(self.chance.choice(LETTERS) for _ in range(min(window.lines * window.columns, 400)))
+        self.write(b'addstr %d %b' % (w, spelled(self.chance, letters)))
+        if self.chance.random() < 0.4:
+            first, last = self.arguments.run(window.lines)
+            self.write(b'scrollok %d on' % w)
+            self.write(b'setscrreg %d %d %d' % (w, first, last))
+            self.write(b'move %d %d %d' % (w, last, self.arguments.near(window.columns)))
+            self.write(b'addstr %d %b' % (w, spelled(self.chance, self.arguments.several_lines())))
+        else:
+            self.write(self.line_of('move'))
+            self.write(self.line_of(self.chance.choice(PLACED)))
+
+    def ask_all(self):
+        """Asks of windows, seen or not, what they hold at some places, what is touched, and where their cursor is."""
+        windows = list(self.run.world.windows)
+        for w in self.chance.sample(windows, min(len(windows), 6)):
+            self.ask(w)
+
+    def ask(self, w):
+        window = self.run.world.windows[w]
+        self.write(b'getyx %d' % w)
+        self.write(b'is_linetouched %d %d' % (w, self.arguments.near(window.lines)))
+        for _ in range(min(window.lines * window.columns, 8)):
+            self.write(b'move %d %d %d' % (w, self.arguments.near(window.lines), self.arguments.near(window.columns)))
+            self.write(b'inch %d' % w)
+
+    def begin_at_length(self):
+        """Many lines of one kind, so that numbers and tables get long."""
+        kind = self.chance.randrange(4)
+        for _ in range(self.chance.choice((130, 260, 1002 if kind else 300))):
+            if kind == 0:
+                self.write(b'')
+            elif kind == 1:
+                self.write(b'newwin 1 1 0 %d' % self.chance.randrange(self.columns))
+            elif kind == 2:
+                self.write(b'derwin %d 0 0 0 0' % self.chance.choice((0, min(self.run.number, 200))))
+            else:
+                self.write(b'newpad 1 1' if self.chance.random() < 0.5 else b'new_panel %d' % self.run.number)
+
+
+def script_of(chance):
+    """A size and a script. Most have no fault and end with an update of the terminal."""
+    walk = Walk(chance)
+    if chance.random() < walk.filling:
+        walk.fill(0)
+    if chance.random() < 0.01:
+        walk.begin_at_length()
+    for _ in range(chance.choice((3, 10, 25, 50, 80))):
+        walk.step()
+        if chance.random() < 0.02:
+            walk.ask_all()
+    if chance.random() < 0.7:
+        walk.ask_all()
+    lines = walk.written
+    if chance.random() < 0.8:
+        lines += UP
+    if chance.random() < 0.25:
+        for _ in range(chance.choice((1, 1, 2, 5))):
+            at = len(lines) - chance.choice((0, 0, 1, chance.randint(0, len(lines))))
+            lines.insert(max(at, 0), spoiled(chance, chance.choice(lines or [b''])))
+    ending = b'' if chance.random() < 0.1 else b'\n'
+    return walk.lines, walk.columns, b'\n'.join(lines) + ending
