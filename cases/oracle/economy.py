@@ -56,8 +56,14 @@ class Reading:
         """A gap leads to a changed cell."""
         return 'a gap behind which no changed cell stands' if self.gap else None
 
+    def begins_blank_end(self, place):
+        y, x = place
+        return x == 0 or self.update.after[y][x - 1] != BLANK_SHOWN
+
     def waste_of_erasure(self, cursor, picture):
-        if self.gap and (not self.is_changed(cursor) or self.gap > len(position(cursor))):
+        if self.gap and not (self.is_changed(cursor) or self.begins_blank_end(cursor)):
+            return 'a gap before an erasure that leads into the blank end'
+        if self.gap and self.gap > len(position(cursor)):
             return 'a gap before an erasure that is longer than a move'
         self.gap = None
         erased = [(y, x) for y, line in enumerate(picture) for x, cell in enumerate(line) if self.terminal.picture[y][x] != cell]
