@@ -8,7 +8,7 @@ use Rattle.std.proofs.lemmas.Bool.{eqb-false, ne_eqb, or_parts}
 use Rattle.cell.specs.Glyphs.{blank}
 use Rattle.world.specs.Windows.{Backing, own_grid, part_of, Window, WindowMap, Windows, GridPlace, ancestors_within, cell_at, cell_in_grid, cell_of, changed, derives, leads, own, own_within, parent_number, parent_of, replaced, window_limit}
 use Rattle.world.proofs.ViewLaws.{same-if}
-use Rattle.world.specs.calls.Making.{after_mvderwin, with_offset, with_part}
+use Rattle.world.specs.Effects.{shifted_to, with_offset, with_part}
 
 pub changed-off : (window : WindowMap) (w : ℕ) (change : Window → Window) (v : ℕ) → (v ≡ w → ⊥) → changed window w change v ≡ window v
 changed-off window w change v other = let apart = ne_eqb v w other in rw apart refl
@@ -71,23 +71,23 @@ module _ (new old : WindowMap) (w : ℕ) (same : (v : ℕ) → (v ≡ w → ⊥)
     in-grid (Some p) found =
         ap (λ o. option_map_or (λ a. cell_of a.backing p.line p.column) o blank) (same p.grid (λ is. own_within-elsewhere window_limit u y x p other apart found is))
 
--- what mvderwin leaves as it is
-pub cell_at-moved : (windows : Windows) (w y x u v z : ℕ) → (u ≡ w → ⊥) → derives windows.window w u ≡ false → cell_at (after_mvderwin windows w y x).window u v z ≡ cell_at windows.window u v z
+-- what a shift leaves as it is
+pub cell_at-moved : (windows : Windows) (w y x u v z : ℕ) → (u ≡ w → ⊥) → derives windows.window w u ≡ false → cell_at (shifted_to windows w (y, x)).window u v z ≡ cell_at windows.window u v z
 cell_at-moved windows w y x u v z other apart =
-    cell_at-beside (after_mvderwin windows w y x).window windows.window w (changed-off windows.window w (with_part y x)) u v z other apart
+    cell_at-beside (shifted_to windows w (y, x)).window windows.window w (changed-off windows.window w (with_part (y, x))) u v z other apart
 
 -- and its parents, and whose descendant a window is
-offset-parent : (y x : ℕ) (s : Backing) → parent_number (with_offset y x s) ≡ parent_number s
+offset-parent : (y x : ℕ) (s : Backing) → parent_number (with_offset (y, x) s) ≡ parent_number s
 offset-parent y x (own_grid cells) = refl
 offset-parent y x (part_of parent line column) = refl
 
 module _ (windows : Windows) (w y x : ℕ) where
-  parent-moved : (u : ℕ) → parent_of (after_mvderwin windows w y x).window u ≡ parent_of windows.window u
-  parent-moved u = same-if (λ o. option_and_then (λ a. parent_number a.backing) o) (with_part y x) (λ a. offset-parent y x a.backing) (u == w) (windows.window u)
+  parent-moved : (u : ℕ) → parent_of (shifted_to windows w (y, x)).window u ≡ parent_of windows.window u
+  parent-moved u = same-if (λ o. option_and_then (λ a. parent_number a.backing) o) (with_part (y, x)) (λ a. offset-parent y x a.backing) (u == w) (windows.window u)
 
-  ancestors-moved : (n : ℕ) → ancestors_within n (after_mvderwin windows w y x).window ≡ ancestors_within n windows.window
+  ancestors-moved : (n : ℕ) → ancestors_within n (shifted_to windows w (y, x)).window ≡ ancestors_within n windows.window
   ancestors-moved zero = refl
   ancestors-moved (suc n) = fun_ext (λ u. λ i. option_map_or (λ parent. parent ∷ ancestors-moved n i parent) (parent-moved u i) [])
 
-  pub derives-moved : (v u : ℕ) → derives (after_mvderwin windows w y x).window v u ≡ derives windows.window v u
+  pub derives-moved : (v u : ℕ) → derives (shifted_to windows w (y, x)).window v u ≡ derives windows.window v u
   derives-moved v u = ap (λ f. list_any (λ k. k == v) (f u)) (ancestors-moved window_limit)

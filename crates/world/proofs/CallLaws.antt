@@ -1,59 +1,101 @@
 -- At a place that a call doesn't affect, neither the picture changes nor what the virtual screen shows.
-use Rattle.std.proofs.Common.{◌≡◌, ℕ, ◌<◌, false, Option, Some, None, is_some, ap, refl, ◌∙◌}
+use Rattle.std.proofs.Common.{◌≡◌, ℕ, ◌<◌, Bool, true, false, Option, Some, None, is_some, ap, refl, ◌∙◌}
+use Rattle.std.specs.Prelude.{⊤}
 use Rattle.std.specs.Option.{option_map_or}
 use Rattle.std.proofs.lemmas.Bool.{true≢false}
 use Rattle.cell.specs.Glyphs.{Glyph}
 use Rattle.cell.specs.Pictures.{picture_of, shown_at}
 use Rattle.cell.proofs.PictureLemmas.{cell_or-lines_from}
 use Rattle.cell.specs.Shown.{Pairs, Shown, shown, shown_blank}
-use Rattle.world.specs.Windows.{Drawing}
-use Rattle.world.specs.Panels.{found_from_top}
+use Rattle.world.specs.Panels.{Panels}
+use Rattle.world.specs.Windows.{Drawing, Windows}
 use Rattle.world.specs.Sound.{IsSound}
-use Rattle.world.specs.World.{VirtualScreen, World, picture}
-use Rattle.world.specs.calls.Copies.{copywin_drawing}
-use Rattle.world.specs.calls.Refresh.{shown_over, touched_cells}
-use Rattle.world.specs.calls.Dispatch.{after_stacking, is_update_panels, refusal, world_after}
-use Rattle.world.specs.calls.Affected.{affects_place}
-use Rattle.world.proofs.MoveLaws.{found-making}
-use Rattle.world.proofs.RefreshLaws.{found-refresh}
-use Rattle.world.proofs.StackingLaws.{found-stacking}
-use Rattle.world.proofs.WritingLaws.{found-copying, found-writing}
+use Rattle.world.specs.World.{World, picture}
+use Rattle.world.specs.Effects.{Effect, after, arranges, colours, composed_windows, composes, refreshes, shown_over, shows}
+use Rattle.world.specs.calls.Dispatch.{effect_of, is_update_panels, refusal, world_after}
+use Rattle.world.specs.calls.Affected.{affects_place, effect_shows_at}
+use Rattle.world.specs.calls.Copying.{copying_change}
+use Rattle.world.specs.calls.Refresh.{refresh_effect}
+use Rattle.world.proofs.Allowed.{IsAllowed, allowed-making}
+use Rattle.world.proofs.RefreshLaws.{found-lines, found-unmarked}
+use Rattle.world.proofs.StackingLaws.{IsOrdered, found-order, ordered-stacking}
 use Rattle.world.specs.declared.call.Call.{Call}
 use Rattle.world.specs.declared.call.Call.TheVariants as calls
+use Rattle.world.specs.declared.call.Copying.{Copying}
+use Rattle.world.specs.declared.call.Copying.TheVariants.{Overlay, Overwrite, Copywin, Touchwin, Untouchwin, Touchline, Touchln, Syncup, Syncdown, IsLinetouched, IsWintouched}
+use Rattle.world.specs.declared.call.Refresh.{Refresh}
 use Rattle.world.specs.declared.call.Refresh.TheVariants.{Noutrefresh, Pnoutrefresh, UpdatePanels, Doupdate, InitPair}
-use Rattle.world.specs.declared.call.Stacking.{Stacking}
-use Rattle.world.specs.declared.call.Stacking.TheVariants.{NewPanel, DelPanel, ShowPanel, HidePanel, TopPanel, BottomPanel, MovePanel, ReplacePanel, PanelAbove, PanelBelow, PanelWindow, PanelHidden}
 
--- a call on panels keeps colours and virtual screen
-stacking-keeps : (world : World) (stacking : Stacking) → ((after_stacking world stacking).pairs ≡ world.pairs) × ((after_stacking world stacking).virtual ≡ world.virtual)
-stacking-keeps world (NewPanel win) = (refl, refl)
-stacking-keeps world (DelPanel panel) = (refl, refl)
-stacking-keeps world (ShowPanel panel) = (refl, refl)
-stacking-keeps world (HidePanel panel) = (refl, refl)
-stacking-keeps world (TopPanel panel) = (refl, refl)
-stacking-keeps world (BottomPanel panel) = (refl, refl)
-stacking-keeps world (MovePanel panel y x) = (refl, refl)
-stacking-keeps world (ReplacePanel panel win) = (refl, refl)
-stacking-keeps world (PanelAbove panel) = (refl, refl)
-stacking-keeps world (PanelBelow panel) = (refl, refl)
-stacking-keeps world (PanelWindow panel) = (refl, refl)
-stacking-keeps world (PanelHidden panel) = (refl, refl)
+-- ---- what each effect wants, which the tests of its call give
+
+abbrev pub IsReady : World → Effect → Type 0
+IsReady world (arranges order) = IsOrdered world.windows world.panels order
+IsReady world (refreshes w test drawing cursor) = ⊤
+IsReady world composes = ⊤
+IsReady world shows = ⊤
+IsReady world (colours pair foreground background) = ⊤
+
+allowed-copying : (windows : Windows) (panels : Panels) (copying : Copying) → IsAllowed windows panels (copying_change windows copying)
+allowed-copying windows panels (Overlay src dst) = tt
+allowed-copying windows panels (Overwrite src dst) = tt
+allowed-copying windows panels (Copywin src dst sminrow smincol dminrow dmincol dmaxrow dmaxcol overlay) = tt
+allowed-copying windows panels (Touchwin win) = tt
+allowed-copying windows panels (Untouchwin win) = tt
+allowed-copying windows panels (Touchline win y n) = tt
+allowed-copying windows panels (Touchln win y n flag) = tt
+allowed-copying windows panels (Syncup win) = tt
+allowed-copying windows panels (Syncdown win) = tt
+allowed-copying windows panels (IsLinetouched win y) = tt
+allowed-copying windows panels (IsWintouched win) = tt
+
+ready-refresh : (world : World) (refresh : Refresh) → IsReady world (refresh_effect world refresh)
+ready-refresh world (Noutrefresh win) = tt
+ready-refresh world (Pnoutrefresh pad pminrow pmincol sminrow smincol smaxrow smaxcol) = tt
+ready-refresh world UpdatePanels = tt
+ready-refresh world Doupdate = tt
+ready-refresh world (InitPair pair foreground background) = tt
+
+pub ready : (world : World) (call : Call) → refusal world call ≡ None → IsReady world (effect_of world call)
+ready world (calls.Making making) accepted = allowed-making world.windows world.panels making accepted
+ready world (calls.Writing writing) accepted = tt
+ready world (calls.Copying copying) accepted = allowed-copying world.windows world.panels copying
+ready world (calls.Query query) accepted = tt
+ready world (calls.Stacking stacking) accepted = ordered-stacking world.windows world.panels stacking accepted
+ready world (calls.Refresh refresh) accepted = ready-refresh world refresh
+
+-- ---- the picture
 
 module _ (world : World) (y x : ℕ) (sound : IsSound world) (below : y < world.windows.lines) (left : x < world.windows.columns) where
+  effect-keeps : (effect : Effect) → IsReady world effect → effect_shows_at world effect y x ≡ false → picture (after world effect) y x ≡ picture world y x
+  effect-keeps (arranges order) ready free = ap (shown world.pairs) (found-order world.windows world.panels order y x sound.windows sound.panels below left ready free)
+  effect-keeps (refreshes w test drawing cursor) ready free = ap (shown world.pairs) (found-lines world.windows w test world.panels y x)
+  effect-keeps composes ready free = ap (shown world.pairs) (found-unmarked world.windows.window (composed_windows world) world.panels y x)
+  effect-keeps shows ready free = refl
+  effect-keeps (colours pair foreground background) ready free = absurd (true≢false free)
+
   pub picture-kept : (call : Call) → refusal world call ≡ None → affects_place world call y x ≡ false → picture (world_after world call) y x ≡ picture world y x
-  picture-kept (calls.Making making) allowed free = ap (shown world.pairs) (found-making world.windows world.panels making y x sound.windows sound.panels allowed free)
-  picture-kept (calls.Writing writing) allowed free = ap (shown world.pairs) (found-writing world.windows world.panels writing y x sound.windows below left free)
-  picture-kept (calls.Copying copying) allowed free = ap (shown world.pairs) (found-copying world.windows world.panels copying y x sound.windows below left free)
-  picture-kept (calls.Query query) allowed free = refl
-  picture-kept (calls.Stacking stacking) allowed free =
-      ap (λ pairs. shown pairs (found_from_top (after_stacking world stacking).windows.window (after_stacking world stacking).panels y x)) (stacking-keeps world stacking).0
-      ∙ ap (shown world.pairs) (found-stacking world stacking y x sound.panels allowed free)
-  picture-kept (calls.Refresh (Noutrefresh win)) allowed free = ap (shown world.pairs) (found-refresh world (Noutrefresh win) y x)
-  picture-kept (calls.Refresh (Pnoutrefresh pad pminrow pmincol sminrow smincol smaxrow smaxcol)) allowed free =
-      ap (shown world.pairs) (found-refresh world (Pnoutrefresh pad pminrow pmincol sminrow smincol smaxrow smaxcol) y x)
-  picture-kept (calls.Refresh UpdatePanels) allowed free = ap (shown world.pairs) (found-refresh world UpdatePanels y x)
-  picture-kept (calls.Refresh Doupdate) allowed free = refl
-  picture-kept (calls.Refresh (InitPair pair foreground background)) allowed free = absurd (true≢false free)
+  picture-kept call accepted free = effect-keeps (effect_of world call) (ready world call accepted) free
+
+-- ---- the virtual screen
+
+abbrev is_composing : Effect → Bool
+is_composing (arranges order) = false
+is_composing (refreshes w test drawing cursor) = false
+is_composing composes = true
+is_composing shows = false
+is_composing (colours pair foreground background) = false
+
+composing : (world : World) (call : Call) → is_composing (effect_of world call) ≡ is_update_panels call
+composing world (calls.Making making) = refl
+composing world (calls.Writing writing) = refl
+composing world (calls.Copying copying) = refl
+composing world (calls.Query query) = refl
+composing world (calls.Stacking stacking) = refl
+composing world (calls.Refresh (Noutrefresh win)) = refl
+composing world (calls.Refresh (Pnoutrefresh pad pminrow pmincol sminrow smincol smaxrow smaxcol)) = refl
+composing world (calls.Refresh UpdatePanels) = refl
+composing world (calls.Refresh Doupdate) = refl
+composing world (calls.Refresh (InitPair pair foreground background)) = refl
 
 module _ (world : World) (y x : ℕ) (below : y < world.windows.lines) (left : x < world.windows.columns) where
   laid-nothing : (pairs : Pairs) (o : Option Glyph) (before : Shown) → is_some o ≡ false → option_map_or (shown pairs) o before ≡ before
@@ -66,16 +108,14 @@ module _ (world : World) (y x : ℕ) (below : y < world.windows.lines) (left : x
       cell_or-lines_from shown_blank world.windows.lines world.windows.columns (shown_over world.pairs world.virtual.picture f) y x below left
       ∙ laid-nothing world.pairs (f y x) (shown_at world.virtual.picture (y, x)) none
 
+  effect-leaves : (effect : Effect) → is_composing effect ≡ false → effect_shows_at world effect y x ≡ false
+      → shown_at (after world effect).virtual.picture (y, x) ≡ shown_at world.virtual.picture (y, x)
+  effect-leaves (arranges order) other free = refl
+  effect-leaves (refreshes w test drawing cursor) other free = over-nothing drawing free
+  effect-leaves composes other free = absurd (true≢false other)
+  effect-leaves shows other free = refl
+  effect-leaves (colours pair foreground background) other free = refl
+
   pub virtual-kept : (call : Call) → is_update_panels call ≡ false → affects_place world call y x ≡ false
       → shown_at (world_after world call).virtual.picture (y, x) ≡ shown_at world.virtual.picture (y, x)
-  virtual-kept (calls.Making making) other free = refl
-  virtual-kept (calls.Writing writing) other free = refl
-  virtual-kept (calls.Copying copying) other free = refl
-  virtual-kept (calls.Query query) other free = refl
-  virtual-kept (calls.Stacking stacking) other free = ap (λ (virtual : VirtualScreen). shown_at virtual.picture (y, x)) (stacking-keeps world stacking).1
-  virtual-kept (calls.Refresh (Noutrefresh win)) other free = over-nothing (touched_cells world.windows.window win.0) free
-  virtual-kept (calls.Refresh (Pnoutrefresh pad pminrow pmincol sminrow smincol smaxrow smaxcol)) other free =
-      over-nothing (copywin_drawing world.windows.window pad.0 pminrow pmincol sminrow smincol smaxrow smaxcol false) free
-  virtual-kept (calls.Refresh UpdatePanels) other free = absurd (true≢false other)
-  virtual-kept (calls.Refresh Doupdate) other free = refl
-  virtual-kept (calls.Refresh (InitPair pair foreground background)) other free = refl
+  virtual-kept call other free = effect-leaves (effect_of world call) (composing world call ∙ other) free

@@ -5,8 +5,7 @@ use Rattle.std.specs.List.{range_with_len}
 use Rattle.world.specs.Windows.{cell_at, window_limit}
 use Rattle.world.specs.Frames.{frame_above, frame_in_line}
 use Rattle.world.specs.World.{World}
-use Rattle.world.specs.calls.Written.{call_frame}
-use Rattle.world.specs.calls.Dispatch.{refusal, reply_of, world_after}
+use Rattle.world.specs.calls.Dispatch.{call_frame, refusal, reply_of, world_after}
 use Rattle.world.specs.calls.Queries.{touched_columns}
 use Rattle.world.proofs.Examples.{screen_after, win}
 use Rattle.cell.specs.declared.refusal.Refusal.TheVariants.{BadRectangle, IsPad, OutsideWindow}

@@ -5,7 +5,7 @@ use Rattle.std.specs.Option.{option_map}
 use Rattle.std.proofs.lemmas.Bool.{cases_lt}
 use Rattle.world.specs.Windows.{GridPlace, Window, Windows, Drawing, drawn, over, own, put, put_from}
 use Rattle.world.specs.Frames.{joined, frame_at, frame_in_line, frame_above, frame_of, Covers, IsIn, IsSmallest, IsFrameOf}
-use Rattle.world.specs.calls.writing.Editing.{drawing_frame}
+use Rattle.world.specs.Effects.{drawing_frame}
 use Rattle.cell.specs.Glyphs.{Glyph}
 use Rattle.cell.specs.declared.window.Rect.{Rect}
 

@@ -10,6 +10,7 @@ pub mod AncestorLaws
 pub mod PictureLaws
 pub mod LineLaws
 pub mod WritingLaws
+pub mod Allowed
 pub mod StackingLaws
 pub mod CallLaws
 pub mod MoveLaws

@@ -1,34 +1,23 @@
 -- Making, deleting and moving windows: which places of the screen keep what the search finds there.
-use Rattle.std.proofs.Common.{◌≡◌, ℕ, zero, suc, ◌+◌, ◌-◌, ◌<◌, Bool, true, false, if◌then◌else◌, ◌==◌, ◌&&◌, ◌||◌, Option, Some, None, IsSome, IsSomeAnd, MatchOption, [], ◌∷◌, inl, inr, subst, ap, arith, refl, sym, ◌∙◌}
-use Rattle.std.specs.Prelude.{is_none, is_some, not, option_and_then, unwrap_or, ⊤}
+use Rattle.std.proofs.Common.{◌≡◌, ℕ, zero, suc, ◌+◌, ◌-◌, ◌<◌, Bool, true, false, ◌==◌, ◌&&◌, ◌||◌, Option, Some, None, IsSome, IsSomeAnd, MatchOption, [], ◌∷◌, inl, inr, subst, ap, arith, refl, sym, ◌∙◌}
+use Rattle.std.specs.Prelude.{is_some, option_and_then, ⊤}
 use Rattle.std.specs.Option.{option_map_or}
 use Rattle.std.specs.List.{list_any}
 use mathlib.Core.Path.{fun_ext}
 use Rattle.std.proofs.lemmas.Bool.{and_cases, eqb-false, false_from_ne_true, or_from, or_parts, ne_eqb, true≢false}
-use Rattle.cell.specs.Limits.{is_no_size}
-use Rattle.cell.specs.Refusals.{first_of}
-use Rattle.cell.specs.declared.limits.TheConstants.{LARGEST_PAD, MOST_WINDOWS}
-use Rattle.cell.specs.declared.refusal.Refusal.{Refusal}
-use Rattle.world.specs.Windows.{Backing, own_grid, part_of, GridPlace, Window, WindowMap, Windows, ancestors_within, derives, is_missing, leads, own, own_within, parent_number, parent_of, window_limit}
-use Rattle.world.specs.Panels.{Panels, cell_on_screen, found_from_top, holds, is_in_panel, place_of, standard_screen, windows_from_top}
-use Rattle.world.specs.Sound.{AreSoundPanels, AreSoundWindows, IsSoundPanel, IsSoundWindow, IsStandardScreen}
-use Rattle.world.specs.calls.Dispatch.{after_making, making_refusal, next_window}
-use Rattle.world.specs.calls.Making.{after_mvderwin, after_mvwin, delwin_refusal, free_among, has_derived, has_no_parent, is_before, is_full, is_inside, is_no_pad, is_outside, is_own, is_pad, is_part_of, mvderwin_refusal, mvwin_refusal, new_number, numbered, part_tests, with_part, with_place}
-use Rattle.world.specs.calls.Affected.{follows_at, making_shows_at, move_shows_at}
+use Rattle.cell.specs.declared.limits.TheConstants.{MOST_WINDOWS}
+use Rattle.world.specs.Windows.{Backing, own_grid, part_of, GridPlace, Window, WindowMap, Windows, ancestors_within, derives, leads, own, own_within, parent_number, parent_of, window_limit}
+use Rattle.world.specs.Panels.{Panels, cell_on_screen, found_from_top, holds, place_of, standard_screen, windows_from_top}
+use Rattle.world.specs.Sound.{AreSoundPanels, AreSoundWindows, IsSoundWindow, IsStandardScreen}
+use Rattle.world.specs.Effects.{Change, after_change, asks, deletes, edits, makes, marked, marks, moved_to, moves, numbered, shifted_to, shifts, with_part, with_place, with_touched}
+use Rattle.world.specs.calls.Making.{has_derived, has_no_parent, is_own, is_part_of}
+use Rattle.world.specs.calls.Affected.{change_shows_at, follows_at, move_shows_at}
+use Rattle.world.proofs.Allowed.{IsAllowed, not-in-panel, sound-panel}
 use Rattle.world.proofs.AncestorLaws.{cell_at-beside, cell_at-moved, changed-off, derives-moved, replaced-off}
 use Rattle.world.proofs.Below.{any_below-some}
-use Rattle.world.proofs.PanelLaws.{in_panel-some}
-use Rattle.world.proofs.PlaceLaws.{free-step}
-use Rattle.world.proofs.ViewLaws.{backing_of, cell_at-same, found-same, holds-same, on_screen-same, outline_of, passes-none, same-if}
-use Rattle.world.specs.declared.call.Making.{Making}
-use Rattle.world.specs.declared.call.Making.TheVariants.{Newwin, Subwin, Derwin, Newpad, Subpad, Delwin, Mvwin, Mvderwin}
-
--- ---- refusals
-
--- a call that isn't refused fails its first test, and isn't refused for the others
-pub passed : (test : Bool) (e : Refusal) (rest : Option Refusal) → (if test then Some e else rest) ≡ None → (test ≡ false) × (rest ≡ None)
-passed true e rest h = cc
-passed false e rest h = (refl, h)
+use Rattle.world.proofs.ViewLaws.{SameCells, backing_of, cell_at-same, found-dressed, found-same, holds-same, on_screen-same, outline_of, passes-none, same-if}
+use Rattle.world.proofs.WritingLaws.{found-edit}
+use Rattle.world.specs.declared.settings.Columns.{Columns}
 
 -- ---- the standard screen derives from none, and isn't moved
 
@@ -51,26 +40,24 @@ standard-beside windows w sound =
 -- ---- which windows show other cells after mvderwin is the same before it and after
 
 module _ (windows : Windows) (w v z : ℕ) where
-  window-moved : (u : ℕ) → outline_of ((after_mvderwin windows w v z).window u) ≡ outline_of (windows.window u)
-  window-moved u = same-if (λ o. outline_of o) (with_part v z) (λ a. refl) (u == w) (windows.window u)
+  window-moved : (u : ℕ) → outline_of ((shifted_to windows w (v, z)).window u) ≡ outline_of (windows.window u)
+  window-moved u = same-if (λ o. outline_of o) (with_part (v, z)) (λ a. refl) (u == w) (windows.window u)
 
-  pub move_shows-moved : (panels : Panels) (y x : ℕ) → move_shows_at (after_mvderwin windows w v z).window panels w y x ≡ move_shows_at windows.window panels w y x
+  pub move_shows-moved : (panels : Panels) (y x : ℕ) → move_shows_at (shifted_to windows w (v, z)).window panels w y x ≡ move_shows_at windows.window panels w y x
   move_shows-moved panels y x = ap (λ (test : ℕ → Bool). list_any test (windows_from_top panels)) (fun_ext (λ u. λ i.
-      (u == w || derives-moved windows w v z w u i) && holds-same (after_mvderwin windows w v z).window windows.window u (window-moved u) y x i))
+      (u == w || derives-moved windows w v z w u i) && holds-same (shifted_to windows w (v, z)).window windows.window u (window-moved u) y x i))
 
 -- ---- mvderwin
 
-module _ (windows : Windows) (panels : Panels) (w v z y x : ℕ) (sound : AreSoundWindows windows) (allowed : mvderwin_refusal windows w v z ≡ None) where
+module _ (windows : Windows) (panels : Panels) (w v z y x : ℕ) (sound : AreSoundWindows windows) (derived : has_no_parent windows.window w ≡ false) where
   moved : WindowMap
-  moved = (after_mvderwin windows w v z).window
+  moved = (shifted_to windows w (v, z)).window
 
   other-standard : standard_screen ≡ w → ⊥
   other-standard same =
-      let there = passed _ _ _ allowed in
-      let derived = passed (has_no_parent windows.window w) _ _ there.1 in
       let standard : has_no_parent windows.window w ≡ true =
       subst (λ (u : ℕ). has_no_parent windows.window u ≡ true) same (standard-own windows (windows.window standard_screen) sound.standard) in
-      absurd (true≢false (sym standard ∙ derived.0))
+      absurd (true≢false (sym standard ∙ derived))
 
   moved-kept : (u : ℕ) → (u ≡ w → ⊥) → derives windows.window w u ≡ false → cell_on_screen moved u y x ≡ cell_on_screen windows.window u y x
   unfolding moved
@@ -84,7 +71,7 @@ module _ (windows : Windows) (panels : Panels) (w v z y x : ℕ) (sound : AreSou
     | inr elsewhere ↦ let never : true ≡ false = sym there ∙ elsewhere in cc
   ]
 
-  pub found-moved : move_shows_at windows.window panels w y x ≡ false → found_from_top (after_mvderwin windows w v z).window panels y x ≡ found_from_top windows.window panels y x
+  pub found-moved : move_shows_at windows.window panels w y x ≡ false → found_from_top (shifted_to windows w (v, z)).window panels y x ≡ found_from_top windows.window panels y x
   unfolding moved
   found-moved free =
       found-same moved windows.window panels y x (follows_at windows.window w y x) free (λ p u is. holds-same moved windows.window u (window-moved windows w v z u) y x)
@@ -107,23 +94,6 @@ module _ (new old : WindowMap) (panels : Panels) (w : ℕ) (same : (v : ℕ) →
       found-same new old panels y x (λ u. false) (passes-none (windows_from_top panels))
       (λ p u is. let other = apart p u is in holds-same new old u (ap (λ o. outline_of o) (same u other.0)) y x)
       (λ p u is there fails. apart-kept y x u (apart p u is)) (apart-kept y x standard_screen standard)
-
--- ---- what panels have
-
-panel-sound : (window : WindowMap) (panels : Panels) (p u : ℕ) (o : Option ℕ) → o ≡ Some u → MatchOption o ⊤ (IsSoundPanel window panels p) → IsSoundPanel window panels p u
-panel-sound window panels p u None is h = cc
-panel-sound window panels p u (Some v) is h = let same : v ≡ u = cc in subst (λ (k : ℕ). IsSoundPanel window panels p k) same h
-
-pub sound-panel : (window : WindowMap) (panels : Panels) → AreSoundPanels window panels → (p u : ℕ) → panels.window p ≡ Some u → IsSoundPanel window panels p u
-sound-panel window panels sound p u is = panel-sound window panels p u (panels.window p) is (sound.each p)
-
-not-in-panel : (window : WindowMap) (panels : Panels) (w : ℕ) → AreSoundPanels window panels → is_in_panel panels w ≡ false
-    → (p u : ℕ) → panels.window p ≡ Some u → u ≡ w → ⊥
-not-in-panel window panels w sound none p u is same =
-    let panel = sound-panel window panels sound p u is in
-    let some = in_panel-some panels w p panel.number (is ∙ ap Some same) in
-    let never : true ≡ false = sym some ∙ none in
-    cc
 
 there-some : (o : Option Window) (P : Window → Type 0) → IsSomeAnd o P → IsSome o
 there-some None P h = elim h [ ]
@@ -165,16 +135,12 @@ no-part windows w sound none v a is = false_from_ne_true (is_part_of w a.backing
     cc)
 
 found-deleted : (windows : Windows) (panels : Panels) (w y x : ℕ) → AreSoundWindows windows → AreSoundPanels windows.window panels
-    → delwin_refusal windows (is_in_panel panels w) w ≡ None → found_from_top (numbered windows w None).window panels y x ≡ found_from_top windows.window panels y x
+    → IsAllowed windows panels (deletes w) → found_from_top (numbered windows w None).window panels y x ≡ found_from_top windows.window panels y x
 found-deleted windows panels w y x sound panels_sound allowed =
-    let there = passed _ _ _ allowed in
-    let other = passed (w == standard_screen) _ _ there.1 in
-    let free = passed (is_in_panel panels w) _ _ other.1 in
-    let alone = passed (has_derived windows.window w) _ _ free.1 in
-    let none : (u : ℕ) → derives windows.window w u ≡ false = λ u. underived windows.window w (no-part windows w sound alone.0) window_limit u in
+    let none : (u : ℕ) → derives windows.window w u ≡ false = λ u. underived windows.window w (no-part windows w sound allowed.2) window_limit u in
     found-apart (numbered windows w None).window windows.window panels w (replaced-off windows.window w None)
-    (λ p u is. (not-in-panel windows.window panels w panels_sound free.0 p u is, none u))
-    (λ same. eqb-false w standard_screen other.0 (sym same), none standard_screen) y x
+    (λ p u is. (not-in-panel windows.window panels w panels_sound allowed.1 p u is, none u))
+    (λ same. eqb-false w standard_screen allowed.0 (sym same), none standard_screen) y x
 
 -- ---- a new window has a number that no window had
 
@@ -212,101 +178,68 @@ module _ (window : WindowMap) (n : ℕ) (free : window n ≡ None) where
   leading-some u None found some = cc
   leading-some u (Some p) found some = leading window_limit u 0 0 p found
 
-free-number : (n k : ℕ) (window : WindowMap) (w : ℕ) → free_among n k window ≡ Some w → window w ≡ None
-free-number zero k window w is = cc
-free-number (suc n) k window w is = elim (free-step (window k) k w (free_among n (k + 1) window) is) [
-  | inl both ↦ subst (λ (v : ℕ). window v ≡ None) both.0 both.1
-  | inr rest ↦ free-number n (k + 1) window w rest
-]
-
-next-free : (window : WindowMap) (o : Option ℕ) → new_number window ≡ o → is_none o ≡ false → window (unwrap_or o standard_screen) ≡ None
-next-free window None is full = cc
-next-free window (Some n) is full = free-number (window_limit - 1) 1 window n is
-
 chain-ends : (windows : Windows) (u : ℕ) (o : Option Window) → MatchOption o ⊤ (IsSoundWindow windows u) → IsSome o → IsSome (own windows.window u 0 0)
 chain-ends windows u None h some = cc
 chain-ends windows u (Some a) h some = h.chain_ends
 
-found-new : (windows : Windows) (panels : Panels) (o : Option Window) (y x : ℕ) → AreSoundWindows windows → AreSoundPanels windows.window panels → is_full windows.window ≡ false
-    → found_from_top (numbered windows (next_window windows) o).window panels y x ≡ found_from_top windows.window panels y x
-found-new windows panels o y x sound panels_sound full =
-    found-apart (numbered windows (next_window windows) o).window windows.window panels (next_window windows) (replaced-off windows.window (next_window windows) o)
+found-new : (windows : Windows) (panels : Panels) (n : ℕ) (o : Option Window) (y x : ℕ) → AreSoundWindows windows → AreSoundPanels windows.window panels → windows.window n ≡ None
+    → found_from_top (numbered windows n o).window panels y x ≡ found_from_top windows.window panels y x
+found-new windows panels n o y x sound panels_sound free =
+    found-apart (numbered windows n o).window windows.window panels n (replaced-off windows.window n o)
     (λ p u is. there u (there-some (windows.window u) _ (sound-panel windows.window panels panels_sound p u is).window_is))
     (there standard_screen (there-some (windows.window standard_screen) _ sound.standard)) y x where
-      free : windows.window (next_window windows) ≡ None
-      free = next-free windows.window (new_number windows.window) refl full
-
-      there : (u : ℕ) → IsSome (windows.window u) → (u ≡ next_window windows → ⊥) × (derives windows.window (next_window windows) u ≡ false)
+      there : (u : ℕ) → IsSome (windows.window u) → (u ≡ n → ⊥) × (derives windows.window n u ≡ false)
       there u some = (
         λ same.
             let none : is_some (windows.window u) ≡ false = ap (λ (o : Option Window). is_some o) (ap windows.window same ∙ free) in
             let never : true ≡ false = sym some ∙ none in
             cc,
-        leading-some windows.window (next_window windows) free u (own windows.window u 0 0) refl (chain-ends windows u (windows.window u) (sound.each u) some),
+        leading-some windows.window n free u (own windows.window u 0 0) refl (chain-ends windows u (windows.window u) (sound.each u) some),
       )
 
 -- ---- mvwin
 
 module _ (windows : Windows) (w v z : ℕ) where
-  backing-placed : (u : ℕ) → backing_of ((after_mvwin windows w v z).window u) ≡ backing_of (windows.window u)
-  backing-placed u = same-if (λ o. backing_of o) (with_place v z) (λ a. refl) (u == w) (windows.window u)
+  backing-placed : (u : ℕ) → backing_of ((moved_to windows w (v, z)).window u) ≡ backing_of (windows.window u)
+  backing-placed u = same-if (λ o. backing_of o) (with_place (v, z)) (λ a. refl) (u == w) (windows.window u)
 
-  outline-placed : (u : ℕ) → (u ≡ w → ⊥) → outline_of ((after_mvwin windows w v z).window u) ≡ outline_of (windows.window u)
-  outline-placed u other = ap (λ o. outline_of o) (changed-off windows.window w (with_place v z) u other)
+  outline-placed : (u : ℕ) → (u ≡ w → ⊥) → outline_of ((moved_to windows w (v, z)).window u) ≡ outline_of (windows.window u)
+  outline-placed u other = ap (λ o. outline_of o) (changed-off windows.window w (with_place (v, z)) u other)
 
-  pub holds-placed : (y x u : ℕ) → (u ≡ w → ⊥) → holds (after_mvwin windows w v z).window u y x ≡ holds windows.window u y x
-  holds-placed y x u other = holds-same (after_mvwin windows w v z).window windows.window u (outline-placed u other) y x
+  pub holds-placed : (y x u : ℕ) → (u ≡ w → ⊥) → holds (moved_to windows w (v, z)).window u y x ≡ holds windows.window u y x
+  holds-placed y x u other = holds-same (moved_to windows w (v, z)).window windows.window u (outline-placed u other) y x
 
-  pub cell-placed : (y x u : ℕ) → (u ≡ w → ⊥) → cell_on_screen (after_mvwin windows w v z).window u y x ≡ cell_on_screen windows.window u y x
+  pub cell-placed : (y x u : ℕ) → (u ≡ w → ⊥) → cell_on_screen (moved_to windows w (v, z)).window u y x ≡ cell_on_screen windows.window u y x
   cell-placed y x u other =
-      on_screen-same (after_mvwin windows w v z).window windows.window u (outline-placed u other) y x
-      (cell_at-same (after_mvwin windows w v z).window windows.window backing-placed u (y - (place_of windows.window u).0) (x - (place_of windows.window u).1))
+      on_screen-same (moved_to windows w (v, z)).window windows.window u (outline-placed u other) y x
+      (cell_at-same (moved_to windows w (v, z)).window windows.window backing-placed u (y - (place_of windows.window u).0) (x - (place_of windows.window u).1))
 
-found-placed : (windows : Windows) (panels : Panels) (w v z y x : ℕ) → AreSoundPanels windows.window panels → mvwin_refusal windows (is_in_panel panels w) w v z ≡ None
-    → found_from_top (after_mvwin windows w v z).window panels y x ≡ found_from_top windows.window panels y x
+found-placed : (windows : Windows) (panels : Panels) (w v z y x : ℕ) → AreSoundPanels windows.window panels → IsAllowed windows panels (moves w (v, z))
+    → found_from_top (moved_to windows w (v, z)).window panels y x ≡ found_from_top windows.window panels y x
 found-placed windows panels w v z y x sound allowed =
-    let there = passed _ _ _ allowed in
-    let other = passed (w == standard_screen) _ _ there.1 in
-    let window = passed _ _ _ other.1 in
-    let free = passed (is_in_panel panels w) _ _ window.1 in
-    let apart : (p u : ℕ) → panels.window p ≡ Some u → u ≡ w → ⊥ = not-in-panel windows.window panels w sound free.0 in
-    found-same (after_mvwin windows w v z).window windows.window panels y x (λ u. false) (passes-none (windows_from_top panels))
+    let apart : (p u : ℕ) → panels.window p ≡ Some u → u ≡ w → ⊥ = not-in-panel windows.window panels w sound allowed.1 in
+    found-same (moved_to windows w (v, z)).window windows.window panels y x (λ u. false) (passes-none (windows_from_top panels))
     (λ p u is. holds-placed windows w v z y x u (apart p u is)) (λ p u is here fails. cell-placed windows w v z y x u (apart p u is))
-    (cell-placed windows w v z y x standard_screen (λ same. eqb-false w standard_screen other.0 (sym same)))
+    (cell-placed windows w v z y x standard_screen (λ same. eqb-false w standard_screen allowed.0 (sym same)))
 
--- ---- each call
+-- ---- marks
 
--- a call that derives, and isn't refused, finds a free number
-part-full : (windows : Windows) (w nlines ncols y x : ℕ) → first_of (part_tests windows w nlines ncols y x) ≡ None → is_full windows.window ≡ false
-part-full windows w nlines ncols y x allowed =
-    let inside = passed (is_outside windows.window w nlines ncols y x) _ _ allowed in
-    (passed (is_full windows.window) _ _ inside.1).0
+marked-cells : (windows : Windows) (test : ℕ → Bool) (touched : ℕ → Window → ℕ → Option Columns) → SameCells (marked windows test touched).window windows.window
+marked-cells windows test touched = record {
+  outlines = λ u. same-if (λ o. outline_of o) (with_touched (touched u)) (λ a. refl) (test u) (windows.window u);
+  backings = λ u. same-if (λ o. backing_of o) (with_touched (touched u)) (λ a. refl) (test u) (windows.window u);
+}
 
-pub found-making : (windows : Windows) (panels : Panels) (making : Making) (y x : ℕ) → AreSoundWindows windows → AreSoundPanels windows.window panels
-    → making_refusal windows (is_in_panel panels) making ≡ None → making_shows_at windows.window panels making y x ≡ false
-    → found_from_top (after_making windows making).window panels y x ≡ found_from_top windows.window panels y x
-found-making windows panels (Newwin nlines ncols line column) y x sound panels_sound allowed free =
-    let inside = passed (not (is_inside nlines windows.lines line && is_inside ncols windows.columns column)) _ _ allowed in
-    let full = passed (is_full windows.window) _ _ inside.1 in
-    found-new windows panels _ y x sound panels_sound full.0
-found-making windows panels (Subwin win nlines ncols line column) y x sound panels_sound allowed free =
-    let there = passed (is_missing windows.window win.0) _ _ allowed in
-    let pad = passed (is_pad windows.window win.0) _ _ there.1 in
-    let before = passed (is_before windows.window win.0 line column) _ _ pad.1 in
-    let full = part-full windows win.0 nlines ncols (line - (place_of windows.window win.0).0) (column - (place_of windows.window win.0).1) before.1 in
-    found-new windows panels _ y x sound panels_sound full
-found-making windows panels (Derwin win nlines ncols line column) y x sound panels_sound allowed free =
-    let there = passed (is_missing windows.window win.0) _ _ allowed in
-    let pad = passed (is_pad windows.window win.0) _ _ there.1 in
-    found-new windows panels _ y x sound panels_sound (part-full windows win.0 nlines ncols line column pad.1)
-found-making windows panels (Newpad nlines ncols) y x sound panels_sound allowed free =
-    let size = passed (is_no_size LARGEST_PAD nlines || is_no_size LARGEST_PAD ncols) _ _ allowed in
-    let full = passed (is_full windows.window) _ _ size.1 in
-    found-new windows panels _ y x sound panels_sound full.0
-found-making windows panels (Subpad pad nlines ncols line column) y x sound panels_sound allowed free =
-    let there = passed (is_missing windows.window pad.0) _ _ allowed in
-    let kind = passed (is_no_pad windows.window pad.0) _ _ there.1 in
-    found-new windows panels _ y x sound panels_sound (part-full windows pad.0 nlines ncols line column kind.1)
-found-making windows panels (Delwin win) y x sound panels_sound allowed free = found-deleted windows panels win.0 y x sound panels_sound allowed
-found-making windows panels (Mvwin win line column) y x sound panels_sound allowed free = found-placed windows panels win.0 line column y x panels_sound allowed
-found-making windows panels (Mvderwin win line column) y x sound panels_sound allowed free = found-moved windows panels win.0 line column y x sound allowed free
+-- ---- each change
+
+pub found-change : (windows : Windows) (panels : Panels) (change : Change) (y x : ℕ) → AreSoundWindows windows → AreSoundPanels windows.window panels
+    → y < windows.lines → x < windows.columns → IsAllowed windows panels change → change_shows_at windows panels change y x ≡ false
+    → found_from_top (after_change windows change).window panels y x ≡ found_from_top windows.window panels y x
+found-change windows panels (asks reply) y x sound panels_sound below left allowed free = refl
+found-change windows panels (edits edit) y x sound panels_sound below left allowed free = found-edit windows panels edit y x sound below left free
+found-change windows panels (marks test touched) y x sound panels_sound below left allowed free =
+    found-dressed (marked windows test touched).window windows.window (marked-cells windows test touched) panels y x
+found-change windows panels (makes n a) y x sound panels_sound below left allowed free = found-new windows panels n a y x sound panels_sound allowed
+found-change windows panels (deletes w) y x sound panels_sound below left allowed free = found-deleted windows panels w y x sound panels_sound allowed
+found-change windows panels (moves w place) y x sound panels_sound below left allowed free = found-placed windows panels w place.0 place.1 y x panels_sound allowed
+found-change windows panels (shifts w place) y x sound panels_sound below left allowed free = found-moved windows panels w place.0 place.1 y x sound allowed free

@@ -5,7 +5,8 @@ use Rattle.std.specs.List.{range_with_len}
 use Rattle.world.specs.Windows.{window_limit}
 use Rattle.world.specs.Panels.{Panels, panel_limit}
 use Rattle.world.specs.World.{World}
-use Rattle.world.specs.calls.Stacking.{after_bottom_panel, after_del_panel, after_hide_panel, after_new_panel, after_replace_panel, after_show_panel, hidden_panel_refusal, is_hidden, move_panel_refusal, new_panel_number, new_panel_refusal, panel_above, panel_below, replace_panel_refusal}
+use Rattle.world.specs.Effects.{with_panel}
+use Rattle.world.specs.calls.Stacking.{after_bottom_panel, after_del_panel, after_hide_panel, after_replace_panel, after_show_panel, is_hidden, new_panel_number, panel_above, panel_below}
 use Rattle.world.specs.calls.Dispatch.{refusal, reply_of, world_after}
 use Rattle.world.specs.calls.Affected.{affected_lines}
 use Rattle.cell.specs.declared.refusal.Refusal.{Refusal}
@@ -63,26 +64,6 @@ ends : (panel_above three None ≡ Some 1) × (panel_below three None ≡ Some 2
 unfolding three
 ends = (refl, refl)
 
--- ---- refusals
-
-hidden_has_no_depth : (hidden_panel_refusal three 3 ≡ Some Hidden) × (hidden_panel_refusal three 4 ≡ Some NoSuchPanel) × (hidden_panel_refusal three 1 ≡ None)
-unfolding three
-hidden_has_no_depth = (refl, refl, refl)
-
-no_new_panel : (new_panel_refusal screen.windows.window three 9 ≡ Some NoSuchWindow) × (new_panel_refusal screen.windows.window three 0 ≡ Some StandardScreen) × (new_panel_refusal screen.windows.window three 4 ≡ Some IsPad) × (new_panel_refusal screen.windows.window three 3 ≡ Some InPanel)
-unfolding screen windows three screen_after win window_limit panel_limit
-no_new_panel = (refl, refl, refl, refl)
-
--- the panel is looked for before the window; a window in this very panel is in a panel
-not_replaced : (replace_panel_refusal screen.windows.window three 4 9 ≡ Some NoSuchPanel) × (replace_panel_refusal screen.windows.window three 1 9 ≡ Some NoSuchWindow) × (replace_panel_refusal screen.windows.window three 1 4 ≡ Some IsPad) × (replace_panel_refusal screen.windows.window three 1 1 ≡ Some InPanel)
-unfolding screen windows three screen_after win window_limit panel_limit
-not_replaced = (refl, refl, refl, refl)
-
--- a hidden panel's window is moved too
-moved : (move_panel_refusal screen.windows three 3 3 5 ≡ None) × (move_panel_refusal screen.windows three 3 3 6 ≡ Some OffScreen) × (move_panel_refusal screen.windows three 4 0 0 ≡ Some NoSuchPanel)
-unfolding screen windows three screen_after win window_limit
-moved = (refl, refl, refl)
-
 -- ---- calls as data
 
 panel : ℕ → PanelId
@@ -101,13 +82,34 @@ answers : (reply (PanelAbove (Some (panel 1))) ≡ Panel (Some (panel 2))) × (r
 unfolding reply screen windows three panel win screen_after window_limit panel_limit
 answers = (refl, refl, refl, refl, refl, refl)
 
-made : (reply (NewPanel (win 5)) ≡ Panel (Some (panel 4))) × ((world_after screen (Stacking (NewPanel (win 5)))).panels ≡ after_new_panel three 4 5)
+made : (reply (NewPanel (win 5)) ≡ Panel (Some (panel 4))) × ((world_after screen (Stacking (NewPanel (win 5)))).panels ≡ with_panel three 4 5)
 unfolding reply screen windows three panel win screen_after window_limit panel_limit
 made = (refl, refl)
 
 hidden_refused : (refused (TopPanel (panel 3)) ≡ Some Hidden) × (refused (PanelAbove (Some (panel 3))) ≡ Some Hidden) × (refused (PanelAbove None) ≡ None) × (refused (PanelHidden (panel 3)) ≡ None)
 unfolding refused screen windows three panel win screen_after window_limit panel_limit
 hidden_refused = (refl, refl, refl, refl)
+
+-- ---- refusals
+
+hidden_has_no_depth : (refused (TopPanel (panel 3)) ≡ Some Hidden) × (refused (TopPanel (panel 4)) ≡ Some NoSuchPanel) × (refused (TopPanel (panel 1)) ≡ None)
+unfolding refused screen windows three panel win screen_after window_limit panel_limit
+hidden_has_no_depth = (refl, refl, refl)
+
+no_new_panel : (refused (NewPanel (win 9)) ≡ Some NoSuchWindow) × (refused (NewPanel (win 0)) ≡ Some StandardScreen) × (refused (NewPanel (win 4)) ≡ Some IsPad) × (refused (NewPanel (win 3)) ≡ Some InPanel)
+unfolding refused screen windows three panel win screen_after window_limit panel_limit
+no_new_panel = (refl, refl, refl, refl)
+
+-- the panel is looked for before the window; a window in this very panel is in a panel
+not_replaced : (refused (ReplacePanel (panel 4) (win 9)) ≡ Some NoSuchPanel) × (refused (ReplacePanel (panel 1) (win 9)) ≡ Some NoSuchWindow) × (refused (ReplacePanel (panel 1) (win 4)) ≡ Some IsPad)
+    × (refused (ReplacePanel (panel 1) (win 1)) ≡ Some InPanel)
+unfolding refused screen windows three panel win screen_after window_limit panel_limit
+not_replaced = (refl, refl, refl, refl)
+
+-- a hidden panel's window is moved too
+moved : (refused (MovePanel (panel 3) 3 5) ≡ None) × (refused (MovePanel (panel 3) 3 6) ≡ Some OffScreen) × (refused (MovePanel (panel 4) 0 0) ≡ Some NoSuchPanel)
+unfolding refused screen windows three panel win screen_after window_limit panel_limit
+moved = (refl, refl, refl)
 
 -- the lines of its rectangle where it was, and where it is
 lines_of_move : lines (MovePanel (panel 1) 2 0) ≡ 0 ∷ 1 ∷ 2 ∷ 3 ∷ []

@@ -1,14 +1,14 @@
 -- A write through a window leaves the picture as it is at every place of the screen where its frame isn't shown.
 use Rattle.std.proofs.Common.{◌≡◌, ℕ, ◌+◌, ◌-◌, ◌<◌, Bool, true, false, ◌&&◌, nat_lt, nat_le, Option, Some, None, is_some, IsSome, IsSomeAnd, List, [], ◌∷◌, inl, inr, ap, arith, refl, sym, ◌∙◌}
-use Rattle.std.specs.Prelude.{max, min, unwrap_or}
+use Rattle.std.specs.Prelude.{max, min}
 use Rattle.std.specs.Option.{option_map, option_map_or}
 use Rattle.std.specs.List.{list_any}
 use mathlib.Core.Path.{fun_ext}
 use Rattle.std.proofs.lemmas.Bool.{and_parts, and_from, false_from_ne_true, le-leb, lt-ltb, or_cases, or_left, or_parts, or_right}
-use Rattle.cell.specs.Pictures.{Place, origin}
-use Rattle.world.specs.Windows.{Drawing, GridPlace, HasPlace, Window, WindowMap, Windows, any_below, cell_at, cell_in_grid, drawn, own, put_from, put_windows}
+use Rattle.cell.specs.Pictures.{Place}
+use Rattle.world.specs.Windows.{Drawing, GridPlace, HasPlace, Window, WindowMap, Windows, cell_at, cell_in_grid, drawn, own, put_from, put_windows}
 use Rattle.world.specs.Frames.{Covers, IsFrameOf, IsIn, frame_of, joined}
-use Rattle.world.specs.Panels.{Panels, cell_on_screen, found_from_top, holds, holds_place, place_of, screen_place, standard_screen, windows_from_top, windows_of_picture}
+use Rattle.world.specs.Panels.{Panels, cell_on_screen, found_from_top, holds, holds_place, place_of, standard_screen, windows_from_top, windows_of_picture}
 use Rattle.world.specs.Sharing.{any_in, is_same_place, shows_part_of}
 use Rattle.world.specs.Sound.{AreSoundWindows, IsStandardScreen}
 use Rattle.world.specs.calls.Affected.{frame_shows_at, shows_at}

@@ -1,25 +1,16 @@
--- No call changes the size of the screen.
+-- No effect changes the size of the screen, and so no call.
 use Rattle.std.proofs.Common.{◌≡◌, ℕ, Bool, true, false, if◌then◌else◌, Option, Some, None, List, [], ◌∷◌, ◌==◌, ◌+◌, ◌-◌, nat_lt, refl, ◌∙◌}
 use Rattle.std.specs.Option.{option_map_or}
-use Rattle.cell.specs.Pictures.{Place, origin}
+use Rattle.cell.specs.Pictures.{Place}
 use Rattle.world.specs.Windows.{Window, Windows, Drawing, put}
 use Rattle.world.specs.Settings.{set, with_cursor}
+use Rattle.world.specs.Panels.{Panels}
 use Rattle.world.specs.World.{World}
 use Rattle.world.specs.Drawings.{at_place, to_end_of_line, written_glyph}
-use Rattle.world.specs.calls.writing.Characters.{after_addch, after_addstr, drawn_to, region_up, is_last_line, newline, carriage_return, backspace, character_printed, line_ended, to_next_line, scrolls, typed_in}
-use Rattle.world.specs.calls.writing.Editing.{erase_drawing}
-use Rattle.world.specs.calls.Dispatch.{after_making, after_copying, after_writing, after_stacking, world_after}
+use Rattle.world.specs.Typing.{after_character, after_text, backspace, carriage_return, character_printed, drawn_to, is_last_line, line_ended, newline, region_up, scrolls, to_next_line, typed_in}
+use Rattle.world.specs.Effects.{Change, Edit, Effect, Order, adds, after, after_change, after_edit, arranges, asks, carries, changes, colours, composes, deletes, draws, edits, makes, marks, moves, orders, refreshes, sets, shifts, shows, types, windows_after}
+use Rattle.world.specs.calls.Dispatch.{effect_of, world_after}
 use Rattle.world.specs.declared.call.Call.{Call}
-use Rattle.world.specs.declared.call.Call.TheVariants as calls
-use Rattle.world.specs.declared.call.Making.{Making}
-use Rattle.world.specs.declared.call.Copying.{Copying}
-use Rattle.world.specs.declared.call.Copying.TheVariants.{Overlay, Overwrite, Copywin, Touchwin, Untouchwin, Touchline, Touchln, Syncup, Syncdown, IsLinetouched, IsWintouched}
-use Rattle.world.specs.declared.call.Making.TheVariants.{Newwin, Subwin, Derwin, Newpad, Subpad, Delwin, Mvwin, Mvderwin}
-use Rattle.world.specs.declared.call.Writing.{Writing}
-use Rattle.world.specs.declared.call.Writing.TheVariants.{Move, Addch, Addstr, Insch, Delch, Insertln, Deleteln, Erase, Clear, Clrtoeol, Clrtobot, Scrl, Setscrreg, Scrollok, Clearok, Attrset, Attron, Attroff, Bkgdset, ColorSet, Bkgdpair}
-use Rattle.world.specs.declared.call.Stacking.{Stacking}
-use Rattle.world.specs.declared.call.Stacking.TheVariants.{NewPanel, DelPanel, ShowPanel, HidePanel, TopPanel, BottomPanel, MovePanel, ReplacePanel, PanelAbove, PanelBelow, PanelWindow, PanelHidden}
-use Rattle.world.specs.declared.call.Refresh.TheVariants.{Noutrefresh, Pnoutrefresh, UpdatePanels, Doupdate, InitPair}
 
 pub record SameSize (one other : Windows) : Type 0 where
   pub lines : one.lines ≡ other.lines
@@ -65,88 +56,45 @@ size-typed_in windows w character a =
     (chosen (character == carriage_return) left other windows (record { lines = refl; columns = refl })
     (chosen (character == backspace) back print windows (record { lines = refl; columns = refl }) (size-character_printed windows w character a)))
 
-size-addch : (windows : Windows) (w character : ℕ) → SameSize (after_addch windows w character) windows
-size-addch windows w character = in_window windows (windows.window w) (typed_in windows w character) (size-typed_in windows w character)
+size-character : (windows : Windows) (w character : ℕ) → SameSize (after_character windows w character) windows
+size-character windows w character = in_window windows (windows.window w) (typed_in windows w character) (size-typed_in windows w character)
 
-size-addstr : (w : ℕ) (text : List ℕ) (windows : Windows) → SameSize (after_addstr windows w text) windows
-size-addstr w [] windows = record { lines = refl; columns = refl }
-size-addstr w (character ∷ text) windows =
-    let rest = size-addstr w text (after_addch windows w character) in
-    let first = size-addch windows w character in
+size-text : (w : ℕ) (text : List ℕ) (windows : Windows) → SameSize (after_text windows w text) windows
+size-text w [] windows = record { lines = refl; columns = refl }
+size-text w (character ∷ text) windows =
+    let rest = size-text w text (after_character windows w character) in
+    let first = size-character windows w character in
     record { lines = rest.lines ∙ first.lines; columns = rest.columns ∙ first.columns }
 
--- ---- calls
+-- ---- effects
 
-pub size-making : (windows : Windows) (making : Making) → SameSize (after_making windows making) windows
-size-making windows (Newwin nlines ncols y x) = record { lines = refl; columns = refl }
-size-making windows (Subwin win nlines ncols y x) = record { lines = refl; columns = refl }
-size-making windows (Derwin win nlines ncols y x) = record { lines = refl; columns = refl }
-size-making windows (Newpad nlines ncols) = record { lines = refl; columns = refl }
-size-making windows (Subpad pad nlines ncols y x) = record { lines = refl; columns = refl }
-size-making windows (Delwin win) = record { lines = refl; columns = refl }
-size-making windows (Mvwin win y x) = record { lines = refl; columns = refl }
-size-making windows (Mvderwin win y x) = record { lines = refl; columns = refl }
+pub size-edit : (windows : Windows) (edit : Edit) → SameSize (after_edit windows edit) windows
+size-edit windows (sets w change) = record { lines = refl; columns = refl }
+size-edit windows (draws w drawing None) = in_window windows (windows.window w) _ (λ a. record { lines = refl; columns = refl })
+size-edit windows (draws w drawing (Some change)) = in_window windows (windows.window w) _ (λ a. record { lines = refl; columns = refl })
+size-edit windows (types w text) = size-text w text windows
 
-pub size-writing : (windows : Windows) (writing : Writing) → SameSize (after_writing windows writing) windows
-size-writing windows (Move win y x) = record { lines = refl; columns = refl }
-size-writing windows (Addch win character) = size-addch windows win.0 character
-size-writing windows (Addstr win text) = size-addstr win.0 text.now windows
-size-writing windows (Insch win character) = in_window windows (windows.window win.0) _ (λ a. record { lines = refl; columns = refl })
-size-writing windows (Delch win) = in_window windows (windows.window win.0) _ (λ a. record { lines = refl; columns = refl })
-size-writing windows (Insertln win) = in_window windows (windows.window win.0) _ (λ a. record { lines = refl; columns = refl })
-size-writing windows (Deleteln win) = in_window windows (windows.window win.0) _ (λ a. record { lines = refl; columns = refl })
-size-writing windows (Erase win) = in_window windows (windows.window win.0) _ (λ a. record { lines = refl; columns = refl })
-size-writing windows (Clear win) =
-    let erased = in_window windows (windows.window win.0) (λ a. drawn_to windows win.0 (erase_drawing a) origin) (λ a. record { lines = refl; columns = refl }) in
-    record { lines = erased.lines; columns = erased.columns }
-size-writing windows (Clrtoeol win) = in_window windows (windows.window win.0) _ (λ a. record { lines = refl; columns = refl })
-size-writing windows (Clrtobot win) = in_window windows (windows.window win.0) _ (λ a. record { lines = refl; columns = refl })
-size-writing windows (Scrl win n) = in_window windows (windows.window win.0) _ (λ a. record { lines = refl; columns = refl })
-size-writing windows (Setscrreg win top bottom) = record { lines = refl; columns = refl }
-size-writing windows (Scrollok win flag) = record { lines = refl; columns = refl }
-size-writing windows (Clearok win flag) = record { lines = refl; columns = refl }
-size-writing windows (Attrset win attributes) = record { lines = refl; columns = refl }
-size-writing windows (Attron win attributes) = record { lines = refl; columns = refl }
-size-writing windows (Attroff win attributes) = record { lines = refl; columns = refl }
-size-writing windows (Bkgdset win attributes character) = record { lines = refl; columns = refl }
-size-writing windows (ColorSet win pair) = record { lines = refl; columns = refl }
-size-writing windows (Bkgdpair win pair) = record { lines = refl; columns = refl }
+pub size-change : (windows : Windows) (change : Change) → SameSize (after_change windows change) windows
+size-change windows (asks reply) = record { lines = refl; columns = refl }
+size-change windows (edits edit) = size-edit windows edit
+size-change windows (marks test touched) = record { lines = refl; columns = refl }
+size-change windows (makes n a) = record { lines = refl; columns = refl }
+size-change windows (deletes w) = record { lines = refl; columns = refl }
+size-change windows (moves w place) = record { lines = refl; columns = refl }
+size-change windows (shifts w place) = record { lines = refl; columns = refl }
 
-pub size-copying : (windows : Windows) (copying : Copying) → SameSize (after_copying windows copying) windows
-size-copying windows (Overlay src dst) = record { lines = refl; columns = refl }
-size-copying windows (Overwrite src dst) = record { lines = refl; columns = refl }
-size-copying windows (Copywin src dst sminrow smincol dminrow dmincol dmaxrow dmaxcol overlay) = record { lines = refl; columns = refl }
-size-copying windows (Touchwin win) = record { lines = refl; columns = refl }
-size-copying windows (Untouchwin win) = record { lines = refl; columns = refl }
-size-copying windows (Touchline win y n) = record { lines = refl; columns = refl }
-size-copying windows (Touchln win y n flag) = record { lines = refl; columns = refl }
-size-copying windows (Syncup win) = record { lines = refl; columns = refl }
-size-copying windows (Syncdown win) = record { lines = refl; columns = refl }
-size-copying windows (IsLinetouched win y) = record { lines = refl; columns = refl }
-size-copying windows (IsWintouched win) = record { lines = refl; columns = refl }
+pub size-order : (windows : Windows) (panels : Panels) (order : Order) → SameSize (windows_after windows panels order) windows
+size-order windows panels (changes change) = size-change windows change
+size-order windows panels (adds p w) = record { lines = refl; columns = refl }
+size-order windows panels (orders p order) = record { lines = refl; columns = refl }
+size-order windows panels (carries p place) = record { lines = refl; columns = refl }
 
-pub size-stacking : (world : World) (stacking : Stacking) → SameSize (after_stacking world stacking).windows world.windows
-size-stacking world (NewPanel win) = record { lines = refl; columns = refl }
-size-stacking world (DelPanel panel) = record { lines = refl; columns = refl }
-size-stacking world (ShowPanel panel) = record { lines = refl; columns = refl }
-size-stacking world (HidePanel panel) = record { lines = refl; columns = refl }
-size-stacking world (TopPanel panel) = record { lines = refl; columns = refl }
-size-stacking world (BottomPanel panel) = record { lines = refl; columns = refl }
-size-stacking world (MovePanel panel y x) = record { lines = refl; columns = refl }
-size-stacking world (ReplacePanel panel win) = record { lines = refl; columns = refl }
-size-stacking world (PanelAbove panel) = record { lines = refl; columns = refl }
-size-stacking world (PanelBelow panel) = record { lines = refl; columns = refl }
-size-stacking world (PanelWindow panel) = record { lines = refl; columns = refl }
-size-stacking world (PanelHidden panel) = record { lines = refl; columns = refl }
+size-effect : (world : World) (effect : Effect) → SameSize (after world effect).windows world.windows
+size-effect world (arranges order) = size-order world.windows world.panels order
+size-effect world (refreshes w test drawing cursor) = record { lines = refl; columns = refl }
+size-effect world composes = record { lines = refl; columns = refl }
+size-effect world shows = record { lines = refl; columns = refl }
+size-effect world (colours pair foreground background) = record { lines = refl; columns = refl }
 
 pub size-call : (world : World) (call : Call) → SameSize (world_after world call).windows world.windows
-size-call world (calls.Making making) = size-making world.windows making
-size-call world (calls.Writing writing) = size-writing world.windows writing
-size-call world (calls.Copying copying) = size-copying world.windows copying
-size-call world (calls.Query query) = record { lines = refl; columns = refl }
-size-call world (calls.Stacking stacking) = size-stacking world stacking
-size-call world (calls.Refresh (Noutrefresh win)) = record { lines = refl; columns = refl }
-size-call world (calls.Refresh (Pnoutrefresh pad pminrow pmincol sminrow smincol smaxrow smaxcol)) = record { lines = refl; columns = refl }
-size-call world (calls.Refresh UpdatePanels) = record { lines = refl; columns = refl }
-size-call world (calls.Refresh Doupdate) = record { lines = refl; columns = refl }
-size-call world (calls.Refresh (InitPair pair foreground background)) = record { lines = refl; columns = refl }
+size-call world call = size-effect world (effect_of world call)

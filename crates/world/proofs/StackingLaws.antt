@@ -1,7 +1,7 @@
 -- A call on a panel leaves the picture as it is at every place of the screen where the panel isn't seen, before or
 -- after.
-use Rattle.std.proofs.Common.{◌≡◌, ◌≢◌, ℕ, Bool, true, false, not, ◌==◌, ◌&&◌, ◌||◌, Option, Some, None, List, [], ◌∷◌, ◌++◌, inl, inr, ap, refl, sym, ◌∙◌}
-use Rattle.std.specs.Prelude.{cond, find, is_none, reverse, unwrap_or}
+use Rattle.std.proofs.Common.{◌≡◌, ◌≢◌, ℕ, ◌<◌, Bool, true, false, not, ◌==◌, ◌&&◌, ◌||◌, Option, Some, None, List, [], ◌∷◌, ◌++◌, inl, inr, ap, refl, sym, ◌∙◌}
+use Rattle.std.specs.Prelude.{cond, find, is_none, reverse, unwrap_or, ⊤}
 use Rattle.std.specs.List.{list_any}
 use Rattle.std.specs.Option.{option_map_or}
 use mathlib.Core.List.{reverse_aux}
@@ -9,15 +9,14 @@ use mathlib.Core.Path.{fun_ext}
 use Rattle.std.proofs.lemmas.Bool.{and_parts, and_right, cases_eq, eq-eqb, eqb-true, ne_eqb, or_parts, true≢false}
 use Rattle.std.proofs.lemmas.List.{append-nil}
 use Rattle.std.proofs.lemmas.List.Elements.{filter-append}
-use Rattle.world.specs.Windows.{WindowMap, Windows, is_missing}
-use Rattle.world.specs.Panels.{Panels, cell_on_screen, found_from_top, holds, is_in_panel, owner, panel_holds, standard_screen, window_or_standard}
-use Rattle.world.specs.Sound.{AreSoundPanels}
-use Rattle.world.specs.World.{World}
-use Rattle.world.specs.calls.Dispatch.{after_stacking, next_panel, stacking_refusal}
-use Rattle.world.specs.calls.Making.{after_mvwin, is_pad}
-use Rattle.world.specs.calls.Affected.{panel_shows_at, stacking_shows_at}
-use Rattle.world.specs.calls.Stacking.{after_bottom_panel, after_del_panel, after_hide_panel, after_move_panel, after_new_panel, after_replace_panel, after_show_panel, given, new_panel_number, without}
-use Rattle.world.proofs.MoveLaws.{cell-placed, holds-placed, passed, sound-panel}
+use Rattle.world.specs.Windows.{WindowMap, Windows}
+use Rattle.world.specs.Panels.{Panels, cell_on_screen, found_from_top, holds, owner, panel_holds, standard_screen, window_or_standard}
+use Rattle.world.specs.Sound.{AreSoundPanels, AreSoundWindows}
+use Rattle.world.specs.Effects.{Order, adds, carries, changes, given, moved_to, orders, panels_after, windows_after, with_panel}
+use Rattle.world.specs.calls.Affected.{order_shows_at, panel_shows_at}
+use Rattle.world.specs.calls.Stacking.{stacking_order, stacking_refusal, without}
+use Rattle.world.proofs.Allowed.{IsAllowed, passed, sound-panel}
+use Rattle.world.proofs.MoveLaws.{cell-placed, found-change, holds-placed}
 use Rattle.world.specs.declared.call.Stacking.{Stacking}
 use Rattle.world.specs.declared.call.Stacking.TheVariants.{NewPanel, DelPanel, ShowPanel, HidePanel, TopPanel, BottomPanel, MovePanel, ReplacePanel, PanelAbove, PanelBelow, PanelWindow, PanelHidden}
 
@@ -125,20 +124,11 @@ module _ (p : ℕ) where
   without-twice [] = refl
   without-twice (q ∷ qs) = twice-at q (without p qs) (q == p) refl (without-twice qs)
 
+  shown-order : (qs : List ℕ) → without p (without p qs ++ p ∷ []) ≡ without p qs
+  shown-order qs = without-last (without p qs) ∙ without-twice qs
+
   given-other : (window : ℕ → Option ℕ) (w : Option ℕ) (q : ℕ) → q ≢ p → given window p w q ≡ window q
   given-other window w q other = let apart = ne_eqb q p other in rw apart refl
-
--- ---- new_panel
-
-found-new_panel : (window : WindowMap) (panels : Panels) (w y x : ℕ) (o : Option ℕ) → new_panel_number panels ≡ o → is_none o ≡ false
-    → option_map_or (λ p. panel_shows_at window panels p y x || panel_shows_at window (after_new_panel panels (next_panel panels) w) p y x) o false ≡ false
-    → found_from_top window (after_new_panel panels (next_panel panels) w) y x ≡ found_from_top window panels y x
-found-new_panel window panels w y x None is some unseen = cc
-found-new_panel window panels w y x (Some p) is some unseen =
-    let next : next_panel panels ≡ p = ap (λ o. unwrap_or o 0) is in
-    reordered window (after_new_panel panels (next_panel panels) w) panels p y x
-    (ap (λ k. without p (panels.visible ++ k ∷ [])) next ∙ without-last p panels.visible)
-    (λ q other. given-other (next_panel panels) panels.window (Some w) q (λ same. other (same ∙ next))) unseen
 
 -- ---- move_panel
 
@@ -155,60 +145,58 @@ module _ (windows : Windows) (panels : Panels) (p v z y x : ℕ) (sound : AreSou
   other-standard (Some w) is some same = (sound-panel windows.window panels sound p w is).not_standard (sym same)
 
   holds-by : (q : ℕ) → q ≢ p → (o : Option ℕ) → panels.window q ≡ o
-      → option_map_or (λ u. holds (after_mvwin windows (window_or_standard panels (Some p)) v z).window u y x) o false ≡ option_map_or (λ u. holds windows.window u y x) o false
+      → option_map_or (λ u. holds (moved_to windows (window_or_standard panels (Some p)) (v, z)).window u y x) o false ≡ option_map_or (λ u. holds windows.window u y x) o false
   holds-by q other None is = refl
   holds-by q other (Some u) is = holds-placed windows (window_or_standard panels (Some p)) v z y x u (other-window q u other is)
 
   cells-by : (q : ℕ) → q ≢ p → (o : Option ℕ) → panels.window q ≡ o → option_map_or (λ u. holds windows.window u y x) o false ≡ true
-      → cell_on_screen (after_mvwin windows (window_or_standard panels (Some p)) v z).window (unwrap_or o standard_screen) y x ≡ cell_on_screen windows.window (unwrap_or o standard_screen) y x
+      → cell_on_screen (moved_to windows (window_or_standard panels (Some p)) (v, z)).window (unwrap_or o standard_screen) y x ≡ cell_on_screen windows.window (unwrap_or o standard_screen) y x
   cells-by q other None is there = cc
   cells-by q other (Some u) is there = cell-placed windows (window_or_standard panels (Some p)) v z y x u (other-window q u other is)
 
   found-move_panel : is_none (panels.window p) ≡ false
-      → (panel_shows_at windows.window panels p y x || panel_shows_at (after_move_panel windows panels p v z).window panels p y x) ≡ false
-      → found_from_top (after_move_panel windows panels p v z).window panels y x ≡ found_from_top windows.window panels y x
+      → (panel_shows_at windows.window panels p y x || panel_shows_at (moved_to windows (window_or_standard panels (Some p)) (v, z)).window panels p y x) ≡ false
+      → found_from_top (moved_to windows (window_or_standard panels (Some p)) (v, z)).window panels y x ≡ found_from_top windows.window panels y x
   found-move_panel some unseen =
-      found-kept (after_move_panel windows panels p v z).window windows.window panels panels p y x (record {
+      found-kept (moved_to windows (window_or_standard panels (Some p)) (v, z)).window windows.window panels panels p y x (record {
         order = refl;
         hold = λ q other. holds-by q other (panels.window q) refl;
         cells = λ q other there. cells-by q other (panels.window q) refl there;
         standard = cell-placed windows (window_or_standard panels (Some p)) v z y x standard_screen (other-standard (panels.window p) refl some);
       }) unseen
 
--- ---- each call
+-- ---- what each effect wants, which the tests of its call give
 
-pub found-stacking : (world : World) (stacking : Stacking) (y x : ℕ) → AreSoundPanels world.windows.window world.panels
-    → stacking_refusal world.windows world.panels stacking ≡ None → stacking_shows_at world stacking y x ≡ false
-    → found_from_top (after_stacking world stacking).windows.window (after_stacking world stacking).panels y x
-    ≡ found_from_top world.windows.window world.panels y x
-found-stacking world (NewPanel win) y x sound allowed unseen =
-    let there = passed (is_missing world.windows.window win.0) _ _ allowed in
-    let other = passed (win.0 == standard_screen) _ _ there.1 in
-    let window = passed (is_pad world.windows.window win.0) _ _ other.1 in
-    let free = passed (is_in_panel world.panels win.0) _ _ window.1 in
-    let number = passed (is_none (new_panel_number world.panels)) _ _ free.1 in
-    found-new_panel world.windows.window world.panels win.0 y x (new_panel_number world.panels) refl number.0 unseen
-found-stacking world (DelPanel panel) y x sound allowed unseen =
-    reordered world.windows.window (after_del_panel world.panels panel.0) world.panels panel.0 y x (without-twice panel.0 world.panels.visible)
-    (given-other panel.0 world.panels.window None) unseen
-found-stacking world (ShowPanel panel) y x sound allowed unseen =
-    reordered world.windows.window (after_show_panel world.panels panel.0) world.panels panel.0 y x
-    (without-last panel.0 (without panel.0 world.panels.visible) ∙ without-twice panel.0 world.panels.visible) (λ q other. refl) unseen
-found-stacking world (HidePanel panel) y x sound allowed unseen =
-    reordered world.windows.window (after_hide_panel world.panels panel.0) world.panels panel.0 y x (without-twice panel.0 world.panels.visible) (λ q other. refl) unseen
-found-stacking world (TopPanel panel) y x sound allowed unseen =
-    reordered world.windows.window (after_show_panel world.panels panel.0) world.panels panel.0 y x
-    (without-last panel.0 (without panel.0 world.panels.visible) ∙ without-twice panel.0 world.panels.visible) (λ q other. refl) unseen
-found-stacking world (BottomPanel panel) y x sound allowed unseen =
-    reordered world.windows.window (after_bottom_panel world.panels panel.0) world.panels panel.0 y x
-    (without-itself panel.0 (without panel.0 world.panels.visible) ∙ without-twice panel.0 world.panels.visible) (λ q other. refl) unseen
-found-stacking world (MovePanel panel line column) y x sound allowed unseen =
-    let there = passed (is_none (world.panels.window panel.0)) _ _ allowed in
-    found-move_panel world.windows world.panels panel.0 line column y x sound there.0 unseen
-found-stacking world (ReplacePanel panel win) y x sound allowed unseen =
-    reordered world.windows.window (after_replace_panel world.panels panel.0 win.0) world.panels panel.0 y x refl
-    (given-other panel.0 world.panels.window (Some win.0)) unseen
-found-stacking world (PanelAbove panel) y x sound allowed unseen = refl
-found-stacking world (PanelBelow panel) y x sound allowed unseen = refl
-found-stacking world (PanelWindow panel) y x sound allowed unseen = refl
-found-stacking world (PanelHidden panel) y x sound allowed unseen = refl
+-- another order of one panel leaves the others in theirs, with their windows
+abbrev pub IsOrdered : Windows → Panels → Order → Type 0
+IsOrdered windows panels (changes change) = IsAllowed windows panels change
+IsOrdered windows panels (adds p w) = ⊤
+IsOrdered windows panels (orders p order) = (without p order.visible ≡ without p panels.visible) × ((q : ℕ) → q ≢ p → order.window q ≡ panels.window q)
+IsOrdered windows panels (carries p place) = is_none (panels.window p) ≡ false
+
+pub ordered-stacking : (windows : Windows) (panels : Panels) (stacking : Stacking) → stacking_refusal windows panels stacking ≡ None → IsOrdered windows panels (stacking_order panels stacking)
+ordered-stacking windows panels (NewPanel win) accepted = tt
+ordered-stacking windows panels (DelPanel panel) accepted = (without-twice panel.0 panels.visible, given-other panel.0 panels.window None)
+ordered-stacking windows panels (ShowPanel panel) accepted = (shown-order panel.0 panels.visible, λ q other. refl)
+ordered-stacking windows panels (HidePanel panel) accepted = (without-twice panel.0 panels.visible, λ q other. refl)
+ordered-stacking windows panels (TopPanel panel) accepted = (shown-order panel.0 panels.visible, λ q other. refl)
+ordered-stacking windows panels (BottomPanel panel) accepted =
+    (without-itself panel.0 (without panel.0 panels.visible) ∙ without-twice panel.0 panels.visible, λ q other. refl)
+ordered-stacking windows panels (MovePanel panel line column) accepted = (passed (is_none (panels.window panel.0)) _ _ accepted).0
+ordered-stacking windows panels (ReplacePanel panel win) accepted = (refl, given-other panel.0 panels.window (Some win.0))
+ordered-stacking windows panels (PanelAbove panel) accepted = tt
+ordered-stacking windows panels (PanelBelow panel) accepted = tt
+ordered-stacking windows panels (PanelWindow panel) accepted = tt
+ordered-stacking windows panels (PanelHidden panel) accepted = tt
+
+-- ---- each effect
+
+pub found-order : (windows : Windows) (panels : Panels) (order : Order) (y x : ℕ) → AreSoundWindows windows → AreSoundPanels windows.window panels
+    → y < windows.lines → x < windows.columns → IsOrdered windows panels order → order_shows_at windows panels order y x ≡ false
+    → found_from_top (windows_after windows panels order).window (panels_after panels order) y x ≡ found_from_top windows.window panels y x
+found-order windows panels (changes change) y x sound panels_sound below left ordered unseen = found-change windows panels change y x sound panels_sound below left ordered unseen
+found-order windows panels (adds p w) y x sound panels_sound below left ordered unseen =
+    reordered windows.window (with_panel panels p w) panels p y x (without-last p panels.visible) (given-other p panels.window (Some w)) unseen
+found-order windows panels (orders p order) y x sound panels_sound below left ordered unseen = reordered windows.window order panels p y x ordered.0 ordered.1 unseen
+found-order windows panels (carries p place) y x sound panels_sound below left ordered unseen =
+    found-move_panel windows panels p place.0 place.1 y x panels_sound ordered unseen

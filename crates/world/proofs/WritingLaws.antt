@@ -1,30 +1,22 @@
--- A call that writes, and a copy, leaves the picture as it is at every place of the screen where its frame isn't shown.
+-- What an edit writes: it leaves the picture as it is at every place of the screen where its frame isn't shown.
 use Rattle.std.proofs.Common.{◌≡◌, ℕ, ◌+◌, ◌-◌, ◌<◌, ◌≤◌, Bool, true, false, if◌then◌else◌, ◌==◌, ◌||◌, nat_lt, Option, Some, None, List, [], ◌∷◌, IsSomeAnd, subst, ap, arith, refl, sym, ◌∙◌}
 use Rattle.std.specs.Prelude.{MatchOption, max, option_and_then, ⊤}
 use Rattle.std.specs.Option.{option_map_or}
-use Rattle.cell.specs.Pictures.{Place, origin}
-use Rattle.world.specs.Windows.{Drawing, HasPlace, Window, WindowMap, Windows, changed, derives, own, put, put_from, put_windows}
+use Rattle.cell.specs.Pictures.{Place}
+use Rattle.world.specs.Windows.{Drawing, HasPlace, Window, WindowMap, Windows, put, put_windows}
 use Rattle.world.specs.Settings.{set, with_cursor}
 use Rattle.world.specs.Drawings.{at_place, to_end_of_line, written_glyph}
 use Rattle.world.specs.Frames.{Covers, IsFrameOf, frame_of, joined}
 use Rattle.world.specs.Panels.{Panels, first_panels, found_from_top, holds, standard_screen}
 use Rattle.world.specs.Sound.{AreSoundWindows}
-use Rattle.world.specs.calls.Written.{copied_window, copying_frame, writing_frame, written_window}
-use Rattle.world.specs.calls.Copies.{common_copied, copywin_drawing}
-use Rattle.world.specs.calls.Dispatch.{after_copying, after_writing}
-use Rattle.world.specs.calls.Marks.{all_marked, lines_marked, shows_touched_of, touching}
-use Rattle.world.specs.calls.Affected.{frame_shows_at}
-use Rattle.world.specs.calls.writing.Characters.{addch_frame, addstr_frame, after_addch, after_addstr, backspace, carriage_return, character_frame, character_printed, delch_drawing, drawn_to, insch_drawing, is_last_line, line_ended, line_ended_frame, newline, next_line_frame, region_up, scrolls, to_next_line, typed_frame, typed_in}
-use Rattle.world.specs.calls.writing.Editing.{after_drawing, after_erase, clrtobot_drawing, clrtoeol_drawing, deleteln_drawing, drawing_frame, erase_drawing, erase_frame, insertln_drawing, scrl_drawing}
+use Rattle.world.specs.Typing.{after_character, after_text, backspace, carriage_return, character_frame, character_printed, drawn_to, frame_of_character, is_last_line, line_ended, line_ended_frame, newline, next_line_frame, region_up, scrolls, text_frame, to_next_line, typed_frame, typed_in}
+use Rattle.world.specs.Effects.{Edit, after_edit, draws, edit_frame, edit_window, sets, types}
+use Rattle.world.specs.calls.Affected.{edit_shows_at, frame_shows_at}
 use Rattle.world.proofs.FrameLaws.{frame_of-is}
 use Rattle.world.proofs.PictureLaws.{SameView, found-put, frame_shows-same, joined-free, outline-put, standard-holds}
-use Rattle.world.proofs.ViewLaws.{Outline, SameCells, backing_of, changed-cells, found-dressed, holds-same, outline, outline_of, own-same, same-if, set-cells}
+use Rattle.world.proofs.ViewLaws.{Outline, SameCells, found-dressed, holds-same, outline, outline_of, own-same, set-cells}
 use Rattle.world.proofs.WindowLaws.{own-put}
 use Rattle.cell.specs.declared.window.Rect.{Rect}
-use Rattle.world.specs.declared.call.Copying.{Copying}
-use Rattle.world.specs.declared.call.Copying.TheVariants.{Overlay, Overwrite, Copywin, Touchwin, Untouchwin, Touchline, Touchln, Syncup, Syncdown, IsLinetouched, IsWintouched}
-use Rattle.world.specs.declared.call.Writing.{Writing}
-use Rattle.world.specs.declared.call.Writing.TheVariants.{Move, Addch, Addstr, Insch, Delch, Insertln, Deleteln, Erase, Clear, Clrtoeol, Clrtobot, Scrl, Setscrreg, Scrollok, Clearok, Attrset, Attron, Attroff, Bkgdset, ColorSet, Bkgdpair}
 use Rattle.world.specs.declared.settings.Settings.{Settings}
 
 -- ---- what stays
@@ -216,100 +208,42 @@ module _ (panels : Panels) (w y x : ℕ) where
         (settings-set windows (with_cursor (a.settings.cursor.0, 0))) (settings-set windows (with_cursor (a.settings.cursor.0, a.settings.cursor.1 - 1)))
         (printed windows character size))
 
-  add-character : (windows : Windows) (character : ℕ) → Writes windows (addch_frame windows w character) (after_addch windows w character)
+  add-character : (windows : Windows) (character : ℕ) → Writes windows (frame_of_character windows w character) (after_character windows w character)
   add-character windows character =
       in-window windows (windows.window w) (typed_frame windows w character) (typed_in windows w character)
       (λ a is. typed a windows character (ap (λ o. outline_of o) is))
 
-  add-text : (text : List ℕ) (windows : Windows) → Writes windows (addstr_frame windows w text) (after_addstr windows w text)
+  add-text : (text : List ℕ) (windows : Windows) → Writes windows (text_frame windows w text) (after_text windows w text)
   add-text [] windows = as-it-was windows
   add-text (character ∷ text) windows =
-      and-then windows (after_addch windows w character) (after_addstr (after_addch windows w character) w text) (addch_frame windows w character)
-      (addstr_frame (after_addch windows w character) w text) (add-character windows character) (add-text text (after_addch windows w character))
+      and-then windows (after_character windows w character) (after_text (after_character windows w character) w text) (frame_of_character windows w character)
+      (text_frame (after_character windows w character) w text) (add-character windows character) (add-text text (after_character windows w character))
 
-  -- ---- other drawings
+  -- ---- one drawing
 
-  draw : (windows : Windows) (drawing : Window → Drawing) → Writes windows (drawing_frame windows w drawing) (after_drawing windows w drawing)
+  draw : (windows : Windows) (drawing : Window → Drawing) → Writes windows (edit_frame windows (draws w drawing None)) (after_edit windows (draws w drawing None))
   draw windows drawing =
       in-window windows (windows.window w) (λ a. frame_of a (drawing a)) (λ a. put windows w (drawing a)) (λ a is. drawn windows a (drawing a) (ap (λ o. outline_of o) is))
 
-  erase : (windows : Windows) → Writes windows (erase_frame windows w) (after_erase windows w)
-  erase windows =
-      in-window windows (windows.window w) (λ a. frame_of a (erase_drawing a)) (λ a. drawn_to windows w (erase_drawing a) origin)
-      (λ a is. and-set windows (put windows w (erase_drawing a)) (frame_of a (erase_drawing a)) (with_cursor origin) (drawn windows a (erase_drawing a) (ap (λ o. outline_of o) is)))
+  draw-set : (windows : Windows) (drawing : Window → Drawing) (change : Settings → Settings)
+      → Writes windows (edit_frame windows (draws w drawing (Some change))) (after_edit windows (draws w drawing (Some change)))
+  draw-set windows drawing change =
+      in-window windows (windows.window w) (λ a. frame_of a (drawing a)) (λ a. set (put windows w (drawing a)) w change)
+      (λ a is. and-set windows (put windows w (drawing a)) (frame_of a (drawing a)) change (drawn windows a (drawing a) (ap (λ o. outline_of o) is)))
 
-  -- the drawing doesn't depend on the window's settings, and nothing is drawn where there is no window
-  copy-by : (windows : Windows) (f : Drawing) (o : Option Window) → windows.window w ≡ o → Writes windows (option_and_then (λ a. frame_of a f) o) (put windows w f)
-  copy-by windows f None is =
-      let same : (u : ℕ) → put_windows windows.window w f u ≡ windows.window u = λ u. ap (λ o. put_from windows.window w o (own windows.window w 0 0) f u) is in
-      nothing-written windows (put windows w f) (record { outlines = λ u. ap (λ o. outline_of o) (same u); backings = λ u. ap (λ o. backing_of o) (same u) })
-  copy-by windows f (Some a) is = drawn windows a f (ap (λ o. outline_of o) is)
+-- ---- each effect
 
-  copy : (windows : Windows) (f : Drawing) → Writes windows (drawing_frame windows w (λ a. f)) (put windows w f)
-  copy windows f = copy-by windows f (windows.window w) refl
+write : (panels : Panels) (y x : ℕ) (windows : Windows) (edit : Edit) → Writes panels (edit_window edit) y x windows (edit_frame windows edit) (after_edit windows edit)
+write panels y x windows (sets w change) = settings-set panels w y x windows change
+write panels y x windows (draws w drawing None) = draw panels w y x windows drawing
+write panels y x windows (draws w drawing (Some change)) = draw-set panels w y x windows drawing change
+write panels y x windows (types w text) = add-text panels w y x text windows
 
-  marked : (windows : Windows) (change : Window → Window) → ((a : Window) → outline_of (Some (change a)) ≡ outline_of (Some a))
-      → ((a : Window) → backing_of (Some (change a)) ≡ backing_of (Some a)) → Writes windows None (record windows { window = changed windows.window w change })
-  marked windows change outlines backings =
-      nothing-written windows (record windows { window = changed windows.window w change }) (changed-cells windows.window w change outlines backings)
-
--- ---- each call
-
-module _ (panels : Panels) (y x : ℕ) where
-  write : (windows : Windows) (writing : Writing) → Writes panels (written_window writing) y x windows (writing_frame windows writing) (after_writing windows writing)
-  write windows (Move win line column) = settings-set panels win.0 y x windows _
-  write windows (Addch win character) = add-character panels win.0 y x windows character
-  write windows (Addstr win text) = add-text panels win.0 y x text.now windows
-  write windows (Insch win character) = draw panels win.0 y x windows (insch_drawing windows.window win.0 character)
-  write windows (Delch win) = draw panels win.0 y x windows (delch_drawing windows.window win.0)
-  write windows (Insertln win) = draw panels win.0 y x windows (insertln_drawing windows.window win.0)
-  write windows (Deleteln win) = draw panels win.0 y x windows (deleteln_drawing windows.window win.0)
-  write windows (Erase win) = erase panels win.0 y x windows
-  write windows (Clear win) = and-set panels win.0 y x windows (after_erase windows win.0) (erase_frame windows win.0) _ (erase panels win.0 y x windows)
-  write windows (Clrtoeol win) = draw panels win.0 y x windows clrtoeol_drawing
-  write windows (Clrtobot win) = draw panels win.0 y x windows clrtobot_drawing
-  write windows (Scrl win n) = draw panels win.0 y x windows (scrl_drawing windows.window win.0 n)
-  write windows (Setscrreg win top bottom) = settings-set panels win.0 y x windows _
-  write windows (Scrollok win flag) = settings-set panels win.0 y x windows _
-  write windows (Clearok win flag) = settings-set panels win.0 y x windows _
-  write windows (Attrset win attributes) = settings-set panels win.0 y x windows _
-  write windows (Attron win attributes) = settings-set panels win.0 y x windows _
-  write windows (Attroff win attributes) = settings-set panels win.0 y x windows _
-  write windows (Bkgdset win attributes character) = settings-set panels win.0 y x windows _
-  write windows (ColorSet win pair) = settings-set panels win.0 y x windows _
-  write windows (Bkgdpair win pair) = settings-set panels win.0 y x windows _
-
-  copies : (windows : Windows) (copying : Copying) → Writes panels (copied_window copying) y x windows (copying_frame windows copying) (after_copying windows copying)
-  copies windows (Overlay src dst) = copy panels dst.0 y x windows (common_copied windows.window src.0 dst.0 true)
-  copies windows (Overwrite src dst) = copy panels dst.0 y x windows (common_copied windows.window src.0 dst.0 false)
-  copies windows (Copywin src dst sminrow smincol dminrow dmincol dmaxrow dmaxcol overlay) =
-      copy panels dst.0 y x windows (copywin_drawing windows.window src.0 sminrow smincol dminrow dmincol dmaxrow dmaxcol overlay)
-  copies windows (Touchwin win) = marked panels win.0 y x windows (all_marked true) (λ a. refl) (λ a. refl)
-  copies windows (Untouchwin win) = marked panels win.0 y x windows (all_marked false) (λ a. refl) (λ a. refl)
-  copies windows (Touchline win line n) = marked panels win.0 y x windows (lines_marked line n true) (λ a. refl) (λ a. refl)
-  copies windows (Touchln win line n flag) = marked panels win.0 y x windows (lines_marked line n flag) (λ a. refl) (λ a. refl)
-  copies windows (Syncup win) =
-      nothing-written panels win.0 y x windows (after_copying windows (Syncup win)) (record {
-        outlines = λ u. same-if (λ o. outline_of o) (touching (shows_touched_of windows.window win.0 u)) (λ a. refl) (derives windows.window u win.0) (windows.window u);
-        backings = λ u. same-if (λ o. backing_of o) (touching (shows_touched_of windows.window win.0 u)) (λ a. refl) (derives windows.window u win.0) (windows.window u);
-      })
-  copies windows (Syncdown win) = marked panels win.0 y x windows _ (λ a. refl) (λ a. refl)
-  copies windows (IsLinetouched win line) = as-it-was panels win.0 y x windows
-  copies windows (IsWintouched win) = as-it-was panels win.0 y x windows
-
-pub found-writing : (windows : Windows) (panels : Panels) (writing : Writing) (y x : ℕ) → AreSoundWindows windows → y < windows.lines → x < windows.columns
-    → frame_shows_at windows.window panels (written_window writing) (writing_frame windows writing) y x ≡ false
-    → found_from_top (after_writing windows writing).window panels y x ≡ found_from_top windows.window panels y x
-found-writing windows panels writing y x sound below left free =
-    let written = write panels y x windows writing in
+pub found-edit : (windows : Windows) (panels : Panels) (edit : Edit) (y x : ℕ) → AreSoundWindows windows → y < windows.lines → x < windows.columns
+    → edit_shows_at windows panels edit y x ≡ false → found_from_top (after_edit windows edit).window panels y x ≡ found_from_top windows.window panels y x
+found-edit windows panels edit y x sound below left free =
+    let written = write panels y x windows edit in
     written.kept (standard-holds windows y x sound below left) free
-
-pub found-copying : (windows : Windows) (panels : Panels) (copying : Copying) (y x : ℕ) → AreSoundWindows windows → y < windows.lines → x < windows.columns
-    → frame_shows_at windows.window panels (copied_window copying) (copying_frame windows copying) y x ≡ false
-    → found_from_top (after_copying windows copying).window panels y x ≡ found_from_top windows.window panels y x
-found-copying windows panels copying y x sound below left free =
-    let copied = copies panels y x windows copying in
-    copied.kept (standard-holds windows y x sound below left) free
 
 -- ---- the frame lies in the window
 
@@ -317,25 +251,16 @@ framed : (window : WindowMap) (w : ℕ) (o : Option Rect) (r : Rect) → o ≡ S
 framed window w None r is h = cc
 framed window w (Some s) r is h = let same : s ≡ r = cc in subst (λ (k : Rect). (k.top ≤ k.bottom) × (k.left ≤ k.right) × HasPlace window w k.bottom k.right) same (h.lines, h.columns, h.last)
 
-pub inside-writing : (windows : Windows) (writing : Writing) (r : Rect) → writing_frame windows writing ≡ Some r
-    → (r.top ≤ r.bottom) × (r.left ≤ r.right) × HasPlace windows.window (written_window writing) r.bottom r.right
-inside-writing windows writing r is =
-    let written = write first_panels 0 0 windows writing in
-    framed windows.window (written_window writing) (writing_frame windows writing) r is written.inside
-
-pub inside-copying : (windows : Windows) (copying : Copying) (r : Rect) → copying_frame windows copying ≡ Some r
-    → (r.top ≤ r.bottom) × (r.left ≤ r.right) × HasPlace windows.window (copied_window copying) r.bottom r.right
-inside-copying windows copying r is =
-    let copied = copies first_panels 0 0 windows copying in
-    framed windows.window (copied_window copying) (copying_frame windows copying) r is copied.inside
+pub inside-edit : (windows : Windows) (edit : Edit) (r : Rect) → edit_frame windows edit ≡ Some r
+    → (r.top ≤ r.bottom) × (r.left ≤ r.right) × HasPlace windows.window (edit_window edit) r.bottom r.right
+inside-edit windows edit r is =
+    let written = write first_panels 0 0 windows edit in
+    framed windows.window (edit_window edit) (edit_frame windows edit) r is written.inside
 
 -- ---- what is shown where, and where windows stand, is as it was
 
-pub view-writing : (windows : Windows) (writing : Writing) → SameView (after_writing windows writing).window windows.window
-view-writing windows writing = (write first_panels 0 0 windows writing).view
-
-pub view-copying : (windows : Windows) (copying : Copying) → SameView (after_copying windows copying).window windows.window
-view-copying windows copying = (copies first_panels 0 0 windows copying).view
+pub view-edit : (windows : Windows) (edit : Edit) → SameView (after_edit windows edit).window windows.window
+view-edit windows edit = (write first_panels 0 0 windows edit).view
 
 pub there-still : (new old : WindowMap) → SameView new old → (w y x : ℕ) → HasPlace old w y x → HasPlace new w y x
 there-still new old same w y x h = same-size y x (new w) (old w) (same.outlines w) h

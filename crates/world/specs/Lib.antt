@@ -7,4 +7,6 @@ pub mod Rows
 pub mod Drawings
 pub mod Frames
 pub mod Sharing
+pub mod Typing
+pub mod Effects
 pub mod calls

@@ -1,11 +1,9 @@
 pub mod Missing
 pub mod Making
-pub mod writing
-pub mod Copies
-pub mod Marks
+pub mod Writing
+pub mod Copying
 pub mod Queries
 pub mod Stacking
 pub mod Refresh
 pub mod Dispatch
-pub mod Written
 pub mod Affected

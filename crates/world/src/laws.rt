@@ -7,19 +7,17 @@ ghost use Rattle.world.specs.Panels.{Panels, cursor_of_topmost, found_from_top, 
 ghost use Rattle.world.specs.Sharing.{SharesPart};
 ghost use Rattle.world.specs.Sound.{AreSoundPanels, AreSoundWindows, IsSound};
 ghost use Rattle.world.specs.World.{World, picture};
-ghost use Rattle.world.specs.calls.Written.{copied_window, copying_frame, writing_frame, written_window};
-ghost use Rattle.world.specs.calls.Dispatch.{after_copying, after_making, after_stacking, after_writing, is_update_panels, making_refusal, refusal, stacking_refusal, world_after};
-ghost use Rattle.world.specs.calls.Affected.{affects_line, affects_place, frame_shows_at, making_shows_at, move_shows_at, stacking_shows_at};
-ghost use Rattle.world.specs.calls.Making.{after_mvderwin, mvderwin_refusal};
-ghost use Rattle.world.specs.calls.Refresh.{with_unmarked};
+ghost use Rattle.world.specs.calls.Dispatch.{is_update_panels, refusal, world_after};
+ghost use Rattle.world.specs.calls.Affected.{affects_line, affects_place, change_shows_at, edit_shows_at, frame_shows_at, move_shows_at, order_shows_at};
+ghost use Rattle.world.specs.calls.Making.{after_making, has_no_parent, making_change, making_refusal};
+ghost use Rattle.world.specs.calls.Stacking.{stacking_order, stacking_refusal};
+ghost use Rattle.world.specs.Effects.{Edit, after_edit, edit_frame, edit_window, panels_after, shifted_to, windows_after, with_unmarked};
 ghost use Rattle.cell.specs.Glyphs.{Glyph};
 ghost use Rattle.cell.specs.Pictures.{shown_at};
 ghost use Rattle.world.specs.declared.call.Call.{Call};
-ghost use Rattle.world.specs.declared.call.Copying.{Copying};
 ghost use Rattle.world.specs.declared.call.Making.{Making};
 ghost use Rattle.world.specs.declared.call.Refresh.{Refresh};
 ghost use Rattle.world.specs.declared.call.Stacking.{Stacking};
-ghost use Rattle.world.specs.declared.call.Writing.{Writing};
 ghost use Rattle.world.specs.Windows.{Drawing, GridPlace, HasPlace, Window, WindowMap, Windows, cell_at, derives, onward, over, own, put_windows};
 
 /// The places of a window lead to a rectangle of one grid: where one leads is where the first one leads, moved.
@@ -62,9 +60,9 @@ pub fn kept_picture()
     ensures written { (windows : Windows) (panels : Panels) (w : ℕ) (a : Window) (f : Drawing) (y x : ℕ) → AreSoundWindows windows
         → windows.window w ≡ Some a → y < windows.lines → x < windows.columns → frame_shows_at windows.window panels w (frame_of a f) y x ≡ false
         → found_from_top (put_windows windows.window w f) panels y x ≡ found_from_top windows.window panels y x }
-    ensures moved { (windows : Windows) (panels : Panels) (w v z y x : ℕ) → AreSoundWindows windows → mvderwin_refusal windows w v z ≡ None
+    ensures moved { (windows : Windows) (panels : Panels) (w v z y x : ℕ) → AreSoundWindows windows → has_no_parent windows.window w ≡ false
         → move_shows_at windows.window panels w y x ≡ false
-        → found_from_top (after_mvderwin windows w v z).window panels y x ≡ found_from_top windows.window panels y x }
+        → found_from_top (shifted_to windows w (v, z)).window panels y x ≡ found_from_top windows.window panels y x }
     ensures called { (world : World) (call : Call) (y x : ℕ) → IsSound world → refusal world call ≡ None
         → y < world.windows.lines → x < world.windows.columns → affects_line world call y ≡ false
         → picture (world_after world call) y x ≡ picture world y x }
@@ -81,34 +79,28 @@ pub fn kept_places()
         → shown_at (world_after world call).virtual.picture (y, x) ≡ shown_at world.virtual.picture (y, x) }
 {}
 
-/// A call that writes changes the picture at most where its frame is shown.
-pub fn kept_by_writing()
-    ensures { (windows : Windows) (panels : Panels) (writing : Writing) (y x : ℕ) → AreSoundWindows windows → y < windows.lines → x < windows.columns
-        → frame_shows_at windows.window panels (written_window writing) (writing_frame windows writing) y x ≡ false
-        → found_from_top (after_writing windows writing).window panels y x ≡ found_from_top windows.window panels y x }
+/// An edit changes the picture at most where its frame is shown.
+pub fn kept_by_edits()
+    ensures { (windows : Windows) (panels : Panels) (edit : Edit) (y x : ℕ) → AreSoundWindows windows → y < windows.lines → x < windows.columns
+        → edit_shows_at windows panels edit y x ≡ false
+        → found_from_top (after_edit windows edit).window panels y x ≡ found_from_top windows.window panels y x }
 {}
 
-/// A copy changes the picture at most where its frame is shown, and a call on marks nowhere.
-pub fn kept_by_copying()
-    ensures { (windows : Windows) (panels : Panels) (copying : Copying) (y x : ℕ) → AreSoundWindows windows → y < windows.lines → x < windows.columns
-        → frame_shows_at windows.window panels (copied_window copying) (copying_frame windows copying) y x ≡ false
-        → found_from_top (after_copying windows copying).window panels y x ≡ found_from_top windows.window panels y x }
-{}
-
-/// mvderwin changes the picture at most where a visible panel's window shows other cells then; making, deleting and
-/// moving windows that are in no panel changes it nowhere.
+/// A call that makes, deletes or moves a window changes the picture at most where a visible panel's window shows other cells then.
 pub fn kept_by_making()
     ensures { (windows : Windows) (panels : Panels) (making : Making) (y x : ℕ) → AreSoundWindows windows → AreSoundPanels windows.window panels
-        → making_refusal windows (is_in_panel panels) making ≡ None → making_shows_at windows.window panels making y x ≡ false
+        → y < windows.lines → x < windows.columns
+        → making_refusal windows (is_in_panel panels) making ≡ None → change_shows_at windows panels (making_change windows making) y x ≡ false
         → found_from_top (after_making windows making).window panels y x ≡ found_from_top windows.window panels y x }
 {}
 
 /// A call on a panel changes the picture at most where the panel is seen before or after.
 pub fn kept_by_stacking()
-    ensures { (world : World) (stacking : Stacking) (y x : ℕ) → AreSoundPanels world.windows.window world.panels
-        → stacking_refusal world.windows world.panels stacking ≡ None → stacking_shows_at world stacking y x ≡ false
-        → found_from_top (after_stacking world stacking).windows.window (after_stacking world stacking).panels y x
-        ≡ found_from_top world.windows.window world.panels y x }
+    ensures { (windows : Windows) (panels : Panels) (stacking : Stacking) (y x : ℕ) → AreSoundWindows windows → AreSoundPanels windows.window panels
+        → y < windows.lines → x < windows.columns
+        → stacking_refusal windows panels stacking ≡ None → order_shows_at windows panels (stacking_order panels stacking) y x ≡ false
+        → found_from_top (windows_after windows panels (stacking_order panels stacking)).window (panels_after panels (stacking_order panels stacking)) y x
+        ≡ found_from_top windows.window panels y x }
 {}
 
 /// Refreshing changes the picture nowhere: it changes marks, the virtual screen and colours.
@@ -118,33 +110,27 @@ pub fn kept_by_refresh()
         ≡ found_from_top world.windows.window world.panels y x }
 {}
 
-/// The frame of a write or a copy lies in its window.
+/// The frame of an edit lies in its window.
 pub fn frames_are_inside()
-    ensures written { (windows : Windows) (writing : Writing) (r : Rect) → writing_frame windows writing ≡ Some r
-        → (r.top ≤ r.bottom) × (r.left ≤ r.right) × HasPlace windows.window (written_window writing) r.bottom r.right }
-    ensures copied { (windows : Windows) (copying : Copying) (r : Rect) → copying_frame windows copying ≡ Some r
-        → (r.top ≤ r.bottom) × (r.left ≤ r.right) × HasPlace windows.window (copied_window copying) r.bottom r.right }
+    ensures { (windows : Windows) (edit : Edit) (r : Rect) → edit_frame windows edit ≡ Some r
+        → (r.top ≤ r.bottom) × (r.left ≤ r.right) × HasPlace windows.window (edit_window edit) r.bottom r.right }
 {}
 
-/// A write or a copy leaves windows where they stand, with the cells that they share: a frame is shown after it where
-/// it was before. mvderwin leaves which windows derive from which: it affects the same after it as before.
+/// An edit leaves windows where they stand, with the cells that they share: a frame is shown after it where it was before. A shift leaves
+/// which windows derive from which: it affects the same after it as before.
 pub fn shapes_are_kept()
-    ensures written { (windows : Windows) (panels : Panels) (writing : Writing) (w : ℕ) (frame : Option Rect) (y x : ℕ)
-        → frame_shows_at (after_writing windows writing).window panels w frame y x ≡ frame_shows_at windows.window panels w frame y x }
-    ensures written_there { (windows : Windows) (writing : Writing) (w y x : ℕ)
-        → HasPlace windows.window w y x → HasPlace (after_writing windows writing).window w y x }
-    ensures copied { (windows : Windows) (panels : Panels) (copying : Copying) (w : ℕ) (frame : Option Rect) (y x : ℕ)
-        → frame_shows_at (after_copying windows copying).window panels w frame y x ≡ frame_shows_at windows.window panels w frame y x }
-    ensures copied_there { (windows : Windows) (copying : Copying) (w y x : ℕ)
-        → HasPlace windows.window w y x → HasPlace (after_copying windows copying).window w y x }
-    ensures moved { (windows : Windows) (panels : Panels) (w v z y x : ℕ)
-        → move_shows_at (after_mvderwin windows w v z).window panels w y x ≡ move_shows_at windows.window panels w y x }
+    ensures edited { (windows : Windows) (panels : Panels) (edit : Edit) (w : ℕ) (frame : Option Rect) (y x : ℕ)
+        → frame_shows_at (after_edit windows edit).window panels w frame y x ≡ frame_shows_at windows.window panels w frame y x }
+    ensures there { (windows : Windows) (edit : Edit) (w y x : ℕ)
+        → HasPlace windows.window w y x → HasPlace (after_edit windows edit).window w y x }
+    ensures shifted { (windows : Windows) (panels : Panels) (w v z y x : ℕ)
+        → move_shows_at (shifted_to windows w (v, z)).window panels w y x ≡ move_shows_at windows.window panels w y x }
 {}
 
 /// Where a derived window is moved in its parent, each window that neither is it nor derives from it shows the cells that it showed.
 pub fn kept_by_mvderwin()
     ensures { (windows : Windows) (w y x u v z : ℕ) → (u ≡ w → ⊥) → derives windows.window w u ≡ false
-        → cell_at (after_mvderwin windows w y x).window u v z ≡ cell_at windows.window u v z }
+        → cell_at (shifted_to windows w (y, x)).window u v z ≡ cell_at windows.window u v z }
 {}
 
 /// The rectangle of a drawing holds each place of the window that the drawing covers, and each of its sides has such a place; there is

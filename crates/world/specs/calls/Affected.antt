@@ -4,22 +4,14 @@
 use Rattle.std.specs.Prelude.{ℕ, ◌+◌, ◌-◌, ◌*◌, Bool, true, false, if◌then◌else◌, ◌==◌, ◌&&◌, ◌||◌, Option, is_none, is_some, List, [], ◌∷◌}
 use Rattle.std.specs.List.{count_by, list_any, range_with_len}
 use Rattle.std.specs.Option.{option_map_or}
-use Rattle.world.specs.Windows.{WindowMap, any_below, derives}
+use Rattle.world.specs.Windows.{WindowMap, Windows, any_below, derives}
 use Rattle.world.specs.Panels.{Panels, holds, panel_holds, place_of, windows_from_top, windows_of_picture}
 use Rattle.world.specs.World.{World}
 use Rattle.world.specs.Sharing.{shows_part_of}
-use Rattle.world.specs.calls.Copies.{copywin_drawing}
-use Rattle.world.specs.calls.Refresh.{touched_cells}
-use Rattle.world.specs.calls.Dispatch.{after_stacking, is_update_panels, refusal, world_after}
-use Rattle.world.specs.calls.Written.{changed_panel, copied_window, copying_frame, writing_frame, written_window}
+use Rattle.world.specs.Effects.{Edit, edit_frame, edit_window, Change, asks, edits, marks, makes, deletes, moves, shifts, Order, changes, adds, orders, carries, Effect, arranges, refreshes, composes, shows, colours, panels_after, windows_after}
+use Rattle.world.specs.calls.Dispatch.{effect_of, is_update_panels, refusal, world_after}
 use Rattle.cell.specs.declared.window.Rect.{Rect}
 use Rattle.world.specs.declared.call.Call.{Call}
-use Rattle.world.specs.declared.call.Call.TheVariants as calls
-use Rattle.world.specs.declared.call.Making.{Making}
-use Rattle.world.specs.declared.call.Making.TheVariants.{Newwin, Subwin, Derwin, Newpad, Subpad, Delwin, Mvwin, Mvderwin}
-use Rattle.world.specs.declared.call.Stacking.{Stacking}
-use Rattle.world.specs.declared.call.Refresh.{Refresh}
-use Rattle.world.specs.declared.call.Refresh.TheVariants.{Noutrefresh, Pnoutrefresh, UpdatePanels, Doupdate, InitPair}
 
 -- ---- writes
 
@@ -42,50 +34,49 @@ follows_at window w y x u = (u == w || derives window w u) && holds window u y x
 abbrev pub move_shows_at : WindowMap → Panels → ℕ → ℕ → ℕ → Bool
 move_shows_at window panels w y x = list_any (follows_at window w y x) (windows_from_top panels)
 
-abbrev pub making_shows_at : WindowMap → Panels → Making → ℕ → ℕ → Bool
-making_shows_at window panels (Newwin nlines ncols line column) y x = false
-making_shows_at window panels (Subwin win nlines ncols line column) y x = false
-making_shows_at window panels (Derwin win nlines ncols line column) y x = false
-making_shows_at window panels (Newpad nlines ncols) y x = false
-making_shows_at window panels (Subpad pad nlines ncols line column) y x = false
-making_shows_at window panels (Delwin win) y x = false
-making_shows_at window panels (Mvwin win line column) y x = false
-making_shows_at window panels (Mvderwin win line column) y x = move_shows_at window panels win.0 y x
-
 -- ---- panels
 
 -- the panel p is visible, and its window's rectangle holds the place
 abbrev pub panel_shows_at : WindowMap → Panels → ℕ → ℕ → ℕ → Bool
 panel_shows_at window panels p y x = list_any (λ q. q == p) panels.visible && panel_holds window panels y x p
 
--- the changed panel does so before the call or after it
-abbrev pub stacking_shows_at : World → Stacking → ℕ → ℕ → Bool
-stacking_shows_at world stacking y x =
-    let new = after_stacking world stacking in
-    option_map_or (λ p. panel_shows_at world.windows.window world.panels p y x || panel_shows_at new.windows.window new.panels p y x)
-    (changed_panel world.panels stacking) false
+-- the panel p does so before a change of order or after it
+abbrev pub ordered_shows_at : Windows → Panels → Order → ℕ → ℕ → ℕ → Bool
+ordered_shows_at windows panels order p y x =
+    panel_shows_at windows.window panels p y x || panel_shows_at (windows_after windows panels order).window (panels_after panels order) p y x
 
--- ---- all calls
+-- ---- effects
 
--- a cell is copied to the place of the virtual screen; and other colours of a pair show everywhere
-abbrev pub refresh_shows_at : WindowMap → Refresh → ℕ → ℕ → Bool
-refresh_shows_at window (Noutrefresh win) y x = is_some (touched_cells window win.0 y x)
-refresh_shows_at window (Pnoutrefresh pad pminrow pmincol sminrow smincol smaxrow smaxcol) y x =
-    is_some (copywin_drawing window pad.0 pminrow pmincol sminrow smincol smaxrow smaxcol false y x)
-refresh_shows_at window UpdatePanels y x = false
-refresh_shows_at window Doupdate y x = false
-refresh_shows_at window (InitPair pair foreground background) y x = true
+-- a write, where its frame is shown
+abbrev pub edit_shows_at : Windows → Panels → Edit → ℕ → ℕ → Bool
+edit_shows_at windows panels edit y x = frame_shows_at windows.window panels (edit_window edit) (edit_frame windows edit) y x
+
+abbrev pub change_shows_at : Windows → Panels → Change → ℕ → ℕ → Bool
+change_shows_at windows panels (asks reply) y x = false
+change_shows_at windows panels (edits edit) y x = edit_shows_at windows panels edit y x
+change_shows_at windows panels (marks test touched) y x = false
+change_shows_at windows panels (makes n a) y x = false
+change_shows_at windows panels (deletes w) y x = false
+change_shows_at windows panels (moves w place) y x = false
+change_shows_at windows panels (shifts w place) y x = move_shows_at windows.window panels w y x
+
+abbrev pub order_shows_at : Windows → Panels → Order → ℕ → ℕ → Bool
+order_shows_at windows panels (changes change) y x = change_shows_at windows panels change y x
+order_shows_at windows panels (adds p w) y x = ordered_shows_at windows panels (adds p w) p y x
+order_shows_at windows panels (orders p order) y x = ordered_shows_at windows panels (orders p order) p y x
+order_shows_at windows panels (carries p place) y x = ordered_shows_at windows panels (carries p place) p y x
+
+-- a refresh where it has a cell for the virtual screen; and other colours of a pair show everywhere
+abbrev pub effect_shows_at : World → Effect → ℕ → ℕ → Bool
+effect_shows_at world (arranges order) y x = order_shows_at world.windows world.panels order y x
+effect_shows_at world (refreshes w test drawing cursor) y x = is_some (drawing y x)
+effect_shows_at world composes y x = false
+effect_shows_at world shows y x = false
+effect_shows_at world (colours pair foreground background) y x = true
 
 -- of an accepted call
 abbrev pub affects_place : World → Call → ℕ → ℕ → Bool
-affects_place world (calls.Making making) y x = making_shows_at world.windows.window world.panels making y x
-affects_place world (calls.Writing writing) y x =
-    frame_shows_at world.windows.window world.panels (written_window writing) (writing_frame world.windows writing) y x
-affects_place world (calls.Copying copying) y x =
-    frame_shows_at world.windows.window world.panels (copied_window copying) (copying_frame world.windows copying) y x
-affects_place world (calls.Query query) y x = false
-affects_place world (calls.Stacking stacking) y x = stacking_shows_at world stacking y x
-affects_place world (calls.Refresh refresh) y x = refresh_shows_at world.windows.window refresh y x
+affects_place world call y x = effect_shows_at world (effect_of world call) y x
 
 -- ---- lines
 

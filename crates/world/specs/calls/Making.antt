@@ -1,17 +1,21 @@
--- The calls that make, move and delete windows and pads: when they are refused, and what they change.
+-- The calls that make, move and delete windows and pads: each with its tests and its effect.
 -- X/Open Curses Issue 7: newwin, derwin, subwin, newpad, subpad, delwin, mvwin, mvderwin. That a size of 0 reaches to the edge of the
 -- parent too, the limits of size and of number, and the order of the tests are Curspan's own choice.
-use Rattle.std.specs.Prelude.{ℕ, zero, suc, ◌+◌, ◌-◌, Bool, true, false, not, if◌then◌else◌, ◌==◌, nat_lt, nat_le, ◌&&◌, ◌||◌, Option, Some, None, is_none, is_some, List, [], ◌∷◌}
+use Rattle.std.specs.Prelude.{ℕ, zero, suc, ◌+◌, ◌-◌, Bool, true, false, not, if◌then◌else◌, ◌==◌, nat_lt, nat_le, ◌&&◌, ◌||◌, Option, Some, None, is_none, is_some, unwrap_or, List, [], ◌∷◌}
 use Rattle.std.specs.Option.{option_and_then, option_map, option_map_or}
 use Rattle.cell.specs.Pictures.{Place}
 use Rattle.cell.specs.Limits.{is_no_size}
 use Rattle.cell.specs.Refusals.{first_of}
 use Rattle.cell.specs.declared.limits.TheConstants.{LARGEST_PAD, LARGEST_SCREEN}
-use Rattle.world.specs.Windows.{Backing, own_grid, part_of, Window, WindowMap, Windows, any_below, parent_number, window_limit, changed, replaced, is_missing}
+use Rattle.world.specs.Windows.{Backing, own_grid, part_of, Window, WindowMap, Windows, any_below, parent_number, window_limit}
 use Rattle.world.specs.Panels.{standard_screen, place_of}
 use Rattle.world.specs.World.{new_window, blank_grid}
+use Rattle.world.specs.Effects.{Change, makes, deletes, moves, shifts, after_change}
+use Rattle.world.specs.calls.Missing.{missing}
 use Rattle.cell.specs.declared.refusal.Refusal.{Refusal}
-use Rattle.cell.specs.declared.refusal.Refusal.TheVariants.{NoSuchWindow, OffScreen, OutsideParent, HasDerived, InPanel, IsPad, NotPad, NotDerived, BadSize, StandardScreen, TooMany}
+use Rattle.cell.specs.declared.refusal.Refusal.TheVariants.{OffScreen, OutsideParent, HasDerived, InPanel, IsPad, NotPad, NotDerived, BadSize, StandardScreen, TooMany}
+use Rattle.world.specs.declared.call.Making.{Making}
+use Rattle.world.specs.declared.call.Making.TheVariants.{Newwin, Subwin, Derwin, Newpad, Subpad, Delwin, Mvwin, Mvderwin}
 
 -- ---- what a window is
 
@@ -60,37 +64,21 @@ new_number window = free_among (window_limit - 1) 1 window
 abbrev pub is_full : WindowMap → Bool
 is_full window = is_none (new_number window)
 
+-- the number that it has
+abbrev pub next_window : Windows → ℕ
+next_window windows = unwrap_or (new_number windows.window) standard_screen
+
 -- ---- a new screen
 
 abbrev pub new_refusal : ℕ → ℕ → Option Refusal
 new_refusal lines columns = first_of ((is_no_size LARGEST_SCREEN lines || is_no_size LARGEST_SCREEN columns, BadSize) ∷ [])
 
--- ---- newwin, newpad
+-- ---- windows and pads
 
--- another window, or none, under the number n
-abbrev pub numbered : Windows → ℕ → Option Window → Windows
-numbered windows n a = record windows { window = replaced windows.window n a }
-
-abbrev pub newwin_refusal : Windows → ℕ → ℕ → ℕ → ℕ → Option Refusal
-newwin_refusal windows nlines ncols y x = first_of (
-    (not (is_inside nlines windows.lines y && is_inside ncols windows.columns x), OffScreen)
-    ∷ (is_full windows.window, TooMany)
-    ∷ [])
-
-abbrev pub after_newwin : Windows → ℕ → ℕ → ℕ → ℕ → ℕ → Windows
-after_newwin windows n nlines ncols y x =
-    numbered windows n (Some (new_window (extent nlines windows.lines y) (extent ncols windows.columns x) (Some (y, x)) blank_grid))
-
-abbrev pub newpad_refusal : Windows → ℕ → ℕ → Option Refusal
-newpad_refusal windows nlines ncols = first_of (
-    (is_no_size LARGEST_PAD nlines || is_no_size LARGEST_PAD ncols, BadSize)
-    ∷ (is_full windows.window, TooMany)
-    ∷ [])
-
-abbrev pub after_newpad : Windows → ℕ → ℕ → ℕ → Windows
-after_newpad windows n nlines ncols = numbered windows n (Some (new_window nlines ncols None blank_grid))
-
--- ---- derwin, subpad, subwin
+-- a window of the screen, from a place on
+abbrev pub window_on_screen : Windows → ℕ → ℕ → ℕ → ℕ → Window
+window_on_screen windows nlines ncols y x =
+    new_window (extent nlines windows.lines y) (extent ncols windows.columns x) (Some (y, x)) blank_grid
 
 -- a place some lines and columns on; a pad has none
 abbrev pub place_from : Option Place → ℕ → ℕ → Option Place
@@ -100,6 +88,19 @@ place_from place y x = option_map (λ p. (p.0 + y, p.1 + x)) place
 abbrev pub derived_window : ℕ → ℕ → ℕ → ℕ → ℕ → Window → Window
 derived_window w nlines ncols y x parent =
     new_window (extent nlines parent.lines y) (extent ncols parent.columns x) (place_from parent.place y x) (part_of w y x)
+
+-- of the window w
+abbrev pub derived_from : Windows → ℕ → ℕ → ℕ → ℕ → ℕ → Option Window
+derived_from windows w nlines ncols y x = option_map (derived_window w nlines ncols y x) (windows.window w)
+
+-- how many lines, and columns, a place of the screen lies from a window's
+abbrev pub lines_from : WindowMap → ℕ → ℕ → ℕ
+lines_from window w y = y - (place_of window w).0
+
+abbrev pub columns_from : WindowMap → ℕ → ℕ → ℕ
+columns_from window w x = x - (place_of window w).1
+
+-- ---- tests
 
 -- that part isn't inside window w
 abbrev pub is_outside : WindowMap → ℕ → ℕ → ℕ → ℕ → ℕ → Bool
@@ -113,64 +114,13 @@ part_tests windows w nlines ncols y x =
     ∷ (is_full windows.window, TooMany)
     ∷ []
 
-abbrev pub derwin_refusal : Windows → ℕ → ℕ → ℕ → ℕ → ℕ → Option Refusal
-derwin_refusal windows w nlines ncols y x = first_of (
-    (is_missing windows.window w, NoSuchWindow)
-    ∷ (is_pad windows.window w, IsPad)
-    ∷ part_tests windows w nlines ncols y x)
-
-abbrev pub after_derwin : Windows → ℕ → ℕ → ℕ → ℕ → ℕ → ℕ → Windows
-after_derwin windows n w nlines ncols y x = numbered windows n (option_map (derived_window w nlines ncols y x) (windows.window w))
-
-abbrev pub subpad_refusal : Windows → ℕ → ℕ → ℕ → ℕ → ℕ → Option Refusal
-subpad_refusal windows w nlines ncols y x = first_of (
-    (is_missing windows.window w, NoSuchWindow)
-    ∷ (is_no_pad windows.window w, NotPad)
-    ∷ part_tests windows w nlines ncols y x)
-
-abbrev pub after_subpad : Windows → ℕ → ℕ → ℕ → ℕ → ℕ → ℕ → Windows
-after_subpad = after_derwin
-
 -- left of window w on the screen, or above it
 abbrev pub is_before : WindowMap → ℕ → ℕ → ℕ → Bool
 is_before window w y x = nat_lt y (place_of window w).0 || nat_lt x (place_of window w).1
 
--- subwin is derwin with a place of the screen
-
-abbrev pub subwin_refusal : Windows → ℕ → ℕ → ℕ → ℕ → ℕ → Option Refusal
-subwin_refusal windows w nlines ncols y x = first_of (
-    (is_missing windows.window w, NoSuchWindow)
-    ∷ (is_pad windows.window w, IsPad)
-    ∷ (is_before windows.window w y x, OutsideParent)
-    ∷ part_tests windows w nlines ncols (y - (place_of windows.window w).0) (x - (place_of windows.window w).1))
-
-abbrev pub after_subwin : Windows → ℕ → ℕ → ℕ → ℕ → ℕ → ℕ → Windows
-after_subwin windows n w nlines ncols y x =
-    after_derwin windows n w nlines ncols (y - (place_of windows.window w).0) (x - (place_of windows.window w).1)
-
--- ---- mvwin
-
 abbrev pub is_off_screen : Windows → ℕ → ℕ → ℕ → Bool
 is_off_screen windows w y x =
     option_map_or (λ a. not (nat_le (y + a.lines) windows.lines && nat_le (x + a.columns) windows.columns)) (windows.window w) false
-
--- in_panel says whether the window is in a panel: then only its panel moves it
-abbrev pub mvwin_refusal : Windows → Bool → ℕ → ℕ → ℕ → Option Refusal
-mvwin_refusal windows in_panel w y x = first_of (
-    (is_missing windows.window w, NoSuchWindow)
-    ∷ (w == standard_screen, StandardScreen)
-    ∷ (is_pad windows.window w, IsPad)
-    ∷ (in_panel, InPanel)
-    ∷ (is_off_screen windows w y x, OffScreen)
-    ∷ [])
-
-abbrev pub with_place : ℕ → ℕ → Window → Window
-with_place y x a = record a { place = Some (y, x) }
-
-abbrev pub after_mvwin : Windows → ℕ → ℕ → ℕ → Windows
-after_mvwin windows w y x = record windows { window = changed windows.window w (with_place y x) }
-
--- ---- mvderwin: the window shows another part of its parent, and stays where it is
 
 -- the window that a backing names as parent
 abbrev pub parent_in : WindowMap → Backing → Option Window
@@ -182,33 +132,63 @@ reaches_past y x a parent = not (nat_le (y + a.lines) parent.lines && nat_le (x 
 abbrev pub leaves_parent : WindowMap → ℕ → ℕ → ℕ → Bool
 leaves_parent window w y x = option_map_or (λ a. option_map_or (reaches_past y x a) (parent_in window a.backing) false) (window w) false
 
-abbrev pub mvderwin_refusal : Windows → ℕ → ℕ → ℕ → Option Refusal
-mvderwin_refusal windows w y x = first_of (
-    (is_missing windows.window w, NoSuchWindow)
-    ∷ (has_no_parent windows.window w, NotDerived)
-    ∷ (leaves_parent windows.window w y x, OutsideParent)
-    ∷ [])
+-- in_panel says of each window whether it is in a panel: then only its panel moves it, and it isn't deleted
+abbrev pub making_tests : Windows → (ℕ → Bool) → Making → List (Bool × Refusal)
+making_tests windows in_panel (Newwin nlines ncols y x) =
+    (not (is_inside nlines windows.lines y && is_inside ncols windows.columns x), OffScreen)
+    ∷ (is_full windows.window, TooMany)
+    ∷ []
+making_tests windows in_panel (Subwin win nlines ncols y x) =
+    missing windows win.0
+    ∷ (is_pad windows.window win.0, IsPad)
+    ∷ (is_before windows.window win.0 y x, OutsideParent)
+    ∷ part_tests windows win.0 nlines ncols (lines_from windows.window win.0 y) (columns_from windows.window win.0 x)
+making_tests windows in_panel (Derwin win nlines ncols y x) =
+    missing windows win.0
+    ∷ (is_pad windows.window win.0, IsPad)
+    ∷ part_tests windows win.0 nlines ncols y x
+making_tests windows in_panel (Newpad nlines ncols) =
+    (is_no_size LARGEST_PAD nlines || is_no_size LARGEST_PAD ncols, BadSize)
+    ∷ (is_full windows.window, TooMany)
+    ∷ []
+making_tests windows in_panel (Subpad pad nlines ncols y x) =
+    missing windows pad.0
+    ∷ (is_no_pad windows.window pad.0, NotPad)
+    ∷ part_tests windows pad.0 nlines ncols y x
+making_tests windows in_panel (Delwin win) =
+    missing windows win.0
+    ∷ (win.0 == standard_screen, StandardScreen)
+    ∷ (in_panel win.0, InPanel)
+    ∷ (has_derived windows.window win.0, HasDerived)
+    ∷ []
+making_tests windows in_panel (Mvwin win y x) =
+    missing windows win.0
+    ∷ (win.0 == standard_screen, StandardScreen)
+    ∷ (is_pad windows.window win.0, IsPad)
+    ∷ (in_panel win.0, InPanel)
+    ∷ (is_off_screen windows win.0 y x, OffScreen)
+    ∷ []
+making_tests windows in_panel (Mvderwin win y x) =
+    missing windows win.0
+    ∷ (has_no_parent windows.window win.0, NotDerived)
+    ∷ (leaves_parent windows.window win.0 y x, OutsideParent)
+    ∷ []
 
-abbrev pub with_offset : ℕ → ℕ → Backing → Backing
-with_offset y x (own_grid cells) = own_grid cells
-with_offset y x (part_of parent line column) = part_of parent y x
+-- ---- effects
 
-abbrev pub with_part : ℕ → ℕ → Window → Window
-with_part y x a = record a { backing = with_offset y x a.backing }
+abbrev pub making_change : Windows → Making → Change
+making_change windows (Newwin nlines ncols y x) = makes (next_window windows) (Some (window_on_screen windows nlines ncols y x))
+making_change windows (Subwin win nlines ncols y x) =
+    makes (next_window windows) (derived_from windows win.0 nlines ncols (lines_from windows.window win.0 y) (columns_from windows.window win.0 x))
+making_change windows (Derwin win nlines ncols y x) = makes (next_window windows) (derived_from windows win.0 nlines ncols y x)
+making_change windows (Newpad nlines ncols) = makes (next_window windows) (Some (new_window nlines ncols None blank_grid))
+making_change windows (Subpad pad nlines ncols y x) = makes (next_window windows) (derived_from windows pad.0 nlines ncols y x)
+making_change windows (Delwin win) = deletes win.0
+making_change windows (Mvwin win y x) = moves win.0 (y, x)
+making_change windows (Mvderwin win y x) = shifts win.0 (y, x)
 
-abbrev pub after_mvderwin : Windows → ℕ → ℕ → ℕ → Windows
-after_mvderwin windows w y x = record windows { window = changed windows.window w (with_part y x) }
+abbrev pub making_refusal : Windows → (ℕ → Bool) → Making → Option Refusal
+making_refusal windows in_panel making = first_of (making_tests windows in_panel making)
 
--- ---- delwin
-
--- in_panel says whether the window is in a panel
-abbrev pub delwin_refusal : Windows → Bool → ℕ → Option Refusal
-delwin_refusal windows in_panel w = first_of (
-    (is_missing windows.window w, NoSuchWindow)
-    ∷ (w == standard_screen, StandardScreen)
-    ∷ (in_panel, InPanel)
-    ∷ (has_derived windows.window w, HasDerived)
-    ∷ [])
-
-abbrev pub after_delwin : Windows → ℕ → Windows
-after_delwin windows w = numbered windows w None
+abbrev pub after_making : Windows → Making → Windows
+after_making windows making = after_change windows (making_change windows making)

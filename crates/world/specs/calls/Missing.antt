@@ -1,9 +1,8 @@
 -- The one test of a call that any window or pad accepts: that it is there.
-use Rattle.std.specs.Prelude.{ℕ, Option, [], ◌∷◌}
-use Rattle.cell.specs.Refusals.{first_of}
+use Rattle.std.specs.Prelude.{ℕ, Bool}
 use Rattle.cell.specs.declared.refusal.Refusal.{Refusal}
 use Rattle.cell.specs.declared.refusal.Refusal.TheVariants.{NoSuchWindow}
-use Rattle.world.specs.Windows.{WindowMap, is_missing}
+use Rattle.world.specs.Windows.{Windows, is_missing}
 
-abbrev pub missing_refusal : WindowMap → ℕ → Option Refusal
-missing_refusal window w = first_of ((is_missing window w, NoSuchWindow) ∷ [])
+abbrev pub missing : Windows → ℕ → Bool × Refusal
+missing windows w = (is_missing windows.window w, NoSuchWindow)

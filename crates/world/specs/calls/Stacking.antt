@@ -1,10 +1,10 @@
--- The calls on panels: when they are refused, what they change and what they answer.
+-- The calls on panels: each with its tests and its effect.
 -- NetBSD panel(3): new_panel, del_panel, show_panel, hide_panel, top_panel, bottom_panel, move_panel, replace_panel, panel_above,
 -- panel_below, panel_window, panel_hidden.
 -- That show_panel puts a visible panel on top too, which window a panel may have, the limit of numbers and the order of the tests are
 -- Curspan's own choice.
-use Rattle.std.specs.Prelude.{◌≡◌, ◌≢◌, ℕ, ◌-◌, ◌≤◌, Bool, false, not, if◌then◌else◌, ◌==◌, ◌&&◌, ◌||◌, Option, Some, None, is_none, IsSome, MatchOption, List, [], ◌∷◌, ◌++◌, reverse, All, AllPairs, find, ⊤}
-use Rattle.std.specs.Option.{option_map, option_map_or}
+use Rattle.std.specs.Prelude.{◌≡◌, ◌≢◌, ℕ, ◌-◌, ◌≤◌, Bool, not, if◌then◌else◌, ◌==◌, Option, Some, None, is_none, unwrap_or, IsSome, MatchOption, List, [], ◌∷◌, ◌++◌, reverse, All, AllPairs, find, ⊤}
+use Rattle.std.specs.Option.{option_map}
 use Rattle.std.specs.List.{filter, list_any, range_with_len}
 use Rattle.cell.specs.Refusals.{first_of}
 use Rattle.cell.specs.declared.limits.TheConstants.{MOST_PANELS}
@@ -12,8 +12,11 @@ use Rattle.cell.specs.declared.refusal.Refusal.{Refusal}
 use Rattle.cell.specs.declared.refusal.Refusal.TheVariants.{NoSuchWindow, NoSuchPanel, OffScreen, IsPad, InPanel, Hidden, StandardScreen, TooMany}
 use Rattle.world.specs.Windows.{WindowMap, Windows, is_missing}
 use Rattle.world.specs.Panels.{Panels, panel_limit, is_in_panel, standard_screen, topmost, window_or_standard}
-use Rattle.world.specs.World.{World}
-use Rattle.world.specs.calls.Making.{after_mvwin, is_off_screen, is_pad}
+use Rattle.world.specs.Effects.{Order, changes, adds, orders, carries, asks, given}
+use Rattle.world.specs.calls.Making.{is_off_screen, is_pad}
+use Rattle.world.specs.declared.call.Reply.TheVariants.{Flag, Number, Panel}
+use Rattle.world.specs.declared.call.Stacking.{Stacking}
+use Rattle.world.specs.declared.call.Stacking.TheVariants.{NewPanel, DelPanel, ShowPanel, HidePanel, TopPanel, BottomPanel, MovePanel, ReplacePanel, PanelAbove, PanelBelow, PanelWindow, PanelHidden}
 use Rattle.world.specs.declared.panel.PanelId.{PanelId}
 
 -- ---- the order
@@ -48,24 +51,22 @@ numbered_panel p = option_map (λ n. record { 0 = n }) p
 abbrev pub new_panel_number : Panels → Option ℕ
 new_panel_number panels = find (λ p. is_none (panels.window p)) (range_with_len 1 (panel_limit - 1))
 
--- another window, or none, for the panel p
-abbrev pub given : (ℕ → Option ℕ) → ℕ → Option ℕ → ℕ → Option ℕ
-given window p w q = if q == p then w else window q
+abbrev pub next_panel : Panels → ℕ
+next_panel panels = unwrap_or (new_panel_number panels) 0
 
--- ---- refusals
+-- ---- tests
 
--- the one test of a call that any panel accepts: that it is there
-abbrev pub missing_panel_refusal : Panels → ℕ → Option Refusal
-missing_panel_refusal panels p = first_of ((is_none (panels.window p), NoSuchPanel) ∷ [])
+-- a call that any panel accepts, and one that only a visible panel accepts
+abbrev pub panel_tests : Panels → ℕ → List (Bool × Refusal)
+panel_tests panels p = (is_none (panels.window p), NoSuchPanel) ∷ []
 
--- the tests of a call that only a visible panel accepts
-abbrev pub hidden_panel_refusal : Panels → ℕ → Option Refusal
-hidden_panel_refusal panels p = first_of ((is_none (panels.window p), NoSuchPanel) ∷ (is_hidden panels p, Hidden) ∷ [])
+abbrev pub visible_tests : Panels → ℕ → List (Bool × Refusal)
+visible_tests panels p = (is_none (panels.window p), NoSuchPanel) ∷ (is_hidden panels p, Hidden) ∷ []
 
 -- that of the neighbours of a panel, or of the ends, which always are
-abbrev pub neighbour_refusal : Panels → Option ℕ → Option Refusal
-neighbour_refusal panels None = None
-neighbour_refusal panels (Some p) = hidden_panel_refusal panels p
+abbrev pub neighbour_tests : Panels → Option PanelId → List (Bool × Refusal)
+neighbour_tests panels None = []
+neighbour_tests panels (Some p) = visible_tests panels p.0
 
 -- those tests of new_panel and of replace_panel that speak of panels alone
 abbrev pub new_panel_tests : Panels → ℕ → List (Bool × Refusal)
@@ -78,28 +79,23 @@ replace_panel_tests panels p w = (is_none (panels.window p), NoSuchPanel) ∷ (i
 abbrev pub window_tests : WindowMap → ℕ → List (Bool × Refusal)
 window_tests window w = (is_missing window w, NoSuchWindow) ∷ (w == standard_screen, StandardScreen) ∷ (is_pad window w, IsPad) ∷ []
 
-abbrev pub new_panel_refusal : WindowMap → Panels → ℕ → Option Refusal
-new_panel_refusal window panels w = first_of (window_tests window w ++ new_panel_tests panels w)
+abbrev pub stacking_tests : Windows → Panels → Stacking → List (Bool × Refusal)
+stacking_tests windows panels (NewPanel win) = window_tests windows.window win.0 ++ new_panel_tests panels win.0
+stacking_tests windows panels (DelPanel panel) = panel_tests panels panel.0
+stacking_tests windows panels (ShowPanel panel) = panel_tests panels panel.0
+stacking_tests windows panels (HidePanel panel) = visible_tests panels panel.0
+stacking_tests windows panels (TopPanel panel) = visible_tests panels panel.0
+stacking_tests windows panels (BottomPanel panel) = visible_tests panels panel.0
+stacking_tests windows panels (MovePanel panel y x) =
+    (is_none (panels.window panel.0), NoSuchPanel) ∷ (is_off_screen windows (window_or_standard panels (Some panel.0)) y x, OffScreen) ∷ []
+stacking_tests windows panels (ReplacePanel panel win) =
+    (is_none (panels.window panel.0), NoSuchPanel) ∷ window_tests windows.window win.0 ++ (is_in_panel panels win.0, InPanel) ∷ []
+stacking_tests windows panels (PanelAbove panel) = neighbour_tests panels panel
+stacking_tests windows panels (PanelBelow panel) = neighbour_tests panels panel
+stacking_tests windows panels (PanelWindow panel) = panel_tests panels panel.0
+stacking_tests windows panels (PanelHidden panel) = panel_tests panels panel.0
 
-abbrev pub replace_panel_refusal : WindowMap → Panels → ℕ → ℕ → Option Refusal
-replace_panel_refusal window panels p w = first_of (
-    (is_none (panels.window p), NoSuchPanel)
-    ∷ window_tests window w
-    ++ (is_in_panel panels w, InPanel)
-    ∷ [])
-
--- the panel's window is moved, and lies on the screen then
-abbrev pub move_panel_refusal : Windows → Panels → ℕ → ℕ → ℕ → Option Refusal
-move_panel_refusal windows panels p y x = first_of (
-    (is_none (panels.window p), NoSuchPanel)
-    ∷ (is_off_screen windows (window_or_standard panels (Some p)) y x, OffScreen)
-    ∷ [])
-
--- ---- changes
-
--- window w is in the panel p, on top
-abbrev pub after_new_panel : Panels → ℕ → ℕ → Panels
-after_new_panel panels p w = record { visible = panels.visible ++ p ∷ []; window = given panels.window p (Some w) }
+-- ---- effects
 
 abbrev pub after_del_panel : Panels → ℕ → Panels
 after_del_panel panels p = record { visible = without p panels.visible; window = given panels.window p None }
@@ -111,21 +107,12 @@ after_show_panel panels p = record panels { visible = without p panels.visible +
 abbrev pub after_hide_panel : Panels → ℕ → Panels
 after_hide_panel panels p = record panels { visible = without p panels.visible }
 
-abbrev pub after_top_panel : Panels → ℕ → Panels
-after_top_panel = after_show_panel
-
 abbrev pub after_bottom_panel : Panels → ℕ → Panels
 after_bottom_panel panels p = record panels { visible = p ∷ without p panels.visible }
 
 -- another window, and the same depth
 abbrev pub after_replace_panel : Panels → ℕ → ℕ → Panels
 after_replace_panel panels p w = record panels { window = given panels.window p (Some w) }
-
--- the panel's window has another place, and the panel the same depth
-abbrev pub after_move_panel : Windows → Panels → ℕ → ℕ → ℕ → Windows
-after_move_panel windows panels p y x = after_mvwin windows (window_or_standard panels (Some p)) y x
-
--- ---- answers
 
 -- the panel right above, or without a panel the bottom one
 abbrev pub panel_above : Panels → Option ℕ → Option ℕ
@@ -136,6 +123,23 @@ panel_above panels (Some p) = next_in p panels.visible
 abbrev pub panel_below : Panels → Option ℕ → Option ℕ
 panel_below panels None = topmost panels
 panel_below panels (Some p) = next_in p (reverse panels.visible)
+
+abbrev pub stacking_order : Panels → Stacking → Order
+stacking_order panels (NewPanel win) = adds (next_panel panels) win.0
+stacking_order panels (DelPanel panel) = orders panel.0 (after_del_panel panels panel.0)
+stacking_order panels (ShowPanel panel) = orders panel.0 (after_show_panel panels panel.0)
+stacking_order panels (HidePanel panel) = orders panel.0 (after_hide_panel panels panel.0)
+stacking_order panels (TopPanel panel) = orders panel.0 (after_show_panel panels panel.0)
+stacking_order panels (BottomPanel panel) = orders panel.0 (after_bottom_panel panels panel.0)
+stacking_order panels (MovePanel panel y x) = carries panel.0 (y, x)
+stacking_order panels (ReplacePanel panel win) = orders panel.0 (after_replace_panel panels panel.0 win.0)
+stacking_order panels (PanelAbove panel) = changes (asks (Panel (numbered_panel (panel_above panels (panel_number panel)))))
+stacking_order panels (PanelBelow panel) = changes (asks (Panel (numbered_panel (panel_below panels (panel_number panel)))))
+stacking_order panels (PanelWindow panel) = changes (asks (Number (record { 0 = window_or_standard panels (Some panel.0) })))
+stacking_order panels (PanelHidden panel) = changes (asks (Flag (is_hidden panels panel.0)))
+
+abbrev pub stacking_refusal : Windows → Panels → Stacking → Option Refusal
+stacking_refusal windows panels stacking = first_of (stacking_tests windows panels stacking)
 
 -- ---- soundness
 

@@ -1,19 +1,14 @@
--- The calls that write characters: when they are refused, and what they change.
--- X/Open Curses Issue 7: addch, addstr, insch, delch. Where the cursor goes at the ends of lines and of the window, and what scrolls
--- there, is Curspan's own choice.
-use Rattle.std.specs.Prelude.{ℕ, ◌+◌, ◌-◌, Bool, not, if◌then◌else◌, ◌==◌, ◌&&◌, ◌||◌, nat_lt, Option, None, List, [], ◌∷◌, fold}
-use Rattle.std.specs.List.{list_any}
+-- Typing characters in a window: what each draws, and where the cursor goes.
+-- X/Open Curses Issue 7: addch, addstr. Where the cursor goes at the ends of lines and of the window, and what scrolls there, is Curspan's
+-- own choice.
+use Rattle.std.specs.Prelude.{ℕ, ◌+◌, ◌-◌, Bool, if◌then◌else◌, ◌==◌, ◌&&◌, ◌||◌, nat_lt, Option, None, List, [], ◌∷◌, fold}
 use Rattle.std.specs.Option.{option_and_then}
 use Rattle.cell.specs.Pictures.{Place}
-use Rattle.cell.specs.Glyphs.{is_printable}
-use Rattle.cell.specs.Refusals.{first_of}
-use Rattle.world.specs.Windows.{Drawing, Window, WindowMap, Windows, is_missing, if_there, put}
+use Rattle.world.specs.Windows.{Drawing, Window, WindowMap, Windows, if_there, put}
 use Rattle.world.specs.Settings.{set, with_cursor}
-use Rattle.world.specs.Drawings.{written_glyph, at_place, character_inserted, character_deleted, to_end_of_line, lines_up}
+use Rattle.world.specs.Drawings.{written_glyph, at_place, to_end_of_line, lines_up}
 use Rattle.world.specs.Frames.{joined, frame_of}
 use Rattle.cell.specs.declared.window.Rect.{Rect}
-use Rattle.cell.specs.declared.refusal.Refusal.{Refusal}
-use Rattle.cell.specs.declared.refusal.Refusal.TheVariants.{NoSuchWindow, BadCharacter}
 
 -- ---- characters
 
@@ -26,11 +21,7 @@ newline = 10
 abbrev pub carriage_return : ℕ
 carriage_return = 13
 
--- neither printed nor one that moves the cursor
-abbrev pub is_bad_character : ℕ → Bool
-is_bad_character character = not (is_printable character || (character == backspace || (character == newline || character == carriage_return)))
-
--- ---- what a call draws and where it leaves the cursor
+-- ---- a drawing, and where the cursor goes then
 
 -- window w with a drawing, and then with its cursor at a place
 abbrev pub drawn_to : Windows → ℕ → Drawing → Place → Windows
@@ -64,7 +55,7 @@ to_next_line windows w a place =
 abbrev pub next_line_frame : WindowMap → ℕ → Window → Option Rect
 next_line_frame window w a = if scrolls a then frame_of a (region_up window w a) else None
 
--- ---- addch
+-- ---- one character
 
 -- a character is printed at the cursor, which goes one column right, or from the last column to the next line
 abbrev pub character_printed : Windows → ℕ → ℕ → Window → Windows
@@ -102,55 +93,17 @@ typed_frame windows w character a =
     else if character == carriage_return || character == backspace then None
     else character_frame windows w character a
 
-abbrev pub addch_refusal : Windows → ℕ → ℕ → Option Refusal
-addch_refusal windows w character = first_of (
-    (is_missing windows.window w, NoSuchWindow)
-    ∷ (is_bad_character character, BadCharacter)
-    ∷ [])
+abbrev pub after_character : Windows → ℕ → ℕ → Windows
+after_character windows w character = if_there windows w (typed_in windows w character)
 
-abbrev pub after_addch : Windows → ℕ → ℕ → Windows
-after_addch windows w character = if_there windows w (typed_in windows w character)
+abbrev pub frame_of_character : Windows → ℕ → ℕ → Option Rect
+frame_of_character windows w character = frame_if_there windows w (typed_frame windows w character)
 
-abbrev pub addch_frame : Windows → ℕ → ℕ → Option Rect
-addch_frame windows w character = frame_if_there windows w (typed_frame windows w character)
+-- ---- the characters of a text, in order
 
--- ---- addstr: the characters of a text in order; no character of a refused text is written
+abbrev pub after_text : Windows → ℕ → List ℕ → Windows
+after_text windows w text = fold (λ before character. after_character before w character) windows text
 
-abbrev pub addstr_refusal : Windows → ℕ → List ℕ → Option Refusal
-addstr_refusal windows w text = first_of (
-    (is_missing windows.window w, NoSuchWindow)
-    ∷ (list_any is_bad_character text, BadCharacter)
-    ∷ [])
-
-abbrev pub after_addstr : Windows → ℕ → List ℕ → Windows
-after_addstr windows w text = fold (λ before character. after_addch before w character) windows text
-
-abbrev pub addstr_frame : Windows → ℕ → List ℕ → Option Rect
-addstr_frame windows w [] = None
-addstr_frame windows w (character ∷ text) = joined (addch_frame windows w character) (addstr_frame (after_addch windows w character) w text)
-
--- ---- insch, delch
-
-abbrev pub insch_refusal : Windows → ℕ → ℕ → Option Refusal
-insch_refusal windows w character = first_of (
-    (is_missing windows.window w, NoSuchWindow)
-    ∷ (not (is_printable character), BadCharacter)
-    ∷ [])
-
-abbrev pub insch_drawing : WindowMap → ℕ → ℕ → Window → Drawing
-insch_drawing window w character a = character_inserted window w a.settings.cursor (written_glyph a.settings character)
-
-abbrev pub after_insch : Windows → ℕ → ℕ → Windows
-after_insch windows w character = if_there windows w (λ a. put windows w (insch_drawing windows.window w character a))
-
-abbrev pub insch_frame : Windows → ℕ → ℕ → Option Rect
-insch_frame windows w character = frame_if_there windows w (λ a. frame_of a (insch_drawing windows.window w character a))
-
-abbrev pub delch_drawing : WindowMap → ℕ → Window → Drawing
-delch_drawing window w a = character_deleted window w a.settings.cursor (a.columns - 1) a.settings.background
-
-abbrev pub after_delch : Windows → ℕ → Windows
-after_delch windows w = if_there windows w (λ a. put windows w (delch_drawing windows.window w a))
-
-abbrev pub delch_frame : Windows → ℕ → Option Rect
-delch_frame windows w = frame_if_there windows w (λ a. frame_of a (delch_drawing windows.window w a))
+abbrev pub text_frame : Windows → ℕ → List ℕ → Option Rect
+text_frame windows w [] = None
+text_frame windows w (character ∷ text) = joined (frame_of_character windows w character) (text_frame (after_character windows w character) w text)

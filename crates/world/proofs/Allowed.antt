@@ -1,0 +1,115 @@
+-- What each effect wants of windows and panels, and that the tests of its call give it.
+use Rattle.std.proofs.Common.{◌≡◌, ◌⊎◌, ℕ, zero, suc, ◌+◌, ◌-◌, Bool, true, false, if◌then◌else◌, ◌==◌, ◌&&◌, ◌||◌, Option, Some, None, inl, inr, subst, ap, refl, sym, ◌∙◌}
+use Rattle.std.specs.Prelude.{MatchOption, is_none, not, unwrap_or, ⊤}
+use Rattle.cell.specs.Limits.{is_no_size}
+use Rattle.cell.specs.Refusals.{first_of}
+use Rattle.cell.specs.declared.limits.TheConstants.{LARGEST_PAD}
+use Rattle.cell.specs.declared.refusal.Refusal.{Refusal}
+use Rattle.world.specs.Windows.{Window, WindowMap, Windows, is_missing, window_limit}
+use Rattle.world.specs.Panels.{Panels, is_in_panel, standard_screen}
+use Rattle.world.specs.Sound.{AreSoundPanels, IsSoundPanel}
+use Rattle.world.specs.Effects.{Change, asks, deletes, edits, makes, marks, moves, shifts}
+use Rattle.world.specs.calls.Making.{columns_from, free_among, has_derived, has_no_parent, is_before, is_full, is_inside, is_no_pad, is_outside, is_pad, lines_from, making_change, making_refusal, new_number, part_tests}
+use Rattle.world.proofs.PanelLaws.{in_panel-some}
+use Rattle.world.specs.declared.call.Making.{Making}
+use Rattle.world.specs.declared.call.Making.TheVariants.{Newwin, Subwin, Derwin, Newpad, Subpad, Delwin, Mvwin, Mvderwin}
+
+-- a new window has a free number; one that is deleted or moved is in no panel, and is not the standard screen
+abbrev pub IsAllowed : Windows → Panels → Change → Type 0
+IsAllowed windows panels (asks reply) = ⊤
+IsAllowed windows panels (edits edit) = ⊤
+IsAllowed windows panels (marks test touched) = ⊤
+IsAllowed windows panels (makes n a) = windows.window n ≡ None
+IsAllowed windows panels (deletes w) = ((w == standard_screen) ≡ false) × (is_in_panel panels w ≡ false) × (has_derived windows.window w ≡ false)
+IsAllowed windows panels (moves w place) = ((w == standard_screen) ≡ false) × (is_in_panel panels w ≡ false)
+IsAllowed windows panels (shifts w place) = has_no_parent windows.window w ≡ false
+
+-- ---- refusals
+
+-- a call that isn't refused fails its first test, and isn't refused for the others
+pub passed : (test : Bool) (e : Refusal) (rest : Option Refusal) → (if test then Some e else rest) ≡ None → (test ≡ false) × (rest ≡ None)
+passed true e rest h = cc
+passed false e rest h = (refl, h)
+
+-- ---- a free number
+
+pub free-step : (a : Option Window) (k w : ℕ) (rest : Option ℕ) → (if is_none a then Some k else rest) ≡ Some w → ((k ≡ w) × (a ≡ None)) ⊎ (rest ≡ Some w)
+free-step None k w rest h = inl (cc, refl)
+free-step (Some a) k w rest h = inr h
+
+free-number : (n k : ℕ) (window : WindowMap) (w : ℕ) → free_among n k window ≡ Some w → window w ≡ None
+free-number zero k window w is = cc
+free-number (suc n) k window w is = elim (free-step (window k) k w (free_among n (k + 1) window) is) [
+  | inl both ↦ subst (λ (v : ℕ). window v ≡ None) both.0 both.1
+  | inr rest ↦ free-number n (k + 1) window w rest
+]
+
+next-free : (window : WindowMap) (o : Option ℕ) → new_number window ≡ o → is_none o ≡ false → window (unwrap_or o standard_screen) ≡ None
+next-free window None is full = cc
+next-free window (Some n) is full = free-number (window_limit - 1) 1 window n is
+
+-- ---- what panels have
+
+panel-sound : (window : WindowMap) (panels : Panels) (p u : ℕ) (o : Option ℕ) → o ≡ Some u → MatchOption o ⊤ (IsSoundPanel window panels p) → IsSoundPanel window panels p u
+panel-sound window panels p u None is h = cc
+panel-sound window panels p u (Some v) is h = let same : v ≡ u = cc in subst (λ (k : ℕ). IsSoundPanel window panels p k) same h
+
+pub sound-panel : (window : WindowMap) (panels : Panels) → AreSoundPanels window panels → (p u : ℕ) → panels.window p ≡ Some u → IsSoundPanel window panels p u
+sound-panel window panels sound p u is = panel-sound window panels p u (panels.window p) is (sound.each p)
+
+pub not-in-panel : (window : WindowMap) (panels : Panels) (w : ℕ) → AreSoundPanels window panels → is_in_panel panels w ≡ false
+    → (p u : ℕ) → panels.window p ≡ Some u → u ≡ w → ⊥
+not-in-panel window panels w sound none p u is same =
+    let panel = sound-panel window panels sound p u is in
+    let some = in_panel-some panels w p panel.number (is ∙ ap Some same) in
+    let never : true ≡ false = sym some ∙ none in
+    cc
+
+-- ---- the calls that make, move and delete
+
+-- a call that derives, and isn't refused, finds a free number
+part-full : (windows : Windows) (w nlines ncols y x : ℕ) → first_of (part_tests windows w nlines ncols y x) ≡ None → is_full windows.window ≡ false
+part-full windows w nlines ncols y x allowed =
+    let inside = passed (is_outside windows.window w nlines ncols y x) _ _ allowed in
+    (passed (is_full windows.window) _ _ inside.1).0
+
+pub allowed-making : (windows : Windows) (panels : Panels) (making : Making) → making_refusal windows (is_in_panel panels) making ≡ None
+    → IsAllowed windows panels (making_change windows making)
+allowed-making windows panels (Newwin nlines ncols line column) accepted =
+    let inside = passed (not (is_inside nlines windows.lines line && is_inside ncols windows.columns column)) _ _ accepted in
+    let full = passed (is_full windows.window) _ _ inside.1 in
+    next-free windows.window (new_number windows.window) refl full.0
+allowed-making windows panels (Subwin win nlines ncols line column) accepted =
+    let there = passed (is_missing windows.window win.0) _ _ accepted in
+    let pad = passed (is_pad windows.window win.0) _ _ there.1 in
+    let before = passed (is_before windows.window win.0 line column) _ _ pad.1 in
+    let full = part-full windows win.0 nlines ncols (lines_from windows.window win.0 line) (columns_from windows.window win.0 column) before.1 in
+    next-free windows.window (new_number windows.window) refl full
+allowed-making windows panels (Derwin win nlines ncols line column) accepted =
+    let there = passed (is_missing windows.window win.0) _ _ accepted in
+    let pad = passed (is_pad windows.window win.0) _ _ there.1 in
+    next-free windows.window (new_number windows.window) refl (part-full windows win.0 nlines ncols line column pad.1)
+allowed-making windows panels (Newpad nlines ncols) accepted =
+    let size = passed (is_no_size LARGEST_PAD nlines || is_no_size LARGEST_PAD ncols) _ _ accepted in
+    let full = passed (is_full windows.window) _ _ size.1 in
+    next-free windows.window (new_number windows.window) refl full.0
+allowed-making windows panels (Subpad pad nlines ncols line column) accepted =
+    let there = passed (is_missing windows.window pad.0) _ _ accepted in
+    let kind = passed (is_no_pad windows.window pad.0) _ _ there.1 in
+    next-free windows.window (new_number windows.window) refl (part-full windows pad.0 nlines ncols line column kind.1)
+allowed-making windows panels (Delwin win) accepted =
+    let there = passed _ _ _ accepted in
+    let other = passed (win.0 == standard_screen) _ _ there.1 in
+    let free = passed (is_in_panel panels win.0) _ _ other.1 in
+    let alone = passed (has_derived windows.window win.0) _ _ free.1 in
+    (other.0, free.0, alone.0)
+allowed-making windows panels (Mvwin win line column) accepted =
+    let there = passed _ _ _ accepted in
+    let other = passed (win.0 == standard_screen) _ _ there.1 in
+    let pad = passed _ _ _ other.1 in
+    let free = passed (is_in_panel panels win.0) _ _ pad.1 in
+    (other.0, free.0)
+allowed-making windows panels (Mvderwin win line column) accepted =
+    let there = passed _ _ _ accepted in
+    let derived = passed (has_no_parent windows.window win.0) _ _ there.1 in
+    derived.0

@@ -1,0 +1,266 @@
+-- What calls do, said once for each effect: a call is its tests and one of these effects.
+-- X/Open Curses Issue 7 and NetBSD panel(3) say what each call does; that so few effects make them all up is Curspan's own finding.
+use Rattle.std.specs.Prelude.{ℕ, Bool, true, false, if◌then◌else◌, ◌==◌, ◌||◌, Option, Some, None, List, [], ◌∷◌, ◌++◌, slice_set}
+use Rattle.std.specs.List.{list_any}
+use Rattle.std.specs.Option.{option_map, option_map_or}
+use Rattle.cell.specs.Pictures.{Picture, Place, picture_of, shown_at}
+use Rattle.cell.specs.Shown.{Pairs, Shown, shown}
+use Rattle.world.specs.Windows.{Backing, own_grid, part_of, Drawing, Window, WindowMap, Windows, changed, if_there, put, replaced}
+use Rattle.world.specs.Settings.{set}
+use Rattle.world.specs.Panels.{Panels, window_or_standard, windows_of_picture}
+use Rattle.world.specs.Frames.{frame_of}
+use Rattle.world.specs.Typing.{after_text, frame_if_there, text_frame}
+use Rattle.world.specs.World.{VirtualScreen, World, picture, topmost_cursor}
+use Rattle.cell.specs.declared.window.Rect.{Rect}
+use Rattle.world.specs.declared.call.Reply.{Reply}
+use Rattle.world.specs.declared.call.Reply.TheVariants.{Nothing, Number, Panel}
+use Rattle.world.specs.declared.settings.Columns.{Columns}
+use Rattle.world.specs.declared.settings.Settings.{Settings}
+
+-- ---- in a window
+
+-- sets: its settings. draws: one drawing, and then its settings, if they change. types: characters, in order.
+pub data Edit : Type 0 where
+  sets : ℕ → (Settings → Settings) → Edit
+  draws : ℕ → (Window → Drawing) → Option (Settings → Settings) → Edit
+  types : ℕ → List ℕ → Edit
+
+abbrev pub then_set : Windows → ℕ → Option (Settings → Settings) → Windows
+then_set windows w None = windows
+then_set windows w (Some change) = set windows w change
+
+abbrev pub after_edit : Windows → Edit → Windows
+after_edit windows (sets w change) = set windows w change
+after_edit windows (draws w drawing change) = if_there windows w (λ a. then_set (put windows w (drawing a)) w change)
+after_edit windows (types w text) = after_text windows w text
+
+-- the rectangle of a drawing in a window
+abbrev pub drawing_frame : Windows → ℕ → (Window → Drawing) → Option Rect
+drawing_frame windows w drawing = frame_if_there windows w (λ a. frame_of a (drawing a))
+
+-- the window, and the rectangle of it that is written
+abbrev pub edit_window : Edit → ℕ
+edit_window (sets w change) = w
+edit_window (draws w drawing change) = w
+edit_window (types w text) = w
+
+abbrev pub edit_frame : Windows → Edit → Option Rect
+edit_frame windows (sets w change) = None
+edit_frame windows (draws w drawing change) = drawing_frame windows w drawing
+edit_frame windows (types w text) = text_frame windows w text
+
+-- ---- on windows
+
+-- asks: nothing changes, and there is an answer. edits: as above. marks: what is touched of the windows that pass a test. makes: a window or
+-- pad under a number. deletes: a window. moves: a window to a place of the screen. shifts: a derived window to another part of its parent, from
+-- an offset on.
+pub data Change : Type 0 where
+  asks : Reply → Change
+  edits : Edit → Change
+  marks : (ℕ → Bool) → (ℕ → Window → ℕ → Option Columns) → Change
+  makes : ℕ → Option Window → Change
+  deletes : ℕ → Change
+  moves : ℕ → Place → Change
+  shifts : ℕ → Place → Change
+
+abbrev pub with_touched : (Window → ℕ → Option Columns) → Window → Window
+with_touched touched a = record a { touched = touched a }
+
+abbrev pub marked : Windows → (ℕ → Bool) → (ℕ → Window → ℕ → Option Columns) → Windows
+marked windows test touched = record windows { window = λ u. if test u then option_map (with_touched (touched u)) (windows.window u) else windows.window u }
+
+-- another window, or none, under the number n
+abbrev pub numbered : Windows → ℕ → Option Window → Windows
+numbered windows n a = record windows { window = replaced windows.window n a }
+
+abbrev pub with_place : Place → Window → Window
+with_place place a = record a { place = Some place }
+
+abbrev pub moved_to : Windows → ℕ → Place → Windows
+moved_to windows w place = record windows { window = changed windows.window w (with_place place) }
+
+abbrev pub with_offset : Place → Backing → Backing
+with_offset place (own_grid cells) = own_grid cells
+with_offset place (part_of parent line column) = part_of parent place.0 place.1
+
+abbrev pub with_part : Place → Window → Window
+with_part place a = record a { backing = with_offset place a.backing }
+
+abbrev pub shifted_to : Windows → ℕ → Place → Windows
+shifted_to windows w place = record windows { window = changed windows.window w (with_part place) }
+
+abbrev pub after_change : Windows → Change → Windows
+after_change windows (asks reply) = windows
+after_change windows (edits edit) = after_edit windows edit
+after_change windows (marks test touched) = marked windows test touched
+after_change windows (makes n a) = numbered windows n a
+after_change windows (deletes w) = numbered windows w None
+after_change windows (moves w place) = moved_to windows w place
+after_change windows (shifts w place) = shifted_to windows w place
+
+abbrev pub change_frame : Windows → Change → Option Rect
+change_frame windows (asks reply) = None
+change_frame windows (edits edit) = edit_frame windows edit
+change_frame windows (marks test touched) = None
+change_frame windows (makes n a) = None
+change_frame windows (deletes w) = None
+change_frame windows (moves w place) = None
+change_frame windows (shifts w place) = None
+
+abbrev pub change_reply : Change → Reply
+change_reply (asks reply) = reply
+change_reply (edits edit) = Nothing
+change_reply (marks test touched) = Nothing
+change_reply (makes n a) = Number (record { 0 = n })
+change_reply (deletes w) = Nothing
+change_reply (moves w place) = Nothing
+change_reply (shifts w place) = Nothing
+
+abbrev pub change_takes_memory : Change → Bool
+change_takes_memory (asks reply) = false
+change_takes_memory (edits edit) = false
+change_takes_memory (marks test touched) = false
+change_takes_memory (makes n a) = true
+change_takes_memory (deletes w) = false
+change_takes_memory (moves w place) = false
+change_takes_memory (shifts w place) = false
+
+-- ---- on panels
+
+-- changes: as above, and no panel changes. adds: a panel of a window, on top. orders: one panel is put elsewhere in the order, hidden, taken
+-- out or given a window. carries: the window of a panel, to a place of the screen.
+pub data Order : Type 0 where
+  changes : Change → Order
+  adds : ℕ → ℕ → Order
+  orders : ℕ → Panels → Order
+  carries : ℕ → Place → Order
+
+abbrev pub windows_after : Windows → Panels → Order → Windows
+windows_after windows panels (changes change) = after_change windows change
+windows_after windows panels (adds p w) = windows
+windows_after windows panels (orders p order) = windows
+windows_after windows panels (carries p place) = moved_to windows (window_or_standard panels (Some p)) place
+
+-- another window, or none, for the panel p
+abbrev pub given : (ℕ → Option ℕ) → ℕ → Option ℕ → ℕ → Option ℕ
+given window p w q = if q == p then w else window q
+
+abbrev pub with_panel : Panels → ℕ → ℕ → Panels
+with_panel panels p w = record { visible = panels.visible ++ p ∷ []; window = given panels.window p (Some w) }
+
+abbrev pub panels_after : Panels → Order → Panels
+panels_after panels (changes change) = panels
+panels_after panels (adds p w) = with_panel panels p w
+panels_after panels (orders p order) = order
+panels_after panels (carries p place) = panels
+
+abbrev pub order_frame : Windows → Order → Option Rect
+order_frame windows (changes change) = change_frame windows change
+order_frame windows (adds p w) = None
+order_frame windows (orders p order) = None
+order_frame windows (carries p place) = None
+
+abbrev pub order_reply : Order → Reply
+order_reply (changes change) = change_reply change
+order_reply (adds p w) = Panel (Some (record { 0 = p }))
+order_reply (orders p order) = Nothing
+order_reply (carries p place) = Nothing
+
+abbrev pub order_takes_memory : Order → Bool
+order_takes_memory (changes change) = change_takes_memory change
+order_takes_memory (adds p w) = true
+order_takes_memory (orders p order) = false
+order_takes_memory (carries p place) = false
+
+-- ---- on the world
+
+-- arranges: as above, and the virtual screen stays. refreshes: a drawing is laid over the virtual screen, which takes a cursor, and the lines
+-- of a window that pass a test are untouched. composes: the virtual screen is the picture of the world. shows: it was sent, and the terminal
+-- needn't be cleared any more. colours: those of a pair.
+pub data Effect : Type 0 where
+  arranges : Order → Effect
+  refreshes : ℕ → (ℕ → Bool) → Drawing → Place → Effect
+  composes : Effect
+  shows : Effect
+  colours : ℕ → ℕ → ℕ → Effect
+
+-- Some lines of a window are untouched, and it doesn't ask for a clear screen any more.
+abbrev pub unmarked_lines : (ℕ → Bool) → Window → Window
+unmarked_lines test a = record a { touched = λ y. if test y then None else a.touched y; settings = record a.settings { clear = false } }
+
+-- all lines
+abbrev pub unmarked : Window → Window
+unmarked a = unmarked_lines (λ y. true) a
+
+-- the windows of a list, unmarked
+abbrev pub with_unmarked : WindowMap → List ℕ → WindowMap
+with_unmarked window ws u = if list_any (λ w. w == u) ws then option_map unmarked (window u) else window u
+
+abbrev pub asks_for_clear : WindowMap → ℕ → Bool
+asks_for_clear window w = option_map_or (λ a. a.settings.clear) (window w) false
+
+-- a picture with a drawing laid over it, in the colours that the pairs of its cells have
+abbrev pub shown_over : Pairs → Picture → Drawing → ℕ → ℕ → Shown
+shown_over pairs picture f y x = option_map_or (shown pairs) (f y x) (shown_at picture (y, x))
+
+-- the virtual screen with a drawing of window w laid over it, and this cursor; it is to be cleared too if the window asks for that
+abbrev pub virtual_with : World → ℕ → Drawing → Place → VirtualScreen
+virtual_with world w f cursor = record {
+  picture = picture_of world.windows.lines world.windows.columns (shown_over world.pairs world.virtual.picture f);
+  cursor = cursor;
+  clear = world.virtual.clear || asks_for_clear world.windows.window w;
+}
+
+-- the windows that make up the picture
+abbrev pub composed_windows : World → List ℕ
+composed_windows world = windows_of_picture world.panels
+
+-- the picture of the world, with the topmost's cursor
+abbrev pub virtual_composed : World → VirtualScreen
+virtual_composed world = record {
+  picture = picture_of world.windows.lines world.windows.columns (picture world);
+  cursor = topmost_cursor world;
+  clear = world.virtual.clear || list_any (asks_for_clear world.windows.window) (composed_windows world);
+}
+
+abbrev pub with_colours : Pairs → ℕ → ℕ → ℕ → Pairs
+with_colours pairs pair foreground background =
+    slice_set pairs pair (record { foreground = Some foreground; background = Some background })
+
+abbrev pub after : World → Effect → World
+after world (arranges order) = record world {
+  windows = windows_after world.windows world.panels order;
+  panels = panels_after world.panels order;
+}
+after world (refreshes w test drawing cursor) = record world {
+  windows = record world.windows { window = changed world.windows.window w (unmarked_lines test) };
+  virtual = virtual_with world w drawing cursor;
+}
+after world composes = record world {
+  windows = record world.windows { window = with_unmarked world.windows.window (composed_windows world) };
+  virtual = virtual_composed world;
+}
+after world shows = record world { virtual = record world.virtual { clear = false } }
+after world (colours pair foreground background) = record world { pairs = with_colours world.pairs pair foreground background }
+
+abbrev pub effect_frame : Windows → Effect → Option Rect
+effect_frame windows (arranges order) = order_frame windows order
+effect_frame windows (refreshes w test drawing cursor) = None
+effect_frame windows composes = None
+effect_frame windows shows = None
+effect_frame windows (colours pair foreground background) = None
+
+-- what an effect answers but those that compose and show
+abbrev pub effect_reply : Effect → Reply
+effect_reply (arranges order) = order_reply order
+effect_reply (refreshes w test drawing cursor) = Nothing
+effect_reply composes = Nothing
+effect_reply shows = Nothing
+effect_reply (colours pair foreground background) = Nothing
+
+abbrev pub effect_takes_memory : Effect → Bool
+effect_takes_memory (arranges order) = order_takes_memory order
+effect_takes_memory (refreshes w test drawing cursor) = false
+effect_takes_memory composes = false
+effect_takes_memory shows = false
+effect_takes_memory (colours pair foreground background) = false

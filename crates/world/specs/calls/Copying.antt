@@ -1,0 +1,136 @@
+-- The calls that copy cells from window to window, and those on what is touched of a window: each with its tests and its effect.
+-- X/Open Curses Issue 7: overlay, overwrite, copywin, touchwin, untouchwin, touchline, wtouchln, wsyncup, wsyncdown, is_linetouched,
+-- is_wintouched. The order of the tests is Curspan's own choice, and that 0 lines still want their line to be there.
+-- A copy is one write, whose drawing has the cells of the source as they are before it: also where source and destination share cells.
+use Rattle.std.specs.Prelude.{ℕ, ◌+◌, ◌-◌, Bool, true, false, not, if◌then◌else◌, ◌==◌, nat_lt, nat_le, ◌&&◌, ◌||◌, Option, Some, None, is_some, List, [], ◌∷◌}
+use Rattle.std.specs.List.{list_any}
+use Rattle.std.specs.Option.{option_map_or}
+use Rattle.cell.specs.Refusals.{first_of}
+use Rattle.world.specs.Windows.{Drawing, Window, WindowMap, Windows, ancestors, any_below, cell_at, derives, is_missing, touched_below}
+use Rattle.world.specs.Panels.{cell_on_screen, holds, place_of}
+use Rattle.world.specs.Rows.{overlaid}
+use Rattle.world.specs.Sharing.{shows_part_of}
+use Rattle.world.specs.Effects.{Change, asks, edits, draws, marks, after_change, change_frame}
+use Rattle.world.specs.calls.Making.{is_pad}
+use Rattle.world.specs.calls.Missing.{missing}
+use Rattle.world.specs.calls.Writing.{lacks_place}
+use Rattle.cell.specs.declared.window.Rect.{Rect}
+use Rattle.cell.specs.declared.refusal.Refusal.{Refusal}
+use Rattle.cell.specs.declared.refusal.Refusal.TheVariants.{NoSuchWindow, OutsideWindow, IsPad, BadRectangle}
+use Rattle.world.specs.declared.call.Copying.{Copying}
+use Rattle.world.specs.declared.call.Copying.TheVariants.{Overlay, Overwrite, Copywin, Touchwin, Untouchwin, Touchline, Touchln, Syncup, Syncdown, IsLinetouched, IsWintouched}
+use Rattle.world.specs.declared.call.Reply.TheVariants.{Flag}
+use Rattle.world.specs.declared.settings.Columns.{Columns}
+
+-- ---- what is copied: all cells, or all but the spaces
+
+-- so many lines and columns of window src, from (sy, sx) on, for those from (dy, dx) on
+abbrev pub rectangle_copied : WindowMap → ℕ → ℕ → ℕ → ℕ → ℕ → ℕ → ℕ → Bool → Drawing
+rectangle_copied window src sy sx dy dx lines columns overlay y x =
+    if (nat_le dy y && nat_lt y (dy + lines)) && (nat_le dx x && nat_lt x (dx + columns)) then overlaid overlay (cell_at window src (sy + (y - dy)) (sx + (x - dx))) else None
+
+-- the cells of window src, for the places of window dst at which both cover the screen
+abbrev pub common_copied : WindowMap → ℕ → ℕ → Bool → Drawing
+common_copied window src dst overlay y x =
+    let line = (place_of window dst).0 + y in
+    let column = (place_of window dst).1 + x in
+    if holds window src line column then overlaid overlay (cell_on_screen window src line column) else None
+
+-- the rectangle of window src for one of another, both ends inclusive
+abbrev pub copywin_drawing : WindowMap → ℕ → ℕ → ℕ → ℕ → ℕ → ℕ → ℕ → Bool → Drawing
+copywin_drawing window src sy sx top left bottom right overlay =
+    rectangle_copied window src sy sx top left (bottom - top + 1) (right - left + 1) overlay
+
+-- ---- what is touched
+
+-- n lines from a first one on are touched from their first column to their last, or not touched
+abbrev pub lines_marked : ℕ → ℕ → Bool → Window → ℕ → Option Columns
+lines_marked first n flag a y =
+    if nat_le first y && nat_lt y (first + n) then (if flag then Some (record { first = 0; last = a.columns - 1 }) else None) else a.touched y
+
+-- all lines
+abbrev pub all_marked : Bool → Window → ℕ → Option Columns
+all_marked flag a = lines_marked 0 a.lines flag a
+
+-- the columns of a line, as a rectangle
+abbrev pub in_line : ℕ → Columns → Rect
+in_line y r = record { top = y; left = r.first; bottom = y; right = r.last }
+
+-- window u shows at (y, x) a cell that window w shows in the touched columns of one of its lines
+abbrev pub shows_touched_of : WindowMap → ℕ → ℕ → ℕ → ℕ → Bool
+shows_touched_of window w u y x =
+    option_map_or (λ a. any_below a.lines (λ v. option_map_or (λ r. shows_part_of window w (in_line v r) u y x) (a.touched v) false)) (window w) false
+
+-- the places of a window that pass a test are touched too
+abbrev pub touching : (ℕ → ℕ → Bool) → Window → ℕ → Option Columns
+touching test a y = if nat_lt y a.lines then touched_below a.columns (test y) (a.touched y) else a.touched y
+
+-- a window is touched where it shows what is touched of an ancestor
+abbrev pub shows_touched_of_ancestor : WindowMap → ℕ → ℕ → ℕ → Bool
+shows_touched_of_ancestor window w y x = list_any (λ u. shows_touched_of window u w y x) (ancestors window w)
+
+abbrev pub is_linetouched : WindowMap → ℕ → ℕ → Bool
+is_linetouched window w y = option_map_or (λ a. is_some (a.touched y)) (window w) false
+
+abbrev pub is_wintouched : WindowMap → ℕ → Bool
+is_wintouched window w = option_map_or (λ a. any_below a.lines (λ y. is_some (a.touched y))) (window w) false
+
+-- ---- tests
+
+-- the first line isn't in the window, or the last isn't
+abbrev pub lacks_lines : WindowMap → ℕ → ℕ → ℕ → Bool
+lacks_lines window w first n = option_map_or (λ a. not (nat_lt first a.lines && nat_le (first + n) a.lines)) (window w) false
+
+abbrev pub overlay_tests : Windows → ℕ → ℕ → List (Bool × Refusal)
+overlay_tests windows src dst =
+    (is_missing windows.window src || is_missing windows.window dst, NoSuchWindow)
+    ∷ (is_pad windows.window src || is_pad windows.window dst, IsPad)
+    ∷ []
+
+-- the rectangle of the destination has its last line or column before its first; or it isn't in its window, or the source's isn't
+abbrev pub copywin_tests : Windows → ℕ → ℕ → ℕ → ℕ → ℕ → ℕ → ℕ → ℕ → List (Bool × Refusal)
+copywin_tests windows src dst sy sx top left bottom right =
+    (is_missing windows.window src || is_missing windows.window dst, NoSuchWindow)
+    ∷ (nat_lt bottom top || nat_lt right left, BadRectangle)
+    ∷ (lacks_place windows.window dst bottom right || lacks_place windows.window src (sy + (bottom - top)) (sx + (right - left)), OutsideWindow)
+    ∷ []
+
+abbrev pub copying_tests : Windows → Copying → List (Bool × Refusal)
+copying_tests windows (Overlay src dst) = overlay_tests windows src.0 dst.0
+copying_tests windows (Overwrite src dst) = overlay_tests windows src.0 dst.0
+copying_tests windows (Copywin src dst sminrow smincol dminrow dmincol dmaxrow dmaxcol overlay) =
+    copywin_tests windows src.0 dst.0 sminrow smincol dminrow dmincol dmaxrow dmaxcol
+copying_tests windows (Touchwin win) = missing windows win.0 ∷ []
+copying_tests windows (Untouchwin win) = missing windows win.0 ∷ []
+copying_tests windows (Touchline win y n) = missing windows win.0 ∷ (lacks_lines windows.window win.0 y n, OutsideWindow) ∷ []
+copying_tests windows (Touchln win y n flag) = missing windows win.0 ∷ (lacks_lines windows.window win.0 y n, OutsideWindow) ∷ []
+copying_tests windows (Syncup win) = missing windows win.0 ∷ []
+copying_tests windows (Syncdown win) = missing windows win.0 ∷ []
+copying_tests windows (IsLinetouched win y) = missing windows win.0 ∷ (lacks_lines windows.window win.0 y 0, OutsideWindow) ∷ []
+copying_tests windows (IsWintouched win) = missing windows win.0 ∷ []
+
+-- ---- effects
+
+-- a copy is a drawing in its destination
+abbrev pub copying_change : Windows → Copying → Change
+copying_change windows (Overlay src dst) = edits (draws dst.0 (λ a. common_copied windows.window src.0 dst.0 true) None)
+copying_change windows (Overwrite src dst) = edits (draws dst.0 (λ a. common_copied windows.window src.0 dst.0 false) None)
+copying_change windows (Copywin src dst sminrow smincol dminrow dmincol dmaxrow dmaxcol overlay) =
+    edits (draws dst.0 (λ a. copywin_drawing windows.window src.0 sminrow smincol dminrow dmincol dmaxrow dmaxcol overlay) None)
+copying_change windows (Touchwin win) = marks (λ u. u == win.0) (λ u. all_marked true)
+copying_change windows (Untouchwin win) = marks (λ u. u == win.0) (λ u. all_marked false)
+copying_change windows (Touchline win y n) = marks (λ u. u == win.0) (λ u. lines_marked y n true)
+copying_change windows (Touchln win y n flag) = marks (λ u. u == win.0) (λ u. lines_marked y n flag)
+copying_change windows (Syncup win) = marks (λ u. derives windows.window u win.0) (λ u. touching (shows_touched_of windows.window win.0 u))
+copying_change windows (Syncdown win) = marks (λ u. u == win.0) (λ u. touching (shows_touched_of_ancestor windows.window win.0))
+copying_change windows (IsLinetouched win y) = asks (Flag (is_linetouched windows.window win.0 y))
+copying_change windows (IsWintouched win) = asks (Flag (is_wintouched windows.window win.0))
+
+abbrev pub copying_refusal : Windows → Copying → Option Refusal
+copying_refusal windows copying = first_of (copying_tests windows copying)
+
+abbrev pub after_copying : Windows → Copying → Windows
+after_copying windows copying = after_change windows (copying_change windows copying)
+
+abbrev pub copying_frame : Windows → Copying → Option Rect
+copying_frame windows copying = change_frame windows (copying_change windows copying)

@@ -1,3 +1,0 @@
-pub mod Characters
-pub mod Editing
-pub mod Options
