@@ -14,11 +14,12 @@ use Rattle.world.specs.Panels.{first_panels}
 use Rattle.world.specs.Windows.{Drawing, window_limit}
 use Rattle.world.specs.World.{VirtualScreen, World, first_world, picture}
 use Rattle.world.specs.Sound.{AreColumnsWithin, AreSoundWindows, IsSound}
-use Rattle.world.specs.declared.settings.Columns.{Columns}
-use Rattle.world.specs.calls.Copies.{copywin_drawing}
+use Rattle.world.specs.calls.Copying.{copywin_drawing}
 use Rattle.world.specs.calls.Dispatch.{after_stacking, is_update_panels, refusal, world_after}
 use Rattle.world.specs.calls.Affected.{affects_place}
-use Rattle.world.specs.calls.Refresh.{shown_over, touched_cells}
+use Rattle.world.specs.Effects.{shown_over}
+use Rattle.world.specs.calls.Refresh.{touched_cells}
+use Rattle.world.specs.declared.settings.Columns.{Columns}
 use Rattle.world.specs.declared.call.Call.{Call}
 use Rattle.world.specs.declared.call.Call.TheVariants as calls
 use Rattle.world.specs.declared.call.Stacking.{Stacking}

@@ -10,6 +10,8 @@ use Rattle.world.specs.Windows.{Window, Windows}
 use Rattle.world.specs.Panels.{Panels, is_in_panel, first_panels, standard_screen}
 use Rattle.world.specs.World.{VirtualScreen, World, first_world}
 use Rattle.world.specs.Sound.{AreSoundPanels, AreSoundWindows, IsSound, IsSoundPanel}
+use Rattle.world.specs.calls.Making.{after_making, making_refusal, delwin_refusal, has_derived}
+use Rattle.world.specs.calls.Dispatch.{refusal, takes_memory, world_after}
 use Rattle.cell.specs.declared.refusal.Refusal.{Refusal}
 use Rattle.cell.specs.declared.refusal.Refusal.TheVariants.{HasDerived, InPanel, NoMemory, NoSuchWindow, StandardScreen}
 use Rattle.cell.specs.declared.window.WinId.{WinId}
@@ -17,8 +19,6 @@ use Rattle.grids.specs.Tables.{WindowTable, windows}
 use Rattle.stack.specs.Tables.{PanelTable, panels}
 use Rattle.world.specs.declared.settings.Columns.{Columns}
 use Rattle.compose.specs.Desks.{DeskTable, is_damaged_line, world}
-use Rattle.world.specs.calls.Dispatch.{after_making, making_refusal, refusal, takes_memory, world_after}
-use Rattle.world.specs.calls.Making.{delwin_refusal, has_derived}
 use Rattle.compose.specs.Calling.{Called, DamagesFew, MayLeave, MayRefuse, MayTell}
 use Rattle.world.specs.declared.call.Call.{Call}
 use Rattle.world.specs.declared.call.Call.TheVariants as calls

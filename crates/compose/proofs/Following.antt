@@ -6,8 +6,8 @@ use Rattle.std.specs.Option.{option_map_or}
 use mathlib.Core.Path.{fun_ext}
 use Rattle.world.specs.Panels.{Panels, holds_place, windows_from_top}
 use Rattle.world.specs.Windows.{Backing, own_grid, part_of, Window, WindowMap, Windows, ancestors_within, derives, parent_number, parent_of, window_limit}
-use Rattle.world.specs.calls.Dispatch.{after_making}
-use Rattle.world.specs.calls.Making.{after_mvderwin, with_part}
+use Rattle.world.specs.calls.Making.{after_making, after_mvderwin}
+use Rattle.world.specs.Effects.{with_part}
 use Rattle.world.specs.calls.Affected.{follows_at, making_shows_at, move_shows_at}
 use Rattle.world.specs.declared.call.Making.{Making}
 use Rattle.world.specs.declared.call.Making.TheVariants.{Newwin, Subwin, Derwin, Newpad, Subpad, Delwin, Mvwin, Mvderwin}

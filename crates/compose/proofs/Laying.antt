@@ -7,7 +7,7 @@ use Rattle.cell.specs.Pictures.{Picture, HasSize, picture_of, shown_at}
 use Rattle.cell.specs.Shown.{Pairs, Shown, shown, shown_blank}
 use Rattle.cell.proofs.PictureLemmas.{HasSize-lines_from, cell_or-lines_from, same_pictures}
 use Rattle.world.specs.Windows.{Drawing}
-use Rattle.world.specs.calls.Refresh.{shown_over}
+use Rattle.world.specs.Effects.{shown_over}
 
 -- the drawing has no cell on line y
 abbrev pub IsBare : Drawing → ℕ → ℕ → Type 0

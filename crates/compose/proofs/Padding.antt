@@ -3,7 +3,7 @@ use Rattle.std.proofs.Common.{◌≡◌, ℕ, ◌+◌, ◌-◌, ◌<◌, ◌≤�
 use Rattle.std.proofs.lemmas.Bool.{and_from, and_parts, cases_lt, leb-true, le-leb, lt-ltb, ltb-true}
 use Rattle.cell.specs.declared.window.Rect.{Rect}
 use Rattle.world.specs.Windows.{Windows, cell_at}
-use Rattle.world.specs.calls.Copies.{copywin_drawing}
+use Rattle.world.specs.calls.Copying.{copywin_drawing}
 use Rattle.picture.specs.Parts.{frame_has_line, frame_holds}
 use Rattle.picture.proofs.Held.{held-between}
 use Rattle.compose.proofs.Pieces.{IsOfPad, pad-above, pad-below, pad-piece}

@@ -9,13 +9,13 @@ use Rattle.cell.specs.Pictures.{Place, origin}
 use Rattle.cell.specs.declared.limits.TheConstants.{LARGEST_PAD, LARGEST_SCREEN}
 use Rattle.world.specs.Windows.{HasPlace, Window, Windows, cell_at}
 use Rattle.world.specs.Sound.{AreColumnsWithin, AreSoundWindows, IsSoundWindow}
-use Rattle.cell.specs.Refusals.{first_of}
-use Rattle.cell.specs.declared.refusal.Refusal.TheVariants.{BadRectangle, NoSuchWindow, NotPad, OffScreen, OutsideWindow}
-use Rattle.world.specs.calls.Copies.{copywin_drawing}
+use Rattle.world.specs.calls.Copying.{copywin_drawing}
 use Rattle.world.specs.calls.Making.{is_pad}
-use Rattle.world.specs.calls.writing.Options.{lacks_place}
+use Rattle.world.specs.calls.Writing.{lacks_place}
 use Rattle.world.specs.calls.Queries.{touched_columns}
 use Rattle.world.specs.calls.Refresh.{among, is_beyond, pnoutrefresh_refusal, touched_cells}
+use Rattle.cell.specs.Refusals.{first_of}
+use Rattle.cell.specs.declared.refusal.Refusal.TheVariants.{BadRectangle, NoSuchWindow, NotPad, OffScreen, OutsideWindow}
 use Rattle.world.specs.declared.settings.Columns.{Columns}
 use Rattle.picture.proofs.Standing.{StandsAt}
 use Rattle.compose.proofs.Laying.{HasPiece, IsBare}

@@ -9,7 +9,8 @@ use Rattle.cell.specs.declared.refusal.Refusal.TheVariants.{NoSuchWindow, Standa
 use Rattle.world.specs.Windows.{Window, WindowMap}
 use Rattle.world.specs.Panels.{Panels, standard_screen}
 use Rattle.world.specs.Sound.{AreSoundPanels, IsSoundPanel}
-use Rattle.world.specs.calls.Stacking.{IsSoundEntry, IsSoundOrder, after_del_panel, after_new_panel, after_replace_panel, given, window_tests}
+use Rattle.world.specs.calls.Stacking.{IsSoundEntry, IsSoundOrder, after_del_panel, after_new_panel, after_replace_panel, window_tests}
+use Rattle.world.specs.Effects.{given}
 use Rattle.world.specs.declared.panel.PanelId.{PanelId}
 use Rattle.stack.specs.Tables.{PanelTable, panels}
 

@@ -5,9 +5,10 @@ use Rattle.std.specs.Option.{option_map}
 use Rattle.std.specs.List.{list_any}
 use mathlib.Core.Path.{fun_ext}
 use Rattle.world.specs.Windows.{Window, WindowMap, Windows}
-use Rattle.world.specs.calls.Marks.{after_touchln, lines_marked}
+use Rattle.world.specs.calls.Marks.{after_touchln}
+use Rattle.world.specs.calls.Copying.{lines_marked}
 use Rattle.world.specs.calls.Missing.{missing_refusal}
-use Rattle.world.specs.calls.Refresh.{unmarked, with_unmarked}
+use Rattle.world.specs.Effects.{unmarked, with_unmarked}
 use Rattle.cell.specs.Refusals.{first_of}
 use Rattle.cell.specs.declared.refusal.Refusal.TheVariants.{NoSuchWindow}
 use Rattle.windows.proofs.Erased.{none-if}

@@ -5,8 +5,9 @@ use Rattle.cell.specs.declared.window.Rect.{Rect}
 use Rattle.cell.specs.declared.window.WinId.{WinId}
 use Rattle.world.specs.Panels.{Panels}
 use Rattle.world.specs.Windows.{HasPlace, WindowMap, Windows}
-use Rattle.world.specs.calls.Written.{copied_window, copying_frame, writing_frame, written_window}
-use Rattle.world.specs.calls.Dispatch.{after_copying, after_writing}
+use Rattle.world.specs.calls.Written.{copied_window, written_window}
+use Rattle.world.specs.calls.Copying.{copying_frame, after_copying}
+use Rattle.world.specs.calls.Writing.{writing_frame, after_writing}
 use Rattle.world.specs.calls.Affected.{frame_shows_at}
 use Rattle.world.specs.declared.call.Copying.{Copying}
 use Rattle.world.specs.declared.call.Writing.{Writing}

@@ -3,8 +3,8 @@
 ghost use Rattle.std.specs.Prelude.{◌≡◌, Some, IfOk, OnOk, OnErr, false};
 ghost use Rattle.std.specs.Result.{result_err};
 ghost use Rattle.cell.specs.Refusals.{RefusedBy};
-ghost use Rattle.world.specs.calls.Stacking.{after_bottom_panel, after_del_panel, after_hide_panel, after_move_panel, after_new_panel, after_replace_panel, after_show_panel, after_top_panel, hidden_panel_refusal, is_hidden, missing_panel_refusal, move_panel_refusal, neighbour_refusal, new_panel_number, new_panel_refusal, panel_above, panel_below, panel_number, replace_panel_refusal};
-ghost use Rattle.world.specs.calls.Dispatch.{after_stacking, makes_panel, stacking_refusal, stacking_reply};
+ghost use Rattle.world.specs.calls.Stacking.{after_bottom_panel, after_del_panel, after_hide_panel, after_move_panel, after_new_panel, after_replace_panel, after_show_panel, after_top_panel, hidden_panel_refusal, is_hidden, missing_panel_refusal, move_panel_refusal, neighbour_refusal, new_panel_number, new_panel_refusal, panel_above, panel_below, panel_number, replace_panel_refusal, stacking_refusal};
+ghost use Rattle.world.specs.calls.Dispatch.{after_stacking, makes_panel, stacking_reply};
 ghost use Rattle.world.specs.declared.call.Call.{Call};
 ghost use Rattle.world.specs.declared.call.Stacking.{Stacking};
 ghost use Rattle.compose.specs.Calling.{DamagesFew};

@@ -10,10 +10,10 @@ use Rattle.cell.specs.declared.refusal.Refusal.TheVariants.{InPanel, IsPad, NoSu
 use Rattle.streams.specs.Sinks.{Seen}
 use Rattle.world.specs.Panels.{Panels, is_in_panel, standard_screen}
 use Rattle.world.specs.Windows.{Backing, own_grid, part_of, Window, Windows}
-use Rattle.world.specs.calls.Dispatch.{copying_reply, makes_window, query_refusal, query_reply, refusal, stacking_refusal, stacking_reply}
+use Rattle.world.specs.calls.Dispatch.{copying_reply, makes_window, refusal, stacking_reply}
+use Rattle.world.specs.calls.Queries.{query_refusal, query_reply, offset_of}
+use Rattle.world.specs.calls.Stacking.{stacking_refusal, new_panel_number, numbered_panel}
 use Rattle.world.specs.calls.Making.{is_own, is_pad}
-use Rattle.world.specs.calls.Queries.{offset_of}
-use Rattle.world.specs.calls.Stacking.{new_panel_number, numbered_panel}
 use Rattle.world.specs.declared.call.Call.{Call}
 use Rattle.world.specs.declared.call.Call.TheVariants as calls
 use Rattle.world.specs.declared.call.Copying.{Copying}

@@ -9,8 +9,9 @@ use Rattle.cell.specs.declared.refusal.Refusal.{Refusal}
 use Rattle.world.specs.Windows.{Windows}
 use Rattle.world.specs.Panels.{Panels}
 use Rattle.world.specs.calls.Affected.{owed}
-use Rattle.world.specs.calls.Dispatch.{copying_reply, is_update_panels, makes_window, next_window, pair, query_reply, stacking_reply}
-use Rattle.world.specs.calls.Queries.{cell_at_cursor, cursor_of, offset_in_parent, place_on_screen, window_size}
+use Rattle.world.specs.calls.Dispatch.{copying_reply, is_update_panels, makes_window, stacking_reply}
+use Rattle.world.specs.calls.Making.{next_window}
+use Rattle.world.specs.calls.Queries.{pair, query_reply, cell_at_cursor, cursor_of, offset_in_parent, place_on_screen, window_size}
 use Rattle.desk.specs.States.{State}
 use Rattle.desk.specs.Runs.{MayAnswer, Outcome, Run, cells_of_answer, cells_of_reply, cells_read, state_after}
 use Rattle.desk.specs.Reads.{ReadsFew, redrawn, with_acceptance}

@@ -5,7 +5,8 @@ use Rattle.std.specs.Prelude.{⊤, MatchOption}
 use Rattle.cell.specs.Shown.{shown, shown_blank}
 use Rattle.cell.specs.Pictures.{HasSize}
 use Rattle.world.specs.World.{World, picture}
-use Rattle.world.specs.calls.Refresh.{after_update_panels, after_doupdate, composed_windows}
+use Rattle.world.specs.calls.Refresh.{after_update_panels, after_doupdate}
+use Rattle.world.specs.Effects.{composed_windows}
 use Rattle.cell.specs.declared.refusal.Refusal.{Refusal}
 use Rattle.desk.proofs.WriterLemmas.{Writes-refused, never-refused}
 use Rattle.cell.proofs.PictureLemmas.{HasSize-lines_from, cell_or-lines_from}

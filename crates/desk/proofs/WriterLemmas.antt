@@ -9,7 +9,8 @@ use Rattle.streams.specs.Sinks.{Seen}
 use Rattle.streams.specs.declared.sending.WriteFault.{WriteFault}
 use Rattle.paint.specs.Updates.{BreaksOff, Updates}
 use Rattle.world.specs.World.{World}
-use Rattle.world.specs.calls.Dispatch.{is_doupdate, refresh_refusal, world_after}
+use Rattle.world.specs.calls.Dispatch.{is_doupdate, world_after}
+use Rattle.world.specs.calls.Refresh.{refresh_refusal}
 use Rattle.world.specs.declared.call.Call.{Call}
 use Rattle.world.specs.declared.call.Call.TheVariants as calls
 use Rattle.world.specs.declared.call.Refresh.{Refresh}

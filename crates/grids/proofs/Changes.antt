@@ -5,7 +5,7 @@ use mathlib.Core.Path.{fun_ext}
 use Rattle.std.proofs.lemmas.Bool.{cases_eq, cond-true, cond-false}
 use Rattle.world.specs.Windows.{Window, WindowMap, changed, replaced}
 use Rattle.world.specs.Sound.{IsOnScreen, IsStandardScreen}
-use Rattle.world.specs.calls.Making.{numbered}
+use Rattle.world.specs.Effects.{numbered}
 use Rattle.slots.specs.Kept.{Kept, IsKept, window_of}
 use Rattle.grids.specs.Tables.{WindowTable, IsWindowTable, windows}
 use Rattle.slots.specs.Slots.{slot_at, window_map, AreOrigins, StandsIn, IsChained}

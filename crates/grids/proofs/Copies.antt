@@ -8,7 +8,7 @@ use Rattle.cell.specs.Glyphs.{Glyph}
 use Rattle.world.specs.Windows.{Window, WindowMap, Windows, GridPlace, Drawing, own, onward, over, cell_at, within, moved, put_windows, put, HasPlace}
 use Rattle.world.specs.Rows.{filled, overlaid, copied}
 use Rattle.world.specs.Frames.{joined}
-use Rattle.world.specs.calls.writing.Editing.{drawing_frame}
+use Rattle.world.specs.Effects.{drawing_frame}
 use Rattle.cell.specs.declared.window.Rect.{Rect}
 use Rattle.world.proofs.FrameLaws.{drawing_frame-over, drawing_frame-put}
 use Rattle.world.proofs.WindowLaws.{own-onward, put-put, cell_at-kept, put-nothing, HasPlace-put}

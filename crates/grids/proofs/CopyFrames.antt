@@ -7,7 +7,7 @@ use Rattle.cell.specs.Glyphs.{Glyph}
 use Rattle.world.specs.Windows.{Window, Windows, Drawing, HasPlace, cell_at}
 use Rattle.world.specs.Rows.{filled, copied}
 use Rattle.world.specs.Frames.{Covers, frame_at, frame_of}
-use Rattle.world.specs.calls.writing.Editing.{drawing_frame}
+use Rattle.world.specs.Effects.{drawing_frame}
 use Rattle.world.proofs.FrameLaws.{frame_of-only, frame_of-none}
 
 -- a drawing that has just the columns from left to right of a line

@@ -7,7 +7,7 @@ use Rattle.std.proofs.lemmas.Bool.Decides.{nat_tests}
 use Rattle.cell.specs.Glyphs.{Glyph}
 use Rattle.world.specs.Windows.{Window, WindowMap, Windows, GridPlace, Drawing, own, onward, over, cell_at, within, moved, put_windows, put, HasPlace}
 use Rattle.world.specs.Rows.{overlaid, copied}
-use Rattle.world.specs.calls.Copies.{rectangle_copied}
+use Rattle.world.specs.calls.Copying.{rectangle_copied}
 use Rattle.world.proofs.WindowLaws.{own-onward, cell_at-kept, put-nothing, HasPlace-put}
 use Rattle.grids.proofs.Copies.{either_none, off, pick_new, pick_old, none_either, copied-same}
 

@@ -6,7 +6,8 @@ use Rattle.std.proofs.lemmas.Bool.{and_parts, leb-true, ltb-true}
 use Rattle.cell.specs.Pictures.{Place}
 use Rattle.world.specs.Windows.{Backing, part_of, Window, WindowMap}
 use Rattle.world.specs.Sound.{IsOnScreen}
-use Rattle.world.specs.calls.Making.{is_inside, extent, derived_window, place_from, numbered}
+use Rattle.world.specs.calls.Making.{is_inside, extent, derived_window, place_from}
+use Rattle.world.specs.Effects.{numbered}
 use Rattle.world.specs.World.{new_window}
 use Rattle.slots.specs.declared.slot.Part.{Part}
 use Rattle.slots.specs.declared.slot.Cells.{Cells}

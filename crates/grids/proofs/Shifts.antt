@@ -5,7 +5,7 @@ use Rattle.std.specs.Prelude.{⊤}
 use Rattle.cell.specs.declared.limits.TheConstants.{MOST_WINDOWS}
 use Rattle.world.specs.Windows.{Window, WindowMap, changed, replaced}
 use Rattle.world.specs.Sound.{IsOnScreen, IsStandardScreen}
-use Rattle.world.specs.calls.Making.{with_part}
+use Rattle.world.specs.Effects.{with_part}
 use Rattle.slots.specs.declared.slot.Part.{Part}
 use Rattle.slots.specs.declared.slot.Cells.TheVariants.{Shared}
 use Rattle.slots.specs.Kept.{Kept, window_of}

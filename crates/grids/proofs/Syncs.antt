@@ -9,7 +9,8 @@ use Rattle.cell.specs.declared.limits.TheConstants.{LARGEST_PAD}
 use Rattle.world.specs.Windows.{part_of, GridPlace, HasPlace, Window, WindowMap, Windows, ancestors, any_below, changed, onward, own, touched_below}
 use Rattle.world.specs.Sharing.{shows_part_of}
 use Rattle.world.specs.Sound.{AreSoundWindows}
-use Rattle.world.specs.calls.Marks.{after_syncdown, after_syncup, in_line, shows_touched_of, touching}
+use Rattle.world.specs.calls.Marks.{after_syncdown, after_syncup}
+use Rattle.world.specs.calls.Copying.{in_line, shows_touched_of, touching}
 use Rattle.world.specs.declared.settings.Columns.{Columns}
 use Rattle.world.proofs.Below.{any_below-some, any_below-true}
 use Rattle.world.proofs.WindowLaws.{own-onward, touched-touched}

@@ -7,7 +7,7 @@ use Rattle.std.proofs.lemmas.Iterator.Adapters.{option_map_id}
 use Rattle.cell.specs.Pictures.{Place}
 use Rattle.cell.specs.declared.limits.TheConstants.{LARGEST_PAD}
 use Rattle.world.specs.Windows.{Window, WindowMap, Windows, changed, touched_below, joined_columns}
-use Rattle.world.specs.calls.Marks.{touching}
+use Rattle.world.specs.calls.Copying.{touching}
 use Rattle.world.specs.declared.settings.Columns.{Columns}
 use Rattle.slots.specs.Changes.{with_touched}
 use Rattle.grids.specs.steps.Syncs.{EndsWithin}

@@ -4,7 +4,8 @@ ghost use Rattle.std.specs.Prelude.{◌≡◌, ℕ, ◌<◌, ◌≤◌, ◌+◌,
 ghost use Rattle.std.specs.Result.{result_err};
 ghost use Rattle.cell.specs.Refusals.{RefusedBy, first_of};
 ghost use Rattle.world.specs.Sound.{AreSoundWindows};
-ghost use Rattle.world.specs.calls.Making.{is_inside, extent, new_number, place_from, numbered, newwin_refusal, after_newwin, newpad_refusal, after_newpad, part_tests, derwin_refusal, after_derwin, subpad_refusal, after_subpad, subwin_refusal, after_subwin, mvwin_refusal, after_mvwin, mvderwin_refusal, after_mvderwin, delwin_refusal, after_delwin};
+ghost use Rattle.world.specs.calls.Making.{is_inside, extent, new_number, place_from, newwin_refusal, after_newwin, newpad_refusal, after_newpad, part_tests, derwin_refusal, after_derwin, subpad_refusal, after_subpad, subwin_refusal, after_subwin, mvwin_refusal, after_mvwin, mvderwin_refusal, after_mvderwin, delwin_refusal, after_delwin};
+ghost use Rattle.world.specs.Effects.{numbered};
 ghost use Rattle.grids.specs.Tables.{windows};
 
 use crate::table::Grids;

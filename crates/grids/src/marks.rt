@@ -4,10 +4,11 @@ ghost use Rattle.std.specs.Prelude.{◌≡◌, ◌≤◌, ◌+◌, true, false, 
 ghost use Rattle.std.specs.Result.{result_err};
 ghost use Rattle.world.specs.Sound.{AreSoundWindows};
 ghost use Rattle.world.specs.Windows.{HasPlace, changed};
-ghost use Rattle.world.specs.calls.Marks.{after_touchln, after_touchwin, is_linetouched, is_linetouched_refusal, is_wintouched, touchln_refusal};
+ghost use Rattle.world.specs.calls.Marks.{after_touchln, after_touchwin, is_linetouched_refusal, touchln_refusal};
+ghost use Rattle.world.specs.calls.Copying.{is_linetouched, is_wintouched};
 ghost use Rattle.world.specs.calls.Missing.{missing_refusal};
 ghost use Rattle.world.specs.calls.Queries.{touched_columns};
-ghost use Rattle.world.specs.calls.Refresh.{unmarked};
+ghost use Rattle.world.specs.Effects.{unmarked};
 ghost use Rattle.grids.specs.Tables.{windows};
 
 use crate::table::Grids;

@@ -3,8 +3,8 @@
 ghost use Rattle.std.specs.Prelude.{◌≡◌, ℕ, ◌<◌, ◌+◌, ◌-◌};
 ghost use Rattle.world.specs.Windows.{HasPlace, put};
 ghost use Rattle.world.specs.Sound.{AreSoundWindows};
-ghost use Rattle.world.specs.calls.Copies.{rectangle_copied};
-ghost use Rattle.world.specs.calls.writing.Editing.{drawing_frame};
+ghost use Rattle.world.specs.calls.Copying.{rectangle_copied};
+ghost use Rattle.world.specs.Effects.{drawing_frame};
 ghost use Rattle.grids.specs.Tables.{windows};
 
 use crate::frame::joined;

@@ -6,7 +6,7 @@ ghost use Rattle.cell.specs.Glyphs.{IsCell};
 ghost use Rattle.world.specs.Windows.{HasPlace, cell_at, put};
 ghost use Rattle.world.specs.Sound.{AreSoundWindows};
 ghost use Rattle.world.specs.Rows.{filled, overlaid, copied, line_shown};
-ghost use Rattle.world.specs.calls.writing.Editing.{drawing_frame};
+ghost use Rattle.world.specs.Effects.{drawing_frame};
 ghost use Rattle.grids.specs.Tables.{windows};
 
 use crate::frame::{joined, place};

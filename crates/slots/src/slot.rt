@@ -4,11 +4,10 @@ ghost use Rattle.std.specs.Prelude.{◌≡◌, ℕ, ◌<◌, ◌≤◌, ◌+◌,
 ghost use Rattle.std.specs.List.{AllByRecursion, list_any, range_with_len};
 ghost use Rattle.cell.specs.Glyphs.{IsCell};
 ghost use Rattle.cell.specs.Pictures.{HasSize, AreCells};
-ghost use Rattle.world.specs.calls.Marks.{lines_marked};
-ghost use Rattle.world.specs.calls.Refresh.{unmarked};
+ghost use Rattle.world.specs.calls.Copying.{lines_marked};
+ghost use Rattle.world.specs.Effects.{unmarked, with_place, with_part};
 ghost use Rattle.world.specs.Rows.{filled, listed};
 ghost use Rattle.world.specs.Settings.{with_settings};
-ghost use Rattle.world.specs.calls.Making.{with_place, with_part};
 ghost use Rattle.world.specs.World.{new_window, first_settings, blank_grid};
 ghost use Rattle.world.specs.Windows.{any_below, laid_over, cell_of, part_of};
 ghost use Rattle.slots.specs.Kept.{window_of, backing_of, IsGridOf, IsKept, Kept, HasShape};

@@ -5,7 +5,7 @@ use Rattle.std.proofs.lemmas.List.{length_push, take_all}
 use Rattle.cell.specs.declared.limits.TheConstants.{MOST_PANELS}
 use Rattle.cell.specs.declared.window.WinId.{WinId}
 use Rattle.std.specs.Option.{option_map}
-use Rattle.world.specs.calls.Stacking.{given}
+use Rattle.world.specs.Effects.{given}
 use Rattle.stack.specs.Indexes.{held_by, holder_at, number_bit, number_limit, taken_bit, window_limit, IsIndexed}
 use Rattle.stack.specs.Nodes.{no_node, node_at, above_at, below_at, window_at, window_in}
 use Rattle.stack.specs.steps.Entries.{Windowed}

@@ -8,7 +8,8 @@ use Rattle.std.proofs.lemmas.Map.Keys.{apart_from_distinct}
 use Rattle.cell.specs.declared.refusal.Refusal.TheVariants.{Hidden}
 use Rattle.cell.specs.declared.window.WinId.{WinId}
 use Rattle.world.specs.Panels.{Panels, first_panels}
-use Rattle.world.specs.calls.Stacking.{after_del_panel, after_new_panel, after_replace_panel, given, hidden_panel_refusal, is_hidden, without, IsSoundEntry, IsSoundOrder}
+use Rattle.world.specs.calls.Stacking.{after_del_panel, after_new_panel, after_replace_panel, hidden_panel_refusal, is_hidden, without, IsSoundEntry, IsSoundOrder}
+use Rattle.world.specs.Effects.{given}
 use Rattle.stack.specs.Nodes.{no_node, node_at, window_at, window_in, from_bottom, IsOut, IsPanel, IsThreaded}
 use Rattle.stack.specs.Tables.{panels, table_of, IsPanelTable}
 use Rattle.stack.specs.steps.Entries.{Entered, IsFree, NodeMade, Windowed}

@@ -4,7 +4,7 @@ use mathlib.Core.Path.{fun_ext}
 use Rattle.std.specs.List.{AllByRecursion}
 use Rattle.std.proofs.lemmas.Bool.{cases_eq, cases_order, eq-eqb, ne_eqb}
 use Rattle.std.proofs.lemmas.List.{get_or_append_left, get_or_past, get_or_push, length_push}
-use Rattle.world.specs.calls.Stacking.{given}
+use Rattle.world.specs.Effects.{given}
 use Rattle.stack.specs.Nodes.{no_node, node_at, above_at, below_at, window_at, window_in, from_bottom, IsChain, IsOut, IsPanel, IsThreaded}
 use Rattle.stack.specs.Tables.{panels, table_of}
 use Rattle.stack.specs.steps.Entries.{Windowed}

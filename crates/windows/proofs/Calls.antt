@@ -7,8 +7,10 @@ use Rattle.world.specs.Windows.{Window, Windows, put, if_there}
 use Rattle.world.specs.Settings.{set, with_cursor}
 use Rattle.world.specs.Drawings.{written_glyph, everywhere, lines_up, lines_down}
 use Rattle.world.specs.Frames.{frame_of}
-use Rattle.world.specs.calls.writing.Characters.{frame_if_there, drawn_to, insch_drawing, insch_frame, delch_drawing, delch_frame}
-use Rattle.world.specs.calls.writing.Editing.{erase_drawing, after_erase, erase_frame, clrtoeol_drawing, clrtoeol_frame, clrtobot_drawing, clrtobot_frame, insertln_drawing, after_insertln, insertln_frame, deleteln_drawing, after_deleteln, deleteln_frame}
+use Rattle.world.specs.Typing.{frame_if_there, drawn_to}
+use Rattle.world.specs.calls.Writing.{insch_drawing, delch_drawing, erase_drawing, clrtoeol_drawing, clrtobot_drawing, insertln_drawing, deleteln_drawing}
+use Rattle.world.specs.calls.writing.Characters.{insch_frame, delch_frame}
+use Rattle.world.specs.calls.writing.Editing.{after_erase, erase_frame, clrtoeol_frame, clrtobot_frame, after_insertln, insertln_frame, after_deleteln, deleteln_frame}
 use Rattle.cell.specs.declared.window.Rect.{Rect}
 use Rattle.windows.specs.steps.State.{IsStateOf, window_in_state}
 use Rattle.windows.specs.declared.state.WindowState.{WindowState}

@@ -8,9 +8,9 @@ use Rattle.cell.specs.Pictures.{Place}
 use Rattle.world.specs.Windows.{Window, WindowMap, Windows, Drawing, cell_at, put}
 use Rattle.world.specs.Rows.{overlaid}
 use Rattle.world.specs.Frames.{Covers, frame_of}
-use Rattle.world.specs.calls.Copies.{common_copied, rectangle_copied}
+use Rattle.world.specs.calls.Copying.{common_copied, rectangle_copied}
 use Rattle.world.specs.calls.Queries.{place_on_screen}
-use Rattle.world.specs.calls.writing.Editing.{drawing_frame}
+use Rattle.world.specs.Effects.{drawing_frame}
 use Rattle.world.proofs.PutLaws.{AreSame, put-same}
 use Rattle.world.proofs.FrameLaws.{frame_of-is, frame-same, only_frame}
 

@@ -8,8 +8,9 @@ use Rattle.cell.specs.declared.refusal.Refusal.TheVariants.{NoSuchWindow}
 use Rattle.world.specs.Settings.{set_in, with_cursor}
 use Rattle.world.specs.Windows.{Drawing, GridPlace, Window, WindowMap, Windows, drawn, own, put, put_from}
 use Rattle.world.specs.calls.Missing.{missing_refusal}
-use Rattle.world.specs.calls.writing.Characters.{drawn_to}
-use Rattle.world.specs.calls.writing.Editing.{after_erase, erase_drawing}
+use Rattle.world.specs.Typing.{drawn_to}
+use Rattle.world.specs.calls.writing.Editing.{after_erase}
+use Rattle.world.specs.calls.Writing.{erase_drawing}
 
 none-mapped : (o : Option Window) (change : Window → Window) → is_none (option_map change o) ≡ is_none o
 none-mapped None change = refl

@@ -8,7 +8,8 @@ use Rattle.cell.specs.declared.limits.TheConstants.{LAST_PAIR}
 use Rattle.std.specs.Prelude.{◌&&◌, nat_le}
 use Rattle.world.specs.Windows.{Windows}
 use Rattle.world.specs.Settings.{after_set_settings, set}
-use Rattle.world.specs.calls.writing.Options.{with_attributes, with_background, with_background_pair, with_pair, with_region, with_clear, with_scrolling, after_attron, after_attroff, after_bkgdset, after_color_set, after_bkgdpair, after_setscrreg, after_scrollok, after_clearok}
+use Rattle.world.specs.calls.Writing.{with_attributes, with_background, with_background_pair, with_pair, with_region, with_clear, with_scrolling}
+use Rattle.world.specs.calls.writing.Options.{after_attron, after_attroff, after_bkgdset, after_color_set, after_bkgdpair, after_setscrreg, after_scrollok, after_clearok}
 use Rattle.cell.specs.Attributes.{without}
 use Rattle.cell.specs.declared.attr.Attr.{Attr}
 use Rattle.world.specs.declared.settings.Settings.{Settings}

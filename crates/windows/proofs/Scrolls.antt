@@ -2,7 +2,7 @@
 use Rattle.std.proofs.Common.{◌≡◌, ℕ, zero, suc, ℤ, pos, negsuc, ◌-◌, Some, None, ap, refl, sym, ◌∙◌}
 use Rattle.world.specs.Windows.{Windows, put}
 use Rattle.world.specs.Frames.{frame_of}
-use Rattle.world.specs.calls.writing.Editing.{scrl_drawing}
+use Rattle.world.specs.calls.Writing.{scrl_drawing}
 use Rattle.cell.specs.declared.window.Rect.{Rect}
 use Rattle.world.proofs.WindowLaws.{put-nothing}
 use Rattle.windows.specs.steps.State.{IsStateOf, window_in_state}

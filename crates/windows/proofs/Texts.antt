@@ -7,7 +7,8 @@ use Rattle.world.specs.Windows.{Window, WindowMap, Windows, GridPlace, Drawing, 
 use Rattle.world.specs.Settings.{set_in, set, with_cursor}
 use Rattle.world.specs.Drawings.{written_glyph, at_place, to_end_of_line}
 use Rattle.world.specs.Frames.{joined}
-use Rattle.world.specs.calls.writing.Characters.{newline, carriage_return, backspace, drawn_to, region_up, scrolls, is_last_line, to_next_line, character_printed, line_ended, typed_in, after_addch, addch_frame, after_addstr, addstr_frame}
+use Rattle.world.specs.Typing.{newline, carriage_return, backspace, drawn_to, region_up, scrolls, is_last_line, to_next_line, character_printed, line_ended, typed_in}
+use Rattle.world.specs.calls.writing.Characters.{after_addch, addch_frame, after_addstr, addstr_frame}
 use Rattle.cell.specs.declared.window.Rect.{Rect}
 use Rattle.world.specs.declared.settings.Settings.{Settings}
 

@@ -74,16 +74,16 @@ module _ (new old : WindowMap) (w : ℕ) (same : (v : ℕ) → (v ≡ w → ⊥)
 -- what a shift leaves as it is
 pub cell_at-moved : (windows : Windows) (w y x u v z : ℕ) → (u ≡ w → ⊥) → derives windows.window w u ≡ false → cell_at (shifted_to windows w (y, x)).window u v z ≡ cell_at windows.window u v z
 cell_at-moved windows w y x u v z other apart =
-    cell_at-beside (shifted_to windows w (y, x)).window windows.window w (changed-off windows.window w (with_part (y, x))) u v z other apart
+    cell_at-beside (shifted_to windows w (y, x)).window windows.window w (changed-off windows.window w (with_part y x)) u v z other apart
 
 -- and its parents, and whose descendant a window is
-offset-parent : (y x : ℕ) (s : Backing) → parent_number (with_offset (y, x) s) ≡ parent_number s
+offset-parent : (y x : ℕ) (s : Backing) → parent_number (with_offset y x s) ≡ parent_number s
 offset-parent y x (own_grid cells) = refl
 offset-parent y x (part_of parent line column) = refl
 
 module _ (windows : Windows) (w y x : ℕ) where
   parent-moved : (u : ℕ) → parent_of (shifted_to windows w (y, x)).window u ≡ parent_of windows.window u
-  parent-moved u = same-if (λ o. option_and_then (λ a. parent_number a.backing) o) (with_part (y, x)) (λ a. offset-parent y x a.backing) (u == w) (windows.window u)
+  parent-moved u = same-if (λ o. option_and_then (λ a. parent_number a.backing) o) (with_part y x) (λ a. offset-parent y x a.backing) (u == w) (windows.window u)
 
   ancestors-moved : (n : ℕ) → ancestors_within n (shifted_to windows w (y, x)).window ≡ ancestors_within n windows.window
   ancestors-moved zero = refl

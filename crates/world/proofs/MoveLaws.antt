@@ -9,7 +9,7 @@ use Rattle.cell.specs.declared.limits.TheConstants.{MOST_WINDOWS}
 use Rattle.world.specs.Windows.{Backing, own_grid, part_of, GridPlace, Window, WindowMap, Windows, ancestors_within, derives, leads, own, own_within, parent_number, parent_of, window_limit}
 use Rattle.world.specs.Panels.{Panels, cell_on_screen, found_from_top, holds, place_of, standard_screen, windows_from_top}
 use Rattle.world.specs.Sound.{AreSoundPanels, AreSoundWindows, IsSoundWindow, IsStandardScreen}
-use Rattle.world.specs.Effects.{Change, after_change, asks, deletes, edits, makes, marked, marks, moved_to, moves, numbered, shifted_to, shifts, with_part, with_place, with_touched}
+use Rattle.world.specs.Effects.{Change, after_change, asks, deletes, edits, makes, marked, marks, moved_to, moves, numbered, shifted_to, shifts, with_part, with_place, touched_by_change}
 use Rattle.world.specs.calls.Making.{has_derived, has_no_parent, is_own, is_part_of}
 use Rattle.world.specs.calls.Affected.{change_shows_at, follows_at, move_shows_at}
 use Rattle.world.proofs.Allowed.{IsAllowed, not-in-panel, sound-panel}
@@ -17,7 +17,6 @@ use Rattle.world.proofs.AncestorLaws.{cell_at-beside, cell_at-moved, changed-off
 use Rattle.world.proofs.Below.{any_below-some}
 use Rattle.world.proofs.ViewLaws.{SameCells, backing_of, cell_at-same, found-dressed, found-same, holds-same, on_screen-same, outline_of, passes-none, same-if}
 use Rattle.world.proofs.WritingLaws.{found-edit}
-use Rattle.world.specs.declared.settings.Columns.{Columns}
 
 -- ---- the standard screen derives from none, and isn't moved
 
@@ -41,7 +40,7 @@ standard-beside windows w sound =
 
 module _ (windows : Windows) (w v z : ℕ) where
   window-moved : (u : ℕ) → outline_of ((shifted_to windows w (v, z)).window u) ≡ outline_of (windows.window u)
-  window-moved u = same-if (λ o. outline_of o) (with_part (v, z)) (λ a. refl) (u == w) (windows.window u)
+  window-moved u = same-if (λ o. outline_of o) (with_part v z) (λ a. refl) (u == w) (windows.window u)
 
   pub move_shows-moved : (panels : Panels) (y x : ℕ) → move_shows_at (shifted_to windows w (v, z)).window panels w y x ≡ move_shows_at windows.window panels w y x
   move_shows-moved panels y x = ap (λ (test : ℕ → Bool). list_any test (windows_from_top panels)) (fun_ext (λ u. λ i.
@@ -201,10 +200,10 @@ found-new windows panels n o y x sound panels_sound free =
 
 module _ (windows : Windows) (w v z : ℕ) where
   backing-placed : (u : ℕ) → backing_of ((moved_to windows w (v, z)).window u) ≡ backing_of (windows.window u)
-  backing-placed u = same-if (λ o. backing_of o) (with_place (v, z)) (λ a. refl) (u == w) (windows.window u)
+  backing-placed u = same-if (λ o. backing_of o) (with_place v z) (λ a. refl) (u == w) (windows.window u)
 
   outline-placed : (u : ℕ) → (u ≡ w → ⊥) → outline_of ((moved_to windows w (v, z)).window u) ≡ outline_of (windows.window u)
-  outline-placed u other = ap (λ o. outline_of o) (changed-off windows.window w (with_place (v, z)) u other)
+  outline-placed u other = ap (λ o. outline_of o) (changed-off windows.window w (with_place v z) u other)
 
   pub holds-placed : (y x u : ℕ) → (u ≡ w → ⊥) → holds (moved_to windows w (v, z)).window u y x ≡ holds windows.window u y x
   holds-placed y x u other = holds-same (moved_to windows w (v, z)).window windows.window u (outline-placed u other) y x
@@ -224,10 +223,10 @@ found-placed windows panels w v z y x sound allowed =
 
 -- ---- marks
 
-marked-cells : (windows : Windows) (test : ℕ → Bool) (touched : ℕ → Window → ℕ → Option Columns) → SameCells (marked windows test touched).window windows.window
-marked-cells windows test touched = record {
-  outlines = λ u. same-if (λ o. outline_of o) (with_touched (touched u)) (λ a. refl) (test u) (windows.window u);
-  backings = λ u. same-if (λ o. backing_of o) (with_touched (touched u)) (λ a. refl) (test u) (windows.window u);
+marked-cells : (windows : Windows) (test : ℕ → Bool) (change : ℕ → Window → Window) → SameCells (marked windows test change).window windows.window
+marked-cells windows test change = record {
+  outlines = λ u. same-if (λ o. outline_of o) (touched_by_change (change u)) (λ a. refl) (test u) (windows.window u);
+  backings = λ u. same-if (λ o. backing_of o) (touched_by_change (change u)) (λ a. refl) (test u) (windows.window u);
 }
 
 -- ---- each change
@@ -237,8 +236,8 @@ pub found-change : (windows : Windows) (panels : Panels) (change : Change) (y x 
     → found_from_top (after_change windows change).window panels y x ≡ found_from_top windows.window panels y x
 found-change windows panels (asks reply) y x sound panels_sound below left allowed free = refl
 found-change windows panels (edits edit) y x sound panels_sound below left allowed free = found-edit windows panels edit y x sound below left free
-found-change windows panels (marks test touched) y x sound panels_sound below left allowed free =
-    found-dressed (marked windows test touched).window windows.window (marked-cells windows test touched) panels y x
+found-change windows panels (marks test change) y x sound panels_sound below left allowed free =
+    found-dressed (marked windows test change).window windows.window (marked-cells windows test change) panels y x
 found-change windows panels (makes n a) y x sound panels_sound below left allowed free = found-new windows panels n a y x sound panels_sound allowed
 found-change windows panels (deletes w) y x sound panels_sound below left allowed free = found-deleted windows panels w y x sound panels_sound allowed
 found-change windows panels (moves w place) y x sound panels_sound below left allowed free = found-placed windows panels w place.0 place.1 y x panels_sound allowed

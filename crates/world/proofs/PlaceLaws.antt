@@ -7,7 +7,7 @@ use Rattle.cell.specs.Pictures.{Place}
 use Rattle.world.specs.Windows.{Window, WindowMap, Windows, changed}
 use Rattle.world.specs.Panels.{Panels, standard_screen}
 use Rattle.world.specs.Sound.{AreSoundPanels, IsSoundPanel}
-use Rattle.world.specs.Effects.{Change, Edit, after_change, after_edit, asks, deletes, edits, makes, marks, moved_to, moves, numbered, shifts, with_part, with_place, with_touched}
+use Rattle.world.specs.Effects.{Change, Edit, after_change, after_edit, asks, deletes, edits, makes, marks, moved_to, moves, numbered, shifts, with_part, with_place, touched_by_change}
 use Rattle.world.proofs.Allowed.{IsAllowed, not-in-panel}
 use Rattle.world.proofs.PictureLaws.{SameView}
 use Rattle.world.proofs.ViewLaws.{Outline, outline_of}
@@ -62,27 +62,27 @@ has-none window n w free h same =
     let none : has_place (window w) ≡ false = ap (λ o. has_place o) (ap window same ∙ free) in
     cc
 
-moved-there : (o : Option Window) (place : Place) → has_place o ≡ true → has_place (option_map (with_place place) o) ≡ true
-moved-there None place h = h
-moved-there (Some a) place h = refl
+moved-there : (o : Option Window) (y x : ℕ) → has_place o ≡ true → has_place (option_map (with_place y x) o) ≡ true
+moved-there None y x h = h
+moved-there (Some a) y x h = refl
 
-moved-if : (b : Bool) (o : Option Window) (place : Place) → has_place o ≡ true → has_place (if b then option_map (with_place place) o else o) ≡ true
-moved-if true o place h = moved-there o place h
-moved-if false o place h = h
+moved-if : (b : Bool) (o : Option Window) (y x : ℕ) → has_place o ≡ true → has_place (if b then option_map (with_place y x) o else o) ≡ true
+moved-if true o y x h = moved-there o y x h
+moved-if false o y x h = h
 
 pub keeps-moved : (windows : Windows) (v : ℕ) (place : Place) (w : ℕ) → has_place (windows.window w) ≡ true → has_place ((moved_to windows v place).window w) ≡ true
-keeps-moved windows v place w h = moved-if (w == v) (windows.window w) place h
+keeps-moved windows v place w h = moved-if (w == v) (windows.window w) place.0 place.1 h
 
 -- the window of a panel
 pub keeps-change : (windows : Windows) (panels : Panels) (change : Change) → AreSoundPanels windows.window panels → IsAllowed windows panels change
     → (p w : ℕ) → panels.window p ≡ Some w → has_place (windows.window w) ≡ true → has_place ((after_change windows change).window w) ≡ true
 keeps-change windows panels (asks reply) sound allowed p w is h = h
 keeps-change windows panels (edits edit) sound allowed p w is h = places-edit windows edit w ∙ h
-keeps-change windows panels (marks test touched) sound allowed p w is h = same_if (test w) (windows.window w) (with_touched (touched w)) (λ a. refl) ∙ h
+keeps-change windows panels (marks test change) sound allowed p w is h = same_if (test w) (windows.window w) (touched_by_change (change w)) (λ a. refl) ∙ h
 keeps-change windows panels (makes n a) sound allowed p w is h = keeps-other windows n a w (has-none windows.window n w allowed h) h
 keeps-change windows panels (deletes v) sound allowed p w is h = keeps-other windows v None w (λ same. not-in-panel windows.window panels v sound allowed.1 p w is same) h
 keeps-change windows panels (moves v place) sound allowed p w is h = keeps-moved windows v place w h
-keeps-change windows panels (shifts v place) sound allowed p w is h = places-changed windows v (with_part place) (λ a. refl) w ∙ h
+keeps-change windows panels (shifts v place) sound allowed p w is h = places-changed windows v (with_part place.0 place.1) (λ a. refl) w ∙ h
 
 -- ---- panels
 

@@ -14,7 +14,6 @@ use Rattle.world.specs.World.{VirtualScreen, World, picture, topmost_cursor}
 use Rattle.cell.specs.declared.window.Rect.{Rect}
 use Rattle.world.specs.declared.call.Reply.{Reply}
 use Rattle.world.specs.declared.call.Reply.TheVariants.{Nothing, Number, Panel}
-use Rattle.world.specs.declared.settings.Columns.{Columns}
 use Rattle.world.specs.declared.settings.Settings.{Settings}
 
 -- ---- in a window
@@ -57,42 +56,44 @@ edit_frame windows (types w text) = text_frame windows w text
 pub data Change : Type 0 where
   asks : Reply → Change
   edits : Edit → Change
-  marks : (ℕ → Bool) → (ℕ → Window → ℕ → Option Columns) → Change
+  marks : (ℕ → Bool) → (ℕ → Window → Window) → Change
   makes : ℕ → Option Window → Change
   deletes : ℕ → Change
   moves : ℕ → Place → Change
   shifts : ℕ → Place → Change
 
-abbrev pub with_touched : (Window → ℕ → Option Columns) → Window → Window
-with_touched touched a = record a { touched = touched a }
+-- what a change touches of a window, and no more of it
+abbrev pub touched_by_change : (Window → Window) → Window → Window
+touched_by_change change a = record a { touched = (change a).touched }
 
-abbrev pub marked : Windows → (ℕ → Bool) → (ℕ → Window → ℕ → Option Columns) → Windows
-marked windows test touched = record windows { window = λ u. if test u then option_map (with_touched (touched u)) (windows.window u) else windows.window u }
+abbrev pub marked : Windows → (ℕ → Bool) → (ℕ → Window → Window) → Windows
+marked windows test change =
+    record windows { window = λ u. if test u then option_map (touched_by_change (change u)) (windows.window u) else windows.window u }
 
 -- another window, or none, under the number n
 abbrev pub numbered : Windows → ℕ → Option Window → Windows
 numbered windows n a = record windows { window = replaced windows.window n a }
 
-abbrev pub with_place : Place → Window → Window
-with_place place a = record a { place = Some place }
+abbrev pub with_place : ℕ → ℕ → Window → Window
+with_place y x a = record a { place = Some (y, x) }
 
 abbrev pub moved_to : Windows → ℕ → Place → Windows
-moved_to windows w place = record windows { window = changed windows.window w (with_place place) }
+moved_to windows w place = record windows { window = changed windows.window w (with_place place.0 place.1) }
 
-abbrev pub with_offset : Place → Backing → Backing
-with_offset place (own_grid cells) = own_grid cells
-with_offset place (part_of parent line column) = part_of parent place.0 place.1
+abbrev pub with_offset : ℕ → ℕ → Backing → Backing
+with_offset y x (own_grid cells) = own_grid cells
+with_offset y x (part_of parent line column) = part_of parent y x
 
-abbrev pub with_part : Place → Window → Window
-with_part place a = record a { backing = with_offset place a.backing }
+abbrev pub with_part : ℕ → ℕ → Window → Window
+with_part y x a = record a { backing = with_offset y x a.backing }
 
 abbrev pub shifted_to : Windows → ℕ → Place → Windows
-shifted_to windows w place = record windows { window = changed windows.window w (with_part place) }
+shifted_to windows w place = record windows { window = changed windows.window w (with_part place.0 place.1) }
 
 abbrev pub after_change : Windows → Change → Windows
 after_change windows (asks reply) = windows
 after_change windows (edits edit) = after_edit windows edit
-after_change windows (marks test touched) = marked windows test touched
+after_change windows (marks test change) = marked windows test change
 after_change windows (makes n a) = numbered windows n a
 after_change windows (deletes w) = numbered windows w None
 after_change windows (moves w place) = moved_to windows w place
@@ -101,7 +102,7 @@ after_change windows (shifts w place) = shifted_to windows w place
 abbrev pub change_frame : Windows → Change → Option Rect
 change_frame windows (asks reply) = None
 change_frame windows (edits edit) = edit_frame windows edit
-change_frame windows (marks test touched) = None
+change_frame windows (marks test change) = None
 change_frame windows (makes n a) = None
 change_frame windows (deletes w) = None
 change_frame windows (moves w place) = None
@@ -110,7 +111,7 @@ change_frame windows (shifts w place) = None
 abbrev pub change_reply : Change → Reply
 change_reply (asks reply) = reply
 change_reply (edits edit) = Nothing
-change_reply (marks test touched) = Nothing
+change_reply (marks test change) = Nothing
 change_reply (makes n a) = Number (record { 0 = n })
 change_reply (deletes w) = Nothing
 change_reply (moves w place) = Nothing
@@ -119,7 +120,7 @@ change_reply (shifts w place) = Nothing
 abbrev pub change_takes_memory : Change → Bool
 change_takes_memory (asks reply) = false
 change_takes_memory (edits edit) = false
-change_takes_memory (marks test touched) = false
+change_takes_memory (marks test change) = false
 change_takes_memory (makes n a) = true
 change_takes_memory (deletes w) = false
 change_takes_memory (moves w place) = false

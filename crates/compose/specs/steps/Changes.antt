@@ -7,9 +7,8 @@ use Rattle.world.specs.declared.call.Making.TheVariants.{Mvderwin}
 use Rattle.world.specs.Panels.{Panels}
 use Rattle.world.specs.Windows.{Windows, HasPlace, WindowMap}
 use Rattle.world.specs.calls.Written.{changed_panel}
-use Rattle.world.specs.calls.Dispatch.{next_panel}
+use Rattle.world.specs.calls.Stacking.{next_panel, after_bottom_panel, after_del_panel, after_hide_panel, after_move_panel, after_new_panel, after_replace_panel, after_show_panel, after_top_panel}
 use Rattle.world.specs.calls.Affected.{move_shows_at, panel_shows_at, follows_at, shows_at}
-use Rattle.world.specs.calls.Stacking.{after_bottom_panel, after_del_panel, after_hide_panel, after_move_panel, after_new_panel, after_replace_panel, after_show_panel, after_top_panel}
 use Rattle.world.specs.declared.call.Stacking.{Stacking}
 use Rattle.world.specs.declared.call.Stacking.TheVariants.{NewPanel, DelPanel, ShowPanel, HidePanel, TopPanel, BottomPanel, MovePanel, ReplacePanel}
 use Rattle.compose.specs.declared.damaging.Change.{Change}

@@ -6,9 +6,11 @@ ghost use Rattle.std.specs.Result.{result_err};
 ghost use Rattle.cell.specs.Attributes.{bits_of};
 ghost use Rattle.world.specs.Drawings.{written_glyph};
 ghost use Rattle.world.specs.Sound.{AreSoundWindows};
-ghost use Rattle.world.specs.calls.writing.Characters.{is_bad_character, to_next_line, next_line_frame, character_printed, character_frame, line_ended, line_ended_frame, typed_in, typed_frame, addch_refusal, after_addch, addch_frame, addstr_refusal, after_addstr, addstr_frame, insch_refusal, after_insch, insch_frame, after_delch, delch_frame};
-ghost use Rattle.cell.specs.Glyphs.{is_printable};
+ghost use Rattle.world.specs.calls.Writing.{is_bad_character};
+ghost use Rattle.world.specs.Typing.{to_next_line, next_line_frame, character_printed, character_frame, line_ended, line_ended_frame, typed_in, typed_frame};
+ghost use Rattle.world.specs.calls.writing.Characters.{addch_refusal, after_addch, addch_frame, addstr_refusal, after_addstr, addstr_frame, insch_refusal, after_insch, insch_frame, after_delch, delch_frame};
 ghost use Rattle.world.specs.calls.Missing.{missing_refusal};
+ghost use Rattle.cell.specs.Glyphs.{is_printable};
 ghost use Rattle.grids.specs.Tables.{windows};
 ghost use Rattle.windows.specs.steps.State.{IsStateOf, window_in_state};
 

@@ -3,7 +3,8 @@
 ghost use Rattle.std.specs.Prelude.{◌≡◌, IfOk, OnOk, OnErr};
 ghost use Rattle.std.specs.Result.{result_err};
 ghost use Rattle.world.specs.Frames.{frame_of};
-ghost use Rattle.world.specs.calls.writing.Editing.{scrl_refusal, scrl_drawing, after_scrl, scrl_frame};
+ghost use Rattle.world.specs.calls.writing.Editing.{scrl_refusal, after_scrl, scrl_frame};
+ghost use Rattle.world.specs.calls.Writing.{scrl_drawing};
 ghost use Rattle.world.specs.calls.writing.Options.{setscrreg_refusal, after_setscrreg, after_scrollok};
 ghost use Rattle.world.specs.calls.Missing.{missing_refusal};
 ghost use Rattle.world.specs.Sound.{AreSoundWindows};

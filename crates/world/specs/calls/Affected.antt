@@ -54,7 +54,7 @@ edit_shows_at windows panels edit y x = frame_shows_at windows.window panels (ed
 abbrev pub change_shows_at : Windows → Panels → Change → ℕ → ℕ → Bool
 change_shows_at windows panels (asks reply) y x = false
 change_shows_at windows panels (edits edit) y x = edit_shows_at windows panels edit y x
-change_shows_at windows panels (marks test touched) y x = false
+change_shows_at windows panels (marks test change) y x = false
 change_shows_at windows panels (makes n a) y x = false
 change_shows_at windows panels (deletes w) y x = false
 change_shows_at windows panels (moves w place) y x = false

@@ -44,12 +44,13 @@ copywin_drawing window src sy sx top left bottom right overlay =
 -- ---- what is touched
 
 -- n lines from a first one on are touched from their first column to their last, or not touched
-abbrev pub lines_marked : ℕ → ℕ → Bool → Window → ℕ → Option Columns
-lines_marked first n flag a y =
-    if nat_le first y && nat_lt y (first + n) then (if flag then Some (record { first = 0; last = a.columns - 1 }) else None) else a.touched y
+abbrev pub lines_marked : ℕ → ℕ → Bool → Window → Window
+lines_marked first n flag a = record a {
+  touched = λ y. if nat_le first y && nat_lt y (first + n) then (if flag then Some (record { first = 0; last = a.columns - 1 }) else None) else a.touched y;
+}
 
 -- all lines
-abbrev pub all_marked : Bool → Window → ℕ → Option Columns
+abbrev pub all_marked : Bool → Window → Window
 all_marked flag a = lines_marked 0 a.lines flag a
 
 -- the columns of a line, as a rectangle
@@ -62,8 +63,8 @@ shows_touched_of window w u y x =
     option_map_or (λ a. any_below a.lines (λ v. option_map_or (λ r. shows_part_of window w (in_line v r) u y x) (a.touched v) false)) (window w) false
 
 -- the places of a window that pass a test are touched too
-abbrev pub touching : (ℕ → ℕ → Bool) → Window → ℕ → Option Columns
-touching test a y = if nat_lt y a.lines then touched_below a.columns (test y) (a.touched y) else a.touched y
+abbrev pub touching : (ℕ → ℕ → Bool) → Window → Window
+touching test a = record a { touched = λ y. if nat_lt y a.lines then touched_below a.columns (test y) (a.touched y) else a.touched y }
 
 -- a window is touched where it shows what is touched of an ancestor
 abbrev pub shows_touched_of_ancestor : WindowMap → ℕ → ℕ → ℕ → Bool

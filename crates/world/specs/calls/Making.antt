@@ -132,6 +132,10 @@ reaches_past y x a parent = not (nat_le (y + a.lines) parent.lines && nat_le (x 
 abbrev pub leaves_parent : WindowMap → ℕ → ℕ → ℕ → Bool
 leaves_parent window w y x = option_map_or (λ a. option_map_or (reaches_past y x a) (parent_in window a.backing) false) (window w) false
 
+-- as where no window is in a panel
+abbrev pub in_no_panel : ℕ → Bool
+in_no_panel w = false
+
 -- in_panel says of each window whether it is in a panel: then only its panel moves it, and it isn't deleted
 abbrev pub making_tests : Windows → (ℕ → Bool) → Making → List (Bool × Refusal)
 making_tests windows in_panel (Newwin nlines ncols y x) =

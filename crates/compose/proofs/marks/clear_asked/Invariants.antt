@@ -1,7 +1,7 @@
 use Rattle.std.proofs.Common.{◌≡◌}
 use Rattle.std.specs.List.{filter_map, list_any}
 use Rattle.world.specs.Panels.{windows_from_top}
-use Rattle.world.specs.calls.Refresh.{asks_for_clear}
+use Rattle.world.specs.Effects.{asks_for_clear}
 use Rattle.grids.specs.Tables.{windows}
 use Rattle.stack.specs.Tables.{panels}
 use Rattle.compose.proofs.marks.clear_asked.Given as goal

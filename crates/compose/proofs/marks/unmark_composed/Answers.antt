@@ -2,7 +2,7 @@ use Rattle.std.proofs.Common.{rules, ◌≡◌, ℕ, List, ◌∷◌, Some, refl
 use Rattle.std.specs.Prelude.{reverse}
 use Rattle.std.specs.List.{filter_map}
 use Rattle.world.specs.Panels.{standard_screen, windows_from_top}
-use Rattle.world.specs.calls.Refresh.{with_unmarked}
+use Rattle.world.specs.Effects.{with_unmarked}
 use Rattle.grids.specs.Tables.{windows}
 use Rattle.stack.specs.Tables.{panels}
 use Rattle.compose.proofs.Unmarking.{still-left}

@@ -2,7 +2,7 @@ use Rattle.std.proofs.Common.{◌≡◌, ◌∷◌}
 use Rattle.std.specs.List.{filter_map}
 use Rattle.world.specs.Panels.{standard_screen, windows_from_top}
 use Rattle.world.specs.Sound.{AreSoundWindows}
-use Rattle.world.specs.calls.Refresh.{with_unmarked}
+use Rattle.world.specs.Effects.{with_unmarked}
 use Rattle.grids.specs.Tables.{windows}
 use Rattle.stack.specs.Tables.{panels}
 use Rattle.compose.proofs.marks.unmark_composed.Given as goal

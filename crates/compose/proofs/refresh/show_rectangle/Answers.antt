@@ -1,6 +1,6 @@
 use Rattle.std.proofs.Common.{◌≡◌, ◌+◌, ◌-◌, false, arith, subst}
 use Rattle.world.specs.Windows.{Drawing, cell_at}
-use Rattle.world.specs.calls.Copies.{copywin_drawing}
+use Rattle.world.specs.calls.Copying.{copywin_drawing}
 use Rattle.grids.specs.Tables.{windows}
 use Rattle.compose.proofs.Laying.{LaidAbove, laid-all, laid-more}
 use Rattle.compose.proofs.Pieces.{of-pad, pad-below, pad-piece}

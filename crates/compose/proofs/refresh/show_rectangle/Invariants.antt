@@ -1,5 +1,5 @@
 use Rattle.std.proofs.Common.{◌+◌, false}
-use Rattle.world.specs.calls.Copies.{copywin_drawing}
+use Rattle.world.specs.calls.Copying.{copywin_drawing}
 use Rattle.grids.specs.Tables.{windows}
 use Rattle.compose.proofs.Laying.{LaidAbove}
 use Rattle.compose.proofs.refresh.show_rectangle.Given as goal

@@ -1,7 +1,7 @@
 use Rattle.std.proofs.Common.{refl, subst}
 use Rattle.std.specs.Prelude.{OnOk}
 use Rattle.world.specs.World.{VirtualScreen}
-use Rattle.world.specs.calls.Dispatch.{stacking_refusal}
+use Rattle.world.specs.calls.Stacking.{stacking_refusal}
 use Rattle.world.specs.declared.call.Call.TheVariants as calls
 use Rattle.grids.specs.Tables.{windows}
 use Rattle.stack.specs.Tables.{panels}

@@ -1,6 +1,8 @@
 use Rattle.std.proofs.Common.{refl, ◌∙◌}
 use Rattle.world.specs.World.{VirtualScreen}
-use Rattle.world.specs.calls.Dispatch.{after_copying, after_making, after_writing, copying_refusal, making_refusal, writing_refusal}
+use Rattle.world.specs.calls.Copying.{after_copying, copying_refusal}
+use Rattle.world.specs.calls.Making.{after_making, making_refusal}
+use Rattle.world.specs.calls.Writing.{after_writing, writing_refusal}
 use Rattle.world.specs.Panels.{is_in_panel}
 use Rattle.world.specs.declared.call.Call.{Call}
 use Rattle.world.specs.declared.call.Call.TheVariants as calls

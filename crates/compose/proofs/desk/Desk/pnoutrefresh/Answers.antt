@@ -1,8 +1,9 @@
 use Rattle.std.proofs.Common.{rules, ◌≡◌, ◌||◌, false, None, Some, is_some, refl, subst}
 use Rattle.cell.specs.declared.window.Rect.{Rect}
 use Rattle.world.specs.Windows.{Drawing}
-use Rattle.world.specs.calls.Copies.{copywin_drawing}
-use Rattle.world.specs.calls.Refresh.{after_pnoutrefresh, pnoutrefresh_refusal, shown_over}
+use Rattle.world.specs.calls.Copying.{copywin_drawing}
+use Rattle.world.specs.calls.Refresh.{after_pnoutrefresh, pnoutrefresh_refusal}
+use Rattle.world.specs.Effects.{shown_over}
 use Rattle.world.specs.declared.call.Call.TheVariants as calls
 use Rattle.world.specs.declared.call.Refresh.TheVariants.{Pnoutrefresh}
 use Rattle.grids.specs.Tables.{windows}

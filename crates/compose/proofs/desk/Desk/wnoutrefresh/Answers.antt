@@ -1,6 +1,7 @@
 use Rattle.std.proofs.Common.{rules, ◌≡◌, ◌||◌, None, refl, subst}
 use Rattle.world.specs.World.{VirtualScreen}
-use Rattle.world.specs.calls.Refresh.{after_noutrefresh, noutrefresh_refusal, shown_over, touched_cells}
+use Rattle.world.specs.calls.Refresh.{after_noutrefresh, noutrefresh_refusal, touched_cells}
+use Rattle.world.specs.Effects.{shown_over}
 use Rattle.world.specs.declared.call.Call.TheVariants as calls
 use Rattle.world.specs.declared.call.Refresh.TheVariants.{Noutrefresh}
 use Rattle.grids.specs.Tables.{windows}

@@ -1,8 +1,8 @@
 use Rattle.std.proofs.Common.{◌≡◌, ◌+◌, ◌-◌, ◌<◌, Some, refl, sym, ap, arith, subst, ◌∙◌}
 use Rattle.world.specs.Windows.{GridPlace, Windows, own, put}
 use Rattle.world.specs.Rows.{copied}
-use Rattle.world.specs.calls.Copies.{rectangle_copied}
-use Rattle.world.specs.calls.writing.Editing.{drawing_frame}
+use Rattle.world.specs.calls.Copying.{rectangle_copied}
+use Rattle.world.specs.Effects.{drawing_frame}
 use Rattle.grids.specs.declared.table.Grids.{Grids}
 use Rattle.grids.specs.Tables.{windows}
 use Rattle.slots.specs.Slots.{window_map}

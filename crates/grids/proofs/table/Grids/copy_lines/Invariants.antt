@@ -1,7 +1,7 @@
 use Rattle.std.proofs.Common.{◌≡◌, ◌+◌, ◌-◌}
 use Rattle.world.specs.Windows.{put}
-use Rattle.world.specs.calls.Copies.{rectangle_copied}
-use Rattle.world.specs.calls.writing.Editing.{drawing_frame}
+use Rattle.world.specs.calls.Copying.{rectangle_copied}
+use Rattle.world.specs.Effects.{drawing_frame}
 use Rattle.grids.specs.Tables.{windows}
 use Rattle.grids.proofs.table.Grids.copy_lines.Given as goal
 

@@ -1,5 +1,5 @@
 use Rattle.std.proofs.Common.{arith, ap, sym, ◌∙◌}
-use Rattle.world.specs.calls.Copies.{rectangle_copied}
+use Rattle.world.specs.calls.Copying.{rectangle_copied}
 use Rattle.grids.specs.declared.table.Grids.{Grids}
 use Rattle.grids.specs.Tables.{windows}
 use Rattle.grids.proofs.CopyFrames.{nothing-frame}

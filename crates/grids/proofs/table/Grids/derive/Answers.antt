@@ -2,7 +2,8 @@ use Rattle.std.proofs.Common.{◌≡◌, ◌+◌, Some, arith, ◌∙◌, ap, re
 use Rattle.std.specs.Option.{option_map}
 use Rattle.std.proofs.lemmas.Grind.{common_steps}
 use Rattle.world.specs.Windows.{part_of}
-use Rattle.world.specs.calls.Making.{place_from, numbered}
+use Rattle.world.specs.calls.Making.{place_from}
+use Rattle.world.specs.Effects.{numbered}
 use Rattle.world.specs.World.{new_window}
 use Rattle.grids.specs.contracts.table.Grids.{the_view}
 use Rattle.slots.specs.Kept.{window_of}

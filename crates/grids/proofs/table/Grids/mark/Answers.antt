@@ -1,5 +1,5 @@
 use Rattle.std.proofs.Common.{refl}
-use Rattle.world.specs.calls.Marks.{lines_marked}
+use Rattle.world.specs.calls.Copying.{lines_marked}
 use Rattle.grids.specs.contracts.table.Grids.{the_view}
 use Rattle.grids.proofs.Changes.{IsWindowTable-changed, windows-changed}
 use Rattle.grids.proofs.table.Grids.mark.Goals as goal

@@ -1,7 +1,7 @@
 use Rattle.std.proofs.Common.{arith}
 use Rattle.std.proofs.lemmas.Grind.{common_steps}
 use Rattle.std.proofs.lemmas.Bool.Decides.{nat_tests}
-use Rattle.world.specs.calls.Making.{with_place}
+use Rattle.world.specs.Effects.{with_place}
 use Rattle.grids.specs.contracts.table.Grids.{the_view}
 use Rattle.grids.proofs.Changes.{IsWindowTable-moved, windows-changed}
 use Rattle.grids.proofs.table.Grids.mvwin.Goals as goal

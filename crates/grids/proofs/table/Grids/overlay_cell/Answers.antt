@@ -3,8 +3,8 @@ use Rattle.world.proofs.WindowLaws.{put-nothing}
 use Rattle.cell.specs.Glyphs.{Glyph}
 use Rattle.world.specs.Windows.{WindowMap, Drawing, put, cell_at}
 use Rattle.world.specs.Rows.{filled, overlaid, copied}
+use Rattle.world.specs.Effects.{drawing_frame}
 use Rattle.grids.specs.Tables.{windows}
-use Rattle.world.specs.calls.writing.Editing.{drawing_frame}
 use Rattle.grids.proofs.CopyFrames.{shown-frame, nothing-frame}
 use Rattle.grids.proofs.Copies.{one-shown, one-hidden}
 use Rattle.grids.proofs.table.Grids.overlay_cell.Goals as goal

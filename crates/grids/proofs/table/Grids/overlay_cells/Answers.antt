@@ -1,7 +1,7 @@
 use Rattle.std.proofs.Common.{◌≡◌, ◌+◌, ◌-◌, ◌<◌, true, Some, refl, sym, ap, arith, subst, ◌∙◌}
 use Rattle.world.specs.Windows.{GridPlace, Windows, cell_at, own, put}
 use Rattle.world.specs.Rows.{copied}
-use Rattle.world.specs.calls.writing.Editing.{drawing_frame}
+use Rattle.world.specs.Effects.{drawing_frame}
 use Rattle.grids.specs.declared.table.Grids.{Grids}
 use Rattle.grids.specs.Tables.{windows}
 use Rattle.slots.specs.Slots.{window_map}

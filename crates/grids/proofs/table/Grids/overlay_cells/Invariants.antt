@@ -1,7 +1,7 @@
 use Rattle.std.proofs.Common.{◌≡◌, ◌+◌, ◌-◌, true}
 use Rattle.world.specs.Windows.{put}
 use Rattle.world.specs.Rows.{copied}
-use Rattle.world.specs.calls.writing.Editing.{drawing_frame}
+use Rattle.world.specs.Effects.{drawing_frame}
 use Rattle.grids.specs.Tables.{windows}
 use Rattle.grids.proofs.table.Grids.overlay_cells.Given as goal
 
