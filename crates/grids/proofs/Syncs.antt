@@ -9,8 +9,8 @@ use Rattle.cell.specs.declared.limits.TheConstants.{LARGEST_PAD}
 use Rattle.world.specs.Windows.{part_of, GridPlace, HasPlace, Window, WindowMap, Windows, ancestors, any_below, changed, onward, own, touched_below}
 use Rattle.world.specs.Sharing.{shows_part_of}
 use Rattle.world.specs.Sound.{AreSoundWindows}
-use Rattle.world.specs.calls.Marks.{after_syncdown, after_syncup}
-use Rattle.world.specs.calls.Copying.{in_line, shows_touched_of, touching}
+use Rattle.world.specs.calls.Copying.{after_copying, in_line, shows_touched_of, touching}
+use Rattle.world.specs.declared.call.Copying.TheVariants.{Syncdown, Syncup}
 use Rattle.world.specs.declared.settings.Columns.{Columns}
 use Rattle.world.proofs.Below.{any_below-some, any_below-true}
 use Rattle.world.proofs.WindowLaws.{own-onward, touched-touched}
@@ -177,7 +177,7 @@ pub record IsHandedTo (old cur : Windows) (w u line column : ℕ) : Type 0 where
   pub size : cur ≡ record old { window = cur.window }
   pub same : (v : ℕ) → option_map untouched (cur.window v) ≡ option_map untouched (old.window v)
   pub source : cur.window w ≡ old.window w
-  pub rest : (v : ℕ) → (if list_any (λ p. p == v) (ancestors old.window u) then option_map (touching (shows_touched_of old.window w v)) (cur.window v) else cur.window v) ≡ (after_syncup old w).window v
+  pub rest : (v : ℕ) → (if list_any (λ p. p == v) (ancestors old.window u) then option_map (touching (shows_touched_of old.window w v)) (cur.window v) else cur.window v) ≡ (after_copying old (Syncup (record { 0 = w }))).window v
 
 -- what the reached window is
 pub reached : (old cur : Windows) (w u line column : ℕ) → (walk : Walk old.window w u line column) → ((v : ℕ) → option_map untouched (cur.window v) ≡ option_map untouched (old.window v)) → SameBut (cur.window u) walk.above
@@ -262,12 +262,12 @@ module _ (old : Windows) (sound : AreSoundWindows old) (w u line column : ℕ) (
     unfolding test
     next_at v = ap (λ (ws : Windows). ws.window v) step
 
-    rest-next : (v : ℕ) → (if list_any (λ p. p == v) (ancestors old.window part.parent) then option_map (touching (shows_touched_of old.window w v)) (next.window v) else next.window v) ≡ (after_syncup old w).window v
+    rest-next : (v : ℕ) → (if list_any (λ p. p == v) (ancestors old.window part.parent) then option_map (touching (shows_touched_of old.window w v)) (next.window v) else next.window v) ≡ (after_copying old (Syncup (record { 0 = w }))).window v
     rest-next v =
         let further = list_any (λ p. p == v) (ancestors old.window part.parent) in
         let f = touching (shows_touched_of old.window w v) in
         let all : list_any (λ p. p == v) (ancestors old.window u) ≡ ((part.parent == v) || further) = ap (list_any (λ p. p == v)) next-ancestors in
-        let target : (if (part.parent == v) || further then option_map f (cur.window v) else cur.window v) ≡ (after_syncup old w).window v =
+        let target : (if (part.parent == v) || further then option_map f (cur.window v) else cur.window v) ≡ (after_copying old (Syncup (record { 0 = w }))).window v =
         ap (λ (t : Bool). if t then option_map f (cur.window v) else cur.window v) (sym all) ∙ h.rest v in
         elim (cases_eq v part.parent) [
           | inl same ↦
@@ -303,7 +303,7 @@ module _ (old : Windows) (sound : AreSoundWindows old) (w u line column : ℕ) (
 
 -- ---- at the last window
 
-pub handed-all : (old cur : Windows) (w u line column : ℕ) → (h : IsHandedTo old cur w u line column) → part_behind h.walk.above.backing ≡ None → cur ≡ after_syncup old w
+pub handed-all : (old cur : Windows) (w u line column : ℕ) → (h : IsHandedTo old cur w u line column) → part_behind h.walk.above.backing ≡ None → cur ≡ after_copying old (Syncup (record { 0 = w }))
 handed-all old cur w u line column h last =
     let grid = behind-none h.walk.above.backing last in
     let none = ancestors-none old.window u h.walk.above grid.0 h.walk.at_is grid.1 in
@@ -317,7 +317,7 @@ pub record IsTakenFrom (old cur : Windows) (w u line column : ℕ) : Type 0 wher
   pub size : cur ≡ record old { window = cur.window }
   pub same : (v : ℕ) → option_map untouched (cur.window v) ≡ option_map untouched (old.window v)
   pub others : (v : ℕ) → v ≢ w → cur.window v ≡ old.window v
-  pub rest : changed cur.window w (touching (λ y x. list_any (λ v. shows_touched_of old.window v w y x) (ancestors old.window u))) ≡ (after_syncdown old w).window
+  pub rest : changed cur.window w (touching (λ y x. list_any (λ v. shows_touched_of old.window v w y x) (ancestors old.window u))) ≡ (after_copying old (Syncdown (record { 0 = w }))).window
 
 pub taken-none : (windows : Windows) (w : ℕ) → IsSome (windows.window w) → IsTakenFrom windows windows w w 0 0
 taken-none windows w there = record { walk = Walk-start windows.window w there; size = refl; same = λ v. refl; others = λ v other. refl; rest = refl }
@@ -373,7 +373,7 @@ module _ (old : Windows) (sound : AreSoundWindows old) (w u line column : ℕ) (
         ∙ h.rest;
   }
 
-pub taken-all : (old cur : Windows) (w u line column : ℕ) → (h : IsTakenFrom old cur w u line column) → part_behind h.walk.above.backing ≡ None → cur ≡ after_syncdown old w
+pub taken-all : (old cur : Windows) (w u line column : ℕ) → (h : IsTakenFrom old cur w u line column) → part_behind h.walk.above.backing ≡ None → cur ≡ after_copying old (Syncdown (record { 0 = w }))
 taken-all old cur w u line column h last =
     let grid = behind-none h.walk.above.backing last in
     let none = ancestors-none old.window u h.walk.above grid.0 h.walk.at_is grid.1 in

@@ -4,8 +4,9 @@ ghost use Rattle.std.specs.Prelude.{◌≡◌, ℕ, ◌<◌, ◌≤◌, ◌+◌,
 ghost use Rattle.std.specs.Result.{result_err};
 ghost use Rattle.cell.specs.Refusals.{RefusedBy, first_of};
 ghost use Rattle.world.specs.Sound.{AreSoundWindows};
-ghost use Rattle.world.specs.calls.Making.{is_inside, extent, new_number, place_from, newwin_refusal, after_newwin, newpad_refusal, after_newpad, part_tests, derwin_refusal, after_derwin, subpad_refusal, after_subpad, subwin_refusal, after_subwin, mvwin_refusal, after_mvwin, mvderwin_refusal, after_mvderwin, delwin_refusal, after_delwin};
+ghost use Rattle.world.specs.calls.Making.{is_inside, extent, new_number, place_from, part_tests, after_making, derived_from, in_no_panel, making_refusal, next_window};
 ghost use Rattle.world.specs.Effects.{numbered};
+ghost use Rattle.world.specs.declared.call.Making.{Making};
 ghost use Rattle.grids.specs.Tables.{windows};
 
 use crate::table::Grids;
@@ -28,9 +29,9 @@ impl Grids {
         begin_y: u16,
         begin_x: u16,
     ) -> Result<WinId, Refusal>
-        ensures refused { RefusedBy (newwin_refusal (windows self.old) nlines ncols begin_y begin_x) result }
+        ensures refused { RefusedBy (making_refusal (windows self.old) in_no_panel (Making.Newwin nlines ncols begin_y begin_x)) result }
         ensures number { IfOk result (λ win. new_number (windows self.old).window ≡ Some win.0) }
-        ensures made { IfOk result (λ win. windows self.new ≡ after_newwin (windows self.old) win.0 nlines ncols begin_y begin_x) }
+        ensures made { IfOk result (λ win. windows self.new ≡ after_making (windows self.old) (Making.Newwin nlines ncols begin_y begin_x)) }
         ensures unchanged { OnErr result (self.new ≡ self.old) }
         ensures sound { AreSoundWindows (windows self.new) }
     {
@@ -49,9 +50,9 @@ impl Grids {
     /// # Errors
     /// `BadSize`, `TooMany`, `NoMemory`.
     pub fn newpad(&mut self, nlines: u16, ncols: u16) -> Result<WinId, Refusal>
-        ensures refused { RefusedBy (newpad_refusal (windows self.old) nlines ncols) result }
+        ensures refused { RefusedBy (making_refusal (windows self.old) in_no_panel (Making.Newpad nlines ncols)) result }
         ensures number { IfOk result (λ win. new_number (windows self.old).window ≡ Some win.0) }
-        ensures made { IfOk result (λ win. windows self.new ≡ after_newpad (windows self.old) win.0 nlines ncols) }
+        ensures made { IfOk result (λ win. windows self.new ≡ after_making (windows self.old) (Making.Newpad nlines ncols)) }
         ensures unchanged { OnErr result (self.new ≡ self.old) }
         ensures sound { AreSoundWindows (windows self.new) }
     {
@@ -78,9 +79,9 @@ impl Grids {
         begin_y: u16,
         begin_x: u16,
     ) -> Result<WinId, Refusal>
-        ensures refused { RefusedBy (derwin_refusal (windows self.old) win.0 nlines ncols begin_y begin_x) result }
+        ensures refused { RefusedBy (making_refusal (windows self.old) in_no_panel (Making.Derwin win nlines ncols begin_y begin_x)) result }
         ensures number { IfOk result (λ new. new_number (windows self.old).window ≡ Some new.0) }
-        ensures made { IfOk result (λ new. windows self.new ≡ after_derwin (windows self.old) new.0 win.0 nlines ncols begin_y begin_x) }
+        ensures made { IfOk result (λ new. windows self.new ≡ after_making (windows self.old) (Making.Derwin win nlines ncols begin_y begin_x)) }
         ensures unchanged { OnErr result (self.new ≡ self.old) }
         ensures sound { AreSoundWindows (windows self.new) }
     {
@@ -103,9 +104,9 @@ impl Grids {
         begin_y: u16,
         begin_x: u16,
     ) -> Result<WinId, Refusal>
-        ensures refused { RefusedBy (subwin_refusal (windows self.old) win.0 nlines ncols begin_y begin_x) result }
+        ensures refused { RefusedBy (making_refusal (windows self.old) in_no_panel (Making.Subwin win nlines ncols begin_y begin_x)) result }
         ensures number { IfOk result (λ new. new_number (windows self.old).window ≡ Some new.0) }
-        ensures made { IfOk result (λ new. windows self.new ≡ after_subwin (windows self.old) new.0 win.0 nlines ncols begin_y begin_x) }
+        ensures made { IfOk result (λ new. windows self.new ≡ after_making (windows self.old) (Making.Subwin win nlines ncols begin_y begin_x)) }
         ensures unchanged { OnErr result (self.new ≡ self.old) }
         ensures sound { AreSoundWindows (windows self.new) }
     {
@@ -129,9 +130,9 @@ impl Grids {
         begin_y: u16,
         begin_x: u16,
     ) -> Result<WinId, Refusal>
-        ensures refused { RefusedBy (subpad_refusal (windows self.old) pad.0 nlines ncols begin_y begin_x) result }
+        ensures refused { RefusedBy (making_refusal (windows self.old) in_no_panel (Making.Subpad pad nlines ncols begin_y begin_x)) result }
         ensures number { IfOk result (λ new. new_number (windows self.old).window ≡ Some new.0) }
-        ensures made { IfOk result (λ new. windows self.new ≡ after_subpad (windows self.old) new.0 pad.0 nlines ncols begin_y begin_x) }
+        ensures made { IfOk result (λ new. windows self.new ≡ after_making (windows self.old) (Making.Subpad pad nlines ncols begin_y begin_x)) }
         ensures unchanged { OnErr result (self.new ≡ self.old) }
         ensures sound { AreSoundWindows (windows self.new) }
     {
@@ -154,7 +155,7 @@ impl Grids {
         requires { IsSome ((windows self.old).window win.0) }
         ensures refused { RefusedBy (first_of (part_tests (windows self.old) win.0 nlines ncols y x)) result }
         ensures number { IfOk result (λ new. new_number (windows self.old).window ≡ Some new.0) }
-        ensures made { IfOk result (λ new. windows self.new ≡ after_derwin (windows self.old) new.0 win.0 nlines ncols y x) }
+        ensures made { IfOk result (λ new. windows self.new ≡ numbered (windows self.old) (next_window (windows self.old)) (derived_from (windows self.old) win.0 nlines ncols y x)) }
         ensures unchanged { OnErr result (self.new ≡ self.old) }
         ensures sound { AreSoundWindows (windows self.new) }
     {
@@ -182,8 +183,8 @@ impl Grids {
     /// # Errors
     /// `NoSuchWindow`, `StandardScreen`, `IsPad`, `OffScreen`.
     pub fn mvwin(&mut self, win: WinId, y: u16, x: u16) -> Result<(), Refusal>
-        ensures refused { result_err result ≡ mvwin_refusal (windows self.old) false win.0 y x }
-        ensures moved { OnOk result (windows self.new ≡ after_mvwin (windows self.old) win.0 y x) }
+        ensures refused { result_err result ≡ making_refusal (windows self.old) in_no_panel (Making.Mvwin win y x) }
+        ensures moved { OnOk result (windows self.new ≡ after_making (windows self.old) (Making.Mvwin win y x)) }
         ensures unchanged { OnErr result (self.new ≡ self.old) }
         ensures sound { AreSoundWindows (windows self.new) }
     {
@@ -209,8 +210,8 @@ impl Grids {
     /// # Errors
     /// `NoSuchWindow`, `NotDerived`, `OutsideParent`.
     pub fn mvderwin(&mut self, win: WinId, par_y: u16, par_x: u16) -> Result<(), Refusal>
-        ensures refused { result_err result ≡ mvderwin_refusal (windows self.old) win.0 par_y par_x }
-        ensures moved { OnOk result (windows self.new ≡ after_mvderwin (windows self.old) win.0 par_y par_x) }
+        ensures refused { result_err result ≡ making_refusal (windows self.old) in_no_panel (Making.Mvderwin win par_y par_x) }
+        ensures moved { OnOk result (windows self.new ≡ after_making (windows self.old) (Making.Mvderwin win par_y par_x)) }
         ensures unchanged { OnErr result (self.new ≡ self.old) }
         ensures sound { AreSoundWindows (windows self.new) }
     {
@@ -234,8 +235,8 @@ impl Grids {
     /// # Errors
     /// `NoSuchWindow`, `StandardScreen`, `HasDerived`.
     pub fn delwin(&mut self, win: WinId) -> Result<(), Refusal>
-        ensures refused { result_err result ≡ delwin_refusal (windows self.old) false win.0 }
-        ensures deleted { OnOk result (windows self.new ≡ after_delwin (windows self.old) win.0) }
+        ensures refused { result_err result ≡ making_refusal (windows self.old) in_no_panel (Making.Delwin win) }
+        ensures deleted { OnOk result (windows self.new ≡ after_making (windows self.old) (Making.Delwin win)) }
         ensures unchanged { OnErr result (self.new ≡ self.old) }
         ensures sound { AreSoundWindows (windows self.new) }
     {

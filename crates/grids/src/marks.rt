@@ -4,11 +4,10 @@ ghost use Rattle.std.specs.Prelude.{◌≡◌, ◌≤◌, ◌+◌, true, false, 
 ghost use Rattle.std.specs.Result.{result_err};
 ghost use Rattle.world.specs.Sound.{AreSoundWindows};
 ghost use Rattle.world.specs.Windows.{HasPlace, changed};
-ghost use Rattle.world.specs.calls.Marks.{after_touchln, after_touchwin, is_linetouched_refusal, touchln_refusal};
-ghost use Rattle.world.specs.calls.Copying.{is_linetouched, is_wintouched};
-ghost use Rattle.world.specs.calls.Missing.{missing_refusal};
+ghost use Rattle.world.specs.calls.Copying.{is_linetouched, is_wintouched, after_copying, copying_refusal, lines_marked};
 ghost use Rattle.world.specs.calls.Queries.{touched_columns};
 ghost use Rattle.world.specs.Effects.{unmarked};
+ghost use Rattle.world.specs.declared.call.Copying.{Copying};
 ghost use Rattle.grids.specs.Tables.{windows};
 
 use crate::table::Grids;
@@ -45,8 +44,8 @@ impl Grids {
     /// # Errors
     /// `NoSuchWindow`.
     pub fn touchwin(&mut self, win: WinId) -> Result<(), Refusal>
-        ensures refused { result_err result ≡ missing_refusal (windows self.old).window win.0 }
-        ensures touched { OnOk result (windows self.new ≡ after_touchwin (windows self.old) win.0 true) }
+        ensures refused { result_err result ≡ copying_refusal (windows self.old) (Copying.Touchwin win) }
+        ensures touched { OnOk result (windows self.new ≡ after_copying (windows self.old) (Copying.Touchwin win)) }
         ensures unchanged { OnErr result (self.new ≡ self.old) }
         ensures sound { AreSoundWindows (windows self.new) }
     {
@@ -61,8 +60,8 @@ impl Grids {
     /// # Errors
     /// `NoSuchWindow`.
     pub fn untouchwin(&mut self, win: WinId) -> Result<(), Refusal>
-        ensures refused { result_err result ≡ missing_refusal (windows self.old).window win.0 }
-        ensures touched { OnOk result (windows self.new ≡ after_touchwin (windows self.old) win.0 false) }
+        ensures refused { result_err result ≡ copying_refusal (windows self.old) (Copying.Untouchwin win) }
+        ensures touched { OnOk result (windows self.new ≡ after_copying (windows self.old) (Copying.Untouchwin win)) }
         ensures unchanged { OnErr result (self.new ≡ self.old) }
         ensures sound { AreSoundWindows (windows self.new) }
     {
@@ -77,8 +76,8 @@ impl Grids {
     /// # Errors
     /// `NoSuchWindow`; `OutsideWindow` if the window hasn't line `y`, or not `n` lines from it on.
     pub fn touchline(&mut self, win: WinId, y: u16, n: u16) -> Result<(), Refusal>
-        ensures refused { result_err result ≡ touchln_refusal (windows self.old) win.0 y n }
-        ensures touched { OnOk result (windows self.new ≡ after_touchln (windows self.old) win.0 y n true) }
+        ensures refused { result_err result ≡ copying_refusal (windows self.old) (Copying.Touchline win y n) }
+        ensures touched { OnOk result (windows self.new ≡ after_copying (windows self.old) (Copying.Touchline win y n)) }
         ensures unchanged { OnErr result (self.new ≡ self.old) }
         ensures sound { AreSoundWindows (windows self.new) }
     {
@@ -90,8 +89,8 @@ impl Grids {
     /// # Errors
     /// `NoSuchWindow`; `OutsideWindow` if the window hasn't line `y`, or not `n` lines from it on.
     pub fn wtouchln(&mut self, win: WinId, y: u16, n: u16, flag: bool) -> Result<(), Refusal>
-        ensures refused { result_err result ≡ touchln_refusal (windows self.old) win.0 y n }
-        ensures touched { OnOk result (windows self.new ≡ after_touchln (windows self.old) win.0 y n flag) }
+        ensures refused { result_err result ≡ copying_refusal (windows self.old) (Copying.Touchln win y n flag) }
+        ensures touched { OnOk result (windows self.new ≡ after_copying (windows self.old) (Copying.Touchln win y n flag)) }
         ensures unchanged { OnErr result (self.new ≡ self.old) }
         ensures sound { AreSoundWindows (windows self.new) }
     {
@@ -107,7 +106,7 @@ impl Grids {
     /// Touches lines, or takes their touches away. They must be there.
     fn mark(&mut self, win: WinId, first: u16, n: u16, flag: bool)
         requires { IsSomeAnd ((windows self.old).window win.0) (λ a. first + n ≤ a.lines) }
-        ensures touched { windows self.new ≡ after_touchln (windows self.old) win.0 first n flag }
+        ensures touched { windows self.new ≡ record (windows self.old) { window = changed (windows self.old).window win.0 (lines_marked first n flag) } }
         ensures sound { AreSoundWindows (windows self.new) }
     {
         mark_slot(&mut self.slots, win.0, first, n, flag);
@@ -119,7 +118,7 @@ impl Grids {
     /// # Errors
     /// `NoSuchWindow`; `OutsideWindow` if the window hasn't line `y`.
     pub fn is_linetouched(&self, win: WinId, y: u16) -> Result<bool, Refusal>
-        ensures refused { result_err result ≡ is_linetouched_refusal (windows self.now) win.0 y }
+        ensures refused { result_err result ≡ copying_refusal (windows self.now) (Copying.IsLinetouched win y) }
         ensures touched { IfOk result (λ touched. touched ≡ is_linetouched (windows self.now).window win.0 y) }
         ensures sound { AreSoundWindows (windows self.now) }
     {
@@ -136,7 +135,7 @@ impl Grids {
     /// # Errors
     /// `NoSuchWindow`.
     pub fn is_wintouched(&self, win: WinId) -> Result<bool, Refusal>
-        ensures refused { result_err result ≡ missing_refusal (windows self.now).window win.0 }
+        ensures refused { result_err result ≡ copying_refusal (windows self.now) (Copying.IsWintouched win) }
         ensures touched { IfOk result (λ touched. touched ≡ is_wintouched (windows self.now).window win.0) }
         ensures sound { AreSoundWindows (windows self.now) }
     {

@@ -3,8 +3,8 @@
 ghost use Rattle.std.specs.Prelude.{◌≡◌, Some, is_some, IfOk};
 ghost use Rattle.std.specs.Result.{result_err};
 ghost use Rattle.world.specs.Sound.{AreSoundWindows};
-ghost use Rattle.world.specs.calls.Missing.{missing_refusal};
-ghost use Rattle.world.specs.calls.Queries.{cursor_of, getbegyx_refusal, place_on_screen, window_size, getparyx_refusal, offset_in_parent};
+ghost use Rattle.world.specs.calls.Queries.{cursor_of, place_on_screen, window_size, offset_in_parent, query_refusal};
+ghost use Rattle.world.specs.declared.call.Query.{Query};
 ghost use Rattle.grids.specs.Tables.{windows};
 
 use crate::table::Grids;
@@ -32,7 +32,7 @@ impl Grids {
     /// # Errors
     /// `NoSuchWindow`.
     pub fn getyx(&self, win: WinId) -> Result<(u16, u16), Refusal>
-        ensures refused { result_err result ≡ missing_refusal (windows self.now).window win.0 }
+        ensures refused { result_err result ≡ query_refusal (windows self.now) (Query.Getyx win) }
         ensures cursor { IfOk result (λ place. cursor_of (windows self.now).window win.0 ≡ Some place) }
         ensures sound { AreSoundWindows (windows self.now) }
     {
@@ -46,7 +46,7 @@ impl Grids {
     /// # Errors
     /// `NoSuchWindow`, `IsPad`.
     pub fn getbegyx(&self, win: WinId) -> Result<(u16, u16), Refusal>
-        ensures refused { result_err result ≡ getbegyx_refusal (windows self.now).window win.0 }
+        ensures refused { result_err result ≡ query_refusal (windows self.now) (Query.Getbegyx win) }
         ensures place { IfOk result (λ place. place_on_screen (windows self.now).window win.0 ≡ Some place) }
         ensures sound { AreSoundWindows (windows self.now) }
     {
@@ -60,7 +60,7 @@ impl Grids {
     /// # Errors
     /// `NoSuchWindow`.
     pub fn getmaxyx(&self, win: WinId) -> Result<(u16, u16), Refusal>
-        ensures refused { result_err result ≡ missing_refusal (windows self.now).window win.0 }
+        ensures refused { result_err result ≡ query_refusal (windows self.now) (Query.Getmaxyx win) }
         ensures size { IfOk result (λ size. window_size (windows self.now).window win.0 ≡ Some size) }
         ensures sound { AreSoundWindows (windows self.now) }
     {
@@ -74,7 +74,7 @@ impl Grids {
     /// # Errors
     /// `NoSuchWindow`, `NotDerived`.
     pub fn getparyx(&self, win: WinId) -> Result<(u16, u16), Refusal>
-        ensures refused { result_err result ≡ getparyx_refusal (windows self.now).window win.0 }
+        ensures refused { result_err result ≡ query_refusal (windows self.now) (Query.Getparyx win) }
         ensures offset { IfOk result (λ place. offset_in_parent (windows self.now).window win.0 ≡ Some place) }
         ensures sound { AreSoundWindows (windows self.now) }
     {

@@ -5,9 +5,8 @@ ghost use Rattle.std.specs.Result.{result_err};
 ghost use Rattle.cell.specs.declared.limits.TheConstants.{LARGEST_PAD};
 ghost use Rattle.world.specs.Sound.{AreColumnsWithin, AreSoundWindows};
 ghost use Rattle.world.specs.Windows.{HasPlace, changed};
-ghost use Rattle.world.specs.calls.Marks.{after_syncdown, after_syncup};
-ghost use Rattle.world.specs.calls.Copying.{touching};
-ghost use Rattle.world.specs.calls.Missing.{missing_refusal};
+ghost use Rattle.world.specs.calls.Copying.{touching, after_copying, copying_refusal};
+ghost use Rattle.world.specs.declared.call.Copying.{Copying};
 ghost use Rattle.grids.specs.Tables.{windows};
 ghost use Rattle.slots.specs.Changes.{with_touched};
 ghost use Rattle.slots.specs.Slots.{depth_at};
@@ -25,8 +24,8 @@ impl Grids {
     /// # Errors
     /// `NoSuchWindow`.
     pub fn wsyncup(&mut self, win: WinId) -> Result<(), Refusal>
-        ensures refused { result_err result ≡ missing_refusal (windows self.old).window win.0 }
-        ensures touched { OnOk result (windows self.new ≡ after_syncup (windows self.old) win.0) }
+        ensures refused { result_err result ≡ copying_refusal (windows self.old) (Copying.Syncup win) }
+        ensures touched { OnOk result (windows self.new ≡ after_copying (windows self.old) (Copying.Syncup win)) }
         ensures unchanged { OnErr result (self.new ≡ self.old) }
         ensures sound { AreSoundWindows (windows self.new) }
     {
@@ -42,8 +41,8 @@ impl Grids {
     /// # Errors
     /// `NoSuchWindow`.
     pub fn wsyncdown(&mut self, win: WinId) -> Result<(), Refusal>
-        ensures refused { result_err result ≡ missing_refusal (windows self.old).window win.0 }
-        ensures touched { OnOk result (windows self.new ≡ after_syncdown (windows self.old) win.0) }
+        ensures refused { result_err result ≡ copying_refusal (windows self.old) (Copying.Syncdown win) }
+        ensures touched { OnOk result (windows self.new ≡ after_copying (windows self.old) (Copying.Syncdown win)) }
         ensures unchanged { OnErr result (self.new ≡ self.old) }
         ensures sound { AreSoundWindows (windows self.new) }
     {
@@ -57,7 +56,7 @@ impl Grids {
     /// Hands what is touched of a window to its ancestors, from parent to parent.
     fn hand_up(&mut self, win: u16)
         requires { IsSome ((windows self.old).window win) }
-        ensures { windows self.new ≡ after_syncup (windows self.old) win }
+        ensures { windows self.new ≡ after_copying (windows self.old) (Copying.Syncup (record { 0 = win })) }
     {
         prove!(self.is_sound());
         let mut at = Place::first_of(win);
@@ -70,7 +69,7 @@ impl Grids {
     /// Takes what is touched of a window's ancestors, from parent to parent.
     fn take_down(&mut self, win: u16)
         requires { IsSome ((windows self.old).window win) }
-        ensures { windows self.new ≡ after_syncdown (windows self.old) win }
+        ensures { windows self.new ≡ after_copying (windows self.old) (Copying.Syncdown (record { 0 = win })) }
     {
         prove!(self.is_sound());
         let mut at = Place::first_of(win);

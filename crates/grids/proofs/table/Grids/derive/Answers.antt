@@ -1,10 +1,12 @@
+use Rattle.std.specs.Prelude.{unwrap_or}
 use Rattle.std.proofs.Common.{◌≡◌, ◌+◌, Some, arith, ◌∙◌, ap, refl, sym}
 use Rattle.std.specs.Option.{option_map}
 use Rattle.std.proofs.lemmas.Grind.{common_steps}
 use Rattle.world.specs.Windows.{part_of}
-use Rattle.world.specs.calls.Making.{place_from}
+use Rattle.world.specs.calls.Making.{next_window, place_from}
 use Rattle.world.specs.Effects.{numbered}
 use Rattle.world.specs.World.{new_window}
+use Rattle.world.specs.Panels.{standard_screen}
 use Rattle.grids.specs.contracts.table.Grids.{the_view}
 use Rattle.slots.specs.Kept.{window_of}
 use Rattle.slots.specs.Slots.{slot_at, window_map}
@@ -53,7 +55,9 @@ returns-clause-made c =
     let lines = extent-is a.nlines p.lines a.y c.in_ok-lines.lines (rw (← c.lines.ensures) (sym c.extent_inside.ensures ∙ c.in_ok-lines.ensures.ok_part)) in
     let columns = extent-is a.ncols p.columns a.x c.in_ok-columns.columns (rw (← c.columns.ensures) (sym c.extent_inside-2.ensures ∙ c.in_ok-columns.ensures.ok_part)) in
     let made = rw (c.place_from-place.ensures, c.place.ensures) at c.in_ok-slot.ensures.window in
-    rw (← c.self.view_is)
+    let free = rw (c.deref-2.ensures.value, c.in_ok-number.ensures.ok_part) at c.free_number.ensures.number in
+    let next : next_window (windows t) ≡ n = ap (λ o. unwrap_or o standard_screen) (sym free) in
+    rw (← c.self.view_is, next)
     (windows-added t c.fill_slot_at.new.slots.items n c.in_ok-slot.slot c.in_ok-fill_slot_at.ensures.set
     (new_window c.in_ok-lines.lines c.in_ok-columns.columns (place_from p.place a.y a.x) (part_of a.win.0 a.y a.x)) made
     ∙ ap (numbered (windows t) n) (made_derived (window_map t.slots) p a.win.0 a.nlines a.ncols a.y a.x c.in_ok-lines.lines c.in_ok-columns.columns (ap (option_map window_of) e) lines.given columns.given))

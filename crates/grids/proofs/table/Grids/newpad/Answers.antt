@@ -1,5 +1,9 @@
+use Rattle.std.specs.Prelude.{unwrap_or}
 use Rattle.world.specs.World.{blank_grid, new_window}
-use Rattle.std.proofs.Common.{None}
+use Rattle.std.proofs.Common.{None, ◌≡◌, ap, sym}
+use Rattle.world.specs.calls.Making.{next_window}
+use Rattle.world.specs.Panels.{standard_screen}
+use Rattle.grids.specs.Tables.{windows}
 use Rattle.grids.specs.contracts.table.Grids.{the_view}
 use Rattle.grids.proofs.NewWindows.{IsWindowTable-added, windows-added, stands_alone, placed_pad}
 use Rattle.slots.proofs.Origins.{origin-alone}
@@ -18,5 +22,7 @@ invariant_of-self-2 c =
 pub returns-clause-made : goal.returns-clause-made
 returns-clause-made c =
     let t = the_view c.self.inside in
-    rw (← c.self.view_is)
+    let free = rw (c.deref.ensures.value, c.in_ok-number.ensures.ok_part) at c.free_number.ensures.number in
+    let next : next_window (windows t) ≡ c.in_ok-number.number = ap (λ o. unwrap_or o standard_screen) (sym free) in
+    rw (← c.self.view_is, next)
     (windows-added t c.fill_slot_at.new.slots.items c.in_ok-number.number c.in_ok-slot.slot c.in_ok-fill_slot_at.ensures.set (new_window c.args.nlines c.args.ncols None blank_grid) c.in_ok-slot.ensures.window)

@@ -1,7 +1,10 @@
-use Rattle.std.proofs.Common.{◌≡◌, ℕ, Some, ◌∙◌, sym}
+use Rattle.std.specs.Prelude.{unwrap_or}
+use Rattle.std.proofs.Common.{◌≡◌, ℕ, Some, ◌∙◌, sym, ap}
 use Rattle.world.specs.Windows.{Window}
 use Rattle.world.specs.World.{blank_grid, new_window}
-use Rattle.world.specs.calls.Making.{extent}
+use Rattle.world.specs.calls.Making.{extent, next_window}
+use Rattle.world.specs.Panels.{standard_screen}
+use Rattle.grids.specs.Tables.{windows}
 use Rattle.grids.specs.contracts.table.Grids.{the_view}
 use Rattle.grids.proofs.NewWindows.{IsWindowTable-added, windows-added, stands_alone, extent-is, placed_new}
 use Rattle.slots.proofs.Origins.{origin-alone}
@@ -29,5 +32,7 @@ returns-clause-made c =
     let columns = extent-is a.ncols t.columns a.begin_x c.in_ok-columns.columns (sym c.extent_inside-2.ensures ∙ c.in_ok-columns.ensures.ok_part) in
     let made : ℕ → ℕ → Window = λ l m. new_window l m (Some (a.begin_y, a.begin_x)) blank_grid in
     let found : made c.in_ok-lines.lines c.in_ok-columns.columns ≡ made (extent a.nlines t.lines a.begin_y) (extent a.ncols t.columns a.begin_x) = λ i. made (lines.given i) (columns.given i) in
-    rw (← c.self.view_is)
+    let free = rw (c.deref.ensures.value, c.in_ok-number.ensures.ok_part) at c.free_number.ensures.number in
+    let next : next_window (windows t) ≡ n = ap (λ o. unwrap_or o standard_screen) (sym free) in
+    rw (← c.self.view_is, next)
     (windows-added t c.fill_slot_at.new.slots.items n c.in_ok-slot.slot c.in_ok-fill_slot_at.ensures.set (made (extent a.nlines t.lines a.begin_y) (extent a.ncols t.columns a.begin_x)) (c.in_ok-slot.ensures.window ∙ found))
