@@ -16,7 +16,7 @@ use Rattle.world.specs.calls.Queries.{place_on_screen}
 use Rattle.world.specs.Effects.{unmarked, with_unmarked}
 use Rattle.world.specs.calls.writing.Options.{after_clearok}
 use Rattle.world.specs.calls.Writing.{with_clear}
-use Rattle.world.proofs.PlaceLaws.{has_place, panels-kept, places-changed, places-set, same_if, there-true}
+use Rattle.world.proofs.PlaceLaws.{has_place, panels-kept, places-changed, same_if, there-true}
 use Rattle.world.proofs.Sizes.{SameSize}
 use Rattle.grids.specs.Tables.{WindowTable, windows}
 use Rattle.stack.specs.Tables.{PanelTable, panels}
@@ -102,12 +102,11 @@ IsSound-refreshed old new ps pairs virtual w place picture f cursor clear h soun
       placed (Some a) place e = ap (λ (p : Option Place). is_some p) e
 
 -- a rectangle of a pad was, and the cursor stayed
-pub IsSound-pad : (old new : WindowTable) (ps : PanelTable) (pairs : Pairs) (virtual : VirtualScreen) (w first n : ℕ) (picture : Picture) (f : ℕ → ℕ → Shown) (clear : Bool)
-    → IsSound (world (desk_of old ps pairs virtual)) → AreSoundWindows (windows new) → windows new ≡ after_clearok (after_touchln (windows old) w first n false) w false
+pub IsSound-pad : (old new : WindowTable) (ps : PanelTable) (pairs : Pairs) (virtual : VirtualScreen) (w : ℕ) (test : ℕ → Bool) (picture : Picture) (f : ℕ → ℕ → Shown) (clear : Bool)
+    → IsSound (world (desk_of old ps pairs virtual)) → AreSoundWindows (windows new) → windows new ≡ record (windows old) { window = changed (windows old).window w (unmarked_lines test) }
     → picture ≡ picture_of old.lines old.columns f → AreShown picture
     → IsSound (world (desk_of new ps pairs (record { picture = picture; cursor = virtual.cursor; clear = clear })))
-IsSound-pad old new ps pairs virtual w first n picture f clear h sound are shown cells =
+IsSound-pad old new ps pairs virtual w test picture f clear h sound are shown cells =
     IsSound-shown old new ps pairs virtual picture f virtual.cursor clear h sound (record { lines = ap (λ ws. ws.lines) are; columns = ap (λ ws. ws.columns) are })
-    (λ p u is other there. ap (λ ws. has_place (ws.window u)) are ∙ places-set (after_touchln (windows old) w first n false) w (with_clear false) u
-    ∙ places-changed (windows old) w (lines_marked first n false) (λ a. refl) u ∙ there)
+    (λ p u is other there. ap (λ ws. has_place (ws.window u)) are ∙ places-changed (windows old) w (unmarked_lines test) (λ a. refl) u ∙ there)
     shown cells (h.virtual.line, h.virtual.column)

@@ -15,7 +15,7 @@ use Rattle.world.specs.Windows.{Drawing, window_limit}
 use Rattle.world.specs.World.{VirtualScreen, World, first_world, picture}
 use Rattle.world.specs.Sound.{AreColumnsWithin, AreSoundWindows, IsSound}
 use Rattle.world.specs.calls.Copying.{copywin_drawing}
-use Rattle.world.specs.calls.Dispatch.{after_stacking, is_update_panels, refusal, world_after}
+use Rattle.world.specs.calls.Dispatch.{is_update_panels, refusal, world_after}
 use Rattle.world.specs.calls.Affected.{affects_place}
 use Rattle.world.specs.Effects.{shown_over}
 use Rattle.world.specs.calls.Refresh.{touched_cells}
@@ -25,11 +25,7 @@ use Rattle.world.specs.declared.call.Call.TheVariants as calls
 use Rattle.world.specs.declared.call.Stacking.{Stacking}
 use Rattle.world.specs.declared.call.Stacking.TheVariants.{NewPanel, DelPanel, ShowPanel, HidePanel, TopPanel, BottomPanel, MovePanel, ReplacePanel, PanelAbove, PanelBelow, PanelWindow, PanelHidden}
 use Rattle.world.specs.declared.call.Refresh.TheVariants.{Noutrefresh, Pnoutrefresh, UpdatePanels, Doupdate, InitPair}
-use Rattle.world.proofs.MoveLaws.{found-making}
-use Rattle.world.proofs.RefreshLaws.{found-refresh}
 use Rattle.world.proofs.Sizes.{size-call}
-use Rattle.world.proofs.StackingLaws.{found-stacking}
-use Rattle.world.proofs.WritingLaws.{found-copying, found-writing}
 use Rattle.picture.specs.Damages.{Damages, columns_of, has_damage_at}
 use Rattle.picture.proofs.DamageLaws.{damages-line}
 use Rattle.world.proofs.CallLaws.{picture-kept, virtual-kept}

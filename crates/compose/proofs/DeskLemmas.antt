@@ -10,11 +10,10 @@ use Rattle.world.specs.Windows.{Window, Windows}
 use Rattle.world.specs.Panels.{Panels, is_in_panel, first_panels, standard_screen}
 use Rattle.world.specs.World.{VirtualScreen, World, first_world}
 use Rattle.world.specs.Sound.{AreSoundPanels, AreSoundWindows, IsSound, IsSoundPanel}
-use Rattle.world.specs.calls.Making.{after_making, making_refusal, delwin_refusal, has_derived}
+use Rattle.world.specs.calls.Making.{after_making, making_change, making_refusal}
 use Rattle.world.specs.calls.Dispatch.{refusal, takes_memory, world_after}
 use Rattle.cell.specs.declared.refusal.Refusal.{Refusal}
-use Rattle.cell.specs.declared.refusal.Refusal.TheVariants.{HasDerived, InPanel, NoMemory, NoSuchWindow, StandardScreen}
-use Rattle.cell.specs.declared.window.WinId.{WinId}
+use Rattle.cell.specs.declared.refusal.Refusal.TheVariants.{NoMemory}
 use Rattle.grids.specs.Tables.{WindowTable, windows}
 use Rattle.stack.specs.Tables.{PanelTable, panels}
 use Rattle.world.specs.declared.settings.Columns.{Columns}
@@ -23,10 +22,9 @@ use Rattle.compose.specs.Calling.{Called, DamagesFew, MayLeave, MayRefuse, MayTe
 use Rattle.world.specs.declared.call.Call.{Call}
 use Rattle.world.specs.declared.call.Call.TheVariants as calls
 use Rattle.world.specs.declared.call.Making.{Making}
-use Rattle.world.specs.declared.call.Making.TheVariants.{Delwin}
 use Rattle.world.specs.declared.call.Reply.{Reply}
-use Rattle.world.proofs.PanelLaws.{in_panel-some}
-use Rattle.world.proofs.PlaceLaws.{has_place, keeps-making, panels-kept}
+use Rattle.world.proofs.Allowed.{allowed-making}
+use Rattle.world.proofs.PlaceLaws.{has_place, keeps-change, panels-kept}
 use Rattle.world.proofs.Sizes.{SameSize, size-call}
 
 -- a desk of these windows, panels and pairs, and this virtual screen; its damage is no part of its world
@@ -40,21 +38,8 @@ KeepsPlaces ps old new = (p w : ℕ) → ps.window p ≡ Some w → w ≢ standa
 no-panels-sound : (ws : Windows) (ps : Panels) → ps ≡ first_panels → AreSoundPanels ws.window ps
 no-panels-sound ws ps none = subst (λ ps. AreSoundPanels ws.window ps) (sym none) (search rules)
 
--- a window of a panel isn't deleted
-not-deleted-from : (o : Option Window) (in_panel : Bool) (standard derived : Bool) → in_panel ≡ true
-    → first_of ((is_none o, NoSuchWindow) ∷ (standard, StandardScreen) ∷ (in_panel, InPanel) ∷ (derived, HasDerived) ∷ []) ≡ None → ⊥
-not-deleted-from None in_panel standard derived h none = cc
-not-deleted-from (Some a) true true derived h none = cc
-not-deleted-from (Some a) true false derived h none = cc
-not-deleted-from (Some a) false standard derived h none = cc
-
-not-deleted : (ws : Windows) (ps : Panels) (p w : ℕ) → AreSoundPanels ws.window ps → ps.window p ≡ Some w → delwin_refusal ws (is_in_panel ps w) w ≡ None → ⊥
-not-deleted ws ps p w h is none =
-    let entry : IsSoundPanel ws.window ps p w = subst (λ o. MatchOption o ⊤ (IsSoundPanel ws.window ps p)) is (h.each p) in
-    not-deleted-from (ws.window w) (is_in_panel ps w) (w == standard_screen) (has_derived ws.window w) (in_panel-some ps w p entry.number is) none
-
 -- a refusal of a call that may take memory
-may-refuse : (w : World) (call : Call) (e : Refusal) (takes : Bool) → takes ≡ takes_memory call → (refusal w call ≡ Some e) ⊎ ((refusal w call ≡ None) × (e ≡ NoMemory))
+may-refuse : (w : World) (call : Call) (e : Refusal) (takes : Bool) → takes ≡ takes_memory w call → (refusal w call ≡ Some e) ⊎ ((refusal w call ≡ None) × (e ≡ NoMemory))
     → (takes ≡ false → Some e ≡ refusal w call) → MayRefuse w call e
 may-refuse w call e true is (inl h) exact = inl h
 may-refuse w call e true is (inr h) exact = inr (h.0, sym is, h.1)
@@ -80,17 +65,10 @@ module _ (old new : WindowTable) (ps : PanelTable) (pairs : Pairs) (virtual : Vi
 
   -- ---- making
 
-  -- no window of a panel was deleted
-  stays : (making : Making) (p w : ℕ) → AreSoundPanels (windows old).window (panels ps) → (panels ps).window p ≡ Some w → making_refusal (windows old) (is_in_panel (panels ps)) making ≡ None
-      → (win : WinId) → making ≡ Delwin win → w ≢ win.0
-  stays making p w h is accepted win deleted same =
-      let refused = not-deleted (windows old) (panels ps) p w h is in
-      let none : delwin_refusal (windows old) (is_in_panel (panels ps) win.0) win.0 ≡ None = subst (λ m. making_refusal (windows old) (is_in_panel (panels ps)) m ≡ None) deleted accepted in
-      refused (subst (λ v. delwin_refusal (windows old) (is_in_panel (panels ps) v) v ≡ None) (sym same) none)
-
   pub keeps-made : (making : Making) (r : Result Reply Refusal) → AreSoundPanels (windows old).window (panels ps) → RefusedBy (making_refusal (windows old) (is_in_panel (panels ps)) making) r
       → (reply : Reply) → r ≡ Ok reply → KeepsPlaces (panels ps) (windows old) (after_making (windows old) making)
-  keeps-made making (Ok reply) sound refused done is p w has other there = keeps-making (windows old) making w other (stays making p w sound has refused) there
+  keeps-made making (Ok reply) sound refused done is p w has other there =
+      keeps-change (windows old) (panels ps) (making_change (windows old) making) sound (allowed-making (windows old) (panels ps) making refused) p w has there
   keeps-made making (Err e) sound refused done is p w has other there = cc
 
 -- a new desk
@@ -144,10 +122,10 @@ accepted-by t (Ok done) h other is = h
 accepted-by t (Err e) h other is = cc
 
 pub called : (old new : DeskTable) (call : Call) (r : Result Reply Refusal) → RefusedBy (refusal (world old) call) r
-    → (takes_memory call ≡ false → result_err r ≡ refusal (world old) call) → IfOk r (λ reply. MayTell (world old) (is_damaged_line old) call reply)
+    → (takes_memory (world old) call ≡ false → result_err r ≡ refusal (world old) call) → IfOk r (λ reply. MayTell (world old) (is_damaged_line old) call reply)
     → OnOk r (MayLeave old call new) → OnOk r (DamagesFew old call new) → OnErr r (new ≡ old) → Called old call r new
 called old new call (Ok reply) refused exact answers left few unchanged = (refused, answers, left, few)
-called old new call (Err e) refused exact answers left few unchanged = (may-refuse (world old) call e (takes_memory call) refl refused exact, unchanged)
+called old new call (Err e) refused exact answers left few unchanged = (may-refuse (world old) call e (takes_memory (world old) call) refl refused exact, unchanged)
 
 -- ---- calls that change windows alone
 

@@ -6,9 +6,8 @@ pub mod Pieces
 pub mod Unmarking
 mod Covering
 mod Visible
-mod WrittenDamages
+mod AffectedDamages
 mod Reading
-mod Following
 mod Touching
 mod Arranging
 pub mod Parting

@@ -1,18 +1,20 @@
 -- What a call on panels damages: the part of the panel that it names, as it was, and that of the panel that it changed or made, as it is.
-use Rattle.std.proofs.Common.{◌≡◌, ℕ, ◌+◌, Bool, true, false, ◌==◌, ◌||◌, Option, Some, None, List, [], ◌∷◌, refl, sym, ap, subst, ◌∙◌, arith}
-use Rattle.std.specs.Prelude.{All, IsSome, MatchOption, ⊤, find, if◌then◌else◌, is_none}
+use Rattle.std.proofs.Common.{◌≡◌, ℕ, ◌+◌, ◌≤◌, Bool, true, false, ◌==◌, ◌&&◌, ◌||◌, Option, Some, None, List, [], ◌∷◌, refl, sym, ap, subst, ◌∙◌, arith}
+use Rattle.std.specs.Prelude.{IsSome, MatchOption, ⊤, find, if◌then◌else◌, is_none, unwrap_or}
 use Rattle.std.specs.List.{list_any}
 use Rattle.std.specs.Option.{option_map_or}
 use Rattle.cell.specs.declared.window.Rect.{Rect}
-use Rattle.world.specs.Panels.{Panels}
-use Rattle.world.specs.Windows.{Windows}
-use Rattle.world.specs.calls.Written.{changed_panel}
-use Rattle.world.specs.calls.Stacking.{new_panel_number}
+use Rattle.world.specs.Panels.{Panels, panel_holds}
+use Rattle.world.specs.Windows.{WindowMap, Windows}
+use Rattle.world.specs.Sound.{AreSoundPanels, IsSoundPanel}
+use Rattle.world.specs.Effects.{Order, adds, carries, changes, orders, panels_after, windows_after}
+use Rattle.world.specs.calls.Affected.{order_shows_at, panel_shows_at}
+use Rattle.world.specs.calls.Stacking.{new_panel_number, next_panel, stacking_order}
 use Rattle.world.specs.declared.call.Stacking.{Stacking}
 use Rattle.world.specs.declared.call.Stacking.TheVariants.{NewPanel, DelPanel, ShowPanel, HidePanel, TopPanel, BottomPanel, MovePanel, ReplacePanel, PanelAbove, PanelBelow, PanelWindow, PanelHidden}
 use Rattle.picture.specs.Parts.{IsFrameWithin}
 use Rattle.picture.proofs.VisiblePanels.{absent-hidden}
-use Rattle.compose.specs.steps.Changes.{named_panel, panels_after, windows_after}
+use Rattle.compose.specs.steps.Changes.{named_panel, order_panel}
 
 none-is : (o : Option ℕ) → is_none o ≡ true → o ≡ None
 none-is None h = refl
@@ -28,44 +30,55 @@ find-free window (q ∷ ps) p is = by_test (is_none (window q)) refl (λ rest. f
       subst (λ r. window r ≡ None) equal (none-is (window q) free)
   by_test false taken later = later (subst (λ (b : Bool). (if b then Some q else find (λ q. is_none (window q)) ps) ≡ Some p) taken is)
 
+-- no panel has the number 0
+no-panel : (window : WindowMap) (ps : Panels) (o : Option ℕ) → ps.window 0 ≡ o → MatchOption o ⊤ (IsSoundPanel window ps 0) → o ≡ None
+no-panel window ps None is h = refl
+no-panel window ps (Some w) is h = let first = h.from_one in absurd (omega (arith, first))
+
+next-free : (window : WindowMap) (ps : Panels) (o : Option ℕ) → AreSoundPanels window ps → new_panel_number ps ≡ o → ps.window (unwrap_or o 0) ≡ None
+next-free window ps None sound is = no-panel window ps (ps.window 0) refl (sound.each 0)
+next-free window ps (Some p) sound is = find-free ps.window _ p is
+
 -- a new panel wasn't visible
-pub new-hidden : (ps : Panels) (p : ℕ) → All (λ q. IsSome (ps.window q)) ps.visible → new_panel_number ps ≡ Some p → list_any (λ q. q == p) ps.visible ≡ false
-new-hidden ps p there is = sym (absent-hidden ps.window p ps.visible there (find-free ps.window _ p is))
+next-hidden : (window : WindowMap) (ps : Panels) (y x : ℕ) → AreSoundPanels window ps → panel_shows_at window ps (next_panel ps) y x ≡ false
+next-hidden window ps y x sound =
+    ap (λ b. b && panel_holds window ps y x (next_panel ps))
+    (sym (absent-hidden ps.window (next_panel ps) ps.visible sound.visible (next-free window ps (new_panel_number ps) sound refl)))
 
-new-part : (before after : ℕ → Bool) (o : Option ℕ) → ((p : ℕ) → o ≡ Some p → before p ≡ false) → option_map_or (λ p. before p || after p) o false ≡ option_map_or after o false
-new-part before after None hidden = refl
-new-part before after (Some p) hidden = rw (hidden p refl) refl
-
-same-part : (a b : Bool) → (a || b) ≡ (a || b)
-same-part a b = refl
+-- where the panel p holds the place, if it is one
+abbrev pub part_shows : Windows → Panels → ℕ → ℕ → Option ℕ → Bool
+part_shows ws ps y x o = option_map_or (λ p. panel_shows_at ws.window ps p y x) o false
 
 -- of the changed panel, before or after, it is that of the named one before, or that of the changed one after
-pub both-parts : (ps : Panels) (stacking : Stacking) (before after : ℕ → Bool) → ((p : ℕ) → new_panel_number ps ≡ Some p → before p ≡ false)
-    → option_map_or (λ p. before p || after p) (changed_panel ps stacking) false ≡ (option_map_or before (named_panel stacking) false || option_map_or after (changed_panel ps stacking) false)
-both-parts ps (NewPanel win) before after hidden = new-part before after (new_panel_number ps) hidden
-both-parts ps (DelPanel panel) before after hidden = refl
-both-parts ps (ShowPanel panel) before after hidden = refl
-both-parts ps (HidePanel panel) before after hidden = refl
-both-parts ps (TopPanel panel) before after hidden = refl
-both-parts ps (BottomPanel panel) before after hidden = refl
-both-parts ps (MovePanel panel y x) before after hidden = refl
-both-parts ps (ReplacePanel panel win) before after hidden = refl
-both-parts ps (PanelAbove panel) before after hidden = refl
-both-parts ps (PanelBelow panel) before after hidden = refl
-both-parts ps (PanelWindow panel) before after hidden = refl
-both-parts ps (PanelHidden panel) before after hidden = refl
+both-parts : (ws : Windows) (ps : Panels) (stacking : Stacking) (y x : ℕ) → AreSoundPanels ws.window ps
+    → (let order = stacking_order ps stacking in order_shows_at ws ps order y x
+    ≡ (part_shows ws ps y x (named_panel stacking) || part_shows (windows_after ws ps order) (panels_after ps order) y x (order_panel order)))
+both-parts ws ps (NewPanel win) y x sound = let order = stacking_order ps (NewPanel win) in
+    ap (λ b. b || part_shows (windows_after ws ps order) (panels_after ps order) y x (order_panel order)) (next-hidden ws.window ps y x sound)
+both-parts ws ps (DelPanel panel) y x sound = refl
+both-parts ws ps (ShowPanel panel) y x sound = refl
+both-parts ws ps (HidePanel panel) y x sound = refl
+both-parts ws ps (TopPanel panel) y x sound = refl
+both-parts ws ps (BottomPanel panel) y x sound = refl
+both-parts ws ps (MovePanel panel line column) y x sound = refl
+both-parts ws ps (ReplacePanel panel win) y x sound = refl
+both-parts ws ps (PanelAbove panel) y x sound = refl
+both-parts ws ps (PanelBelow panel) y x sound = refl
+both-parts ws ps (PanelWindow panel) y x sound = refl
+both-parts ws ps (PanelHidden panel) y x sound = refl
 
 -- The part before the call and the part after it make up what the call changes, where they hold what the panel had that it names, and
 -- what the panel has that it changed.
-pub stacking-parts : (shows : Windows → Panels → ℕ → Bool) (ws new : Windows) (ps rest : Panels) (stacking : Stacking) (named changed : Option ℕ) (before after : Bool)
-    → ((p : ℕ) → new_panel_number ps ≡ Some p → shows ws ps p ≡ false) → new ≡ windows_after ws ps stacking → rest ≡ panels_after ps stacking
-    → named ≡ named_panel stacking → changed ≡ changed_panel ps stacking → before ≡ option_map_or (shows ws ps) named false → after ≡ option_map_or (shows new rest) changed false
-    → option_map_or (λ p. shows ws ps p || shows (windows_after ws ps stacking) (panels_after ps stacking) p) (changed_panel ps stacking) false ≡ (before || after)
-stacking-parts shows ws new ps rest stacking named changed before after hidden is are name change was will =
-    let named_is : before ≡ option_map_or (shows ws ps) (named_panel stacking) false = was ∙ ap (λ o. option_map_or (shows ws ps) o false) name in
-    let changed_is : after ≡ option_map_or (shows (windows_after ws ps stacking) (panels_after ps stacking)) (changed_panel ps stacking) false =
-    will ∙ (λ i. option_map_or (shows (is i) (are i)) (change i) false) in
-    both-parts ps stacking (shows ws ps) (shows (windows_after ws ps stacking) (panels_after ps stacking)) hidden ∙ sym (λ i. named_is i || changed_is i)
+pub stacking-parts : (ws new : Windows) (ps rest : Panels) (stacking : Stacking) (named changed : Option ℕ) (before after : Bool) (y x : ℕ) → AreSoundPanels ws.window ps
+    → new ≡ windows_after ws ps (stacking_order ps stacking) → rest ≡ panels_after ps (stacking_order ps stacking)
+    → named ≡ named_panel stacking → changed ≡ order_panel (stacking_order ps stacking) → before ≡ part_shows ws ps y x named → after ≡ part_shows new rest y x changed
+    → order_shows_at ws ps (stacking_order ps stacking) y x ≡ (before || after)
+stacking-parts ws new ps rest stacking named changed before after y x sound is are name change was will =
+    let order = stacking_order ps stacking in
+    let named_is : before ≡ part_shows ws ps y x (named_panel stacking) = was ∙ ap (part_shows ws ps y x) name in
+    let changed_is : after ≡ part_shows (windows_after ws ps order) (panels_after ps order) y x (order_panel order) =
+    will ∙ (λ i. part_shows (is i) (are i) y x (change i)) in
+    both-parts ws ps stacking y x sound ∙ sym (λ i. named_is i || changed_is i)
 
 pub part-within : (lines columns height : ℕ) (part : Option Rect) → MatchOption part ⊤ (IsFrameWithin lines columns) → lines ≡ height → MatchOption part ⊤ (λ r. IsFrameWithin height (r.right + 1) r)
 part-within lines columns height None h same = tt

@@ -13,7 +13,8 @@ use Rattle.world.specs.calls.Copying.{copywin_drawing}
 use Rattle.world.specs.calls.Making.{is_pad}
 use Rattle.world.specs.calls.Writing.{lacks_place}
 use Rattle.world.specs.calls.Queries.{touched_columns}
-use Rattle.world.specs.calls.Refresh.{among, is_beyond, pnoutrefresh_refusal, touched_cells}
+use Rattle.world.specs.calls.Refresh.{among, is_beyond, refresh_refusal, touched_cells}
+use Rattle.world.specs.declared.call.Refresh.TheVariants.{Pnoutrefresh}
 use Rattle.cell.specs.Refusals.{first_of}
 use Rattle.cell.specs.declared.refusal.Refusal.TheVariants.{BadRectangle, NoSuchWindow, NotPad, OffScreen, OutsideWindow}
 use Rattle.world.specs.declared.settings.Columns.{Columns}
@@ -163,7 +164,7 @@ of_pad windows w py px top left bottom right (Some a) e there ordered inside on 
       few_columns = (window.few_columns, sound.few_columns);
     }
 
-pub of-pad : (windows : Windows) (w py px top left bottom right : ℕ) → AreSoundWindows windows → pnoutrefresh_refusal windows w py px top left bottom right ≡ None → IsOfPad windows w py px top left bottom right
+pub of-pad : (windows : Windows) (w py px top left bottom right : ℕ) → AreSoundWindows windows → refresh_refusal windows (Pnoutrefresh (record { 0 = w }) py px top left bottom right) ≡ None → IsOfPad windows w py px top left bottom right
 of-pad windows w py px top left bottom right sound h =
     let passed = all-passed (is_none (windows.window w)) (not (is_pad windows.window w)) (nat_lt bottom top || nat_lt right left)
     (lacks_place windows.window w (py + (bottom - top)) (px + (right - left))) (is_beyond windows bottom right) h in

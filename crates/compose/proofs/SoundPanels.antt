@@ -9,8 +9,8 @@ use Rattle.cell.specs.declared.refusal.Refusal.TheVariants.{NoSuchWindow, Standa
 use Rattle.world.specs.Windows.{Window, WindowMap}
 use Rattle.world.specs.Panels.{Panels, standard_screen}
 use Rattle.world.specs.Sound.{AreSoundPanels, IsSoundPanel}
-use Rattle.world.specs.calls.Stacking.{IsSoundEntry, IsSoundOrder, after_del_panel, after_new_panel, after_replace_panel, window_tests}
-use Rattle.world.specs.Effects.{given}
+use Rattle.world.specs.calls.Stacking.{IsSoundEntry, IsSoundOrder, after_del_panel, after_replace_panel, next_panel, window_tests}
+use Rattle.world.specs.Effects.{given, with_panel}
 use Rattle.world.specs.declared.panel.PanelId.{PanelId}
 use Rattle.stack.specs.Tables.{PanelTable, panels}
 
@@ -70,9 +70,9 @@ module _ (window : WindowMap) where
   some-is w v may is = let same : w ≡ v = cc in subst (MayBeIn window) same may
 
   pub sound-new : (old new : PanelTable) (w : ℕ) (r : Result PanelId Refusal) → AreSoundPanels window (panels old) → IsSoundOrder (panels new) → MayBeIn window w
-      → IfOk r (λ p. panels new ≡ after_new_panel (panels old) p.0 w) → OnErr r (new ≡ old) → AreSoundPanels window (panels new)
+      → IfOk r (λ p. panels new ≡ with_panel (panels old) (next_panel (panels old)) w) → OnErr r (new ≡ old) → AreSoundPanels window (panels new)
   sound-new old new w (Ok p) h order may made unchanged =
-      sound-given (panels old) (panels new) p.0 (Some w) h order (ap (λ ps. ps.window) made) (λ v is. some-is w v may is)
+      sound-given (panels old) (panels new) (next_panel (panels old)) (Some w) h order (ap (λ ps. ps.window) made) (λ v is. some-is w v may is)
   sound-new old new w (Err e) h order may made unchanged = subst (λ t. AreSoundPanels window (panels t)) (sym unchanged) h
 
   pub sound-replaced : {T : Type 0} (old new : PanelTable) (p w : ℕ) (r : Result T Refusal) → AreSoundPanels window (panels old) → IsSoundOrder (panels new) → MayBeIn window w

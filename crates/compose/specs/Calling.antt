@@ -1,13 +1,13 @@
 -- A call that sends nothing, made on a desk: what it answers, and what it leaves.
 use Rattle.std.specs.Prelude.{◌≡◌, ◌≤◌, ◌⊎◌, ℕ, Bool, true, Some, None, Result, Ok, Err}
 use Rattle.world.specs.World.{World}
+use Rattle.world.specs.calls.Affected.{affected_after, owed}
+use Rattle.world.specs.calls.Dispatch.{refusal, reply_of, takes_memory, world_after}
+use Rattle.world.specs.Windows.{changed}
 use Rattle.cell.specs.Differences.{difference}
 use Rattle.cell.specs.declared.refusal.Refusal.{Refusal}
 use Rattle.cell.specs.declared.refusal.Refusal.TheVariants.{NoMemory}
 use Rattle.compose.specs.Desks.{DeskTable, is_damaged_line, world}
-use Rattle.world.specs.calls.Affected.{affected_after, owed}
-use Rattle.world.specs.calls.Dispatch.{refusal, reply_of, takes_memory, world_after}
-use Rattle.world.specs.calls.Refresh.{after_update_panels}
 use Rattle.world.specs.declared.call.Call.{Call}
 use Rattle.world.specs.declared.call.Call.TheVariants as calls
 use Rattle.world.specs.declared.call.Refresh.TheVariants.{UpdatePanels}
@@ -17,7 +17,7 @@ use Rattle.world.specs.declared.call.Reply.TheVariants.{Composed}
 -- An update_panels may read so many cells, where these lines are damaged: at least as many as there are places of the virtual screen that
 -- it changes, and at most all of these lines.
 pub record MayRead (world : World) (damaged : ℕ → Bool) (cells : ℕ) : Type 0 where
-  pub at_least : difference world.virtual.picture (after_update_panels world).virtual.picture ≤ cells
+  pub at_least : difference world.virtual.picture (world_after world (calls.Refresh UpdatePanels)).virtual.picture ≤ cells
   pub at_most : cells ≤ owed world damaged (calls.Refresh UpdatePanels)
 
 -- What an accepted call may answer that sends nothing: update_panels how many cells it read, another what the tables say.
@@ -27,7 +27,7 @@ MayTell world damaged call reply = reply ≡ reply_of world call
 
 -- The call may be refused so: as its tests have it, or, where none of them holds, for want of the memory that it takes.
 abbrev pub MayRefuse : World → Call → Refusal → Type 0
-MayRefuse world call e = (refusal world call ≡ Some e) ⊎ ((refusal world call ≡ None) × (takes_memory call ≡ true) × (e ≡ NoMemory))
+MayRefuse world call e = (refusal world call ≡ Some e) ⊎ ((refusal world call ≡ None) × (takes_memory world call ≡ true) × (e ≡ NoMemory))
 
 -- What an accepted call, which sends nothing, may leave of a desk. A query leaves all of it.
 abbrev pub MayLeave : DeskTable → Call → DeskTable → Type 0

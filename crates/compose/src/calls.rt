@@ -6,22 +6,21 @@ ghost use Rattle.std.specs.Result.{result_err};
 ghost use Rattle.cell.specs.Refusals.{RefusedBy};
 ghost use Rattle.world.specs.Panels.{is_in_panel};
 ghost use Rattle.world.specs.Sound.{AreSoundPanels, AreSoundWindows};
-ghost use Rattle.world.specs.calls.Written.{copied_window, written_window};
-ghost use Rattle.world.specs.calls.Copying.{copying_frame, after_copying, copying_refusal};
-ghost use Rattle.world.specs.calls.Writing.{writing_frame, after_writing, writing_refusal};
-ghost use Rattle.world.specs.calls.Making.{after_making, making_refusal};
-ghost use Rattle.world.specs.calls.Dispatch.{copying_reply, makes_panel, makes_window, making_reply, stacking_reply};
-ghost use Rattle.world.specs.calls.Stacking.{stacking_refusal, panel_number};
-ghost use Rattle.world.specs.calls.Affected.{frame_shows_at, making_shows_at, panel_shows_at};
+ghost use Rattle.world.specs.calls.Copying.{after_copying, copying_refusal, copying_change};
+ghost use Rattle.world.specs.calls.Writing.{after_writing, writing_refusal, writing_edit};
+ghost use Rattle.world.specs.calls.Making.{after_making, making_refusal, making_change};
+ghost use Rattle.world.specs.calls.Stacking.{stacking_refusal, panel_number, after_stacking, stacking_order};
+ghost use Rattle.world.specs.calls.Affected.{panel_shows_at, change_shows_at, edit_shows_at, order_shows_at};
+ghost use Rattle.world.specs.Effects.{change_reply, change_takes_memory, order_reply, order_takes_memory, windows_after};
+ghost use Rattle.world.specs.Windows.{changed};
 ghost use Rattle.grids.specs.Tables.{windows as windows_of};
 ghost use Rattle.stack.specs.Tables.{panels};
 ghost use Rattle.world.specs.declared.call.Reply.{Reply};
 ghost use Rattle.picture.specs.Parts.{IsFrameWithin, part_holds};
 ghost use Rattle.picture.specs.Damages.{Damages};
-ghost use Rattle.compose.specs.steps.Changes.{panels_after, stacking_shows, windows_after};
 
-use crate::damaging::{damage_moved, damage_part, damage_written};
-use crate::dispatch::{arrange, changed_panel, copy, make, moved_window, named_panel, write};
+use crate::damaging::{damage_affected, damage_part};
+use crate::dispatch::{arrange, changed_panel, copy, make, named_panel, write};
 use cell::{Rect, Refusal};
 use grids::Grids;
 use picture::{Damage, panel_part};
@@ -39,17 +38,17 @@ pub(crate) fn make_damaging(
     requires panels { AreSoundPanels (windows_of table.old).window (panels stack.now) }
     requires height { length damage.old ≡ table.old.lines }
     ensures refused { RefusedBy (making_refusal (windows_of table.old) (is_in_panel (panels stack.now)) making) result }
-    ensures exact { makes_window making ≡ false → result_err result ≡ making_refusal (windows_of table.old) (is_in_panel (panels stack.now)) making }
-    ensures reply { IfOk result (λ reply. reply ≡ making_reply (windows_of table.old) making) }
+    ensures exact { change_takes_memory (making_change (windows_of table.old) making) ≡ false → result_err result ≡ making_refusal (windows_of table.old) (is_in_panel (panels stack.now)) making }
+    ensures reply { IfOk result (λ reply. reply ≡ change_reply (making_change (windows_of table.old) making)) }
     ensures made { OnOk result (windows_of table.new ≡ after_making (windows_of table.old) making) }
-    ensures damaged { OnOk result (Damages table.old.columns (making_shows_at (windows_of table.old).window (panels stack.now) making) damage.old damage.new) }
+    ensures damaged { OnOk result (Damages table.old.columns (change_shows_at (windows_of table.old) (panels stack.now) (making_change (windows_of table.old) making)) damage.old damage.new) }
     ensures unchanged { OnErr result (table.new ≡ table.old) }
     ensures undamaged { OnErr result (damage.new ≡ damage.old) }
     ensures sound { AreSoundWindows (windows_of table.new) }
 {
-    let reply = make(table, stack, making)?;
-    damage_moved(damage, table, stack, moved_window(making));
-    Ok(reply)
+    let changed = make(table, stack, making)?;
+    damage_affected(damage, table, stack, changed.affected);
+    Ok(changed.reply)
 }
 
 /// Makes a call of the table of writing.
@@ -63,14 +62,14 @@ pub(crate) fn write_damaging(
     ensures refused { result_err result ≡ writing_refusal (windows_of windows.old.table) writing.entry }
     ensures reply { IfOk result (λ reply. reply ≡ Reply.Nothing) }
     ensures written { OnOk result (windows_of windows.new.table ≡ after_writing (windows_of windows.old.table) writing.entry) }
-    ensures damaged { OnOk result (Damages windows.old.table.columns (frame_shows_at (windows_of windows.old.table).window (panels stack.now) (written_window writing.entry) (writing_frame (windows_of windows.old.table) writing.entry)) damage.old damage.new) }
+    ensures damaged { OnOk result (Damages windows.old.table.columns (edit_shows_at (windows_of windows.old.table) (panels stack.now) (writing_edit (windows_of windows.old.table) writing.entry)) damage.old damage.new) }
     ensures unchanged { OnErr result (windows.new.table ≡ windows.old.table) }
     ensures undamaged { OnErr result (damage.new ≡ damage.old) }
     ensures sound { AreSoundWindows (windows_of windows.new.table) }
 {
-    let wrote = write(windows, writing)?;
-    damage_written(damage, &windows.table, stack, wrote.win, wrote.frame);
-    Ok(wrote.reply)
+    let changed = write(windows, writing)?;
+    damage_affected(damage, &windows.table, stack, changed.affected);
+    Ok(changed.reply)
 }
 
 /// Makes a call of the table of copies and marks.
@@ -82,16 +81,16 @@ pub(crate) fn copy_damaging(
 ) -> Result<Reply, Refusal>
     requires height { length damage.old ≡ windows.old.table.lines }
     ensures refused { result_err result ≡ copying_refusal (windows_of windows.old.table) copying }
-    ensures reply { IfOk result (λ reply. reply ≡ copying_reply (windows_of windows.old.table) copying) }
+    ensures reply { IfOk result (λ reply. reply ≡ change_reply (copying_change (windows_of windows.old.table) copying)) }
     ensures copied { OnOk result (windows_of windows.new.table ≡ after_copying (windows_of windows.old.table) copying) }
-    ensures damaged { OnOk result (Damages windows.old.table.columns (frame_shows_at (windows_of windows.old.table).window (panels stack.now) (copied_window copying) (copying_frame (windows_of windows.old.table) copying)) damage.old damage.new) }
+    ensures damaged { OnOk result (Damages windows.old.table.columns (change_shows_at (windows_of windows.old.table) (panels stack.now) (copying_change (windows_of windows.old.table) copying)) damage.old damage.new) }
     ensures unchanged { OnErr result (windows.new.table ≡ windows.old.table) }
     ensures undamaged { OnErr result (damage.new ≡ damage.old) }
     ensures sound { AreSoundWindows (windows_of windows.new.table) }
 {
-    let wrote = copy(windows, copying)?;
-    damage_written(damage, &windows.table, stack, wrote.win, wrote.frame);
-    Ok(wrote.reply)
+    let changed = copy(windows, copying)?;
+    damage_affected(damage, &windows.table, stack, changed.affected);
+    Ok(changed.reply)
 }
 
 /// Makes a call of the table of panels.
@@ -104,11 +103,11 @@ pub(crate) fn arrange_damaging(
     requires panels { AreSoundPanels (windows_of table.old).window (panels stack.old) }
     requires height { length damage.old ≡ table.old.lines }
     ensures refused { RefusedBy (stacking_refusal (windows_of table.old) (panels stack.old) stacking) result }
-    ensures exact { makes_panel stacking ≡ false → result_err result ≡ stacking_refusal (windows_of table.old) (panels stack.old) stacking }
-    ensures reply { IfOk result (λ reply. reply ≡ stacking_reply (panels stack.old) stacking) }
-    ensures windows { OnOk result (windows_of table.new ≡ windows_after (windows_of table.old) (panels stack.old) stacking) }
-    ensures panels { OnOk result (panels stack.new ≡ panels_after (panels stack.old) stacking) }
-    ensures damaged { OnOk result (Damages table.old.columns (stacking_shows (windows_of table.old) (panels stack.old) stacking) damage.old damage.new) }
+    ensures exact { order_takes_memory (stacking_order (panels stack.old) stacking) ≡ false → result_err result ≡ stacking_refusal (windows_of table.old) (panels stack.old) stacking }
+    ensures reply { IfOk result (λ reply. reply ≡ order_reply (stacking_order (panels stack.old) stacking)) }
+    ensures windows { OnOk result (windows_of table.new ≡ windows_after (windows_of table.old) (panels stack.old) (stacking_order (panels stack.old) stacking)) }
+    ensures panels { OnOk result (panels stack.new ≡ after_stacking (panels stack.old) stacking) }
+    ensures damaged { OnOk result (Damages table.old.columns (order_shows_at (windows_of table.old) (panels stack.old) (stacking_order (panels stack.old) stacking)) damage.old damage.new) }
     ensures unchanged { OnErr result (table.new ≡ table.old) }
     ensures unordered { OnErr result (stack.new ≡ stack.old) }
     ensures undamaged { OnErr result (damage.new ≡ damage.old) }

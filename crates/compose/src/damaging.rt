@@ -4,89 +4,92 @@ ghost use Rattle.std.specs.Prelude.{◌≡◌, ◌<◌, ◌≤◌, ◌+◌, ℕ,
 ghost use Rattle.std.specs.List.{list_any};
 ghost use Rattle.cell.specs.declared.limits.TheConstants.{LARGEST_SCREEN};
 ghost use Rattle.world.specs.Panels.{windows_from_top};
-ghost use Rattle.world.specs.Sound.{AreSoundPanels, AreSoundWindows};
+ghost use Rattle.world.specs.Sound.{AreSoundWindows};
 ghost use Rattle.world.specs.calls.Affected.{frame_shows_at};
 ghost use Rattle.world.specs.calls.Refresh.{touched_cells};
 ghost use Rattle.world.specs.calls.Queries.{place_on_screen};
+ghost use Rattle.world.specs.Windows.{changed};
 ghost use Rattle.grids.specs.Tables.{windows as windows_of};
 ghost use Rattle.stack.specs.Tables.{panels};
 ghost use Rattle.picture.specs.Parts.{IsFrameWithin, part_holds};
 ghost use Rattle.picture.specs.Damages.{Damages};
-ghost use Rattle.compose.specs.steps.Changes.{IsPossible, change_shows_at, moving_shows_at, window_number};
+ghost use Rattle.compose.specs.steps.Changes.{IsPossible, affected_shows_at, any_shows_at};
 
 use cell::{Rect, WinId};
 use grids::Grids;
 use picture::{Damage, following_part, shared_part};
 use stack::Stack;
 
-/// What may change what windows show: a write in a rectangle of a window, or a derived window that is moved in its parent.
+/// What a call affects of what windows show: a rectangle of a window, which it wrote, or a derived window, which it moved in its parent.
 #[derive(Clone, Copy)]
-pub enum Change {
+pub enum Affected {
     Written { win: WinId, frame: Rect },
     Moved { win: WinId },
 }
 
-/// Damages what the standard screen and the windows of visible panels show of a write.
-pub(crate) fn damage_written(
+/// Damages what the standard screen and the windows of visible panels show of what a call affected, if it did so.
+pub(crate) fn damage_affected(
     damage: &mut Damage,
     table: &Grids,
     stack: &Stack,
-    win: WinId,
-    frame: Option<Rect>,
+    affected: Option<Affected>,
 )
     requires height { length damage.old ≡ table.now.lines }
-    requires inside { MatchOption frame ⊤ (λ r. IsPossible (windows_of table.now).window (Change.Written win r)) }
-    ensures damaged { Damages table.now.columns (frame_shows_at (windows_of table.now).window (panels stack.now) win.0 frame) damage.old damage.new }
+    requires possible { MatchOption affected ⊤ (IsPossible (windows_of table.now).window) }
+    ensures damaged { Damages table.now.columns (any_shows_at (windows_of table.now).window (panels stack.now) affected) damage.old damage.new }
 {
-    if let Some(frame) = frame {
-        let change = Change::Written { win, frame };
-        damage_change(damage, table, change, WinId::STANDARD);
-        damage_visible(damage, table, stack, change);
+    match affected {
+        Some(Affected::Written { win, frame }) => damage_written(damage, table, stack, win, frame),
+        Some(Affected::Moved { win }) => {
+            damage_visible(damage, table, stack, Affected::Moved { win });
+        }
+        None => {}
     }
 }
 
-/// Damages the windows of visible panels that show other cells once a window, if it is one, was moved in its parent.
-pub(crate) fn damage_moved(damage: &mut Damage, table: &Grids, stack: &Stack, win: Option<WinId>)
+/// Damages what the standard screen and the windows of visible panels show of a write.
+fn damage_written(damage: &mut Damage, table: &Grids, stack: &Stack, win: WinId, frame: Rect)
     requires height { length damage.old ≡ table.now.lines }
-    ensures damaged { Damages table.now.columns (moving_shows_at (windows_of table.now).window (panels stack.now) (window_number win)) damage.old damage.new }
+    requires inside { IsPossible (windows_of table.now).window (Affected.Written win frame) }
+    ensures damaged { Damages table.now.columns (frame_shows_at (windows_of table.now).window (panels stack.now) win.0 (Some frame)) damage.old damage.new }
 {
-    if let Some(win) = win {
-        damage_visible(damage, table, stack, Change::Moved { win });
-    }
+    let affected = Affected::Written { win, frame };
+    damage_change(damage, table, affected, WinId::STANDARD);
+    damage_visible(damage, table, stack, affected);
 }
 
 /// Damages what the windows of visible panels show of a change.
-fn damage_visible(damage: &mut Damage, table: &Grids, stack: &Stack, change: Change)
+fn damage_visible(damage: &mut Damage, table: &Grids, stack: &Stack, affected: Affected)
     requires height { length damage.old ≡ table.now.lines }
-    requires possible { IsPossible (windows_of table.now).window change }
-    ensures damaged { Damages table.now.columns (λ y x. list_any (change_shows_at (windows_of table.now).window change y x) (windows_from_top (panels stack.now))) damage.old damage.new }
+    requires possible { IsPossible (windows_of table.now).window affected }
+    ensures damaged { Damages table.now.columns (λ y x. list_any (affected_shows_at (windows_of table.now).window affected y x) (windows_from_top (panels stack.now))) damage.old damage.new }
 {
     for panel in stack.visible_from_top() {
         if let Ok(u) = stack.window(panel) {
-            damage_change(damage, table, change, u);
+            damage_change(damage, table, affected, u);
         }
     }
 }
 
 /// Damages what window `u` shows of a change.
-fn damage_change(damage: &mut Damage, table: &Grids, change: Change, u: WinId)
+fn damage_change(damage: &mut Damage, table: &Grids, affected: Affected, u: WinId)
     requires height { length damage.old ≡ table.now.lines }
-    requires possible { IsPossible (windows_of table.now).window change }
-    ensures damaged { Damages table.now.columns (λ y x. change_shows_at (windows_of table.now).window change y x u.0) damage.old damage.new }
+    requires possible { IsPossible (windows_of table.now).window affected }
+    ensures damaged { Damages table.now.columns (λ y x. affected_shows_at (windows_of table.now).window affected y x u.0) damage.old damage.new }
 {
     prove!(table.has_window(WinId::STANDARD));
-    damage_part(damage, changed_part(table, change, u));
+    damage_part(damage, changed_part(table, affected, u));
 }
 
 /// The rectangle of the screen on which window `u` shows something of a change.
-fn changed_part(table: &Grids, change: Change, u: WinId) -> Option<Rect>
-    requires { IsPossible (windows_of table.now).window change }
-    ensures holds { (y x : ℕ) → part_holds result y x ≡ change_shows_at (windows_of table.now).window change y x u.0 }
+fn changed_part(table: &Grids, affected: Affected, u: WinId) -> Option<Rect>
+    requires { IsPossible (windows_of table.now).window affected }
+    ensures holds { (y x : ℕ) → part_holds result y x ≡ affected_shows_at (windows_of table.now).window affected y x u.0 }
     ensures within { MatchOption result ⊤ (IsFrameWithin table.now.lines table.now.columns) }
 {
-    match change {
-        Change::Written { win, frame } => shared_part(table, win, frame, u),
-        Change::Moved { win } => following_part(table, win, u),
+    match affected {
+        Affected::Written { win, frame } => shared_part(table, win, frame, u),
+        Affected::Moved { win } => following_part(table, win, u),
     }
 }
 

@@ -5,19 +5,17 @@ ghost use Rattle.std.specs.Result.{result_err};
 ghost use Rattle.cell.specs.Pictures.{AreShown, HasSize, line_of, picture_of, shown_at};
 ghost use Rattle.cell.specs.Glyphs.{blank};
 ghost use Rattle.cell.specs.Shown.{shown};
-ghost use Rattle.world.specs.Windows.{cell_at};
-ghost use Rattle.world.specs.Panels.{standard_screen};
 ghost use Rattle.world.specs.World.{first_world, picture};
 ghost use Rattle.world.specs.Sound.{IsSound};
 ghost use Rattle.world.specs.calls.Making.{new_refusal};
-ghost use Rattle.cell.specs.Refusals.{RefusedBy};
-ghost use Rattle.world.specs.calls.Refresh.{after_update_panels, among, init_pair_refusal};
+ghost use Rattle.world.specs.calls.Refresh.{among, colour_tests};
+ghost use Rattle.world.specs.calls.Dispatch.{is_doupdate};
+ghost use Rattle.cell.specs.Refusals.{RefusedBy, first_of};
 ghost use Rattle.grids.specs.Tables.{windows as windows_of};
 ghost use Rattle.stack.specs.Tables.{panels};
 ghost use Rattle.picture.specs.Spans.{IsSpan};
 ghost use Rattle.world.specs.declared.call.Call.{Call};
 ghost use Rattle.world.specs.declared.call.Refresh.{Refresh};
-ghost use Rattle.world.specs.calls.Dispatch.{is_doupdate};
 ghost use Rattle.compose.specs.Desks.{damaged_columns, is_damaged_line, world};
 ghost use Rattle.compose.specs.Calling.{Called};
 
@@ -265,7 +263,7 @@ fn colours_for(
     foreground: u16,
     background: u16,
 ) -> Result<(PairId, Colour, Colour), Refusal>
-    ensures refused { result_err result ≡ init_pair_refusal pair foreground background }
+    ensures refused { result_err result ≡ first_of (colour_tests pair foreground background) }
     ensures made { IfOk result (λ made. made ≡ (pair, foreground, background)) }
 {
     if pair == 0 {

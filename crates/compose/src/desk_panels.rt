@@ -2,9 +2,10 @@
 
 ghost use Rattle.std.specs.Prelude.{◌≡◌, Some, IfOk, OnOk, OnErr, false};
 ghost use Rattle.std.specs.Result.{result_err};
-ghost use Rattle.cell.specs.Refusals.{RefusedBy};
-ghost use Rattle.world.specs.calls.Stacking.{after_bottom_panel, after_del_panel, after_hide_panel, after_move_panel, after_new_panel, after_replace_panel, after_show_panel, after_top_panel, hidden_panel_refusal, is_hidden, missing_panel_refusal, move_panel_refusal, neighbour_refusal, new_panel_number, new_panel_refusal, panel_above, panel_below, panel_number, replace_panel_refusal, stacking_refusal};
-ghost use Rattle.world.specs.calls.Dispatch.{after_stacking, makes_panel, stacking_reply};
+ghost use Rattle.cell.specs.Refusals.{RefusedBy, first_of};
+ghost use Rattle.world.specs.calls.Stacking.{is_hidden, new_panel_number, panel_above, panel_below, panel_number, stacking_refusal, neighbour_tests, panel_tests, stacking_order};
+ghost use Rattle.world.specs.Effects.{order_reply, order_takes_memory};
+ghost use Rattle.world.specs.calls.Dispatch.{refusal, world_after};
 ghost use Rattle.world.specs.declared.call.Call.{Call};
 ghost use Rattle.world.specs.declared.call.Stacking.{Stacking};
 ghost use Rattle.compose.specs.Calling.{DamagesFew};
@@ -19,9 +20,9 @@ impl Desk {
     /// Makes a call of the table of panels.
     pub(crate) fn arrange(&mut self, stacking: Stacking) -> Result<Reply, Refusal>
         ensures refused { RefusedBy (stacking_refusal (world self.old).windows (world self.old).panels stacking) result }
-        ensures exact { makes_panel stacking ≡ false → result_err result ≡ stacking_refusal (world self.old).windows (world self.old).panels stacking }
-        ensures reply { IfOk result (λ reply. reply ≡ stacking_reply (world self.old).panels stacking) }
-        ensures arranged { OnOk result (world self.new ≡ after_stacking (world self.old) stacking) }
+        ensures exact { order_takes_memory (stacking_order (world self.old).panels stacking) ≡ false → result_err result ≡ stacking_refusal (world self.old).windows (world self.old).panels stacking }
+        ensures reply { IfOk result (λ reply. reply ≡ order_reply (stacking_order (world self.old).panels stacking)) }
+        ensures arranged { OnOk result (world self.new ≡ world_after (world self.old) (Call.Stacking stacking)) }
         ensures damaged { OnOk result (DamagesFew self.old (Call.Stacking stacking) self.new) }
         ensures unchanged { OnErr result (self.new ≡ self.old) }
     {
@@ -38,9 +39,9 @@ impl Desk {
     /// # Errors
     /// `NoSuchWindow`, `StandardScreen`, `IsPad`, `InPanel`, `TooMany`, `NoMemory`.
     pub fn new_panel(&mut self, win: WinId) -> Result<PanelId, Refusal>
-        ensures refused { RefusedBy (new_panel_refusal (world self.old).windows.window (world self.old).panels win.0) result }
+        ensures refused { RefusedBy (refusal (world self.old) (Call.Stacking (Stacking.NewPanel win))) result }
         ensures number { IfOk result (λ p. new_panel_number (world self.old).panels ≡ Some p.0) }
-        ensures made { IfOk result (λ p. world self.new ≡ record (world self.old) { panels = after_new_panel (world self.old).panels p.0 win.0 }) }
+        ensures made { OnOk result (world self.new ≡ world_after (world self.old) (Call.Stacking (Stacking.NewPanel win))) }
         ensures damaged { OnOk result (DamagesFew self.old (Call.Stacking (Stacking.NewPanel win)) self.new) }
         ensures unchanged { OnErr result (self.new ≡ self.old) }
     {
@@ -55,8 +56,8 @@ impl Desk {
     /// # Errors
     /// `NoSuchPanel`.
     pub fn del_panel(&mut self, panel: PanelId) -> Result<(), Refusal>
-        ensures refused { result_err result ≡ missing_panel_refusal (world self.old).panels panel.0 }
-        ensures deleted { OnOk result (world self.new ≡ record (world self.old) { panels = after_del_panel (world self.old).panels panel.0 }) }
+        ensures refused { result_err result ≡ refusal (world self.old) (Call.Stacking (Stacking.DelPanel panel)) }
+        ensures deleted { OnOk result (world self.new ≡ world_after (world self.old) (Call.Stacking (Stacking.DelPanel panel))) }
         ensures damaged { OnOk result (DamagesFew self.old (Call.Stacking (Stacking.DelPanel panel)) self.new) }
         ensures unchanged { OnErr result (self.new ≡ self.old) }
     {
@@ -69,8 +70,8 @@ impl Desk {
     /// # Errors
     /// `NoSuchPanel`.
     pub fn show_panel(&mut self, panel: PanelId) -> Result<(), Refusal>
-        ensures refused { result_err result ≡ missing_panel_refusal (world self.old).panels panel.0 }
-        ensures shown { OnOk result (world self.new ≡ record (world self.old) { panels = after_show_panel (world self.old).panels panel.0 }) }
+        ensures refused { result_err result ≡ refusal (world self.old) (Call.Stacking (Stacking.ShowPanel panel)) }
+        ensures shown { OnOk result (world self.new ≡ world_after (world self.old) (Call.Stacking (Stacking.ShowPanel panel))) }
         ensures damaged { OnOk result (DamagesFew self.old (Call.Stacking (Stacking.ShowPanel panel)) self.new) }
         ensures unchanged { OnErr result (self.new ≡ self.old) }
     {
@@ -83,8 +84,8 @@ impl Desk {
     /// # Errors
     /// `NoSuchPanel`, `Hidden`.
     pub fn hide_panel(&mut self, panel: PanelId) -> Result<(), Refusal>
-        ensures refused { result_err result ≡ hidden_panel_refusal (world self.old).panels panel.0 }
-        ensures hidden { OnOk result (world self.new ≡ record (world self.old) { panels = after_hide_panel (world self.old).panels panel.0 }) }
+        ensures refused { result_err result ≡ refusal (world self.old) (Call.Stacking (Stacking.HidePanel panel)) }
+        ensures hidden { OnOk result (world self.new ≡ world_after (world self.old) (Call.Stacking (Stacking.HidePanel panel))) }
         ensures damaged { OnOk result (DamagesFew self.old (Call.Stacking (Stacking.HidePanel panel)) self.new) }
         ensures unchanged { OnErr result (self.new ≡ self.old) }
     {
@@ -97,8 +98,8 @@ impl Desk {
     /// # Errors
     /// `NoSuchPanel`, `Hidden`.
     pub fn top_panel(&mut self, panel: PanelId) -> Result<(), Refusal>
-        ensures refused { result_err result ≡ hidden_panel_refusal (world self.old).panels panel.0 }
-        ensures moved { OnOk result (world self.new ≡ record (world self.old) { panels = after_top_panel (world self.old).panels panel.0 }) }
+        ensures refused { result_err result ≡ refusal (world self.old) (Call.Stacking (Stacking.TopPanel panel)) }
+        ensures moved { OnOk result (world self.new ≡ world_after (world self.old) (Call.Stacking (Stacking.TopPanel panel))) }
         ensures damaged { OnOk result (DamagesFew self.old (Call.Stacking (Stacking.TopPanel panel)) self.new) }
         ensures unchanged { OnErr result (self.new ≡ self.old) }
     {
@@ -111,8 +112,8 @@ impl Desk {
     /// # Errors
     /// `NoSuchPanel`, `Hidden`.
     pub fn bottom_panel(&mut self, panel: PanelId) -> Result<(), Refusal>
-        ensures refused { result_err result ≡ hidden_panel_refusal (world self.old).panels panel.0 }
-        ensures moved { OnOk result (world self.new ≡ record (world self.old) { panels = after_bottom_panel (world self.old).panels panel.0 }) }
+        ensures refused { result_err result ≡ refusal (world self.old) (Call.Stacking (Stacking.BottomPanel panel)) }
+        ensures moved { OnOk result (world self.new ≡ world_after (world self.old) (Call.Stacking (Stacking.BottomPanel panel))) }
         ensures damaged { OnOk result (DamagesFew self.old (Call.Stacking (Stacking.BottomPanel panel)) self.new) }
         ensures unchanged { OnErr result (self.new ≡ self.old) }
     {
@@ -125,8 +126,8 @@ impl Desk {
     /// # Errors
     /// `NoSuchPanel`, `OffScreen`.
     pub fn move_panel(&mut self, panel: PanelId, y: u16, x: u16) -> Result<(), Refusal>
-        ensures refused { result_err result ≡ move_panel_refusal (world self.old).windows (world self.old).panels panel.0 y x }
-        ensures moved { OnOk result (world self.new ≡ record (world self.old) { windows = after_move_panel (world self.old).windows (world self.old).panels panel.0 y x }) }
+        ensures refused { result_err result ≡ refusal (world self.old) (Call.Stacking (Stacking.MovePanel panel y x)) }
+        ensures moved { OnOk result (world self.new ≡ world_after (world self.old) (Call.Stacking (Stacking.MovePanel panel y x))) }
         ensures damaged { OnOk result (DamagesFew self.old (Call.Stacking (Stacking.MovePanel panel y x)) self.new) }
         ensures unchanged { OnErr result (self.new ≡ self.old) }
     {
@@ -139,8 +140,8 @@ impl Desk {
     /// # Errors
     /// `NoSuchPanel`, `NoSuchWindow`, `StandardScreen`, `IsPad`, `InPanel`.
     pub fn replace_panel(&mut self, panel: PanelId, win: WinId) -> Result<(), Refusal>
-        ensures refused { result_err result ≡ replace_panel_refusal (world self.old).windows.window (world self.old).panels panel.0 win.0 }
-        ensures replaced { OnOk result (world self.new ≡ record (world self.old) { panels = after_replace_panel (world self.old).panels panel.0 win.0 }) }
+        ensures refused { result_err result ≡ refusal (world self.old) (Call.Stacking (Stacking.ReplacePanel panel win)) }
+        ensures replaced { OnOk result (world self.new ≡ world_after (world self.old) (Call.Stacking (Stacking.ReplacePanel panel win))) }
         ensures damaged { OnOk result (DamagesFew self.old (Call.Stacking (Stacking.ReplacePanel panel win)) self.new) }
         ensures unchanged { OnErr result (self.new ≡ self.old) }
     {
@@ -153,7 +154,7 @@ impl Desk {
     /// # Errors
     /// `NoSuchPanel`, `Hidden`.
     pub fn panel_above(&self, panel: Option<PanelId>) -> Result<Option<PanelId>, Refusal>
-        ensures refused { result_err result ≡ neighbour_refusal (world self.now).panels (panel_number panel) }
+        ensures refused { result_err result ≡ first_of (neighbour_tests (world self.now).panels panel) }
         ensures answer { IfOk result (λ q. panel_number q ≡ panel_above (world self.now).panels (panel_number panel)) }
     {
         self.stack.above(panel)
@@ -164,7 +165,7 @@ impl Desk {
     /// # Errors
     /// `NoSuchPanel`, `Hidden`.
     pub fn panel_below(&self, panel: Option<PanelId>) -> Result<Option<PanelId>, Refusal>
-        ensures refused { result_err result ≡ neighbour_refusal (world self.now).panels (panel_number panel) }
+        ensures refused { result_err result ≡ first_of (neighbour_tests (world self.now).panels panel) }
         ensures answer { IfOk result (λ q. panel_number q ≡ panel_below (world self.now).panels (panel_number panel)) }
     {
         self.stack.below(panel)
@@ -175,7 +176,7 @@ impl Desk {
     /// # Errors
     /// `NoSuchPanel`.
     pub fn panel_window(&self, panel: PanelId) -> Result<WinId, Refusal>
-        ensures refused { result_err result ≡ missing_panel_refusal (world self.now).panels panel.0 }
+        ensures refused { result_err result ≡ first_of (panel_tests (world self.now).panels panel.0) }
         ensures answer { IfOk result (λ w. (world self.now).panels.window panel.0 ≡ Some w.0) }
     {
         self.stack.window(panel)
@@ -186,7 +187,7 @@ impl Desk {
     /// # Errors
     /// `NoSuchPanel`.
     pub fn panel_hidden(&self, panel: PanelId) -> Result<bool, Refusal>
-        ensures refused { result_err result ≡ missing_panel_refusal (world self.now).panels panel.0 }
+        ensures refused { result_err result ≡ first_of (panel_tests (world self.now).panels panel.0) }
         ensures answer { IfOk result (λ hidden. hidden ≡ is_hidden (world self.now).panels panel.0) }
     {
         self.stack.hidden(panel)

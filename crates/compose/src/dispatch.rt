@@ -1,24 +1,26 @@
 //! The calls on windows, by the table that they stand in.
 
-ghost use Rattle.std.specs.Prelude.{◌≡◌, IfOk, OnErr, OnOk, None, false};
+ghost use Rattle.std.specs.Prelude.{◌≡◌, IfOk, OnErr, OnOk, None, Some, false, option_map};
 ghost use Rattle.std.specs.Result.{result_err};
 ghost use Rattle.cell.specs.Refusals.{RefusedBy};
 ghost use Rattle.world.specs.Panels.{is_in_panel, Panels};
 ghost use Rattle.world.specs.Sound.{AreSoundPanels, AreSoundWindows};
-ghost use Rattle.world.specs.calls.Copying.{after_copying, copying_refusal, copying_frame};
-ghost use Rattle.world.specs.calls.Making.{after_making, making_refusal};
-ghost use Rattle.world.specs.calls.Dispatch.{after_stacking, copying_reply, makes_panel, makes_window, making_reply, stacking_reply, is_doupdate};
-ghost use Rattle.world.specs.calls.Writing.{after_writing, writing_refusal, writing_frame};
+ghost use Rattle.world.specs.calls.Copying.{after_copying, copying_refusal, copying_change};
+ghost use Rattle.world.specs.calls.Making.{after_making, making_refusal, making_change};
+ghost use Rattle.world.specs.calls.Stacking.{after_stacking, stacking_refusal, panel_number, stacking_order};
+ghost use Rattle.world.specs.calls.Dispatch.{is_doupdate};
+ghost use Rattle.world.specs.calls.Writing.{after_writing, writing_refusal, writing_edit};
 ghost use Rattle.world.specs.calls.Queries.{query_refusal, query_reply};
-ghost use Rattle.world.specs.calls.Stacking.{stacking_refusal, panel_number};
-ghost use Rattle.world.specs.calls.Written.{changed_panel, copied_window, written_window};
+ghost use Rattle.world.specs.Effects.{change_reply, change_takes_memory, edits, order_reply, order_takes_memory, windows_after};
+ghost use Rattle.world.specs.Windows.{changed};
 ghost use Rattle.grids.specs.Tables.{windows as windows_of};
 ghost use Rattle.stack.specs.Tables.{panels};
 ghost use Rattle.world.specs.declared.call.Call.{Call};
-ghost use Rattle.compose.specs.steps.Changes.{moved_window, named_panel, panels_after, window_number, windows_after};
+ghost use Rattle.compose.specs.steps.Changes.{affected_by, named_panel, order_panel};
 ghost use Rattle.compose.specs.Calling.{Called};
 ghost use Rattle.compose.specs.Desks.{world};
 
+use crate::damaging::Affected;
 use crate::desk::Desk;
 use crate::panels::{delete_window, move_panel, move_window, new_panel, replace_panel};
 use cell::{Rect, Refusal, WinId};
@@ -27,65 +29,48 @@ use stack::Stack;
 use windows::Windows;
 use world::{Copying, Making, PanelId, Query, Refresh, Reply, Stacking, Writing};
 
+/// What came of a call on windows: its answer, and what it affected of what they show.
+#[derive(Clone, Copy)]
+pub struct Changed {
+    pub reply: Reply,
+    pub affected: Option<Affected>,
+}
+
 /// Makes a call of the table of making and placing.
 #[rattlefmt::skip]
-pub(crate) fn make(table: &mut Grids, stack: &Stack, making: Making) -> Result<Reply, Refusal>
+pub(crate) fn make(table: &mut Grids, stack: &Stack, making: Making) -> Result<Changed, Refusal>
     requires { AreSoundPanels (windows_of table.old).window (panels stack.now) }
     ensures refused { RefusedBy (making_refusal (windows_of table.old) (is_in_panel (panels stack.now)) making) result }
-    ensures exact { makes_window making ≡ false → result_err result ≡ making_refusal (windows_of table.old) (is_in_panel (panels stack.now)) making }
-    ensures reply { IfOk result (λ reply. reply ≡ making_reply (windows_of table.old) making) }
+    ensures exact { change_takes_memory (making_change (windows_of table.old) making) ≡ false → result_err result ≡ making_refusal (windows_of table.old) (is_in_panel (panels stack.now)) making }
+    ensures reply { IfOk result (λ changed. changed.reply ≡ change_reply (making_change (windows_of table.old) making)) }
+    ensures affected { IfOk result (λ changed. changed.affected ≡ affected_by (windows_of table.old) (making_change (windows_of table.old) making)) }
     ensures made { OnOk result (windows_of table.new ≡ after_making (windows_of table.old) making) }
     ensures unchanged { OnErr result (table.new ≡ table.old) }
     ensures sound { AreSoundWindows (windows_of table.new) }
 {
     match making {
-        Making::Newwin { lines, columns, y, x } => number(table.newwin(lines, columns, y, x)?),
-        Making::Subwin { win, lines, columns, y, x } => number(table.subwin(win, lines, columns, y, x)?),
-        Making::Derwin { win, lines, columns, y, x } => number(table.derwin(win, lines, columns, y, x)?),
-        Making::Newpad { lines, columns } => number(table.newpad(lines, columns)?),
-        Making::Subpad { pad, lines, columns, y, x } => number(table.subpad(pad, lines, columns, y, x)?),
-        Making::Delwin { win } => nothing(delete_window(table, stack, win)?),
-        Making::Mvwin { win, y, x } => nothing(move_window(table, stack, win, y, x)?),
-        Making::Mvderwin { win, y, x } => nothing(table.mvderwin(win, y, x)?),
+        Making::Newwin { lines, columns, y, x } => made(table.newwin(lines, columns, y, x)?),
+        Making::Subwin { win, lines, columns, y, x } => made(table.subwin(win, lines, columns, y, x)?),
+        Making::Derwin { win, lines, columns, y, x } => made(table.derwin(win, lines, columns, y, x)?),
+        Making::Newpad { lines, columns } => made(table.newpad(lines, columns)?),
+        Making::Subpad { pad, lines, columns, y, x } => made(table.subpad(pad, lines, columns, y, x)?),
+        Making::Delwin { win } => set(delete_window(table, stack, win)?),
+        Making::Mvwin { win, y, x } => set(move_window(table, stack, win, y, x)?),
+        Making::Mvderwin { win, y, x } => moved(win, table.mvderwin(win, y, x)?),
     }
-}
-
-/// The window that a call moves in its parent, if it does so.
-pub(crate) fn moved_window(making: Making) -> Option<WinId>
-    ensures { window_number result ≡ moved_window making }
-{
-    match making {
-        Making::Mvderwin { win, .. } => Some(win),
-        Making::Newwin { .. } => None,
-        Making::Subwin { .. } => None,
-        Making::Derwin { .. } => None,
-        Making::Newpad { .. } => None,
-        Making::Subpad { .. } => None,
-        Making::Delwin { .. } => None,
-        Making::Mvwin { .. } => None,
-    }
-}
-
-/// What came of a call that may write in a window: its answer, and the rectangle of the window that it wrote in, if it did.
-#[derive(Clone, Copy)]
-pub struct Wrote {
-    pub reply: Reply,
-    pub win: WinId,
-    pub frame: Option<Rect>,
 }
 
 /// Makes a call of the table of writing.
-pub(crate) fn write(windows: &mut Windows, writing: Writing<'_>) -> Result<Wrote, Refusal>
+pub(crate) fn write(windows: &mut Windows, writing: Writing<'_>) -> Result<Changed, Refusal>
     ensures refused { result_err result ≡ writing_refusal (windows_of windows.old.table) writing.entry }
-    ensures reply { IfOk result (λ wrote. wrote.reply ≡ Reply.Nothing) }
-    ensures window { IfOk result (λ wrote. wrote.win.0 ≡ written_window writing.entry) }
-    ensures frame { IfOk result (λ wrote. wrote.frame ≡ writing_frame (windows_of windows.old.table) writing.entry) }
+    ensures reply { IfOk result (λ changed. changed.reply ≡ Reply.Nothing) }
+    ensures affected { IfOk result (λ changed. changed.affected ≡ affected_by (windows_of windows.old.table) (edits (writing_edit (windows_of windows.old.table) writing.entry))) }
     ensures written { OnOk result (windows_of windows.new.table ≡ after_writing (windows_of windows.old.table) writing.entry) }
     ensures unchanged { OnErr result (windows.new.table ≡ windows.old.table) }
     ensures sound { AreSoundWindows (windows_of windows.new.table) }
 {
     match writing {
-        Writing::Move { win, y, x } => set(win, windows.wmove(win, y, x)?),
+        Writing::Move { win, y, x } => set(windows.wmove(win, y, x)?),
         Writing::Addch { win, ch } => drew(win, windows.waddch(win, ch)?),
         Writing::Addstr { win, text } => drew(win, windows.waddstr(win, text)?),
         Writing::Insch { win, ch } => drew(win, windows.winsch(win, ch)?),
@@ -97,25 +82,24 @@ pub(crate) fn write(windows: &mut Windows, writing: Writing<'_>) -> Result<Wrote
         Writing::Clrtoeol { win } => drew(win, windows.wclrtoeol(win)?),
         Writing::Clrtobot { win } => drew(win, windows.wclrtobot(win)?),
         Writing::Scrl { win, n } => drew(win, windows.wscrl(win, n)?),
-        Writing::Setscrreg { win, top, bottom } => set(win, windows.wsetscrreg(win, top, bottom)?),
-        Writing::Scrollok { win, flag } => set(win, windows.scrollok(win, flag)?),
-        Writing::Clearok { win, flag } => set(win, windows.clearok(win, flag)?),
-        Writing::Attrset { win, attrs } => set(win, windows.wattrset(win, attrs)?),
-        Writing::Attron { win, attrs } => set(win, windows.wattron(win, attrs)?),
-        Writing::Attroff { win, attrs } => set(win, windows.wattroff(win, attrs)?),
-        Writing::Bkgdset { win, attrs, ch } => set(win, windows.wbkgdset(win, attrs, ch)?),
-        Writing::ColorSet { win, pair } => set(win, windows.wcolor_set(win, pair)?),
-        Writing::Bkgdpair { win, pair } => set(win, windows.wbkgdpair(win, pair)?),
+        Writing::Setscrreg { win, top, bottom } => set(windows.wsetscrreg(win, top, bottom)?),
+        Writing::Scrollok { win, flag } => set(windows.scrollok(win, flag)?),
+        Writing::Clearok { win, flag } => set(windows.clearok(win, flag)?),
+        Writing::Attrset { win, attrs } => set(windows.wattrset(win, attrs)?),
+        Writing::Attron { win, attrs } => set(windows.wattron(win, attrs)?),
+        Writing::Attroff { win, attrs } => set(windows.wattroff(win, attrs)?),
+        Writing::Bkgdset { win, attrs, ch } => set(windows.wbkgdset(win, attrs, ch)?),
+        Writing::ColorSet { win, pair } => set(windows.wcolor_set(win, pair)?),
+        Writing::Bkgdpair { win, pair } => set(windows.wbkgdpair(win, pair)?),
     }
 }
 
 /// Makes a call of the table of copies and marks.
 #[rattlefmt::skip]
-pub(crate) fn copy(windows: &mut Windows, copying: Copying) -> Result<Wrote, Refusal>
+pub(crate) fn copy(windows: &mut Windows, copying: Copying) -> Result<Changed, Refusal>
     ensures refused { result_err result ≡ copying_refusal (windows_of windows.old.table) copying }
-    ensures reply { IfOk result (λ wrote. wrote.reply ≡ copying_reply (windows_of windows.old.table) copying) }
-    ensures window { IfOk result (λ wrote. wrote.win.0 ≡ copied_window copying) }
-    ensures frame { IfOk result (λ wrote. wrote.frame ≡ copying_frame (windows_of windows.old.table) copying) }
+    ensures reply { IfOk result (λ changed. changed.reply ≡ change_reply (copying_change (windows_of windows.old.table) copying)) }
+    ensures affected { IfOk result (λ changed. changed.affected ≡ affected_by (windows_of windows.old.table) (copying_change (windows_of windows.old.table) copying)) }
     ensures copied { OnOk result (windows_of windows.new.table ≡ after_copying (windows_of windows.old.table) copying) }
     ensures unchanged { OnErr result (windows.new.table ≡ windows.old.table) }
     ensures sound { AreSoundWindows (windows_of windows.new.table) }
@@ -125,14 +109,14 @@ pub(crate) fn copy(windows: &mut Windows, copying: Copying) -> Result<Wrote, Ref
         Copying::Overwrite { src, dst } => drew(dst, windows.overwrite(src, dst)?),
         Copying::Copywin { src, dst, sminrow, smincol, dminrow, dmincol, dmaxrow, dmaxcol, overlay } =>
             drew(dst, windows.copywin(src, dst, sminrow, smincol, dminrow, dmincol, dmaxrow, dmaxcol, overlay)?),
-        Copying::Touchwin { win } => set(win, windows.table.touchwin(win)?),
-        Copying::Untouchwin { win } => set(win, windows.table.untouchwin(win)?),
-        Copying::Touchline { win, y, n } => set(win, windows.table.touchline(win, y, n)?),
-        Copying::Touchln { win, y, n, flag } => set(win, windows.table.wtouchln(win, y, n, flag)?),
-        Copying::Syncup { win } => set(win, windows.table.wsyncup(win)?),
-        Copying::Syncdown { win } => set(win, windows.table.wsyncdown(win)?),
-        Copying::IsLinetouched { win, y } => told(win, windows.table.is_linetouched(win, y)?),
-        Copying::IsWintouched { win } => told(win, windows.table.is_wintouched(win)?),
+        Copying::Touchwin { win } => set(windows.table.touchwin(win)?),
+        Copying::Untouchwin { win } => set(windows.table.untouchwin(win)?),
+        Copying::Touchline { win, y, n } => set(windows.table.touchline(win, y, n)?),
+        Copying::Touchln { win, y, n, flag } => set(windows.table.wtouchln(win, y, n, flag)?),
+        Copying::Syncup { win } => set(windows.table.wsyncup(win)?),
+        Copying::Syncdown { win } => set(windows.table.wsyncdown(win)?),
+        Copying::IsLinetouched { win, y } => told(windows.table.is_linetouched(win, y)?),
+        Copying::IsWintouched { win } => told(windows.table.is_wintouched(win)?),
     }
 }
 
@@ -155,10 +139,10 @@ pub(crate) fn query(windows: &Windows, query: Query) -> Result<Reply, Refusal>
 pub(crate) fn arrange(table: &mut Grids, stack: &mut Stack, stacking: Stacking) -> Result<Reply, Refusal>
     requires { AreSoundPanels (windows_of table.old).window (panels stack.old) }
     ensures refused { RefusedBy (stacking_refusal (windows_of table.old) (panels stack.old) stacking) result }
-    ensures exact { makes_panel stacking ≡ false → result_err result ≡ stacking_refusal (windows_of table.old) (panels stack.old) stacking }
-    ensures reply { IfOk result (λ reply. reply ≡ stacking_reply (panels stack.old) stacking) }
-    ensures windows { OnOk result (windows_of table.new ≡ windows_after (windows_of table.old) (panels stack.old) stacking) }
-    ensures panels { OnOk result (panels stack.new ≡ panels_after (panels stack.old) stacking) }
+    ensures exact { order_takes_memory (stacking_order (panels stack.old) stacking) ≡ false → result_err result ≡ stacking_refusal (windows_of table.old) (panels stack.old) stacking }
+    ensures reply { IfOk result (λ reply. reply ≡ order_reply (stacking_order (panels stack.old) stacking)) }
+    ensures windows { OnOk result (windows_of table.new ≡ windows_after (windows_of table.old) (panels stack.old) (stacking_order (panels stack.old) stacking)) }
+    ensures panels { OnOk result (panels stack.new ≡ after_stacking (panels stack.old) stacking) }
     ensures unchanged { OnErr result (table.new ≡ table.old) }
     ensures unordered { OnErr result (stack.new ≡ stack.old) }
     ensures sound { AreSoundWindows (windows_of table.new) }
@@ -199,7 +183,7 @@ pub(crate) fn named_panel(stacking: Stacking) -> Option<PanelId>
 
 /// The panel that a call changed or made, if it did so.
 pub(crate) fn changed_panel(stacking: Stacking, reply: &Reply) -> Option<PanelId>
-    ensures { (ps : Panels) → reply.now ≡ stacking_reply ps stacking → panel_number result ≡ changed_panel ps stacking }
+    ensures { (ps : Panels) → reply.now ≡ order_reply (stacking_order ps stacking) → panel_number result ≡ order_panel (stacking_order ps stacking) }
 {
     match (stacking, *reply) {
         (Stacking::NewPanel { .. }, Reply::Panel(made)) => made,
@@ -231,39 +215,60 @@ fn nothing<T: Copy>(_answer: T) -> Result<Reply, Refusal>
 }
 
 /// What came of a call that drew in a window.
-fn drew(win: WinId, frame: Option<Rect>) -> Result<Wrote, Refusal>
-    ensures { result ≡ Ok (record { reply = Reply.Nothing; win = win; frame = frame }) }
+fn drew(win: WinId, frame: Option<Rect>) -> Result<Changed, Refusal>
+    ensures { result ≡ Ok (record { reply = Reply.Nothing; affected = option_map (λ r. Affected.Written win r) frame }) }
 {
-    Ok(Wrote {
+    let affected = match frame {
+        Some(frame) => Some(Affected::Written { win, frame }),
+        None => None,
+    };
+    Ok(Changed {
         reply: Reply::Nothing,
-        win,
-        frame,
+        affected,
     })
 }
 
-/// What came of a call that set something of a window.
-fn set<T: Copy>(win: WinId, _answer: T) -> Result<Wrote, Refusal>
-    ensures { result ≡ Ok (record { reply = Reply.Nothing; win = win; frame = None }) }
+/// What came of a call that set something, and affected nothing that windows show.
+fn set<T: Copy>(_answer: T) -> Result<Changed, Refusal>
+    ensures { result ≡ Ok (record { reply = Reply.Nothing; affected = None }) }
 {
-    Ok(Wrote {
+    Ok(Changed {
         reply: Reply::Nothing,
-        win,
-        frame: None,
+        affected: None,
+    })
+}
+
+/// What came of a call that moved a window in its parent.
+fn moved<T: Copy>(win: WinId, _answer: T) -> Result<Changed, Refusal>
+    ensures { result ≡ Ok (record { reply = Reply.Nothing; affected = Some (Affected.Moved win) }) }
+{
+    Ok(Changed {
+        reply: Reply::Nothing,
+        affected: Some(Affected::Moved { win }),
+    })
+}
+
+/// What came of a call that made a window.
+fn made(win: WinId) -> Result<Changed, Refusal>
+    ensures { result ≡ Ok (record { reply = Reply.Number win; affected = None }) }
+{
+    Ok(Changed {
+        reply: Reply::Number(win),
+        affected: None,
     })
 }
 
 /// What came of a call that asked something of a window.
-fn told(win: WinId, flag: bool) -> Result<Wrote, Refusal>
-    ensures { result ≡ Ok (record { reply = Reply.Flag flag; win = win; frame = None }) }
+fn told(flag: bool) -> Result<Changed, Refusal>
+    ensures { result ≡ Ok (record { reply = Reply.Flag flag; affected = None }) }
 {
-    Ok(Wrote {
+    Ok(Changed {
         reply: Reply::Flag(flag),
-        win,
-        frame: None,
+        affected: None,
     })
 }
 
-/// The answer of a call that made a window, or asked for a panel's.
+/// The answer of a call that asked for a panel's window.
 fn number(win: WinId) -> Result<Reply, Refusal>
     ensures { result ≡ Ok (Reply.Number win) }
 {

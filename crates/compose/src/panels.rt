@@ -5,8 +5,11 @@ ghost use Rattle.std.specs.Result.{result_err};
 ghost use Rattle.cell.specs.Refusals.{RefusedBy, first_of};
 ghost use Rattle.world.specs.Panels.{is_in_panel};
 ghost use Rattle.world.specs.Sound.{AreSoundPanels, AreSoundWindows};
-ghost use Rattle.world.specs.calls.Making.{after_delwin, after_mvwin, delwin_refusal, mvwin_refusal};
-ghost use Rattle.world.specs.calls.Stacking.{after_move_panel, after_new_panel, after_replace_panel, move_panel_refusal, new_panel_number, new_panel_refusal, replace_panel_refusal, window_tests};
+ghost use Rattle.world.specs.calls.Stacking.{new_panel_number, window_tests, after_stacking, stacking_order, stacking_refusal};
+ghost use Rattle.world.specs.calls.Making.{after_making, making_refusal};
+ghost use Rattle.world.specs.Effects.{windows_after};
+ghost use Rattle.world.specs.declared.call.Making.{Making};
+ghost use Rattle.world.specs.declared.call.Stacking.{Stacking};
 ghost use Rattle.grids.specs.Tables.{windows as windows_of};
 ghost use Rattle.stack.specs.Tables.{panels};
 
@@ -21,9 +24,9 @@ use world::PanelId;
 /// `NoSuchWindow`, `StandardScreen`, `IsPad`, `InPanel`, `TooMany`, `NoMemory`.
 pub(crate) fn new_panel(table: &Grids, stack: &mut Stack, win: WinId) -> Result<PanelId, Refusal>
     requires { AreSoundPanels (windows_of table.now).window (panels stack.old) }
-    ensures refused { RefusedBy (new_panel_refusal (windows_of table.now).window (panels stack.old) win.0) result }
+    ensures refused { RefusedBy (stacking_refusal (windows_of table.now) (panels stack.old) (Stacking.NewPanel win)) result }
     ensures number { IfOk result (λ p. new_panel_number (panels stack.old) ≡ Some p.0) }
-    ensures made { IfOk result (λ p. panels stack.new ≡ after_new_panel (panels stack.old) p.0 win.0) }
+    ensures made { IfOk result (λ p. panels stack.new ≡ after_stacking (panels stack.old) (Stacking.NewPanel win)) }
     ensures unchanged { OnErr result (stack.new ≡ stack.old) }
     ensures sound { AreSoundPanels (windows_of table.now).window (panels stack.new) }
 {
@@ -42,8 +45,8 @@ pub(crate) fn replace_panel(
     win: WinId,
 ) -> Result<(), Refusal>
     requires { AreSoundPanels (windows_of table.now).window (panels stack.old) }
-    ensures refused { result_err result ≡ replace_panel_refusal (windows_of table.now).window (panels stack.old) panel.0 win.0 }
-    ensures replaced { OnOk result (panels stack.new ≡ after_replace_panel (panels stack.old) panel.0 win.0) }
+    ensures refused { result_err result ≡ stacking_refusal (windows_of table.now) (panels stack.old) (Stacking.ReplacePanel panel win) }
+    ensures replaced { OnOk result (panels stack.new ≡ after_stacking (panels stack.old) (Stacking.ReplacePanel panel win)) }
     ensures unchanged { OnErr result (stack.new ≡ stack.old) }
     ensures sound { AreSoundPanels (windows_of table.now).window (panels stack.new) }
 {
@@ -64,8 +67,8 @@ pub(crate) fn move_panel(
     x: u16,
 ) -> Result<(), Refusal>
     requires { AreSoundPanels (windows_of table.old).window (panels stack.now) }
-    ensures refused { result_err result ≡ move_panel_refusal (windows_of table.old) (panels stack.now) panel.0 y x }
-    ensures moved { OnOk result (windows_of table.new ≡ after_move_panel (windows_of table.old) (panels stack.now) panel.0 y x) }
+    ensures refused { result_err result ≡ stacking_refusal (windows_of table.old) (panels stack.now) (Stacking.MovePanel panel y x) }
+    ensures moved { OnOk result (windows_of table.new ≡ windows_after (windows_of table.old) (panels stack.now) (stacking_order (panels stack.now) (Stacking.MovePanel panel y x))) }
     ensures unchanged { OnErr result (table.new ≡ table.old) }
     ensures sound { AreSoundWindows (windows_of table.new) }
 {
@@ -86,8 +89,8 @@ pub(crate) fn move_window(
     x: u16,
 ) -> Result<(), Refusal>
     requires { AreSoundPanels (windows_of table.old).window (panels stack.now) }
-    ensures refused { result_err result ≡ mvwin_refusal (windows_of table.old) (is_in_panel (panels stack.now) win.0) win.0 y x }
-    ensures moved { OnOk result (windows_of table.new ≡ after_mvwin (windows_of table.old) win.0 y x) }
+    ensures refused { result_err result ≡ making_refusal (windows_of table.old) (is_in_panel (panels stack.now)) (Making.Mvwin win y x) }
+    ensures moved { OnOk result (windows_of table.new ≡ after_making (windows_of table.old) (Making.Mvwin win y x)) }
     ensures unchanged { OnErr result (table.new ≡ table.old) }
     ensures sound { AreSoundWindows (windows_of table.new) }
 {
@@ -104,8 +107,8 @@ pub(crate) fn move_window(
 /// `NoSuchWindow`, `StandardScreen`, `InPanel`, `HasDerived`.
 pub(crate) fn delete_window(table: &mut Grids, stack: &Stack, win: WinId) -> Result<(), Refusal>
     requires { AreSoundPanels (windows_of table.old).window (panels stack.now) }
-    ensures refused { result_err result ≡ delwin_refusal (windows_of table.old) (is_in_panel (panels stack.now) win.0) win.0 }
-    ensures deleted { OnOk result (windows_of table.new ≡ after_delwin (windows_of table.old) win.0) }
+    ensures refused { result_err result ≡ making_refusal (windows_of table.old) (is_in_panel (panels stack.now)) (Making.Delwin win) }
+    ensures deleted { OnOk result (windows_of table.new ≡ after_making (windows_of table.old) (Making.Delwin win)) }
     ensures unchanged { OnErr result (table.new ≡ table.old) }
     ensures sound { AreSoundWindows (windows_of table.new) }
 {

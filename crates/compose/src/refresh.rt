@@ -5,13 +5,12 @@ ghost use Rattle.std.specs.Result.{result_err};
 ghost use Rattle.cell.specs.Pictures.{AreShown, HasSize, picture_of, shown_at};
 ghost use Rattle.cell.specs.Shown.{shown};
 ghost use Rattle.world.specs.Sound.{AreSoundWindows};
-ghost use Rattle.world.specs.Windows.{HasPlace, cell_at};
 ghost use Rattle.world.specs.calls.Copying.{copywin_drawing};
 ghost use Rattle.world.specs.calls.Queries.{place_on_screen};
-ghost use Rattle.world.specs.calls.Refresh.{after_noutrefresh, after_pnoutrefresh, noutrefresh_refusal, pnoutrefresh_refusal, touched_cells};
-ghost use Rattle.world.specs.Effects.{shown_over};
-ghost use Rattle.world.specs.calls.Marks.{after_touchln};
-ghost use Rattle.world.specs.calls.writing.Options.{after_clearok};
+ghost use Rattle.world.specs.calls.Refresh.{touched_cells, among_lines, refresh_refusal};
+ghost use Rattle.world.specs.Effects.{shown_over, unmarked_lines};
+ghost use Rattle.world.specs.Windows.{changed};
+ghost use Rattle.world.specs.calls.Dispatch.{world_after};
 ghost use Rattle.grids.specs.Tables.{windows as windows_of};
 ghost use Rattle.world.specs.declared.call.Call.{Call};
 ghost use Rattle.world.specs.declared.call.Refresh.{Refresh};
@@ -33,8 +32,8 @@ impl Desk {
     /// # Errors
     /// `NoSuchWindow`, `IsPad`.
     pub fn wnoutrefresh(&mut self, win: WinId) -> Result<(), Refusal>
-        ensures refused { result_err result ≡ noutrefresh_refusal (world self.old).windows win.0 }
-        ensures refreshed { OnOk result (world self.new ≡ after_noutrefresh (world self.old) win.0) }
+        ensures refused { result_err result ≡ refresh_refusal (world self.old).windows (Refresh.Noutrefresh win) }
+        ensures refreshed { OnOk result (world self.new ≡ world_after (world self.old) (Call.Refresh (Refresh.Noutrefresh win))) }
         ensures damaged { OnOk result (DamagesFew self.old (Call.Refresh (Refresh.Noutrefresh win)) self.new) }
         ensures unchanged { OnErr result (self.new ≡ self.old) }
     {
@@ -72,8 +71,8 @@ impl Desk {
         smaxrow: u16,
         smaxcol: u16,
     ) -> Result<(), Refusal>
-        ensures refused { result_err result ≡ pnoutrefresh_refusal (world self.old).windows pad.0 pminrow pmincol sminrow smincol smaxrow smaxcol }
-        ensures refreshed { OnOk result (world self.new ≡ after_pnoutrefresh (world self.old) pad.0 pminrow pmincol sminrow smincol smaxrow smaxcol) }
+        ensures refused { result_err result ≡ refresh_refusal (world self.old).windows (Refresh.Pnoutrefresh pad pminrow pmincol sminrow smincol smaxrow smaxcol) }
+        ensures refreshed { OnOk result (world self.new ≡ world_after (world self.old) (Call.Refresh (Refresh.Pnoutrefresh pad pminrow pmincol sminrow smincol smaxrow smaxcol))) }
         ensures damaged { OnOk result (DamagesFew self.old (Call.Refresh (Refresh.Pnoutrefresh pad pminrow pmincol sminrow smincol smaxrow smaxcol)) self.new) }
         ensures unchanged { OnErr result (self.new ≡ self.old) }
     {
@@ -152,7 +151,7 @@ fn show_rectangle(
     picture: &mut Grid<Shown>,
 )
     requires windows { AreSoundWindows (windows_of table.now) }
-    requires accepted { pnoutrefresh_refusal (windows_of table.now) source.win.0 source.line source.column frame.top frame.left frame.bottom frame.right ≡ None }
+    requires accepted { refresh_refusal (windows_of table.now) (Refresh.Pnoutrefresh source.win source.line source.column frame.top frame.left frame.bottom frame.right) ≡ None }
     requires size { HasSize table.now.lines table.now.columns picture.old }
     ensures shown { picture.new ≡ picture_of table.now.lines table.now.columns (shown_over pairs.now picture.old (copywin_drawing (windows_of table.now).window source.win.0 source.line source.column frame.top frame.left frame.bottom frame.right false)) }
     ensures cells { AreShown picture.new }
@@ -179,7 +178,7 @@ fn show_rectangle(
 /// Tests that a rectangle of a pad may be laid over these lines and columns of the screen.
 fn require_rectangle(table: &Grids, source: Place, frame: Rect) -> Result<(), Refusal>
     requires { AreSoundWindows (windows_of table.now) }
-    ensures { result_err result ≡ pnoutrefresh_refusal (windows_of table.now) source.win.0 source.line source.column frame.top frame.left frame.bottom frame.right }
+    ensures { result_err result ≡ refresh_refusal (windows_of table.now) (Refresh.Pnoutrefresh source.win source.line source.column frame.top frame.left frame.bottom frame.right) }
 {
     let (lines, columns) = table.getmaxyx(source.win)?;
     if table.getbegyx(source.win).is_ok() {
@@ -203,7 +202,7 @@ fn require_rectangle(table: &Grids, source: Place, frame: Rect) -> Result<(), Re
 /// Takes the touches of some lines of a window away, and its clear flag. They must be there.
 fn unmark_lines(windows: &mut Windows, win: WinId, first: u16, n: u16)
     requires { IsSomeAnd ((windows_of windows.old.table).window win.0) (λ a. (first < a.lines) × (first + n ≤ a.lines)) }
-    ensures unmarked { windows_of windows.new.table ≡ after_clearok (after_touchln (windows_of windows.old.table) win.0 first n false) win.0 false }
+    ensures unmarked { windows_of windows.new.table ≡ record (windows_of windows.old.table) { window = changed (windows_of windows.old.table).window win.0 (unmarked_lines (among_lines first n)) } }
     ensures sound { AreSoundWindows (windows_of windows.new.table) }
 {
     match windows.table.wtouchln(win, first, n, false) {

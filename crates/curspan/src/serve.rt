@@ -12,7 +12,9 @@ ghost use Rattle.compose.specs.Desks.{world};
 ghost use Rattle.paint.specs.Updates.{first_painter};
 ghost use Rattle.world.specs.World.{first_world};
 ghost use Rattle.world.specs.calls.Making.{new_refusal};
-ghost use Rattle.world.specs.calls.Refresh.{after_update_panels};
+ghost use Rattle.world.specs.calls.Dispatch.{world_after};
+ghost use Rattle.world.specs.declared.call.Call.{Call};
+ghost use Rattle.world.specs.declared.call.Refresh.{Refresh};
 
 use crate::asked::{Asked, Job, Kind};
 use crate::check::check;
@@ -114,7 +116,7 @@ fn run<'a, R: Source, O: Sink, L: Sink>(
 
 /// Takes the picture of a screen into its virtual screen.
 fn take_picture<W: Sink>(screen: &mut Screen<W>)
-    ensures { world screen.new.desk ≡ after_update_panels (world screen.old.desk) }
+    ensures { world screen.new.desk ≡ world_after (world screen.old.desk) (Call.Refresh Refresh.UpdatePanels) }
 {
     match screen.call(&Call::Refresh(Refresh::UpdatePanels)) {
         Ok(_) => {}

@@ -5,31 +5,34 @@ use Rattle.std.specs.Option.{option_map, option_map_or}
 use Rattle.cell.specs.Glyphs.{Glyph}
 use Rattle.cell.specs.Pictures.{Place}
 use Rattle.cell.specs.Refusals.{first_of}
-use Rattle.cell.specs.declared.refusal.Refusal.{Refusal}
-use Rattle.cell.specs.declared.refusal.Refusal.TheVariants.{InPanel, IsPad, NoSuchWindow, NotDerived, StandardScreen, TooMany}
+use Rattle.cell.specs.declared.refusal.Refusal.TheVariants.{IsPad, NoSuchWindow, NotDerived}
 use Rattle.streams.specs.Sinks.{Seen}
-use Rattle.world.specs.Panels.{Panels, is_in_panel, standard_screen}
+use Rattle.world.specs.Panels.{Panels}
 use Rattle.world.specs.Windows.{Backing, own_grid, part_of, Window, Windows}
-use Rattle.world.specs.calls.Dispatch.{copying_reply, makes_window, refusal, stacking_reply}
+use Rattle.world.specs.Effects.{change_reply, order_reply}
+use Rattle.world.specs.calls.Copying.{copying_change}
+use Rattle.world.specs.calls.Dispatch.{refusal}
 use Rattle.world.specs.calls.Queries.{query_refusal, query_reply, offset_of}
-use Rattle.world.specs.calls.Stacking.{stacking_refusal, new_panel_number, numbered_panel}
-use Rattle.world.specs.calls.Making.{is_own, is_pad}
+use Rattle.world.specs.calls.Stacking.{stacking_order, stacking_refusal}
+use Rattle.world.specs.calls.Making.{is_own, making_change}
 use Rattle.world.specs.declared.call.Call.{Call}
 use Rattle.world.specs.declared.call.Call.TheVariants as calls
 use Rattle.world.specs.declared.call.Copying.{Copying}
 use Rattle.world.specs.declared.call.Copying.TheVariants.{Overlay, Overwrite, Copywin, Touchwin, Untouchwin, Touchline, Touchln, Syncup, Syncdown, IsLinetouched, IsWintouched}
+use Rattle.world.specs.declared.call.Making.{Making}
+use Rattle.world.specs.declared.call.Making.TheVariants.{Newwin, Subwin, Derwin, Newpad, Subpad, Delwin, Mvwin, Mvderwin}
 use Rattle.world.specs.declared.call.Query.{Query}
 use Rattle.world.specs.declared.call.Query.TheVariants.{Getyx, Getbegyx, Getmaxyx, Getparyx, Inch}
 use Rattle.world.specs.declared.call.Refresh.TheVariants.{Noutrefresh, Pnoutrefresh, UpdatePanels, Doupdate, InitPair}
 use Rattle.world.specs.declared.call.Reply.{Reply}
-use Rattle.world.specs.declared.call.Reply.TheVariants.{Nothing, Number, Pair, Cell, Panel}
+use Rattle.world.specs.declared.call.Reply.TheVariants.{Nothing, Pair, Cell}
 use Rattle.world.specs.declared.call.Stacking.{Stacking}
 use Rattle.world.specs.declared.call.Stacking.TheVariants.{NewPanel, DelPanel, ShowPanel, HidePanel, TopPanel, BottomPanel, MovePanel, ReplacePanel, PanelAbove, PanelBelow, PanelWindow, PanelHidden}
 use Rattle.desk.specs.Ends.{CallEnds}
 use Rattle.desk.specs.Runs.{MayReply}
 use Rattle.desk.specs.States.{ScreenOver, State, state_of}
 use Rattle.desk.specs.declared.screen.Fault.{Fault}
-use Rattle.desk.specs.steps.Kinds.{IsOfKind, kind_of, kind_of_copying, kind_of_query, kind_of_stacking, nothing, number, pair, cell, new_panel}
+use Rattle.desk.specs.steps.Kinds.{IsOfKind, kind_of, kind_of_copying, kind_of_making, kind_of_query, kind_of_stacking, pair, cell}
 
 -- ---- what a call asks for is there where it isn't refused
 
@@ -57,14 +60,6 @@ derived : (o : Option Window) → first_of ((is_none o, NoSuchWindow) ∷ (optio
 derived None h = cc
 derived (Some a) h = has_offset a.backing h
 
-numbered : (a b c d : Bool) (n : Option ℕ) (e f g : Refusal) → first_of ((a, e) ∷ (b, f) ∷ (c, g) ∷ (d, InPanel) ∷ (is_none n, TooMany) ∷ []) ≡ None → is_none n ≡ false
-numbered true b c d n e f g h = cc
-numbered false true c d n e f g h = cc
-numbered false false true d n e f g h = cc
-numbered false false false true n e f g h = cc
-numbered false false false false None e f g h = cc
-numbered false false false false (Some n) e f g h = refl
-
 -- ---- the kinds of answers
 
 two_numbers : (o : Option Place) (reply : Reply) → is_none o ≡ false → reply ≡ option_map_or (λ p. Pair p.0 p.1) o Nothing → IsOfKind pair reply
@@ -75,14 +70,6 @@ one_cell : (o : Option Glyph) (reply : Reply) → is_none o ≡ false → reply 
 one_cell None reply some is = cc
 one_cell (Some g) reply some is = (g, is)
 
-one_panel : (o : Option ℕ) (reply : Reply) → is_none o ≡ false → reply ≡ Panel (numbered_panel o) → IsOfKind new_panel reply
-one_panel None reply some is = cc
-one_panel (Some n) reply some is = (record { 0 = n }, is)
-
-number_or_none : (b : Bool) (n : ℕ) (reply : Reply) → reply ≡ (if b then Number (record { 0 = n }) else Nothing) → IsOfKind (if b then number else nothing) reply
-number_or_none true n reply is = (record { 0 = n }, is)
-number_or_none false n reply is = is
-
 -- ---- call by call
 
 of_query : (ws : Windows) (q : Query) (reply : Reply) → query_refusal ws q ≡ None → reply ≡ query_reply ws q → IsOfKind (kind_of_query q) reply
@@ -92,7 +79,17 @@ of_query ws (Getmaxyx win) reply h is = two_numbers _ reply (mapped _ (ws.window
 of_query ws (Getparyx win) reply h is = two_numbers _ reply (derived (ws.window win.0) h) is
 of_query ws (Inch win) reply h is = one_cell _ reply (mapped _ (ws.window win.0) (there (ws.window win.0) h)) is
 
-of_copying : (ws : Windows) (k : Copying) (reply : Reply) → reply ≡ copying_reply ws k → IsOfKind (kind_of_copying k) reply
+of_making : (ws : Windows) (m : Making) (reply : Reply) → reply ≡ change_reply (making_change ws m) → IsOfKind (kind_of_making m) reply
+of_making ws (Newwin nlines ncols y x) reply is = (_, is)
+of_making ws (Subwin win nlines ncols y x) reply is = (_, is)
+of_making ws (Derwin win nlines ncols y x) reply is = (_, is)
+of_making ws (Newpad nlines ncols) reply is = (_, is)
+of_making ws (Subpad pad nlines ncols y x) reply is = (_, is)
+of_making ws (Delwin win) reply is = is
+of_making ws (Mvwin win y x) reply is = is
+of_making ws (Mvderwin win y x) reply is = is
+
+of_copying : (ws : Windows) (k : Copying) (reply : Reply) → reply ≡ change_reply (copying_change ws k) → IsOfKind (kind_of_copying k) reply
 of_copying ws (Overlay src dst) reply is = is
 of_copying ws (Overwrite src dst) reply is = is
 of_copying ws (Copywin src dst sminrow smincol dminrow dmincol dmaxrow dmaxcol overlay) reply is = is
@@ -105,26 +102,26 @@ of_copying ws (Syncdown win) reply is = is
 of_copying ws (IsLinetouched win y) reply is = (_, is)
 of_copying ws (IsWintouched win) reply is = (_, is)
 
-of_stacking : (ws : Windows) (ps : Panels) (s : Stacking) (reply : Reply) → stacking_refusal ws ps s ≡ None → reply ≡ stacking_reply ps s → IsOfKind (kind_of_stacking s) reply
-of_stacking ws ps (NewPanel win) reply h is = one_panel (new_panel_number ps) reply (numbered (is_none (ws.window win.0)) (win.0 == standard_screen) (is_pad ws.window win.0) (is_in_panel ps win.0) (new_panel_number ps) NoSuchWindow StandardScreen IsPad h) is
-of_stacking ws ps (DelPanel panel) reply h is = is
-of_stacking ws ps (ShowPanel panel) reply h is = is
-of_stacking ws ps (HidePanel panel) reply h is = is
-of_stacking ws ps (TopPanel panel) reply h is = is
-of_stacking ws ps (BottomPanel panel) reply h is = is
-of_stacking ws ps (MovePanel panel y x) reply h is = is
-of_stacking ws ps (ReplacePanel panel win) reply h is = is
-of_stacking ws ps (PanelAbove panel) reply h is = (_, is)
-of_stacking ws ps (PanelBelow panel) reply h is = (_, is)
-of_stacking ws ps (PanelWindow panel) reply h is = (_, is)
-of_stacking ws ps (PanelHidden panel) reply h is = (_, is)
+of_stacking : (ps : Panels) (s : Stacking) (reply : Reply) → reply ≡ order_reply (stacking_order ps s) → IsOfKind (kind_of_stacking s) reply
+of_stacking ps (NewPanel win) reply is = (_, is)
+of_stacking ps (DelPanel panel) reply is = is
+of_stacking ps (ShowPanel panel) reply is = is
+of_stacking ps (HidePanel panel) reply is = is
+of_stacking ps (TopPanel panel) reply is = is
+of_stacking ps (BottomPanel panel) reply is = is
+of_stacking ps (MovePanel panel y x) reply is = is
+of_stacking ps (ReplacePanel panel win) reply is = is
+of_stacking ps (PanelAbove panel) reply is = (_, is)
+of_stacking ps (PanelBelow panel) reply is = (_, is)
+of_stacking ps (PanelWindow panel) reply is = (_, is)
+of_stacking ps (PanelHidden panel) reply is = (_, is)
 
 of_call : (s : State) (call : Call) (reply : Reply) (sent : List ℕ) → refusal s.world call ≡ None → MayReply s call reply sent → IsOfKind (kind_of call) reply
-of_call s (calls.Making making) reply sent h may = number_or_none (makes_window making) _ reply may.1
+of_call s (calls.Making making) reply sent h may = of_making s.world.windows making reply may.1
 of_call s (calls.Writing writing) reply sent h may = may.1
 of_call s (calls.Copying copying) reply sent h may = of_copying s.world.windows copying reply may.1
 of_call s (calls.Query query) reply sent h may = of_query s.world.windows query reply h may.1
-of_call s (calls.Stacking stacking) reply sent h may = of_stacking s.world.windows s.world.panels stacking reply h may.1
+of_call s (calls.Stacking stacking) reply sent h may = of_stacking s.world.panels stacking reply may.1
 of_call s (calls.Refresh (Noutrefresh win)) reply sent h may = may.1
 of_call s (calls.Refresh (Pnoutrefresh pad pminrow pmincol sminrow smincol smaxrow smaxcol)) reply sent h may = may.1
 of_call s (calls.Refresh UpdatePanels) reply sent h may = (record { cells = may.1.0 }, may.1.2)

@@ -9,8 +9,11 @@ use Rattle.cell.specs.declared.refusal.Refusal.{Refusal}
 use Rattle.world.specs.Windows.{Windows}
 use Rattle.world.specs.Panels.{Panels}
 use Rattle.world.specs.calls.Affected.{owed}
-use Rattle.world.specs.calls.Dispatch.{copying_reply, is_update_panels, makes_window, stacking_reply}
-use Rattle.world.specs.calls.Making.{next_window}
+use Rattle.world.specs.Effects.{change_reply, order_reply}
+use Rattle.world.specs.calls.Copying.{copying_change}
+use Rattle.world.specs.calls.Dispatch.{is_update_panels}
+use Rattle.world.specs.calls.Stacking.{stacking_order}
+use Rattle.world.specs.calls.Making.{making_change}
 use Rattle.world.specs.calls.Queries.{pair, query_reply, cell_at_cursor, cursor_of, offset_in_parent, place_on_screen, window_size}
 use Rattle.desk.specs.States.{State}
 use Rattle.desk.specs.Runs.{MayAnswer, Outcome, Run, cells_of_answer, cells_of_reply, cells_read, state_after}
@@ -19,19 +22,27 @@ use Rattle.world.specs.declared.call.Call.{Call}
 use Rattle.world.specs.declared.call.Call.TheVariants as calls
 use Rattle.world.specs.declared.call.Copying.{Copying}
 use Rattle.world.specs.declared.call.Copying.TheVariants.{Overlay, Overwrite, Copywin, Touchwin, Untouchwin, Touchline, Touchln, Syncup, Syncdown, IsLinetouched, IsWintouched}
+use Rattle.world.specs.declared.call.Making.{Making}
+use Rattle.world.specs.declared.call.Making.TheVariants.{Newwin, Subwin, Derwin, Newpad, Subpad, Delwin, Mvwin, Mvderwin}
 use Rattle.world.specs.declared.call.Query.{Query}
 use Rattle.world.specs.declared.call.Query.TheVariants.{Getyx, Getbegyx, Getmaxyx, Getparyx, Inch}
 use Rattle.world.specs.declared.call.Refresh.TheVariants.{Noutrefresh, Pnoutrefresh, UpdatePanels, Doupdate, InitPair}
 use Rattle.world.specs.declared.call.Reply.{Reply}
-use Rattle.world.specs.declared.call.Reply.TheVariants.{Nothing, Number, Cell}
+use Rattle.world.specs.declared.call.Reply.TheVariants.{Nothing, Cell}
 use Rattle.world.specs.declared.call.Stacking.{Stacking}
 use Rattle.world.specs.declared.call.Stacking.TheVariants.{NewPanel, DelPanel, ShowPanel, HidePanel, TopPanel, BottomPanel, MovePanel, ReplacePanel, PanelAbove, PanelBelow, PanelWindow, PanelHidden}
 
 -- ---- only update_panels tells of cells
 
-number-tells : (makes : Bool) (n : ℕ) → cells_of_reply (if makes then Number (record { 0 = n }) else Nothing) ≡ 0
-number-tells true n = refl
-number-tells false n = refl
+making-tells : (ws : Windows) (making : Making) → cells_of_reply (change_reply (making_change ws making)) ≡ 0
+making-tells ws (Newwin nlines ncols y x) = refl
+making-tells ws (Subwin win nlines ncols y x) = refl
+making-tells ws (Derwin win nlines ncols y x) = refl
+making-tells ws (Newpad nlines ncols) = refl
+making-tells ws (Subpad pad nlines ncols y x) = refl
+making-tells ws (Delwin win) = refl
+making-tells ws (Mvwin win y x) = refl
+making-tells ws (Mvderwin win y x) = refl
 
 pair-tells : (place : Option Place) → cells_of_reply (pair place) ≡ 0
 pair-tells None = refl
@@ -48,7 +59,7 @@ query-tells ws (Getmaxyx win) = pair-tells (window_size ws.window win.0)
 query-tells ws (Getparyx win) = pair-tells (offset_in_parent ws.window win.0)
 query-tells ws (Inch win) = cell-tells (cell_at_cursor ws.window win.0)
 
-copying-tells : (ws : Windows) (copying : Copying) → cells_of_reply (copying_reply ws copying) ≡ 0
+copying-tells : (ws : Windows) (copying : Copying) → cells_of_reply (change_reply (copying_change ws copying)) ≡ 0
 copying-tells ws (Overlay src dst) = refl
 copying-tells ws (Overwrite src dst) = refl
 copying-tells ws (Copywin src dst sminrow smincol dminrow dmincol dmaxrow dmaxcol overlay) = refl
@@ -61,7 +72,7 @@ copying-tells ws (Syncdown win) = refl
 copying-tells ws (IsLinetouched win y) = refl
 copying-tells ws (IsWintouched win) = refl
 
-stacking-tells : (ps : Panels) (stacking : Stacking) → cells_of_reply (stacking_reply ps stacking) ≡ 0
+stacking-tells : (ps : Panels) (stacking : Stacking) → cells_of_reply (order_reply (stacking_order ps stacking)) ≡ 0
 stacking-tells ps (NewPanel win) = refl
 stacking-tells ps (DelPanel panel) = refl
 stacking-tells ps (ShowPanel panel) = refl
@@ -90,7 +101,7 @@ told reply other is none = ap cells_of_reply is ∙ none
 
 call-reads : (s : State) (call : Call) (reply : Reply) (sent : List ℕ) → MayAnswer s call (Ok reply) sent → CallReads s call (cells_of_reply reply)
 call-reads s (calls.Making making) reply sent may =
-    reads-nothing s (calls.Making making) _ refl (told reply _ may.1.1 (number-tells (makes_window making) (next_window s.world.windows)))
+    reads-nothing s (calls.Making making) _ refl (told reply _ may.1.1 (making-tells s.world.windows making))
 call-reads s (calls.Writing writing) reply sent may = reads-nothing s (calls.Writing writing) _ refl (told reply _ may.1.1 refl)
 call-reads s (calls.Copying copying) reply sent may = reads-nothing s (calls.Copying copying) _ refl (told reply _ may.1.1 (copying-tells s.world.windows copying))
 call-reads s (calls.Query query) reply sent may = reads-nothing s (calls.Query query) _ refl (told reply _ may.1.1 (query-tells s.world.windows query))

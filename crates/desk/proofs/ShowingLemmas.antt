@@ -5,7 +5,7 @@ use Rattle.std.specs.Prelude.{⊤, MatchOption}
 use Rattle.cell.specs.Shown.{shown, shown_blank}
 use Rattle.cell.specs.Pictures.{HasSize}
 use Rattle.world.specs.World.{World, picture}
-use Rattle.world.specs.calls.Refresh.{after_update_panels, after_doupdate}
+use Rattle.world.specs.calls.Dispatch.{world_after}
 use Rattle.world.specs.Effects.{composed_windows}
 use Rattle.cell.specs.declared.refusal.Refusal.{Refusal}
 use Rattle.desk.proofs.WriterLemmas.{Writes-refused, never-refused}
@@ -37,6 +37,12 @@ use Rattle.desk.specs.declared.screen.RunEnd.{RunEnd}
 use Rattle.desk.specs.States.{HasOneSize, KeepsSize, ScreenOver}
 use Rattle.desk.specs.declared.screen.Fault.{Fault}
 use Rattle.desk.specs.declared.screen.Fault.TheVariants.{Refused, Write}
+
+abbrev after_update_panels : World → World
+after_update_panels w = world_after w (calls.Refresh UpdatePanels)
+
+abbrev after_doupdate : World → World
+after_doupdate w = world_after w (calls.Refresh Doupdate)
 
 -- ---- sizes
 

@@ -7,9 +7,10 @@ use Rattle.std.proofs.lemmas.List.{length_push}
 use Rattle.std.proofs.lemmas.Map.Keys.{apart_from_distinct}
 use Rattle.cell.specs.declared.refusal.Refusal.TheVariants.{Hidden}
 use Rattle.cell.specs.declared.window.WinId.{WinId}
+use Rattle.cell.specs.Refusals.{first_of}
 use Rattle.world.specs.Panels.{Panels, first_panels}
-use Rattle.world.specs.calls.Stacking.{after_del_panel, after_new_panel, after_replace_panel, hidden_panel_refusal, is_hidden, without, IsSoundEntry, IsSoundOrder}
-use Rattle.world.specs.Effects.{given}
+use Rattle.world.specs.calls.Stacking.{after_del_panel, after_replace_panel, is_hidden, without, IsSoundEntry, IsSoundOrder, visible_tests}
+use Rattle.world.specs.Effects.{with_panel, given}
 use Rattle.stack.specs.Nodes.{no_node, node_at, window_at, window_in, from_bottom, IsOut, IsPanel, IsThreaded}
 use Rattle.stack.specs.Tables.{panels, table_of, IsPanelTable}
 use Rattle.stack.specs.steps.Entries.{Entered, IsFree, NodeMade, Windowed}
@@ -187,7 +188,7 @@ module _ (old mid new : List Node) (p w : ℕ) (table : IsPanelTable old) (free 
   pub made-table : ((q : ℕ) → window_at old q ≡ Some w → ⊥) → IsPanelTable new
   made-table none = reordered-table mid new (from_bottom mid ++ p ∷ []) (entered-table none) order
 
-  pub made-panels : panels (table_of new) ≡ after_new_panel (panels (table_of old)) p w
+  pub made-panels : panels (table_of new) ≡ with_panel (panels (table_of old)) p w
   made-panels =
       reordered-panels mid new (from_bottom mid ++ p ∷ []) order
       ∙ ap (λ (a : Panels). record { visible = a.visible ++ p ∷ []; window = a.window })
@@ -282,8 +283,8 @@ is_none-some (Some w) h = refl
 pub taken : (nodes : List Node) (p : ℕ) → IsPanel nodes p → is_none ((panels (table_of nodes)).window p) ≡ false
 taken nodes p panel = is_none-some ((panels (table_of nodes)).window p) (subst (λ (o : Option ℕ). IsSome o) (sym (window-is nodes p)) panel.1)
 
-pub refused-hidden : (a : Panels) (p : ℕ) → is_none (a.window p) ≡ false → is_hidden a p ≡ true → hidden_panel_refusal a p ≡ Some Hidden
+pub refused-hidden : (a : Panels) (p : ℕ) → is_none (a.window p) ≡ false → is_hidden a p ≡ true → first_of (visible_tests a p) ≡ Some Hidden
 refused-hidden a p there hidden = rw there (rw hidden refl)
 
-pub accepted-visible : (a : Panels) (p : ℕ) → is_none (a.window p) ≡ false → is_hidden a p ≡ false → hidden_panel_refusal a p ≡ None
+pub accepted-visible : (a : Panels) (p : ℕ) → is_none (a.window p) ≡ false → is_hidden a p ≡ false → first_of (visible_tests a p) ≡ None
 accepted-visible a p there shown = rw there (rw shown refl)

@@ -3,7 +3,8 @@
 ghost use Rattle.std.specs.Prelude.{◌≡◌, Some, IfOk, OnOk, OnErr};
 ghost use Rattle.std.specs.Result.{result_err};
 ghost use Rattle.cell.specs.Refusals.{RefusedBy, first_of};
-ghost use Rattle.world.specs.calls.Stacking.{new_panel_number, missing_panel_refusal, hidden_panel_refusal, new_panel_tests, replace_panel_tests, after_new_panel, after_del_panel, after_show_panel, after_hide_panel, after_top_panel, after_bottom_panel, after_replace_panel, IsSoundOrder};
+ghost use Rattle.world.specs.calls.Stacking.{new_panel_number, new_panel_tests, replace_panel_tests, IsSoundOrder, after_stacking, panel_tests, visible_tests};
+ghost use Rattle.world.specs.declared.call.Stacking.{Stacking};
 ghost use Rattle.stack.specs.Tables.{panels};
 
 use crate::entries::{enter, free_number, holder, require_panel, require_visible};
@@ -20,7 +21,7 @@ impl Stack {
     pub fn new_panel(&mut self, win: WinId) -> Result<PanelId, Refusal>
         ensures refused { RefusedBy (first_of (new_panel_tests (panels self.old) win.0)) result }
         ensures number { IfOk result (λ p. new_panel_number (panels self.old) ≡ Some p.0) }
-        ensures made { IfOk result (λ p. panels self.new ≡ after_new_panel (panels self.old) p.0 win.0) }
+        ensures made { IfOk result (λ p. panels self.new ≡ after_stacking (panels self.old) (Stacking.NewPanel win)) }
         ensures unchanged { OnErr result (self.new ≡ self.old) }
         ensures sound { IsSoundOrder (panels self.new) }
     {
@@ -40,8 +41,8 @@ impl Stack {
     /// # Errors
     /// `NoSuchPanel`.
     pub fn del(&mut self, panel: PanelId) -> Result<(), Refusal>
-        ensures refused { result_err result ≡ missing_panel_refusal (panels self.old) panel.0 }
-        ensures deleted { OnOk result (panels self.new ≡ after_del_panel (panels self.old) panel.0) }
+        ensures refused { result_err result ≡ first_of (panel_tests (panels self.old) panel.0) }
+        ensures deleted { OnOk result (panels self.new ≡ after_stacking (panels self.old) (Stacking.DelPanel panel)) }
         ensures unchanged { OnErr result (self.new ≡ self.old) }
         ensures sound { IsSoundOrder (panels self.new) }
     {
@@ -58,8 +59,8 @@ impl Stack {
     /// # Errors
     /// `NoSuchPanel`.
     pub fn show(&mut self, panel: PanelId) -> Result<(), Refusal>
-        ensures refused { result_err result ≡ missing_panel_refusal (panels self.old) panel.0 }
-        ensures shown { OnOk result (panels self.new ≡ after_show_panel (panels self.old) panel.0) }
+        ensures refused { result_err result ≡ first_of (panel_tests (panels self.old) panel.0) }
+        ensures shown { OnOk result (panels self.new ≡ after_stacking (panels self.old) (Stacking.ShowPanel panel)) }
         ensures unchanged { OnErr result (self.new ≡ self.old) }
         ensures sound { IsSoundOrder (panels self.new) }
     {
@@ -75,8 +76,8 @@ impl Stack {
     /// # Errors
     /// `NoSuchPanel`, `Hidden`.
     pub fn hide(&mut self, panel: PanelId) -> Result<(), Refusal>
-        ensures refused { result_err result ≡ hidden_panel_refusal (panels self.old) panel.0 }
-        ensures hidden { OnOk result (panels self.new ≡ after_hide_panel (panels self.old) panel.0) }
+        ensures refused { result_err result ≡ first_of (visible_tests (panels self.old) panel.0) }
+        ensures hidden { OnOk result (panels self.new ≡ after_stacking (panels self.old) (Stacking.HidePanel panel)) }
         ensures unchanged { OnErr result (self.new ≡ self.old) }
         ensures sound { IsSoundOrder (panels self.new) }
     {
@@ -92,8 +93,8 @@ impl Stack {
     /// # Errors
     /// `NoSuchPanel`, `Hidden`.
     pub fn top(&mut self, panel: PanelId) -> Result<(), Refusal>
-        ensures refused { result_err result ≡ hidden_panel_refusal (panels self.old) panel.0 }
-        ensures moved { OnOk result (panels self.new ≡ after_top_panel (panels self.old) panel.0) }
+        ensures refused { result_err result ≡ first_of (visible_tests (panels self.old) panel.0) }
+        ensures moved { OnOk result (panels self.new ≡ after_stacking (panels self.old) (Stacking.TopPanel panel)) }
         ensures unchanged { OnErr result (self.new ≡ self.old) }
         ensures sound { IsSoundOrder (panels self.new) }
     {
@@ -107,8 +108,8 @@ impl Stack {
     /// # Errors
     /// `NoSuchPanel`, `Hidden`.
     pub fn bottom(&mut self, panel: PanelId) -> Result<(), Refusal>
-        ensures refused { result_err result ≡ hidden_panel_refusal (panels self.old) panel.0 }
-        ensures moved { OnOk result (panels self.new ≡ after_bottom_panel (panels self.old) panel.0) }
+        ensures refused { result_err result ≡ first_of (visible_tests (panels self.old) panel.0) }
+        ensures moved { OnOk result (panels self.new ≡ after_stacking (panels self.old) (Stacking.BottomPanel panel)) }
         ensures unchanged { OnErr result (self.new ≡ self.old) }
         ensures sound { IsSoundOrder (panels self.new) }
     {
@@ -125,7 +126,7 @@ impl Stack {
     /// `NoSuchPanel`, `InPanel`.
     pub fn replace(&mut self, panel: PanelId, win: WinId) -> Result<(), Refusal>
         ensures refused { result_err result ≡ first_of (replace_panel_tests (panels self.old) panel.0 win.0) }
-        ensures replaced { OnOk result (panels self.new ≡ after_replace_panel (panels self.old) panel.0 win.0) }
+        ensures replaced { OnOk result (panels self.new ≡ after_stacking (panels self.old) (Stacking.ReplacePanel panel win)) }
         ensures unchanged { OnErr result (self.new ≡ self.old) }
         ensures sound { IsSoundOrder (panels self.new) }
     {

@@ -2,8 +2,9 @@
 
 ghost use Rattle.std.specs.Prelude.{◌≡◌, ◌==◌, if◌then◌else◌, ℕ, None, Some, IfSome, MatchOption, OnOk, OnErr, is_some, false, ⊤};
 ghost use Rattle.std.specs.Result.{result_err};
+ghost use Rattle.cell.specs.Refusals.{first_of};
 ghost use Rattle.world.specs.Panels.{is_in_panel};
-ghost use Rattle.world.specs.calls.Stacking.{hidden_panel_refusal, is_hidden, missing_panel_refusal, new_panel_number, panel_number};
+ghost use Rattle.world.specs.calls.Stacking.{is_hidden, new_panel_number, panel_number, panel_tests, visible_tests};
 ghost use Rattle.stack.specs.Nodes.{window_at, IsPanel};
 ghost use Rattle.stack.specs.Tables.{panels, table_of, IsPanelTable};
 ghost use Rattle.stack.specs.steps.Entries.{Entered, IsFree, NodeMade};
@@ -16,7 +17,7 @@ use world::PanelId;
 /// Tests that there is such a panel.
 pub fn require_panel(nodes: &Nodes, panel: PanelId) -> Result<(), Refusal>
     requires { IsPanelTable nodes.now }
-    ensures refused { result_err result ≡ missing_panel_refusal (panels (table_of nodes.now)) panel.0 }
+    ensures refused { result_err result ≡ first_of (panel_tests (panels (table_of nodes.now)) panel.0) }
     ensures panel { OnOk result (IsPanel nodes.now panel.0) }
 {
     if nodes.get(panel.0).window.is_none() {
@@ -28,7 +29,7 @@ pub fn require_panel(nodes: &Nodes, panel: PanelId) -> Result<(), Refusal>
 /// Tests that there is such a panel, and that it is visible.
 pub fn require_visible(nodes: &Nodes, panel: PanelId) -> Result<(), Refusal>
     requires { IsPanelTable nodes.now }
-    ensures refused { result_err result ≡ hidden_panel_refusal (panels (table_of nodes.now)) panel.0 }
+    ensures refused { result_err result ≡ first_of (visible_tests (panels (table_of nodes.now)) panel.0) }
     ensures panel { OnOk result (IsPanel nodes.now panel.0) }
     ensures shown { OnOk result (is_hidden (panels (table_of nodes.now)) panel.0 ≡ false) }
 {

@@ -3,8 +3,9 @@
 ghost use Rattle.std.specs.Prelude.{◌≡◌, Some, IfOk, IfSome, is_some, reverse, length, ◌≤◌};
 ghost use Rattle.std.specs.Result.{result_err};
 ghost use Rattle.cell.specs.declared.limits.TheConstants.{MOST_PANELS};
+ghost use Rattle.cell.specs.Refusals.{first_of};
 ghost use Rattle.world.specs.Panels.{is_in_panel};
-ghost use Rattle.world.specs.calls.Stacking.{is_hidden, missing_panel_refusal, neighbour_refusal, panel_above, panel_below, panel_number, IsSoundOrder};
+ghost use Rattle.world.specs.calls.Stacking.{is_hidden, panel_above, panel_below, panel_number, IsSoundOrder, neighbour_tests, panel_tests};
 ghost use Rattle.stack.specs.Tables.{panels};
 
 use crate::entries::{holder, panel_at, require_panel, require_visible};
@@ -19,7 +20,7 @@ impl Stack {
     /// # Errors
     /// `NoSuchPanel`, `Hidden`.
     pub fn above(&self, panel: Option<PanelId>) -> Result<Option<PanelId>, Refusal>
-        ensures refused { result_err result ≡ neighbour_refusal (panels self.now) (panel_number panel) }
+        ensures refused { result_err result ≡ first_of (neighbour_tests (panels self.now) panel) }
         ensures answer { IfOk result (λ q. panel_number q ≡ panel_above (panels self.now) (panel_number panel)) }
     {
         match panel {
@@ -36,7 +37,7 @@ impl Stack {
     /// # Errors
     /// `NoSuchPanel`, `Hidden`.
     pub fn below(&self, panel: Option<PanelId>) -> Result<Option<PanelId>, Refusal>
-        ensures refused { result_err result ≡ neighbour_refusal (panels self.now) (panel_number panel) }
+        ensures refused { result_err result ≡ first_of (neighbour_tests (panels self.now) panel) }
         ensures answer { IfOk result (λ q. panel_number q ≡ panel_below (panels self.now) (panel_number panel)) }
     {
         match panel {
@@ -53,7 +54,7 @@ impl Stack {
     /// # Errors
     /// `NoSuchPanel`.
     pub fn window(&self, panel: PanelId) -> Result<WinId, Refusal>
-        ensures refused { result_err result ≡ missing_panel_refusal (panels self.now) panel.0 }
+        ensures refused { result_err result ≡ first_of (panel_tests (panels self.now) panel.0) }
         ensures answer { IfOk result (λ w. (panels self.now).window panel.0 ≡ Some w.0) }
     {
         self.nodes.get(panel.0).window.ok_or(Refusal::NoSuchPanel)
@@ -64,7 +65,7 @@ impl Stack {
     /// # Errors
     /// `NoSuchPanel`.
     pub fn hidden(&self, panel: PanelId) -> Result<bool, Refusal>
-        ensures refused { result_err result ≡ missing_panel_refusal (panels self.now) panel.0 }
+        ensures refused { result_err result ≡ first_of (panel_tests (panels self.now) panel.0) }
         ensures answer { IfOk result (λ b. b ≡ is_hidden (panels self.now) panel.0) }
     {
         require_panel(&self.nodes, panel)?;

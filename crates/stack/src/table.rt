@@ -2,8 +2,8 @@
 
 ghost use Rattle.std.specs.Prelude.{◌≡◌, true};
 ghost use Rattle.world.specs.calls.Stacking.{IsSoundOrder};
-ghost use Rattle.stack.specs.Tables.{panels};
 ghost use Rattle.world.specs.Panels.{first_panels};
+ghost use Rattle.stack.specs.Tables.{panels};
 
 use crate::nodes::Nodes;
 use std::alloc::Global;

@@ -8,7 +8,7 @@ use Rattle.world.specs.Windows.{Window, WindowMap, Windows, no_windows, own_grid
 use Rattle.world.specs.World.{first_settings}
 use Rattle.world.specs.Rows.{line_shown}
 use Rattle.world.specs.Drawings.{at_place, character_deleted, character_inserted, everywhere, lines_down, lines_up, to_bottom, to_end_of_line}
-use Rattle.world.specs.calls.writing.Editing.{after_scrl}
+use Rattle.world.specs.calls.Writing.{scrl_drawing}
 
 letter : ℕ → Glyph
 letter character = record { character = character; attributes = 0; pair = 0 }
@@ -207,19 +207,19 @@ lines_moved_down_to_line_1_by_2 = refl
 
 -- ---- the scroll region, which is the whole window
 
-scrolled_up : texts (after_scrl small 1 (pos 1)) ≡ (codes "abcdefghi", codes "DEFGHI   ")
+scrolled_up : texts (put small 1 (scrl_drawing small.window 1 (pos 1) (lettered 65))) ≡ (codes "abcdefghi", codes "DEFGHI   ")
 unfolding texts text small lettered letter star window_limit
 scrolled_up = refl
 
-scrolled_up_in_window_0 : texts (after_scrl small 0 (pos 1)) ≡ (codes "defghi   ", codes "ABCDEFGHI")
+scrolled_up_in_window_0 : texts (put small 0 (scrl_drawing small.window 0 (pos 1) (lettered 97))) ≡ (codes "defghi   ", codes "ABCDEFGHI")
 unfolding texts text small lettered letter star window_limit
 scrolled_up_in_window_0 = refl
 
-scrolled_by_0 : texts (after_scrl small 1 (pos 0)) ≡ (codes "abcdefghi", codes "ABCDEFGHI")
+scrolled_by_0 : texts (put small 1 (scrl_drawing small.window 1 (pos 0) (lettered 65))) ≡ (codes "abcdefghi", codes "ABCDEFGHI")
 unfolding texts text small lettered letter star window_limit
 scrolled_by_0 = refl
 
-scrolled_down : texts (after_scrl small 1 (negsuc 0)) ≡ (codes "abcdefghi", codes "   ABCDEF")
+scrolled_down : texts (put small 1 (scrl_drawing small.window 1 (negsuc 0) (lettered 65))) ≡ (codes "abcdefghi", codes "   ABCDEF")
 unfolding texts text small lettered letter star window_limit
 scrolled_down = refl
 

@@ -3,7 +3,6 @@ pub mod Rectangles
 pub mod States
 pub mod Steps
 pub mod Calls
-pub mod Erased
 pub mod Typing
 pub mod Texts
 pub mod OptionLemmas

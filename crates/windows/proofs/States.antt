@@ -8,9 +8,9 @@ use Rattle.cell.specs.Attributes.{bits_of, known}
 use Rattle.cell.specs.Pictures.{Place}
 use Rattle.world.specs.Windows.{Window, WindowMap, Windows, GridPlace, Drawing, own, drawn, put_from, put_windows, put, HasPlace}
 use Rattle.world.specs.Settings.{with_settings, after_set_settings, set_in, set, with_cursor}
-use Rattle.std.specs.Prelude.{⊤, MatchOption}
 use Rattle.world.specs.Sound.{AreSoundWindows, IsSoundWindow}
 use Rattle.world.specs.calls.Queries.{window_size}
+use Rattle.std.specs.Prelude.{⊤, MatchOption}
 use Rattle.world.specs.declared.settings.Settings.{Settings}
 use Rattle.world.proofs.WindowLaws.{own-put}
 use Rattle.windows.specs.steps.State.{IsStateOf}

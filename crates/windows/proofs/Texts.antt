@@ -7,8 +7,7 @@ use Rattle.world.specs.Windows.{Window, WindowMap, Windows, GridPlace, Drawing, 
 use Rattle.world.specs.Settings.{set_in, set, with_cursor}
 use Rattle.world.specs.Drawings.{written_glyph, at_place, to_end_of_line}
 use Rattle.world.specs.Frames.{joined}
-use Rattle.world.specs.Typing.{newline, carriage_return, backspace, drawn_to, region_up, scrolls, is_last_line, to_next_line, character_printed, line_ended, typed_in}
-use Rattle.world.specs.calls.writing.Characters.{after_addch, addch_frame, after_addstr, addstr_frame}
+use Rattle.world.specs.Typing.{newline, carriage_return, backspace, drawn_to, region_up, scrolls, is_last_line, to_next_line, character_printed, line_ended, typed_in, after_character, frame_of_character, after_text, text_frame}
 use Rattle.cell.specs.declared.window.Rect.{Rect}
 use Rattle.world.specs.declared.settings.Settings.{Settings}
 
@@ -70,7 +69,7 @@ still_there windows new w character a there e = ap (λ (v : Windows). is_some (v
 
 -- ---- one character more
 
-joined-none : (o : Option Rect) → joined o None ≡ o
+pub joined-none : (o : Option Rect) → joined o None ≡ o
 joined-none None = refl
 joined-none (Some a) = refl
 
@@ -87,26 +86,26 @@ joined-joined (Some a) (Some b) (Some c) =
     λ i. Some (record { top = top i; left = left i; bottom = bottom i; right = right i })
 
 frame-push : (text : List ℕ) (windows : Windows) (w character : ℕ)
-    → addstr_frame windows w (text ++ (character ∷ [])) ≡ joined (addstr_frame windows w text) (addch_frame (after_addstr windows w text) w character)
-frame-push [] windows w character = joined-none (addch_frame windows w character)
+    → text_frame windows w (text ++ (character ∷ [])) ≡ joined (text_frame windows w text) (frame_of_character (after_text windows w text) w character)
+frame-push [] windows w character = joined-none (frame_of_character windows w character)
 frame-push (first ∷ text) windows w character =
-    ap (λ o. joined (addch_frame windows w first) o) (frame-push text (after_addch windows w first) w character)
-    ∙ sym (joined-joined (addch_frame windows w first) (addstr_frame (after_addch windows w first) w text)
-    (addch_frame (after_addstr (after_addch windows w first) w text) w character))
+    ap (λ o. joined (frame_of_character windows w first) o) (frame-push text (after_character windows w first) w character)
+    ∙ sym (joined-joined (frame_of_character windows w first) (text_frame (after_character windows w first) w text)
+    (frame_of_character (after_text (after_character windows w first) w text) w character))
 
-after-push : (text : List ℕ) (windows : Windows) (w character : ℕ) → after_addstr windows w (text ++ (character ∷ [])) ≡ after_addch (after_addstr windows w text) w character
+after-push : (text : List ℕ) (windows : Windows) (w character : ℕ) → after_text windows w (text ++ (character ∷ [])) ≡ after_character (after_text windows w text) w character
 after-push [] windows w character = refl
-after-push (first ∷ text) windows w character = after-push text (after_addch windows w first) w character
+after-push (first ∷ text) windows w character = after-push text (after_character windows w first) w character
 
-module _ (windows now new : Windows) (w : ℕ) (text : List ℕ) (i : ℕ) (inside : i < length text) (before : now ≡ after_addstr windows w (take i text)) where
+module _ (windows now new : Windows) (w : ℕ) (text : List ℕ) (i : ℕ) (inside : i < length text) (before : now ≡ after_text windows w (take i text)) where
   more_text : take (i + 1) text ≡ take i text ++ (get_or text i 0 ∷ [])
   more_text = take_more text i 0 inside
 
-  pub text_more : new ≡ after_addch now w (get_or text i 0) → new ≡ after_addstr windows w (take (i + 1) text)
-  text_more e = e ∙ ap (λ v. after_addch v w (get_or text i 0)) before ∙ sym (ap (after_addstr windows w) more_text ∙ after-push (take i text) windows w (get_or text i 0))
+  pub text_more : new ≡ after_character now w (get_or text i 0) → new ≡ after_text windows w (take (i + 1) text)
+  text_more e = e ∙ ap (λ v. after_character v w (get_or text i 0)) before ∙ sym (ap (after_text windows w) more_text ∙ after-push (take i text) windows w (get_or text i 0))
 
-  pub frame_more : (frame next o : Option Rect) → frame ≡ addstr_frame windows w (take i text) → next ≡ addch_frame now w (get_or text i 0) → o ≡ joined frame next
-      → o ≡ addstr_frame windows w (take (i + 1) text)
+  pub frame_more : (frame next o : Option Rect) → frame ≡ text_frame windows w (take i text) → next ≡ frame_of_character now w (get_or text i 0) → o ≡ joined frame next
+      → o ≡ text_frame windows w (take (i + 1) text)
   frame_more frame next o so_far e is =
-      is ∙ (λ k. joined (so_far k) (e k)) ∙ ap (λ v. joined (addstr_frame windows w (take i text)) (addch_frame v w (get_or text i 0))) before
-      ∙ sym (ap (addstr_frame windows w) more_text ∙ frame-push (take i text) windows w (get_or text i 0))
+      is ∙ (λ k. joined (so_far k) (e k)) ∙ ap (λ v. joined (text_frame windows w (take i text)) (frame_of_character v w (get_or text i 0))) before
+      ∙ sym (ap (text_frame windows w) more_text ∙ frame-push (take i text) windows w (get_or text i 0))

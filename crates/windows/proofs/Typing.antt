@@ -11,8 +11,7 @@ use Rattle.world.specs.Windows.{Windows, put}
 use Rattle.world.specs.Settings.{set, with_cursor}
 use Rattle.world.specs.Drawings.{written_glyph, at_place, to_end_of_line, lines_up}
 use Rattle.world.specs.Frames.{joined, frame_of}
-use Rattle.world.specs.Typing.{scrolls, region_up, to_next_line, next_line_frame, character_printed, character_frame, line_ended, line_ended_frame, typed_in, typed_frame}
-use Rattle.world.specs.calls.writing.Characters.{after_addch, addch_frame}
+use Rattle.world.specs.Typing.{scrolls, region_up, to_next_line, next_line_frame, character_printed, character_frame, line_ended, line_ended_frame, typed_in, typed_frame, after_character, frame_of_character}
 use Rattle.cell.specs.declared.window.Rect.{Rect}
 use Rattle.world.specs.declared.settings.Settings.{Settings}
 use Rattle.windows.specs.steps.State.{IsStateOf, window_in_state}
@@ -113,10 +112,10 @@ module _ (windows : Windows) (w : ℕ) (s : WindowState) (h : IsStateOf windows 
 
   -- ---- any character
 
-  pub added : (new : Windows) (character : ℕ) → new ≡ typed_in windows w character (window_in_state s) → new ≡ after_addch windows w character
+  pub added : (new : Windows) (character : ℕ) → new ≡ typed_in windows w character (window_in_state s) → new ≡ after_character windows w character
   added new character e = e ∙ sym (call-is windows w s h (typed_in windows w character) refl)
 
-  pub added_frame : (o : Option Rect) (character : ℕ) → o ≡ typed_frame windows w character (window_in_state s) → o ≡ addch_frame windows w character
+  pub added_frame : (o : Option Rect) (character : ℕ) → o ≡ typed_frame windows w character (window_in_state s) → o ≡ frame_of_character windows w character
   added_frame o character e = e ∙ sym (frame-is windows w s h (typed_frame windows w character) refl)
 
 -- ---- the cell of a character

@@ -2,8 +2,11 @@
 
 ghost use Rattle.std.specs.Prelude.{◌≡◌, ◌+◌, ◌-◌, ◌<◌, ◌^◌, max, min, nat_lt, true, false, IfOk, OnOk, OnErr};
 ghost use Rattle.std.specs.Result.{result_err};
-ghost use Rattle.world.specs.calls.Copies.{after_copywin, after_overlay, copywin_frame, copywin_refusal, overlay_frame, overlay_refusal};
+ghost use Rattle.cell.specs.Refusals.{first_of};
 ghost use Rattle.world.specs.Sound.{AreSoundWindows};
+ghost use Rattle.world.specs.calls.Copying.{after_copying, common_copied, copying_frame, copying_refusal, overlay_tests};
+ghost use Rattle.world.specs.Effects.{after_edit, drawing_frame, draws};
+ghost use Rattle.world.specs.declared.call.Copying.{Copying};
 ghost use Rattle.grids.specs.Tables.{windows};
 
 use crate::state::state_of;
@@ -17,9 +20,9 @@ impl Windows {
     /// # Errors
     /// `NoSuchWindow`, `IsPad`, each for either window.
     pub fn overlay(&mut self, src: WinId, dst: WinId) -> Result<Option<Rect>, Refusal>
-        ensures refused { result_err result ≡ overlay_refusal (windows self.old.table) src.0 dst.0 }
-        ensures written { OnOk result (windows self.new.table ≡ after_overlay (windows self.old.table) src.0 dst.0 true) }
-        ensures frame { IfOk result (λ frame. frame ≡ overlay_frame (windows self.old.table) src.0 dst.0 true) }
+        ensures refused { result_err result ≡ copying_refusal (windows self.old.table) (Copying.Overlay src dst) }
+        ensures written { OnOk result (windows self.new.table ≡ after_copying (windows self.old.table) (Copying.Overlay src dst)) }
+        ensures frame { IfOk result (λ frame. frame ≡ copying_frame (windows self.old.table) (Copying.Overlay src dst)) }
         ensures unchanged { OnErr result (self.new ≡ self.old) }
         ensures sound { AreSoundWindows (windows self.new.table) }
     {
@@ -31,9 +34,9 @@ impl Windows {
     /// # Errors
     /// `NoSuchWindow`, `IsPad`, each for either window.
     pub fn overwrite(&mut self, src: WinId, dst: WinId) -> Result<Option<Rect>, Refusal>
-        ensures refused { result_err result ≡ overlay_refusal (windows self.old.table) src.0 dst.0 }
-        ensures written { OnOk result (windows self.new.table ≡ after_overlay (windows self.old.table) src.0 dst.0 false) }
-        ensures frame { IfOk result (λ frame. frame ≡ overlay_frame (windows self.old.table) src.0 dst.0 false) }
+        ensures refused { result_err result ≡ copying_refusal (windows self.old.table) (Copying.Overwrite src dst) }
+        ensures written { OnOk result (windows self.new.table ≡ after_copying (windows self.old.table) (Copying.Overwrite src dst)) }
+        ensures frame { IfOk result (λ frame. frame ≡ copying_frame (windows self.old.table) (Copying.Overwrite src dst)) }
         ensures unchanged { OnErr result (self.new ≡ self.old) }
         ensures sound { AreSoundWindows (windows self.new.table) }
     {
@@ -58,9 +61,9 @@ impl Windows {
         dmaxcol: u16,
         overlay: bool,
     ) -> Result<Option<Rect>, Refusal>
-        ensures refused { result_err result ≡ copywin_refusal (windows self.old.table) src.0 dst.0 sminrow smincol dminrow dmincol dmaxrow dmaxcol }
-        ensures written { OnOk result (windows self.new.table ≡ after_copywin (windows self.old.table) src.0 dst.0 sminrow smincol dminrow dmincol dmaxrow dmaxcol overlay) }
-        ensures frame { IfOk result (λ frame. frame ≡ copywin_frame (windows self.old.table) src.0 dst.0 sminrow smincol dminrow dmincol dmaxrow dmaxcol overlay) }
+        ensures refused { result_err result ≡ copying_refusal (windows self.old.table) (Copying.Copywin src dst sminrow smincol dminrow dmincol dmaxrow dmaxcol overlay) }
+        ensures written { OnOk result (windows self.new.table ≡ after_copying (windows self.old.table) (Copying.Copywin src dst sminrow smincol dminrow dmincol dmaxrow dmaxcol overlay)) }
+        ensures frame { IfOk result (λ frame. frame ≡ copying_frame (windows self.old.table) (Copying.Copywin src dst sminrow smincol dminrow dmincol dmaxrow dmaxcol overlay)) }
         ensures unchanged { OnErr result (self.new ≡ self.old) }
         ensures sound { AreSoundWindows (windows self.new.table) }
     {
@@ -108,9 +111,9 @@ fn copy_common(
     dst: WinId,
     overlay: bool,
 ) -> Result<Option<Rect>, Refusal>
-    ensures refused { result_err result ≡ overlay_refusal (windows table.old) src.0 dst.0 }
-    ensures written { OnOk result (windows table.new ≡ after_overlay (windows table.old) src.0 dst.0 overlay) }
-    ensures frame { IfOk result (λ frame. frame ≡ overlay_frame (windows table.old) src.0 dst.0 overlay) }
+    ensures refused { result_err result ≡ first_of (overlay_tests (windows table.old) src.0 dst.0) }
+    ensures written { OnOk result (windows table.new ≡ after_edit (windows table.old) (draws dst.0 (λ a. common_copied (windows table.old).window src.0 dst.0 overlay) None)) }
+    ensures frame { IfOk result (λ frame. frame ≡ drawing_frame (windows table.old) dst.0 (λ a. common_copied (windows table.old).window src.0 dst.0 overlay)) }
     ensures unchanged { OnErr result (table.new ≡ table.old) }
     ensures sound { AreSoundWindows (windows table.new) }
 {

@@ -5,6 +5,7 @@ ghost use Rattle.world.specs.Windows.{put};
 ghost use Rattle.world.specs.Rows.{copied, filled};
 ghost use Rattle.world.specs.Sound.{AreSoundWindows};
 ghost use Rattle.world.specs.Drawings.{at_place, character_deleted, character_inserted, everywhere, lines_down, lines_up, to_bottom, to_end_of_line};
+ghost use Rattle.world.specs.calls.Writing.{cleared};
 ghost use Rattle.grids.specs.Tables.{windows};
 ghost use Rattle.windows.specs.steps.State.{IsStateOf};
 

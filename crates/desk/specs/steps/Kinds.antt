@@ -1,14 +1,15 @@
 -- Which kind of answer each call has.
-use Rattle.std.specs.Prelude.{◌≡◌, ℕ, Bool, Option, Some, if◌then◌else◌}
+use Rattle.std.specs.Prelude.{◌≡◌, ℕ, Bool, Option, Some}
 use Rattle.cell.specs.Glyphs.{Glyph}
 use Rattle.cell.specs.declared.window.WinId.{WinId}
 use Rattle.streams.specs.declared.sending.Sent.{Sent as SentBytes}
-use Rattle.world.specs.calls.Dispatch.{makes_window}
 use Rattle.world.specs.declared.panel.PanelId.{PanelId}
 use Rattle.world.specs.declared.call.Call.{Call}
 use Rattle.world.specs.declared.call.Call.TheVariants as calls
 use Rattle.world.specs.declared.call.Copying.{Copying}
 use Rattle.world.specs.declared.call.Copying.TheVariants.{IsLinetouched, IsWintouched}
+use Rattle.world.specs.declared.call.Making.{Making}
+use Rattle.world.specs.declared.call.Making.TheVariants.{Delwin, Mvwin, Mvderwin}
 use Rattle.world.specs.declared.call.Query.{Query}
 use Rattle.world.specs.declared.call.Query.TheVariants.{Inch}
 use Rattle.world.specs.declared.call.Stacking.{Stacking}
@@ -29,6 +30,12 @@ pub data Kind : Type 0 where
   neighbour : Kind
   composed : Kind
   sent : Kind
+
+abbrev pub kind_of_making : Making → Kind
+kind_of_making (Delwin win) = nothing
+kind_of_making (Mvwin win y x) = nothing
+kind_of_making (Mvderwin win y x) = nothing
+kind_of_making _ = number
 
 abbrev pub kind_of_copying : Copying → Kind
 kind_of_copying (IsLinetouched win y) = flag
@@ -53,7 +60,7 @@ kind_of_refresh Doupdate = sent
 kind_of_refresh _ = nothing
 
 abbrev pub kind_of : Call → Kind
-kind_of (calls.Making making) = if makes_window making then number else nothing
+kind_of (calls.Making making) = kind_of_making making
 kind_of (calls.Writing writing) = nothing
 kind_of (calls.Copying copying) = kind_of_copying copying
 kind_of (calls.Query query) = kind_of_query query

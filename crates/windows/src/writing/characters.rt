@@ -6,10 +6,9 @@ ghost use Rattle.std.specs.Result.{result_err};
 ghost use Rattle.cell.specs.Attributes.{bits_of};
 ghost use Rattle.world.specs.Drawings.{written_glyph};
 ghost use Rattle.world.specs.Sound.{AreSoundWindows};
-ghost use Rattle.world.specs.calls.Writing.{is_bad_character};
-ghost use Rattle.world.specs.Typing.{to_next_line, next_line_frame, character_printed, character_frame, line_ended, line_ended_frame, typed_in, typed_frame};
-ghost use Rattle.world.specs.calls.writing.Characters.{addch_refusal, after_addch, addch_frame, addstr_refusal, after_addstr, addstr_frame, insch_refusal, after_insch, insch_frame, after_delch, delch_frame};
-ghost use Rattle.world.specs.calls.Missing.{missing_refusal};
+ghost use Rattle.world.specs.calls.Writing.{is_bad_character, after_writing, writing_frame, writing_refusal};
+ghost use Rattle.world.specs.Typing.{to_next_line, next_line_frame, character_printed, character_frame, line_ended, line_ended_frame, typed_in, typed_frame, after_character, frame_of_character, after_text, text_frame};
+ghost use Rattle.world.specs.declared.call.Writing.{Writing};
 ghost use Rattle.cell.specs.Glyphs.{is_printable};
 ghost use Rattle.grids.specs.Tables.{windows};
 ghost use Rattle.windows.specs.steps.State.{IsStateOf, window_in_state};
@@ -36,9 +35,9 @@ impl Windows {
     /// # Errors
     /// `NoSuchWindow`; `BadCharacter` for another character outside 32 to 126.
     pub fn waddch(&mut self, win: WinId, ch: u8) -> Result<Option<Rect>, Refusal>
-        ensures refused { result_err result ≡ addch_refusal (windows self.old.table) win.0 ch }
-        ensures written { OnOk result (windows self.new.table ≡ after_addch (windows self.old.table) win.0 ch) }
-        ensures frame { IfOk result (λ frame. frame ≡ addch_frame (windows self.old.table) win.0 ch) }
+        ensures refused { result_err result ≡ writing_refusal (windows self.old.table) (Writing.Addch win ch) }
+        ensures written { OnOk result (windows self.new.table ≡ after_writing (windows self.old.table) (Writing.Addch win ch)) }
+        ensures frame { IfOk result (λ frame. frame ≡ writing_frame (windows self.old.table) (Writing.Addch win ch)) }
         ensures unchanged { OnErr result (self.new ≡ self.old) }
         ensures sound { AreSoundWindows (windows self.new.table) }
     {
@@ -54,9 +53,9 @@ impl Windows {
     /// # Errors
     /// `NoSuchWindow`; `BadCharacter` for a character other than 8, 10, 13 and 32 to 126.
     pub fn waddstr(&mut self, win: WinId, text: &[u8]) -> Result<Option<Rect>, Refusal>
-        ensures refused { result_err result ≡ addstr_refusal (windows self.old.table) win.0 text.now }
-        ensures written { OnOk result (windows self.new.table ≡ after_addstr (windows self.old.table) win.0 text.now) }
-        ensures frame { IfOk result (λ frame. frame ≡ addstr_frame (windows self.old.table) win.0 text.now) }
+        ensures refused { result_err result ≡ writing_refusal (windows self.old.table) (Writing.Addstr win text.entry) }
+        ensures written { OnOk result (windows self.new.table ≡ after_writing (windows self.old.table) (Writing.Addstr win text.entry)) }
+        ensures frame { IfOk result (λ frame. frame ≡ writing_frame (windows self.old.table) (Writing.Addstr win text.entry)) }
         ensures unchanged { OnErr result (self.new ≡ self.old) }
         ensures sound { AreSoundWindows (windows self.new.table) }
     {
@@ -72,9 +71,9 @@ impl Windows {
     /// # Errors
     /// `NoSuchWindow`; `BadCharacter` for a character outside 32 to 126.
     pub fn winsch(&mut self, win: WinId, ch: u8) -> Result<Option<Rect>, Refusal>
-        ensures refused { result_err result ≡ insch_refusal (windows self.old.table) win.0 ch }
-        ensures written { OnOk result (windows self.new.table ≡ after_insch (windows self.old.table) win.0 ch) }
-        ensures frame { IfOk result (λ frame. frame ≡ insch_frame (windows self.old.table) win.0 ch) }
+        ensures refused { result_err result ≡ writing_refusal (windows self.old.table) (Writing.Insch win ch) }
+        ensures written { OnOk result (windows self.new.table ≡ after_writing (windows self.old.table) (Writing.Insch win ch)) }
+        ensures frame { IfOk result (λ frame. frame ≡ writing_frame (windows self.old.table) (Writing.Insch win ch)) }
         ensures unchanged { OnErr result (self.new ≡ self.old) }
         ensures sound { AreSoundWindows (windows self.new.table) }
     {
@@ -94,9 +93,9 @@ impl Windows {
     /// # Errors
     /// `NoSuchWindow`.
     pub fn wdelch(&mut self, win: WinId) -> Result<Option<Rect>, Refusal>
-        ensures refused { result_err result ≡ missing_refusal (windows self.old.table).window win.0 }
-        ensures written { OnOk result (windows self.new.table ≡ after_delch (windows self.old.table) win.0) }
-        ensures frame { IfOk result (λ frame. frame ≡ delch_frame (windows self.old.table) win.0) }
+        ensures refused { result_err result ≡ writing_refusal (windows self.old.table) (Writing.Delch win) }
+        ensures written { OnOk result (windows self.new.table ≡ after_writing (windows self.old.table) (Writing.Delch win)) }
+        ensures frame { IfOk result (λ frame. frame ≡ writing_frame (windows self.old.table) (Writing.Delch win)) }
         ensures unchanged { OnErr result (self.new ≡ self.old) }
         ensures sound { AreSoundWindows (windows self.new.table) }
     {
@@ -119,8 +118,8 @@ fn type_text(table: &mut Grids, win: WinId, text: &[u8]) -> Option<Rect>
     requires there { IsSome ((windows table.old).window win.0) }
     requires accepted { list_any is_bad_character text.now ≡ false }
     requires sound { AreSoundWindows (windows table.old) }
-    ensures written { windows table.new ≡ after_addstr (windows table.old) win.0 text.now }
-    ensures frame { result ≡ addstr_frame (windows table.old) win.0 text.now }
+    ensures written { windows table.new ≡ after_text (windows table.old) win.0 text.now }
+    ensures frame { result ≡ text_frame (windows table.old) win.0 text.now }
     ensures sound { AreSoundWindows (windows table.new) }
 {
     let mut frame = None;
@@ -134,8 +133,8 @@ fn type_text(table: &mut Grids, win: WinId, text: &[u8]) -> Option<Rect>
 fn type_next(table: &mut Grids, win: WinId, ch: u8) -> Option<Rect>
     requires there { IsSome ((windows table.old).window win.0) }
     requires accepted { is_bad_character ch ≡ false }
-    ensures written { windows table.new ≡ after_addch (windows table.old) win.0 ch }
-    ensures frame { result ≡ addch_frame (windows table.old) win.0 ch }
+    ensures written { windows table.new ≡ after_character (windows table.old) win.0 ch }
+    ensures frame { result ≡ frame_of_character (windows table.old) win.0 ch }
     ensures there { IsSome ((windows table.new).window win.0) }
     ensures sound { AreSoundWindows (windows table.new) }
 {

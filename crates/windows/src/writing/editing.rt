@@ -2,9 +2,10 @@
 
 ghost use Rattle.std.specs.Prelude.{◌≡◌, IfOk, OnOk, OnErr};
 ghost use Rattle.std.specs.Result.{result_err};
-ghost use Rattle.world.specs.calls.writing.Editing.{after_clear, after_erase, erase_frame, after_clrtoeol, clrtoeol_frame, after_clrtobot, clrtobot_frame, after_insertln, insertln_frame, after_deleteln, deleteln_frame};
-ghost use Rattle.world.specs.calls.Missing.{missing_refusal};
 ghost use Rattle.world.specs.Sound.{AreSoundWindows};
+ghost use Rattle.world.specs.calls.Writing.{after_writing, writing_frame, writing_refusal};
+ghost use Rattle.world.specs.Effects.{sets};
+ghost use Rattle.world.specs.declared.call.Writing.{Writing};
 ghost use Rattle.grids.specs.Tables.{windows};
 
 use crate::drawing::{clear_all, clear_below, clear_rest, move_down, move_up};
@@ -12,6 +13,7 @@ use crate::frame::lines_from;
 use crate::state::{set_cursor, state_of};
 use crate::table::Windows;
 use cell::{Rect, Refusal, WinId};
+use world::Settings;
 
 impl Windows {
     /// Sets all cells of a window to its background, and its cursor to line 0 and column 0.
@@ -19,9 +21,9 @@ impl Windows {
     /// # Errors
     /// `NoSuchWindow`.
     pub fn werase(&mut self, win: WinId) -> Result<Option<Rect>, Refusal>
-        ensures refused { result_err result ≡ missing_refusal (windows self.old.table).window win.0 }
-        ensures written { OnOk result (windows self.new.table ≡ after_erase (windows self.old.table) win.0) }
-        ensures frame { IfOk result (λ frame. frame ≡ erase_frame (windows self.old.table) win.0) }
+        ensures refused { result_err result ≡ writing_refusal (windows self.old.table) (Writing.Erase win) }
+        ensures written { OnOk result (windows self.new.table ≡ after_writing (windows self.old.table) (Writing.Erase win)) }
+        ensures frame { IfOk result (λ frame. frame ≡ writing_frame (windows self.old.table) (Writing.Erase win)) }
         ensures unchanged { OnErr result (self.new ≡ self.old) }
         ensures sound { AreSoundWindows (windows self.new.table) }
     {
@@ -37,17 +39,22 @@ impl Windows {
     /// # Errors
     /// `NoSuchWindow`.
     pub fn wclear(&mut self, win: WinId) -> Result<Option<Rect>, Refusal>
-        ensures refused { result_err result ≡ missing_refusal (windows self.old.table).window win.0 }
-        ensures written { OnOk result (windows self.new.table ≡ after_clear (windows self.old.table) win.0) }
-        ensures frame { IfOk result (λ frame. frame ≡ erase_frame (windows self.old.table) win.0) }
+        ensures refused { result_err result ≡ writing_refusal (windows self.old.table) (Writing.Clear win) }
+        ensures written { OnOk result (windows self.new.table ≡ after_writing (windows self.old.table) (Writing.Clear win)) }
+        ensures frame { IfOk result (λ frame. frame ≡ writing_frame (windows self.old.table) (Writing.Clear win)) }
         ensures unchanged { OnErr result (self.new ≡ self.old) }
         ensures sound { AreSoundWindows (windows self.new.table) }
     {
-        let frame = self.werase(win)?;
-        match self.clearok(win, true) {
-            Ok(()) => Ok(frame),
-            Err(_) => unreachable!(),
-        }
+        let state = state_of(&self.table, win)?;
+        let frame = lines_from(&state, 0, state.lines - 1, 0);
+        clear_all(&mut self.table, win, &state);
+        let settings = Settings {
+            cursor: (0, 0),
+            clear: true,
+            ..state.settings
+        };
+        self.table.set_settings(win, settings);
+        Ok(Some(frame))
     }
 
     /// Sets the cells from the cursor to the end of its line to the background.
@@ -55,9 +62,9 @@ impl Windows {
     /// # Errors
     /// `NoSuchWindow`.
     pub fn wclrtoeol(&mut self, win: WinId) -> Result<Option<Rect>, Refusal>
-        ensures refused { result_err result ≡ missing_refusal (windows self.old.table).window win.0 }
-        ensures written { OnOk result (windows self.new.table ≡ after_clrtoeol (windows self.old.table) win.0) }
-        ensures frame { IfOk result (λ frame. frame ≡ clrtoeol_frame (windows self.old.table) win.0) }
+        ensures refused { result_err result ≡ writing_refusal (windows self.old.table) (Writing.Clrtoeol win) }
+        ensures written { OnOk result (windows self.new.table ≡ after_writing (windows self.old.table) (Writing.Clrtoeol win)) }
+        ensures frame { IfOk result (λ frame. frame ≡ writing_frame (windows self.old.table) (Writing.Clrtoeol win)) }
         ensures unchanged { OnErr result (self.new ≡ self.old) }
         ensures sound { AreSoundWindows (windows self.new.table) }
     {
@@ -72,9 +79,9 @@ impl Windows {
     /// # Errors
     /// `NoSuchWindow`.
     pub fn wclrtobot(&mut self, win: WinId) -> Result<Option<Rect>, Refusal>
-        ensures refused { result_err result ≡ missing_refusal (windows self.old.table).window win.0 }
-        ensures written { OnOk result (windows self.new.table ≡ after_clrtobot (windows self.old.table) win.0) }
-        ensures frame { IfOk result (λ frame. frame ≡ clrtobot_frame (windows self.old.table) win.0) }
+        ensures refused { result_err result ≡ writing_refusal (windows self.old.table) (Writing.Clrtobot win) }
+        ensures written { OnOk result (windows self.new.table ≡ after_writing (windows self.old.table) (Writing.Clrtobot win)) }
+        ensures frame { IfOk result (λ frame. frame ≡ writing_frame (windows self.old.table) (Writing.Clrtobot win)) }
         ensures unchanged { OnErr result (self.new ≡ self.old) }
         ensures sound { AreSoundWindows (windows self.new.table) }
     {
@@ -94,9 +101,9 @@ impl Windows {
     /// # Errors
     /// `NoSuchWindow`.
     pub fn winsertln(&mut self, win: WinId) -> Result<Option<Rect>, Refusal>
-        ensures refused { result_err result ≡ missing_refusal (windows self.old.table).window win.0 }
-        ensures written { OnOk result (windows self.new.table ≡ after_insertln (windows self.old.table) win.0) }
-        ensures frame { IfOk result (λ frame. frame ≡ insertln_frame (windows self.old.table) win.0) }
+        ensures refused { result_err result ≡ writing_refusal (windows self.old.table) (Writing.Insertln win) }
+        ensures written { OnOk result (windows self.new.table ≡ after_writing (windows self.old.table) (Writing.Insertln win)) }
+        ensures frame { IfOk result (λ frame. frame ≡ writing_frame (windows self.old.table) (Writing.Insertln win)) }
         ensures unchanged { OnErr result (self.new ≡ self.old) }
         ensures sound { AreSoundWindows (windows self.new.table) }
     {
@@ -112,9 +119,9 @@ impl Windows {
     /// # Errors
     /// `NoSuchWindow`.
     pub fn wdeleteln(&mut self, win: WinId) -> Result<Option<Rect>, Refusal>
-        ensures refused { result_err result ≡ missing_refusal (windows self.old.table).window win.0 }
-        ensures written { OnOk result (windows self.new.table ≡ after_deleteln (windows self.old.table) win.0) }
-        ensures frame { IfOk result (λ frame. frame ≡ deleteln_frame (windows self.old.table) win.0) }
+        ensures refused { result_err result ≡ writing_refusal (windows self.old.table) (Writing.Deleteln win) }
+        ensures written { OnOk result (windows self.new.table ≡ after_writing (windows self.old.table) (Writing.Deleteln win)) }
+        ensures frame { IfOk result (λ frame. frame ≡ writing_frame (windows self.old.table) (Writing.Deleteln win)) }
         ensures unchanged { OnErr result (self.new ≡ self.old) }
         ensures sound { AreSoundWindows (windows self.new.table) }
     {

@@ -3,9 +3,9 @@
 ghost use Rattle.std.specs.Prelude.{◌≡◌, OnOk, OnErr};
 ghost use Rattle.std.specs.Result.{result_err};
 ghost use Rattle.cell.specs.Attributes.{bits_of};
-ghost use Rattle.world.specs.calls.writing.Options.{move_refusal, after_move, after_clearok, after_attrset, after_attron, after_attroff, bkgdset_refusal, after_bkgdset, pair_refusal, after_color_set, after_bkgdpair};
-ghost use Rattle.world.specs.calls.Missing.{missing_refusal};
 ghost use Rattle.world.specs.Sound.{AreSoundWindows};
+ghost use Rattle.world.specs.calls.Writing.{after_writing, writing_refusal};
+ghost use Rattle.world.specs.declared.call.Writing.{Writing};
 ghost use Rattle.grids.specs.Tables.{windows};
 
 use crate::state::{set_cursor, state_of};
@@ -20,8 +20,8 @@ impl Windows {
     /// # Errors
     /// `NoSuchWindow`; `OutsideWindow` for a place that the window hasn't.
     pub fn wmove(&mut self, win: WinId, y: u16, x: u16) -> Result<(), Refusal>
-        ensures refused { result_err result ≡ move_refusal (windows self.old.table) win.0 y x }
-        ensures set { OnOk result (windows self.new.table ≡ after_move (windows self.old.table) win.0 y x) }
+        ensures refused { result_err result ≡ writing_refusal (windows self.old.table) (Writing.Move win y x) }
+        ensures set { OnOk result (windows self.new.table ≡ after_writing (windows self.old.table) (Writing.Move win y x)) }
         ensures unchanged { OnErr result (self.new ≡ self.old) }
         ensures sound { AreSoundWindows (windows self.new.table) }
     {
@@ -38,8 +38,8 @@ impl Windows {
     /// # Errors
     /// `NoSuchWindow`.
     pub fn clearok(&mut self, win: WinId, flag: bool) -> Result<(), Refusal>
-        ensures refused { result_err result ≡ missing_refusal (windows self.old.table).window win.0 }
-        ensures set { OnOk result (windows self.new.table ≡ after_clearok (windows self.old.table) win.0 flag) }
+        ensures refused { result_err result ≡ writing_refusal (windows self.old.table) (Writing.Clearok win flag) }
+        ensures set { OnOk result (windows self.new.table ≡ after_writing (windows self.old.table) (Writing.Clearok win flag)) }
         ensures unchanged { OnErr result (self.new ≡ self.old) }
         ensures sound { AreSoundWindows (windows self.new.table) }
     {
@@ -57,8 +57,8 @@ impl Windows {
     /// # Errors
     /// `NoSuchWindow`.
     pub fn wattrset(&mut self, win: WinId, attrs: Attr) -> Result<(), Refusal>
-        ensures refused { result_err result ≡ missing_refusal (windows self.old.table).window win.0 }
-        ensures set { OnOk result (windows self.new.table ≡ after_attrset (windows self.old.table) win.0 (bits_of attrs)) }
+        ensures refused { result_err result ≡ writing_refusal (windows self.old.table) (Writing.Attrset win attrs) }
+        ensures set { OnOk result (windows self.new.table ≡ after_writing (windows self.old.table) (Writing.Attrset win attrs)) }
         ensures unchanged { OnErr result (self.new ≡ self.old) }
         ensures sound { AreSoundWindows (windows self.new.table) }
     {
@@ -76,8 +76,8 @@ impl Windows {
     /// # Errors
     /// `NoSuchWindow`.
     pub fn wattron(&mut self, win: WinId, attrs: Attr) -> Result<(), Refusal>
-        ensures refused { result_err result ≡ missing_refusal (windows self.old.table).window win.0 }
-        ensures set { OnOk result (windows self.new.table ≡ after_attron (windows self.old.table) win.0 (bits_of attrs)) }
+        ensures refused { result_err result ≡ writing_refusal (windows self.old.table) (Writing.Attron win attrs) }
+        ensures set { OnOk result (windows self.new.table ≡ after_writing (windows self.old.table) (Writing.Attron win attrs)) }
         ensures unchanged { OnErr result (self.new ≡ self.old) }
         ensures sound { AreSoundWindows (windows self.new.table) }
     {
@@ -95,8 +95,8 @@ impl Windows {
     /// # Errors
     /// `NoSuchWindow`.
     pub fn wattroff(&mut self, win: WinId, attrs: Attr) -> Result<(), Refusal>
-        ensures refused { result_err result ≡ missing_refusal (windows self.old.table).window win.0 }
-        ensures set { OnOk result (windows self.new.table ≡ after_attroff (windows self.old.table) win.0 (bits_of attrs)) }
+        ensures refused { result_err result ≡ writing_refusal (windows self.old.table) (Writing.Attroff win attrs) }
+        ensures set { OnOk result (windows self.new.table ≡ after_writing (windows self.old.table) (Writing.Attroff win attrs)) }
         ensures unchanged { OnErr result (self.new ≡ self.old) }
         ensures sound { AreSoundWindows (windows self.new.table) }
     {
@@ -114,8 +114,8 @@ impl Windows {
     /// # Errors
     /// `NoSuchWindow`; `BadCharacter` for a character outside 32 to 126.
     pub fn wbkgdset(&mut self, win: WinId, attrs: Attr, ch: u8) -> Result<(), Refusal>
-        ensures refused { result_err result ≡ bkgdset_refusal (windows self.old.table) win.0 ch }
-        ensures set { OnOk result (windows self.new.table ≡ after_bkgdset (windows self.old.table) win.0 (bits_of attrs) ch) }
+        ensures refused { result_err result ≡ writing_refusal (windows self.old.table) (Writing.Bkgdset win attrs ch) }
+        ensures set { OnOk result (windows self.new.table ≡ after_writing (windows self.old.table) (Writing.Bkgdset win attrs ch)) }
         ensures unchanged { OnErr result (self.new ≡ self.old) }
         ensures sound { AreSoundWindows (windows self.new.table) }
     {
@@ -134,8 +134,8 @@ impl Windows {
     /// # Errors
     /// `NoSuchWindow`; `BadPair` for a number past `LAST_PAIR`.
     pub fn wcolor_set(&mut self, win: WinId, pair: u16) -> Result<(), Refusal>
-        ensures refused { result_err result ≡ pair_refusal (windows self.old.table) win.0 pair }
-        ensures set { OnOk result (windows self.new.table ≡ after_color_set (windows self.old.table) win.0 pair) }
+        ensures refused { result_err result ≡ writing_refusal (windows self.old.table) (Writing.ColorSet win pair) }
+        ensures set { OnOk result (windows self.new.table ≡ after_writing (windows self.old.table) (Writing.ColorSet win pair)) }
         ensures unchanged { OnErr result (self.new ≡ self.old) }
         ensures sound { AreSoundWindows (windows self.new.table) }
     {
@@ -154,8 +154,8 @@ impl Windows {
     /// # Errors
     /// `NoSuchWindow`; `BadPair` for a number past `LAST_PAIR`.
     pub fn wbkgdpair(&mut self, win: WinId, pair: u16) -> Result<(), Refusal>
-        ensures refused { result_err result ≡ pair_refusal (windows self.old.table) win.0 pair }
-        ensures set { OnOk result (windows self.new.table ≡ after_bkgdpair (windows self.old.table) win.0 pair) }
+        ensures refused { result_err result ≡ writing_refusal (windows self.old.table) (Writing.Bkgdpair win pair) }
+        ensures set { OnOk result (windows self.new.table ≡ after_writing (windows self.old.table) (Writing.Bkgdpair win pair)) }
         ensures unchanged { OnErr result (self.new ≡ self.old) }
         ensures sound { AreSoundWindows (windows self.new.table) }
     {

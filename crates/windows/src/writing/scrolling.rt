@@ -3,12 +3,10 @@
 ghost use Rattle.std.specs.Prelude.{◌≡◌, IfOk, OnOk, OnErr};
 ghost use Rattle.std.specs.Result.{result_err};
 ghost use Rattle.world.specs.Frames.{frame_of};
-ghost use Rattle.world.specs.calls.writing.Editing.{scrl_refusal, after_scrl, scrl_frame};
-ghost use Rattle.world.specs.calls.Writing.{scrl_drawing};
-ghost use Rattle.world.specs.calls.writing.Options.{setscrreg_refusal, after_setscrreg, after_scrollok};
-ghost use Rattle.world.specs.calls.Missing.{missing_refusal};
+ghost use Rattle.world.specs.calls.Writing.{scrl_drawing, after_writing, writing_frame, writing_refusal};
 ghost use Rattle.world.specs.Sound.{AreSoundWindows};
 ghost use Rattle.world.specs.Windows.{put};
+ghost use Rattle.world.specs.declared.call.Writing.{Writing};
 ghost use Rattle.grids.specs.Tables.{windows};
 ghost use Rattle.windows.specs.steps.State.{IsStateOf, window_in_state};
 
@@ -27,9 +25,9 @@ impl Windows {
     /// # Errors
     /// `NoSuchWindow`; `ScrollingOff` for a window that doesn't scroll.
     pub fn wscrl(&mut self, win: WinId, n: i16) -> Result<Option<Rect>, Refusal>
-        ensures refused { result_err result ≡ scrl_refusal (windows self.old.table) win.0 }
-        ensures written { OnOk result (windows self.new.table ≡ after_scrl (windows self.old.table) win.0 n) }
-        ensures frame { IfOk result (λ frame. frame ≡ scrl_frame (windows self.old.table) win.0 n) }
+        ensures refused { result_err result ≡ writing_refusal (windows self.old.table) (Writing.Scrl win n) }
+        ensures written { OnOk result (windows self.new.table ≡ after_writing (windows self.old.table) (Writing.Scrl win n)) }
+        ensures frame { IfOk result (λ frame. frame ≡ writing_frame (windows self.old.table) (Writing.Scrl win n)) }
         ensures unchanged { OnErr result (self.new ≡ self.old) }
         ensures sound { AreSoundWindows (windows self.new.table) }
     {
@@ -45,8 +43,8 @@ impl Windows {
     /// # Errors
     /// `NoSuchWindow`; `BadRegion` if `top` is after `bot` or `bot` outside the window.
     pub fn wsetscrreg(&mut self, win: WinId, top: u16, bot: u16) -> Result<(), Refusal>
-        ensures refused { result_err result ≡ setscrreg_refusal (windows self.old.table) win.0 top bot }
-        ensures set { OnOk result (windows self.new.table ≡ after_setscrreg (windows self.old.table) win.0 top bot) }
+        ensures refused { result_err result ≡ writing_refusal (windows self.old.table) (Writing.Setscrreg win top bot) }
+        ensures set { OnOk result (windows self.new.table ≡ after_writing (windows self.old.table) (Writing.Setscrreg win top bot)) }
         ensures unchanged { OnErr result (self.new ≡ self.old) }
         ensures sound { AreSoundWindows (windows self.new.table) }
     {
@@ -67,8 +65,8 @@ impl Windows {
     /// # Errors
     /// `NoSuchWindow`.
     pub fn scrollok(&mut self, win: WinId, flag: bool) -> Result<(), Refusal>
-        ensures refused { result_err result ≡ missing_refusal (windows self.old.table).window win.0 }
-        ensures set { OnOk result (windows self.new.table ≡ after_scrollok (windows self.old.table) win.0 flag) }
+        ensures refused { result_err result ≡ writing_refusal (windows self.old.table) (Writing.Scrollok win flag) }
+        ensures set { OnOk result (windows self.new.table ≡ after_writing (windows self.old.table) (Writing.Scrollok win flag)) }
         ensures unchanged { OnErr result (self.new ≡ self.old) }
         ensures sound { AreSoundWindows (windows self.new.table) }
     {

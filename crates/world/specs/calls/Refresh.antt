@@ -45,6 +45,9 @@ abbrev pub is_no_colour : ℕ → Bool
 is_no_colour colour = not (nat_le colour LAST_COLOUR)
 
 -- pair 0 keeps the default colours
+abbrev pub colour_tests : ℕ → ℕ → ℕ → List (Bool × Refusal)
+colour_tests pair foreground background = (pair == 0 || (is_no_pair pair || (is_no_colour foreground || is_no_colour background)), BadPair) ∷ []
+
 abbrev pub refresh_tests : Windows → Refresh → List (Bool × Refusal)
 refresh_tests windows (Noutrefresh win) = missing windows win.0 ∷ (is_pad windows.window win.0, IsPad) ∷ []
 refresh_tests windows (Pnoutrefresh pad pminrow pmincol sminrow smincol smaxrow smaxcol) =
@@ -56,8 +59,7 @@ refresh_tests windows (Pnoutrefresh pad pminrow pmincol sminrow smincol smaxrow 
     ∷ []
 refresh_tests windows UpdatePanels = []
 refresh_tests windows Doupdate = []
-refresh_tests windows (InitPair pair foreground background) =
-    (pair == 0 || (is_no_pair pair || (is_no_colour foreground || is_no_colour background)), BadPair) ∷ []
+refresh_tests windows (InitPair pair foreground background) = colour_tests pair foreground background
 
 -- ---- effects
 

@@ -12,7 +12,7 @@ use Rattle.cell.specs.declared.refusal.Refusal.{Refusal}
 use Rattle.cell.specs.declared.refusal.Refusal.TheVariants.{NoSuchWindow, NoSuchPanel, OffScreen, IsPad, InPanel, Hidden, StandardScreen, TooMany}
 use Rattle.world.specs.Windows.{WindowMap, Windows, is_missing}
 use Rattle.world.specs.Panels.{Panels, panel_limit, is_in_panel, standard_screen, topmost, window_or_standard}
-use Rattle.world.specs.Effects.{Order, changes, adds, orders, carries, asks, given}
+use Rattle.world.specs.Effects.{Order, changes, adds, orders, carries, asks, given, panels_after}
 use Rattle.world.specs.calls.Making.{is_off_screen, is_pad}
 use Rattle.world.specs.declared.call.Reply.TheVariants.{Flag, Number, Panel}
 use Rattle.world.specs.declared.call.Stacking.{Stacking}
@@ -137,6 +137,10 @@ stacking_order panels (PanelAbove panel) = changes (asks (Panel (numbered_panel 
 stacking_order panels (PanelBelow panel) = changes (asks (Panel (numbered_panel (panel_below panels (panel_number panel)))))
 stacking_order panels (PanelWindow panel) = changes (asks (Number (record { 0 = window_or_standard panels (Some panel.0) })))
 stacking_order panels (PanelHidden panel) = changes (asks (Flag (is_hidden panels panel.0)))
+
+-- the panels after a call
+abbrev pub after_stacking : Panels → Stacking → Panels
+after_stacking panels stacking = panels_after panels (stacking_order panels stacking)
 
 abbrev pub stacking_refusal : Windows → Panels → Stacking → Option Refusal
 stacking_refusal windows panels stacking = first_of (stacking_tests windows panels stacking)

@@ -1,17 +1,15 @@
-use Rattle.std.proofs.Common.{◌≡◌, ℕ, false, ◌&&◌, ◌||◌, ◌<◌, Some, length, sym, ap, subst, ◌∙◌, arith}
-use Rattle.std.specs.Option.{option_map_or}
+use Rattle.std.proofs.Common.{◌≡◌, ℕ, ◌||◌, ◌<◌, length, sym, subst, ◌∙◌, arith}
 use Rattle.std.specs.Prelude.{MatchOption, ⊤}
 use Rattle.cell.specs.declared.window.Rect.{Rect}
-use Rattle.world.specs.Panels.{Panels, panel_holds, window_or_standard}
-use Rattle.world.specs.Windows.{Windows}
-use Rattle.world.specs.calls.Affected.{panel_shows_at}
+use Rattle.world.specs.Effects.{panels_after, windows_after}
+use Rattle.world.specs.calls.Affected.{order_shows_at}
+use Rattle.world.specs.calls.Stacking.{stacking_order}
 use Rattle.grids.specs.Tables.{windows}
 use Rattle.stack.specs.Tables.{panels}
 use Rattle.picture.specs.Parts.{part_holds}
 use Rattle.picture.proofs.DamageLaws.{damages-as, damages-then, part-right}
-use Rattle.compose.specs.steps.Changes.{panels_after, stacking_shows, windows_after}
 use Rattle.compose.proofs.Arranging.{arranged-size}
-use Rattle.compose.proofs.Parting.{new-hidden, part-within, stacking-parts}
+use Rattle.compose.proofs.Parting.{part-within, stacking-parts}
 use Rattle.compose.proofs.calls.arrange_damaging.Goals as goal
 
 pub damage_part-requires-2-clause-few : goal.damage_part-requires-2-clause-few
@@ -42,15 +40,15 @@ returns-clause-damaged c =
     let size = arranged-size t new ps s c.arrange.result c.arrange.ensures.windows c.arrange.ensures.unchanged in
     let before = c.part_of-before.result in
     let after = c.part_of-after.result in
-    let is : windows new ≡ windows_after ws ps s = c.in_ok-reply.ensures.windows in
-    let are : panels c.arrange.new.stack ≡ panels_after ps s = c.in_ok-reply.ensures.panels in
+    let order = stacking_order ps s in
+    let is : windows new ≡ windows_after ws ps order = c.in_ok-reply.ensures.windows in
+    let are : panels c.arrange.new.stack ≡ panels_after ps order = c.in_ok-reply.ensures.panels in
     let changed = c.changed_panel.ensures ps c.in_ok-reply.ensures.reply in
     let named = c.named_panel.ensures in
-    let shows : (y x : ℕ) → stacking_shows ws ps s y x ≡ (part_holds before y x || part_holds after y x) = λ y x.
-    stacking-parts (λ (v : Windows) (q : Panels) (p : ℕ). panel_shows_at v.window q p y x) ws (windows new) ps (panels c.arrange.new.stack) s _ _ (part_holds before y x) (part_holds after y x)
-    (λ p new_is. ap (λ b. b && panel_holds ws.window ps y x p) (new-hidden ps p c.requires.panels.visible new_is)) is are named changed
+    let shows : (y x : ℕ) → order_shows_at ws ps order y x ≡ (part_holds before y x || part_holds after y x) = λ y x.
+    stacking-parts ws (windows new) ps (panels c.arrange.new.stack) s _ _ (part_holds before y x) (part_holds after y x) y x c.requires.panels is are named changed
     (c.part_of-before.ensures.holds y x) (c.part_of-after.ensures.holds y x) in
-    damages-as t.columns (λ y x. part_holds before y x || part_holds after y x) (stacking_shows ws ps s) a.damage.now c.damage_part-2.new.damage
+    damages-as t.columns (λ y x. part_holds before y x || part_holds after y x) (order_shows_at ws ps order) a.damage.now c.damage_part-2.new.damage
     (damages-then t.columns (part_holds before) (part_holds after) a.damage.now c.damage_part.new.damage c.damage_part-2.new.damage
     (c.damage_part.ensures.damaged t.columns (part-right t.lines t.columns before c.part_of-before.ensures.within))
     (c.damage_part-2.ensures.damaged t.columns (subst (λ n. MatchOption after ⊤ (λ (r : Rect). r.right < n)) size.columns (part-right new.lines new.columns after c.part_of-after.ensures.within))))

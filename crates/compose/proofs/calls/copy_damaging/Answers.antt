@@ -1,15 +1,23 @@
+use Rattle.std.proofs.Common.{◌∙◌, sym}
 use Rattle.grids.specs.Tables.{windows}
 use Rattle.stack.specs.Tables.{panels}
-use Rattle.compose.proofs.WrittenDamages.{damages-copied, possible-copied}
+use Rattle.world.specs.calls.Copying.{copying_change}
+use Rattle.compose.proofs.AffectedDamages.{damages, possible, same-size}
 use Rattle.compose.proofs.calls.copy_damaging.Goals as goal
 
-pub damage_written-requires-clause-inside : goal.damage_written-requires-clause-inside
-damage_written-requires-clause-inside c =
-    let e = c.in_ok-wrote.ensures in
-    possible-copied (windows c.args.windows.now.table) (windows c.copy.new.windows.table) (panels c.args.stack.now) c.in_ok-wrote.wrote.win c.in_ok-wrote.wrote.frame c.args.copying e.copied e.window e.frame
+pub damage_affected-requires-clause-height : goal.damage_affected-requires-clause-height
+damage_affected-requires-clause-height c =
+    let e = c.in_ok-changed.ensures in
+    let size = same-size (windows c.args.windows.now.table) (windows c.copy.new.windows.table) (panels c.args.stack.now) (copying_change (windows c.args.windows.now.table) c.args.copying) c.in_ok-changed.changed.affected e.copied e.affected in
+    c.requires.height ∙ sym size.lines
+
+pub damage_affected-requires-clause-possible : goal.damage_affected-requires-clause-possible
+damage_affected-requires-clause-possible c =
+    let e = c.in_ok-changed.ensures in
+    possible (windows c.args.windows.now.table) (windows c.copy.new.windows.table) (panels c.args.stack.now) (copying_change (windows c.args.windows.now.table) c.args.copying) c.in_ok-changed.changed.affected e.copied e.affected
 
 pub returns-clause-damaged : goal.returns-clause-damaged
 returns-clause-damaged c =
-    let e = c.in_ok-wrote.ensures in
-    damages-copied (windows c.args.windows.now.table) (windows c.copy.new.windows.table) (panels c.args.stack.now) c.in_ok-wrote.wrote.win c.in_ok-wrote.wrote.frame c.args.copying
-    c.args.damage.now c.damage_written.new.damage e.copied e.window e.frame c.damage_written.ensures.damaged
+    let e = c.in_ok-changed.ensures in
+    damages (windows c.args.windows.now.table) (windows c.copy.new.windows.table) (panels c.args.stack.now) (copying_change (windows c.args.windows.now.table) c.args.copying) c.in_ok-changed.changed.affected e.copied e.affected
+    c.args.damage.now c.damage_affected.new.damage c.damage_affected.ensures.damaged

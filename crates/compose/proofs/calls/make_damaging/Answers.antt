@@ -1,10 +1,23 @@
+use Rattle.std.proofs.Common.{◌∙◌, sym}
 use Rattle.grids.specs.Tables.{windows}
 use Rattle.stack.specs.Tables.{panels}
-use Rattle.compose.specs.steps.Changes.{window_number}
-use Rattle.compose.proofs.Following.{damages-made}
+use Rattle.world.specs.calls.Making.{making_change}
+use Rattle.compose.proofs.AffectedDamages.{damages, possible, same-size}
 use Rattle.compose.proofs.calls.make_damaging.Goals as goal
+
+pub damage_affected-requires-clause-height : goal.damage_affected-requires-clause-height
+damage_affected-requires-clause-height c =
+    let e = c.in_ok-changed.ensures in
+    let size = same-size (windows c.args.table.now) (windows c.make.new.table) (panels c.args.stack.now) (making_change (windows c.args.table.now) c.args.making) c.in_ok-changed.changed.affected e.made e.affected in
+    c.requires.height ∙ sym size.lines
+
+pub damage_affected-requires-clause-possible : goal.damage_affected-requires-clause-possible
+damage_affected-requires-clause-possible c =
+    let e = c.in_ok-changed.ensures in
+    possible (windows c.args.table.now) (windows c.make.new.table) (panels c.args.stack.now) (making_change (windows c.args.table.now) c.args.making) c.in_ok-changed.changed.affected e.made e.affected
 
 pub returns-clause-damaged : goal.returns-clause-damaged
 returns-clause-damaged c =
-    damages-made (windows c.args.table.now) (windows c.make.new.table) (panels c.args.stack.now) c.args.making (window_number c.moved_window.result) c.args.damage.now c.damage_moved.new.damage
-    c.in_ok-reply.ensures.made c.moved_window.ensures c.damage_moved.ensures.damaged
+    let e = c.in_ok-changed.ensures in
+    damages (windows c.args.table.now) (windows c.make.new.table) (panels c.args.stack.now) (making_change (windows c.args.table.now) c.args.making) c.in_ok-changed.changed.affected e.made e.affected
+    c.args.damage.now c.damage_affected.new.damage c.damage_affected.ensures.damaged

@@ -2,7 +2,7 @@ use Rattle.std.proofs.Common.{sym, ◌∙◌}
 use Rattle.grids.specs.Tables.{windows}
 use Rattle.picture.specs.Parts.{part_holds}
 use Rattle.picture.proofs.DamageLaws.{damages-as, part-right}
-use Rattle.compose.specs.steps.Changes.{change_shows_at}
+use Rattle.compose.specs.steps.Changes.{affected_shows_at}
 use Rattle.compose.proofs.damaging.damage_change.Goals as goal
 
 pub returns : goal.returns
@@ -13,6 +13,6 @@ returns c =
     let part = c.changed_part.result in
     let e = c.changed_part.ensures in
     record {
-      damaged = damages-as table.columns (part_holds part) (λ y x. change_shows_at window a.change y x a.u.0) a.damage.now c.damage_part.new.damage
+      damaged = damages-as table.columns (part_holds part) (λ y x. affected_shows_at window a.affected y x a.u.0) a.damage.now c.damage_part.new.damage
           (c.damage_part.ensures.damaged table.columns (part-right table.lines table.columns part e.within)) (λ y x below left is. e.holds y x ∙ is) (λ y x left is. sym (e.holds y x) ∙ is);
     }

@@ -4,7 +4,7 @@ use Rattle.std.specs.List.{filter_map}
 use Rattle.world.specs.Panels.{windows_from_top}
 use Rattle.grids.specs.Tables.{windows}
 use Rattle.stack.specs.Tables.{panels}
-use Rattle.compose.specs.steps.Changes.{change_shows_at}
+use Rattle.compose.specs.steps.Changes.{affected_shows_at}
 use Rattle.compose.proofs.Visible.{DamagedBut, damaged-more, damaged-none}
 use Rattle.compose.proofs.damaging.damage_visible.Goals as goal
 
@@ -18,8 +18,8 @@ loop-panel-init c =
       can_next = tt;
       is_finite = tt;
       height = c.requires.height;
-      left = subst (λ order. DamagedBut a.table.now.columns (change_shows_at window a.change) (windows_from_top ps) a.damage.now (filter_map ps.window order) a.damage.now)
-          (sym is) (damaged-none a.table.now.columns (change_shows_at window a.change) (windows_from_top ps) a.damage.now);
+      left = subst (λ order. DamagedBut a.table.now.columns (affected_shows_at window a.affected) (windows_from_top ps) a.damage.now (filter_map ps.window order) a.damage.now)
+          (sym is) (damaged-none a.table.now.columns (affected_shows_at window a.affected) (windows_from_top ps) a.damage.now);
     }
 
 pub loop-panel-preserved-in-Ok : goal.loop-panel-preserved-in-Ok
@@ -34,8 +34,8 @@ loop-panel-preserved-in-Ok c =
       can_next = tt;
       is_finite = tt;
       height = c.damage_change.ensures.damaged.height ∙ c.loop-panel.invariant.height;
-      left = damaged-more a.table.now.columns (change_shows_at window a.change) (windows_from_top ps) a.damage.now c.in-Ok.u.0 (filter_map ps.window c.next.new.self)
+      left = damaged-more a.table.now.columns (affected_shows_at window a.affected) (windows_from_top ps) a.damage.now c.in-Ok.u.0 (filter_map ps.window c.next.new.self)
           c.loop-panel.damage c.damage_change.new.damage
-          (subst (λ us. DamagedBut a.table.now.columns (change_shows_at window a.change) (windows_from_top ps) a.damage.now us c.loop-panel.damage) us c.loop-panel.invariant.left)
+          (subst (λ us. DamagedBut a.table.now.columns (affected_shows_at window a.affected) (windows_from_top ps) a.damage.now us c.loop-panel.damage) us c.loop-panel.invariant.left)
           c.damage_change.ensures.damaged;
     }

@@ -1,8 +1,9 @@
 use Rattle.std.proofs.Common.{true, Some, refl, sym, ◌≡◌, subst}
 use Rattle.world.specs.Panels.{window_or_standard}
 use Rattle.world.specs.Windows.{Windows}
-use Rattle.world.specs.calls.Stacking.{after_bottom_panel, after_hide_panel, after_move_panel, after_show_panel, after_top_panel}
-use Rattle.world.proofs.PlaceLaws.{has_place, keeps-mvwin, panels-kept}
+use Rattle.world.specs.Effects.{carries, windows_after}
+use Rattle.world.specs.calls.Stacking.{after_bottom_panel, after_hide_panel, after_show_panel}
+use Rattle.world.proofs.PlaceLaws.{has_place, keeps-moved, panels-kept}
 use Rattle.grids.specs.Tables.{windows}
 use Rattle.stack.specs.Tables.{panels}
 use Rattle.compose.proofs.SoundPanels.{sound-deleted, sound-kept}
@@ -22,7 +23,7 @@ returns-in_ok-hide-in-HidePanel-clause-sound_panels c =
 
 pub returns-in_ok-top-in-TopPanel-clause-sound_panels : goal.returns-in_ok-top-in-TopPanel-clause-sound_panels
 returns-in_ok-top-in-TopPanel-clause-sound_panels c =
-    sound-kept (windows c.args.table.now).window c.args.stack.now c.top.new.self (after_top_panel (panels c.args.stack.now) c.in-TopPanel.panel.0) c.top.result c.requires c.top.ensures.sound refl c.top.ensures.moved c.top.ensures.unchanged
+    sound-kept (windows c.args.table.now).window c.args.stack.now c.top.new.self (after_show_panel (panels c.args.stack.now) c.in-TopPanel.panel.0) c.top.result c.requires c.top.ensures.sound refl c.top.ensures.moved c.top.ensures.unchanged
 
 pub returns-in_ok-bottom-in-BottomPanel-clause-sound_panels : goal.returns-in_ok-bottom-in-BottomPanel-clause-sound_panels
 returns-in_ok-bottom-in-BottomPanel-clause-sound_panels c =
@@ -33,6 +34,6 @@ returns-in_ok-move_panel-in-MovePanel-clause-sound_panels c =
     let before = windows c.args.table.now in
     let ps = panels c.args.stack.now in
     let m = c.in-MovePanel in
-    let is : windows c.move_panel.new.table ≡ after_move_panel before ps m.panel.0 m.y m.x = c.in_ok-move_panel-in-MovePanel.ensures.moved in
+    let is : windows c.move_panel.new.table ≡ windows_after before ps (carries m.panel.0 (m.y, m.x)) = c.in_ok-move_panel-in-MovePanel.ensures.moved in
     panels-kept ps before.window (windows c.move_panel.new.table).window
-    (λ p w has other there. subst (λ (ws : Windows). has_place (ws.window w) ≡ true) (sym is) (keeps-mvwin before (window_or_standard ps (Some m.panel.0)) m.y m.x w there)) c.requires
+    (λ p w has other there. subst (λ (ws : Windows). has_place (ws.window w) ≡ true) (sym is) (keeps-moved before (window_or_standard ps (Some m.panel.0)) (m.y, m.x) w there)) c.requires

@@ -1,15 +1,20 @@
-use Rattle.std.proofs.Common.{◌≡◌, ◌+◌, ◌<◌, ◌≤◌, Some, None, ap, ◌∙◌}
+use Rattle.std.proofs.Common.{◌≡◌, ◌+◌, ◌<◌, ◌≤◌, Some, None, ap, false, ◌∙◌}
 use Rattle.world.specs.Windows.{Windows}
-use Rattle.world.specs.calls.Missing.{missing_refusal}
+use Rattle.world.specs.calls.Writing.{after_writing, writing_refusal}
+use Rattle.world.specs.declared.call.Writing.TheVariants.{Clearok}
 use Rattle.grids.specs.Tables.{windows}
-use Rattle.compose.proofs.Unmarking.{still-there}
+use Rattle.compose.proofs.Unmarking.{lines-unmarked, still-there}
 use Rattle.compose.proofs.refresh.unmark_lines.Goals as goal
 
 pub unreachable-requires-in-Err-clearok : goal.unreachable-requires-in-Err-clearok
 unreachable-requires-in-Err-clearok c =
     let a = c.args in
-    let w = a.win.0 in
     let never : Some c.in-Err-clearok.field-0 ≡ None =
-    c.in-Err-clearok.ensures.refused ∙ ap (λ (v : Windows). missing_refusal v.window w) c.in-Ok.ensures.touched
-    ∙ still-there (windows a.windows.now.table) w a.first a.n (λ b. (a.first < b.lines) × (a.first + a.n ≤ b.lines)) c.requires in
+    c.in-Err-clearok.ensures.refused ∙ ap (λ (v : Windows). writing_refusal v (Clearok a.win false)) c.in-Ok.ensures.touched
+    ∙ still-there (windows a.windows.now.table) a.win a.first a.n (λ b. (a.first < b.lines) × (a.first + a.n ≤ b.lines)) c.requires in
     cc
+
+pub returns-in-Ok-clearok-clause-unmarked : goal.returns-in-Ok-clearok-clause-unmarked
+returns-in-Ok-clearok-clause-unmarked c =
+    let a = c.args in
+    c.in-Ok-clearok.ensures.set ∙ ap (λ (v : Windows). after_writing v (Clearok a.win false)) c.in-Ok.ensures.touched ∙ lines-unmarked (windows a.windows.now.table) a.win a.first a.n

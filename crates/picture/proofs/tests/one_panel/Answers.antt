@@ -4,7 +4,8 @@ use Rattle.cell.specs.Pictures.{Place}
 use Rattle.world.specs.Panels.{Panels, first_panels, standard_screen}
 use Rattle.world.specs.Sound.{AreSoundPanels, IsSoundPanel}
 use Rattle.world.specs.Windows.{Window, WindowMap}
-use Rattle.world.specs.calls.Stacking.{IsSoundEntry, IsSoundOrder, after_new_panel}
+use Rattle.world.specs.Effects.{with_panel}
+use Rattle.world.specs.calls.Stacking.{IsSoundEntry, IsSoundOrder, next_panel}
 use Rattle.grids.specs.Tables.{windows}
 use Rattle.stack.specs.Tables.{panels}
 use Rattle.picture.proofs.tests.one_panel.Goals as goal
@@ -29,7 +30,7 @@ sound-entry window ps w q (Some v) only there other h = record {
 }
 
 -- panels of which one has a window, and none another
-one-sound : (window : WindowMap) (ps : Panels) (w p : ℕ) → IsSoundOrder ps → ps ≡ after_new_panel first_panels p w → IsSomeAnd (window w) (λ a. IsSome a.place) → w ≢ standard_screen
+one-sound : (window : WindowMap) (ps : Panels) (w p : ℕ) → IsSoundOrder ps → ps ≡ with_panel first_panels p w → IsSomeAnd (window w) (λ a. IsSome a.place) → w ≢ standard_screen
     → AreSoundPanels window ps
 one-sound window ps w p h is there other = record {
   once = h.once;
@@ -40,6 +41,6 @@ one-sound window ps w p h is there other = record {
 pub returns : goal.returns
 returns c =
     let window = (windows c.args.table.now).window in
-    let p = c.in_ok-new_panel.field-0.0 in
-    let made : panels c.new_panel.new.self ≡ after_new_panel first_panels p 1 = c.in_ok-new_panel.ensures.made ∙ ap (λ (ps : Panels). after_new_panel ps p 1) c.new-stack.ensures in
+    let p = next_panel first_panels in
+    let made : panels c.new_panel.new.self ≡ with_panel first_panels p 1 = c.in_ok-new_panel.ensures.made ∙ ap (λ (ps : Panels). with_panel ps (next_panel ps) 1) c.new-stack.ensures in
     one-sound window (panels c.new_panel.new.self) 1 p c.new_panel.ensures.sound made (there-is (window 1) c.in_ok-getbegyx.field-0 c.in_ok-getbegyx.ensures.place) (λ same. cc)

@@ -7,7 +7,7 @@ use Rattle.grids.specs.Tables.{windows}
 use Rattle.stack.specs.Tables.{panels}
 use Rattle.compose.specs.Calling.{DamagesFew}
 use Rattle.compose.specs.Desks.{DeskTable, world}
-use Rattle.compose.proofs.Arranging.{arranged-damages, arranged-size, arranged-sound, arranged-world}
+use Rattle.compose.proofs.Arranging.{arranged-size, arranged-sound, arranged-world}
 use Rattle.compose.proofs.Covering.{covered-result, few-result}
 use Rattle.compose.proofs.DeskLemmas.{accepted-by, err-three}
 use Rattle.compose.proofs.desk.Desk.arrange.Goals as goal
@@ -28,7 +28,7 @@ invariant_of-self c =
     record {
       sound = arranged-sound d.windows.table w d.stack ps d.pairs virtual h.sound e.sound e.sound_panels (arranged-size d.windows.table w (panels d.stack) s r e.windows e.unchanged);
       covered = covered-result old new (calls.Stacking s) r h refl (accepted-by (stacking_refusal (windows d.windows.table) (panels d.stack) s) r e.refused)
-          (arranged-world old new s r refl refl e.windows e.panels) (arranged-damages (world old) s old.windows.columns d.damage damage r e.damaged)
+          (arranged-world old new s r refl refl e.windows e.panels) e.damaged
           (err-three r (λ table order undamaged i. record { windows = table i; panels = order i; pairs = d.pairs; virtual = virtual; damage = undamaged i }) e.unchanged e.unordered e.undamaged);
     }
 
@@ -49,4 +49,4 @@ returns-clause-damaged c =
     let s = c.args.stacking in
     subst (λ (t : DeskTable). OnOk r (DamagesFew t (calls.Stacking s) new)) c.self.view_is
     (few-result old new (calls.Stacking s) r c.self.invariant refl (accepted-by (stacking_refusal (windows d.windows.table) (panels d.stack) s) r e.refused)
-    (arranged-world old new s r refl refl e.windows e.panels) (arranged-damages (world old) s old.windows.columns d.damage new.damage r e.damaged))
+    (arranged-world old new s r refl refl e.windows e.panels) e.damaged)

@@ -1,13 +1,14 @@
 use Rattle.std.proofs.Common.{refl, ◌∙◌}
 use Rattle.world.specs.World.{VirtualScreen}
-use Rattle.world.specs.calls.Copying.{after_copying, copying_refusal}
-use Rattle.world.specs.calls.Making.{after_making, making_refusal}
-use Rattle.world.specs.calls.Writing.{after_writing, writing_refusal}
+use Rattle.world.specs.calls.Making.{after_making, making_change, making_refusal}
+use Rattle.world.specs.calls.Writing.{after_writing, writing_edit, writing_refusal}
+use Rattle.world.specs.calls.Copying.{after_copying, copying_change, copying_refusal}
 use Rattle.world.specs.Panels.{is_in_panel}
 use Rattle.world.specs.declared.call.Call.{Call}
 use Rattle.world.specs.declared.call.Call.TheVariants as calls
-use Rattle.world.proofs.PlaceLaws.{places-copying, places-writing}
-use Rattle.world.proofs.Sizes.{size-copying, size-making, size-writing}
+use Rattle.world.proofs.CallLaws.{allowed-copying}
+use Rattle.world.proofs.PlaceLaws.{keeps-change, places-edit}
+use Rattle.world.proofs.Sizes.{size-change, size-edit}
 use Rattle.grids.specs.Tables.{windows}
 use Rattle.stack.specs.Tables.{panels}
 use Rattle.compose.proofs.Covering.{covered-result, few-result}
@@ -83,7 +84,7 @@ invariant_of-self c =
     let old = before d.windows.table c.make_damaging.new.table d.stack d.pairs virtual d.damage c.make_damaging.new.damage in
     let new = behind d.windows.table c.make_damaging.new.table d.stack d.pairs virtual d.damage c.make_damaging.new.damage in
     record {
-      sound = IsSound-after d.windows.table c.make_damaging.new.table d.stack d.pairs virtual (after_making ws making) r h.sound e.sound (size-making ws making)
+      sound = IsSound-after d.windows.table c.make_damaging.new.table d.stack d.pairs virtual (after_making ws making) r h.sound e.sound (size-change ws (making_change ws making))
           (keeps-made d.windows.table c.make_damaging.new.table d.stack d.pairs virtual making r h.sound.panels e.refused) e.made e.unchanged;
       covered = covered-result old new (calls.Making making) r h refl (accepted-by (making_refusal ws (is_in_panel (panels d.stack)) making) r e.refused)
           (windows-left d.windows.table c.make_damaging.new.table d.stack d.pairs virtual d.damage c.make_damaging.new.damage (after_making ws making) r e.made) e.damaged
@@ -102,8 +103,8 @@ invariant_of-self-in-Writing c =
     let old = before d.windows.table c.write_damaging.new.windows.table d.stack d.pairs virtual d.damage c.write_damaging.new.damage in
     let new = behind d.windows.table c.write_damaging.new.windows.table d.stack d.pairs virtual d.damage c.write_damaging.new.damage in
     record {
-      sound = IsSound-after d.windows.table c.write_damaging.new.windows.table d.stack d.pairs virtual (after_writing ws writing) r h.sound e.sound (size-writing ws writing)
-          (λ done is p w has other there. places-writing ws writing w ∙ there) e.written e.unchanged;
+      sound = IsSound-after d.windows.table c.write_damaging.new.windows.table d.stack d.pairs virtual (after_writing ws writing) r h.sound e.sound (size-edit ws (writing_edit ws writing))
+          (λ done is p w has other there. places-edit ws (writing_edit ws writing) w ∙ there) e.written e.unchanged;
       covered = covered-result old new (calls.Writing writing) r h refl (accepted-by (writing_refusal ws writing) r (refused-by (writing_refusal ws writing) r e.refused))
           (windows-left d.windows.table c.write_damaging.new.windows.table d.stack d.pairs virtual d.damage c.write_damaging.new.damage (after_writing ws writing) r e.written) e.damaged
           (windows-unchanged d.windows.table c.write_damaging.new.windows.table d.stack d.pairs virtual d.damage c.write_damaging.new.damage r e.unchanged e.undamaged);
@@ -121,8 +122,8 @@ invariant_of-self-in-Copying c =
     let old = before d.windows.table c.copy_damaging.new.windows.table d.stack d.pairs virtual d.damage c.copy_damaging.new.damage in
     let new = behind d.windows.table c.copy_damaging.new.windows.table d.stack d.pairs virtual d.damage c.copy_damaging.new.damage in
     record {
-      sound = IsSound-after d.windows.table c.copy_damaging.new.windows.table d.stack d.pairs virtual (after_copying ws copying) r h.sound e.sound (size-copying ws copying)
-          (λ done is p w has other there. places-copying ws copying w ∙ there) e.copied e.unchanged;
+      sound = IsSound-after d.windows.table c.copy_damaging.new.windows.table d.stack d.pairs virtual (after_copying ws copying) r h.sound e.sound (size-change ws (copying_change ws copying))
+          (λ done is p w has other there. keeps-change ws (panels d.stack) (copying_change ws copying) h.sound.panels (allowed-copying ws (panels d.stack) copying) p w has there) e.copied e.unchanged;
       covered = covered-result old new (calls.Copying copying) r h refl (accepted-by (copying_refusal ws copying) r (refused-by (copying_refusal ws copying) r e.refused))
           (windows-left d.windows.table c.copy_damaging.new.windows.table d.stack d.pairs virtual d.damage c.copy_damaging.new.damage (after_copying ws copying) r e.copied) e.damaged
           (windows-unchanged d.windows.table c.copy_damaging.new.windows.table d.stack d.pairs virtual d.damage c.copy_damaging.new.damage r e.unchanged e.undamaged);

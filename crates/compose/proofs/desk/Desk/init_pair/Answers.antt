@@ -1,6 +1,8 @@
 use Rattle.std.proofs.Common.{rules, ◌≡◌, ◌<◌, true, None, refl, subst, ◌∙◌}
 use Rattle.world.specs.World.{VirtualScreen}
-use Rattle.world.specs.calls.Refresh.{after_init_pair, init_pair_refusal}
+use Rattle.cell.specs.Refusals.{first_of}
+use Rattle.world.specs.calls.Dispatch.{world_after}
+use Rattle.world.specs.calls.Refresh.{colour_tests}
 use Rattle.world.specs.declared.call.Call.TheVariants as calls
 use Rattle.world.specs.declared.call.Refresh.TheVariants.{InitPair}
 use Rattle.grids.specs.Tables.{windows as windows_of}
@@ -22,8 +24,8 @@ invariant_of-self c =
     let old : DeskTable = record { windows = t; panels = d.stack; pairs = d.pairs; virtual = virtual; damage = d.damage } in
     let new : DeskTable = record { windows = t; panels = d.stack; pairs = c.set.new.self; virtual = virtual; damage = c.damage_part.new.damage } in
     let part = c.window_part-part.result in
-    let accepted : init_pair_refusal a.pair a.foreground a.background ≡ None = search rules in
-    let left : world new ≡ after_init_pair (world old) a.pair a.foreground a.background = search rules in
+    let accepted : first_of (colour_tests a.pair a.foreground a.background) ≡ None = search rules in
+    let left : world new ≡ world_after (world old) (calls.Refresh (InitPair a.pair a.foreground a.background)) = search rules in
     record {
       sound = record { windows = h.sound.windows; panels = h.sound.panels; pairs = c.is_sound.ensures.sound; virtual = h.sound.virtual };
       covered = covered-after old new (calls.Refresh (InitPair a.pair a.foreground a.background)) h accepted refl left

@@ -2,7 +2,8 @@ use Rattle.std.proofs.Common.{rules, ◌≡◌, ◌||◌, false, None, Some, is_
 use Rattle.cell.specs.declared.window.Rect.{Rect}
 use Rattle.world.specs.Windows.{Drawing}
 use Rattle.world.specs.calls.Copying.{copywin_drawing}
-use Rattle.world.specs.calls.Refresh.{after_pnoutrefresh, pnoutrefresh_refusal}
+use Rattle.world.specs.calls.Dispatch.{world_after}
+use Rattle.world.specs.calls.Refresh.{among_lines, refresh_refusal}
 use Rattle.world.specs.Effects.{shown_over}
 use Rattle.world.specs.declared.call.Call.TheVariants as calls
 use Rattle.world.specs.declared.call.Refresh.TheVariants.{Pnoutrefresh}
@@ -34,10 +35,10 @@ new_desk c =
       damage = c.damage_part.new.damage;
     }
 
-accepted : (c : goal.After-unmark_lines) → pnoutrefresh_refusal (windows c.self.inside.windows.table) c.args.pad.0 c.args.pminrow c.args.pmincol c.args.sminrow c.args.smincol c.args.smaxrow c.args.smaxcol ≡ None
+accepted : (c : goal.After-unmark_lines) → refresh_refusal (windows c.self.inside.windows.table) (Pnoutrefresh c.args.pad c.args.pminrow c.args.pmincol c.args.sminrow c.args.smincol c.args.smaxrow c.args.smaxcol) ≡ None
 accepted c = search rules
 
-left : (c : goal.After-unmark_lines) → world (new_desk c) ≡ after_pnoutrefresh (world (old_desk c)) c.args.pad.0 c.args.pminrow c.args.pmincol c.args.sminrow c.args.smincol c.args.smaxrow c.args.smaxcol
+left : (c : goal.After-unmark_lines) → world (new_desk c) ≡ world_after (world (old_desk c)) (calls.Refresh (Pnoutrefresh c.args.pad c.args.pminrow c.args.pmincol c.args.sminrow c.args.smincol c.args.smaxrow c.args.smaxcol))
 left c = search rules
 
 abbrev drawing : goal.After-unmark_lines → Drawing
@@ -61,7 +62,7 @@ invariant_of-self c =
     let a = c.args in
     let h = c.self.invariant in
     record {
-      sound = IsSound-pad d.windows.table c.unmark_lines.new.windows.table d.stack d.pairs (record { picture = d.picture; cursor = d.cursor; clear = d.clear }) a.pad.0 a.pminrow _
+      sound = IsSound-pad d.windows.table c.unmark_lines.new.windows.table d.stack d.pairs (record { picture = d.picture; cursor = d.cursor; clear = d.clear }) a.pad.0 (among_lines a.pminrow _)
           c.show_rectangle.new.picture (shown_over d.pairs d.picture (drawing c)) _
           h.sound c.unmark_lines.ensures.sound c.unmark_lines.ensures.unmarked c.show_rectangle.ensures.shown c.show_rectangle.ensures.cells;
       covered = covered-after (old_desk c) (new_desk c) (calls.Refresh (Pnoutrefresh a.pad a.pminrow a.pmincol a.sminrow a.smincol a.smaxrow a.smaxcol)) h (accepted c) refl (left c) (damages c);

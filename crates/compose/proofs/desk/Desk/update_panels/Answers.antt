@@ -5,7 +5,7 @@ use Rattle.world.specs.Panels.{found_from_top, standard_screen, windows_from_top
 use Rattle.world.specs.Sound.{AreColumnsWithin, AreSoundPanels, AreSoundWindows}
 use Rattle.world.specs.Windows.{Windows}
 use Rattle.world.specs.World.{picture}
-use Rattle.world.specs.calls.Refresh.{after_update_panels}
+use Rattle.world.specs.calls.Dispatch.{world_after}
 use Rattle.world.proofs.RefreshLaws.{found-unmarked}
 use Rattle.grids.specs.Tables.{windows}
 use Rattle.stack.specs.Tables.{panels}
@@ -91,7 +91,7 @@ invariant_of-self c =
       covered = covered-composed (new_desk c) (c.show_damaged-cells.ensures.height ∙ lines ∙ sym (ap (λ (ws : Windows). ws.lines) unmarked)) c.show_damaged-cells.ensures.none shown_now;
     }
 
-left : (c : goal.After-unmark_composed) → world (new_desk c) ≡ after_update_panels (world (old_desk c))
+left : (c : goal.After-unmark_composed) → world (new_desk c) ≡ world_after (world (old_desk c)) (calls.Refresh UpdatePanels)
 left c = let then = shown_then c in search rules
 
 pub returns : goal.returns
@@ -102,6 +102,6 @@ returns c =
     let may : MayRead (world old) (is_damaged_line old) cells = may-read old c.self.invariant cells (c.show_damaged-cells.ensures.read ∙ ap (λ (ws : Windows). cells_above old.damage ws.lines) c.of-rows.ensures.windows) in (
       refl,
       (cells, subst (λ (t : DeskTable). MayRead (world t) (is_damaged_line t) cells) now may, refl),
-      subst (λ (t : DeskTable). world (new_desk c) ≡ after_update_panels (world t)) now (left c),
+      subst (λ (t : DeskTable). world (new_desk c) ≡ world_after (world t) (calls.Refresh UpdatePanels)) now (left c),
       λ line is. none-damaged old (new_desk c) c.show_damaged-cells.ensures.none line is,
     )

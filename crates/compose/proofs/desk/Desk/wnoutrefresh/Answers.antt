@@ -1,6 +1,7 @@
 use Rattle.std.proofs.Common.{rules, ◌≡◌, ◌||◌, None, refl, subst}
 use Rattle.world.specs.World.{VirtualScreen}
-use Rattle.world.specs.calls.Refresh.{after_noutrefresh, noutrefresh_refusal, touched_cells}
+use Rattle.world.specs.calls.Dispatch.{world_after}
+use Rattle.world.specs.calls.Refresh.{refresh_refusal, touched_cells}
 use Rattle.world.specs.Effects.{shown_over}
 use Rattle.world.specs.declared.call.Call.TheVariants as calls
 use Rattle.world.specs.declared.call.Refresh.TheVariants.{Noutrefresh}
@@ -20,8 +21,8 @@ invariant_of-self c =
     let cursor = c.cursor_on_screen-self-inside.result in
     let shown_now : VirtualScreen = record { picture = c.show_touched.new.picture; cursor = cursor; clear = _ } in
     let new : DeskTable = record { windows = c.unmark.new.self; panels = d.stack; pairs = d.pairs; virtual = shown_now; damage = c.damage_touched.new.damage } in
-    let accepted : noutrefresh_refusal (windows d.windows.table) c.args.win.0 ≡ None = search rules in
-    let left : world new ≡ after_noutrefresh (world old) c.args.win.0 = search rules in
+    let accepted : refresh_refusal (windows d.windows.table) (Noutrefresh c.args.win) ≡ None = search rules in
+    let left : world new ≡ world_after (world old) (calls.Refresh (Noutrefresh c.args.win)) = search rules in
     record {
       sound = IsSound-refreshed d.windows.table c.unmark.new.self d.stack d.pairs virtual c.args.win.0 (c.in_ok-top.top, c.in_ok-top.left)
           c.show_touched.new.picture (shown_over d.pairs d.picture (touched_cells (windows d.windows.table).window c.args.win.0)) cursor _
@@ -37,6 +38,6 @@ returns-clause-damaged c =
     let shown_now : VirtualScreen = record { picture = c.show_touched.new.picture; cursor = c.cursor_on_screen-self-inside.result; clear = d.clear || c.asks.result } in
     let new : DeskTable = record { windows = c.unmark.new.self; panels = d.stack; pairs = d.pairs; virtual = shown_now; damage = c.damage_touched.new.damage } in
     let call = calls.Refresh (Noutrefresh c.args.win) in
-    let accepted : noutrefresh_refusal (windows d.windows.table) c.args.win.0 ≡ None = search rules in
-    let left : world new ≡ after_noutrefresh (world old) c.args.win.0 = search rules in
+    let accepted : refresh_refusal (windows d.windows.table) (Noutrefresh c.args.win) ≡ None = search rules in
+    let left : world new ≡ world_after (world old) (calls.Refresh (Noutrefresh c.args.win)) = search rules in
     subst (λ (t : DeskTable). DamagesFew t call new) c.self.view_is (few-after old new call c.self.invariant accepted refl left c.damage_touched.ensures.damaged)

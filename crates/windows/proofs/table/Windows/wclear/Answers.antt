@@ -1,14 +1,16 @@
-use Rattle.std.proofs.Common.{◌≡◌, None, Some, ap, sym, ◌∙◌}
-use Rattle.world.specs.Windows.{Windows}
-use Rattle.world.specs.calls.Missing.{missing_refusal}
 use Rattle.grids.specs.Tables.{windows}
-use Rattle.windows.proofs.Erased.{refused-erased}
+use Rattle.windows.proofs.Calls.{cleared-is, erased_frame}
+use Rattle.windows.proofs.OptionLemmas.{cleared_set}
 use Rattle.windows.proofs.table.Windows.wclear.Goals as goal
 
-pub unreachable-requires : goal.unreachable-requires
-unreachable-requires c =
-    let old = windows c.args.self.now.table in
-    let w = c.args.win.0 in
-    let never : Some c.in-Err.field-0 ≡ None =
-    c.in-Err.ensures.refused ∙ ap (λ (v : Windows). missing_refusal v.window w) c.in_ok-frame.ensures.written ∙ refused-erased old w ∙ sym c.in_ok-frame.ensures.refused in
-    cc
+pub returns-clause-written : goal.returns-clause-written
+returns-clause-written c =
+    let state = c.in_ok-state.state in
+    let drawn = windows c.clear_all.new.table in
+    let new = windows c.set_settings.new.self in
+    cleared-is (windows c.args.self.now.table) c.args.win.0 state c.in_ok-state.ensures.state drawn new c.clear_all.ensures.written
+    (cleared_set drawn new c.args.win.0 state c.clear_all.ensures.state c.set_settings.ensures.set)
+
+pub returns-clause-frame : goal.returns-clause-frame
+returns-clause-frame c =
+    erased_frame (windows c.args.self.now.table) c.args.win.0 c.in_ok-state.state c.in_ok-state.ensures.state c.lines_from-frame.result c.lines_from-frame.ensures

@@ -1,6 +1,18 @@
+use Rattle.std.proofs.Common.{ap, refl, sym, ◌∙◌}
+use Rattle.world.specs.Drawings.{character_inserted}
+use Rattle.world.specs.Windows.{put}
+use Rattle.world.specs.calls.Writing.{insch_drawing}
 use Rattle.grids.specs.Tables.{windows}
-use Rattle.windows.proofs.Calls.{character_inserted_frame}
+use Rattle.windows.proofs.Calls.{call-is, character_inserted_frame}
 use Rattle.windows.proofs.table.Windows.winsch.Goals as goal
+
+pub returns-clause-written : goal.returns-clause-written
+returns-clause-written c =
+    let ws = windows c.args.self.now.table in
+    let w = c.args.win.0 in
+    let s = c.in_ok-state.state in
+    c.insert_cell.ensures.written ∙ ap (λ g. put ws w (character_inserted ws.window w s.settings.cursor g)) c.written_cell-cell.ensures
+    ∙ sym (call-is ws w s c.in_ok-state.ensures.state (λ a. put ws w (insch_drawing ws.window w c.args.ch a)) refl)
 
 pub returns-clause-frame : goal.returns-clause-frame
 returns-clause-frame c =
