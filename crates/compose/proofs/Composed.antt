@@ -10,11 +10,9 @@ use Rattle.world.specs.Windows.{Window, Windows, changed}
 use Rattle.world.specs.Panels.{Panels, cursor_from, cursor_of_topmost, cursor_on_screen, screen_place, standard_screen, topmost, window_or_standard}
 use Rattle.world.specs.World.{VirtualScreen}
 use Rattle.world.specs.Sound.{AreSoundPanels, AreSoundWindows, IsSound, IsSoundPanel, IsSoundWindow, IsStandardScreen}
-use Rattle.world.specs.calls.Marks.{after_touchln}
 use Rattle.world.specs.calls.Copying.{lines_marked}
 use Rattle.world.specs.calls.Queries.{place_on_screen}
-use Rattle.world.specs.Effects.{unmarked, with_unmarked}
-use Rattle.world.specs.calls.writing.Options.{after_clearok}
+use Rattle.world.specs.Effects.{unmarked_lines, unmarked, with_unmarked}
 use Rattle.world.specs.calls.Writing.{with_clear}
 use Rattle.world.proofs.PlaceLaws.{has_place, panels-kept, places-changed, same_if, there-true}
 use Rattle.world.proofs.Sizes.{SameSize}

@@ -13,6 +13,6 @@ invariant-loop-panel l = record {
   can_next : (goal.iterator-loop-panel).can_next l.panel-iterator;
   is_finite : (goal.iterator-loop-panel).is_finite l.panel-iterator;
   height : length l.damage ≡ l.table.lines;
-  left : DamagedBut l.table.columns (affected_shows_at (windows l.table).window l.change) (windows_from_top (panels l.stack)) l.fn.damage
+  left : DamagedBut l.table.columns (affected_shows_at (windows l.table).window l.affected) (windows_from_top (panels l.stack)) l.fn.damage
       (filter_map (panels l.stack).window l.panel-iterator) l.damage;
 }

@@ -6,11 +6,12 @@ use Rattle.world.specs.calls.Copying.{after_copying, copying_change, copying_ref
 use Rattle.world.specs.Panels.{is_in_panel}
 use Rattle.world.specs.declared.call.Call.{Call}
 use Rattle.world.specs.declared.call.Call.TheVariants as calls
-use Rattle.world.proofs.CallLaws.{allowed-copying}
+use Rattle.world.proofs.CallLaws.{ready}
 use Rattle.world.proofs.PlaceLaws.{keeps-change, places-edit}
 use Rattle.world.proofs.Sizes.{size-change, size-edit}
 use Rattle.grids.specs.Tables.{windows}
 use Rattle.stack.specs.Tables.{panels}
+use Rattle.compose.specs.Desks.{world}
 use Rattle.compose.proofs.Covering.{covered-result, few-result}
 use Rattle.compose.proofs.DeskLemmas.{IsSound-after, accepted-by, before, behind, called, keeps-made, refused-by, windows-left, windows-unchanged}
 use Rattle.compose.proofs.desk.Desk.call.Goals as goal
@@ -123,7 +124,7 @@ invariant_of-self-in-Copying c =
     let new = behind d.windows.table c.copy_damaging.new.windows.table d.stack d.pairs virtual d.damage c.copy_damaging.new.damage in
     record {
       sound = IsSound-after d.windows.table c.copy_damaging.new.windows.table d.stack d.pairs virtual (after_copying ws copying) r h.sound e.sound (size-change ws (copying_change ws copying))
-          (λ done is p w has other there. keeps-change ws (panels d.stack) (copying_change ws copying) h.sound.panels (allowed-copying ws (panels d.stack) copying) p w has there) e.copied e.unchanged;
+          (λ done is p w has other there. keeps-change ws (panels d.stack) (copying_change ws copying) h.sound.panels (ready (world old) (calls.Copying copying) (accepted-by (copying_refusal ws copying) r (refused-by (copying_refusal ws copying) r e.refused) done is)) p w has there) e.copied e.unchanged;
       covered = covered-result old new (calls.Copying copying) r h refl (accepted-by (copying_refusal ws copying) r (refused-by (copying_refusal ws copying) r e.refused))
           (windows-left d.windows.table c.copy_damaging.new.windows.table d.stack d.pairs virtual d.damage c.copy_damaging.new.damage (after_copying ws copying) r e.copied) e.damaged
           (windows-unchanged d.windows.table c.copy_damaging.new.windows.table d.stack d.pairs virtual d.damage c.copy_damaging.new.damage r e.unchanged e.undamaged);

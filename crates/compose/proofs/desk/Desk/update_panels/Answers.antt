@@ -6,6 +6,8 @@ use Rattle.world.specs.Sound.{AreColumnsWithin, AreSoundPanels, AreSoundWindows}
 use Rattle.world.specs.Windows.{Windows}
 use Rattle.world.specs.World.{picture}
 use Rattle.world.specs.calls.Dispatch.{world_after}
+use Rattle.world.specs.declared.call.Call.TheVariants as calls
+use Rattle.world.specs.declared.call.Refresh.TheVariants.{UpdatePanels}
 use Rattle.world.proofs.RefreshLaws.{found-unmarked}
 use Rattle.grids.specs.Tables.{windows}
 use Rattle.stack.specs.Tables.{panels}

@@ -1,6 +1,6 @@
 use Rattle.std.proofs.Common.{◌≡◌, ap, arith, rules, sym, ◌∙◌}
 use Rattle.std.specs.Prelude.{unwrap_or}
-use Rattle.world.specs.calls.Stacking.{next_panel}
+use Rattle.world.specs.calls.Stacking.{new_panel_number, next_panel}
 use Rattle.world.specs.Effects.{with_panel}
 use Rattle.stack.specs.Tables.{panels, PanelTable}
 use Rattle.stack.specs.steps.Entries.{IsFree}
@@ -27,7 +27,7 @@ returns-clause-made c =
     let w = c.args.win.0 in
     let free : IsFree old number = search rules in
     let next : next_panel (panels c.args.self.now) ≡ number =
-    ap (λ o. unwrap_or o 0) (rw (c.in_ok-number.ensures.ok_part, c.self.view_is) at (sym c.free_number.ensures.number)) in
+    ap (λ o. unwrap_or o 0) (sym ((rw c.in_ok-number.ensures.ok_part at c.free_number.ensures.number) ∙ ap (λ (t : PanelTable). new_panel_number (panels t)) c.self.view_is)) in
     made-panels old c.enter.new.nodes c.put_on_top.new.nodes number w c.self.invariant free c.in_ok-enter.ensures.entered c.put_on_top.ensures
     ∙ ap (λ (t : PanelTable). with_panel (panels t) number w) c.self.view_is
     ∙ ap (λ p. with_panel (panels c.args.self.now) p w) (sym next)
