@@ -10,9 +10,12 @@
 
 static WINDOW *page, *status;
 
+/* Writes into the last line, but for its last column, past which no text goes on in the same way over each curses. */
 static void tell(const char *text, const char *name) {
+    char line[1000];
+    snprintf(line, sizeof line, " %s %s   ^S write  ^N insert line  ^K delete line  ^Q end", text, name);
     werase(status);
-    mvwprintw(status, 0, 0, " %s %s   ^S write  ^N insert line  ^K delete line  ^Q end", text, name);
+    mvwaddnstr(status, 0, 0, line, getmaxx(status) - 1);
 }
 
 /* Reads as much of a file as the page shows. */

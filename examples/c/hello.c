@@ -28,7 +28,7 @@ int main(void) {
     uint8_t bytes[4096];
     need(curspan_open(&screen, 8, 40));
     uint16_t first = panel(1, 2, CURSPAN_REVERSE, "hello from C");
-    panel(2, 12, CURSPAN_REVERSE | CURSPAN_BOLD, "proved");
+    panel(2, 20, CURSPAN_REVERSE | CURSPAN_BOLD, "proved");
     need(curspan_top_panel(&screen, first));
     need(curspan_update_panels(&screen));
     need(curspan_doupdate(&screen));
