@@ -173,7 +173,7 @@ still-known same h = ap (λ (p : PainterState). p.last) same.painter ∙ h ∙ a
 
 one-doupdate : (s : State) (answer : Result Reply Refusal) (sent : List ℕ) → MayAnswer s (calls.Refresh Doupdate) answer sent → VirtualIsKnown (state_after s (calls.Refresh Doupdate) answer)
 one-doupdate s (Ok r) sent h = refl
-one-doupdate s (Err e) sent h = absurd (never-refused s.world Doupdate e refl h.0)
+one-doupdate s (Err e) sent h = absurd (never-refused s.world Doupdate e refl refl h.0)
 
 pub virtual-known : (s : State) (others : List Call) (outcomes : List Outcome) → Run s (others ++ calls.Refresh Doupdate ∷ []) outcomes
     → VirtualIsKnown (state_at_end s (others ++ calls.Refresh Doupdate ∷ []) outcomes)
@@ -198,8 +198,8 @@ two-calls : (s : State) (one other : Result Reply Refusal) (sent more : List ℕ
     → MayAnswer (state_after s (calls.Refresh UpdatePanels) one) (calls.Refresh Doupdate) other more
     → EndsShown (state_after (state_after s (calls.Refresh UpdatePanels) one) (calls.Refresh Doupdate) other)
 two-calls s (Ok r) (Ok q) sent more h k = record { before = s.world; world_is = refl; last_is = refl }
-two-calls s (Ok r) (Err e) sent more h k = absurd (never-refused (after_update_panels s.world) Doupdate e refl k.0)
-two-calls s (Err e) other sent more h k = absurd (never-refused s.world UpdatePanels e refl h.0)
+two-calls s (Ok r) (Err e) sent more h k = absurd (never-refused (after_update_panels s.world) Doupdate e refl refl k.0)
+two-calls s (Err e) other sent more h k = absurd (never-refused s.world UpdatePanels e refl refl h.0)
 
 pub ends-shown : (s : State) (others : List Call) (outcomes : List Outcome) → Run s (others ++ calls.Refresh UpdatePanels ∷ calls.Refresh Doupdate ∷ []) outcomes
     → EndsShown (state_at_end s (others ++ calls.Refresh UpdatePanels ∷ calls.Refresh Doupdate ∷ []) outcomes)

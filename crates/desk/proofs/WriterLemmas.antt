@@ -9,7 +9,7 @@ use Rattle.streams.specs.Sinks.{Seen}
 use Rattle.streams.specs.declared.sending.WriteFault.{WriteFault}
 use Rattle.paint.specs.Updates.{BreaksOff, Updates}
 use Rattle.world.specs.World.{World}
-use Rattle.world.specs.calls.Dispatch.{is_doupdate, world_after}
+use Rattle.world.specs.calls.Dispatch.{takes_memory, is_doupdate, world_after}
 use Rattle.world.specs.calls.Refresh.{refresh_refusal}
 use Rattle.world.specs.declared.call.Call.{Call}
 use Rattle.world.specs.declared.call.Call.TheVariants as calls
@@ -25,9 +25,9 @@ use Rattle.desk.specs.Ends.{CallEnds, Writes}
 use Rattle.desk.specs.declared.screen.Fault.TheVariants.{Refused, Write}
 
 -- a call that has no test and takes no memory is never refused
-pub never-refused : (w : World) (refresh : Refresh) (e : Refusal) → refresh_refusal w.windows refresh ≡ None → MayRefuse w (calls.Refresh refresh) e → ⊥
-never-refused w refresh e none (inl h) = let no : ◌≡◌ {A = Option Refusal} None (Some e) = sym none ∙ h in cc
-never-refused w refresh e none (inr h) = let no : false ≡ true = h.1 in cc
+pub never-refused : (w : World) (refresh : Refresh) (e : Refusal) → refresh_refusal w.windows refresh ≡ None → takes_memory w (calls.Refresh refresh) ≡ false → MayRefuse w (calls.Refresh refresh) e → ⊥
+never-refused w refresh e none no_memory (inl h) = let no : ◌≡◌ {A = Option Refusal} None (Some e) = sym none ∙ h in cc
+never-refused w refresh e none no_memory (inr h) = let no : false ≡ true = sym no_memory ∙ h.1 in cc
 
 flushes_after-append : (flushes : ℕ) (calls more : List Call) → flushes_after flushes (calls ++ more) ≡ flushes_after (flushes_after flushes calls) more
 flushes_after-append flushes [] more = refl
@@ -72,8 +72,8 @@ module _ {W : Type 0} (seen : W → Seen) where
   Writes-refused old (calls.Stacking s) e h = quiet old old (calls.Stacking s) refl refl
   Writes-refused old (calls.Refresh (Noutrefresh win)) e h = quiet old old (calls.Refresh (Noutrefresh win)) refl refl
   Writes-refused old (calls.Refresh (Pnoutrefresh pad pminrow pmincol sminrow smincol smaxrow smaxcol)) e h = quiet old old (calls.Refresh (Pnoutrefresh pad pminrow pmincol sminrow smincol smaxrow smaxcol)) refl refl
-  Writes-refused old (calls.Refresh UpdatePanels) e h = absurd (never-refused (world old.desk) UpdatePanels e refl h)
-  Writes-refused old (calls.Refresh Doupdate) e h = absurd (never-refused (world old.desk) Doupdate e refl h)
+  Writes-refused old (calls.Refresh UpdatePanels) e h = absurd (never-refused (world old.desk) UpdatePanels e refl refl h)
+  Writes-refused old (calls.Refresh Doupdate) e h = absurd (never-refused (world old.desk) Doupdate e refl refl h)
   Writes-refused old (calls.Refresh (InitPair pair foreground background)) e h = quiet old old (calls.Refresh (InitPair pair foreground background)) refl refl
 
   -- ---- one call
