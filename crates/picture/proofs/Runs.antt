@@ -43,12 +43,14 @@ pub record IsRun (window : WindowMap) (panels : Panels) (y x edge w last : ℕ) 
   pub same : (u : ℕ) → x ≤ u → u ≤ last → owner_window window panels y u ≡ w
 
 -- what is written for the columns tells runs
-pub is-run : (window : WindowMap) (panels : Panels) (y left x right w last : ℕ) (owners : List ℕ) → AreOwners window panels y left right owners → left ≤ x → x ≤ last → last ≤ right
-    → ((u : ℕ) → x ≤ u → u ≤ last → slice_index owners (u - left) ≡ w) → IsRun window panels y x right w last
-is-run window panels y left x right w last owners found begun from within same = record {
-  from = from;
-  within = within;
-  same = λ u after upto. sym (found u (omega (arith, begun, after)) (omega (arith, upto, within))) ∙ same u after upto;
+pub is-run : (window : WindowMap) (panels : Panels) (y left x right w last : ℕ) (owners : List ℕ) → AreOwners window panels y left right owners → left ≤ x → x ≤ right
+    → x - left ≤ last → last ≤ right - left → ((k : ℕ) → x - left ≤ k → k ≤ last → slice_index owners k ≡ w) → IsRun window panels y x right w (left + last)
+is-run window panels y left x right w last owners found begun inside from within same = record {
+  from = omega (arith, begun, from);
+  within = omega (arith, begun, inside, within);
+  same = λ u after upto.
+      sym (found u (omega (arith, begun, after)) (omega (arith, upto, within, begun, inside)))
+      ∙ same (u - left) (omega (arith, begun, after)) (omega (arith, upto));
 }
 
 -- it holds those columns, where the standard screen does

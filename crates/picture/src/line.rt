@@ -92,13 +92,14 @@ fn compose_part<'a, R: Rows<'a>>(
     find_owners(rows, stack, y, left, right, &mut owners);
     let mut x = left;
     loop {
-        let run = run_from(&owners, left, x, right);
+        let run = run_from(&owners, usize::from(x - left), usize::from(right - left));
+        let last = left + run.last as u16;
         let rect = rows.rect(run.win);
-        let cells = rows.lend(run.win, y - rect.top, x - rect.left, run.last - rect.left);
+        let cells = rows.lend(run.win, y - rect.top, x - rect.left, last - rect.left);
         show_cells(cells, pairs, y, x, picture);
-        if run.last == right {
+        if last == right {
             return;
         }
-        x = run.last + 1;
+        x = last + 1;
     }
 }

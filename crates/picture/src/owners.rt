@@ -10,11 +10,11 @@ use crate::rows::Rows;
 use cell::{Rect, WinId};
 use stack::Stack;
 
-/// Columns side by side at which the search finds the same window, up to the last of them.
+/// Places side by side with one window, up to the last of them.
 #[derive(Clone, Copy, PartialEq, Eq, Debug)]
 pub struct Run {
     pub win: WinId,
-    pub last: u16,
+    pub last: usize,
 }
 
 /// Finds the window of each column of line `y` from `left` to `right`, both inclusive, and writes their numbers in that order. It looks at
@@ -69,20 +69,18 @@ fn lay(owners: &mut [u16], first: u16, last: u16, win: WinId)
     }
 }
 
-/// The window of column `x`, and the last column, `right` at most, up to which the search finds no other. The numbers begin with that of
-/// column `left`.
-pub fn run_from(owners: &[u16], left: u16, x: u16, right: u16) -> Run
-    requires from { left ≤ x }
-    requires ordered { x ≤ right }
-    requires room { right - left < length owners.now }
-    ensures from { x ≤ result.last }
-    ensures within { result.last ≤ right }
-    ensures same { (u : ℕ) → x ≤ u → u ≤ result.last → slice_index owners.now (u - left) ≡ result.win.0 }
-    ensures another { result.last < right → slice_index owners.now (result.last + 1 - left) ≢ result.win.0 }
+/// The window at a place, and the last place, `end` at most, up to which there is no other.
+pub fn run_from(owners: &[u16], first: usize, end: usize) -> Run
+    requires ordered { first ≤ end }
+    requires room { end < length owners.now }
+    ensures from { first ≤ result.last }
+    ensures within { result.last ≤ end }
+    ensures same { (k : ℕ) → first ≤ k → k ≤ result.last → slice_index owners.now k ≡ result.win.0 }
+    ensures another { result.last < end → slice_index owners.now (result.last + 1) ≢ result.win.0 }
 {
-    let win = owners[usize::from(x - left)];
-    for last in x..right {
-        if owners[usize::from(last - left) + 1] != win {
+    let win = owners[first];
+    for last in first..end {
+        if owners[last + 1] != win {
             return Run {
                 win: WinId(win),
                 last,
@@ -91,6 +89,6 @@ pub fn run_from(owners: &[u16], left: u16, x: u16, right: u16) -> Run
     }
     Run {
         win: WinId(win),
-        last: right,
+        last: end,
     }
 }

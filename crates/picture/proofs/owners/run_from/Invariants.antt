@@ -1,6 +1,6 @@
-use Rattle.std.proofs.Common.{◌≡◌, ◌-◌, ◌≤◌, ℕ, slice_index}
+use Rattle.std.proofs.Common.{◌≡◌, ◌≤◌, ℕ, slice_index}
 use Rattle.picture.proofs.owners.run_from.Given as goal
 
--- the columns up to `last` have the number
+-- the places up to `last` have the number
 abbrev pub invariant-loop-last : goal.invariant-loop-last
-invariant-loop-last l = (u : ℕ) → l.x ≤ u → u ≤ l.last → slice_index l.owners (u - l.left) ≡ l.win
+invariant-loop-last l = (k : ℕ) → l.first ≤ k → k ≤ l.last → slice_index l.owners k ≡ l.win
