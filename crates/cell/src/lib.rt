@@ -19,7 +19,7 @@ pub use difference::{first_diff, last_diff};
 pub use grid::{Element, Grid};
 pub use limits::{
     FIRST_CHARACTER, LARGEST_PAD, LARGEST_SCREEN, LAST_CHARACTER, LAST_COLOUR, LAST_PAIR,
-    MOST_PANELS, MOST_WINDOWS, is_no_size,
+    MOST_PANELS, MOST_WINDOWS, is_no_size, limits_in_numerals,
 };
 pub use refusal::Refusal;
 pub use shown::{Rendition, Shown};

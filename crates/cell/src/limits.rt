@@ -32,3 +32,15 @@ pub fn is_no_size(most: u16, n: u16) -> bool
 {
     n == 0 || most < n
 }
+
+/// The limits in numerals: of a screen, a pad, how many windows and panels there can be, and what a cell can hold. This is what a reader
+/// believes; all else cites the names.
+pub fn limits_in_numerals()
+    ensures screen { LARGEST_SCREEN ≡ 999 }
+    ensures pad { LARGEST_PAD ≡ 1000 }
+    ensures windows { MOST_WINDOWS ≡ 1000 }
+    ensures panels { MOST_PANELS ≡ 1000 }
+    ensures characters { (FIRST_CHARACTER ≡ 32) × (LAST_CHARACTER ≡ 126) }
+    ensures colours { LAST_COLOUR ≡ 7 }
+    ensures pairs { LAST_PAIR ≡ 63 }
+{}

@@ -4,7 +4,8 @@ pub mod PartLaws
 pub mod VisiblePanels
 pub mod Standard
 pub mod Searching
-pub mod Spans
+pub mod Runs
+pub mod OwnerLaws
 pub mod Counting
 pub mod Lines
 pub mod RowPieces

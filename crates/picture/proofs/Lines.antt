@@ -30,12 +30,12 @@ joined true start x end u made new old begins ordered same = elim (cases_lt u x)
   ]
 ]
 
--- a span more
-pub LineShown-span : (f g : ℕ → Shown) (y start x end : ℕ) (old now new : Picture) → LineShown f y start x old now → start ≤ x → x ≤ end → ((u : ℕ) → x ≤ u → u < end → g u ≡ f u)
+-- a piece more
+pub LineShown-more : (f g : ℕ → Shown) (y start x end : ℕ) (old now new : Picture) → LineShown f y start x old now → start ≤ x → x ≤ end → ((u : ℕ) → x ≤ u → u < end → g u ≡ f u)
     → ((v u : ℕ) → shown_at new (v, u) ≡ (if (v == y) && (nat_le x u && nat_lt u end) then g u else shown_at now (v, u)))
     → ((lines columns : ℕ) → HasSize lines columns now → HasSize lines columns new) → length new ≡ length now → length (line_of new y) ≡ length (line_of now y)
     → LineShown f y start end old new
-LineShown-span f g y start x end old now new so_far from ordered same span size height width = record {
+LineShown-more f g y start x end old now new so_far from ordered same span size height width = record {
   shown = λ v u.
       span v u
       ∙ ap (λ (rest : Shown). if (v == y) && (nat_le x u && nat_lt u end) then g u else rest) (so_far.shown v u)

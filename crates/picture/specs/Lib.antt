@@ -2,3 +2,4 @@ pub mod Parts
 pub mod Damages
 pub mod Counts
 pub mod Spans
+pub mod steps

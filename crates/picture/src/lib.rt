@@ -3,6 +3,7 @@
 
 mod damage;
 mod line;
+mod owners;
 mod parts;
 mod piece;
 mod repair;

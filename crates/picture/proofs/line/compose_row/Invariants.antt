@@ -6,12 +6,12 @@ use Rattle.picture.specs.Counts.{GrewBy}
 use Rattle.picture.proofs.Lines.{LineShown}
 use Rattle.picture.proofs.line.compose_row.Given as goal
 
-abbrev pub decreases-loop-span : goal.decreases-loop-span
-decreases-loop-span g l = l.right - l.x
+abbrev pub decreases-loop-y : goal.decreases-loop-y
+decreases-loop-y g l = l.right - l.x
 
 -- the columns before x are composed, and as many cells were lent
-abbrev pub invariant-loop-span : goal.invariant-loop-span
-invariant-loop-span g l = record {
+abbrev pub invariant-loop-y : goal.invariant-loop-y
+invariant-loop-y g l = record {
   from : l.left ≤ l.x;
   within : l.x ≤ l.right;
   same : g.R.Rows.windows l.rows ≡ g.R.Rows.windows l.fn.rows;

@@ -1,0 +1,116 @@
+-- A line of the picture is made run by run, each from a piece of one window's line.
+use Rattle.std.proofs.Common.{◌≡◌, ℕ, ◌+◌, ◌-◌, ◌<◌, ◌≤◌, ◌==◌, ◌&&◌, true, false, if◌then◌else◌, Option, Some, None, List, length, nat_le, nat_lt, refl, sym, ap, subst, ◌∙◌, arith}
+use Rattle.std.specs.Prelude.{slice_index, slice_index_or, unwrap_or}
+use Rattle.std.specs.Option.{option_map_or}
+use Rattle.std.proofs.lemmas.Bool.Decides.{nat_tests}
+use Rattle.cell.specs.Glyphs.{Glyph, blank}
+use Rattle.cell.specs.Pictures.{HasSize, Picture, Place, line_of, origin, shown_at}
+use Rattle.cell.specs.Shown.{Pairs, shown}
+use Rattle.cell.specs.declared.window.Rect.{Rect}
+use Rattle.world.specs.Windows.{Window, WindowMap, Windows, cell_at}
+use Rattle.world.specs.Panels.{Panels, cell_on_screen, found_from_top, holds, holds_place, owner, place_of, screen_place, standard_screen, window_or_standard}
+use Rattle.picture.specs.Counts.{GrewBy}
+use Rattle.picture.specs.Parts.{IsPiece, frame_holds}
+use Rattle.picture.specs.steps.Owners.{AreOwners, owner_window}
+use Rattle.picture.proofs.Counting.{grew-more}
+use Rattle.picture.proofs.Held.{IsBetween, held-between}
+use Rattle.picture.proofs.Lines.{LineShown, LineShown-more}
+use Rattle.picture.proofs.Searching.{owner-held}
+
+placed-left : (place : Option Place) (lines columns y x : ℕ) → option_map_or (λ p. (nat_le p.0 y && nat_lt y (p.0 + lines)) && (nat_le p.1 x && nat_lt x (p.1 + columns))) place false ≡ true
+    → (unwrap_or place origin).1 ≤ x
+placed-left None lines columns y x held = cc
+placed-left (Some p) lines columns y x held = grind (arith, nat_tests)
+
+held-left : (o : Option Window) (y x : ℕ) → option_map_or (holds_place y x) o false ≡ true → (option_map_or screen_place o origin).1 ≤ x
+held-left None y x held = cc
+held-left (Some a) y x held = placed-left a.place a.lines a.columns y x held
+
+-- the cell at u of a piece of a window's line that begins at x, where the search finds that window at u
+pub run-cell : (window : WindowMap) (panels : Panels) (w y x u : ℕ) (place : Place) → place ≡ place_of window w → holds window w y x ≡ true → x ≤ u
+    → w ≡ window_or_standard panels (owner window panels y u) → cell_at window w (y - place.0) (x - place.1 + (u - x)) ≡ found_from_top window panels y u
+run-cell window panels w y x u place placed held from owned =
+    let left = held-left (window w) y x held in
+    let column : x - (place_of window w).1 + (u - x) ≡ u - (place_of window w).1 = omega (arith, left) in
+    ap (λ (p : Place). cell_at window w (y - p.0) (x - p.1 + (u - x))) placed
+    ∙ ap (λ k. cell_at window w (y - (place_of window w).0) k) column
+    ∙ ap (λ v. cell_on_screen window v y u) owned
+
+-- the search finds one window from a column on, up to a last one
+pub record IsRun (window : WindowMap) (panels : Panels) (y x edge w last : ℕ) : Type 0 where
+  pub from : x ≤ last
+  pub within : last ≤ edge
+  pub same : (u : ℕ) → x ≤ u → u ≤ last → owner_window window panels y u ≡ w
+
+-- what is written for the columns tells runs
+pub is-run : (window : WindowMap) (panels : Panels) (y left x right w last : ℕ) (owners : List ℕ) → AreOwners window panels y left right owners → left ≤ x → x ≤ right
+    → x - left ≤ last → last ≤ right - left → ((k : ℕ) → x - left ≤ k → k ≤ last → slice_index owners k ≡ w) → IsRun window panels y x right w (left + last)
+is-run window panels y left x right w last owners found begun inside from within same = record {
+  from = omega (arith, begun, from);
+  within = omega (arith, begun, inside, within);
+  same = λ u after upto.
+      sym (found u (omega (arith, begun, after)) (omega (arith, upto, within, begun, inside)))
+      ∙ same (u - left) (omega (arith, begun, after)) (omega (arith, upto));
+}
+
+-- it holds those columns, where the standard screen does
+pub run-held : (window : WindowMap) (panels : Panels) (y x edge w last : ℕ) → IsRun window panels y x edge w last
+    → ((u : ℕ) → x ≤ u → u ≤ edge → holds window standard_screen y u ≡ true) → (u : ℕ) → x ≤ u → u ≤ last → holds window w y u ≡ true
+run-held window panels y x edge w last h standard u from upto =
+    let within = h.within in
+    ap (λ v. holds window v y u) (sym (h.same u from upto)) ∙ owner-held window panels y u (owner window panels y u) refl (standard u from (omega (arith, upto, within)))
+
+-- What is lent of a window, and where it stands on the screen. The windows are those before.
+pub record IsLent (old now : Windows) (panels : Panels) (y x edge w last : ℕ) (r : Rect) (cells : List Glyph) : Type 0 where
+  pub kept : now ≡ old
+  pub run : IsRun old.window panels y x edge w last
+  pub standard : (u : ℕ) → x ≤ u → u ≤ edge → holds old.window standard_screen y u ≡ true
+  pub place : (r.top, r.left) ≡ place_of now.window w
+  pub rectangle : (v u : ℕ) → frame_holds r v u ≡ holds now.window w v u
+  pub piece : IsPiece now.window w (y - r.top) (x - r.left) (last - r.left - (x - r.left) + 1) cells
+
+module _ (old now : Windows) (panels : Panels) (y x edge w last : ℕ) (r : Rect) (cells : List Glyph) (h : IsLent old now panels y x edge w last r cells) where
+  held-from : (u : ℕ) → x ≤ u → u ≤ last → holds old.window w y u ≡ true
+  held-from = run-held old.window panels y x edge w last h.run h.standard
+
+  between : IsBetween r y x
+  between = held-between r y x (h.rectangle y x ∙ ap (λ (ws : Windows). holds ws.window w y x) h.kept ∙ held-from x (omega arith) (let s = h.run in s.from))
+
+  many : last - r.left - (x - r.left) + 1 ≡ last + 1 - x
+  many = let s = h.run in let from = s.from in let b = between in let left = b.left in omega (arith, from, left)
+
+  -- as many cells as the run has columns
+  pub run-number : x + length cells ≡ last + 1
+  run-number = let s = h.run in let from = s.from in let p = h.piece in let n = p.number in let m = many in omega (arith, from, n, m)
+
+  pub run-cells : (u : ℕ) → x ≤ u → u < x + length cells → slice_index_or cells (u - x) blank ≡ found_from_top old.window panels y u
+  run-cells u from before =
+      let n = run-number in
+      let m = many in
+      let upto : u ≤ last = omega (arith, before, n) in
+      let piece : IsPiece old.window w (y - r.top) (x - r.left) (last - r.left - (x - r.left) + 1) cells =
+      subst (λ (ws : Windows). IsPiece ws.window w (y - r.top) (x - r.left) (last - r.left - (x - r.left) + 1) cells) h.kept h.piece in
+      let place : (r.top, r.left) ≡ place_of old.window w = subst (λ (ws : Windows). (r.top, r.left) ≡ place_of ws.window w) h.kept h.place in
+      let s = h.run in
+      piece.each (u - x) (omega (arith, from, upto, m))
+      ∙ run-cell old.window panels w y x u (r.top, r.left) place (held-from x (omega arith) s.from) from (sym (s.same u from upto))
+
+  -- with them the line is made a run further
+  pub run-line : (pairs : Pairs) (start : ℕ) (before after new : Picture) → LineShown (λ u. shown pairs (found_from_top old.window panels y u)) y start x before after → start ≤ x
+      → ((v u : ℕ) → shown_at new (v, u) ≡ (if (v == y) && (nat_le x u && nat_lt u (x + length cells)) then shown pairs (slice_index_or cells (u - x) blank) else shown_at after (v, u)))
+      → ((lines columns : ℕ) → HasSize lines columns after → HasSize lines columns new) → length new ≡ length after → length (line_of new y) ≡ length (line_of after y)
+      → LineShown (λ u. shown pairs (found_from_top old.window panels y u)) y start (last + 1) before new
+  run-line pairs start before after new so_far begun put size height width =
+      subst (λ k. LineShown (λ u. shown pairs (found_from_top old.window panels y u)) y start k before new) run-number
+      (LineShown-more (λ u. shown pairs (found_from_top old.window panels y u)) (λ u. shown pairs (slice_index_or cells (u - x) blank)) y start x (x + length cells) before after new so_far begun (omega arith)
+      (λ u from upto. ap (shown pairs) (run-cells u from upto)) put size height width)
+
+  -- and as many were lent
+  pub run-grew : (start a b c : ℕ) → start ≤ x → GrewBy (x - start) a b → GrewBy (last - r.left - (x - r.left) + 1) b c → GrewBy (last + 1 - start) a c
+  run-grew start a b c begun before more =
+      let s = h.run in
+      let from = s.from in
+      let held = between in
+      let left = held.left in
+      let sum : x - start + (last - r.left - (x - r.left) + 1) ≡ last + 1 - start = omega (arith, begun, from, left) in
+      subst (λ n. GrewBy n a c) sum (grew-more (x - start) (last - r.left - (x - r.left) + 1) a b c before more)
