@@ -1,1 +1,2 @@
 pub mod steps
+pub mod Calls

@@ -11,6 +11,7 @@ ghost use Rattle.world.specs.Typing.{to_next_line, next_line_frame, character_pr
 ghost use Rattle.world.specs.declared.call.Writing.{Writing};
 ghost use Rattle.cell.specs.Glyphs.{is_printable};
 ghost use Rattle.grids.specs.Tables.{windows};
+ghost use Rattle.windows.specs.Calls.{Wrote, its_frame, no_frame};
 ghost use Rattle.windows.specs.steps.State.{IsStateOf, window_in_state};
 
 use crate::drawing::{clear_rest, delete_cell, insert_cell, move_up, set_cell};
@@ -35,11 +36,7 @@ impl Windows {
     /// # Errors
     /// `NoSuchWindow`; `BadCharacter` for another character outside 32 to 126.
     pub fn waddch(&mut self, win: WinId, ch: u8) -> Result<Option<Rect>, Refusal>
-        ensures refused { result_err result ≡ writing_refusal (windows self.old.table) (Writing.Addch win ch) }
-        ensures written { OnOk result (windows self.new.table ≡ after_writing (windows self.old.table) (Writing.Addch win ch)) }
-        ensures frame { IfOk result (λ frame. frame ≡ writing_frame (windows self.old.table) (Writing.Addch win ch)) }
-        ensures unchanged { OnErr result (self.new ≡ self.old) }
-        ensures sound { AreSoundWindows (windows self.new.table) }
+        ensures { Wrote its_frame self.old.table (Writing.Addch win ch) result self.new.table }
     {
         let state = state_of(&self.table, win)?;
         if is_bad_character(ch) {
@@ -53,11 +50,7 @@ impl Windows {
     /// # Errors
     /// `NoSuchWindow`; `BadCharacter` for a character other than 8, 10, 13 and 32 to 126.
     pub fn waddstr(&mut self, win: WinId, text: &[u8]) -> Result<Option<Rect>, Refusal>
-        ensures refused { result_err result ≡ writing_refusal (windows self.old.table) (Writing.Addstr win text.entry) }
-        ensures written { OnOk result (windows self.new.table ≡ after_writing (windows self.old.table) (Writing.Addstr win text.entry)) }
-        ensures frame { IfOk result (λ frame. frame ≡ writing_frame (windows self.old.table) (Writing.Addstr win text.entry)) }
-        ensures unchanged { OnErr result (self.new ≡ self.old) }
-        ensures sound { AreSoundWindows (windows self.new.table) }
+        ensures { Wrote its_frame self.old.table (Writing.Addstr win text.entry) result self.new.table }
     {
         state_of(&self.table, win)?;
         if has_bad_character(text) {
@@ -71,11 +64,7 @@ impl Windows {
     /// # Errors
     /// `NoSuchWindow`; `BadCharacter` for a character outside 32 to 126.
     pub fn winsch(&mut self, win: WinId, ch: u8) -> Result<Option<Rect>, Refusal>
-        ensures refused { result_err result ≡ writing_refusal (windows self.old.table) (Writing.Insch win ch) }
-        ensures written { OnOk result (windows self.new.table ≡ after_writing (windows self.old.table) (Writing.Insch win ch)) }
-        ensures frame { IfOk result (λ frame. frame ≡ writing_frame (windows self.old.table) (Writing.Insch win ch)) }
-        ensures unchanged { OnErr result (self.new ≡ self.old) }
-        ensures sound { AreSoundWindows (windows self.new.table) }
+        ensures { Wrote its_frame self.old.table (Writing.Insch win ch) result self.new.table }
     {
         let state = state_of(&self.table, win)?;
         if !is_printable(ch) {
@@ -93,11 +82,7 @@ impl Windows {
     /// # Errors
     /// `NoSuchWindow`.
     pub fn wdelch(&mut self, win: WinId) -> Result<Option<Rect>, Refusal>
-        ensures refused { result_err result ≡ writing_refusal (windows self.old.table) (Writing.Delch win) }
-        ensures written { OnOk result (windows self.new.table ≡ after_writing (windows self.old.table) (Writing.Delch win)) }
-        ensures frame { IfOk result (λ frame. frame ≡ writing_frame (windows self.old.table) (Writing.Delch win)) }
-        ensures unchanged { OnErr result (self.new ≡ self.old) }
-        ensures sound { AreSoundWindows (windows self.new.table) }
+        ensures { Wrote its_frame self.old.table (Writing.Delch win) result self.new.table }
     {
         let state = state_of(&self.table, win)?;
         let (y, x) = state.settings.cursor;

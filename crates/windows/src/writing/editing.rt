@@ -7,6 +7,7 @@ ghost use Rattle.world.specs.calls.Writing.{after_writing, writing_frame, writin
 ghost use Rattle.world.specs.Effects.{sets};
 ghost use Rattle.world.specs.declared.call.Writing.{Writing};
 ghost use Rattle.grids.specs.Tables.{windows};
+ghost use Rattle.windows.specs.Calls.{Wrote, its_frame, no_frame};
 
 use crate::drawing::{clear_all, clear_below, clear_rest, move_down, move_up};
 use crate::frame::lines_from;
@@ -21,11 +22,7 @@ impl Windows {
     /// # Errors
     /// `NoSuchWindow`.
     pub fn werase(&mut self, win: WinId) -> Result<Option<Rect>, Refusal>
-        ensures refused { result_err result ≡ writing_refusal (windows self.old.table) (Writing.Erase win) }
-        ensures written { OnOk result (windows self.new.table ≡ after_writing (windows self.old.table) (Writing.Erase win)) }
-        ensures frame { IfOk result (λ frame. frame ≡ writing_frame (windows self.old.table) (Writing.Erase win)) }
-        ensures unchanged { OnErr result (self.new ≡ self.old) }
-        ensures sound { AreSoundWindows (windows self.new.table) }
+        ensures { Wrote its_frame self.old.table (Writing.Erase win) result self.new.table }
     {
         let state = state_of(&self.table, win)?;
         clear_all(&mut self.table, win, &state);
@@ -39,11 +36,7 @@ impl Windows {
     /// # Errors
     /// `NoSuchWindow`.
     pub fn wclear(&mut self, win: WinId) -> Result<Option<Rect>, Refusal>
-        ensures refused { result_err result ≡ writing_refusal (windows self.old.table) (Writing.Clear win) }
-        ensures written { OnOk result (windows self.new.table ≡ after_writing (windows self.old.table) (Writing.Clear win)) }
-        ensures frame { IfOk result (λ frame. frame ≡ writing_frame (windows self.old.table) (Writing.Clear win)) }
-        ensures unchanged { OnErr result (self.new ≡ self.old) }
-        ensures sound { AreSoundWindows (windows self.new.table) }
+        ensures { Wrote its_frame self.old.table (Writing.Clear win) result self.new.table }
     {
         let state = state_of(&self.table, win)?;
         let frame = lines_from(&state, 0, state.lines - 1, 0);
@@ -62,11 +55,7 @@ impl Windows {
     /// # Errors
     /// `NoSuchWindow`.
     pub fn wclrtoeol(&mut self, win: WinId) -> Result<Option<Rect>, Refusal>
-        ensures refused { result_err result ≡ writing_refusal (windows self.old.table) (Writing.Clrtoeol win) }
-        ensures written { OnOk result (windows self.new.table ≡ after_writing (windows self.old.table) (Writing.Clrtoeol win)) }
-        ensures frame { IfOk result (λ frame. frame ≡ writing_frame (windows self.old.table) (Writing.Clrtoeol win)) }
-        ensures unchanged { OnErr result (self.new ≡ self.old) }
-        ensures sound { AreSoundWindows (windows self.new.table) }
+        ensures { Wrote its_frame self.old.table (Writing.Clrtoeol win) result self.new.table }
     {
         let state = state_of(&self.table, win)?;
         let (y, x) = state.settings.cursor;
@@ -79,11 +68,7 @@ impl Windows {
     /// # Errors
     /// `NoSuchWindow`.
     pub fn wclrtobot(&mut self, win: WinId) -> Result<Option<Rect>, Refusal>
-        ensures refused { result_err result ≡ writing_refusal (windows self.old.table) (Writing.Clrtobot win) }
-        ensures written { OnOk result (windows self.new.table ≡ after_writing (windows self.old.table) (Writing.Clrtobot win)) }
-        ensures frame { IfOk result (λ frame. frame ≡ writing_frame (windows self.old.table) (Writing.Clrtobot win)) }
-        ensures unchanged { OnErr result (self.new ≡ self.old) }
-        ensures sound { AreSoundWindows (windows self.new.table) }
+        ensures { Wrote its_frame self.old.table (Writing.Clrtobot win) result self.new.table }
     {
         let state = state_of(&self.table, win)?;
         let (y, x) = state.settings.cursor;
@@ -101,11 +86,7 @@ impl Windows {
     /// # Errors
     /// `NoSuchWindow`.
     pub fn winsertln(&mut self, win: WinId) -> Result<Option<Rect>, Refusal>
-        ensures refused { result_err result ≡ writing_refusal (windows self.old.table) (Writing.Insertln win) }
-        ensures written { OnOk result (windows self.new.table ≡ after_writing (windows self.old.table) (Writing.Insertln win)) }
-        ensures frame { IfOk result (λ frame. frame ≡ writing_frame (windows self.old.table) (Writing.Insertln win)) }
-        ensures unchanged { OnErr result (self.new ≡ self.old) }
-        ensures sound { AreSoundWindows (windows self.new.table) }
+        ensures { Wrote its_frame self.old.table (Writing.Insertln win) result self.new.table }
     {
         let state = state_of(&self.table, win)?;
         let top = state.settings.cursor.0;
@@ -119,11 +100,7 @@ impl Windows {
     /// # Errors
     /// `NoSuchWindow`.
     pub fn wdeleteln(&mut self, win: WinId) -> Result<Option<Rect>, Refusal>
-        ensures refused { result_err result ≡ writing_refusal (windows self.old.table) (Writing.Deleteln win) }
-        ensures written { OnOk result (windows self.new.table ≡ after_writing (windows self.old.table) (Writing.Deleteln win)) }
-        ensures frame { IfOk result (λ frame. frame ≡ writing_frame (windows self.old.table) (Writing.Deleteln win)) }
-        ensures unchanged { OnErr result (self.new ≡ self.old) }
-        ensures sound { AreSoundWindows (windows self.new.table) }
+        ensures { Wrote its_frame self.old.table (Writing.Deleteln win) result self.new.table }
     {
         let state = state_of(&self.table, win)?;
         let top = state.settings.cursor.0;

@@ -7,6 +7,7 @@ ghost use Rattle.world.specs.Sound.{AreSoundWindows};
 ghost use Rattle.world.specs.calls.Writing.{after_writing, writing_refusal};
 ghost use Rattle.world.specs.declared.call.Writing.{Writing};
 ghost use Rattle.grids.specs.Tables.{windows};
+ghost use Rattle.windows.specs.Calls.{Wrote, its_frame, no_frame};
 
 use crate::state::{set_cursor, state_of};
 use crate::table::Windows;
@@ -20,10 +21,7 @@ impl Windows {
     /// # Errors
     /// `NoSuchWindow`; `OutsideWindow` for a place that the window hasn't.
     pub fn wmove(&mut self, win: WinId, y: u16, x: u16) -> Result<(), Refusal>
-        ensures refused { result_err result ≡ writing_refusal (windows self.old.table) (Writing.Move win y x) }
-        ensures set { OnOk result (windows self.new.table ≡ after_writing (windows self.old.table) (Writing.Move win y x)) }
-        ensures unchanged { OnErr result (self.new ≡ self.old) }
-        ensures sound { AreSoundWindows (windows self.new.table) }
+        ensures { Wrote no_frame self.old.table (Writing.Move win y x) result self.new.table }
     {
         let state = state_of(&self.table, win)?;
         if y >= state.lines || x >= state.columns {
@@ -38,10 +36,7 @@ impl Windows {
     /// # Errors
     /// `NoSuchWindow`.
     pub fn clearok(&mut self, win: WinId, flag: bool) -> Result<(), Refusal>
-        ensures refused { result_err result ≡ writing_refusal (windows self.old.table) (Writing.Clearok win flag) }
-        ensures set { OnOk result (windows self.new.table ≡ after_writing (windows self.old.table) (Writing.Clearok win flag)) }
-        ensures unchanged { OnErr result (self.new ≡ self.old) }
-        ensures sound { AreSoundWindows (windows self.new.table) }
+        ensures { Wrote no_frame self.old.table (Writing.Clearok win flag) result self.new.table }
     {
         let state = state_of(&self.table, win)?;
         let settings = Settings {
@@ -57,10 +52,7 @@ impl Windows {
     /// # Errors
     /// `NoSuchWindow`.
     pub fn wattrset(&mut self, win: WinId, attrs: Attr) -> Result<(), Refusal>
-        ensures refused { result_err result ≡ writing_refusal (windows self.old.table) (Writing.Attrset win attrs) }
-        ensures set { OnOk result (windows self.new.table ≡ after_writing (windows self.old.table) (Writing.Attrset win attrs)) }
-        ensures unchanged { OnErr result (self.new ≡ self.old) }
-        ensures sound { AreSoundWindows (windows self.new.table) }
+        ensures { Wrote no_frame self.old.table (Writing.Attrset win attrs) result self.new.table }
     {
         let state = state_of(&self.table, win)?;
         let settings = Settings {
@@ -76,10 +68,7 @@ impl Windows {
     /// # Errors
     /// `NoSuchWindow`.
     pub fn wattron(&mut self, win: WinId, attrs: Attr) -> Result<(), Refusal>
-        ensures refused { result_err result ≡ writing_refusal (windows self.old.table) (Writing.Attron win attrs) }
-        ensures set { OnOk result (windows self.new.table ≡ after_writing (windows self.old.table) (Writing.Attron win attrs)) }
-        ensures unchanged { OnErr result (self.new ≡ self.old) }
-        ensures sound { AreSoundWindows (windows self.new.table) }
+        ensures { Wrote no_frame self.old.table (Writing.Attron win attrs) result self.new.table }
     {
         let state = state_of(&self.table, win)?;
         let settings = Settings {
@@ -95,10 +84,7 @@ impl Windows {
     /// # Errors
     /// `NoSuchWindow`.
     pub fn wattroff(&mut self, win: WinId, attrs: Attr) -> Result<(), Refusal>
-        ensures refused { result_err result ≡ writing_refusal (windows self.old.table) (Writing.Attroff win attrs) }
-        ensures set { OnOk result (windows self.new.table ≡ after_writing (windows self.old.table) (Writing.Attroff win attrs)) }
-        ensures unchanged { OnErr result (self.new ≡ self.old) }
-        ensures sound { AreSoundWindows (windows self.new.table) }
+        ensures { Wrote no_frame self.old.table (Writing.Attroff win attrs) result self.new.table }
     {
         let state = state_of(&self.table, win)?;
         let settings = Settings {
@@ -114,10 +100,7 @@ impl Windows {
     /// # Errors
     /// `NoSuchWindow`; `BadCharacter` for a character outside 32 to 126.
     pub fn wbkgdset(&mut self, win: WinId, attrs: Attr, ch: u8) -> Result<(), Refusal>
-        ensures refused { result_err result ≡ writing_refusal (windows self.old.table) (Writing.Bkgdset win attrs ch) }
-        ensures set { OnOk result (windows self.new.table ≡ after_writing (windows self.old.table) (Writing.Bkgdset win attrs ch)) }
-        ensures unchanged { OnErr result (self.new ≡ self.old) }
-        ensures sound { AreSoundWindows (windows self.new.table) }
+        ensures { Wrote no_frame self.old.table (Writing.Bkgdset win attrs ch) result self.new.table }
     {
         let state = state_of(&self.table, win)?;
         let background = Cell::new(ch, attrs, 0).ok_or(Refusal::BadCharacter)?;
@@ -134,10 +117,7 @@ impl Windows {
     /// # Errors
     /// `NoSuchWindow`; `BadPair` for a number past `LAST_PAIR`.
     pub fn wcolor_set(&mut self, win: WinId, pair: u16) -> Result<(), Refusal>
-        ensures refused { result_err result ≡ writing_refusal (windows self.old.table) (Writing.ColorSet win pair) }
-        ensures set { OnOk result (windows self.new.table ≡ after_writing (windows self.old.table) (Writing.ColorSet win pair)) }
-        ensures unchanged { OnErr result (self.new ≡ self.old) }
-        ensures sound { AreSoundWindows (windows self.new.table) }
+        ensures { Wrote no_frame self.old.table (Writing.ColorSet win pair) result self.new.table }
     {
         let state = state_of(&self.table, win)?;
         let pair = PairId::new(pair).ok_or(Refusal::BadPair)?;
@@ -154,10 +134,7 @@ impl Windows {
     /// # Errors
     /// `NoSuchWindow`; `BadPair` for a number past `LAST_PAIR`.
     pub fn wbkgdpair(&mut self, win: WinId, pair: u16) -> Result<(), Refusal>
-        ensures refused { result_err result ≡ writing_refusal (windows self.old.table) (Writing.Bkgdpair win pair) }
-        ensures set { OnOk result (windows self.new.table ≡ after_writing (windows self.old.table) (Writing.Bkgdpair win pair)) }
-        ensures unchanged { OnErr result (self.new ≡ self.old) }
-        ensures sound { AreSoundWindows (windows self.new.table) }
+        ensures { Wrote no_frame self.old.table (Writing.Bkgdpair win pair) result self.new.table }
     {
         let state = state_of(&self.table, win)?;
         let pair = PairId::new(pair).ok_or(Refusal::BadPair)?;

@@ -8,6 +8,7 @@ ghost use Rattle.world.specs.Sound.{AreSoundWindows};
 ghost use Rattle.world.specs.Windows.{put};
 ghost use Rattle.world.specs.declared.call.Writing.{Writing};
 ghost use Rattle.grids.specs.Tables.{windows};
+ghost use Rattle.windows.specs.Calls.{Wrote, its_frame, no_frame};
 ghost use Rattle.windows.specs.steps.State.{IsStateOf, window_in_state};
 
 use crate::drawing::{move_down, move_up};
@@ -25,11 +26,7 @@ impl Windows {
     /// # Errors
     /// `NoSuchWindow`; `ScrollingOff` for a window that doesn't scroll.
     pub fn wscrl(&mut self, win: WinId, n: i16) -> Result<Option<Rect>, Refusal>
-        ensures refused { result_err result ≡ writing_refusal (windows self.old.table) (Writing.Scrl win n) }
-        ensures written { OnOk result (windows self.new.table ≡ after_writing (windows self.old.table) (Writing.Scrl win n)) }
-        ensures frame { IfOk result (λ frame. frame ≡ writing_frame (windows self.old.table) (Writing.Scrl win n)) }
-        ensures unchanged { OnErr result (self.new ≡ self.old) }
-        ensures sound { AreSoundWindows (windows self.new.table) }
+        ensures { Wrote its_frame self.old.table (Writing.Scrl win n) result self.new.table }
     {
         let state = state_of(&self.table, win)?;
         if !state.settings.scrolling {
@@ -43,10 +40,7 @@ impl Windows {
     /// # Errors
     /// `NoSuchWindow`; `BadRegion` if `top` is after `bot` or `bot` outside the window.
     pub fn wsetscrreg(&mut self, win: WinId, top: u16, bot: u16) -> Result<(), Refusal>
-        ensures refused { result_err result ≡ writing_refusal (windows self.old.table) (Writing.Setscrreg win top bot) }
-        ensures set { OnOk result (windows self.new.table ≡ after_writing (windows self.old.table) (Writing.Setscrreg win top bot)) }
-        ensures unchanged { OnErr result (self.new ≡ self.old) }
-        ensures sound { AreSoundWindows (windows self.new.table) }
+        ensures { Wrote no_frame self.old.table (Writing.Setscrreg win top bot) result self.new.table }
     {
         let state = state_of(&self.table, win)?;
         if bot < top || state.lines <= bot {
@@ -65,10 +59,7 @@ impl Windows {
     /// # Errors
     /// `NoSuchWindow`.
     pub fn scrollok(&mut self, win: WinId, flag: bool) -> Result<(), Refusal>
-        ensures refused { result_err result ≡ writing_refusal (windows self.old.table) (Writing.Scrollok win flag) }
-        ensures set { OnOk result (windows self.new.table ≡ after_writing (windows self.old.table) (Writing.Scrollok win flag)) }
-        ensures unchanged { OnErr result (self.new ≡ self.old) }
-        ensures sound { AreSoundWindows (windows self.new.table) }
+        ensures { Wrote no_frame self.old.table (Writing.Scrollok win flag) result self.new.table }
     {
         let state = state_of(&self.table, win)?;
         let settings = Settings {

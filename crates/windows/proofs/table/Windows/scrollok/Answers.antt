@@ -1,8 +1,15 @@
+use Rattle.std.proofs.Common.{rules, refl}
 use Rattle.grids.specs.Tables.{windows}
 use Rattle.windows.proofs.OptionLemmas.{scrolling_set}
 use Rattle.windows.proofs.table.Windows.scrollok.Goals as goal
 
-pub returns-clause-set : goal.returns-clause-set
-returns-clause-set c =
-    scrolling_set (windows c.args.self.now.table) (windows c.set_settings.new.self) c.args.win.0 c.in_ok-state.state
-    c.in_ok-state.ensures.state c.args.flag c.set_settings.ensures.set
+pub returns : goal.returns
+returns c = record {
+  refused = search rules;
+  written =
+      scrolling_set (windows c.args.self.now.table) (windows c.set_settings.new.self) c.args.win.0 c.in_ok-state.state
+      c.in_ok-state.ensures.state c.args.flag c.set_settings.ensures.set;
+  frame = refl;
+  unchanged = tt;
+  sound = search rules;
+}

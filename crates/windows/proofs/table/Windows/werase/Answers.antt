@@ -1,12 +1,16 @@
+use Rattle.std.proofs.Common.{rules}
 use Rattle.grids.specs.Tables.{windows}
 use Rattle.windows.proofs.Calls.{erased, erased_frame}
 use Rattle.windows.proofs.table.Windows.werase.Goals as goal
 
-pub returns-clause-written : goal.returns-clause-written
-returns-clause-written c =
-    erased (windows c.args.self.now.table) c.args.win.0 c.in_ok-state.state c.in_ok-state.ensures.state (windows c.clear_all.new.table)
-    (windows c.set_cursor.new.table) c.clear_all.ensures.written c.set_cursor.ensures.set
-
-pub returns-clause-frame : goal.returns-clause-frame
-returns-clause-frame c =
-    erased_frame (windows c.args.self.now.table) c.args.win.0 c.in_ok-state.state c.in_ok-state.ensures.state c.lines_from.result c.lines_from.ensures
+pub returns : goal.returns
+returns c = record {
+  refused = search rules;
+  written =
+      erased (windows c.args.self.now.table) c.args.win.0 c.in_ok-state.state c.in_ok-state.ensures.state (windows c.clear_all.new.table)
+      (windows c.set_cursor.new.table) c.clear_all.ensures.written c.set_cursor.ensures.set;
+  frame =
+      erased_frame (windows c.args.self.now.table) c.args.win.0 c.in_ok-state.state c.in_ok-state.ensures.state c.lines_from.result c.lines_from.ensures;
+  unchanged = tt;
+  sound = search rules;
+}

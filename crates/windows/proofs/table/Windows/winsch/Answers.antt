@@ -1,4 +1,4 @@
-use Rattle.std.proofs.Common.{ap, refl, sym, ◌∙◌}
+use Rattle.std.proofs.Common.{ap, refl, sym, ◌∙◌, rules}
 use Rattle.world.specs.Drawings.{character_inserted}
 use Rattle.world.specs.Windows.{put}
 use Rattle.world.specs.calls.Writing.{insch_drawing}
@@ -6,15 +6,18 @@ use Rattle.grids.specs.Tables.{windows}
 use Rattle.windows.proofs.Calls.{call-is, character_inserted_frame}
 use Rattle.windows.proofs.table.Windows.winsch.Goals as goal
 
-pub returns-clause-written : goal.returns-clause-written
-returns-clause-written c =
-    let ws = windows c.args.self.now.table in
-    let w = c.args.win.0 in
-    let s = c.in_ok-state.state in
-    c.insert_cell.ensures.written ∙ ap (λ g. put ws w (character_inserted ws.window w s.settings.cursor g)) c.written_cell-cell.ensures
-    ∙ sym (call-is ws w s c.in_ok-state.ensures.state (λ a. put ws w (insch_drawing ws.window w c.args.ch a)) refl)
-
-pub returns-clause-frame : goal.returns-clause-frame
-returns-clause-frame c =
-    character_inserted_frame (windows c.args.self.now.table) c.args.win.0 c.in_ok-state.state c.in_ok-state.ensures.state c.lines_from.result
-    c.args.ch c.lines_from.ensures
+pub returns : goal.returns
+returns c = record {
+  refused = search rules;
+  written =
+      let ws = windows c.args.self.now.table in
+      let w = c.args.win.0 in
+      let s = c.in_ok-state.state in
+      c.insert_cell.ensures.written ∙ ap (λ g. put ws w (character_inserted ws.window w s.settings.cursor g)) c.written_cell-cell.ensures
+      ∙ sym (call-is ws w s c.in_ok-state.ensures.state (λ a. put ws w (insch_drawing ws.window w c.args.ch a)) refl);
+  frame =
+      character_inserted_frame (windows c.args.self.now.table) c.args.win.0 c.in_ok-state.state c.in_ok-state.ensures.state c.lines_from.result
+      c.args.ch c.lines_from.ensures;
+  unchanged = tt;
+  sound = search rules;
+}

@@ -1,13 +1,17 @@
+use Rattle.std.proofs.Common.{rules}
 use Rattle.grids.specs.Tables.{windows}
 use Rattle.windows.proofs.Calls.{line_inserted, line_inserted_frame}
 use Rattle.windows.proofs.table.Windows.winsertln.Goals as goal
 
-pub returns-clause-written : goal.returns-clause-written
-returns-clause-written c =
-    line_inserted (windows c.args.self.now.table) c.args.win.0 c.in_ok-state.state c.in_ok-state.ensures.state (windows c.move_down.new.table)
-    c.move_down.ensures.written
-
-pub returns-clause-frame : goal.returns-clause-frame
-returns-clause-frame c =
-    line_inserted_frame (windows c.args.self.now.table) c.args.win.0 c.in_ok-state.state c.in_ok-state.ensures.state c.lines_from.result
-    c.lines_from.ensures
+pub returns : goal.returns
+returns c = record {
+  refused = search rules;
+  written =
+      line_inserted (windows c.args.self.now.table) c.args.win.0 c.in_ok-state.state c.in_ok-state.ensures.state (windows c.move_down.new.table)
+      c.move_down.ensures.written;
+  frame =
+      line_inserted_frame (windows c.args.self.now.table) c.args.win.0 c.in_ok-state.state c.in_ok-state.ensures.state c.lines_from.result
+      c.lines_from.ensures;
+  unchanged = tt;
+  sound = search rules;
+}
