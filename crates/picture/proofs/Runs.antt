@@ -1,6 +1,6 @@
 -- A line of the picture is made run by run, each from a piece of one window's line.
 use Rattle.std.proofs.Common.{◌≡◌, ℕ, ◌+◌, ◌-◌, ◌<◌, ◌≤◌, ◌==◌, ◌&&◌, true, false, if◌then◌else◌, Option, Some, None, List, length, nat_le, nat_lt, refl, sym, ap, subst, ◌∙◌, arith}
-use Rattle.std.specs.Prelude.{slice_index, slice_index_or, unwrap_or}
+use Rattle.std.specs.Prelude.{slice_index_or, unwrap_or}
 use Rattle.std.specs.Option.{option_map_or}
 use Rattle.std.proofs.lemmas.Bool.Decides.{nat_tests}
 use Rattle.cell.specs.Glyphs.{Glyph, blank}
@@ -11,7 +11,7 @@ use Rattle.world.specs.Windows.{Window, WindowMap, Windows, cell_at}
 use Rattle.world.specs.Panels.{Panels, cell_on_screen, found_from_top, holds, holds_place, owner, place_of, screen_place, standard_screen, window_or_standard}
 use Rattle.picture.specs.Counts.{GrewBy}
 use Rattle.picture.specs.Parts.{IsPiece, frame_holds}
-use Rattle.picture.specs.steps.Owners.{AreOwners, owner_window}
+use Rattle.picture.specs.steps.Owners.{IsRun}
 use Rattle.picture.proofs.Counting.{grew-more}
 use Rattle.picture.proofs.Held.{IsBetween, held-between}
 use Rattle.picture.proofs.Lines.{LineShown, LineShown-more}
@@ -35,23 +35,6 @@ run-cell window panels w y x u place placed held from owned =
     ap (λ (p : Place). cell_at window w (y - p.0) (x - p.1 + (u - x))) placed
     ∙ ap (λ k. cell_at window w (y - (place_of window w).0) k) column
     ∙ ap (λ v. cell_on_screen window v y u) owned
-
--- the search finds one window from a column on, up to a last one
-pub record IsRun (window : WindowMap) (panels : Panels) (y x edge w last : ℕ) : Type 0 where
-  pub from : x ≤ last
-  pub within : last ≤ edge
-  pub same : (u : ℕ) → x ≤ u → u ≤ last → owner_window window panels y u ≡ w
-
--- what is written for the columns tells runs
-pub is-run : (window : WindowMap) (panels : Panels) (y left x right w last : ℕ) (owners : List ℕ) → AreOwners window panels y left right owners → left ≤ x → x ≤ right
-    → x - left ≤ last → last ≤ right - left → ((k : ℕ) → x - left ≤ k → k ≤ last → slice_index owners k ≡ w) → IsRun window panels y x right w (left + last)
-is-run window panels y left x right w last owners found begun inside from within same = record {
-  from = omega (arith, begun, from);
-  within = omega (arith, begun, inside, within);
-  same = λ u after upto.
-      sym (found u (omega (arith, begun, after)) (omega (arith, upto, within, begun, inside)))
-      ∙ same (u - left) (omega (arith, begun, after)) (omega (arith, upto));
-}
 
 -- it holds those columns, where the standard screen does
 pub run-held : (window : WindowMap) (panels : Panels) (y x edge w last : ℕ) → IsRun window panels y x edge w last

@@ -8,14 +8,11 @@ ghost use Rattle.stack.specs.Tables.{panels};
 ghost use Rattle.picture.specs.Counts.{GrewBy};
 ghost use Rattle.picture.specs.Spans.{HasPanelWindows};
 
-use crate::owners::{find_owners, run_from};
+use crate::owners::Owners;
 use crate::piece::show_cells;
 use crate::rows::Rows;
 use cell::{Grid, Pairs, Shown};
 use stack::Stack;
-
-/// So many columns of a line are searched for together.
-const PART: usize = 256;
 
 /// Sets the columns of line `y` of a picture of the screen, from `left` to `right`, both inclusive, to what a search from the top visible
 /// panel down to the standard screen finds, and leaves all others. As many cells of windows are lent as there are such columns. The
@@ -39,67 +36,16 @@ pub fn compose_row<'a, R: Rows<'a>>(
     ensures counted { GrewBy (right - left + 1) (R.lent rows.old) (R.lent rows.new) }
     ensures same { R.windows rows.new ≡ R.windows rows.old }
 {
+    let mut owners = Owners::none(stack);
     let mut x = left;
     loop {
-        let end = part_end(x, right);
-        compose_part(rows, stack, pairs, y, x, end, picture);
-        if end == right {
-            return;
-        }
-        x = end + 1;
-    }
-}
-
-/// The last column of a part that begins at column `x`, and reaches to column `right` at most.
-fn part_end(x: u16, right: u16) -> u16
-    requires { x ≤ right }
-    ensures from { x ≤ result }
-    ensures within { result ≤ right }
-    ensures few { result - x < PART }
-    ensures many { result < right → result - x + 1 ≡ PART }
-{
-    if usize::from(right - x) < PART {
-        right
-    } else {
-        x + (PART as u16 - 1)
-    }
-}
-
-/// Does the same for at most `PART` columns.
-fn compose_part<'a, R: Rows<'a>>(
-    rows: &mut R,
-    stack: &Stack,
-    pairs: &Pairs,
-    y: u16,
-    left: u16,
-    right: u16,
-    picture: &mut Grid<Shown>,
-)
-    requires standard { (u : ℕ) → left ≤ u → u ≤ right → holds (R.windows rows.old).window standard_screen y u ≡ true }
-    requires panels { HasPanelWindows (R.windows rows.old).window (panels stack.now) }
-    requires ordered { left ≤ right }
-    requires few { right - left < PART }
-    requires line { y < length picture.old }
-    requires columns { right < length (line_of picture.old y) }
-    ensures shown { (v u : ℕ) → shown_at picture.new (v, u) ≡ (if (v == y) && (nat_le left u && nat_lt u (right + 1)) then shown pairs.now (found_from_top (R.windows rows.old).window (panels stack.now) y u) else shown_at picture.old (v, u)) }
-    ensures size { (lines columns : ℕ) → HasSize lines columns picture.old → HasSize lines columns picture.new }
-    ensures height { length picture.new ≡ length picture.old }
-    ensures width { length (line_of picture.new y) ≡ length (line_of picture.old y) }
-    ensures counted { GrewBy (right - left + 1) (R.lent rows.old) (R.lent rows.new) }
-    ensures same { R.windows rows.new ≡ R.windows rows.old }
-{
-    let mut owners = [0; PART];
-    find_owners(rows, stack, y, left, right, &mut owners);
-    let mut x = left;
-    loop {
-        let run = run_from(&owners, usize::from(x - left), usize::from(right - left));
-        let last = left + run.last as u16;
+        let run = owners.run(rows, stack, y, x, right);
         let rect = rows.rect(run.win);
-        let cells = rows.lend(run.win, y - rect.top, x - rect.left, last - rect.left);
+        let cells = rows.lend(run.win, y - rect.top, x - rect.left, run.last - rect.left);
         show_cells(cells, pairs, y, x, picture);
-        if last == right {
+        if run.last == right {
             return;
         }
-        x = last + 1;
+        x = run.last + 1;
     }
 }

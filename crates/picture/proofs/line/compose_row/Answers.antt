@@ -1,92 +1,226 @@
-use Rattle.std.proofs.Common.{◌≡◌, ℕ, ◌≤◌, ◌+◌, ◌-◌, ◌==◌, ◌&&◌, true, if◌then◌else◌, nat_le, nat_lt, length, refl, sym, ap, subst, ◌∙◌, arith}
-use Rattle.cell.specs.Pictures.{HasSize, Picture, line_of, shown_at}
-use Rattle.cell.specs.Shown.{Pairs, Shown, shown}
-use Rattle.world.specs.Panels.{Panels, found_from_top, holds, standard_screen}
+use Rattle.std.proofs.Common.{rules, ◌≡◌, ℕ, ◌+◌, ◌-◌, ◌≤◌, true, refl, sym, ap, subst, ◌∙◌, arith}
+use Rattle.cell.specs.Pictures.{Place}
+use Rattle.cell.specs.Shown.{Shown, shown}
 use Rattle.world.specs.Windows.{Windows}
+use Rattle.world.specs.Panels.{Panels, found_from_top, holds, place_of, standard_screen}
 use Rattle.stack.specs.Tables.{panels}
 use Rattle.picture.specs.Counts.{GrewBy}
 use Rattle.picture.specs.Spans.{HasPanelWindows}
-use Rattle.picture.proofs.Counting.{grew-more}
-use Rattle.picture.proofs.Lines.{LineShown, LineShown-more}
+use Rattle.picture.specs.steps.Owners.{IsRun, KnowsOwners}
+use Rattle.picture.proofs.Held.{IsBetween, held-between, held-no-pad, held-place}
+use Rattle.picture.proofs.Lines.{LineShown}
+use Rattle.picture.proofs.Runs.{IsLent, run-grew, run-held, run-line}
 use Rattle.picture.proofs.line.compose_row.Goals as goal
 
--- a part more, of which the windows are those before
-part-more : (old now : Windows) (ps : Panels) (pairs : Pairs) (y left x end : ℕ) (before after new : Picture) → now ≡ old → left ≤ x → x ≤ end
-    → LineShown (λ u. shown pairs (found_from_top old.window ps y u)) y left x before after
-    → ((v u : ℕ) → shown_at new (v, u) ≡ (if (v == y) && (nat_le x u && nat_lt u (end + 1)) then shown pairs (found_from_top now.window ps y u) else shown_at after (v, u)))
-    → ((lines columns : ℕ) → HasSize lines columns after → HasSize lines columns new) → length new ≡ length after → length (line_of new y) ≡ length (line_of after y)
-    → LineShown (λ u. shown pairs (found_from_top old.window ps y u)) y left (end + 1) before new
-part-more old now ps pairs y left x end before after new kept begun from so_far put size height width =
-    LineShown-more (λ u. shown pairs (found_from_top old.window ps y u)) (λ u. shown pairs (found_from_top now.window ps y u)) y left x (end + 1) before after new so_far begun (omega (arith, from))
-    (λ u after upto. ap (λ (ws : Windows). shown pairs (found_from_top ws.window ps y u)) kept) put size height width
+held : (old now : Windows) (ps : Panels) (y x right w last : ℕ) → now ≡ old → IsRun old.window ps y x right w last → ((u : ℕ) → x ≤ u → u ≤ right → holds old.window standard_screen y u ≡ true)
+    → (u : ℕ) → x ≤ u → u ≤ last → holds now.window w y u ≡ true
+held old now ps y x right w last kept run standard u from upto =
+    subst (λ (ws : Windows). holds ws.window w y u ≡ true) (sym kept) (run-held old.window ps y x right w last run standard u from upto)
 
-pub compose_part-requires : goal.compose_part-requires
-compose_part-requires g c κs =
+pub loop-owners-init : goal.loop-owners-init
+loop-owners-init g c = record {
+  from = omega arith;
+  within = c.requires.ordered;
+  same = refl;
+  counted = search rules;
+  known = c.none-owners.ensures (g.R.Rows.windows c.args.rows.now).window (panels c.args.stack.now) c.args.y;
+  line = search rules;
+}
+
+pub run-run-requires : goal.run-run-requires
+run-run-requires g c κs =
     let a = c.args in
-    let h = c.loop-y.invariant in
-    let e = c.part_end-end.ensures in
-    let begun = h.from in
-    let within = e.within in
-    let line = c.requires.line in
-    let columns = c.requires.columns in
-    let height = h.line.height in
-    let width = h.line.width in (
+    let l = c.loop-owners in
+    let ps = panels a.stack.now in (
       (refl, record {}),
       (
-        λ u from upto. subst (λ (ws : Windows). holds ws.window standard_screen a.y u ≡ true) (sym h.same) (c.requires.standard u (omega (arith, begun, from)) (omega (arith, within, upto))),
-        (
-          subst (λ (ws : Windows). HasPanelWindows ws.window (panels a.stack.now)) (sym h.same) c.requires.panels,
-          (e.from, (e.few, (omega (arith, line, height), omega (arith, columns, within, width)))),
-        ),
+        subst (λ (ws : Windows). HasPanelWindows ws.window ps) (sym l.invariant.same) c.requires.panels,
+        (l.invariant.within, subst (λ (ws : Windows). KnowsOwners ws.window ps a.y l.owners) (sym l.invariant.same) l.invariant.known),
       ),
     )
 
-pub returns-then-end-right-clause-shown : goal.returns-then-end-right-clause-shown
-returns-then-end-right-clause-shown g c =
+pub rect-rect-requires : goal.rect-rect-requires
+rect-rect-requires g c κs =
     let a = c.args in
-    let l = c.loop-y in
+    let l = c.loop-owners in
     let old = g.R.Rows.windows a.rows.now in
+    let now = g.R.Rows.windows l.rows in
     let ps = panels a.stack.now in
+    let win = c.run-run.result.win.0 in
+    let last = c.run-run.result.last in
+    let begun = l.invariant.from in
+    let run : IsRun old.window ps a.y l.x a.right win last = subst (λ (ws : Windows). IsRun ws.window ps a.y l.x a.right win last) l.invariant.same c.run-run.ensures.run in
+    let from = run.from in
+    let standard : (u : ℕ) → l.x ≤ u → u ≤ a.right → holds old.window standard_screen a.y u ≡ true = λ u after upto. c.requires.standard u (omega (arith, begun, after)) upto in (
+      (refl, record {}),
+      held-no-pad now.window win a.y l.x (held old now ps a.y l.x a.right win last l.invariant.same run standard l.x (omega arith) from),
+    )
+
+pub overflow_sub-y : goal.overflow_sub-y
+overflow_sub-y g c =
+    let a = c.args in
+    let l = c.loop-owners in
+    let old = g.R.Rows.windows a.rows.now in
+    let now = g.R.Rows.windows l.rows in
+    let ps = panels a.stack.now in
+    let win = c.run-run.result.win.0 in
+    let last = c.run-run.result.last in
+    let begun = l.invariant.from in
+    let run : IsRun old.window ps a.y l.x a.right win last = subst (λ (ws : Windows). IsRun ws.window ps a.y l.x a.right win last) l.invariant.same c.run-run.ensures.run in
+    let from = run.from in
+    let standard : (u : ℕ) → l.x ≤ u → u ≤ a.right → holds old.window standard_screen a.y u ≡ true = λ u after upto. c.requires.standard u (omega (arith, begun, after)) upto in
+    let between : IsBetween c.rect-rect.result a.y l.x = held-between c.rect-rect.result a.y l.x (c.rect-rect.ensures.holds a.y l.x ∙ held old now ps a.y l.x a.right win last l.invariant.same run standard l.x (omega arith) from) in
+    between.top
+
+pub overflow_sub-x : goal.overflow_sub-x
+overflow_sub-x g c =
+    let a = c.args in
+    let l = c.loop-owners in
+    let old = g.R.Rows.windows a.rows.now in
+    let now = g.R.Rows.windows l.rows in
+    let ps = panels a.stack.now in
+    let win = c.run-run.result.win.0 in
+    let last = c.run-run.result.last in
+    let begun = l.invariant.from in
+    let run : IsRun old.window ps a.y l.x a.right win last = subst (λ (ws : Windows). IsRun ws.window ps a.y l.x a.right win last) l.invariant.same c.run-run.ensures.run in
+    let from = run.from in
+    let standard : (u : ℕ) → l.x ≤ u → u ≤ a.right → holds old.window standard_screen a.y u ≡ true = λ u after upto. c.requires.standard u (omega (arith, begun, after)) upto in
+    let between : IsBetween c.rect-rect.result a.y l.x = held-between c.rect-rect.result a.y l.x (c.rect-rect.ensures.holds a.y l.x ∙ held old now ps a.y l.x a.right win last l.invariant.same run standard l.x (omega arith) from) in
+    between.left
+
+pub overflow_sub-run : goal.overflow_sub-run
+overflow_sub-run g c =
+    let a = c.args in
+    let l = c.loop-owners in
+    let old = g.R.Rows.windows a.rows.now in
+    let now = g.R.Rows.windows l.rows in
+    let ps = panels a.stack.now in
+    let win = c.run-run.result.win.0 in
+    let last = c.run-run.result.last in
+    let begun = l.invariant.from in
+    let run : IsRun old.window ps a.y l.x a.right win last = subst (λ (ws : Windows). IsRun ws.window ps a.y l.x a.right win last) l.invariant.same c.run-run.ensures.run in
+    let from = run.from in
+    let standard : (u : ℕ) → l.x ≤ u → u ≤ a.right → holds old.window standard_screen a.y u ≡ true = λ u after upto. c.requires.standard u (omega (arith, begun, after)) upto in
+    let between : IsBetween c.rect-rect.result a.y l.x = held-between c.rect-rect.result a.y l.x (c.rect-rect.ensures.holds a.y l.x ∙ held old now ps a.y l.x a.right win last l.invariant.same run standard l.x (omega arith) from) in
+    let left = between.left in
+    omega (arith, left, from)
+
+pub lend-cells-requires : goal.lend-cells-requires
+lend-cells-requires g c κs =
+    let a = c.args in
+    let l = c.loop-owners in
+    let old = g.R.Rows.windows a.rows.now in
+    let now = g.R.Rows.windows l.rows in
+    let ps = panels a.stack.now in
+    let win = c.run-run.result.win.0 in
+    let last = c.run-run.result.last in
+    let begun = l.invariant.from in
+    let run : IsRun old.window ps a.y l.x a.right win last = subst (λ (ws : Windows). IsRun ws.window ps a.y l.x a.right win last) l.invariant.same c.run-run.ensures.run in
+    let from = run.from in
+    let standard : (u : ℕ) → l.x ≤ u → u ≤ a.right → holds old.window standard_screen a.y u ≡ true = λ u after upto. c.requires.standard u (omega (arith, begun, after)) upto in
+    let rect = c.rect-rect.result in
+    let top : rect.top ≡ (place_of now.window win).0 = ap (λ (p : Place). p.0) c.rect-rect.ensures.place in
+    let left : rect.left ≡ (place_of now.window win).1 = ap (λ (p : Place). p.1) c.rect-rect.ensures.place in (
+      (refl, record {}),
+      (
+        omega (arith, from),
+        rw (top, left) (held-place now.window win a.y last (held old now ps a.y l.x a.right win last l.invariant.same run standard last from (omega arith))),
+      ),
+    )
+
+pub returns-then-run-right-clause-shown : goal.returns-then-run-right-clause-shown
+returns-then-run-right-clause-shown g c =
+    let a = c.args in
+    let l = c.loop-owners in
+    let old = g.R.Rows.windows a.rows.now in
+    let now = g.R.Rows.windows l.rows in
+    let ps = panels a.stack.now in
+    let win = c.run-run.result.win.0 in
+    let last = c.run-run.result.last in
+    let begun = l.invariant.from in
+    let run : IsRun old.window ps a.y l.x a.right win last = subst (λ (ws : Windows). IsRun ws.window ps a.y l.x a.right win last) l.invariant.same c.run-run.ensures.run in
+    let from = run.from in
+    let standard : (u : ℕ) → l.x ≤ u → u ≤ a.right → holds old.window standard_screen a.y u ≡ true = λ u after upto. c.requires.standard u (omega (arith, begun, after)) upto in
+    let rect = c.rect-rect.result in
+    let cells = c.lend-cells.result.now in
+    let lent : IsLent old now ps a.y l.x a.right win last rect cells = record {
+      kept = l.invariant.same;
+      run = run;
+      standard = standard;
+      place = c.rect-rect.ensures.place;
+      rectangle = c.rect-rect.ensures.holds;
+      piece = c.lend-cells.ensures.piece;
+    } in
     let f : ℕ → Shown = λ u. shown a.pairs.now (found_from_top old.window ps a.y u) in
-    let e = c.compose_part.ensures in
-    let end = c.part_end-end.result in
-    let line : LineShown f a.y a.left (end + 1) a.picture.now c.compose_part.new.picture =
-    part-more old (g.R.Rows.windows l.rows) ps a.pairs.now a.y a.left l.x end a.picture.now l.picture c.compose_part.new.picture l.invariant.same l.invariant.from c.part_end-end.ensures.from l.invariant.line e.shown e.size e.height e.width in
-    let all : LineShown f a.y a.left (a.right + 1) a.picture.now c.compose_part.new.picture = subst (λ k. LineShown f a.y a.left (k + 1) a.picture.now c.compose_part.new.picture) c.if-end-right.true line in
+    let line : LineShown f a.y a.left (last + 1) a.picture.now c.show_cells.new.picture =
+    run-line old now ps a.y l.x a.right win last rect cells lent a.pairs.now a.left a.picture.now l.picture c.show_cells.new.picture l.invariant.line begun
+    c.show_cells.ensures.shown c.show_cells.ensures.size c.show_cells.ensures.height (c.show_cells.ensures.width a.y) in
+    let all : LineShown f a.y a.left (a.right + 1) a.picture.now c.show_cells.new.picture = subst (λ k. LineShown f a.y a.left (k + 1) a.picture.now c.show_cells.new.picture) c.if-run-right.true line in
     all.shown
 
-pub returns-then-end-right-clause-size : goal.returns-then-end-right-clause-size
-returns-then-end-right-clause-size g c = λ lines columns h. c.compose_part.ensures.size lines columns (c.loop-y.invariant.line.size lines columns h)
+pub returns-then-run-right-clause-size : goal.returns-then-run-right-clause-size
+returns-then-run-right-clause-size g c = λ lines columns h. c.show_cells.ensures.size lines columns (c.loop-owners.invariant.line.size lines columns h)
 
-pub returns-then-end-right-clause-counted : goal.returns-then-end-right-clause-counted
-returns-then-end-right-clause-counted g c =
+pub returns-then-run-right-clause-counted : goal.returns-then-run-right-clause-counted
+returns-then-run-right-clause-counted g c =
     let a = c.args in
-    let l = c.loop-y in
-    let end = c.part_end-end.result in
+    let l = c.loop-owners in
+    let old = g.R.Rows.windows a.rows.now in
+    let now = g.R.Rows.windows l.rows in
+    let ps = panels a.stack.now in
+    let win = c.run-run.result.win.0 in
+    let last = c.run-run.result.last in
     let begun = l.invariant.from in
-    let from = c.part_end-end.ensures.from in
-    let last = c.if-end-right.true in
-    let sum : l.x - a.left + (end - l.x + 1) ≡ a.right - a.left + 1 = omega (arith, begun, from, last) in
-    subst (λ n. GrewBy n (g.R.Rows.lent a.rows.now) (g.R.Rows.lent c.compose_part.new.rows)) sum
-    (grew-more (l.x - a.left) (end - l.x + 1) (g.R.Rows.lent a.rows.now) (g.R.Rows.lent l.rows) (g.R.Rows.lent c.compose_part.new.rows) l.invariant.counted c.compose_part.ensures.counted)
+    let run : IsRun old.window ps a.y l.x a.right win last = subst (λ (ws : Windows). IsRun ws.window ps a.y l.x a.right win last) l.invariant.same c.run-run.ensures.run in
+    let from = run.from in
+    let standard : (u : ℕ) → l.x ≤ u → u ≤ a.right → holds old.window standard_screen a.y u ≡ true = λ u after upto. c.requires.standard u (omega (arith, begun, after)) upto in
+    let rect = c.rect-rect.result in
+    let cells = c.lend-cells.result.now in
+    let lent : IsLent old now ps a.y l.x a.right win last rect cells = record {
+      kept = l.invariant.same;
+      run = run;
+      standard = standard;
+      place = c.rect-rect.ensures.place;
+      rectangle = c.rect-rect.ensures.holds;
+      piece = c.lend-cells.ensures.piece;
+    } in
+    let upto = l.invariant.within in
+    let sum : a.right + 1 - a.left ≡ a.right - a.left + 1 = omega (arith, begun, upto) in
+    let more : GrewBy (last + 1 - a.left) (g.R.Rows.lent a.rows.now) (g.R.Rows.lent c.lend-cells.new.self) =
+    run-grew old now ps a.y l.x a.right win last rect cells lent a.left (g.R.Rows.lent a.rows.now) (g.R.Rows.lent l.rows) (g.R.Rows.lent c.lend-cells.new.self) begun l.invariant.counted c.lend-cells.ensures.counted in
+    subst (λ n. GrewBy n (g.R.Rows.lent a.rows.now) (g.R.Rows.lent c.lend-cells.new.self)) (ap (λ k. k + 1 - a.left) c.if-run-right.true ∙ sum) more
 
-pub loop-y-preserved : goal.loop-y-preserved
-loop-y-preserved g c =
+pub loop-owners-preserved : goal.loop-owners-preserved
+loop-owners-preserved g c =
     let a = c.args in
-    let l = c.loop-y in
-    let end = c.part_end-end.result in
+    let l = c.loop-owners in
+    let old = g.R.Rows.windows a.rows.now in
+    let now = g.R.Rows.windows l.rows in
+    let ps = panels a.stack.now in
+    let win = c.run-run.result.win.0 in
+    let last = c.run-run.result.last in
     let begun = l.invariant.from in
-    let from = c.part_end-end.ensures.from in
-    let within = c.part_end-end.ensures.within in
-    let not_last = c.if-end-right.false in
-    let e = c.compose_part.ensures in
-    let sum : l.x - a.left + (end - l.x + 1) ≡ end + 1 - a.left = omega (arith, begun, from) in
+    let run : IsRun old.window ps a.y l.x a.right win last = subst (λ (ws : Windows). IsRun ws.window ps a.y l.x a.right win last) l.invariant.same c.run-run.ensures.run in
+    let from = run.from in
+    let standard : (u : ℕ) → l.x ≤ u → u ≤ a.right → holds old.window standard_screen a.y u ≡ true = λ u after upto. c.requires.standard u (omega (arith, begun, after)) upto in
+    let rect = c.rect-rect.result in
+    let cells = c.lend-cells.result.now in
+    let lent : IsLent old now ps a.y l.x a.right win last rect cells = record {
+      kept = l.invariant.same;
+      run = run;
+      standard = standard;
+      place = c.rect-rect.ensures.place;
+      rectangle = c.rect-rect.ensures.holds;
+      piece = c.lend-cells.ensures.piece;
+    } in
+    let within = run.within in
+    let not_last = c.if-run-right.false in
     record {
       from = omega (arith, begun, from);
       within = omega (arith, within, not_last);
-      same = e.same ∙ l.invariant.same;
-      counted = subst (λ n. GrewBy n (g.R.Rows.lent a.rows.now) (g.R.Rows.lent c.compose_part.new.rows)) sum
-          (grew-more (l.x - a.left) (end - l.x + 1) (g.R.Rows.lent a.rows.now) (g.R.Rows.lent l.rows) (g.R.Rows.lent c.compose_part.new.rows) l.invariant.counted e.counted);
-      line = part-more (g.R.Rows.windows a.rows.now) (g.R.Rows.windows l.rows) (panels a.stack.now) a.pairs.now a.y a.left l.x end a.picture.now l.picture c.compose_part.new.picture
-          l.invariant.same begun from l.invariant.line e.shown e.size e.height e.width;
+      same = c.lend-cells.ensures.same ∙ l.invariant.same;
+      known = subst (λ (ws : Windows). KnowsOwners ws.window ps a.y c.run-run.new.self) l.invariant.same c.run-run.ensures.known;
+      counted = run-grew old now ps a.y l.x a.right win last rect cells lent a.left (g.R.Rows.lent a.rows.now) (g.R.Rows.lent l.rows) (g.R.Rows.lent c.lend-cells.new.self) begun l.invariant.counted c.lend-cells.ensures.counted;
+      line = run-line old now ps a.y l.x a.right win last rect cells lent a.pairs.now a.left a.picture.now l.picture c.show_cells.new.picture l.invariant.line begun
+          c.show_cells.ensures.shown c.show_cells.ensures.size c.show_cells.ensures.height (c.show_cells.ensures.width a.y);
     }

@@ -3,18 +3,20 @@ use Rattle.cell.specs.Shown.{shown}
 use Rattle.world.specs.Panels.{found_from_top}
 use Rattle.stack.specs.Tables.{panels}
 use Rattle.picture.specs.Counts.{GrewBy}
+use Rattle.picture.specs.steps.Owners.{KnowsOwners}
 use Rattle.picture.proofs.Lines.{LineShown}
 use Rattle.picture.proofs.line.compose_row.Given as goal
 
-abbrev pub decreases-loop-y : goal.decreases-loop-y
-decreases-loop-y g l = l.right - l.x
+abbrev pub decreases-loop-owners : goal.decreases-loop-owners
+decreases-loop-owners g l = l.right - l.x
 
 -- the columns before x are composed, and as many cells were lent
-abbrev pub invariant-loop-y : goal.invariant-loop-y
-invariant-loop-y g l = record {
+abbrev pub invariant-loop-owners : goal.invariant-loop-owners
+invariant-loop-owners g l = record {
   from : l.left ≤ l.x;
   within : l.x ≤ l.right;
   same : g.R.Rows.windows l.rows ≡ g.R.Rows.windows l.fn.rows;
   counted : GrewBy (l.x - l.left) (g.R.Rows.lent l.fn.rows) (g.R.Rows.lent l.rows);
+  known : KnowsOwners (g.R.Rows.windows l.fn.rows).window (panels l.fn.stack) l.fn.y l.owners;
   line : LineShown (λ u. shown l.fn.pairs (found_from_top (g.R.Rows.windows l.fn.rows).window (panels l.fn.stack) l.fn.y u)) l.fn.y l.fn.left l.x l.fn.picture l.picture;
 }
