@@ -24,7 +24,7 @@ shown-outside {lines} {columns} {picture} size y x out = elim (cases_lt y lines)
   ]
 ]
 
-same-outside : {lines columns : ℕ} {one other : Picture} → HasSize lines columns one → HasSize lines columns other → (y x : ℕ) → (y < lines → x < columns → ⊥) → shown_at one (y, x) ≡ shown_at other (y, x)
+pub same-outside : {lines columns : ℕ} {one other : Picture} → HasSize lines columns one → HasSize lines columns other → (y x : ℕ) → (y < lines → x < columns → ⊥) → shown_at one (y, x) ≡ shown_at other (y, x)
 same-outside size other_size y x out = shown-outside size y x out ∙ sym (shown-outside other_size y x out)
 
 -- two pictures of one size differ at most everywhere

@@ -109,12 +109,14 @@ impl Changes {
         (end.min(usize::from(stretch.start)), end)
     }
 
-    /// Adds columns of a line, and those between them and the ones that it has.
+    /// Adds columns of a line, and those between them and the ones that it has. A line that isn't there gets none.
     pub fn widen(&mut self, y: u16, stretch: Stretch)
-        requires { y < length self.old }
         ensures { self.new ≡ slice_set self.old y (joined (stretch_of self.old y) stretch) }
     {
         let at = usize::from(y);
+        if at >= self.stretches.len() {
+            return;
+        }
         self.stretches[at] = self.stretches[at].join(stretch);
         self.lines = self.lines.join(Stretch {
             start: y,
