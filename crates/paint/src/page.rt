@@ -64,14 +64,14 @@ fn first_line(pen: &Pen, changes: &Changes, blank: u16) -> u16
     }
 }
 
-/// The line from which on all are blank, where the last changed one is blank, and else the number of lines.
+/// The line from which on all are blank, where the last changed one is blank. Else, and where none is changed, the number of lines.
 fn page_end(picture: &Grid<Shown>, lines: u16, changed: u16) -> u16
     requires height { length picture.now ≡ lines }
     requires changed { changed ≤ lines }
     ensures blank { map blanked (drop result picture.now) ≡ drop result picture.now }
     ensures first { let end = min result changed in 0 < end → map blanked (drop (end - 1) picture.now) ≢ drop (end - 1) picture.now }
 {
-    if changed > 0 && tail_start(picture.row(usize::from(changed - 1))) > 0 {
+    if changed == 0 || tail_start(picture.row(usize::from(changed - 1))) > 0 {
         return lines;
     }
     blank_lines(picture, lines)
