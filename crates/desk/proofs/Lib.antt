@@ -9,3 +9,4 @@ pub mod AnswerLemmas
 pub mod LineEndLemmas
 pub mod ScriptLemmas
 pub mod KindLemmas
+pub mod Widening

@@ -1,11 +1,13 @@
 -- A screen between two calls.
 -- X/Open Curses Issue 7: doupdate shows the virtual screen.
-use Rattle.std.specs.Prelude.{◌≡◌, ℕ, Bool, true, Some, if◌then◌else◌}
+use Rattle.std.specs.Prelude.{◌≡◌, ℕ, Bool, true, List, length, MatchOption, Some, ⊤, if◌then◌else◌}
 use Rattle.world.specs.World.{World}
 use Rattle.world.specs.calls.Affected.{affected_after}
 use Rattle.world.specs.calls.Dispatch.{is_doupdate, world_after}
 use Rattle.world.specs.declared.call.Call.{Call}
+use Rattle.paint.specs.Changes.{DifferOnly}
 use Rattle.paint.specs.Updates.{PainterState, ShownPicture}
+use Rattle.paint.specs.declared.changes.Stretch.{Stretch}
 use Rattle.compose.specs.Desks.{DeskTable, is_damaged_line, world}
 
 -- its world, what its painter knows, and the lines of the screen that may be damaged: those that are to be composed
@@ -53,3 +55,14 @@ pub record KeepsSize (old new : DeskTable) : Type 0 where
 pub record HasOneSize (desk : DeskTable) (painter : PainterState) : Type 0 where
   pub lines : painter.lines ≡ desk.windows.lines
   pub columns : painter.columns ≡ desk.windows.columns
+
+-- The places of which the painter must be told: where it knows what it showed last, the virtual screen shows the same at all others. There
+-- are as many lines of them as the screen has.
+pub record IsKept (desk : DeskTable) (painter : PainterState) (changes : List Stretch) : Type 0 where
+  pub height : length changes ≡ desk.windows.lines
+  pub changed : MatchOption painter.last ⊤ (λ shown. DifferOnly changes shown.picture desk.virtual.picture)
+
+-- what always holds of a screen
+pub record IsScreen (desk : DeskTable) (painter : PainterState) (changes : List Stretch) : Type 0 where
+  pub size : HasOneSize desk painter
+  pub kept : IsKept desk painter changes

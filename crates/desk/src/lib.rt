@@ -2,6 +2,7 @@
 #![tactic(auto)]
 
 mod calls;
+mod changing;
 mod run_script;
 mod screen;
 

@@ -14,9 +14,10 @@ ghost use Rattle.compose.specs.Desks.{is_damaged_line, world};
 ghost use Rattle.desk.specs.Runs.{cells_of_reply};
 ghost use Rattle.desk.specs.declared.screen.Fault.TheVariants.{Refused};
 
+use crate::changing::widen_for;
 use cell::Refusal;
 use compose::Desk;
-use paint::Painter;
+use paint::{Changes, Painter};
 use std::alloc::Global;
 use std::marker::Model;
 use streams::{Sink, WriteFault};
@@ -28,16 +29,18 @@ pub struct Screen<W> {
     desk: Desk,
     painter: Painter,
     writer: W,
+    // Where the virtual screen may show something else than the painter showed last.
+    changes: Changes,
 }
 
 impl<W> Model for Screen<W> {
-    ghost use Rattle.desk.specs.States.{HasOneSize, ScreenOver};
+    ghost use Rattle.desk.specs.States.{IsScreen, ScreenOver};
 
     ghost Value = { ScreenOver W };
 
     ghost view = { λ s. record { desk = s.desk; painter = s.painter; writer = s.writer } };
 
-    ghost invariant = { λ s. HasOneSize s.desk s.painter };
+    ghost invariant = { λ s. IsScreen s.desk s.painter s.changes };
 }
 
 /// Why a call did nothing, or not all.
@@ -80,10 +83,12 @@ impl<W: Sink + Drop> Screen<W> {
     {
         let desk = Desk::new(alloc, lines, cols)?;
         let painter = Painter::new(alloc, lines, cols)?;
+        let changes = Changes::new(alloc, lines)?;
         Ok(Screen {
             desk,
             painter,
             writer,
+            changes,
         })
     }
 
@@ -95,12 +100,14 @@ impl<W: Sink + Drop> Screen<W> {
             desk,
             mut painter,
             writer: _,
+            changes,
         } = self;
         painter.invalidate();
         Screen {
             desk,
             painter,
             writer,
+            changes,
         }
     }
 }
@@ -114,6 +121,7 @@ impl<W> Screen<W> {
             desk: _,
             painter: _,
             writer,
+            changes: _,
         } = self;
         writer
     }
@@ -180,6 +188,7 @@ impl<W: Sink> Screen<W> {
         ensures failures { (W.seen self.new.writer).failures ≡ counted (is_some (cut_of result)) (W.seen self.old.writer).failures }
         ensures same { W.name self.new.writer ≡ W.name self.old.writer }
     {
+        widen_for(&mut self.changes, &self.desk, call);
         Ok(self.desk.call(call)?)
     }
 
@@ -194,10 +203,11 @@ impl<W: Sink> Screen<W> {
         let picture = self.desk.virtual_screen();
         match self
             .painter
-            .doupdate(picture, cursor, clear, &mut self.writer)
+            .doupdate_changes(picture, cursor, clear, &self.changes, &mut self.writer)
         {
             Ok(sent) => {
                 self.desk.clear_done();
+                self.changes.clear();
                 Ok(Reply::Sent(sent))
             }
             Err(fault) => Err(Fault::Write(fault)),

@@ -8,3 +8,7 @@ pub mod Pages
 pub mod Holding
 pub mod Updating
 pub mod Repair
+pub mod Changed
+pub mod LineParts
+pub mod Alike
+pub mod Copying

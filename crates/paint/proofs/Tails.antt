@@ -17,6 +17,18 @@ kept-later f n m items h kept =
     let whole : drop (m - n) (drop n items) ≡ drop m items = drop-drop (m - n) n items ∙ ap (λ i. drop i items) split in
     rw (← whole) (kept-drop f (m - n) (drop n items) kept)
 
+get_or-map : {A : Type 0} (f : A → A) (other : A) → f other ≡ other → (items : List A) (n : ℕ) → get_or (map f items) n other ≡ f (get_or items n other)
+get_or-map f other is [] n = sym is
+get_or-map f other is (item ∷ items) zero = refl
+get_or-map f other is (item ∷ items) (suc n) = get_or-map f other is items n
+
+-- what is kept from one item on is kept at each later one
+pub kept-at : {A : Type 0} (f : A → A) (other : A) → f other ≡ other → (x y : ℕ) (items : List A) → x ≤ y → map f (drop x items) ≡ drop x items → f (get_or items y other) ≡ get_or items y other
+kept-at f other is x y items ordered kept =
+    let split : x + (y - x) ≡ y = omega arith in
+    let at : get_or (drop x items) (y - x) other ≡ get_or items y other = get_or-drop x items (y - x) other ∙ ap (λ n. get_or items n other) split in
+    ap f (sym at) ∙ sym (get_or-map f other is (drop x items) (y - x)) ∙ ap (λ l. get_or l (y - x) other) kept ∙ at
+
 pub differs-later : (n x : ℕ) (old new : List Shown) → DiffersAt (drop n old) (drop n new) x → DiffersAt old new (n + x)
 differs-later n x old new h = record {
   inside = omega (arith, h.inside, length-drop n old);

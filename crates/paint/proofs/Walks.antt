@@ -276,8 +276,13 @@ picture_bytes-later y z old new before =
     let less : picture_bytes (drop (z - y) (drop y old)) (drop (z - y) (drop y new)) ≤ picture_bytes (drop y old) (drop y new) = picture_bytes-drop (z - y) (drop y old) (drop y new) in
     subst (λ n. n ≤ picture_bytes (drop y old) (drop y new)) (λ i. picture_bytes (one i) (other i)) less
 
-pub picture-begun : (seen : Seen) (pen : Pen) (shown wanted : Picture) → IsPicturePainted seen seen pen pen 0 shown wanted
-picture-begun seen pen shown wanted = record { spent = 0; within = omega arith; strokes = Strokes-nothing seen pen shown; columns = refl }
+pub picture-begun : (seen : Seen) (pen : Pen) (line : ℕ) (shown wanted : Picture) → take line shown ≡ take line wanted → IsPicturePainted seen seen pen pen line shown wanted
+picture-begun seen pen line shown wanted front = record {
+  spent = 0;
+  within = omega (arith, picture_bytes-drop line shown wanted);
+  strokes = subst (Strokes 0 seen seen pen pen shown) (sym (mixed-front line wanted shown front)) (Strokes-nothing seen pen shown);
+  columns = refl;
+}
 
 pub picture-drawn : {before mid now : Seen} {old pen next : Pen} {line : ℕ} {shown wanted : Picture} → length shown ≡ length wanted → line < length shown
     → IsPicturePainted before mid old pen line shown wanted
@@ -296,6 +301,14 @@ picture-drawn {before} {mid} {now} {old} {pen} {next} {line} {shown} {wanted} sa
       strokes = Strokes-then h.strokes (subst (Strokes (line_bytes (line_of shown line) (line_of wanted line)) mid now pen next picture) (mixed-more [] line wanted shown inside same) drawn);
       columns = columns ∙ h.columns;
     }
+
+-- a line that is the wanted one is left
+pub picture-kept : {before now : Seen} {old pen : Pen} {line : ℕ} {shown wanted : Picture} → length shown ≡ length wanted → line < length shown
+    → IsPicturePainted before now old pen line shown wanted → line_of shown line ≡ line_of wanted line → IsPicturePainted before now old pen (line + 1) shown wanted
+picture-kept {now} {pen} {line} {shown} {wanted} same inside h alike =
+    picture-drawn same inside h
+    (λ picture high is. Strokes-more (subst (Strokes 0 now now pen pen picture) (sym (same-line picture line (line_of wanted line) (is ∙ alike))) (Strokes-nothing now pen picture)) (omega arith))
+    refl
 
 pub picture-painted : {before now : Seen} {old pen : Pen} {line : ℕ} {shown wanted : Picture} → IsPicturePainted before now old pen line shown wanted → drop line shown ≡ drop line wanted
     → Strokes (picture_bytes shown wanted) before now old pen shown wanted

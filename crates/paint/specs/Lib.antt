@@ -1,2 +1,3 @@
 pub mod Updates
+pub mod Changes
 pub mod steps

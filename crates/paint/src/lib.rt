@@ -1,6 +1,7 @@
 //! Sends pictures to a terminal.
 #![tactic(auto)]
 
+mod changes;
 mod gap;
 pub mod laws;
 mod line;
@@ -10,5 +11,6 @@ mod painter;
 mod pen;
 mod tail;
 
+pub use changes::{Changes, Stretch};
 pub use painter::Painter;
 pub use streams::{Counted, Sent, Sink, WriteFault};

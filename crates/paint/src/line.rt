@@ -9,35 +9,43 @@ ghost use Rattle.paint.specs.steps.Walks.{IsLinePainted, IsReadyToErase};
 
 use crate::gap::approach;
 use crate::pen::Pen;
-use crate::tail::{changed_end, changed_from, erased_from, is_erased, tail_start};
-use cell::{LARGEST_SCREEN, Rendition, Shown, first_diff, last_diff};
+use crate::tail::{
+    changed_end, changed_tail, erased_from, first_changed, is_erased, last_changed, tail_start,
+};
+use cell::{LARGEST_SCREEN, Rendition, Shown};
 use streams::Sink;
 
-/// Draws a wanted line over the one that is shown. Its blank end is erased, where that takes fewer bytes.
+/// Draws a wanted line over the one that is shown, from which it may differ from column `start` on, up to `end`, only. Its blank end is
+/// erased, where that takes fewer bytes.
 pub fn paint_line<W: Sink>(
     pen: &mut Pen,
     sink: &mut W,
     line: u16,
     shown: &[Shown],
     wanted: &[Shown],
+    start: usize,
+    end: usize,
 )
     requires line { line < LARGEST_SCREEN }
     requires columns { pen.old.columns ≤ LARGEST_SCREEN }
     requires shown { length shown.now ≡ pen.old.columns }
     requires wanted { length wanted.now ≡ pen.old.columns }
+    requires ordered { start ≤ end }
+    requires inside { end ≤ length wanted.now }
+    requires before { take start shown.now ≡ take start wanted.now }
+    requires after { drop end shown.now ≡ drop end wanted.now }
     ensures strokes { (picture : Picture) → line < length picture → line_of picture line ≡ shown.now
         → Strokes (line_bytes shown.now wanted.now) (W.seen sink.old) (W.seen sink.new) pen.old pen.new picture (slice_set picture line wanted.now) }
     ensures columns { pen.new.columns ≡ pen.old.columns }
     ensures same { W.name sink.new ≡ W.name sink.old }
 {
-    let Some(first) = first_diff(shown, wanted) else {
+    let Some(first) = first_changed(shown, wanted, start, end) else {
         return;
     };
-    let Some(last) = last_diff(shown, wanted) else {
+    let Some(last) = last_changed(shown, wanted, start, end) else {
         return;
     };
-    let tail = tail_start(wanted);
-    let Some(column) = changed_from(shown, wanted, tail.max(first)) else {
+    let Some((tail, column)) = changed_tail(shown, wanted, first, last) else {
         paint_cells(pen, sink, line, shown, wanted, first, first, last + 1);
         return;
     };
@@ -79,7 +87,7 @@ pub fn paint_last_line<W: Sink>(
             Some(from)
         }
         None => {
-            paint_line(pen, sink, line, shown, wanted);
+            paint_line(pen, sink, line, shown, wanted, 0, wanted.len());
             let column = pen.stands_in(line, tail, wanted.len())?;
             pen.select(sink, Rendition::NONE);
             Some(column)

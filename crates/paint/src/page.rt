@@ -1,40 +1,49 @@
 //! The walk over the lines of a picture.
 
-ghost use Rattle.std.specs.Prelude.{◌≡◌, ◌≢◌, ℕ, ◌-◌, ◌<◌, ◌≤◌, drop, length, map};
+ghost use Rattle.std.specs.Prelude.{◌≡◌, ◌≢◌, ℕ, ◌-◌, ◌<◌, ◌≤◌, drop, length, map, min};
 ghost use Rattle.cell.specs.Pictures.{HasSize, line_of};
 ghost use Rattle.ecma.specs.Terminals.{blanked};
+ghost use Rattle.paint.specs.Changes.{DifferOnly, no_stretch, stretch_of};
 ghost use Rattle.paint.specs.steps.Strokes.{Strokes, picture_bytes};
 
+use crate::changes::Changes;
 use crate::line::{paint_last_line, paint_line};
 use crate::pen::Pen;
-use crate::tail::tail_start;
-use cell::{Grid, LARGEST_SCREEN, Shown, first_diff};
+use crate::tail::{first_changed, tail_start};
+use cell::{Grid, LARGEST_SCREEN, Shown};
 use streams::Sink;
 
-/// Draws the wanted picture over the one that is shown, of which there are so many lines. Where the page's end is blank and more
-/// than one line of it is changed, or the pen stands in it, it is erased.
+/// Draws the wanted picture over the one that is shown, of which there are so many lines, and which may differ from it in some columns
+/// only. Where the page's end is blank and more than one line of it is changed, or the pen stands in it, it is erased.
 pub fn paint_picture<W: Sink>(
     pen: &mut Pen,
     sink: &mut W,
     lines: u16,
     shown: &Grid<Shown>,
     wanted: &Grid<Shown>,
+    changes: &Changes,
 )
     requires few_lines { lines ≤ LARGEST_SCREEN }
     requires few_columns { pen.old.columns ≤ LARGEST_SCREEN }
     requires shown { HasSize lines pen.old.columns shown.now }
     requires wanted { HasSize lines pen.old.columns wanted.now }
+    requires height { length changes.now ≡ lines }
+    requires changes { DifferOnly changes.now shown.now wanted.now }
     ensures strokes { Strokes (picture_bytes shown.now wanted.now) (W.seen sink.old) (W.seen sink.new) pen.old pen.new shown.now wanted.now }
     ensures same { W.name sink.new ≡ W.name sink.old }
 {
-    let blank = blank_lines(wanted, lines);
-    let changed = changed_lines(shown, wanted, lines);
-    for line in 0..changed {
+    let changed = changed_lines(shown, wanted, pen.columns(), changes);
+    let blank = page_end(wanted, lines, changed);
+    for line in first_line(pen, changes, blank)..changed {
+        let (start, end) = changes.within(line, pen.columns());
+        if start == end && pen.line() != Some(line) {
+            continue;
+        }
         let at = usize::from(line);
         let old = shown.row(at);
         let new = wanted.row(at);
         if line + 1 < blank || line + 1 == changed {
-            paint_line(pen, sink, line, old, new);
+            paint_line(pen, sink, line, old, new, start, end);
             continue;
         }
         if let Some(column) = paint_last_line(pen, sink, line, old, new) {
@@ -42,6 +51,30 @@ pub fn paint_picture<W: Sink>(
             return;
         }
     }
+}
+
+/// The first line to look at: the first that may differ, or the pen's, where that comes before and all below it is blank.
+fn first_line(pen: &Pen, changes: &Changes, blank: u16) -> u16
+    ensures { (y : ℕ) → y < result → stretch_of changes.now y ≡ no_stretch }
+{
+    let first = changes.lines().start;
+    match pen.line() {
+        Some(line) if blank <= line.saturating_add(1) => first.min(line),
+        _ => first,
+    }
+}
+
+/// The line from which on all are blank, where the last changed one is blank. Else, and where none is changed, the number of lines.
+fn page_end(picture: &Grid<Shown>, lines: u16, changed: u16) -> u16
+    requires height { length picture.now ≡ lines }
+    requires changed { changed ≤ lines }
+    ensures blank { map blanked (drop result picture.now) ≡ drop result picture.now }
+    ensures first { let end = min result changed in 0 < end → map blanked (drop (end - 1) picture.now) ≢ drop (end - 1) picture.now }
+{
+    if changed == 0 || tail_start(picture.row(usize::from(changed - 1))) > 0 {
+        return lines;
+    }
+    blank_lines(picture, lines)
 }
 
 /// The line from which on all are blank.
@@ -60,22 +93,29 @@ fn blank_lines(picture: &Grid<Shown>, lines: u16) -> u16
     start
 }
 
-/// The line from which on none is changed.
-fn changed_lines(shown: &Grid<Shown>, wanted: &Grid<Shown>, lines: u16) -> u16
-    requires shown { length shown.now ≡ lines }
-    requires wanted { length wanted.now ≡ lines }
-    requires columns { (y : ℕ) → y < lines → length (line_of shown.now y) ≡ length (line_of wanted.now y) }
-    ensures within { result ≤ lines }
+/// The line from which on none is changed, of two pictures that may differ in some columns only.
+fn changed_lines(
+    shown: &Grid<Shown>,
+    wanted: &Grid<Shown>,
+    columns: usize,
+    changes: &Changes,
+) -> u16
+    requires shown { HasSize (length changes.now) columns shown.now }
+    requires wanted { HasSize (length changes.now) columns wanted.now }
+    requires changes { DifferOnly changes.now shown.now wanted.now }
+    ensures within { result ≤ length changes.now }
     ensures kept { drop result shown.now ≡ drop result wanted.now }
     ensures changed { 0 < result → line_of shown.now (result - 1) ≢ line_of wanted.now (result - 1) }
 {
-    let mut end = lines;
-    while end > 0 {
+    let lines = changes.lines();
+    let mut end = lines.end;
+    while end > lines.start {
         let at = usize::from(end - 1);
-        if first_diff(shown.row(at), wanted.row(at)).is_some() {
+        let (from, to) = changes.within(end - 1, columns);
+        if first_changed(shown.row(at), wanted.row(at), from, to).is_some() {
             return end;
         }
         end -= 1;
     }
-    end
+    0
 }

@@ -1,14 +1,17 @@
 //! A painter: it sends pictures to terminals of one size.
 
-ghost use Rattle.std.specs.Prelude.{◌≡◌, ℕ, ◌<◌, ◌↔◌, ◌⊎◌, ◌||◌, Bool, IfOk, IfErr, IsErrOf, IsTrue, MatchResult, Some, None, is_ok, if◌then◌else◌};
+ghost use Rattle.std.specs.Prelude.{◌≡◌, ℕ, ◌<◌, ◌≤◌, ◌↔◌, ⊤, MatchOption, length, ◌⊎◌, ◌||◌, Bool, IfOk, IfErr, IsErrOf, IsTrue, MatchResult, Some, None, is_ok, if◌then◌else◌};
 ghost use Rattle.cell.specs.Pictures.{HasSize};
 ghost use Rattle.cell.specs.Limits.{is_no_size};
+ghost use Rattle.cell.specs.declared.limits.TheConstants.{LARGEST_SCREEN};
 ghost use Rattle.cell.specs.Shown.{no_rendition};
 ghost use Rattle.streams.specs.Sinks.{Seen};
-ghost use Rattle.paint.specs.Updates.{PainterState, ShownPicture, first_painter, opening_from, start_from, Updates, BreaksOff};
+ghost use Rattle.paint.specs.Changes.{DifferOnly};
+ghost use Rattle.paint.specs.Updates.{PainterState, ShownPicture, first_painter, known as known_to, opening_from, start_from, Updates, BreaksOff};
 ghost use Rattle.paint.specs.steps.Gathering.{IsGathered};
 ghost use Rattle.paint.specs.steps.Holding.{HoldsUpdate, last_shown};
 
+use crate::changes::Changes;
 use crate::page::paint_picture;
 use crate::pen::Pen;
 use cell::{Grid, LARGEST_SCREEN, Refusal, Shown, is_no_size};
@@ -24,6 +27,8 @@ pub struct Painter {
     picture: Grid<Shown>,
     // The line and column where the cursor was put with the picture, and none where what was shown last is unknown.
     cursor: Option<(u16, u16)>,
+    // All columns of all lines: those of a picture of which nothing is said.
+    whole: Changes,
 }
 
 impl Model for Painter {
@@ -31,13 +36,14 @@ impl Model for Painter {
     ghost use Rattle.std.specs.Prelude.{◌≤◌};
     ghost use Rattle.cell.specs.Pictures.{HasSize};
     ghost use Rattle.cell.specs.declared.limits.TheConstants.{LARGEST_SCREEN};
+    ghost use Rattle.paint.specs.Changes.{IsWhole};
     ghost use Rattle.paint.specs.Updates.{PainterState};
 
     ghost Value = { PainterState };
 
     ghost view = { λ p. record { lines = p.lines; columns = p.columns; last = option_map (λ cursor. record { picture = p.picture; cursor = cursor }) p.cursor } };
 
-    ghost invariant = { λ p. (p.lines ≤ LARGEST_SCREEN) × (p.columns ≤ LARGEST_SCREEN) × HasSize p.lines p.columns p.picture };
+    ghost invariant = { λ p. (p.lines ≤ LARGEST_SCREEN) × (p.columns ≤ LARGEST_SCREEN) × HasSize p.lines p.columns p.picture × IsWhole p.lines p.columns p.whole };
 }
 
 impl Painter {
@@ -51,15 +57,15 @@ impl Painter {
         if is_no_size(LARGEST_SCREEN, lines) || is_no_size(LARGEST_SCREEN, columns) {
             return Err(Refusal::BadSize);
         }
-        match Grid::new(alloc, lines, columns) {
-            Ok(picture) => Ok(Painter {
-                lines,
-                columns,
-                picture,
-                cursor: None,
-            }),
-            Err(_) => Err(Refusal::NoMemory),
-        }
+        let picture = Grid::new(alloc, lines, columns)?;
+        let whole = Changes::whole(alloc, lines, columns)?;
+        Ok(Painter {
+            lines,
+            columns,
+            picture,
+            cursor: None,
+            whole,
+        })
     }
 
     /// What it showed last is unknown from now on, as where its terminals are others.
@@ -89,34 +95,108 @@ impl Painter {
         ensures painter { self.new ≡ record self.old { last = (if is_ok result then Some (record { picture = picture.now; cursor = cursor }) else None) } }
         ensures same { W.name sink.new ≡ W.name sink.old }
     {
-        let pen = self.draw(picture, cursor, clear, sink);
+        let known = known_cursor(self.cursor, clear);
+        self.cursor = None;
+        let pen = draw(
+            sink,
+            (self.lines, self.columns),
+            known,
+            &mut self.picture,
+            picture,
+            cursor,
+            &self.whole,
+        );
         let sent = send_text(pen, sink)?;
         self.picture.copy_from(picture);
         self.cursor = Some(cursor);
         Ok(sent)
     }
 
-    /// Draws what differs from what is known to be shown, which is forgotten, or from a blank picture behind the opening.
-    fn draw<W: Sink>(
+    /// The same, of a picture that differs from the one that was shown last in some columns only, where that is known. It looks at these
+    /// columns alone, unless it clears.
+    pub fn doupdate_changes<W: Sink>(
         &mut self,
         picture: &Grid<Shown>,
         cursor: (u16, u16),
         clear: bool,
+        changes: &Changes,
         sink: &mut W,
-    ) -> Pen
+    ) -> Result<Sent, WriteFault>
         requires size { HasSize self.old.lines self.old.columns picture.now }
         requires line { cursor.0 < self.old.lines }
         requires column { cursor.1 < self.old.columns }
-        ensures holds { HoldsUpdate self.old clear (record { picture = picture.now; cursor = cursor }) (W.seen sink.old) (W.seen sink.new) result.outbox }
-        ensures painter { self.new ≡ record self.old { last = None } }
+        requires height { length changes.now ≡ self.old.lines }
+        requires changes { MatchOption self.old.last ⊤ (λ shown. DifferOnly changes.now shown.picture picture.now) }
+        ensures text { MatchResult result
+            (λ sent. Updates self.old clear (W.seen sink.old) (W.seen sink.new) (record { picture = picture.now; cursor = cursor }) sent.bytes)
+            (λ fault. BreaksOff self.old clear (W.seen sink.old) (W.seen sink.new) (record { picture = picture.now; cursor = cursor }) fault.sent) }
+        ensures painter { self.new ≡ record self.old { last = (if is_ok result then Some (record { picture = picture.now; cursor = cursor }) else None) } }
         ensures same { W.name sink.new ≡ W.name sink.old }
     {
-        let known = known_cursor(self.cursor, clear);
+        if clear || self.cursor.is_none() {
+            return self.doupdate(picture, cursor, clear, sink);
+        }
+        let known = self.cursor;
         self.cursor = None;
-        let mut pen = begin(sink, self.columns, known, &mut self.picture);
-        paint_picture(&mut pen, sink, self.lines, &self.picture, picture);
-        pen.end(sink, cursor);
-        pen
+        let pen = draw(
+            sink,
+            (self.lines, self.columns),
+            known,
+            &mut self.picture,
+            picture,
+            cursor,
+            changes,
+        );
+        let sent = send_text(pen, sink)?;
+        copy_changes(&mut self.picture, picture, self.columns, changes);
+        self.cursor = Some(cursor);
+        Ok(sent)
+    }
+}
+
+/// Draws what differs from what is known to be shown, or from a blank picture behind the opening. It may differ in some columns only.
+fn draw<W: Sink>(
+    sink: &mut W,
+    size: (u16, u16),
+    known: Option<(u16, u16)>,
+    shown: &mut Grid<Shown>,
+    picture: &Grid<Shown>,
+    cursor: (u16, u16),
+    changes: &Changes,
+) -> Pen
+    requires lines { size.0 ≤ LARGEST_SCREEN }
+    requires columns { size.1 ≤ LARGEST_SCREEN }
+    requires shown { HasSize size.0 size.1 shown.old }
+    requires wanted { HasSize size.0 size.1 picture.now }
+    requires line { cursor.0 < size.0 }
+    requires column { cursor.1 < size.1 }
+    requires height { length changes.now ≡ size.0 }
+    requires changes { DifferOnly changes.now (start_from (first_painter size.0 size.1) (last_shown shown.old known)).picture picture.now }
+    ensures holds { (painter : PainterState) (clear : Bool) → painter.lines ≡ size.0 → painter.columns ≡ size.1 → last_shown shown.old known ≡ known_to painter clear
+        → HoldsUpdate painter clear (record { picture = picture.now; cursor = cursor }) (W.seen sink.old) (W.seen sink.new) result.outbox }
+    ensures shown { shown.new ≡ (start_from (first_painter size.0 size.1) (last_shown shown.old known)).picture }
+    ensures size { HasSize size.0 size.1 shown.new }
+    ensures same { W.name sink.new ≡ W.name sink.old }
+{
+    let (lines, columns) = size;
+    let mut pen = begin(sink, columns, known, shown);
+    paint_picture(&mut pen, sink, lines, shown, picture, changes);
+    pen.end(sink, cursor);
+    pen
+}
+
+/// Takes over the columns of a picture, of lines of so many, in which it may differ from another.
+fn copy_changes(shown: &mut Grid<Shown>, wanted: &Grid<Shown>, columns: u16, changes: &Changes)
+    requires shown { HasSize (length changes.now) columns shown.old }
+    requires wanted { HasSize (length changes.now) columns wanted.now }
+    requires changes { DifferOnly changes.now shown.old wanted.now }
+    ensures { shown.new ≡ wanted.now }
+{
+    let lines = changes.lines();
+    for y in lines.start..lines.end {
+        let at = usize::from(y);
+        let (start, end) = changes.within(y, usize::from(columns));
+        shown.put_cells(at, start, &wanted.row(at)[start..end]);
     }
 }
 

@@ -1,6 +1,7 @@
 //! A pen: it knows where a terminal's cursor is and how the terminal prints, and draws there by strokes.
 
 ghost use Rattle.std.specs.Prelude.{◌≡◌, ◌+◌, ◌<◌, ◌≤◌, ⊤, MatchOption, ◌++◌, ◌∷◌, [], ℕ, List, length, Some, ◌^◌};
+ghost use Rattle.std.specs.Option.{option_map};
 ghost use Rattle.cell.specs.Shown.{no_rendition};
 ghost use Rattle.cell.specs.Pictures.{Picture, line_of, origin, with_shown};
 ghost use Rattle.ecma.specs.Spelling.{spelling, IsToken};
@@ -93,6 +94,21 @@ impl Pen {
         prove!(rendition.is_sound());
         self.put(sink, Token::Sgr(rendition));
         self.rendition = rendition;
+    }
+
+    /// How many columns its terminals have.
+    pub fn columns(&self) -> usize
+        ensures { result ≡ self.now.columns }
+    {
+        usize::from(self.columns)
+    }
+
+    /// The line of the cursor, where that is known.
+    pub fn line(&self) -> Option<u16>
+        ensures { result ≡ option_map (λ place. place.0) self.now.cursor }
+    {
+        let (line, _) = self.cursor?;
+        Some(line)
     }
 
     /// Whether the cursor is known to be at a place.

@@ -1,13 +1,14 @@
 //! The blank end of a line, which one erasure draws.
 
-ghost use Rattle.std.specs.Prelude.{◌≡◌, ◌≢◌, ◌+◌, ◌-◌, ◌<◌, ◌≤◌, if◌then◌else◌, drop, length, nat_lt, slice_index_or};
+ghost use Rattle.std.specs.Prelude.{◌≡◌, ◌≢◌, ◌+◌, ◌-◌, ◌<◌, ◌≤◌, if◌then◌else◌, drop, length, nat_lt, slice_index_or, take};
+ghost use Rattle.cell.specs.Differences.{DiffersAt, IsFirstDifference, IsLastDifference};
 ghost use Rattle.cell.specs.Shown.{shown_blank};
 ghost use Rattle.paint.specs.steps.Strokes.{reach_bytes};
-ghost use Rattle.paint.specs.steps.Walks.{AreBlank, IsChangedEnd, IsChangedFrom};
+ghost use Rattle.paint.specs.steps.Walks.{AreBlank, IsChangedEnd, IsChangedFrom, IsChangedTail};
 
 use crate::gap::approach_length;
 use crate::pen::Pen;
-use cell::{LARGEST_SCREEN, Rendition, Shown, first_diff};
+use cell::{LARGEST_SCREEN, Rendition, Shown, first_diff, last_diff};
 
 /// How many bytes it takes to erase the end of a line.
 const ERASURE: usize = 3;
@@ -91,6 +92,55 @@ fn reach_length(pen: &Pen, line: u16, wanted: &[Shown], gap: usize, column: usiz
         &wanted[start..column],
         Rendition::NONE,
     )
+}
+
+/// The first changed column of a line that may be changed in some columns only.
+pub fn first_changed(shown: &[Shown], wanted: &[Shown], start: usize, end: usize) -> Option<usize>
+    requires same { length shown.now ≡ length wanted.now }
+    requires ordered { start ≤ end }
+    requires inside { end ≤ length wanted.now }
+    requires before { take start shown.now ≡ take start wanted.now }
+    requires after { drop end shown.now ≡ drop end wanted.now }
+    ensures { IsFirstDifference shown.now wanted.now result }
+{
+    let skipped = first_diff(&shown[start..end], &wanted[start..end])?;
+    Some(start + skipped)
+}
+
+/// The last changed column of a line that may be changed in some columns only.
+pub fn last_changed(shown: &[Shown], wanted: &[Shown], start: usize, end: usize) -> Option<usize>
+    requires same { length shown.now ≡ length wanted.now }
+    requires ordered { start ≤ end }
+    requires inside { end ≤ length wanted.now }
+    requires before { take start shown.now ≡ take start wanted.now }
+    requires after { drop end shown.now ≡ drop end wanted.now }
+    ensures { IsLastDifference shown.now wanted.now result }
+{
+    let skipped = last_diff(&shown[start..end], &wanted[start..end])?;
+    Some(start + skipped)
+}
+
+/// Where the blank end of a line begins, and its first changed column, where the line's last changed one is in it.
+pub fn changed_tail(
+    shown: &[Shown],
+    wanted: &[Shown],
+    first: usize,
+    last: usize,
+) -> Option<(usize, usize)>
+    requires same { length shown.now ≡ length wanted.now }
+    requires ordered { first ≤ last }
+    requires last { DiffersAt shown.now wanted.now last }
+    ensures { IsChangedTail shown.now wanted.now first last result }
+{
+    if wanted[last] != Shown::BLANK {
+        return None;
+    }
+    let tail = tail_start(wanted);
+    if tail > last {
+        return None;
+    }
+    let column = changed_from(shown, wanted, tail.max(first))?;
+    Some((tail, column))
 }
 
 /// The first changed column of a line from one on.

@@ -1,10 +1,12 @@
 -- How far a pen has come in a line, and in a picture.
-use Rattle.std.specs.Prelude.{◌≡◌, ℕ, ◌+◌, ◌<◌, ◌≤◌, List, ◌++◌, length, map, take, drop, slice_set, Option, Some, None, ⊤}
+use Rattle.std.specs.Prelude.{◌≡◌, ℕ, ◌+◌, ◌<◌, ◌≤◌, false, List, ◌++◌, length, map, take, drop, slice_set, Option, Some, None, ⊤}
 use Rattle.cell.specs.Shown.{Shown, no_rendition, shown_blank}
 use Rattle.cell.specs.Pictures.{Picture, line_of}
 use Rattle.cell.specs.Differences.{DiffersAt}
 use Rattle.streams.specs.Sinks.{Seen}
 use Rattle.paint.specs.declared.pen.Pen.{Pen}
+use Rattle.paint.specs.declared.changes.Stretch.{Stretch}
+use Rattle.paint.specs.Changes.{is_in}
 use Rattle.paint.specs.steps.Strokes.{Strokes, line_bytes, picture_bytes}
 
 -- a list whose first items are those of another one
@@ -50,8 +52,21 @@ abbrev pub IsChangedFrom : List Shown → List Shown → ℕ → Option ℕ → 
 IsChangedFrom shown wanted start None = drop start shown ≡ drop start wanted
 IsChangedFrom shown wanted start (Some column) = (start ≤ column) × DiffersAt shown wanted column
 
+-- Where a line's blank end begins, and the first changed column of it, if the last changed one of the line is in it.
+abbrev pub IsChangedTail : List Shown → List Shown → ℕ → ℕ → Option (ℕ × ℕ) → Type 0
+IsChangedTail shown wanted first last None = AreBlank (drop last wanted) → ⊥
+IsChangedTail shown wanted first last (Some columns) =
+    AreBlank (drop columns.0 wanted) × (columns.0 ≤ columns.1) × (first ≤ columns.1) × DiffersAt shown wanted columns.1
+
 -- a column before which nothing is changed, and a changed one of the line's end from it on
 abbrev pub IsChangedEnd : List Shown → List Shown → ℕ → Option (ℕ × ℕ) → Type 0
 IsChangedEnd shown wanted tail None = ⊤
 IsChangedEnd shown wanted tail (Some columns) =
     (take columns.0 shown ≡ take columns.0 wanted) × (columns.0 ≤ columns.1) × (tail ≤ columns.1) × DiffersAt shown wanted columns.1
+
+-- Some of a line's columns, from the first up to the second, which isn't one of them: no other is one of a stretch.
+pub record IsWithin (columns : ℕ) (stretch : Stretch) (part : ℕ × ℕ) : Type 0 where
+  pub ordered : part.0 ≤ part.1
+  pub inside : part.1 ≤ columns
+  pub before : (x : ℕ) → x < part.0 → is_in stretch x ≡ false
+  pub after : (x : ℕ) → part.1 ≤ x → x < columns → is_in stretch x ≡ false

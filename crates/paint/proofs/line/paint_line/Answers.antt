@@ -9,11 +9,11 @@ use Rattle.paint.proofs.line.paint_line.Goals as goal
 pub paint_cells-requires-2-clause-ordered : goal.paint_cells-requires-2-clause-ordered
 paint_cells-requires-2-clause-ordered g c =
     let same : length c.args.shown.now ≡ length c.args.wanted.now = c.requires.shown ∙ sym c.requires.wanted in
-    omega (arith, differs-before (c.in-Some-last_diff.last + 1) c.in-Some-changed_from.column c.args.shown.now c.args.wanted.now same c.in-Some-last_diff.ensures.1 c.in-Some-changed_from.ensures.1)
+    omega (arith, differs-before (c.in-Some-last_changed.last + 1) c.in-Some-changed_tail.column c.args.shown.now c.args.wanted.now same c.in-Some-last_changed.ensures.1 c.in-Some-changed_tail.ensures.3)
 
-pub returns-in_default-changed_from-clause-strokes : goal.returns-in_default-changed_from-clause-strokes
-returns-in_default-changed_from-clause-strokes g c =
-    line-painted (c.paint_cells.ensures.painted _ _ (line-begun _ _ c.args.line c.in-Some.first c.args.shown.now c.args.wanted.now c.in-Some.ensures.1)) c.in-Some-last_diff.ensures.1
+pub returns-in_default-changed_tail-clause-strokes : goal.returns-in_default-changed_tail-clause-strokes
+returns-in_default-changed_tail-clause-strokes g c =
+    line-painted (c.paint_cells.ensures.painted _ _ (line-begun _ _ c.args.line c.in-Some.first c.args.shown.now c.args.wanted.now c.in-Some.ensures.1)) c.in-Some-last_changed.ensures.1
 
 pub returns-then-is_erased-clause-strokes : goal.returns-then-is_erased-clause-strokes
 returns-then-is_erased-clause-strokes g c =
@@ -22,8 +22,8 @@ returns-then-is_erased-clause-strokes g c =
     let from = c.erased_from-from.result in
     let same : length shown ≡ length wanted = c.requires.shown ∙ sym c.requires.wanted in
     let painted = c.paint_cells-gap.ensures.painted _ _ (line-begun _ _ c.args.line c.in-Some.first shown wanted c.in-Some.ensures.1) in
-    let blank : AreBlank (drop from wanted) = kept-later (λ _. shown_blank) c.tail_start-tail.result from wanted c.erased_from-from.ensures.from c.tail_start-tail.ensures.blank in
-    let changed = c.in-Some-changed_from.ensures.1 in
+    let blank : AreBlank (drop from wanted) = kept-later (λ _. shown_blank) c.in-Some-changed_tail.tail from wanted c.erased_from-from.ensures.from c.in-Some-changed_tail.ensures.0 in
+    let changed = c.in-Some-changed_tail.ensures.3 in
     let few = reach-most c.paint_cells-gap.new.pen.cursor c.paint_cells-gap.new.pen.rendition c.args.line wanted c.paint_cells-gap.result from c.requires.line
     (omega (arith, c.erased_from-from.ensures.to, changed.inside)) (omega (arith, c.requires.wanted, c.requires.columns)) in
     line-erased same
@@ -33,4 +33,4 @@ returns-then-is_erased-clause-strokes g c =
 pub returns-clause-strokes : goal.returns-clause-strokes
 returns-clause-strokes g c =
     let begun = line-begun _ _ c.args.line c.in-Some.first c.args.shown.now c.args.wanted.now c.in-Some.ensures.1 in
-    line-painted (c.paint_cells-2.ensures.painted _ _ (c.paint_cells-gap.ensures.painted _ _ begun)) c.in-Some-last_diff.ensures.1
+    line-painted (c.paint_cells-2.ensures.painted _ _ (c.paint_cells-gap.ensures.painted _ _ begun)) c.in-Some-last_changed.ensures.1

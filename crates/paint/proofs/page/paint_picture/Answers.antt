@@ -1,11 +1,43 @@
-use Rattle.std.proofs.Common.{◌≡◌, ◌+◌, ◌-◌, ◌<◌, ◌≤◌, ◌∙◌, length, refl, sym, arith}
+use Rattle.std.proofs.Common.{◌≡◌, ◌+◌, ◌-◌, ◌<◌, ◌≤◌, ◌∙◌, length, refl, sym, subst, arith}
+use Rattle.paint.specs.Changes.{stretch_of}
+use Rattle.paint.specs.steps.Walks.{IsWithin}
+use Rattle.paint.proofs.Alike.{line-back, line-front, line-whole, lines-front}
 use Rattle.paint.proofs.Mixed.{drop-later}
 use Rattle.paint.proofs.Pages.{page-erased}
-use Rattle.paint.proofs.Walks.{picture-begun, picture-drawn, picture-painted}
+use Rattle.paint.proofs.Walks.{picture-begun, picture-drawn, picture-kept, picture-painted}
 use Rattle.paint.proofs.page.paint_picture.Goals as goal
 
 pub loop-line-init : goal.loop-line-init
-loop-line-init g c = record { painted = picture-begun _ _ c.args.shown.now c.args.wanted.now; same = refl }
+loop-line-init g c = record {
+  painted = picture-begun _ _ c.first_line-line.result c.args.shown.now c.args.wanted.now (lines-front c.requires.shown c.requires.wanted c.requires.changes c.first_line-line.result c.first_line-line.ensures);
+  same = refl;
+}
+
+pub loop-line-preserved-then-ne : goal.loop-line-preserved-then-ne
+loop-line-preserved-then-ne g c =
+    let y = c.loop-line.line in
+    let below : y < c.args.lines = omega (arith, c.loop-line-test.true, c.changed_lines-changed.ensures.within, c.requires.height) in
+    let same : length c.args.shown.now ≡ length c.args.wanted.now = c.requires.shown.height ∙ sym c.requires.wanted.height in
+    let part = subst (λ n. IsWithin n (stretch_of c.args.changes.now y) c.within-start.result) (c.columns-in-loop-line.ensures ∙ c.loop-line.invariant.painted.columns) c.within-start.ensures in
+    record {
+      painted = picture-kept same (omega (arith, c.requires.shown.height)) c.loop-line.invariant.painted
+          (line-whole c.requires.shown c.requires.wanted c.requires.changes y below part c.if-start-end.true);
+      same = c.loop-line.invariant.same;
+    }
+
+pub paint_line-requires-clause-before : goal.paint_line-requires-clause-before
+paint_line-requires-clause-before g c =
+    let y = c.loop-line.line in
+    let below : y < c.args.lines = omega (arith, c.loop-line-test.true, c.changed_lines-changed.ensures.within, c.requires.height) in
+    let part = subst (λ n. IsWithin n (stretch_of c.args.changes.now y) c.within-start.result) (c.columns-in-loop-line.ensures ∙ c.loop-line.invariant.painted.columns) c.within-start.ensures in
+    rw (c.row-old.ensures.row, c.row-new.ensures.row, c.from-at.ensures) (line-front c.requires.shown c.requires.wanted c.requires.changes y below part)
+
+pub paint_line-requires-clause-after : goal.paint_line-requires-clause-after
+paint_line-requires-clause-after g c =
+    let y = c.loop-line.line in
+    let below : y < c.args.lines = omega (arith, c.loop-line-test.true, c.changed_lines-changed.ensures.within, c.requires.height) in
+    let part = subst (λ n. IsWithin n (stretch_of c.args.changes.now y) c.within-start.result) (c.columns-in-loop-line.ensures ∙ c.loop-line.invariant.painted.columns) c.within-start.ensures in
+    rw (c.row-old.ensures.row, c.row-new.ensures.row, c.from-at.ensures) (line-back c.requires.shown c.requires.wanted c.requires.changes y below part)
 
 pub loop-line-preserved-then-line-blank : goal.loop-line-preserved-then-line-blank
 loop-line-preserved-then-line-blank g c =
@@ -33,13 +65,13 @@ pub returns-in-Some-clause-strokes : goal.returns-in-Some-clause-strokes
 returns-in-Some-clause-strokes g c =
     let y = c.loop-line.line in
     let changed = c.changed_lines-changed.result in
-    let below : c.blank_lines-blank.result ≤ y + 1 = omega arith in
+    let below : c.page_end-blank.result ≤ y + 1 = omega arith in
     let later : y < changed - 1 = omega arith in
     let inside : changed - 1 < c.args.lines = omega (arith, c.changed_lines-changed.ensures.within) in
     let shown = rw c.from-at.ensures at c.row-old.ensures.row in
     let wanted = rw c.from-at.ensures at c.row-new.ensures.row in
     let ready = rw (shown, wanted) at c.in-Some.ensures.ready in
-    page-erased c.requires.shown c.requires.wanted below c.blank_lines-blank.ensures.blank later inside (c.changed_lines-changed.ensures.changed (omega arith)) c.loop-line.invariant.painted ready c.erase_page.ensures.draws
+    page-erased c.requires.shown c.requires.wanted below c.page_end-blank.ensures.blank later inside (c.changed_lines-changed.ensures.changed (omega arith)) c.loop-line.invariant.painted ready c.erase_page.ensures.draws
 
 pub returns-clause-strokes : goal.returns-clause-strokes
 returns-clause-strokes g c =

@@ -1,0 +1,13 @@
+use Rattle.std.proofs.Common.{◌≡◌, ℕ, ◌<◌, false, length}
+use Rattle.cell.specs.Pictures.{shown_at}
+use Rattle.world.specs.World.{picture}
+use Rattle.paint.specs.Changes.{may_change}
+use Rattle.compose.specs.Desks.{world}
+use Rattle.desk.proofs.changing.widen_damaged.Given as goal
+
+abbrev pub invariant-loop-y : goal.invariant-loop-y
+invariant-loop-y l = record {
+  height : length l.changes ≡ length l.fn.changes;
+  keeps : (v u : ℕ) → may_change l.changes v u ≡ false → may_change l.fn.changes v u ≡ false;
+  shown : (v u : ℕ) → v < l.y → u < l.desk.windows.columns → may_change l.changes v u ≡ false → shown_at l.desk.virtual.picture (v, u) ≡ picture (world l.desk) v u;
+}

@@ -1,0 +1,58 @@
+-- Pictures that differ in some columns only.
+use Rattle.std.proofs.Common.{◌≡◌, ℕ, ◌+◌, ◌<◌, ◌≤◌, inr, false, List, [], ◌++◌, length, get_or, take, drop, sym, ap, ◌∙◌, arith}
+use Rattle.std.proofs.lemmas.List.{ext_get_or, get_or-drop, get_or-take, length-drop, length-take, take-append-drop}
+use Rattle.cell.specs.Pictures.{Picture, HasSize, line_of}
+use Rattle.cell.specs.Shown.{shown_blank}
+use Rattle.cell.proofs.PictureLemmas.{length-line}
+use Rattle.paint.specs.Changes.{DifferOnly, is_in, may_change, no_stretch, stretch_of}
+use Rattle.paint.specs.declared.changes.Stretch.{Stretch}
+use Rattle.paint.specs.steps.Walks.{IsWithin}
+use Rattle.paint.proofs.Changed.{is_out}
+
+-- ---- lists that have the same items in part
+
+pub take-same : {A : Type 0} (other : A) (n : ℕ) (a b : List A) → length a ≡ length b → ((k : ℕ) → k < n → k < length a → get_or a k other ≡ get_or b k other) → take n a ≡ take n b
+take-same other n a b same h =
+    ext_get_or other (take n a) (take n b) (omega (arith, same, length-take n a, length-take n b)) (λ k below.
+    let few : k < n = omega (arith, below, length-take n a) in
+    get_or-take n a k other few ∙ h k few (omega (arith, below, length-take n a)) ∙ sym (get_or-take n b k other few))
+
+pub drop-same : {A : Type 0} (other : A) (n : ℕ) (a b : List A) → length a ≡ length b → ((k : ℕ) → n ≤ k → k < length a → get_or a k other ≡ get_or b k other) → drop n a ≡ drop n b
+drop-same other n a b same h =
+    ext_get_or other (drop n a) (drop n b) (omega (arith, same, length-drop n a, length-drop n b)) (λ k below.
+    get_or-drop n a k other ∙ h (n + k) (omega arith) (omega (arith, below, length-drop n a)) ∙ sym (get_or-drop n b k other))
+
+-- ---- pictures
+
+module _ {lines columns : ℕ} {changes : List Stretch} {shown wanted : Picture} (old_size : HasSize lines columns shown) (new_size : HasSize lines columns wanted) (only : DifferOnly changes shown wanted) where
+  abbrev width : (y : ℕ) → y < lines → length (line_of shown y) ≡ columns
+  width y below = length-line y old_size below
+
+  pub same-width : (y : ℕ) → y < lines → length (line_of shown y) ≡ length (line_of wanted y)
+  same-width y below = length-line y old_size below ∙ sym (length-line y new_size below)
+
+  pub line-alike : (y : ℕ) → y < lines → ((x : ℕ) → x < columns → may_change changes y x ≡ false) → line_of shown y ≡ line_of wanted y
+  line-alike y below none =
+      ext_get_or shown_blank (line_of shown y) (line_of wanted y) (same-width y below) (λ x left. only.others y x (none x (omega (arith, left, length-line y old_size below))))
+
+  pub line-none : (y : ℕ) → y < lines → stretch_of changes y ≡ no_stretch → line_of shown y ≡ line_of wanted y
+  line-none y below none = line-alike y below (λ x left. ap (λ (s : Stretch). is_in s x) none ∙ is_out no_stretch x (inr (omega arith)))
+
+  pub line-front : (y : ℕ) {part : ℕ × ℕ} → y < lines → IsWithin columns (stretch_of changes y) part → take part.0 (line_of shown y) ≡ take part.0 (line_of wanted y)
+  line-front y below h = take-same shown_blank _ (line_of shown y) (line_of wanted y) (same-width y below) (λ x few left. only.others y x (h.before x few))
+
+  pub line-back : (y : ℕ) {part : ℕ × ℕ} → y < lines → IsWithin columns (stretch_of changes y) part → drop part.1 (line_of shown y) ≡ drop part.1 (line_of wanted y)
+  line-back y below h =
+      drop-same shown_blank _ (line_of shown y) (line_of wanted y) (same-width y below) (λ x from left. only.others y x (h.after x from (omega (arith, left, length-line y old_size below))))
+
+  pub line-whole : (y : ℕ) {part : ℕ × ℕ} → y < lines → IsWithin columns (stretch_of changes y) part → part.0 ≡ part.1 → line_of shown y ≡ line_of wanted y
+  line-whole y {part} below h none =
+      sym (take-append-drop part.1 (line_of shown y)) ∙ (λ i. front i ++ line-back y below h i) ∙ take-append-drop part.1 (line_of wanted y) where
+        front : take part.1 (line_of shown y) ≡ take part.1 (line_of wanted y)
+        front = ap (λ n. take n (line_of shown y)) (sym none) ∙ line-front y below h ∙ ap (λ n. take n (line_of wanted y)) none
+
+  pub lines-front : (n : ℕ) → ((y : ℕ) → y < n → stretch_of changes y ≡ no_stretch) → take n shown ≡ take n wanted
+  lines-front n none = take-same [] n shown wanted (old_size.height ∙ sym new_size.height) (λ y few below. line-none y (omega (arith, below, old_size.height)) (none y few))
+
+  pub lines-back : (n : ℕ) → ((y : ℕ) → n ≤ y → stretch_of changes y ≡ no_stretch) → drop n shown ≡ drop n wanted
+  lines-back n none = drop-same [] n shown wanted (old_size.height ∙ sym new_size.height) (λ y from below. line-none y (omega (arith, below, old_size.height)) (none y from))

@@ -1,0 +1,31 @@
+use Rattle.std.proofs.Common.{◌≡◌, ◌-◌, ◌++◌, inl, inr, take, sym, ◌∙◌, arith}
+use Rattle.std.proofs.lemmas.List.{take-append-drop}
+use Rattle.paint.proofs.Alike.{line-back, line-front, lines-back, lines-front}
+use Rattle.paint.proofs.Changed.{is_out}
+use Rattle.paint.proofs.page.changed_lines.Goals as goal
+
+pub loop-end-init : goal.loop-end-init
+loop-end-init c = record {
+  within = c.lines-lines.ensures.inside;
+  kept = lines-back c.requires.shown c.requires.wanted c.requires.changes c.lines-lines.result.end
+      (λ y from. c.lines-lines.ensures.others y (is_out c.lines-lines.result y (inr from)));
+}
+
+pub first_changed-requires-clause-before : goal.first_changed-requires-clause-before
+first_changed-requires-clause-before c =
+    let y = c.loop-end.end - 1 in
+    rw (c.row.ensures.row, c.row-in-loop-end.ensures.row, c.from-at.ensures) (line-front c.requires.shown c.requires.wanted c.requires.changes y (omega (arith, c.loop-end.invariant.within)) c.within-from.ensures)
+
+pub first_changed-requires-clause-after : goal.first_changed-requires-clause-after
+first_changed-requires-clause-after c =
+    let y = c.loop-end.end - 1 in
+    rw (c.row.ensures.row, c.row-in-loop-end.ensures.row, c.from-at.ensures) (line-back c.requires.shown c.requires.wanted c.requires.changes y (omega (arith, c.loop-end.invariant.within)) c.within-from.ensures)
+
+pub returns-clause-kept : goal.returns-clause-kept
+returns-clause-kept c =
+    let end = c.loop-end.end in
+    let shown = c.args.shown.now in
+    let wanted = c.args.wanted.now in
+    let front : take end shown ≡ take end wanted = lines-front c.requires.shown c.requires.wanted c.requires.changes end
+    (λ y before. c.lines-lines.ensures.others y (is_out c.lines-lines.result y (inl (omega (arith, c.loop-end-test.false))))) in
+    sym (take-append-drop end shown) ∙ (λ i. front i ++ c.loop-end.invariant.kept i) ∙ take-append-drop end wanted

@@ -1,0 +1,12 @@
+use Rattle.std.proofs.Common.{[], ◌-◌, min, refl, arith}
+use Rattle.ecma.specs.Terminals.{blanked}
+use Rattle.paint.proofs.Tails.{kept-at}
+use Rattle.paint.proofs.page.page_end.Goals as goal
+
+pub returns : goal.returns
+returns c =
+    let blank = c.blank_lines.result in
+    record {
+      blank = c.blank_lines.ensures.blank;
+      first = λ some all. c.blank_lines.ensures.first (omega arith) (kept-at blanked [] refl (min blank c.args.changed - 1) (blank - 1) c.args.picture.now (omega arith) all);
+    }

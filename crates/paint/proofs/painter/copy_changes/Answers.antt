@@ -1,0 +1,41 @@
+use Rattle.std.proofs.Common.{◌≡◌, ◌-◌, ◌<◌, take, drop, length, inl, List, ap, ◌∙◌, arith}
+use Rattle.std.proofs.lemmas.List.{length-drop, length-take-le}
+use Rattle.cell.specs.Pictures.{line_of}
+use Rattle.cell.specs.Shown.{Shown}
+use Rattle.cell.proofs.PictureLemmas.{length-line}
+use Rattle.paint.proofs.Changed.{is_out}
+use Rattle.paint.proofs.Copying.{all-copied, none-there, one-more, still-only}
+use Rattle.paint.proofs.painter.copy_changes.Goals as goal
+
+pub loop-y-init : goal.loop-y-init
+loop-y-init c = record {
+  size = c.requires.shown;
+  only = c.requires.changes;
+  done = λ v u before. none-there c.requires.changes v u (c.lines-lines.ensures.others v (is_out c.lines-lines.result v (inl before)));
+}
+
+pub loop-y-preserved : goal.loop-y-preserved
+loop-y-preserved c =
+    let h = c.loop-y.invariant in
+    let y = c.loop-y.y in
+    let part = c.within-start.result in
+    let row = c.row.result.now in
+    let piece = take (part.1 - part.0) (drop part.0 row) in
+    let below : y < length c.args.changes.now = omega (arith, c.loop-y-test.true, c.lines-lines.ensures.inside) in
+    let within = rw c.from.ensures at c.within-start.ensures in
+    let is_row : row ≡ line_of c.args.wanted.now y = c.row.ensures.row ∙ ap (line_of c.args.wanted.now) c.from-at.ensures in
+    let wide : length row ≡ c.args.columns = ap length is_row ∙ length-line y c.requires.wanted below in
+    let is = ap (λ (r : List Shown). take (part.1 - part.0) (drop part.0 r)) is_row in
+    let long : length piece ≡ part.1 - part.0 = length-take-le (part.1 - part.0) (drop part.0 row) (omega (arith, length-drop part.0 row, wide, within.inside)) in
+    let size = c.put_cells.ensures.size (length c.args.changes.now) c.args.columns h.size in
+    let put = rw c.from-at.ensures at c.put_cells.ensures.shown in
+    record {
+      size = size;
+      only = still-only h.size size c.requires.wanted h.only y below within piece is long put;
+      done = one-more h.size size c.requires.wanted h.only y below within piece is long put h.done;
+    }
+
+pub returns : goal.returns
+returns c =
+    let h = c.loop-y.invariant in
+    all-copied h.size c.requires.wanted h.only c.lines-lines.result c.lines-lines.ensures.others c.loop-y.y c.loop-y-test.false h.done

@@ -1,0 +1,11 @@
+use Rattle.std.proofs.Common.{◌≡◌, ℕ, ◌<◌, length}
+use Rattle.cell.specs.Pictures.{HasSize, shown_at}
+use Rattle.paint.specs.Changes.{DifferOnly}
+use Rattle.paint.proofs.painter.copy_changes.Given as goal
+
+abbrev pub invariant-loop-y : goal.invariant-loop-y
+invariant-loop-y l = record {
+  size : HasSize (length l.changes) l.columns l.shown;
+  only : DifferOnly l.changes l.shown l.wanted;
+  done : (v u : ℕ) → v < l.y → shown_at l.shown (v, u) ≡ shown_at l.wanted (v, u);
+}

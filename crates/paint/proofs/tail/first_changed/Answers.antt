@@ -1,0 +1,18 @@
+use Rattle.std.proofs.Common.{arith, drop, ◌-◌}
+use Rattle.std.proofs.lemmas.List.{length-take}
+use Rattle.paint.proofs.LineParts.{differs-within, front-between, same-between}
+use Rattle.paint.proofs.tail.first_changed.Goals as goal
+
+pub returns-in_err-skipped : goal.returns-in_err-skipped
+returns-in_err-skipped c =
+    rw c.from_residual.ensures (same-between c.args.start c.args.end c.args.shown.now c.args.wanted.now c.requires.ordered (omega (arith, c.requires.inside, c.requires.same)) c.requires.same c.requires.before c.requires.after c.in_err-skipped.ensures)
+
+pub returns : goal.returns
+returns c =
+    let differs = c.in_ok-skipped.ensures.0 in
+    let start = c.args.start in
+    let end = c.args.end in (
+      differs-within start (end - start) c.in_ok-skipped.skipped c.args.shown.now c.args.wanted.now differs,
+      front-between start end c.args.shown.now c.args.wanted.now c.requires.ordered (omega (arith, c.requires.inside, c.requires.same)) c.requires.same c.requires.before c.requires.after
+          c.in_ok-skipped.skipped (omega (arith, differs.inside, length-take (end - start) (drop start c.args.shown.now))) c.in_ok-skipped.ensures.1,
+    )

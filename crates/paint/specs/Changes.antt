@@ -1,0 +1,40 @@
+-- In which columns of each line a picture may differ from the one that was shown last.
+use Rattle.std.specs.Prelude.{◌≡◌, ℕ, ◌<◌, ◌≤◌, ◌&&◌, Bool, true, false, min, max, nat_le, nat_lt, List, length, slice_index_or}
+use Rattle.cell.specs.Pictures.{Picture, shown_at}
+use Rattle.cell.specs.declared.limits.TheConstants.{LARGEST_SCREEN}
+use Rattle.paint.specs.declared.changes.Stretch.{Stretch}
+
+-- no columns, as it is kept
+abbrev pub no_stretch : Stretch
+no_stretch = record { start = 65535; end = 0 }
+
+-- a column is one of them
+abbrev pub is_in : Stretch → ℕ → Bool
+is_in stretch x = nat_le stretch.start x && nat_lt x stretch.end
+
+-- the columns of both, and those between them
+abbrev pub joined : Stretch → Stretch → Stretch
+joined a b = record { start = min a.start b.start; end = max a.end b.end }
+
+-- those of a line
+abbrev pub stretch_of : List Stretch → ℕ → Stretch
+stretch_of changes y = slice_index_or changes y no_stretch
+
+-- the place is one of them
+abbrev pub may_change : List Stretch → ℕ → ℕ → Bool
+may_change changes y x = is_in (stretch_of changes y) x
+
+-- at every other place two pictures show the same
+pub record DifferOnly (changes : List Stretch) (one other : Picture) : Type 0 where
+  pub others : (y x : ℕ) → may_change changes y x ≡ false → shown_at one (y, x) ≡ shown_at other (y, x)
+
+-- every place of a screen is one of them
+pub record IsWhole (lines columns : ℕ) (changes : List Stretch) : Type 0 where
+  pub height : length changes ≡ lines
+  pub all : (y x : ℕ) → y < lines → x < columns → may_change changes y x ≡ true
+
+-- only some lines have any, and there are no more lines than a screen has
+pub record AreChanges (lines : Stretch) (changes : List Stretch) : Type 0 where
+  pub few : length changes ≤ LARGEST_SCREEN
+  pub inside : lines.end ≤ length changes
+  pub others : (y : ℕ) → is_in lines y ≡ false → stretch_of changes y ≡ no_stretch

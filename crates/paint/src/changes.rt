@@ -1,0 +1,137 @@
+//! The columns of each line in which a picture may differ from the one that was shown last.
+
+ghost use Rattle.std.specs.Prelude.{◌≡◌, ℕ, ◌<◌, ◌≤◌, IfOk, false, length, replicate, slice_set};
+ghost use Rattle.cell.specs.declared.limits.TheConstants.{LARGEST_SCREEN};
+ghost use Rattle.paint.specs.Changes.{is_in, joined, may_change, no_stretch, stretch_of};
+ghost use Rattle.paint.specs.steps.Walks.{IsWithin};
+
+use std::alloc::{AllocError, Global};
+use std::marker::Model;
+
+/// Columns of a line, or lines of a screen, from `start` up to `end`, which isn't one of them. Where `end` isn't past `start` there are none.
+#[derive(Clone, Copy, PartialEq, Eq, Debug)]
+pub struct Stretch {
+    pub start: u16,
+    pub end: u16,
+}
+
+impl Stretch {
+    /// None at all.
+    pub const NONE: Stretch = Stretch {
+        start: u16::MAX,
+        end: 0,
+    };
+
+    /// Those of both, and those between them.
+    fn join(self, other: Stretch) -> Stretch
+        ensures { result ≡ joined self other }
+    {
+        Stretch {
+            start: self.start.min(other.start),
+            end: self.end.max(other.end),
+        }
+    }
+}
+
+/// Of each line of a screen the columns in which a picture may differ from the one that was shown last.
+#[derive(Drop)]
+pub struct Changes {
+    stretches: Vec<Stretch>,
+    // No other line has any.
+    lines: Stretch,
+}
+
+impl Model for Changes {
+    ghost use Rattle.std.specs.Prelude.{List};
+    ghost use Rattle.paint.specs.Changes.{AreChanges};
+    ghost use Rattle.paint.specs.declared.changes.Stretch.{Stretch};
+
+    ghost Value = { List Stretch };
+
+    ghost view = { λ changes. changes.stretches.items };
+
+    ghost invariant = { λ changes. AreChanges changes.lines changes.stretches.items };
+}
+
+impl Changes {
+    /// So many lines, of which none has such columns.
+    pub fn new(alloc: Global, lines: u16) -> Result<Changes, AllocError>
+        requires { lines ≤ LARGEST_SCREEN }
+        ensures { IfOk result (λ changes. changes ≡ replicate lines no_stretch) }
+    {
+        Ok(Changes {
+            stretches: vec![in alloc; Stretch::NONE; usize::from(lines)]?,
+            lines: Stretch::NONE,
+        })
+    }
+
+    /// So many lines, of which each has so many such columns.
+    pub fn whole(alloc: Global, lines: u16, columns: u16) -> Result<Changes, AllocError>
+        requires { lines ≤ LARGEST_SCREEN }
+        ensures { IfOk result (λ changes. changes ≡ replicate lines (record { start = 0; end = columns })) }
+    {
+        let each = Stretch {
+            start: 0,
+            end: columns,
+        };
+        Ok(Changes {
+            stretches: vec![in alloc; each; usize::from(lines)]?,
+            lines: Stretch {
+                start: 0,
+                end: lines,
+            },
+        })
+    }
+
+    /// Those of a line.
+    pub fn line(&self, y: u16) -> Stretch
+        requires { y < length self.now }
+        ensures { result ≡ stretch_of self.now y }
+    {
+        self.stretches[usize::from(y)]
+    }
+
+    /// Lines among which are all that have any.
+    pub fn lines(&self) -> Stretch
+        ensures inside { result.end ≤ length self.now }
+        ensures others { (y : ℕ) → is_in result y ≡ false → stretch_of self.now y ≡ no_stretch }
+    {
+        self.lines
+    }
+
+    /// Those of a line of so many columns, from one up to another, which isn't one of them.
+    pub fn within(&self, y: u16, columns: usize) -> (usize, usize)
+        requires { y < length self.now }
+        ensures { IsWithin columns (stretch_of self.now y) result }
+    {
+        let stretch = self.line(y);
+        let end = columns.min(usize::from(stretch.end));
+        (end.min(usize::from(stretch.start)), end)
+    }
+
+    /// Adds columns of a line, and those between them and the ones that it has. A line that isn't there gets none.
+    pub fn widen(&mut self, y: u16, stretch: Stretch)
+        ensures { self.new ≡ slice_set self.old y (joined (stretch_of self.old y) stretch) }
+    {
+        let at = usize::from(y);
+        if at >= self.stretches.len() {
+            return;
+        }
+        self.stretches[at] = self.stretches[at].join(stretch);
+        self.lines = self.lines.join(Stretch {
+            start: y,
+            end: y + 1,
+        });
+    }
+
+    /// No line has any from now on.
+    pub fn clear(&mut self)
+        ensures height { length self.new ≡ length self.old }
+        ensures none { (y : ℕ) → stretch_of self.new y ≡ no_stretch }
+    {
+        for y in self.lines.start..self.lines.end {
+            self.stretches[usize::from(y)] = Stretch::NONE;
+        }
+        self.lines = Stretch::NONE;
+    }
+}
