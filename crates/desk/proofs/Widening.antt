@@ -20,7 +20,7 @@ use Rattle.desk.specs.States.{IsKept}
 use Rattle.paint.specs.Changes.{DifferOnly}
 use Rattle.paint.specs.Updates.{PainterState}
 use Rattle.world.specs.World.{World}
-use Rattle.world.specs.calls.Copies.{copywin_drawing}
+use Rattle.world.specs.calls.Copying.{copywin_drawing}
 use Rattle.world.specs.calls.Dispatch.{refusal, world_after}
 use Rattle.world.specs.declared.call.Call.{Call}
 use Rattle.world.specs.declared.call.Call.TheVariants as calls

@@ -3,8 +3,9 @@ use Rattle.std.specs.Option.{option_map_or}
 use Rattle.cell.specs.Shown.{shown}
 use Rattle.cell.specs.Pictures.{shown_at}
 use Rattle.world.specs.World.{picture}
-use Rattle.world.specs.calls.Copies.{copywin_drawing}
-use Rattle.world.specs.calls.Refresh.{shown_over, touched_cells}
+use Rattle.world.specs.calls.Copying.{copywin_drawing}
+use Rattle.world.specs.calls.Refresh.{touched_cells}
+use Rattle.world.specs.Effects.{shown_over}
 use Rattle.grids.specs.Tables.{windows}
 use Rattle.compose.specs.Desks.{world}
 use Rattle.desk.proofs.Widening.{not-copied, redrawn}
