@@ -24,7 +24,8 @@ line_of-rows lines columns cells y below = get_or-map-range_with_len (line_at co
 pub line_end : (lines columns y : ℕ) → y < lines → y * columns + columns ≤ lines * columns
 line_end lines columns y below = row_fits y columns lines columns below (omega arith)
 
-pub length-line_of-rows : {A : Type 0} {Is : A → Type 0} (lines columns : ℕ) (cells : List A) (y : ℕ) → IsGrid Is lines columns cells → y < lines → length (line_of (rows lines columns cells) y) ≡ columns
+pub length-line_of-rows : {A : Type 0} {Is : A → Type 0} (lines columns : ℕ) (cells : List A) (y : ℕ) → IsGrid Is lines columns cells → y < lines
+    → length (line_of (rows lines columns cells) y) ≡ columns
 length-line_of-rows lines columns cells y grid below =
     let end = line_end lines columns y below in
     ap length (line_of-rows lines columns cells y below)
@@ -118,7 +119,8 @@ no_lines lines columns cells e = nil_from_length (rows lines columns cells) (len
 no_cells : {A : Type 0} {Is : A → Type 0} (lines columns : ℕ) (cells : List A) → IsGrid Is lines columns cells → lines ≡ 0 → length cells ≡ 0
 no_cells lines columns cells grid e = grid.whole ∙ ap (λ n. n * columns) e ∙ omega arith
 
-pub same_grid_size : {A : Type 0} {Is : A → Type 0} {lines columns lines' columns' : ℕ} {cells cells' : List A} {picture picture' : List (List A)} → IsGrid Is lines columns cells → IsGrid Is lines' columns' cells'
+pub same_grid_size : {A : Type 0} {Is : A → Type 0} {lines columns lines' columns' : ℕ} {cells cells' : List A} {picture picture' : List (List A)} → IsGrid Is lines columns cells
+    → IsGrid Is lines' columns' cells'
     → rows lines columns cells ≡ picture → rows lines' columns' cells' ≡ picture' → size_of picture ≡ size_of picture'
     → (length cells ≡ length cells') × (rows lines columns cells' ≡ picture')
 same_grid_size {lines} {columns} {lines'} {columns'} {cells} {cells'} grid other is other_is same =

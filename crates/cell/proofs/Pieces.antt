@@ -45,7 +45,8 @@ shown-rows {A = A} none lines columns cells v u below left =
     ∙ get_or-take columns (drop (v * columns) cells) u none left
     ∙ get_or-drop (v * columns) cells u none
 
-shown-outside : {A : Type 0} (none : A) {Is : A → Type 0} (lines columns : ℕ) (cells : List A) → IsGrid Is lines columns cells → (v u : ℕ) → (lines ≤ v) ⊎ (columns ≤ u) → cell_or none (rows lines columns cells) (v, u) ≡ none
+shown-outside : {A : Type 0} (none : A) {Is : A → Type 0} (lines columns : ℕ) (cells : List A) → IsGrid Is lines columns cells → (v u : ℕ) → (lines ≤ v) ⊎ (columns ≤ u)
+    → cell_or none (rows lines columns cells) (v, u) ≡ none
 shown-outside {A = A} none lines columns cells grid v u (inl past) =
     ap (λ (line : List A). get_or line u none) (get_or_past (rows lines columns cells) v [] (omega (arith, length-rows lines columns cells)))
 shown-outside {A = A} none lines columns cells grid v u (inr past) = elim (cases_lt v lines) [
@@ -77,7 +78,8 @@ pub piece_end : {A : Type 0} {Is : A → Type 0} (lines columns : ℕ) (cells pi
 piece_end lines columns cells piece y x grid below fits = omega (arith, grid.whole, line_end lines columns y below, fits)
 
 -- a piece of line y from column x on
-module _ {A : Type 0} (none : A) {Is : A → Type 0} (lines columns : ℕ) (cells piece : List A) (y x : ℕ) (grid : IsGrid Is lines columns cells) (below : y < lines) (fits : x + length piece ≤ columns) where
+module _ {A : Type 0} (none : A) {Is : A → Type 0} (lines columns : ℕ) (cells piece : List A) (y x : ℕ) (grid : IsGrid Is lines columns cells) (below : y < lines)
+    (fits : x + length piece ≤ columns) where
   abbrev after : List A
   after = splice cells (y * columns + x) (y * columns + x + length piece) piece
 
@@ -88,10 +90,12 @@ module _ {A : Type 0} (none : A) {Is : A → Type 0} (lines columns : ℕ) (cell
     whole = length-splice none cells piece (y * columns + x) (piece_end lines columns cells piece y x grid below fits) ∙ grid.whole;
     each = recursion_from_All Is after
         (All-append Is (take (y * columns + x) cells) (piece ++ drop (y * columns + x + length piece) cells) (All-take Is (y * columns + x) cells (All-from_recursion Is cells grid.each))
-        (All-append Is piece (drop (y * columns + x + length piece) cells) (All-from_recursion Is piece sound) (All-drop Is (y * columns + x + length piece) cells (All-from_recursion Is cells grid.each))));
+        (All-append Is piece (drop (y * columns + x + length piece) cells) (All-from_recursion Is piece sound)
+        (All-drop Is (y * columns + x + length piece) cells (All-from_recursion Is cells grid.each))));
   }
 
-  at_place : (v u : ℕ) → v < lines → u < columns → get_or after (v * columns + u) none ≡ (if (v == y) && (nat_le x u && nat_lt u (x + length piece)) then get_or piece (u - x) none else get_or cells (v * columns + u) none)
+  at_place : (v u : ℕ) → v < lines → u < columns → get_or after (v * columns + u) none ≡ (if (v == y) && (nat_le x u && nat_lt u (x + length piece)) then get_or piece (u - x) none else get_or cells
+      (v * columns + u) none)
   at_place v u above left =
       let inner = get_or piece (u - x) none in
       let outer = get_or cells (v * columns + u) none in
@@ -156,7 +160,8 @@ line_width {A = A} lines columns one other grid grid' k = elim (cases_lt k lines
       ∙ ap (length {A = A}) (sym (get_or_past (rows lines columns other) k [] (omega (arith, length-rows lines columns other))))
 ]
 
-pub HasSize-same : {A : Type 0} {Is : A → Type 0} {height width lines columns : ℕ} {one other : List A} → IsGrid Is lines columns one → IsGrid Is lines columns other → HasSize height width (rows lines columns one) → HasSize height width (rows lines columns other)
+pub HasSize-same : {A : Type 0} {Is : A → Type 0} {height width lines columns : ℕ} {one other : List A} → IsGrid Is lines columns one → IsGrid Is lines columns other
+    → HasSize height width (rows lines columns one) → HasSize height width (rows lines columns other)
 HasSize-same {height} {width} {lines} {columns} {one} {other} grid grid' size =
     let same = length-rows lines columns one ∙ sym (length-rows lines columns other) in
     record {

@@ -126,7 +126,8 @@ impl<T: Element> Grid<T> {
         requires line { y < length self.old }
         requires ordered { start ≤ end }
         requires columns { end ≤ length (line_of self.old y) }
-        ensures shown { (v u : ℕ) → cell_or T.blank self.new (v, u) ≡ (if (v == y) && (nat_le start u && nat_lt u end) then cell else cell_or T.blank self.old (v, u)) }
+        ensures shown { (v u : ℕ) → cell_or T.blank self.new (v, u) ≡ (if (v == y) &&
+            (nat_le start u && nat_lt u end) then cell else cell_or T.blank self.old (v, u)) }
         ensures height { length self.new ≡ length self.old }
         ensures size { (lines columns : ℕ) → HasSize lines columns self.old → HasSize lines columns self.new }
         ensures cells { EachCell T.Is self.old → EachCell T.Is self.new }
@@ -142,7 +143,8 @@ impl<T: Element> Grid<T> {
         requires line { y < length self.old }
         requires columns { x + length cells.now ≤ length (line_of self.old y) }
         requires cells { AllByRecursion T.Is cells.now }
-        ensures shown { (v u : ℕ) → cell_or T.blank self.new (v, u) ≡ (if (v == y) && (nat_le x u && nat_lt u (x + length cells.now)) then slice_index_or cells.now (u - x) T.blank else cell_or T.blank self.old (v, u)) }
+        ensures shown { (v u : ℕ) → cell_or T.blank self.new (v, u) ≡ (if (v == y) &&
+            (nat_le x u && nat_lt u (x + length cells.now)) then slice_index_or cells.now (u - x) T.blank else cell_or T.blank self.old (v, u)) }
         ensures height { length self.new ≡ length self.old }
         ensures size { (lines columns : ℕ) → HasSize lines columns self.old → HasSize lines columns self.new }
         ensures cells { EachCell T.Is self.old → EachCell T.Is self.new }

@@ -18,7 +18,8 @@ use Rattle.stack.specs.Tables.{PanelTable, panels}
 use Rattle.compose.specs.Desks.{DeskTable, world}
 use Rattle.compose.proofs.DeskLemmas.{desk_of}
 
-pub arranged-size : {T : Type 0} (old new : WindowTable) (ps : Panels) (stacking : Stacking) (r : Result T Refusal) → OnOk r (windows new ≡ windows_after (windows old) ps (stacking_order ps stacking)) → OnErr r (new ≡ old) → SameSize (windows new) (windows old)
+pub arranged-size : {T : Type 0} (old new : WindowTable) (ps : Panels) (stacking : Stacking) (r : Result T Refusal)
+    → OnOk r (windows new ≡ windows_after (windows old) ps (stacking_order ps stacking)) → OnErr r (new ≡ old) → SameSize (windows new) (windows old)
 arranged-size old new ps stacking (Ok done) is unchanged =
     let size = size-order (windows old) ps (stacking_order ps stacking) in
     record { lines = ap (λ (ws : Windows). ws.lines) is ∙ size.lines; columns = ap (λ (ws : Windows). ws.columns) is ∙ size.columns }

@@ -48,13 +48,15 @@ cursor-in : (ws : Windows) (w : ℕ) (o : Option Window) → MatchOption o ⊤ (
 cursor-in ws w None h there = cc
 cursor-in ws w (Some a) h there = placed-cursor ws.lines ws.columns a.place a.lines a.columns a.settings.cursor h.on_screen there h.settings.cursor_line h.settings.cursor_column
 
-pub cursor-within : (ws : Windows) (ps : Panels) → AreSoundWindows ws → AreSoundPanels ws.window ps → ((cursor_of_topmost ws.window ps).0 < ws.lines) × ((cursor_of_topmost ws.window ps).1 < ws.columns)
+pub cursor-within : (ws : Windows) (ps : Panels) → AreSoundWindows ws → AreSoundPanels ws.window ps
+    → ((cursor_of_topmost ws.window ps).0 < ws.lines) × ((cursor_of_topmost ws.window ps).1 < ws.columns)
 cursor-within ws ps sound h =
     let w : ℕ = window_or_standard ps (topmost ps) in
     cursor-in ws w (ws.window w) (sound.each w) (top-there ws ps (topmost ps) sound h)
 
 -- the cursor of a window that is on the screen
-pub window-cursor-within : (ws : Windows) (w : ℕ) → AreSoundWindows ws → has_place (ws.window w) ≡ true → ((cursor_on_screen ws.window w).0 < ws.lines) × ((cursor_on_screen ws.window w).1 < ws.columns)
+pub window-cursor-within : (ws : Windows) (w : ℕ) → AreSoundWindows ws → has_place (ws.window w) ≡ true
+    → ((cursor_on_screen ws.window w).0 < ws.lines) × ((cursor_on_screen ws.window w).1 < ws.columns)
 window-cursor-within ws w sound there = cursor-in ws w (ws.window w) (sound.each w) there
 
 -- ---- the desk
@@ -87,7 +89,8 @@ IsSound-composed old new ps pairs virtual picture f cursor clear composed h soun
     shown cells (rw cursor_is (cursor-within (windows old) (panels ps) h.windows h.panels))
 
 -- one window that is on the screen was taken into the virtual screen, with its cursor
-pub IsSound-refreshed : (old new : WindowTable) (ps : PanelTable) (pairs : Pairs) (virtual : VirtualScreen) (w : ℕ) (place : Place) (picture : Picture) (f : ℕ → ℕ → Shown) (cursor : Place) (clear : Bool)
+pub IsSound-refreshed : (old new : WindowTable) (ps : PanelTable) (pairs : Pairs) (virtual : VirtualScreen) (w : ℕ) (place : Place) (picture : Picture) (f : ℕ → ℕ → Shown) (cursor : Place)
+    (clear : Bool)
     → IsSound (world (desk_of old ps pairs virtual)) → AreSoundWindows (windows new) → windows new ≡ record (windows old) { window = changed (windows old).window w unmarked }
     → place_on_screen (windows old).window w ≡ Some place → picture ≡ picture_of old.lines old.columns f → AreShown picture → cursor ≡ cursor_on_screen (windows old).window w
     → IsSound (world (desk_of new ps pairs (record { picture = picture; cursor = cursor; clear = clear })))

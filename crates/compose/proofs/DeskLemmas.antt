@@ -87,7 +87,8 @@ IsSound-new w ps lines columns pairs picture sound is none pairs_are blank = rec
 }
 
 -- other colours of a pair
-pub IsSound-pairs : (w : WindowTable) (ps : PanelTable) (old new : Pairs) (virtual : VirtualScreen) → IsSound (world (desk_of w ps old virtual)) → ArePairs new → IsSound (world (desk_of w ps new virtual))
+pub IsSound-pairs : (w : WindowTable) (ps : PanelTable) (old new : Pairs) (virtual : VirtualScreen) → IsSound (world (desk_of w ps old virtual)) → ArePairs new
+    → IsSound (world (desk_of w ps new virtual))
 IsSound-pairs w ps old new virtual h pairs = record { windows = h.windows; panels = h.panels; pairs = pairs; virtual = h.virtual }
 
 world-left : (old new : DeskTable) (call : Call) → MayLeave old call new → world new ≡ world_after (world old) call

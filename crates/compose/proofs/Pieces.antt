@@ -56,11 +56,13 @@ module _ (windows : Windows) (w : ℕ) (place : Place) (lines : ℕ) (h : Stands
 
   -- on its lines
   on-line : (y u : ℕ) → touched_cells windows.window w (place.0 + y) u
-      ≡ (if ((nat_le place.0 (place.0 + y) && nat_lt (place.0 + y) (place.0 + h.window.lines)) && (nat_le place.1 u && nat_lt u (place.1 + h.window.columns))) && among (h.window.touched y) (u - place.1)
+      ≡ (if ((nat_le place.0 (place.0 + y) && nat_lt (place.0 + y) (place.0 + h.window.lines)) && (nat_le place.1 u && nat_lt u (place.1 + h.window.columns))) && among (h.window.touched y)
+      (u - place.1)
       then Some (cell_at windows.window w y (u - place.1)) else None)
   on-line y u =
       drawn-is (place.0 + y) u
-      ∙ ap (λ k. if ((nat_le place.0 (place.0 + y) && nat_lt (place.0 + y) (place.0 + h.window.lines)) && (nat_le place.1 u && nat_lt u (place.1 + h.window.columns))) && among (h.window.touched k) (u - place.1)
+      ∙ ap (λ k. if ((nat_le place.0 (place.0 + y) && nat_lt (place.0 + y) (place.0 + h.window.lines)) && (nat_le place.1 u && nat_lt u (place.1 + h.window.columns))) && among (h.window.touched k)
+      (u - place.1)
       then Some (cell_at windows.window w k (u - place.1)) else None) (let e : place.0 + y - place.0 ≡ y = omega arith in e)
 
   none-there : (t : Bool) (cell : Glyph) → (if t && false then Some cell else None) ≡ None
@@ -70,9 +72,11 @@ module _ (windows : Windows) (w : ℕ) (place : Place) (lines : ℕ) (h : Stands
   pub bare-line : (y : ℕ) → h.window.touched y ≡ None → IsBare (touched_cells windows.window w) windows.columns (place.0 + y)
   bare-line y none u left =
       on-line y u
-      ∙ ap (λ (o : Option Columns). if ((nat_le place.0 (place.0 + y) && nat_lt (place.0 + y) (place.0 + h.window.lines)) && (nat_le place.1 u && nat_lt u (place.1 + h.window.columns))) && among o (u - place.1)
+      ∙ ap (λ (o : Option Columns). if ((nat_le place.0 (place.0 + y) && nat_lt (place.0 + y) (place.0 + h.window.lines)) && (nat_le place.1 u && nat_lt u (place.1 + h.window.columns))) && among o
+      (u - place.1)
       then Some (cell_at windows.window w y (u - place.1)) else None) none
-      ∙ none-there ((nat_le place.0 (place.0 + y) && nat_lt (place.0 + y) (place.0 + h.window.lines)) && (nat_le place.1 u && nat_lt u (place.1 + h.window.columns))) (cell_at windows.window w y (u - place.1))
+      ∙ none-there ((nat_le place.0 (place.0 + y) && nat_lt (place.0 + y) (place.0 + h.window.lines)) && (nat_le place.1 u && nat_lt u (place.1 + h.window.columns)))
+      (cell_at windows.window w y (u - place.1))
 
   pub touched-piece : (y : ℕ) (r : Columns) → y < lines → h.window.touched y ≡ Some r
       → HasPiece (touched_cells windows.window w) windows.columns (place.0 + y) (place.1 + r.first) (r.last - r.first + 1) (λ u. cell_at windows.window w y (r.first + (u - (place.1 + r.first))))
@@ -82,9 +86,11 @@ module _ (windows : Windows) (w : ℕ) (place : Place) (lines : ℕ) (h : Stands
       let ordered = within.0 in
       let inside = within.1 in
       on-line y u
-      ∙ ap (λ (o : Option Columns). if ((nat_le place.0 (place.0 + y) && nat_lt (place.0 + y) (place.0 + h.window.lines)) && (nat_le place.1 u && nat_lt u (place.1 + h.window.columns))) && among o (u - place.1)
+      ∙ ap (λ (o : Option Columns). if ((nat_le place.0 (place.0 + y) && nat_lt (place.0 + y) (place.0 + h.window.lines)) && (nat_le place.1 u && nat_lt u (place.1 + h.window.columns))) && among o
+      (u - place.1)
       then Some (cell_at windows.window w y (u - place.1)) else None) some
-      ∙ same-if (((nat_le place.0 (place.0 + y) && nat_lt (place.0 + y) (place.0 + h.window.lines)) && (nat_le place.1 u && nat_lt u (place.1 + h.window.columns))) && (nat_le r.first (u - place.1) && nat_le (u - place.1) r.last))
+      ∙ same-if (((nat_le place.0 (place.0 + y) && nat_lt (place.0 + y) (place.0 + h.window.lines)) && (nat_le place.1 u && nat_lt u (place.1 + h.window.columns))) &&
+      (nat_le r.first (u - place.1) && nat_le (u - place.1) r.last))
       (nat_le (place.1 + r.first) u && nat_lt u (place.1 + r.first + (r.last - r.first + 1)))
       (cell_at windows.window w y (u - place.1)) (cell_at windows.window w y (r.first + (u - (place.1 + r.first))))
       (grind (arith, nat_tests))
@@ -164,7 +170,8 @@ of_pad windows w py px top left bottom right (Some a) e there ordered inside on 
       few_columns = (window.few_columns, sound.few_columns);
     }
 
-pub of-pad : (windows : Windows) (w py px top left bottom right : ℕ) → AreSoundWindows windows → refresh_refusal windows (Pnoutrefresh (record { 0 = w }) py px top left bottom right) ≡ None → IsOfPad windows w py px top left bottom right
+pub of-pad : (windows : Windows) (w py px top left bottom right : ℕ) → AreSoundWindows windows → refresh_refusal windows (Pnoutrefresh (record { 0 = w }) py px top left bottom right) ≡ None
+    → IsOfPad windows w py px top left bottom right
 of-pad windows w py px top left bottom right sound h =
     let passed = all-passed (is_none (windows.window w)) (not (is_pad windows.window w)) (nat_lt bottom top || nat_lt right left)
     (lacks_place windows.window w (py + (bottom - top)) (px + (right - left))) (is_beyond windows bottom right) h in

@@ -80,7 +80,8 @@ cell-differs c s rest false h below = by_case (among c s) refl where
   by_case true is = let less = one-less c s is in omega (arith, below, less)
   by_case false is = let never : false ≡ true = h is in cc
 
-line-differs : (c : Option Columns) (s : ℕ) (a b : List Shown) → ((x : ℕ) → x < length a → among c (s + x) ≡ false → slice_index_or a x shown_blank ≡ slice_index_or b x shown_blank) → length a ≡ length b
+line-differs : (c : Option Columns) (s : ℕ) (a b : List Shown) → ((x : ℕ) → x < length a → among c (s + x) ≡ false → slice_index_or a x shown_blank ≡ slice_index_or b x shown_blank)
+    → length a ≡ length b
     → line_difference a b ≤ columns-from c s
 line-differs c s [] b h same = omega arith
 line-differs c s (p ∷ a) [] h same = omega arith
@@ -104,9 +105,11 @@ differs-less d s (line ∷ old) [] h wide same = cc
 differs-less d s (line ∷ old) (other ∷ new) h wide same =
     let here : s + 0 ≡ s = omega arith in
     let first : line_difference line other ≤ cells_of_line (columns_of d s) =
-    rw (← from-none (columns_of d s)) (line-differs (columns_of d s) 0 line other (λ x below off. h 0 x (omega arith) below (subst (λ k. among (columns_of d k) x ≡ false) (sym here) (let there : 0 + x ≡ x = omega arith in subst (λ k. among (columns_of d s) k ≡ false) there off))) (wide 0 (omega arith))) in
+    rw (← from-none (columns_of d s)) (line-differs (columns_of d s) 0 line other (λ x below off. h 0 x (omega arith) below
+    (subst (λ k. among (columns_of d k) x ≡ false) (sym here) (let there : 0 + x ≡ x = omega arith in subst (λ k. among (columns_of d s) k ≡ false) there off))) (wide 0 (omega arith))) in
     let rest : difference old new + cells_above d (s + 1) ≤ cells_above d (s + 1 + length old) =
-    differs-less d (s + 1) old new (λ y x below inside off. h (suc y) x (omega arith) inside (let e : s + suc y ≡ s + 1 + y = omega arith in rw e off)) (λ y below. wide (suc y) (omega arith)) (omega (arith, same)) in
+    differs-less d (s + 1) old new (λ y x below inside off. h (suc y) x (omega arith) inside (let e : s + suc y ≡ s + 1 + y = omega arith in rw e off)) (λ y below. wide (suc y) (omega arith))
+    (omega (arith, same)) in
     let above = one-line-more d s in
     let next : s + suc (length old) ≡ s + 1 + length old = omega arith in
     rw next (omega (arith, first, rest, above))

@@ -21,14 +21,16 @@ module _ (t : DeskTable) (h : IsDesk t) (cells : ℕ) (read : cells ≡ cells_ab
   may-read =
       let old = t.virtual.picture in
       let size : HasSize t.windows.lines t.windows.columns old = h.sound.virtual.size in
-      let new_size : HasSize t.windows.lines t.windows.columns (picture_of t.windows.lines t.windows.columns (picture (world t))) = HasSize-lines_from t.windows.lines t.windows.columns (picture (world t)) in
+      let new_size : HasSize t.windows.lines t.windows.columns (picture_of t.windows.lines t.windows.columns (picture (world t))) = HasSize-lines_from t.windows.lines t.windows.columns
+      (picture (world t)) in
       let height = size.height in
       let less : difference old (picture_of t.windows.lines t.windows.columns (picture (world t))) + cells_above t.damage 0 ≤ cells_above t.damage (0 + length old) =
       differs-less t.damage 0 old (picture_of t.windows.lines t.windows.columns (picture (world t)))
       (λ y x below inside free.
       let on_line : y < t.windows.lines = omega (arith, below, height) in
       let on_column : x < t.windows.columns = subst (λ n. x < n) (length-line y size on_line) inside in
-      h.covered.shown y x on_line on_column (let e : 0 + y ≡ y = omega arith in subst (λ k. among (columns_of t.damage k) x ≡ false) e free) ∙ sym (cell_or-lines_from shown_blank t.windows.lines t.windows.columns (picture (world t)) y x on_line on_column))
+      h.covered.shown y x on_line on_column (let e : 0 + y ≡ y = omega arith in subst (λ k. among (columns_of t.damage k) x ≡ false) e free)
+      ∙ sym (cell_or-lines_from shown_blank t.windows.lines t.windows.columns (picture (world t)) y x on_line on_column))
       (λ y below. let on_line : y < t.windows.lines = omega (arith, below, height) in length-line y size on_line ∙ sym (length-line y new_size on_line))
       (size.height ∙ sym new_size.height) in
       let all : cells_above t.damage (0 + length old) ≡ cells = let e : 0 + length old ≡ t.windows.lines = omega (arith, height) in ap (cells_above t.damage) e ∙ sym read in

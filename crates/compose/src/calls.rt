@@ -38,10 +38,12 @@ pub(crate) fn make_damaging(
     requires panels { AreSoundPanels (windows_of table.old).window (panels stack.now) }
     requires height { length damage.old ≡ table.old.lines }
     ensures refused { RefusedBy (making_refusal (windows_of table.old) (is_in_panel (panels stack.now)) making) result }
-    ensures exact { change_takes_memory (making_change (windows_of table.old) making) ≡ false → result_err result ≡ making_refusal (windows_of table.old) (is_in_panel (panels stack.now)) making }
+    ensures exact { change_takes_memory (making_change (windows_of table.old) making) ≡ false
+        → result_err result ≡ making_refusal (windows_of table.old) (is_in_panel (panels stack.now)) making }
     ensures reply { IfOk result (λ reply. reply ≡ change_reply (making_change (windows_of table.old) making)) }
     ensures made { OnOk result (windows_of table.new ≡ after_making (windows_of table.old) making) }
-    ensures damaged { OnOk result (Damages table.old.columns (change_shows_at (windows_of table.old) (panels stack.now) (making_change (windows_of table.old) making)) damage.old damage.new) }
+    ensures damaged { OnOk result (Damages table.old.columns (change_shows_at (windows_of table.old) (panels stack.now)
+        (making_change (windows_of table.old) making)) damage.old damage.new) }
     ensures unchanged { OnErr result (table.new ≡ table.old) }
     ensures undamaged { OnErr result (damage.new ≡ damage.old) }
     ensures sound { AreSoundWindows (windows_of table.new) }
@@ -62,7 +64,8 @@ pub(crate) fn write_damaging(
     ensures refused { result_err result ≡ writing_refusal (windows_of windows.old.table) writing.entry }
     ensures reply { IfOk result (λ reply. reply ≡ Reply.Nothing) }
     ensures written { OnOk result (windows_of windows.new.table ≡ after_writing (windows_of windows.old.table) writing.entry) }
-    ensures damaged { OnOk result (Damages windows.old.table.columns (edit_shows_at (windows_of windows.old.table) (panels stack.now) (writing_edit (windows_of windows.old.table) writing.entry)) damage.old damage.new) }
+    ensures damaged { OnOk result (Damages windows.old.table.columns (edit_shows_at (windows_of windows.old.table) (panels stack.now)
+        (writing_edit (windows_of windows.old.table) writing.entry)) damage.old damage.new) }
     ensures unchanged { OnErr result (windows.new.table ≡ windows.old.table) }
     ensures undamaged { OnErr result (damage.new ≡ damage.old) }
     ensures sound { AreSoundWindows (windows_of windows.new.table) }
@@ -83,7 +86,8 @@ pub(crate) fn copy_damaging(
     ensures refused { result_err result ≡ copying_refusal (windows_of windows.old.table) copying }
     ensures reply { IfOk result (λ reply. reply ≡ change_reply (copying_change (windows_of windows.old.table) copying)) }
     ensures copied { OnOk result (windows_of windows.new.table ≡ after_copying (windows_of windows.old.table) copying) }
-    ensures damaged { OnOk result (Damages windows.old.table.columns (change_shows_at (windows_of windows.old.table) (panels stack.now) (copying_change (windows_of windows.old.table) copying)) damage.old damage.new) }
+    ensures damaged { OnOk result (Damages windows.old.table.columns (change_shows_at (windows_of windows.old.table) (panels stack.now)
+        (copying_change (windows_of windows.old.table) copying)) damage.old damage.new) }
     ensures unchanged { OnErr result (windows.new.table ≡ windows.old.table) }
     ensures undamaged { OnErr result (damage.new ≡ damage.old) }
     ensures sound { AreSoundWindows (windows_of windows.new.table) }
@@ -103,11 +107,14 @@ pub(crate) fn arrange_damaging(
     requires panels { AreSoundPanels (windows_of table.old).window (panels stack.old) }
     requires height { length damage.old ≡ table.old.lines }
     ensures refused { RefusedBy (stacking_refusal (windows_of table.old) (panels stack.old) stacking) result }
-    ensures exact { order_takes_memory (stacking_order (panels stack.old) stacking) ≡ false → result_err result ≡ stacking_refusal (windows_of table.old) (panels stack.old) stacking }
+    ensures exact { order_takes_memory (stacking_order (panels stack.old) stacking) ≡ false
+        → result_err result ≡ stacking_refusal (windows_of table.old) (panels stack.old) stacking }
     ensures reply { IfOk result (λ reply. reply ≡ order_reply (stacking_order (panels stack.old) stacking)) }
-    ensures windows { OnOk result (windows_of table.new ≡ windows_after (windows_of table.old) (panels stack.old) (stacking_order (panels stack.old) stacking)) }
+    ensures windows { OnOk result (windows_of table.new ≡ windows_after (windows_of table.old) (panels stack.old)
+        (stacking_order (panels stack.old) stacking)) }
     ensures panels { OnOk result (panels stack.new ≡ after_stacking (panels stack.old) stacking) }
-    ensures damaged { OnOk result (Damages table.old.columns (order_shows_at (windows_of table.old) (panels stack.old) (stacking_order (panels stack.old) stacking)) damage.old damage.new) }
+    ensures damaged { OnOk result (Damages table.old.columns (order_shows_at (windows_of table.old) (panels stack.old)
+        (stacking_order (panels stack.old) stacking)) damage.old damage.new) }
     ensures unchanged { OnErr result (table.new ≡ table.old) }
     ensures unordered { OnErr result (stack.new ≡ stack.old) }
     ensures undamaged { OnErr result (damage.new ≡ damage.old) }
@@ -125,7 +132,8 @@ pub(crate) fn arrange_damaging(
 /// The rectangle of a panel's window on the screen, if there is the panel, and it is visible.
 fn part_of(table: &Grids, stack: &Stack, panel: Option<PanelId>) -> Option<Rect>
     requires { AreSoundPanels (windows_of table.now).window (panels stack.now) }
-    ensures holds { (y x : ℕ) → part_holds result y x ≡ option_map_or (λ p. panel_shows_at (windows_of table.now).window (panels stack.now) p y x) (panel_number panel) false }
+    ensures holds { (y x : ℕ) → part_holds result y x ≡ option_map_or (λ p. panel_shows_at (windows_of table.now).window (panels stack.now) p y x)
+        (panel_number panel) false }
     ensures within { MatchOption result ⊤ (IsFrameWithin table.now.lines table.now.columns) }
 {
     panel_part(table, stack, panel?)

@@ -62,7 +62,8 @@ fn damage_written(damage: &mut Damage, table: &Grids, stack: &Stack, win: WinId,
 fn damage_visible(damage: &mut Damage, table: &Grids, stack: &Stack, affected: Affected)
     requires height { length damage.old ≡ table.now.lines }
     requires possible { IsPossible (windows_of table.now).window affected }
-    ensures damaged { Damages table.now.columns (λ y x. list_any (affected_shows_at (windows_of table.now).window affected y x) (windows_from_top (panels stack.now))) damage.old damage.new }
+    ensures damaged { Damages table.now.columns (λ y x. list_any (affected_shows_at (windows_of table.now).window affected y x)
+        (windows_from_top (panels stack.now))) damage.old damage.new }
 {
     for panel in stack.visible_from_top() {
         if let Ok(u) = stack.window(panel) {

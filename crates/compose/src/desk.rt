@@ -156,7 +156,8 @@ impl Desk {
     pub fn damaged(&self, y: u16) -> Option<Columns>
         requires { y < self.now.windows.lines }
         ensures columns { result ≡ damaged_columns self.now y }
-        ensures shown { (x : ℕ) → x < self.now.windows.columns → among result x ≡ false → shown_at self.now.virtual.picture (y, x) ≡ picture (world self.now) y x }
+        ensures shown { (x : ℕ) → x < self.now.windows.columns → among result x ≡ false
+            → shown_at self.now.virtual.picture (y, x) ≡ picture (world self.now) y x }
     {
         self.damage.line(y)
     }

@@ -20,7 +20,8 @@ impl Desk {
     /// Makes a call of the table of panels.
     pub(crate) fn arrange(&mut self, stacking: Stacking) -> Result<Reply, Refusal>
         ensures refused { RefusedBy (stacking_refusal (world self.old).windows (world self.old).panels stacking) result }
-        ensures exact { order_takes_memory (stacking_order (world self.old).panels stacking) ≡ false → result_err result ≡ stacking_refusal (world self.old).windows (world self.old).panels stacking }
+        ensures exact { order_takes_memory (stacking_order (world self.old).panels stacking) ≡ false
+            → result_err result ≡ stacking_refusal (world self.old).windows (world self.old).panels stacking }
         ensures reply { IfOk result (λ reply. reply ≡ order_reply (stacking_order (world self.old).panels stacking)) }
         ensures arranged { OnOk result (world self.new ≡ world_after (world self.old) (Call.Stacking stacking)) }
         ensures damaged { OnOk result (DamagesFew self.old (Call.Stacking stacking) self.new) }

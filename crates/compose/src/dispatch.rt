@@ -41,7 +41,8 @@ pub struct Changed {
 pub(crate) fn make(table: &mut Grids, stack: &Stack, making: Making) -> Result<Changed, Refusal>
     requires { AreSoundPanels (windows_of table.old).window (panels stack.now) }
     ensures refused { RefusedBy (making_refusal (windows_of table.old) (is_in_panel (panels stack.now)) making) result }
-    ensures exact { change_takes_memory (making_change (windows_of table.old) making) ≡ false → result_err result ≡ making_refusal (windows_of table.old) (is_in_panel (panels stack.now)) making }
+    ensures exact { change_takes_memory (making_change (windows_of table.old) making) ≡ false
+        → result_err result ≡ making_refusal (windows_of table.old) (is_in_panel (panels stack.now)) making }
     ensures reply { IfOk result (λ changed. changed.reply ≡ change_reply (making_change (windows_of table.old) making)) }
     ensures affected { IfOk result (λ changed. changed.affected ≡ affected_by (windows_of table.old) (making_change (windows_of table.old) making)) }
     ensures made { OnOk result (windows_of table.new ≡ after_making (windows_of table.old) making) }
@@ -64,7 +65,8 @@ pub(crate) fn make(table: &mut Grids, stack: &Stack, making: Making) -> Result<C
 pub(crate) fn write(windows: &mut Windows, writing: Writing<'_>) -> Result<Changed, Refusal>
     ensures refused { result_err result ≡ writing_refusal (windows_of windows.old.table) writing.entry }
     ensures reply { IfOk result (λ changed. changed.reply ≡ Reply.Nothing) }
-    ensures affected { IfOk result (λ changed. changed.affected ≡ affected_by (windows_of windows.old.table) (edits (writing_edit (windows_of windows.old.table) writing.entry))) }
+    ensures affected { IfOk result (λ changed. changed.affected ≡ affected_by (windows_of windows.old.table)
+        (edits (writing_edit (windows_of windows.old.table) writing.entry))) }
     ensures written { OnOk result (windows_of windows.new.table ≡ after_writing (windows_of windows.old.table) writing.entry) }
     ensures unchanged { OnErr result (windows.new.table ≡ windows.old.table) }
     ensures sound { AreSoundWindows (windows_of windows.new.table) }
@@ -99,7 +101,8 @@ pub(crate) fn write(windows: &mut Windows, writing: Writing<'_>) -> Result<Chang
 pub(crate) fn copy(windows: &mut Windows, copying: Copying) -> Result<Changed, Refusal>
     ensures refused { result_err result ≡ copying_refusal (windows_of windows.old.table) copying }
     ensures reply { IfOk result (λ changed. changed.reply ≡ change_reply (copying_change (windows_of windows.old.table) copying)) }
-    ensures affected { IfOk result (λ changed. changed.affected ≡ affected_by (windows_of windows.old.table) (copying_change (windows_of windows.old.table) copying)) }
+    ensures affected { IfOk result (λ changed. changed.affected ≡ affected_by (windows_of windows.old.table)
+        (copying_change (windows_of windows.old.table) copying)) }
     ensures copied { OnOk result (windows_of windows.new.table ≡ after_copying (windows_of windows.old.table) copying) }
     ensures unchanged { OnErr result (windows.new.table ≡ windows.old.table) }
     ensures sound { AreSoundWindows (windows_of windows.new.table) }
@@ -139,9 +142,11 @@ pub(crate) fn query(windows: &Windows, query: Query) -> Result<Reply, Refusal>
 pub(crate) fn arrange(table: &mut Grids, stack: &mut Stack, stacking: Stacking) -> Result<Reply, Refusal>
     requires { AreSoundPanels (windows_of table.old).window (panels stack.old) }
     ensures refused { RefusedBy (stacking_refusal (windows_of table.old) (panels stack.old) stacking) result }
-    ensures exact { order_takes_memory (stacking_order (panels stack.old) stacking) ≡ false → result_err result ≡ stacking_refusal (windows_of table.old) (panels stack.old) stacking }
+    ensures exact { order_takes_memory (stacking_order (panels stack.old) stacking) ≡ false
+        → result_err result ≡ stacking_refusal (windows_of table.old) (panels stack.old) stacking }
     ensures reply { IfOk result (λ reply. reply ≡ order_reply (stacking_order (panels stack.old) stacking)) }
-    ensures windows { OnOk result (windows_of table.new ≡ windows_after (windows_of table.old) (panels stack.old) (stacking_order (panels stack.old) stacking)) }
+    ensures windows { OnOk result (windows_of table.new ≡ windows_after (windows_of table.old) (panels stack.old)
+        (stacking_order (panels stack.old) stacking)) }
     ensures panels { OnOk result (panels stack.new ≡ after_stacking (panels stack.old) stacking) }
     ensures unchanged { OnErr result (table.new ≡ table.old) }
     ensures unordered { OnErr result (stack.new ≡ stack.old) }

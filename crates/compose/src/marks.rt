@@ -28,7 +28,10 @@ pub(crate) fn clear_asked(table: &Grids, stack: &Stack) -> bool
 
 /// Takes the marks and clear flags of the standard screen and of the windows of visible panels away.
 pub(crate) fn unmark_composed(table: &mut Grids, stack: &Stack)
-    ensures unmarked { windows_of table.new ≡ record (windows_of table.old) { window = with_unmarked (windows_of table.old).window (standard_screen ∷ windows_from_top (panels stack.now)) } }
+    ensures unmarked { windows_of table.new ≡ record (windows_of table.old) {
+      window = with_unmarked (windows_of table.old).window
+          (standard_screen ∷ windows_from_top (panels stack.now));
+    } }
     ensures sound { AreSoundWindows (windows_of table.new) }
 {
     unmark(table, WinId::STANDARD);

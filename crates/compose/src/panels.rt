@@ -68,7 +68,8 @@ pub(crate) fn move_panel(
 ) -> Result<(), Refusal>
     requires { AreSoundPanels (windows_of table.old).window (panels stack.now) }
     ensures refused { result_err result ≡ stacking_refusal (windows_of table.old) (panels stack.now) (Stacking.MovePanel panel y x) }
-    ensures moved { OnOk result (windows_of table.new ≡ windows_after (windows_of table.old) (panels stack.now) (stacking_order (panels stack.now) (Stacking.MovePanel panel y x))) }
+    ensures moved { OnOk result (windows_of table.new ≡ windows_after (windows_of table.old) (panels stack.now)
+        (stacking_order (panels stack.now) (Stacking.MovePanel panel y x))) }
     ensures unchanged { OnErr result (table.new ≡ table.old) }
     ensures sound { AreSoundWindows (windows_of table.new) }
 {

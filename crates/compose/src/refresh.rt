@@ -71,8 +71,10 @@ impl Desk {
         smaxrow: u16,
         smaxcol: u16,
     ) -> Result<(), Refusal>
-        ensures refused { result_err result ≡ refresh_refusal (world self.old).windows (Refresh.Pnoutrefresh pad pminrow pmincol sminrow smincol smaxrow smaxcol) }
-        ensures refreshed { OnOk result (world self.new ≡ world_after (world self.old) (Call.Refresh (Refresh.Pnoutrefresh pad pminrow pmincol sminrow smincol smaxrow smaxcol))) }
+        ensures refused { result_err result ≡ refresh_refusal (world self.old).windows
+            (Refresh.Pnoutrefresh pad pminrow pmincol sminrow smincol smaxrow smaxcol) }
+        ensures refreshed { OnOk result (world self.new ≡ world_after (world self.old)
+            (Call.Refresh (Refresh.Pnoutrefresh pad pminrow pmincol sminrow smincol smaxrow smaxcol))) }
         ensures damaged { OnOk result (DamagesFew self.old (Call.Refresh (Refresh.Pnoutrefresh pad pminrow pmincol sminrow smincol smaxrow smaxcol)) self.new) }
         ensures unchanged { OnErr result (self.new ≡ self.old) }
     {
@@ -114,7 +116,8 @@ fn show_touched(
     requires windows { AreSoundWindows (windows_of table.now) }
     requires place { place_on_screen (windows_of table.now).window win.0 ≡ Some (top, left) }
     requires size { HasSize table.now.lines table.now.columns picture.old }
-    ensures shown { picture.new ≡ picture_of table.now.lines table.now.columns (shown_over pairs.now picture.old (touched_cells (windows_of table.now).window win.0)) }
+    ensures shown { picture.new ≡ picture_of table.now.lines table.now.columns (shown_over pairs.now picture.old
+        (touched_cells (windows_of table.now).window win.0)) }
     ensures cells { AreShown picture.new }
 {
     let Ok((lines, _)) = table.getmaxyx(win) else {
@@ -151,9 +154,11 @@ fn show_rectangle(
     picture: &mut Grid<Shown>,
 )
     requires windows { AreSoundWindows (windows_of table.now) }
-    requires accepted { refresh_refusal (windows_of table.now) (Refresh.Pnoutrefresh source.win source.line source.column frame.top frame.left frame.bottom frame.right) ≡ None }
+    requires accepted { refresh_refusal (windows_of table.now) (Refresh.Pnoutrefresh source.win source.line source.column frame.top frame.left frame.bottom
+        frame.right) ≡ None }
     requires size { HasSize table.now.lines table.now.columns picture.old }
-    ensures shown { picture.new ≡ picture_of table.now.lines table.now.columns (shown_over pairs.now picture.old (copywin_drawing (windows_of table.now).window source.win.0 source.line source.column frame.top frame.left frame.bottom frame.right false)) }
+    ensures shown { picture.new ≡ picture_of table.now.lines table.now.columns (shown_over pairs.now picture.old
+        (copywin_drawing (windows_of table.now).window source.win.0 source.line source.column frame.top frame.left frame.bottom frame.right false)) }
     ensures cells { AreShown picture.new }
 {
     let columns = frame.right - frame.left + 1;
@@ -178,7 +183,8 @@ fn show_rectangle(
 /// Tests that a rectangle of a pad may be laid over these lines and columns of the screen.
 fn require_rectangle(table: &Grids, source: Place, frame: Rect) -> Result<(), Refusal>
     requires { AreSoundWindows (windows_of table.now) }
-    ensures { result_err result ≡ refresh_refusal (windows_of table.now) (Refresh.Pnoutrefresh source.win source.line source.column frame.top frame.left frame.bottom frame.right) }
+    ensures { result_err result ≡ refresh_refusal (windows_of table.now) (Refresh.Pnoutrefresh source.win source.line source.column frame.top frame.left
+        frame.bottom frame.right) }
 {
     let (lines, columns) = table.getmaxyx(source.win)?;
     if table.getbegyx(source.win).is_ok() {
@@ -202,7 +208,8 @@ fn require_rectangle(table: &Grids, source: Place, frame: Rect) -> Result<(), Re
 /// Takes the touches of some lines of a window away, and its clear flag. They must be there.
 fn unmark_lines(windows: &mut Windows, win: WinId, first: u16, n: u16)
     requires { IsSomeAnd ((windows_of windows.old.table).window win.0) (λ a. (first < a.lines) × (first + n ≤ a.lines)) }
-    ensures unmarked { windows_of windows.new.table ≡ record (windows_of windows.old.table) { window = changed (windows_of windows.old.table).window win.0 (unmarked_lines (among_lines first n)) } }
+    ensures unmarked { windows_of windows.new.table ≡ record (windows_of windows.old.table)
+        { window = changed (windows_of windows.old.table).window win.0 (unmarked_lines (among_lines first n)) } }
     ensures sound { AreSoundWindows (windows_of windows.new.table) }
 {
     match windows.table.wtouchln(win, first, n, false) {

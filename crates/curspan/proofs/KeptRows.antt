@@ -81,7 +81,14 @@ used_size a again (v ∷ vs) rows s none h =
     record { first = v; others = vs; values = refl; reading = ap reading_of s.parser; passes = passes } in
     let gone = all_at_row IsSizeRow a.id (λ r. []) [] (λ r k. All-nil IsSizeRow) (All-nil IsSizeRow) rows h in
     let kept : HasSizes (with_values a.id (reading_by a) CommandLine (v ∷ vs) (without a.id rows)) =
-    all_at_row IsSizeRow a.id (more_values CommandLine (v ∷ vs)) _ (λ r k. one_row _ (record { first = k.first; others = k.others ++ v ∷ vs; values = ap (λ l. l ++ v ∷ vs) k.values; reading = k.reading; passes = k.passes }))
+    all_at_row IsSizeRow a.id (more_values CommandLine (v ∷ vs)) _ (λ r k. one_row _ (record {
+      first = k.first;
+      others = k.others ++ v ∷ vs;
+      values = ap
+          (λ l. l ++ v ∷ vs) k.values;
+      reading = k.reading;
+      passes = k.passes;
+    }))
     (one_row _ fresh) (without a.id rows) gone in
     subst (λ x. HasSizes (used_as x a.id (reading_by a) (v ∷ vs) rows)) (sym s.action) kept
 

@@ -70,7 +70,8 @@ module _ (s : Shape) (has_help : s.disable_help_subcommand ≡ false) where
       → IfSome (subcommand_met program_names w word) IsKindsName
   kind_is_met (option id) word h none = tt
   kind_is_met positional word h none = tt
-  kind_is_met idle word h none = go (answers_to word (codes "run", [])) (answers_to word (codes "paint", [])) (answers_to word (codes "show", [])) (answers_to word (check_text, [])) (answers_to word (codes "help", [])) none
+  kind_is_met idle word h none = go (answers_to word (codes "run", [])) (answers_to word (codes "paint", [])) (answers_to word (codes "show", [])) (answers_to word (check_text, []))
+      (answers_to word (codes "help", [])) none
     where
       go : (a b c check d : Bool) → other_fault s (named a b c check d) word h ≡ [] → IfSome (named a b c check d) IsKindsName
       go true b c check d e = inl (Run, refl)

@@ -86,7 +86,10 @@ abbrev check_leaf : Shape
 check_leaf = built_leaf (inherited (with_leaf_noted (marked_built curspan.top)) (new_app check_text).top)
 
 leaf_rules : (kind : Kind) → All IsKnownRule (leaf kind).rules
-leaf_rules kind = All-from_recursion IsKnownRule (leaf kind).rules ((inl (record { action = refl; parser = refl; least = refl }), refl), ((inl (record { action = refl; parser = refl; least = refl }), refl), ((inr refl, refl), tt)))
+leaf_rules kind = All-from_recursion IsKnownRule (leaf kind).rules (
+  (inl (record { action = refl; parser = refl; least = refl }), refl),
+  ((inl (record { action = refl; parser = refl; least = refl }), refl), ((inr refl, refl), tt)),
+)
 
 -- The words are a subcommand's, with both numbers.
 pub record NamesKind (words : List Text) : Type 0 where
@@ -101,7 +104,8 @@ both_given true true e = (refl, refl)
 both_given true false e = cc
 both_given false b e = cc
 
-kind_taken : (kind : Kind) (words rest : List Text) → subcommand_of curspan words ≡ Some (kind_text kind, rows_after (leaf kind).rules [] rest) → level_fault (leaf kind) [] nothing_held rest false [] ≡ []
+kind_taken : (kind : Kind) (words rest : List Text) → subcommand_of curspan words ≡ Some (kind_text kind, rows_after (leaf kind).rules [] rest)
+    → level_fault (leaf kind) [] nothing_held rest false [] ≡ []
     → NamesKind words
 kind_taken kind words rest is none =
     let rows = rows_after (leaf kind).rules [] rest in
@@ -111,7 +115,8 @@ kind_taken kind words rest is none =
     record { kind = kind; rows = rows; subcommand = is; lines = given_size (codes "lines") rows sizes given.0; cols = given_size (codes "cols") rows sizes given.1 }
 
 -- the program enters the level of the subcommand that is named
-entered_taken : (kind : Kind) (words rest : List Text) → subcommand_of curspan words ≡ entered program (Some (kind_text kind, rest)) → entered_fault program (Some (kind_text kind, rest)) ≡ [] → NamesKind words
+entered_taken : (kind : Kind) (words rest : List Text) → subcommand_of curspan words ≡ entered program (Some (kind_text kind, rest)) → entered_fault program (Some (kind_text kind, rest)) ≡ []
+    → NamesKind words
 entered_taken Run words rest is below = kind_taken Run words rest is below
 entered_taken Paint words rest is below = kind_taken Paint words rest is below
 entered_taken Show words rest is below = kind_taken Show words rest is below

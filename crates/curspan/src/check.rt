@@ -160,7 +160,8 @@ fn end_report<O: Sink>(out: &mut O, checked: Checked) -> bool
 /// Reads a script to its end, tells on the output of each faulty line where it is and what is wrong, and behind them how
 /// many they are, and answers the status.
 pub fn check<R: Source, O: Sink, L: Sink>(input: &mut R, out: &mut O, log: &mut L) -> u8
-    ensures checked { Checks (R.seen input.old) (R.seen input.new) (outputs (O.seen out.old) (L.seen log.old)) (outputs (O.seen out.new) (L.seen log.new)) result }
+    ensures checked { Checks (R.seen input.old) (R.seen input.new) (outputs (O.seen out.old) (L.seen log.old))
+        (outputs (O.seen out.new) (L.seen log.new)) result }
     ensures log { result < 2 → (L.seen log.new).failures ≡ (L.seen log.old).failures }
 {
     let checked = tell_lines(input, out);

@@ -100,7 +100,8 @@ fn run<'a, R: Source, O: Sink, L: Sink>(
     log: &mut L,
 ) -> u8
     requires { IsSize job.lines × IsSize job.cols }
-    ensures ran { (LacksMemory (outputs (O.seen out.old) (L.seen log.old)) (outputs (O.seen out.new) (L.seen log.new)) result × (R.seen input.new ≡ R.seen input.old))
+    ensures ran { (LacksMemory (outputs (O.seen out.old) (L.seen log.old)) (outputs (O.seen out.new) (L.seen log.new)) result ×
+        (R.seen input.new ≡ R.seen input.old))
         ⊎ Runs ⟦<&'a mut O as Sink>⟧.seen job (R.seen input.old) (R.seen input.new) (outputs (O.seen out.old) (L.seen log.old)) (outputs (O.seen out.new) (L.seen log.new)) result }
     ensures log { result < 2 → (L.seen log.new).failures ≡ (L.seen log.old).failures }
 {
@@ -142,7 +143,8 @@ fn paint<R: Source, O: Sink, L: Sink>(
     log: &mut L,
 ) -> u8
     requires { IsSize job.lines × IsSize job.cols }
-    ensures painted { (LacksMemory (outputs (O.seen out.old) (L.seen log.old)) (outputs (O.seen out.new) (L.seen log.new)) result × (R.seen input.new ≡ R.seen input.old))
+    ensures painted { (LacksMemory (outputs (O.seen out.old) (L.seen log.old)) (outputs (O.seen out.new) (L.seen log.new)) result ×
+        (R.seen input.new ≡ R.seen input.old))
         ⊎ Paints ⟦<Discard as Sink>⟧.seen job (R.seen input.old) (R.seen input.new) (outputs (O.seen out.old) (L.seen log.old)) (outputs (O.seen out.new) (L.seen log.new)) result }
     ensures log { result < 2 → (L.seen log.new).failures ≡ (L.seen log.old).failures }
 {

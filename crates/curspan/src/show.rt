@@ -89,7 +89,8 @@ pub fn show<R: Source, O: Sink, L: Sink>(
     log: &mut L,
 ) -> u8
     requires { IsSize job.lines × IsSize job.cols }
-    ensures shown { (LacksMemory (outputs (O.seen out.old) (L.seen log.old)) (outputs (O.seen out.new) (L.seen log.new)) result × (R.seen input.new ≡ R.seen input.old))
+    ensures shown { (LacksMemory (outputs (O.seen out.old) (L.seen log.old)) (outputs (O.seen out.new) (L.seen log.new)) result ×
+        (R.seen input.new ≡ R.seen input.old))
         ⊎ Shows job (R.seen input.old) (R.seen input.new) (outputs (O.seen out.old) (L.seen log.old)) (outputs (O.seen out.new) (L.seen log.new)) result }
     ensures log { result < 2 → (L.seen log.new).failures ≡ (L.seen log.old).failures }
 {

@@ -48,7 +48,8 @@ placed : (p : Option Place) → first_of ((false, NoSuchWindow) ∷ (is_none p, 
 placed None h = cc
 placed (Some p) h = refl
 
-on_screen : (o : Option Window) → first_of ((is_none o, NoSuchWindow) ∷ (option_map_or (λ a. is_none a.place) o false, IsPad) ∷ []) ≡ None → is_none (option_and_then (λ (a : Window). a.place) o) ≡ false
+on_screen : (o : Option Window) → first_of ((is_none o, NoSuchWindow) ∷ (option_map_or (λ a. is_none a.place) o false, IsPad) ∷ []) ≡ None
+    → is_none (option_and_then (λ (a : Window). a.place) o) ≡ false
 on_screen None h = cc
 on_screen (Some a) h = placed a.place h
 
@@ -56,7 +57,8 @@ has_offset : (b : Backing) → first_of ((false, NoSuchWindow) ∷ (is_own b, No
 has_offset (own_grid cells) h = cc
 has_offset (part_of parent line column) h = refl
 
-derived : (o : Option Window) → first_of ((is_none o, NoSuchWindow) ∷ (option_map_or (λ a. is_own a.backing) o false, NotDerived) ∷ []) ≡ None → is_none (option_and_then (λ (a : Window). offset_of a.backing) o) ≡ false
+derived : (o : Option Window) → first_of ((is_none o, NoSuchWindow) ∷ (option_map_or (λ a. is_own a.backing) o false, NotDerived) ∷ []) ≡ None
+    → is_none (option_and_then (λ (a : Window). offset_of a.backing) o) ≡ false
 derived None h = cc
 derived (Some a) h = has_offset a.backing h
 

@@ -338,7 +338,8 @@ module _ {W : Type 0} (seen : W → Seen) where
         stop = (
           λ more h.
               ap (reading false) (append_assoc s.text r.bytes more) ∙ s.says false (r.bytes ++ more)
-              ∙ ap (λ l. prepend s.made (reading_of false n (slice_split is_newline l))) (sym (append_assoc unused r.bytes more) ∙ ap (λ l. l ++ more) r.is_line.1 ∙ append_assoc line (byte ∷ left) more)
+              ∙ ap (λ l. prepend s.made (reading_of false n (slice_split is_newline l))) (sym (append_assoc unused r.bytes more) ∙ ap (λ l. l ++ more) r.is_line.1
+              ∙ append_assoc line (byte ∷ left) more)
               ∙ ap (prepend s.made) (too_long_says n line (left ++ more) byte r.no_newline r.is_line.2 r.is_line.3)
               ∙ ap (λ (calls : List (ℕ × Call)). let x : Reading = record { calls = calls; fault = Some (Text n LineTooLong) } in x) (append-nil s.made),
           refl,

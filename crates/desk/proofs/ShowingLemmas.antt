@@ -128,7 +128,8 @@ pub record LeadsOn (lines columns : ℕ) (painter : PainterState) (bytes : List 
   pub fits : HasSize lines columns last.picture
   pub known : IsKnown painter.last last
 
-leads-nothing : (lines columns : ℕ) (painter : PainterState) (sent : List ℕ) (t : Terminal) → sent ≡ [] → HasSize lines columns t.picture → IsKnown painter.last t → LeadsOn lines columns painter sent t
+leads-nothing : (lines columns : ℕ) (painter : PainterState) (sent : List ℕ) (t : Terminal) → sent ≡ [] → HasSize lines columns t.picture → IsKnown painter.last t
+    → LeadsOn lines columns painter sent t
 leads-nothing lines columns painter sent t e fits known = record { last = t; leads = rw e (Leads-nothing t); fits = fits; known = known }
 
 leads-call : (lines columns : ℕ) (s : State) (call : Call) (answer : Result Reply Refusal) (sent : List ℕ) (t : Terminal) → HasScreenSize lines columns s → HasSize lines columns t.picture
@@ -140,7 +141,8 @@ leads-call lines columns s (calls.Copying copying) (Ok r) sent t size fits may h
 leads-call lines columns s (calls.Query query) (Ok r) sent t size fits may h = leads-nothing lines columns s.painter sent t may.1.0 fits h
 leads-call lines columns s (calls.Stacking stacking) (Ok r) sent t size fits may h = leads-nothing lines columns s.painter sent t may.1.0 fits h
 leads-call lines columns s (calls.Refresh (Noutrefresh win)) (Ok r) sent t size fits may h = leads-nothing lines columns s.painter sent t may.1.0 fits h
-leads-call lines columns s (calls.Refresh (Pnoutrefresh pad pminrow pmincol sminrow smincol smaxrow smaxcol)) (Ok r) sent t size fits may h = leads-nothing lines columns s.painter sent t may.1.0 fits h
+leads-call lines columns s (calls.Refresh (Pnoutrefresh pad pminrow pmincol sminrow smincol smaxrow smaxcol))
+    (Ok r) sent t size fits may h = leads-nothing lines columns s.painter sent t may.1.0 fits h
 leads-call lines columns s (calls.Refresh UpdatePanels) (Ok r) sent t size fits may h = leads-nothing lines columns s.painter sent t may.1.0 fits h
 leads-call lines columns s (calls.Refresh (InitPair pair foreground background)) (Ok r) sent t size fits may h = leads-nothing lines columns s.painter sent t may.1.0 fits h
 leads-call lines columns s (calls.Refresh Doupdate) (Ok r) sent t size fits may h =
@@ -226,11 +228,13 @@ shows-world w = record {
 pub screen-size : {W : Type 0} (s : ScreenOver W) → HasOneSize s.desk s.painter → HasScreenSize s.desk.windows.lines s.desk.windows.columns (state_of s)
 screen-size s h = record { lines_of = refl; columns_of = refl; painter_lines = h.lines; painter_columns = h.columns }
 
-module _ {W : Type 0} (seen : W → Seen) (old at_stop new : ScreenOver W) (cs made : List Call) (outcomes : List Outcome) (makes : Makes seen old made outcomes at_stop) (one_size : HasOneSize old.desk old.painter) where
+module _ {W : Type 0} (seen : W → Seen) (old at_stop new : ScreenOver W) (cs made : List Call) (outcomes : List Outcome) (makes : Makes seen old made outcomes at_stop)
+    (one_size : HasOneSize old.desk old.painter) where
   end : State
   end = state_at_end (state_of old) made outcomes
 
-  agrees-stop : (stream : List ℕ) (t : Terminal) → HasSize old.desk.windows.lines old.desk.windows.columns t.picture → Agrees old.painter stream t → Agrees at_stop.painter (stream ++ all_sent outcomes) t
+  agrees-stop : (stream : List ℕ) (t : Terminal) → HasSize old.desk.windows.lines old.desk.windows.columns t.picture → Agrees old.painter stream t
+      → Agrees at_stop.painter (stream ++ all_sent outcomes) t
   agrees-stop stream t fits h =
       subst (λ p. Agrees p (stream ++ all_sent outcomes) t) (sym makes.state.painter)
       (agrees-run old.desk.windows.lines old.desk.windows.columns (state_of old) made outcomes stream t (screen-size old one_size) fits makes.run h)
@@ -325,7 +329,8 @@ run-stops seen old at_stop new cs made left outcomes None makes one_size parts s
     shows-unbroken seen old at_stop new cs made outcomes makes one_size (parts ∙ ap (λ l. made ++ l) stop.0 ∙ append-nil made) stop.1
 run-stops seen old at_stop new cs made left outcomes (Some fault) makes one_size parts stop = shows-broken seen old at_stop new cs made outcomes makes one_size fault stop.1
 
-pub run-shows : {W : Type 0} (seen : W → Seen) (old new : ScreenOver W) (cs : List Call) (end : RunEnd) → HasOneSize old.desk old.painter → RunEnds seen old cs end new → RunShows seen old new cs end.fault
+pub run-shows : {W : Type 0} (seen : W → Seen) (old new : ScreenOver W) (cs : List Call) (end : RunEnd) → HasOneSize old.desk old.painter → RunEnds seen old cs end new
+    → RunShows seen old new cs end.fault
 run-shows seen old new cs end one_size h = run-stops seen old h.at_stop new cs h.made h.left h.outcomes end.fault h.makes one_size h.parts h.stop
 
 -- ---- one call
@@ -349,7 +354,8 @@ size-of old new h = record { lines = h.lines_of; columns = h.columns_of }
 pub cut-keeps_size : {W : Type 0} (seen : W → Seen) (old new : ScreenOver W) (fault : WriteFault) → IsCut seen old new fault → KeepsSize old.desk new.desk
 cut-keeps_size seen old new fault h = record { lines = ap (λ (s : State). s.world.windows.lines) h.state; columns = ap (λ (s : State). s.world.windows.columns) h.state }
 
-pub call-keeps_size : {W : Type 0} (seen : W → Seen) (old new : ScreenOver W) (call : Call) (r : Result Reply Fault) → HasOneSize old.desk old.painter → CallEnds seen old call r new → KeepsSize old.desk new.desk
+pub call-keeps_size : {W : Type 0} (seen : W → Seen) (old new : ScreenOver W) (call : Call) (r : Result Reply Fault) → HasOneSize old.desk old.painter → CallEnds seen old call r new
+    → KeepsSize old.desk new.desk
 call-keeps_size seen old new call (Ok reply) one_size h = size-of old new
     (still-sized h.0 (size-after old.desk.windows.lines old.desk.windows.columns (state_of old) call (Ok reply) (screen-size old one_size)))
 call-keeps_size seen old new call (Err (Refused e)) one_size h = subst (λ s. KeepsSize old.desk s.desk) (sym h.1) (record { lines = refl; columns = refl })
@@ -367,6 +373,7 @@ stop-keeps_size : {W : Type 0} (seen : W → Seen) (at_stop new : ScreenOver W) 
 stop-keeps_size seen at_stop new left None h = subst (λ s. KeepsSize at_stop.desk s.desk) (sym h.1) (record { lines = refl; columns = refl })
 stop-keeps_size seen at_stop new left (Some fault) h = cut-keeps_size seen at_stop new fault h.1
 
-pub run-keeps_size : {W : Type 0} (seen : W → Seen) (old new : ScreenOver W) (cs : List Call) (end : RunEnd) → HasOneSize old.desk old.painter → RunEnds seen old cs end new → KeepsSize old.desk new.desk
+pub run-keeps_size : {W : Type 0} (seen : W → Seen) (old new : ScreenOver W) (cs : List Call) (end : RunEnd) → HasOneSize old.desk old.painter → RunEnds seen old cs end new
+    → KeepsSize old.desk new.desk
 run-keeps_size seen old new cs end one_size h =
     then-keeps_size old.desk h.at_stop.desk new.desk (makes-keep_size seen old h.at_stop h.made h.outcomes one_size h.makes) (stop-keeps_size seen h.at_stop new h.left end.fault h.stop)

@@ -25,7 +25,8 @@ use Rattle.desk.specs.Ends.{CallEnds, Writes}
 use Rattle.desk.specs.declared.screen.Fault.TheVariants.{Refused, Write}
 
 -- a call that has no test and takes no memory is never refused
-pub never-refused : (w : World) (refresh : Refresh) (e : Refusal) → refresh_refusal w.windows refresh ≡ None → takes_memory w (calls.Refresh refresh) ≡ false → MayRefuse w (calls.Refresh refresh) e → ⊥
+pub never-refused : (w : World) (refresh : Refresh) (e : Refusal) → refresh_refusal w.windows refresh ≡ None → takes_memory w (calls.Refresh refresh) ≡ false → MayRefuse w (calls.Refresh refresh) e
+    → ⊥
 never-refused w refresh e none no_memory (inl h) = let no : ◌≡◌ {A = Option Refusal} None (Some e) = sym none ∙ h in cc
 never-refused w refresh e none no_memory (inr h) = let no : false ≡ true = sym no_memory ∙ h.1 in cc
 
@@ -71,7 +72,8 @@ module _ {W : Type 0} (seen : W → Seen) where
   Writes-refused old (calls.Query q) e h = quiet old old (calls.Query q) refl refl
   Writes-refused old (calls.Stacking s) e h = quiet old old (calls.Stacking s) refl refl
   Writes-refused old (calls.Refresh (Noutrefresh win)) e h = quiet old old (calls.Refresh (Noutrefresh win)) refl refl
-  Writes-refused old (calls.Refresh (Pnoutrefresh pad pminrow pmincol sminrow smincol smaxrow smaxcol)) e h = quiet old old (calls.Refresh (Pnoutrefresh pad pminrow pmincol sminrow smincol smaxrow smaxcol)) refl refl
+  Writes-refused old (calls.Refresh (Pnoutrefresh pad pminrow pmincol sminrow smincol smaxrow smaxcol)) e h = quiet old old
+      (calls.Refresh (Pnoutrefresh pad pminrow pmincol sminrow smincol smaxrow smaxcol)) refl refl
   Writes-refused old (calls.Refresh UpdatePanels) e h = absurd (never-refused (world old.desk) UpdatePanels e refl refl h)
   Writes-refused old (calls.Refresh Doupdate) e h = absurd (never-refused (world old.desk) Doupdate e refl refl h)
   Writes-refused old (calls.Refresh (InitPair pair foreground background)) e h = quiet old old (calls.Refresh (InitPair pair foreground background)) refl refl
@@ -97,13 +99,22 @@ module _ {W : Type 0} (seen : W → Seen) where
       (is-after old desk (calls.Stacking s) h.2 h.3 refl, ([], (h.0, (refl, h.1)), quiet old (record old { desk = desk }) (calls.Stacking s) refl refl))
   called-ends old desk (calls.Refresh (Noutrefresh win)) reply other h =
       (is-after old desk (calls.Refresh (Noutrefresh win)) h.2 h.3 refl, ([], (h.0, (refl, h.1)), quiet old (record old { desk = desk }) (calls.Refresh (Noutrefresh win)) refl refl))
-  called-ends old desk (calls.Refresh (Pnoutrefresh pad pminrow pmincol sminrow smincol smaxrow smaxcol)) reply other h =
-      (is-after old desk (calls.Refresh (Pnoutrefresh pad pminrow pmincol sminrow smincol smaxrow smaxcol)) h.2 h.3 refl, ([], (h.0, (refl, h.1)), quiet old (record old { desk = desk }) (calls.Refresh (Pnoutrefresh pad pminrow pmincol sminrow smincol smaxrow smaxcol)) refl refl))
+  called-ends old desk (calls.Refresh (Pnoutrefresh pad pminrow pmincol sminrow smincol smaxrow smaxcol)) reply other h = (
+    is-after old desk (calls.Refresh (Pnoutrefresh pad pminrow pmincol sminrow smincol smaxrow smaxcol)) h.2 h.3 refl,
+    ([], (h.0, (refl, h.1)), quiet old (record old { desk = desk }) (calls.Refresh (Pnoutrefresh pad pminrow pmincol sminrow smincol smaxrow smaxcol)) refl refl),
+  )
   called-ends old desk (calls.Refresh UpdatePanels) reply other h =
       (is-after old desk (calls.Refresh UpdatePanels) h.2 h.3 refl, ([], (h.0, (refl, h.1)), quiet old (record old { desk = desk }) (calls.Refresh UpdatePanels) refl refl))
   called-ends old desk (calls.Refresh Doupdate) reply other h = cc
-  called-ends old desk (calls.Refresh (InitPair pair foreground background)) reply other h =
-      (is-after old desk (calls.Refresh (InitPair pair foreground background)) h.2 h.3 refl, ([], (h.0, (refl, h.1)), quiet old (record old { desk = desk }) (calls.Refresh (InitPair pair foreground background)) refl refl))
+  called-ends old desk (calls.Refresh (InitPair pair foreground background)) reply other h = (
+    is-after old desk (calls.Refresh (InitPair pair foreground background)) h.2 h.3 refl,
+    (
+      [],
+      (h.0, (refl, h.1)),
+      quiet old (record old { desk = desk })
+          (calls.Refresh (InitPair pair foreground background)) refl refl,
+    ),
+  )
 
   -- a call of the desk was refused
   pub refused-ends : (old : ScreenOver W) (desk : DeskTable) (call : Call) (e : Refusal) → Called old.desk call (Err e) desk
@@ -118,8 +129,14 @@ module _ {W : Type 0} (seen : W → Seen) where
         painter = record old.painter { last = Some (wanted (world old.desk)) };
         writer = writer;
       })
-  updated-ends old writer bytes u =
-      (record { world = refl; painter = refl; damaged = λ line h. or-damaged _ _ h }, (u.text, (refl, (u.is_text, ap (λ n. Sent (record { bytes = n })) u.count)), record { taken = u.taken; flushes = u.flushes; flushed = u.flushed }))
+  updated-ends old writer bytes u = (
+    record { world = refl; painter = refl; damaged = λ line h. or-damaged _ _ h },
+    (
+      u.text,
+      (refl, (u.is_text, ap (λ n. Sent (record { bytes = n })) u.count)),
+      record { taken = u.taken; flushes = u.flushes; flushed = u.flushed },
+    ),
+  )
 
   -- a doupdate sent a front of its text
   pub cut-ends : (old : ScreenOver W) (writer : W) (fault : WriteFault)

@@ -70,7 +70,8 @@ fn widen_damaged(changes: &mut Changes, desk: &Desk, lines: u16)
     requires few { desk.now.windows.columns ≤ LARGEST_SCREEN }
     ensures height { length changes.new ≡ length changes.old }
     ensures keeps { (y x : ℕ) → may_change changes.new y x ≡ false → may_change changes.old y x ≡ false }
-    ensures shown { (y x : ℕ) → y < lines → x < desk.now.windows.columns → may_change changes.new y x ≡ false → shown_at desk.now.virtual.picture (y, x) ≡ picture (world desk.now) y x }
+    ensures shown { (y x : ℕ) → y < lines → x < desk.now.windows.columns → may_change changes.new y x ≡ false
+        → shown_at desk.now.virtual.picture (y, x) ≡ picture (world desk.now) y x }
 {
     for y in 0..lines {
         if let Some(columns) = desk.damaged(y) {
@@ -83,7 +84,8 @@ fn widen_damaged(changes: &mut Changes, desk: &Desk, lines: u16)
 fn widen_touched(changes: &mut Changes, table: &Grids, win: WinId)
     ensures height { length changes.new ≡ length changes.old }
     ensures keeps { (y x : ℕ) → may_change changes.new y x ≡ false → may_change changes.old y x ≡ false }
-    ensures none { refresh_refusal (windows_of table.now) (Refresh.Noutrefresh win) ≡ None → (y x : ℕ) → y < length changes.old → y < 65535 → x < 65535 → may_change changes.new y x ≡ false
+    ensures none { refresh_refusal (windows_of table.now) (Refresh.Noutrefresh win) ≡ None → (y x : ℕ) → y < length changes.old → y < 65535 → x < 65535
+        → may_change changes.new y x ≡ false
         → touched_cells (windows_of table.now).window win.0 y x ≡ None }
 {
     let Ok((top, left)) = table.getbegyx(win) else {

@@ -80,7 +80,8 @@ module _ (ps : List (List ℕ)) (byte : ℕ) (t : Terminal) (h : AreParameters p
         let last = All-back (join_with_byte 59 qs) (final_byte function ∷ []) (All-front (join_with_byte 59 qs ++ final_byte function ∷ []) following all) in
         absurd (final-stops function [] last.0)
     | inr stops ↦
-        let both = cut IsInner (join_with_byte 59 ps) (join_with_byte 59 qs) (byte ∷ []) (final_byte function ∷ following) (joined-inner ps h.digits) (joined-inner qs k.digits) stops (final-stops function following)
+        let both = cut IsInner (join_with_byte 59 ps) (join_with_byte 59 qs) (byte ∷ []) (final_byte function ∷ following) (joined-inner ps h.digits) (joined-inner qs k.digits) stops
+        (final-stops function following)
         (e ∙ append_assoc (join_with_byte 59 qs) (final_byte function ∷ []) following) in
         let behind : byte ∷ [] ≡ final_byte function ∷ following = both.second in
         let final : byte ≡ final_byte function = cc in
@@ -103,7 +104,8 @@ module _ (ps : List (List ℕ)) (byte : ℕ) (t : Terminal) (h : AreParameters p
         let same : byte ≡ x = cc in other (same ∙ there)
   ]
 
-  pub NoEffect-parameters : (IsInner byte → IsBeginning (27 ∷ 91 ∷ (join_with_byte 59 ps ++ byte ∷ [])) → ⊥) → ((function : Function) → byte ≡ final_byte function → effect (Control function ps) t ≡ None)
+  pub NoEffect-parameters : (IsInner byte → IsBeginning (27 ∷ 91 ∷ (join_with_byte 59 ps ++ byte ∷ [])) → ⊥)
+      → ((function : Function) → byte ≡ final_byte function → effect (Control function ps) t ≡ None)
       → NoEffect ((introducer ++ join_with_byte 59 ps) ++ byte ∷ []) t
   NoEffect-parameters goes_on ends = record { each = none } where
     none : (item : Item) (following : List ℕ) → 27 ∷ 91 ∷ (join_with_byte 59 ps ++ byte ∷ []) ≡ bytes_of item ++ following → IsItem item → MayPrecede item following → effect item t ≡ None
@@ -184,10 +186,12 @@ current-first current byte missing [] function h short one digit e = absurd (ome
 current-first current byte missing (q ∷ []) function h short one digit e =
     let less = digits-longer current byte missing q (final_byte function ∷ []) digit (final-no_digit function) e h in omega (arith, short.0)
 current-first current byte missing (q ∷ r ∷ qs) function h short one digit e =
-    let less = digits-longer current byte missing q (59 ∷ (join_with_byte 59 (r ∷ qs) ++ final_byte function ∷ [])) digit not-digit (e ∙ append_assoc q (59 ∷ join_with_byte 59 (r ∷ qs)) (final_byte function ∷ [])) h in
+    let less = digits-longer current byte missing q (59 ∷ (join_with_byte 59 (r ∷ qs) ++ final_byte function ∷ [])) digit not-digit
+    (e ∙ append_assoc q (59 ∷ join_with_byte 59 (r ∷ qs)) (final_byte function ∷ [])) h in
     omega (arith, short.0)
 
-current-short : (ended : List (List ℕ)) (current : List ℕ) (byte : ℕ) (missing : List ℕ) (qs : List (List ℕ)) (function : Function) → AreDigits (ended ++ current ∷ []) → AreDigits qs → AreShort qs → 1 ≤ length qs → IsDigit byte
+current-short : (ended : List (List ℕ)) (current : List ℕ) (byte : ℕ) (missing : List ℕ) (qs : List (List ℕ)) (function : Function) → AreDigits (ended ++ current ∷ []) → AreDigits qs → AreShort qs
+    → 1 ≤ length qs → IsDigit byte
     → join_with_byte 59 (ended ++ current ∷ []) ++ byte ∷ missing ≡ join_with_byte 59 qs ++ final_byte function ∷ [] → length current < 3
 current-short [] current byte missing qs function h k short one digit e = current-first current byte missing qs function h.0 short one digit e
 current-short (a ∷ ended) current byte missing qs function h k short one digit e =
@@ -260,5 +264,6 @@ no-colon front begins =
     let whole = begins.goes_on in
     let tail : (front ++ 58 ∷ []) ++ begins.missing ≡ join_with_byte 59 begins.parameters ++ final_byte begins.function ∷ [] = cc in
     let all : NoColon (join_with_byte 59 begins.parameters ++ final_byte begins.function ∷ []) =
-    each-append (λ byte. byte ≡ 58 → ⊥) (join_with_byte 59 begins.parameters) (final_byte begins.function ∷ []) (joined-no_colon begins.parameters begins.well_formed.digits) (final-no_colon begins.function, tt) in
+    each-append (λ byte. byte ≡ 58 → ⊥) (join_with_byte 59 begins.parameters) (final_byte begins.function ∷ []) (joined-no_colon begins.parameters begins.well_formed.digits)
+    (final-no_colon begins.function, tt) in
     no-colon_behind front begins.missing (subst NoColon (sym tail ∙ append_assoc front (58 ∷ []) begins.missing) all)

@@ -127,9 +127,11 @@ lines_blanked-more first i picture old h k is =
     ap (λ (n : ℕ). take n (drop first old)) (sym more)
     ∙ take_more (drop first old) (i - first) [] (omega (arith, length-drop first old))
     ∙ ap (λ (last : List Shown). take (i - first) (drop first old) ++ last ∷ []) there in
-    let mapped : map blanked (take (i + 1 - first) (drop first old)) ≡ map blanked (take (i - first) (drop first old)) ++ blanked line ∷ [] = ap (map blanked) taken ∙ map_push blanked (take (i - first) (drop first old)) line in
+    let mapped : map blanked (take (i + 1 - first) (drop first old)) ≡ map blanked (take (i - first) (drop first old)) ++ blanked line ∷ [] = ap (map blanked) taken
+    ∙ map_push blanked (take (i - first) (drop first old)) line in
     ap (λ (row : List Shown). set picture i (blanked row)) here
     ∙ ap (λ (p : Picture). set p i (blanked line)) whole
     ∙ set_at front line (drop (i + 1) old) (blanked line) i long
     ∙ sym (append_assoc front (blanked line ∷ []) (drop (i + 1) old))
-    ∙ ap (λ (rows : Picture). rows ++ drop (i + 1) old) (append_assoc (take first old) (map blanked (take (i - first) (drop first old))) (blanked line ∷ []) ∙ ap (λ (rows : Picture). take first old ++ rows) (sym mapped))
+    ∙ ap (λ (rows : Picture). rows ++ drop (i + 1) old) (append_assoc (take first old) (map blanked (take (i - first) (drop first old))) (blanked line ∷ [])
+    ∙ ap (λ (rows : Picture). take first old ++ rows) (sym mapped))

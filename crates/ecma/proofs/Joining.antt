@@ -48,10 +48,17 @@ Splits-then_escape bytes (item ∷ items) rest more h there =
 -- anything may follow finished items
 pub Splits-then : (bytes : List ℕ) (items : List Item) (rest more : List ℕ) → Splits bytes items rest → AllByRecursion IsFinished items → Splits (bytes ++ more) items (rest ++ more)
 Splits-then bytes [] rest more h finished = ap (λ (front : List ℕ). front ++ more) h
-Splits-then bytes (item ∷ items) rest more h finished =
-    (h.0 ++ more, ap (λ (front : List ℕ). front ++ more) h.1 ∙ append_assoc (bytes_of item) h.0 more, h.2, MayPrecede-finished item (h.0 ++ more) finished.0, Splits-then h.0 items rest more h.4 finished.1)
+Splits-then bytes (item ∷ items) rest more h finished = (
+  h.0 ++ more,
+  ap (λ (front : List ℕ). front ++ more) h.1 ∙ append_assoc (bytes_of item) h.0 more,
+  h.2,
+  MayPrecede-finished item
+      (h.0 ++ more) finished.0,
+  Splits-then h.0 items rest more h.4 finished.1,
+)
 
-pub Splits-append : (bytes : List ℕ) (items : List Item) (middle : List ℕ) (others : List Item) (rest : List ℕ) → Splits bytes items middle → Splits middle others rest → Splits bytes (items ++ others) rest
+pub Splits-append : (bytes : List ℕ) (items : List Item) (middle : List ℕ) (others : List Item) (rest : List ℕ) → Splits bytes items middle → Splits middle others rest
+    → Splits bytes (items ++ others) rest
 Splits-append bytes [] middle others rest h k = rw h k
 Splits-append bytes (item ∷ items) middle others rest h k = (h.0, h.1, h.2, h.3, Splits-append h.0 items middle others rest h.4 k)
 
@@ -91,8 +98,14 @@ MayPrecede-then (Unfinished begun) bytes more some h = EndsOrEscapes-then bytes 
 pub Splits-ends_then : (bytes : List ℕ) (items : List Item) (more : List ℕ) → Splits bytes items [] → EndsFinished items → Splits (bytes ++ more) items more
 Splits-ends_then bytes [] more h ends = ap (λ (front : List ℕ). front ++ more) h
 Splits-ends_then bytes (item ∷ []) more h ends = Splits-then bytes (item ∷ []) [] more h (ends, tt)
-Splits-ends_then bytes (item ∷ next ∷ items) more h ends =
-    (h.0 ++ more, ap (λ (front : List ℕ). front ++ more) h.1 ∙ append_assoc (bytes_of item) h.0 more, h.2, MayPrecede-then item h.0 more (Splits_some h.0 next items [] h.4) h.3, Splits-ends_then h.0 (next ∷ items) more h.4 ends)
+Splits-ends_then bytes (item ∷ next ∷ items) more h ends = (
+  h.0 ++ more,
+  ap (λ (front : List ℕ). front ++ more) h.1 ∙ append_assoc (bytes_of item) h.0 more,
+  h.2,
+  MayPrecede-then item h.0 more
+      (Splits_some h.0 next items [] h.4) h.3,
+  Splits-ends_then h.0 (next ∷ items) more h.4 ends,
+)
 
 EndsFinished-finished : (items : List Item) → AllByRecursion IsFinished items → EndsFinished items
 EndsFinished-finished [] h = tt
@@ -206,7 +219,8 @@ cut_in_item (Control function parameters) n t h f short = cut_control n short wh
         have_effect = refl;
       }
 
-cut_later : (item : Item) (following : List ℕ) (k : ℕ) (t u : Terminal) → IsItem item → IsFinished item → effect item t ≡ Some u → Cut (take k following) u → Cut (take (length (bytes_of item) + k) (bytes_of item ++ following)) t
+cut_later : (item : Item) (following : List ℕ) (k : ℕ) (t u : Terminal) → IsItem item → IsFinished item → effect item t ≡ Some u → Cut (take k following) u
+    → Cut (take (length (bytes_of item) + k) (bytes_of item ++ following)) t
 cut_later item following k t u h f e cut = record {
   items = item ∷ cut.items;
   last = cut.last;

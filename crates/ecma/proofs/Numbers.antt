@@ -75,7 +75,8 @@ some_from_selected (Some rendition) bits small e = ap Some e
 pub select_all-attributes : (bits : ℕ) → bits < 64 → select_all (codes_of_attributes bits) no_rendition ≡ Some (only bits)
 unfolding selected
 select_all-attributes bits small =
-    let parts = and_parts (list_all (λ code. nat_lt code 10) (codes_of_attributes bits) && nat_lt (length (codes_of_attributes bits)) 7) (has_only (selected (codes_of_attributes bits)) bits) (is_spelled_below bits small) in
+    let parts = and_parts (list_all (λ code. nat_lt code 10) (codes_of_attributes bits) && nat_lt (length (codes_of_attributes bits)) 7) (has_only (selected (codes_of_attributes bits)) bits)
+    (is_spelled_below bits small) in
     some_from_selected (select_all (codes_of_attributes bits) no_rendition) bits small (only_from (selected (codes_of_attributes bits)) bits parts.1)
 
 small_attributes : (bits : ℕ) → bits < 64 → list_all (λ code. nat_lt code 10) (codes_of_attributes bits) ≡ true

@@ -28,12 +28,14 @@ made-with rendition made bits attributes pair few same colours is =
     let kept = ap known same ∙ known-small attributes few in
     is ∙ ap (λ (p : ColourPair). rendition_with p (known bits)) colours ∙ ap (λ (n : ℕ). rendition_with (colours_of rendition) n) kept
 
-pub with_on-made : (rendition made : Rendition) (old others bits : ℕ) (pair : ColourPair) → rendition.attributes < 64 → others < 64 → old ≡ rendition.attributes → bits ≡ bit_or old others → pair ≡ colours_of rendition
+pub with_on-made : (rendition made : Rendition) (old others bits : ℕ) (pair : ColourPair) → rendition.attributes < 64 → others < 64 → old ≡ rendition.attributes → bits ≡ bit_or old others
+    → pair ≡ colours_of rendition
     → made ≡ rendition_with pair (known bits) → made ≡ with_on others rendition
 with_on-made rendition made old others bits pair few small same either colours is =
     made-with rendition made bits (bit_or rendition.attributes others) pair (or_lt 6 rendition.attributes others few small) (either ∙ ap (λ (n : ℕ). bit_or n others) same) colours is
 
-pub with_off-made : (rendition made : Rendition) (old others bits : ℕ) (pair : ColourPair) → rendition.attributes < 64 → old ≡ rendition.attributes → bits ≡ without old others → pair ≡ colours_of rendition
+pub with_off-made : (rendition made : Rendition) (old others bits : ℕ) (pair : ColourPair) → rendition.attributes < 64 → old ≡ rendition.attributes → bits ≡ without old others
+    → pair ≡ colours_of rendition
     → made ≡ rendition_with pair (known bits) → made ≡ with_off others rendition
 with_off-made rendition made old others bits pair few same left colours is =
     let less : without rendition.attributes others < 64 = omega (arith, and_le_l rendition.attributes (255 - others)) in
@@ -56,7 +58,8 @@ numbers-kept (first ∷ digits) =
 abbrev pub selected_by : List Parameter → Rendition → Option Rendition
 selected_by parameters rendition = select_all (map (number_of 0) parameters) rendition
 
-pub select_all-kept : (digits : List (List ℕ)) (parameters : List Parameter) (rendition : Rendition) → map parameter_of digits ≡ parameters → select_all (map (number_or 0) digits) rendition ≡ selected_by parameters rendition
+pub select_all-kept : (digits : List (List ℕ)) (parameters : List Parameter) (rendition : Rendition) → map parameter_of digits ≡ parameters
+    → select_all (map (number_or 0) digits) rendition ≡ selected_by parameters rendition
 select_all-kept digits parameters rendition e =
     ap (λ (codes : List ℕ). select_all codes rendition) (numbers-kept digits) ∙ ap (λ (kept : List Parameter). selected_by kept rendition) e
 
@@ -64,30 +67,35 @@ then-nothing : (o : Option Rendition) → option_and_then (select_all []) o ≡ 
 then-nothing None = refl
 then-nothing (Some rendition) = refl
 
-selected_by-push : (parameters : List Parameter) (last : Parameter) (rendition selected : Rendition) → selected_by parameters rendition ≡ Some selected → selected_by (parameters ++ last ∷ []) rendition ≡ select (number_of 0 last) selected
+selected_by-push : (parameters : List Parameter) (last : Parameter) (rendition selected : Rendition) → selected_by parameters rendition ≡ Some selected
+    → selected_by (parameters ++ last ∷ []) rendition ≡ select (number_of 0 last) selected
 selected_by-push parameters last rendition selected e =
     ap (λ (codes : List ℕ). select_all codes rendition) (map_push (number_of 0) parameters last)
     ∙ select_all-append (map (number_of 0) parameters) (number_of 0 last ∷ []) rendition
     ∙ ap (option_and_then (select_all (number_of 0 last ∷ []))) e
     ∙ then-nothing (select (number_of 0 last) selected)
 
-pub selected-next : (ended : List Parameter) (i : ℕ) (parameter : Parameter) (rendition selected : Rendition) → i < length ended → parameter ≡ get_or ended i parameter → selected_by (take i ended) rendition ≡ Some selected
+pub selected-next : (ended : List Parameter) (i : ℕ) (parameter : Parameter) (rendition selected : Rendition) → i < length ended → parameter ≡ get_or ended i parameter
+    → selected_by (take i ended) rendition ≡ Some selected
     → selected_by (take (i + 1) ended) rendition ≡ select (number_of 0 parameter) selected
 selected-next ended i parameter rendition selected h is e =
     ap (λ (kept : List Parameter). selected_by kept rendition) (take_more ended i parameter h ∙ ap (λ (p : Parameter). take i ended ++ p ∷ []) (sym is))
     ∙ selected_by-push (take i ended) parameter rendition selected e
 
-pub selected-last : (digits : List (List ℕ)) (ended : List Parameter) (last : Parameter) (rendition selected : Rendition) → map parameter_of digits ≡ ended ++ last ∷ [] → selected_by ended rendition ≡ Some selected
+pub selected-last : (digits : List (List ℕ)) (ended : List Parameter) (last : Parameter) (rendition selected : Rendition) → map parameter_of digits ≡ ended ++ last ∷ []
+    → selected_by ended rendition ≡ Some selected
     → select_all (map (number_or 0) digits) rendition ≡ select (number_of 0 last) selected
 selected-last digits ended last rendition selected same e = select_all-kept digits (ended ++ last ∷ []) rendition same ∙ selected_by-push ended last rendition selected e
 
-pub selected-none : (digits : List (List ℕ)) (ended : List Parameter) (last : Parameter) (i : ℕ) (rendition : Rendition) → map parameter_of digits ≡ ended ++ last ∷ [] → i < length ended → selected_by (take (i + 1) ended) rendition ≡ None
+pub selected-none : (digits : List (List ℕ)) (ended : List Parameter) (last : Parameter) (i : ℕ) (rendition : Rendition) → map parameter_of digits ≡ ended ++ last ∷ [] → i < length ended
+    → selected_by (take (i + 1) ended) rendition ≡ None
     → select_all (map (number_or 0) digits) rendition ≡ None
 selected-none digits ended last i rendition same h none =
     let front = take (i + 1) ended in
     let back = drop (i + 1) ended ++ last ∷ [] in
     select_all-kept digits (ended ++ last ∷ []) rendition same
-    ∙ ap (λ (kept : List Parameter). selected_by kept rendition) (sym (ap (λ (kept : List Parameter). kept ++ last ∷ []) (take-append-drop (i + 1) ended)) ∙ append_assoc front (drop (i + 1) ended) (last ∷ []))
+    ∙ ap (λ (kept : List Parameter). selected_by kept rendition) (sym (ap (λ (kept : List Parameter). kept ++ last ∷ []) (take-append-drop (i + 1) ended))
+    ∙ append_assoc front (drop (i + 1) ended) (last ∷ []))
     ∙ ap (λ (codes : List ℕ). select_all codes rendition) (map-append (number_of 0) front back)
     ∙ select_all-append (map (number_of 0) front) (map (number_of 0) back) rendition
     ∙ ap (option_and_then (select_all (map (number_of 0) back))) none

@@ -47,14 +47,16 @@ length-erased_line ToEnd column row = simp (length-append, length-map, length-ta
 length-erased_line FromStart column row = simp (length-append, length-map, length-take, length-drop) (omega arith)
 length-erased_line All column row = length-map row (λ _. shown_blank)
 
-size-row : (lines columns : ℕ) (picture : Picture) (line : ℕ) (row : List Shown) → HasSize lines columns picture → length row ≡ length (line_of picture line) → HasSize lines columns (set picture line row)
+size-row : (lines columns : ℕ) (picture : Picture) (line : ℕ) (row : List Shown) → HasSize lines columns picture → length row ≡ length (line_of picture line)
+    → HasSize lines columns (set picture line row)
 size-row lines columns picture line row h e = record {
   height = length-set picture line row ∙ h.height;
   width = wide-set columns picture line row h.width (λ inside. e ∙ line-wide columns picture line h.width inside);
 }
 
 pub size-erased_at : (lines columns : ℕ) (how : Erase) (place : Place) (picture : Picture) → HasSize lines columns picture → HasSize lines columns (erased_at how place picture)
-size-erased_at lines columns how place picture h = size-row lines columns picture place.0 (erased_line how place.1 (line_of picture place.0)) h (length-erased_line how place.1 (line_of picture place.0))
+size-erased_at lines columns how place picture h = size-row lines columns picture place.0 (erased_line how place.1 (line_of picture place.0)) h
+    (length-erased_line how place.1 (line_of picture place.0))
 
 size-erased_page : (lines columns : ℕ) (how : Erase) (place : Place) (picture : Picture) → HasSize lines columns picture → HasSize lines columns (erased_page how place picture)
 size-erased_page lines columns ToEnd place picture h =
@@ -96,9 +98,12 @@ keeps-cond lines columns true o h = h
 keeps-cond lines columns false o h = keeps-none lines columns
 
 size-erase_page : (lines columns : ℕ) (how : Erase) (t : Terminal) → HasSize lines columns t.picture → Keeps lines columns (erase_page how t)
-size-erase_page lines columns ToEnd t h = keeps-cond lines columns (is_empty t.rendition) _ (keeps-map lines columns (λ place. record t { picture = erased_page ToEnd place t.picture }) t.cursor (λ place. size-erased_page lines columns ToEnd place t.picture h))
-size-erase_page lines columns FromStart t h = keeps-cond lines columns (is_empty t.rendition) _ (keeps-map lines columns (λ place. record t { picture = erased_page FromStart place t.picture }) t.cursor (λ place. size-erased_page lines columns FromStart place t.picture h))
-size-erase_page lines columns All t h = keeps-cond lines columns (is_empty t.rendition) _ (keeps-some lines columns (record t { picture = map blanked t.picture }) (size-erased_page lines columns All (0, 0) t.picture h))
+size-erase_page lines columns ToEnd t h = keeps-cond lines columns (is_empty t.rendition) _ (keeps-map lines columns (λ place. record t { picture = erased_page ToEnd place t.picture }) t.cursor
+    (λ place. size-erased_page lines columns ToEnd place t.picture h))
+size-erase_page lines columns FromStart t h = keeps-cond lines columns (is_empty t.rendition) _ (keeps-map lines columns
+    (λ place. record t { picture = erased_page FromStart place t.picture }) t.cursor (λ place. size-erased_page lines columns FromStart place t.picture h))
+size-erase_page lines columns All t h = keeps-cond lines columns (is_empty t.rendition) _ (keeps-some lines columns (record t { picture = map blanked t.picture })
+    (size-erased_page lines columns All (0, 0) t.picture h))
 
 size-effect : (lines columns : ℕ) (item : Item) (t : Terminal) → HasSize lines columns t.picture → Keeps lines columns (effect item t)
 size-effect lines columns (Printable byte) t h = keeps-map lines columns (printed byte t) t.cursor
@@ -107,8 +112,10 @@ size-effect lines columns (Control CUP parameters) t h = keeps-then lines column
     (λ place. keeps-cond lines columns (is_place t.picture place) (Some (record t { cursor = Some place })) (keeps-some lines columns (record t { cursor = Some place }) h))
 size-effect lines columns (Control ED parameters) t h = keeps-then lines columns (λ how. erase_page how t) (erasure parameters) (λ how. size-erase_page lines columns how t h)
 size-effect lines columns (Control EL parameters) t h = keeps-then lines columns (λ how. erase_line how t) (erasure parameters)
-    (λ how. keeps-cond lines columns (is_empty t.rendition) _ (keeps-map lines columns (λ place. record t { picture = erased_at how place t.picture }) t.cursor (λ place. size-erased_at lines columns how place t.picture h)))
-size-effect lines columns (Control SGR parameters) t h = keeps-map lines columns (λ rendition. record t { rendition = rendition }) (select_all (map (number_or 0) parameters) t.rendition) (λ rendition. h)
+    (λ how. keeps-cond lines columns (is_empty t.rendition) _ (keeps-map lines columns (λ place. record t { picture = erased_at how place t.picture }) t.cursor
+    (λ place. size-erased_at lines columns how place t.picture h)))
+size-effect lines columns (Control SGR parameters) t h = keeps-map lines columns (λ rendition. record t { rendition = rendition }) (select_all (map (number_or 0) parameters) t.rendition)
+    (λ rendition. h)
 size-effect lines columns (Unfinished begun) t h = keeps-some lines columns t h
 
 pub size-effects : (lines columns : ℕ) (items : List Item) (t u : Terminal) → HasSize lines columns t.picture → effects items t ≡ Some u → HasSize lines columns u.picture

@@ -51,7 +51,8 @@ escape-begins = record { begun = omega arith; function = SGR; parameters = [] �
 begun-in_profile : (unfinished : List ℕ) (t : Terminal) → IsBeginning unfinished → IsInProfile unfinished t t
 begun-in_profile unfinished t h = record { items = Unfinished unfinished ∷ []; splits = ([], sym (append-nil unfinished), h, tt, refl); have_effect = refl }
 
-pub unended-in_profile : (stream : List ℕ) (first : Terminal) (reader : Reader) (unfinished : List ℕ) → Unended stream first reader unfinished → IsBeginning unfinished → EndsOrEscapes unfinished → IsInProfile stream first reader.terminal
+pub unended-in_profile : (stream : List ℕ) (first : Terminal) (reader : Reader) (unfinished : List ℕ) → Unended stream first reader unfinished → IsBeginning unfinished → EndsOrEscapes unfinished
+    → IsInProfile stream first reader.terminal
 unended-in_profile stream first reader unfinished h begins there =
     subst (λ (bytes : List ℕ). IsInProfile bytes first reader.terminal) (sym h.whole)
     (InProfile-append h.front unfinished first reader.terminal reader.terminal h.in_profile (begun-in_profile unfinished reader.terminal begins) there)
@@ -194,7 +195,13 @@ module _ (t : Terminal) (ended : List Parameter) (current : Parameter) (at start
   pub printed-follows : (u : Terminal) (byte : ℕ) → IsTrue (is_printable byte) → print byte t ≡ Some u
       → Follows (byte ∷ []) (reader_of t Text ended current at start) (reader_of u Text ended current (counted (at + 1)) start)
   printed-follows u byte printable e stream first h = record {
-    leads = LeadsWithBreaks-append stream (byte ∷ []) first t u h.leads (record { items = Printable byte ∷ []; splits = ([], refl, printable, tt, refl); finished = (tt, tt); have_effect = rw e refl });
+    leads = LeadsWithBreaks-append stream (byte ∷ []) first t u h.leads (record {
+      items = Printable byte ∷ [];
+      splits = ([], refl, printable, tt, refl);
+      finished =
+          (tt, tt);
+      have_effect = rw e refl;
+    });
     read = next-read stream byte at h.read;
   }
 
@@ -229,16 +236,19 @@ module _ (t : Terminal) (ended : List Parameter) (current : Parameter) (at start
 
   pub broken-follows : Follows (27 ∷ []) (reader_of t Parameters ended current at start) (reader_of t Escape ended current (counted (at + 1)) at)
   broken-follows stream first h =
-      broken-off stream first t Parameters ended current at start (introducer ++ join_with_byte separator (h.ended ++ h.current ∷ [])) h.unended (sequence-begins (h.ended ++ h.current ∷ []) h.well_formed) refl
+      broken-off stream first t Parameters ended current at start (introducer ++ join_with_byte separator (h.ended ++ h.current ∷ [])) h.unended
+      (sequence-begins (h.ended ++ h.current ∷ []) h.well_formed) refl
 
-  pub digit-follows : (byte : ℕ) → IsDigit byte → current.digits < 3 → Follows (byte ∷ []) (reader_of t Parameters ended current at start) (reader_of t Parameters ended (longer current byte) (counted (at + 1)) start)
+  pub digit-follows : (byte : ℕ) → IsDigit byte → current.digits < 3 → Follows (byte ∷ []) (reader_of t Parameters ended current at start)
+      (reader_of t Parameters ended (longer current byte) (counted (at + 1)) start)
   digit-follows byte digit few stream first h =
       let long : current.digits ≡ length h.current = ap (λ (p : Parameter). p.digits) h.current_kept in
       record {
         ended = h.ended;
         current = h.current ++ byte ∷ [];
         well_formed = with-digit h.ended h.current byte h.well_formed digit (omega arith);
-        unended = goes-on stream first t Parameters Parameters ended ended current (longer current byte) at start byte (introducer ++ join_with_byte separator (h.ended ++ h.current ∷ [])) (introducer ++ join_with_byte separator (h.ended ++ (h.current ++ byte ∷ []) ∷ [])) h.unended
+        unended = goes-on stream first t Parameters Parameters ended ended current (longer current byte) at start byte (introducer ++ join_with_byte separator (h.ended ++ h.current ∷ []))
+            (introducer ++ join_with_byte separator (h.ended ++ (h.current ++ byte ∷ []) ∷ [])) h.unended
             (ap (λ (bytes : List ℕ). 27 ∷ 91 ∷ bytes) (join-longer h.ended h.current (byte ∷ [])));
         ended_kept = h.ended_kept;
         current_kept = ap (λ (p : Parameter). longer p byte) h.current_kept ∙ parameter_of-digit h.current byte digit;
@@ -303,16 +313,19 @@ module _ (t : Terminal) (ended : List Parameter) (current : Parameter) (at start
       }
 
   -- the same of a terminal and parameters that are these
-  pub Ends-along : (v : Terminal) (others : List Parameter) (last : Parameter) (byte : ℕ) (after : Option Terminal) → reader_of v Parameters others last at start ≡ reader_of t Parameters ended current at start
+  pub Ends-along : (v : Terminal) (others : List Parameter) (last : Parameter) (byte : ℕ) (after : Option Terminal)
+      → reader_of v Parameters others last at start ≡ reader_of t Parameters ended current at start
       → ((digits : List (List ℕ)) → map parameter_of digits ≡ others ++ last ∷ [] → after ≡ option_and_then (λ function. effect (Control function digits) v) (function_of byte)) → Ends byte after
   Ends-along v others last byte after same h =
-      subst (λ (reader : Reader). (digits : List (List ℕ)) → map parameter_of digits ≡ reader.ended ++ reader.current ∷ [] → after ≡ option_and_then (λ function. effect (Control function digits) reader.terminal) (function_of byte)) same h
+      subst (λ (reader : Reader). (digits : List (List ℕ)) → map parameter_of digits ≡ reader.ended ++ reader.current ∷ []
+      → after ≡ option_and_then (λ function. effect (Control function digits) reader.terminal) (function_of byte)) same h
 
   pub ending-follows : (u : Terminal) (byte : ℕ) → Ends byte (Some u) → Follows (byte ∷ []) (reader_of t Parameters ended current at start) (reader_of u Text ended current (counted (at + 1)) start)
   ending-follows u byte ends stream first h = by_function (function_of byte) refl where
     by_function : (o : Option Function) → function_of byte ≡ o → InText (stream ++ byte ∷ []) first (reader_of u Text ended current (counted (at + 1)) start)
     by_function None is =
-        let never : ◌≡◌ {A = Option Terminal} (Some u) None = ends-at stream first byte (Some u) h ends ∙ ap (option_and_then (λ function. effect (Control function (h.ended ++ h.current ∷ [])) t)) is in absurd cc
+        let never : ◌≡◌ {A = Option Terminal} (Some u) None = ends-at stream first byte (Some u) h ends
+        ∙ ap (option_and_then (λ function. effect (Control function (h.ended ++ h.current ∷ [])) t)) is in absurd cc
     by_function (Some function) is =
         finished stream first u byte function h (byte-of_function byte function is)
         (sym (ends-at stream first byte (Some u) h ends ∙ ap (option_and_then (λ function. effect (Control function (h.ended ++ h.current ∷ [])) t)) is))
@@ -322,7 +335,8 @@ module _ (t : Terminal) (ended : List Parameter) (current : Parameter) (at start
   no_end-follows byte other no_digit no_separator ends stream first h =
       fails-there stream first t Parameters ended current at start byte (introducer ++ join_with_byte separator (h.ended ++ h.current ∷ [])) h.unended refl
       (NoEffect-parameters (h.ended ++ h.current ∷ []) byte t h.well_formed other stops
-      (λ function is. sym (ends-at stream first byte None h ends ∙ ap (option_and_then (λ function. effect (Control function (h.ended ++ h.current ∷ [])) t)) (ap function_of is ∙ function_of-byte function)))) where
+      (λ function is. sym (ends-at stream first byte None h ends ∙ ap (option_and_then (λ function. effect (Control function (h.ended ++ h.current ∷ [])) t))
+      (ap function_of is ∙ function_of-byte function)))) where
         stops : IsInner byte → IsBeginning (27 ∷ 91 ∷ (join_with_byte 59 (h.ended ++ h.current ∷ []) ++ byte ∷ [])) → ⊥
         stops inner begins = elim (cases_lt 57 byte) [
           | inl beyond ↦
@@ -404,12 +418,14 @@ one-standing stream first one other h k = elim (fate stream first one h) [
 
 -- ---- what calls answer
 
-pub when-true : {A : Type 0} (b p : Bool) (x : A) (o : Option A) → b ≡ true → (let one : Option A = if b then Some x else None in one) ≡ (let other : Option A = if p then o else None in other) → (p ≡ true) × (o ≡ Some x)
+pub when-true : {A : Type 0} (b p : Bool) (x : A) (o : Option A) → b ≡ true → (let one : Option A = if b then Some x else None in one) ≡ (let other : Option A = if p then o else None in other)
+    → (p ≡ true) × (o ≡ Some x)
 when-true true true x o h e = (refl, sym e)
 when-true true false x o h e = absurd cc
 when-true false p x o h e = absurd cc
 
-pub when-false : {A : Type 0} (b p : Bool) (x : A) (o : Option A) → b ≡ false → (let one : Option A = if b then Some x else None in one) ≡ (let other : Option A = if p then o else None in other) → p ≡ true → o ≡ None
+pub when-false : {A : Type 0} (b p : Bool) (x : A) (o : Option A) → b ≡ false → (let one : Option A = if b then Some x else None in one) ≡ (let other : Option A = if p then o else None in other)
+    → p ≡ true → o ≡ None
 when-false true p x o h e k = absurd cc
 when-false false true x o h e k = sym e
 when-false false false x o h e k = absurd cc

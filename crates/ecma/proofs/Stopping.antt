@@ -48,7 +48,8 @@ FailsAt-leads stream byte first last h none =
     (sym (length-append stream (byte ∷ []))) (omega arith) none
 
 -- where an escape begins what has no effect
-pub FailsAt-escape : (front rest : List ℕ) (first last : Terminal) → IsInProfile front first last → EndsOrEscapes rest → 0 < length rest → NoEffect rest last → FailsAt (front ++ rest) first (length front) last
+pub FailsAt-escape : (front rest : List ℕ) (first last : Terminal) → IsInProfile front first last → EndsOrEscapes rest → 0 < length rest → NoEffect rest last
+    → FailsAt (front ++ rest) first (length front) last
 FailsAt-escape front rest first last h there some none =
     FailsAt-rest (front ++ rest) h.items rest (length front) first last (Splits-then_escape front h.items [] rest h.splits there) h.have_effect
     (sym (length-append front rest)) some none
@@ -110,17 +111,23 @@ NoEffect-append rest more t some none = record {
 
 Splits-more : (bytes : List ℕ) (items : List Item) (rest more : List ℕ) → 0 < length rest → Splits bytes items rest → Splits (bytes ++ more) items (rest ++ more)
 Splits-more bytes [] rest more some h = ap (λ (front : List ℕ). front ++ more) h
-Splits-more bytes (item ∷ items) rest more some h =
-    (h.0 ++ more, ap (λ (front : List ℕ). front ++ more) h.1 ∙ append_assoc (bytes_of item) h.0 more, h.2, MayPrecede-more item h.0 (Splits-some h.0 items rest some h.4) h.3, Splits-more h.0 items rest more some h.4) where
-      Splits-some : (bytes : List ℕ) (items : List Item) (rest : List ℕ) → 0 < length rest → Splits bytes items rest → 0 < length bytes
-      Splits-some bytes [] rest some h = let same : length bytes ≡ length rest = ap length h in omega arith
-      Splits-some bytes (item ∷ items) rest some h = rw h.1 (omega (arith, bytes_of_some item h.2, length-append (bytes_of item) h.0))
+Splits-more bytes (item ∷ items) rest more some h = (
+  h.0 ++ more,
+  ap (λ (front : List ℕ). front ++ more) h.1 ∙ append_assoc (bytes_of item) h.0 more,
+  h.2,
+  MayPrecede-more item h.0
+      (Splits-some h.0 items rest some h.4) h.3,
+  Splits-more h.0 items rest more some h.4,
+) where
+  Splits-some : (bytes : List ℕ) (items : List Item) (rest : List ℕ) → 0 < length rest → Splits bytes items rest → 0 < length bytes
+  Splits-some bytes [] rest some h = let same : length bytes ≡ length rest = ap length h in omega arith
+  Splits-some bytes (item ∷ items) rest some h = rw h.1 (omega (arith, bytes_of_some item h.2, length-append (bytes_of item) h.0))
 
-      MayPrecede-more : (item : Item) (following : List ℕ) → 0 < length following → MayPrecede item following → MayPrecede item (following ++ more)
-      MayPrecede-more (Printable byte) following some h = tt
-      MayPrecede-more (Control function parameters) following some h = tt
-      MayPrecede-more (Unfinished begun) [] some h = absurd (omega arith)
-      MayPrecede-more (Unfinished begun) (byte ∷ following) some h = h
+  MayPrecede-more : (item : Item) (following : List ℕ) → 0 < length following → MayPrecede item following → MayPrecede item (following ++ more)
+  MayPrecede-more (Printable byte) following some h = tt
+  MayPrecede-more (Control function parameters) following some h = tt
+  MayPrecede-more (Unfinished begun) [] some h = absurd (omega arith)
+  MayPrecede-more (Unfinished begun) (byte ∷ following) some h = h
 
 -- nothing beyond the failure has an effect
 NoEffect-failed : (stream : List ℕ) (offset : ℕ) (first last : Terminal) (h : FailsAt stream first offset last) → NoEffect h.reaches.rest last
@@ -130,7 +137,8 @@ NoEffect-failed stream offset first last h = record {
       let at = h.reaches.at in let some = bytes_of_some item is in omega arith)
       (effect item last) refl;
 } where
-  none_from : (item : Item) (following : List ℕ) → Splits stream (h.reaches.items ++ item ∷ []) following → offset + length following < length stream → (o : Option Terminal) → effect item last ≡ o → o ≡ None
+  none_from : (item : Item) (following : List ℕ) → Splits stream (h.reaches.items ++ item ∷ []) following → offset + length following < length stream → (o : Option Terminal) → effect item last ≡ o
+      → o ≡ None
   none_from item following splits less None e = refl
   none_from item following splits less (Some u) e =
       absurd (let beyond = h.greatest (length stream - length following) u (record {

@@ -50,7 +50,8 @@ digits-inner (digit ∷ digits) h = ((h.0.0, omega (arith, h.0.1)), digits-inner
 pub joined-inner : (parameters : List (List ℕ)) → AllByRecursion (AllByRecursion IsDigit) parameters → AllByRecursion IsInner (join_with_byte 59 parameters)
 joined-inner [] h = tt
 joined-inner (digits ∷ []) h = digits-inner digits h.0
-joined-inner (digits ∷ next ∷ parameters) h = All-append digits (59 ∷ join_with_byte 59 (next ∷ parameters)) (digits-inner digits h.0) ((omega arith, omega arith), joined-inner (next ∷ parameters) h.1)
+joined-inner (digits ∷ next ∷ parameters) h = All-append digits (59 ∷ join_with_byte 59 (next ∷ parameters)) (digits-inner digits h.0)
+    ((omega arith, omega arith), joined-inner (next ∷ parameters) h.1)
 
 pub final-stops : (function : Function) (bytes : List ℕ) → Stops IsInner (final_byte function ∷ bytes)
 final-stops CUP bytes = λ h. omega (arith, h.1)
@@ -122,7 +123,8 @@ front-inner (x ∷ p) (y ∷ q) m missing final h e =
     let tail : p ++ m ∷ missing ≡ q ++ final ∷ [] = cc in
     (rw head h.0, front-inner p q m missing final h.1 tail)
 
-shape : (bytes missing : List ℕ) (function : Function) (parameters : List (List ℕ)) → 0 < length bytes → 0 < length missing → AreParameters parameters → bytes ++ missing ≡ bytes_of (Control function parameters)
+shape : (bytes missing : List ℕ) (function : Function) (parameters : List (List ℕ)) → 0 < length bytes → 0 < length missing → AreParameters parameters
+    → bytes ++ missing ≡ bytes_of (Control function parameters)
     → (bytes ≡ 27 ∷ []) ⊎ Inner bytes
 shape [] missing function parameters some more h e = absurd (omega arith)
 shape (x ∷ bytes) [] function parameters some more h e = absurd (omega arith)

@@ -184,7 +184,8 @@ impl Page {
 impl Page {
     /// Executes the control function that a byte ends, with these parameters and a last one behind them.
     pub fn control(&mut self, byte: u8, ended: &[Parameter], last: Parameter) -> bool
-        ensures effect { (digits : List (List ℕ)) → map parameter_of digits ≡ ended.now ++ last ∷ [] → (if result then Some self.new else None) ≡ option_and_then (λ function. effect (Control function digits) self.old) (function_of byte) }
+        ensures effect { (digits : List (List ℕ)) → map parameter_of digits ≡ ended.now ++ last ∷ []
+            → (if result then Some self.new else None) ≡ option_and_then (λ function. effect (Control function digits) self.old) (function_of byte) }
         ensures same { result ≡ false → self.new ≡ self.old }
     {
         match byte {
@@ -206,7 +207,8 @@ impl Page {
     }
 
     fn select(&mut self, ended: &[Parameter], last: Parameter) -> bool
-        ensures effect { (digits : List (List ℕ)) → map parameter_of digits ≡ ended.now ++ last ∷ [] → (if result then Some self.new else None) ≡ effect (Control SGR digits) self.old }
+        ensures effect { (digits : List (List ℕ)) → map parameter_of digits ≡ ended.now ++ last ∷ []
+            → (if result then Some self.new else None) ≡ effect (Control SGR digits) self.old }
         ensures same { result ≡ false → self.new ≡ self.old }
     {
         match select_all(ended, last, self.rendition) {

@@ -107,7 +107,8 @@ impl Terminal {
 
     /// Where the stream that was read leaves the profile, and none where it is in the profile.
     pub fn fault(&self) -> Option<NotInProfile>
-        ensures profile { (stream : List ℕ) (first : Terminals.Terminal) → StandsAfter stream first self.now → IfNone result (IsInProfile stream first self.now.terminal) }
+        ensures profile { (stream : List ℕ) (first : Terminals.Terminal) → StandsAfter stream first self.now
+            → IfNone result (IsInProfile stream first self.now.terminal) }
         ensures fault { (stream : List ℕ) (first : Terminals.Terminal) → StandsAfter stream first self.now
             → IfSome result (λ fault. HasFailed stream first self.now.terminal fault.at) }
     {

@@ -54,7 +54,8 @@ fn append_ill_formed(text: &mut Finding, word: &[u8], ill: IllFormed<'_>)
     requires room { length text.old.items ≤ 64 }
     requires word { length word.now ≤ LONGEST_LINE }
     requires argument { length ill.argument.now ≤ LONGEST_LINE }
-    ensures text { text.new.items ≡ text.old.items ++ ill_formed_text word.now (record { column = ill.entry.column; form = ill.entry.form; argument = ill.entry.argument.now }) }
+    ensures text { text.new.items ≡ text.old.items ++ ill_formed_text word.now (record
+        { column = ill.entry.column; form = ill.entry.form; argument = ill.entry.argument.now }) }
     ensures short { length text.new.items < FINDING_ROOM }
 {
     append(text, word);

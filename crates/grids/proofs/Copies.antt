@@ -25,7 +25,8 @@ shown-some : (overlay : Bool) (c : Glyph) → is_some (overlaid overlay c) ≡ t
 shown-some overlay c h = by_space (overlay && (c.character == 32)) c h
 
 -- one cell that is copied is a row of one column
-one-shown-at : (window : WindowMap) (src sy sx dy dx : ℕ) (overlay : Bool) → is_some (overlaid overlay (cell_at window src sy sx)) ≡ true → (y x : ℕ) → filled dy dx dx (cell_at window src sy sx) y x ≡ copied window src sy sx dy dx 1 overlay y x
+one-shown-at : (window : WindowMap) (src sy sx dy dx : ℕ) (overlay : Bool) → is_some (overlaid overlay (cell_at window src sy sx)) ≡ true → (y x : ℕ)
+    → filled dy dx dx (cell_at window src sy sx) y x ≡ copied window src sy sx dy dx 1 overlay y x
 one-shown-at window src sy sx dy dx overlay h y x =
     let v = shown-some overlay (cell_at window src sy sx) h in
     elim (cases_eq x dx) [
@@ -33,7 +34,8 @@ one-shown-at window src sy sx dy dx overlay h y x =
       | inr other ↦ (let ne : x ≡ dx → ⊥ = other in grind (arith, nat_tests))
     ]
 
-pub one-shown : (window : WindowMap) (src sy sx dy dx : ℕ) (overlay : Bool) → is_some (overlaid overlay (cell_at window src sy sx)) ≡ true → filled dy dx dx (cell_at window src sy sx) ≡ copied window src sy sx dy dx 1 overlay
+pub one-shown : (window : WindowMap) (src sy sx dy dx : ℕ) (overlay : Bool) → is_some (overlaid overlay (cell_at window src sy sx)) ≡ true
+    → filled dy dx dx (cell_at window src sy sx) ≡ copied window src sy sx dy dx 1 overlay
 one-shown window src sy sx dy dx overlay h = fun_ext (λ y. fun_ext (λ x. one-shown-at window src sy sx dy dx overlay h y x))
 
 -- one cell that is left out
@@ -41,7 +43,8 @@ none_of : (o : Option Glyph) → is_some o ≡ false → o ≡ None
 none_of None h = refl
 none_of (Some c) h = cc
 
-pub one-hidden : (window : WindowMap) (src sy sx dy dx : ℕ) (overlay : Bool) → is_some (overlaid overlay (cell_at window src sy sx)) ≡ false → (y x : ℕ) → copied window src sy sx dy dx 1 overlay y x ≡ None
+pub one-hidden : (window : WindowMap) (src sy sx dy dx : ℕ) (overlay : Bool) → is_some (overlaid overlay (cell_at window src sy sx)) ≡ false → (y x : ℕ)
+    → copied window src sy sx dy dx 1 overlay y x ≡ None
 one-hidden window src sy sx dy dx overlay h y x =
     let v = none_of (overlaid overlay (cell_at window src sy sx)) h in
     elim (cases_eq x dx) [
@@ -54,7 +57,8 @@ off false v u h = refl
 off true v u h = cc
 
 -- the new cell is taken where it is, and the old ones elsewhere
-pub pick_new : (t1 t2 t3 : Bool) (v u : Option Glyph) → t1 ≡ t3 → t2 ≡ false → (if is_some (if t1 then v else None) then (if t1 then v else None) else (if t2 then u else None)) ≡ (if t3 then v else None)
+pub pick_new : (t1 t2 t3 : Bool) (v u : Option Glyph) → t1 ≡ t3 → t2 ≡ false → (if is_some (if t1 then v else None) then (if t1 then v else None) else (if t2 then u else None))
+    ≡ (if t3 then v else None)
 pick_new true false true None u e f = refl
 pick_new true false true (Some c) u e f = refl
 pick_new false false false v u e f = refl
@@ -62,12 +66,14 @@ pick_new true t2 false v u e f = cc
 pick_new false t2 true v u e f = cc
 pick_new t1 true t3 v u e f = cc
 
-pub pick_old : (t1 t2 t3 : Bool) (v u : Option Glyph) → t1 ≡ false → t2 ≡ t3 → (if is_some (if t1 then v else None) then (if t1 then v else None) else (if t2 then u else None)) ≡ (if t3 then u else None)
+pub pick_old : (t1 t2 t3 : Bool) (v u : Option Glyph) → t1 ≡ false → t2 ≡ t3 → (if is_some (if t1 then v else None) then (if t1 then v else None) else (if t2 then u else None))
+    ≡ (if t3 then u else None)
 pick_old false t2 t3 v u e f = ap (λ (t : Bool). if t then u else None) f
 pick_old true t2 t3 v u e f = cc
 
 -- one more cell after those that were copied
-more-after-at : (window : WindowMap) (src sy sx dy dx k : ℕ) (overlay : Bool) (y x : ℕ) → over (copied window src sy (sx + k) dy (dx + k) 1 overlay) (copied window src sy sx dy dx k overlay) y x ≡ copied window src sy sx dy dx (k + 1) overlay y x
+more-after-at : (window : WindowMap) (src sy sx dy dx k : ℕ) (overlay : Bool) (y x : ℕ) → over (copied window src sy (sx + k) dy (dx + k) 1 overlay) (copied window src sy sx dy dx k overlay) y x
+    ≡ copied window src sy sx dy dx (k + 1) overlay y x
 more-after-at window src sy sx dy dx k overlay y x =
     let t1 = (y == dy) && (nat_le (dx + k) x && nat_lt x (dx + k + 1)) in
     let t2 = (y == dy) && (nat_le dx x && nat_lt x (dx + k)) in
@@ -78,14 +84,18 @@ more-after-at window src sy sx dy dx k overlay y x =
           let e1 : sx + k + (x - (dx + k)) ≡ sx + (x - dx) = omega (arith, same) in
           ap (λ j. if is_some (if t1 then at j else None) then (if t1 then at j else None) else (if t2 then at (sx + (x - dx)) else None)) e1
           ∙ pick_new t1 t2 t3 (at (sx + (x - dx))) (at (sx + (x - dx))) (let le : x ≡ dx + k = same in grind (arith, nat_tests)) (let le : x ≡ dx + k = same in grind (arith, nat_tests))
-      | inr other ↦ pick_old t1 t2 t3 (at (sx + k + (x - (dx + k)))) (at (sx + (x - dx))) (let ne : x ≡ dx + k → ⊥ = other in grind (arith, nat_tests)) (let ne : x ≡ dx + k → ⊥ = other in grind (arith, nat_tests))
+      | inr other ↦ pick_old t1 t2 t3 (at (sx + k + (x - (dx + k)))) (at (sx + (x - dx))) (let ne : x ≡ dx + k → ⊥ = other in grind (arith, nat_tests))
+          (let ne : x ≡ dx + k → ⊥ = other in grind (arith, nat_tests))
     ]
 
-pub more-after : (window : WindowMap) (src sy sx dy dx k : ℕ) (overlay : Bool) → over (copied window src sy (sx + k) dy (dx + k) 1 overlay) (copied window src sy sx dy dx k overlay) ≡ copied window src sy sx dy dx (k + 1) overlay
+pub more-after : (window : WindowMap) (src sy sx dy dx k : ℕ) (overlay : Bool) → over (copied window src sy (sx + k) dy (dx + k) 1 overlay) (copied window src sy sx dy dx k overlay)
+    ≡ copied window src sy sx dy dx (k + 1) overlay
 more-after window src sy sx dy dx k overlay = fun_ext (λ y. fun_ext (λ x. more-after-at window src sy sx dy dx k overlay y x))
 
 -- one more cell before those that were copied
-more-before-at : (window : WindowMap) (src sy sx dy dx k n : ℕ) (overlay : Bool) → k < n → (y x : ℕ) → over (copied window src sy (sx + k) dy (dx + k) 1 overlay) (copied window src sy (sx + (k + 1)) dy (dx + (k + 1)) (n - (k + 1)) overlay) y x ≡ copied window src sy (sx + k) dy (dx + k) (n - k) overlay y x
+more-before-at : (window : WindowMap) (src sy sx dy dx k n : ℕ) (overlay : Bool) → k < n → (y x : ℕ)
+    → over (copied window src sy (sx + k) dy (dx + k) 1 overlay) (copied window src sy (sx + (k + 1)) dy (dx + (k + 1)) (n - (k + 1)) overlay) y x
+    ≡ copied window src sy (sx + k) dy (dx + k) (n - k) overlay y x
 more-before-at window src sy sx dy dx k n overlay h y x =
     let t1 = (y == dy) && (nat_le (dx + k) x && nat_lt x (dx + k + 1)) in
     let t2 = (y == dy) && (nat_le (dx + (k + 1)) x && nat_lt x (dx + (k + 1) + (n - (k + 1)))) in
@@ -105,12 +115,14 @@ more-before-at window src sy sx dy dx k n overlay h y x =
       ]
     ]
 
-pub more-before : (window : WindowMap) (src sy sx dy dx k n : ℕ) (overlay : Bool) → k < n → over (copied window src sy (sx + k) dy (dx + k) 1 overlay) (copied window src sy (sx + (k + 1)) dy (dx + (k + 1)) (n - (k + 1)) overlay) ≡ copied window src sy (sx + k) dy (dx + k) (n - k) overlay
+pub more-before : (window : WindowMap) (src sy sx dy dx k n : ℕ) (overlay : Bool) → k < n → over (copied window src sy (sx + k) dy (dx + k) 1 overlay)
+    (copied window src sy (sx + (k + 1)) dy (dx + (k + 1)) (n - (k + 1)) overlay) ≡ copied window src sy (sx + k) dy (dx + k) (n - k) overlay
 more-before window src sy sx dy dx k n overlay h = fun_ext (λ y. fun_ext (λ x. more-before-at window src sy sx dy dx k n overlay h y x))
 
 -- the first state of a copy, of no cell
 pub copied-none : (window : WindowMap) (src sy sx dy dx n : ℕ) (overlay : Bool) → n ≡ 0 → (y x : ℕ) → copied window src sy sx dy dx n overlay y x ≡ None
-copied-none window src sy sx dy dx n overlay h y x = off ((y == dy) && (nat_le dx x && nat_lt x (dx + n))) (overlaid overlay (cell_at window src sy (sx + (x - dx)))) None (grind (arith, nat_tests)) ∙ either_none ((y == dy) && (nat_le dx x && nat_lt x (dx + n)))
+copied-none window src sy sx dy dx n overlay h y x = off ((y == dy) && (nat_le dx x && nat_lt x (dx + n))) (overlaid overlay (cell_at window src sy (sx + (x - dx)))) None (grind (arith, nat_tests))
+    ∙ either_none ((y == dy) && (nat_le dx x && nat_lt x (dx + n)))
 
 out_test : (y x dy dx n : ℕ) → (x < dx) ⊎ (dx + n ≤ x) → ((y == dy) && (nat_le dx x && nat_lt x (dx + n))) ≡ false
 out_test y x dy dx n h = grind (arith, nat_tests)
@@ -129,12 +141,14 @@ place_below (Some a) y x z h le = (h.0, omega (arith, h.1))
 -- places that a drawing leaves out
 copied-out : (window : WindowMap) (src sy sx dy dx n : ℕ) (overlay : Bool) (y x : ℕ) → (x < dx) ⊎ (dx + n ≤ x) → copied window src sy sx dy dx n overlay y x ≡ None
 copied-out window src sy sx dy dx n overlay y x h =
-    off ((y == dy) && (nat_le dx x && nat_lt x (dx + n))) (overlaid overlay (cell_at window src sy (sx + (x - dx)))) None (out_test y x dy dx n h) ∙ either_none ((y == dy) && (nat_le dx x && nat_lt x (dx + n)))
+    off ((y == dy) && (nat_le dx x && nat_lt x (dx + n))) (overlaid overlay (cell_at window src sy (sx + (x - dx)))) None (out_test y x dy dx n h)
+    ∙ either_none ((y == dy) && (nat_le dx x && nat_lt x (dx + n)))
 
 missed : (to : GridPlace) (a : Window) (f : Drawing) (line col : ℕ) → ((y : ℕ) → to.column ≤ col → f y (col - to.column) ≡ None) → moved to (within a f) line col ≡ None
 missed to a f line col h =
     elim (cases_lt col to.column) [
-      | inl below ↦ off (nat_le to.line line && nat_le to.column col) (within a f (line - to.line) (col - to.column)) None (left_test to.line line to.column col below) ∙ either_none (nat_le to.line line && nat_le to.column col)
+      | inl below ↦ off (nat_le to.line line && nat_le to.column col) (within a f (line - to.line) (col - to.column)) None (left_test to.line line to.column col below)
+          ∙ either_none (nat_le to.line line && nat_le to.column col)
       | inr up ↦
           none_either (nat_le to.line line && nat_le to.column col) (within a f (line - to.line) (col - to.column))
           (none_either (nat_lt (line - to.line) a.lines && nat_lt (col - to.column) a.columns) (f (line - to.line) (col - to.column)) (h (line - to.line) up))
@@ -144,10 +158,12 @@ missed to a f line col h =
 pub read-kept : (window : WindowMap) (src dst : ℕ) (from to : GridPlace) (a : Window) (f : Drawing) (sy sx : ℕ) → window dst ≡ Some a → own window dst 0 0 ≡ Some to → own window src 0 0 ≡ Some from →
     ((y : ℕ) → to.column ≤ from.column + sx → f y (from.column + sx - to.column) ≡ None) → cell_at (put_windows window dst f) src sy sx ≡ cell_at window src sy sx
 read-kept window src dst from to a f sy sx e leads_to leads_from h =
-    cell_at-kept window dst a to f src sy sx (onward sy sx from) e leads_to (own-onward window src sy sx ∙ ap (option_map (onward sy sx)) leads_from) (missed to a f (from.line + sy) (from.column + sx) h)
+    cell_at-kept window dst a to f src sy sx (onward sy sx from) e leads_to (own-onward window src sy sx ∙ ap (option_map (onward sy sx)) leads_from)
+    (missed to a f (from.line + sy) (from.column + sx) h)
 
 -- what is copied depends on the cells that are read
-pub copied-same : (v w : WindowMap) (src sy sx dy dx n : ℕ) (overlay : Bool) → ((j : ℕ) → j < n → cell_at v src sy (sx + j) ≡ cell_at w src sy (sx + j)) → copied v src sy sx dy dx n overlay ≡ copied w src sy sx dy dx n overlay
+pub copied-same : (v w : WindowMap) (src sy sx dy dx n : ℕ) (overlay : Bool) → ((j : ℕ) → j < n → cell_at v src sy (sx + j) ≡ cell_at w src sy (sx + j))
+    → copied v src sy sx dy dx n overlay ≡ copied w src sy sx dy dx n overlay
 copied-same v w src sy sx dy dx n overlay h = fun_ext (λ y. fun_ext (λ x.
     let t = (y == dy) && (nat_le dx x && nat_lt x (dx + n)) in
     elim (cases_lt (x - dx) n) [
@@ -185,13 +201,15 @@ one-same v w src sy sx dy dx overlay h = copied-same v w src sy sx dy dx 1 overl
 pub HasPlace-below : (w : Windows) (u y x z : ℕ) → HasPlace w.window u y x → z ≤ x → HasPlace w.window u y z
 HasPlace-below w u y x z h le = place_below (w.window u) y x z h le
 
-pub forward-read : (window : WindowMap) (src dst : ℕ) (from to : GridPlace) (a : Window) (sy sx dy dx k : ℕ) (overlay : Bool) → window dst ≡ Some a → own window dst 0 0 ≡ Some to → own window src 0 0 ≡ Some from →
+pub forward-read : (window : WindowMap) (src dst : ℕ) (from to : GridPlace) (a : Window) (sy sx dy dx k : ℕ) (overlay : Bool) → window dst ≡ Some a → own window dst 0 0 ≡ Some to
+    → own window src 0 0 ≡ Some from →
     to.column + dx ≤ from.column + sx → cell_at (put_windows window dst (copied window src sy sx dy dx k overlay)) src sy (sx + k) ≡ cell_at window src sy (sx + k)
 forward-read window src dst from to a sy sx dy dx k overlay e leads_to leads_from le =
     read-kept window src dst from to a (copied window src sy sx dy dx k overlay) sy (sx + k) e leads_to leads_from
     (λ y up. copied-out window src sy sx dy dx k overlay y (from.column + (sx + k) - to.column) (inr (omega arith)))
 
-pub backward-read : (window : WindowMap) (src dst : ℕ) (from to : GridPlace) (a : Window) (sy sx dy dx k n : ℕ) (overlay : Bool) → window dst ≡ Some a → own window dst 0 0 ≡ Some to → own window src 0 0 ≡ Some from →
+pub backward-read : (window : WindowMap) (src dst : ℕ) (from to : GridPlace) (a : Window) (sy sx dy dx k n : ℕ) (overlay : Bool) → window dst ≡ Some a → own window dst 0 0 ≡ Some to
+    → own window src 0 0 ≡ Some from →
     from.column + sx < to.column + dx → cell_at (put_windows window dst (copied window src sy (sx + (k + 1)) dy (dx + (k + 1)) n overlay)) src sy (sx + k) ≡ cell_at window src sy (sx + k)
 backward-read window src dst from to a sy sx dy dx k n overlay e leads_to leads_from lt =
     read-kept window src dst from to a (copied window src sy (sx + (k + 1)) dy (dx + (k + 1)) n overlay) sy (sx + k) e leads_to leads_from

@@ -18,7 +18,8 @@ use Rattle.slots.proofs.OneSlot.{slot_below}
 use Rattle.grids.proofs.Changes.{IsStandardOf, standard-still}
 use Rattle.slots.proofs.Origins.{origins-without}
 
-stands_without : (old new : List (Option Kept)) (at : ℕ) → SetAt old new at None → (k : Kept) (cells : Cells) → ((part : Part) → cells ≡ Shared part → part.parent ≢ at) → StandsIn old k cells → StandsIn new k cells
+stands_without : (old new : List (Option Kept)) (at : ℕ) → SetAt old new at None → (k : Kept) (cells : Cells) → ((part : Part) → cells ≡ Shared part → part.parent ≢ at) → StandsIn old k cells
+    → StandsIn new k cells
 stands_without old new at set k (Own a) apart h = h
 stands_without old new at set k (Shared p) apart h = rw (set.others p.parent (apart p refl)) h
 
@@ -36,7 +37,8 @@ any_below-at (suc n) test k h lt =
       | inr less ↦ any_below-at n test k parts.1 (omega arith)
     ]
 
-none_derives : (slots : List (Option Kept)) (at : ℕ) → length slots ≤ MOST_WINDOWS + 1 → has_derived (window_map slots) at ≡ false → (w : ℕ) (k : Kept) (part : Part) → slot_at slots w ≡ Some k → k.cells ≡ Shared part → part.parent ≢ at
+none_derives : (slots : List (Option Kept)) (at : ℕ) → length slots ≤ MOST_WINDOWS + 1 → has_derived (window_map slots) at ≡ false → (w : ℕ) (k : Kept) (part : Part) → slot_at slots w ≡ Some k
+    → k.cells ≡ Shared part → part.parent ≢ at
 none_derives slots at few h w k part e is same =
     let test : ℕ → Bool = λ u. names_parent at (slot_at slots u) in
     let bound : w < window_limit = omega (arith, limit-is, slot_below slots w k e) in
@@ -44,7 +46,8 @@ none_derives slots at few h w k part e is same =
     let yes : names_parent at (Some k) ≡ true = rw is (eq-eqb part.parent at same) in
     false≢true (sym no ∙ yes)
 
-placed_without : (t : WindowTable) (new : List (Option Kept)) (at : ℕ) → SetAt t.slots new at None → IsWindowTable t → (w : ℕ) → MatchOption (slot_at new w) ⊤ (λ k. IsOnScreen t.lines t.columns (window_of k))
+placed_without : (t : WindowTable) (new : List (Option Kept)) (at : ℕ) → SetAt t.slots new at None → IsWindowTable t → (w : ℕ)
+    → MatchOption (slot_at new w) ⊤ (λ k. IsOnScreen t.lines t.columns (window_of k))
 placed_without t new at set s w = elim (cases_eq w at) [
   | inl same ↦ let none : slot_at new w ≡ None = ap (slot_at new) same ∙ set.here in rw none tt
   | inr other ↦ let stays : slot_at new w ≡ slot_at t.slots w = set.others w other in rw stays (s.placed w)
@@ -60,7 +63,8 @@ chained_without t new at set s h = record {
   ];
 }
 
-pub IsWindowTable-without : (t : WindowTable) (new : List (Option Kept)) (at : ℕ) → SetAt t.slots new at None → IsWindowTable t → at ≢ 0 → has_derived (window_map t.slots) at ≡ false → IsWindowTable (record t { slots = new })
+pub IsWindowTable-without : (t : WindowTable) (new : List (Option Kept)) (at : ℕ) → SetAt t.slots new at None → IsWindowTable t → at ≢ 0 → has_derived (window_map t.slots) at ≡ false
+    → IsWindowTable (record t { slots = new })
 IsWindowTable-without t new at set s other h = record {
   some_slot = omega (arith, s.some_slot, set.size);
   few_slots = set.few;

@@ -15,7 +15,8 @@ use Rattle.grids.proofs.Copies.{either_none, off, pick_new, pick_old, none_eithe
 rectangle_out : (y x dy dx lines columns : ℕ) → (y < dy) ⊎ (dy + lines ≤ y) → ((nat_le dy y && nat_lt y (dy + lines)) && (nat_le dx x && nat_lt x (dx + columns))) ≡ false
 rectangle_out y x dy dx lines columns h = grind (arith, nat_tests)
 
-rectangle-out : (window : WindowMap) (src sy sx dy dx lines columns : ℕ) (overlay : Bool) (y x : ℕ) → (y < dy) ⊎ (dy + lines ≤ y) → rectangle_copied window src sy sx dy dx lines columns overlay y x ≡ None
+rectangle-out : (window : WindowMap) (src sy sx dy dx lines columns : ℕ) (overlay : Bool) (y x : ℕ) → (y < dy) ⊎ (dy + lines ≤ y)
+    → rectangle_copied window src sy sx dy dx lines columns overlay y x ≡ None
 rectangle-out window src sy sx dy dx lines columns overlay y x h =
     let t = (nat_le dy y && nat_lt y (dy + lines)) && (nat_le dx x && nat_lt x (dx + columns)) in
     off t (overlaid overlay (cell_at window src (sy + (y - dy)) (sx + (x - dx)))) None (rectangle_out y x dy dx lines columns h) ∙ either_none t
@@ -60,14 +61,16 @@ module _ (window : WindowMap) (src sx dx columns : ℕ) (overlay : Bool) where
             let e : sy + k ≡ sy + (y - dy) = omega (arith, same) in
             ap (λ v. if is_some (if t1 then line v x else None) then (if t1 then line v x else None) else (if t2 then line (sy + (y - dy)) x else None)) e
             ∙ pick_new t1 t2 t3 (line (sy + (y - dy)) x) (line (sy + (y - dy)) x) (let le : y ≡ dy + k = same in grind (arith, nat_tests)) (let le : y ≡ dy + k = same in grind (arith, nat_tests))
-        | inr other ↦ pick_old t1 t2 t3 (line (sy + k) x) (line (sy + (y - dy)) x) (let ne : y ≡ dy + k → ⊥ = other in grind (arith, nat_tests)) (let ne : y ≡ dy + k → ⊥ = other in grind (arith, nat_tests))
+        | inr other ↦ pick_old t1 t2 t3 (line (sy + k) x) (line (sy + (y - dy)) x) (let ne : y ≡ dy + k → ⊥ = other in grind (arith, nat_tests))
+            (let ne : y ≡ dy + k → ⊥ = other in grind (arith, nat_tests))
       ]
 
   pub line-after : (sy dy k : ℕ) → over (copied window src (sy + k) sx (dy + k) dx columns overlay) (rectangle_copied window src sy sx dy dx k columns overlay)
       ≡ rectangle_copied window src sy sx dy dx (k + 1) columns overlay
   line-after sy dy k = fun_ext (λ y. fun_ext (λ x. after-at sy dy k y x))
 
-  before-at : (sy dy k n y x : ℕ) → k < n → over (copied window src (sy + k) sx (dy + k) dx columns overlay) (rectangle_copied window src (sy + (k + 1)) sx (dy + (k + 1)) dx (n - (k + 1)) columns overlay) y x
+  before-at : (sy dy k n y x : ℕ) → k < n → over (copied window src (sy + k) sx (dy + k) dx columns overlay)
+      (rectangle_copied window src (sy + (k + 1)) sx (dy + (k + 1)) dx (n - (k + 1)) columns overlay) y x
       ≡ rectangle_copied window src (sy + k) sx (dy + k) dx (n - k) columns overlay y x
   unfolding line
   before-at sy dy k n y x h =
@@ -91,7 +94,8 @@ module _ (window : WindowMap) (src sx dx columns : ℕ) (overlay : Bool) where
         ]
       ]
 
-  pub line-before : (sy dy k n : ℕ) → k < n → over (copied window src (sy + k) sx (dy + k) dx columns overlay) (rectangle_copied window src (sy + (k + 1)) sx (dy + (k + 1)) dx (n - (k + 1)) columns overlay)
+  pub line-before : (sy dy k n : ℕ) → k < n → over (copied window src (sy + k) sx (dy + k) dx columns overlay)
+      (rectangle_copied window src (sy + (k + 1)) sx (dy + (k + 1)) dx (n - (k + 1)) columns overlay)
       ≡ rectangle_copied window src (sy + k) sx (dy + k) dx (n - k) columns overlay
   line-before sy dy k n h = fun_ext (λ y. fun_ext (λ x. before-at sy dy k n y x h))
 
@@ -106,7 +110,8 @@ missed_line to a f y x h =
           (none_either (nat_lt (y - to.line) a.lines && nat_lt (x - to.column) a.columns) (f (y - to.line) (x - to.column)) (h (x - to.column) below))
     ]
 
-module _ (window : WindowMap) (src dst : ℕ) (from to : GridPlace) (a : Window) (there : window dst ≡ Some a) (leads_to : own window dst 0 0 ≡ Some to) (leads_from : own window src 0 0 ≡ Some from) where
+module _ (window : WindowMap) (src dst : ℕ) (from to : GridPlace) (a : Window) (there : window dst ≡ Some a) (leads_to : own window dst 0 0 ≡ Some to)
+    (leads_from : own window src 0 0 ≡ Some from) where
   line-kept : (f : Drawing) (sy sx : ℕ) → ((z : ℕ) → to.line ≤ from.line + sy → f (from.line + sy - to.line) z ≡ None) → cell_at (put_windows window dst f) src sy sx ≡ cell_at window src sy sx
   line-kept f sy sx h =
       cell_at-kept window dst a to f src sy sx (onward sy sx from) there leads_to (own-onward window src sy sx ∙ ap (option_map (onward sy sx)) leads_from)
@@ -114,7 +119,8 @@ module _ (window : WindowMap) (src dst : ℕ) (from to : GridPlace) (a : Window)
 
   -- below the lines that were written
   pub downward-same : (sy sx dy dx k columns : ℕ) (overlay : Bool) → to.line + dy ≤ from.line + sy
-      → copied (put_windows window dst (rectangle_copied window src sy sx dy dx k columns overlay)) src (sy + k) sx (dy + k) dx columns overlay ≡ copied window src (sy + k) sx (dy + k) dx columns overlay
+      → copied (put_windows window dst (rectangle_copied window src sy sx dy dx k columns overlay)) src (sy + k) sx (dy + k) dx columns overlay
+      ≡ copied window src (sy + k) sx (dy + k) dx columns overlay
   downward-same sy sx dy dx k columns overlay le =
       let f = rectangle_copied window src sy sx dy dx k columns overlay in
       copied-same (put_windows window dst f) window src (sy + k) sx (dy + k) dx columns overlay
@@ -122,7 +128,8 @@ module _ (window : WindowMap) (src dst : ℕ) (from to : GridPlace) (a : Window)
 
   -- above them
   pub upward-same : (sy sx dy dx k n columns : ℕ) (overlay : Bool) → from.line + sy < to.line + dy
-      → copied (put_windows window dst (rectangle_copied window src (sy + (k + 1)) sx (dy + (k + 1)) dx n columns overlay)) src (sy + k) sx (dy + k) dx columns overlay ≡ copied window src (sy + k) sx (dy + k) dx columns overlay
+      → copied (put_windows window dst (rectangle_copied window src (sy + (k + 1)) sx (dy + (k + 1)) dx n columns overlay)) src (sy + k) sx (dy + k) dx columns overlay
+      ≡ copied window src (sy + k) sx (dy + k) dx columns overlay
   upward-same sy sx dy dx k n columns overlay lt =
       let f = rectangle_copied window src (sy + (k + 1)) sx (dy + (k + 1)) dx n columns overlay in
       copied-same (put_windows window dst f) window src (sy + k) sx (dy + k) dx columns overlay

@@ -52,7 +52,8 @@ placed_pad lines columns n m src k e = subst (λ (a : Window). IsOnScreen lines 
 -- it is put under a free number
 
 module _ (t : WindowTable) (new : List (Option Kept)) (m : ℕ) (k : Kept) (set : SetAt t.slots new m (Some k)) where
-  pub IsWindowTable-added : IsWindowTable t → IsFree t.slots m → IsKept k → StandsIn t.slots k k.cells → IsOnScreen t.lines t.columns (window_of k) → (IsChained new → HasOrigin new m k) → IsWindowTable (record t { slots = new })
+  pub IsWindowTable-added : IsWindowTable t → IsFree t.slots m → IsKept k → StandsIn t.slots k k.cells → IsOnScreen t.lines t.columns (window_of k) → (IsChained new → HasOrigin new m k)
+      → IsWindowTable (record t { slots = new })
   IsWindowTable-added s free kept stands placed origin = IsWindowTable-filled t new m k s set free.free kept stands placed free.from_one origin
 
   pub windows-added : (a : Window) → window_of k ≡ a → windows (record t { slots = new }) ≡ numbered (windows t) m (Some a)
@@ -65,7 +66,8 @@ kind_from None y x = refl
 kind_from (Some p) y x = refl
 
 pub stands_derived : (slots : List (Option Kept)) (k p : Kept) (part : Part) (n m : ℕ) → part_in k.cells ≡ Some part → slot_at slots part.parent ≡ Some p → k.depth ≡ p.depth + 1
-    → window_of k ≡ new_window n m (place_from p.place part.line part.column) (part_of part.parent part.line part.column) → part.line + n ≤ p.lines → part.column + m ≤ p.columns → StandsIn slots k k.cells
+    → window_of k ≡ new_window n m (place_from p.place part.line part.column) (part_of part.parent part.line part.column) → part.line + n ≤ p.lines → part.column + m ≤ p.columns
+    → StandsIn slots k k.cells
 stands_derived slots k p part n m is e depth made lines columns =
     let fits : FitsIn k part p = record {
       depth = depth;
@@ -79,11 +81,13 @@ stands_derived slots k p part n m is e depth made lines columns =
 
 -- and on the screen, where its parent does
 
-placed_from : (lines columns n m y x h v : ℕ) (src : Backing) (o : Option Place) → MatchOption o ⊤ (λ p. (p.0 + h ≤ lines) × (p.1 + v ≤ columns)) → y + n ≤ h → x + m ≤ v → IsOnScreen lines columns (new_window n m (place_from o y x) src)
+placed_from : (lines columns n m y x h v : ℕ) (src : Backing) (o : Option Place) → MatchOption o ⊤ (λ p. (p.0 + h ≤ lines) × (p.1 + v ≤ columns)) → y + n ≤ h → x + m ≤ v
+    → IsOnScreen lines columns (new_window n m (place_from o y x) src)
 placed_from lines columns n m y x h v src None on below left = tt
 placed_from lines columns n m y x h v src (Some p) on below left = (omega (arith, on.0), omega (arith, on.1))
 
-pub placed_derived : (t : WindowTable) → IsWindowTable t → (w : ℕ) (k p : Kept) (n m y x : ℕ) (src : Backing) → slot_at t.slots w ≡ Some p → window_of k ≡ new_window n m (place_from p.place y x) src → y + n ≤ p.lines → x + m ≤ p.columns
+pub placed_derived : (t : WindowTable) → IsWindowTable t → (w : ℕ) (k p : Kept) (n m y x : ℕ) (src : Backing) → slot_at t.slots w ≡ Some p
+    → window_of k ≡ new_window n m (place_from p.place y x) src → y + n ≤ p.lines → x + m ≤ p.columns
     → IsOnScreen t.lines t.columns (window_of k)
 placed_derived t s w k p n m y x src e made lines columns =
     let on : IsOnScreen t.lines t.columns (window_of p) = rw e at (s.placed w) in

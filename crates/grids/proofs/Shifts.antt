@@ -17,7 +17,8 @@ use Rattle.slots.proofs.OneSlot.{SetAt-set, slot_below, each_set, chained_set, K
 use Rattle.grids.proofs.Changes.{windows-set, IsStandardOf, standard-still, replaced-changed}
 
 -- how a window stands in its parent
-fits_at : (slots : List (Option Kept)) → IsChained slots → (w : ℕ) (k p : Kept) (part : Part) → slot_at slots w ≡ Some k → part_in k.cells ≡ Some part → slot_at slots part.parent ≡ Some p → FitsIn k part p
+fits_at : (slots : List (Option Kept)) → IsChained slots → (w : ℕ) (k p : Kept) (part : Part) → slot_at slots w ≡ Some k → part_in k.cells ≡ Some part → slot_at slots part.parent ≡ Some p
+    → FitsIn k part p
 fits_at slots s w k p part e in_part parent =
     let q = parent_at slots s w k part e (shared_of k.cells part in_part) in
     let one : q.0 ≡ p = let both = sym q.1 ∙ parent in cc in
@@ -30,7 +31,8 @@ standard-seen t None n e h = absurd h
 standard-seen t (Some k) None e h = cc
 standard-seen t (Some k) (Some j) e h = let one : window_of k ≡ window_of j = cc in subst (IsStandardScreen (windows t)) one h
 
-placed-seen : (lines columns : ℕ) (o n : Option Kept) → option_map window_of o ≡ option_map window_of n → MatchOption o ⊤ (λ k. IsOnScreen lines columns (window_of k)) → MatchOption n ⊤ (λ k. IsOnScreen lines columns (window_of k))
+placed-seen : (lines columns : ℕ) (o n : Option Kept) → option_map window_of o ≡ option_map window_of n → MatchOption o ⊤ (λ k. IsOnScreen lines columns (window_of k))
+    → MatchOption n ⊤ (λ k. IsOnScreen lines columns (window_of k))
 placed-seen lines columns None None e h = h
 placed-seen lines columns None (Some j) e h = cc
 placed-seen lines columns (Some k) None e h = cc

@@ -30,7 +30,8 @@ is_taken : (o : Option Kept) (y : ℕ) → IsSomeAnd (option_map window_of o) (�
 is_taken None y h = absurd h
 is_taken (Some k) y h = refl
 
-pub row-read : (slots : List (Option Kept)) (w y columns : ℕ) (place : GridPlace) (cells : List Glyph) → HasPlace (window_map slots) w y 0 → columns ≡ columns_at slots w → own (window_map slots) w 0 0 ≡ Some place
+pub row-read : (slots : List (Option Kept)) (w y columns : ℕ) (place : GridPlace) (cells : List Glyph) → HasPlace (window_map slots) w y 0 → columns ≡ columns_at slots w
+    → own (window_map slots) w 0 0 ≡ Some place
     → IsSomeAnd (slot_at slots place.grid) (λ g. cells ≡ map (λ x. cell_of (window_of g).backing (place.line + y) (place.column + x)) (range_with_len 0 columns))
     → cells ≡ line_shown (window_map slots) w y
 row-read slots w y columns place cells there same leads read =
@@ -78,5 +79,6 @@ line_has window w y x (Some a) e there cells is =
     let all : length cells ≡ a.columns = ap (length {A = Glyph}) line ∙ length-map-range_with_len shown 0 a.columns in
     (rw all there.1, λ d. ap (λ (c : List Glyph). get_or c x d) line ∙ get_or-map-range_with_len shown 0 a.columns x x d there.1 (zero-add x))
 
-pub line-has : (window : WindowMap) (w y x : ℕ) → HasPlace window w y x → (cells : List Glyph) → cells ≡ line_shown window w y → (x < length cells) × ((d : Glyph) → get_or cells x d ≡ cell_at window w y x)
+pub line-has : (window : WindowMap) (w y x : ℕ) → HasPlace window w y x → (cells : List Glyph) → cells ≡ line_shown window w y
+    → (x < length cells) × ((d : Glyph) → get_or cells x d ≡ cell_at window w y x)
 line-has window w y x there cells is = line_has window w y x (window w) refl there cells is

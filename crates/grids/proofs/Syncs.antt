@@ -50,7 +50,8 @@ module _ (window : WindowMap) (s t : ℕ) (a : Window) (g : GridPlace) (p0 p1 q0
       record {
         line = omega (arith, shared.top, shared.bottom);
         column = omega (arith, shared.left);
-        among = and_from (nat_le r.first (q1 + x - p1)) (nat_le (q1 + x - p1) r.last) (le-leb r.first (q1 + x - p1) (omega (arith, shared.left))) (le-leb (q1 + x - p1) r.last (omega (arith, shared.right)));
+        among = and_from (nat_le r.first (q1 + x - p1)) (nat_le (q1 + x - p1) r.last) (le-leb r.first (q1 + x - p1) (omega (arith, shared.left)))
+            (le-leb (q1 + x - p1) r.last (omega (arith, shared.right)));
       }
 
   from-meets : (o : Option Columns) (v y x : ℕ) → Meets o v y x → in_columns o v y x ≡ true
@@ -65,7 +66,8 @@ module _ (window : WindowMap) (s t : ℕ) (a : Window) (g : GridPlace) (p0 p1 q0
 
   shows-line : (y x : ℕ) → shows_touched_of window s t y x ≡ any_below a.lines (λ v. in_columns (a.touched v) v y x)
   unfolding in_columns
-  shows-line y x = ap (λ (o : Option Window). option_map_or (λ (b : Window). any_below b.lines (λ v. option_map_or (λ r. shows_part_of window s (in_line v r) t y x) (b.touched v) false)) o false) there
+  shows-line y x = ap (λ (o : Option Window). option_map_or (λ (b : Window). any_below b.lines (λ v. option_map_or (λ r. shows_part_of window s (in_line v r) t y x) (b.touched v) false)) o false)
+      there
 
   pub shows-is : (y x : ℕ) → shows_touched_of window s t y x ≡ shows_touched a (p0, p1) (q0, q1) y x
   shows-is y x = shows-line y x ∙ both_ways (any_below a.lines (λ v. in_columns (a.touched v) v y x)) (shows_touched a (p0, p1) (q0, q1) y x)
@@ -111,7 +113,8 @@ module _ (windows : Windows) (w u line column : ℕ) (sound : AreSoundWindows wi
 
 touching-twice : (a : Window) (s t : ℕ → ℕ → Bool) → touching s (touching t a) ≡ touching (λ y x. s y x || t y x) a
 touching-twice a s t =
-    touching-is a (λ z. if nat_lt z a.lines then touched_below a.columns (s z) (if nat_lt z a.lines then touched_below a.columns (t z) (a.touched z) else a.touched z) else (if nat_lt z a.lines then touched_below a.columns (t z) (a.touched z) else a.touched z))
+    touching-is a (λ z. if nat_lt z a.lines then touched_below a.columns (s z) (if nat_lt z a.lines then touched_below a.columns (t z) (a.touched z) else a.touched z) else
+    (if nat_lt z a.lines then touched_below a.columns (t z) (a.touched z) else a.touched z))
     (λ y x. s y x || t y x)
     (λ z. elim (cases_lt z a.lines) [
       | inl below ↦ let on = lt-ltb z a.lines below in rw on (touched-touched a.columns (s z) (t z) (a.touched z))
@@ -167,7 +170,8 @@ untouched_if true None test = refl
 untouched_if true (Some a) test = refl
 untouched_if false o test = refl
 
-ends-within : (o p : Option Window) (b : Window) (line column : ℕ) → SameBut o b → line + b.lines ≤ LARGEST_PAD → column + b.columns ≤ LARGEST_PAD → (window : WindowMap) (w : ℕ) → window w ≡ o → EndsWithin window w (line, column)
+ends-within : (o p : Option Window) (b : Window) (line column : ℕ) → SameBut o b → line + b.lines ≤ LARGEST_PAD → column + b.columns ≤ LARGEST_PAD → (window : WindowMap) (w : ℕ) → window w ≡ o
+    → EndsWithin window w (line, column)
 ends-within o p b line column h lines columns window w is = rw (is, h.there) (omega (arith, lines, h.lines), omega (arith, columns, h.columns))
 
 -- ---- handed up: window u has been reached, and what is touched was handed to it and to all on the way
@@ -177,10 +181,12 @@ pub record IsHandedTo (old cur : Windows) (w u line column : ℕ) : Type 0 where
   pub size : cur ≡ record old { window = cur.window }
   pub same : (v : ℕ) → option_map untouched (cur.window v) ≡ option_map untouched (old.window v)
   pub source : cur.window w ≡ old.window w
-  pub rest : (v : ℕ) → (if list_any (λ p. p == v) (ancestors old.window u) then option_map (touching (shows_touched_of old.window w v)) (cur.window v) else cur.window v) ≡ (after_copying old (Syncup (record { 0 = w }))).window v
+  pub rest : (v : ℕ) → (if list_any (λ p. p == v) (ancestors old.window u) then option_map (touching (shows_touched_of old.window w v)) (cur.window v) else cur.window v)
+      ≡ (after_copying old (Syncup (record { 0 = w }))).window v
 
 -- what the reached window is
-pub reached : (old cur : Windows) (w u line column : ℕ) → (walk : Walk old.window w u line column) → ((v : ℕ) → option_map untouched (cur.window v) ≡ option_map untouched (old.window v)) → SameBut (cur.window u) walk.above
+pub reached : (old cur : Windows) (w u line column : ℕ) → (walk : Walk old.window w u line column) → ((v : ℕ) → option_map untouched (cur.window v) ≡ option_map untouched (old.window v))
+    → SameBut (cur.window u) walk.above
 reached old cur w u line column walk same = same-window (cur.window u) (old.window u) walk.above (same u) walk.at_is
 
 -- the next one, and which part of it the reached one is
@@ -189,7 +195,8 @@ pub record NextPart (reached : Window) (at next : Place) : Type 0 where
   pub behind : part_behind reached.backing ≡ Some part
   pub is : next ≡ in_parent at part
 
-module _ (old cur : Windows) (w : ℕ) (at : Place) (walk : Walk old.window w at.win.0 at.line at.column) (same : (v : ℕ) → option_map untouched (cur.window v) ≡ option_map untouched (old.window v)) where
+module _ (old cur : Windows) (w : ℕ) (at : Place) (walk : Walk old.window w at.win.0 at.line at.column)
+    (same : (v : ℕ) → option_map untouched (cur.window v) ≡ option_map untouched (old.window v)) where
   pub next-part : (next : Place) → IsSomeAnd (cur.window at.win.0) (λ a. Some next ≡ option_map (in_parent at) (part_behind a.backing)) → NextPart walk.above at next
   next-part next h =
       let now = reached old cur w at.win.0 at.line at.column walk same in
@@ -204,7 +211,8 @@ module _ (old cur : Windows) (w : ℕ) (at : Place) (walk : Walk old.window w at
       sym (ap part_behind now.backing) ∙ no_parent at (part_behind now.window.backing) here
 
 -- a place of it is there
-pub place-reached : (old cur : Windows) (w u line column : ℕ) → AreSoundWindows old → (walk : Walk old.window w u line column) → ((v : ℕ) → option_map untouched (cur.window v) ≡ option_map untouched (old.window v))
+pub place-reached : (old cur : Windows) (w u line column : ℕ) → AreSoundWindows old → (walk : Walk old.window w u line column)
+    → ((v : ℕ) → option_map untouched (cur.window v) ≡ option_map untouched (old.window v))
     → HasPlace cur.window u line column
 place-reached old cur w u line column sound walk same =
     let now = reached old cur w u line column walk same in
@@ -214,7 +222,8 @@ place-reached old cur w u line column sound walk same =
 pub handed-none : (windows : Windows) (w : ℕ) → IsSome (windows.window w) → IsHandedTo windows windows w w 0 0
 handed-none windows w there = record { walk = Walk-start windows.window w there; size = refl; same = λ v. refl; source = refl; rest = λ v. refl }
 
-derives_if : (t s : Bool) (f : Window → Window) (o : Option Window) → (if t || s then option_map f o else o) ≡ (if s then (if t then option_map f o else option_map f o) else (if t then option_map f o else o))
+derives_if : (t s : Bool) (f : Window → Window) (o : Option Window) → (if t || s then option_map f o else o)
+    ≡ (if s then (if t then option_map f o else option_map f o) else (if t then option_map f o else o))
 derives_if true true f o = refl
 derives_if true false f o = refl
 derives_if false true f o = refl
@@ -262,7 +271,8 @@ module _ (old : Windows) (sound : AreSoundWindows old) (w u line column : ℕ) (
     unfolding test
     next_at v = ap (λ (ws : Windows). ws.window v) step
 
-    rest-next : (v : ℕ) → (if list_any (λ p. p == v) (ancestors old.window part.parent) then option_map (touching (shows_touched_of old.window w v)) (next.window v) else next.window v) ≡ (after_copying old (Syncup (record { 0 = w }))).window v
+    rest-next : (v : ℕ) → (if list_any (λ p. p == v) (ancestors old.window part.parent) then option_map (touching (shows_touched_of old.window w v)) (next.window v) else next.window v)
+        ≡ (after_copying old (Syncup (record { 0 = w }))).window v
     rest-next v =
         let further = list_any (λ p. p == v) (ancestors old.window part.parent) in
         let f = touching (shows_touched_of old.window w v) in
@@ -287,7 +297,8 @@ module _ (old : Windows) (sound : AreSoundWindows old) (w u line column : ℕ) (
               ∙ sym (ap (λ (t : Bool). if t || further then option_map f (cur.window v) else cur.window v) off)
               ∙ target
         ] where
-          either_way : (t : Bool) (f : Window → Window) (o : Option Window) → option_map f (option_map f o) ≡ option_map f o → (if t then option_map f (option_map f o) else option_map f o) ≡ option_map f o
+          either_way : (t : Bool) (f : Window → Window) (o : Option Window) → option_map f (option_map f o) ≡ option_map f o
+              → (if t then option_map f (option_map f o) else option_map f o) ≡ option_map f o
           either_way true f o e = e
           either_way false f o e = refl
 
@@ -295,7 +306,8 @@ module _ (old : Windows) (sound : AreSoundWindows old) (w u line column : ℕ) (
     unfolding test
     handed-on = record {
       walk = next-walk;
-      size = step ∙ ap (λ (ws : Windows). record ws { window = changed cur.window part.parent (touching test) }) h.size ∙ ap (λ (ws : WindowMap). record old { window = ws }) (sym (ap (λ (ws : Windows). ws.window) step));
+      size = step ∙ ap (λ (ws : Windows). record ws { window = changed cur.window part.parent (touching test) }) h.size
+          ∙ ap (λ (ws : WindowMap). record old { window = ws }) (sym (ap (λ (ws : Windows). ws.window) step));
       same = λ v. ap (option_map untouched) (next_at v) ∙ untouched_if (v == part.parent) (cur.window v) test ∙ h.same v;
       source = next_at w ∙ changed-other cur.window part.parent (touching test) w (λ e. other (sym e)) ∙ h.source;
       rest = rest-next;

@@ -19,7 +19,8 @@ both : (o : Option Window) (f g : Window → Window) → option_map g (option_ma
 both None f g = refl
 both (Some a) f g = refl
 
-both_if : (t : Bool) (o : Option Window) (f g : Window → Window) → (if t then option_map g (if t then option_map f o else o) else (if t then option_map f o else o)) ≡ (if t then option_map (λ a. g (f a)) o else o)
+both_if : (t : Bool) (o : Option Window) (f g : Window → Window) → (if t then option_map g (if t then option_map f o else o) else (if t then option_map f o else o))
+    ≡ (if t then option_map (λ a. g (f a)) o else o)
 both_if true o f g = both o f g
 both_if false o f g = refl
 
@@ -162,7 +163,8 @@ module _ (w : Windows) (win : ℕ) (test : ℕ → ℕ → Bool) where
   touched_before k = record w { window = changed w.window win (touching (before k test)) }
 
   pub none-before : w ≡ touched_before 0
-  none-before = ap (λ (ws : WindowMap). record w { window = ws }) (sym (changed-nothing w.window win (touching (before 0 test)) (λ a is. touching-none a (before 0 test) (λ y x below on. before-off 0 y (test y x) (omega arith)))))
+  none-before = ap (λ (ws : WindowMap). record w { window = ws }) (sym (changed-nothing w.window win (touching (before 0 test))
+      (λ a is. touching-none a (before 0 test) (λ y x below on. before-off 0 y (test y x) (omega arith)))))
 
   pub all-before : (a : Window) → w.window win ≡ Some a → (k : ℕ) → a.lines ≤ k → touched_before k ≡ record w { window = changed w.window win (touching test) }
   all-before a there k all = ap (λ (ws : WindowMap). record w { window = ws }) (changed-same w.window win (touching (before k test)) (touching test)
@@ -180,7 +182,8 @@ module _ (w : Windows) (win : ℕ) (test : ℕ → ℕ → Bool) where
       ∙ ap (λ (ws : WindowMap). record w { window = ws })
       (changed-twice w.window win (touching (before y test)) (with_touched y first last)
       ∙ changed-same w.window win (λ b. with_touched y first last (touching (before y test) b)) (touching (before (y + 1) test))
-      (λ b is. let same : b ≡ a = cc in subst (λ (c : Window). with_touched y first last (touching (before y test) c) ≡ touching (before (y + 1) test) c) (sym same) (line-some a test y below first last ordered within h)))
+      (λ b is. let same : b ≡ a = cc in subst (λ (c : Window). with_touched y first last (touching (before y test) c) ≡ touching (before (y + 1) test) c) (sym same)
+      (line-some a test y below first last ordered within h)))
 
   -- the window keeps its size, and the others are as they were
   pub touched-here : (k : ℕ) (cur : Windows) (a : Window) → cur ≡ touched_before k → w.window win ≡ Some a → cur.window win ≡ Some (touching (before k test) a)

@@ -23,7 +23,8 @@ anc-backing n m window s more u y x (part_of parent line column) h = ap (λ (l :
 
 anc-at : (n m : ℕ) (window : WindowMap) (s : GridPlace) → ((u y x : ℕ) → own_within n window u y x ≡ Some s → ancestors_within m window u ≡ ancestors_within n window u)
     → (u y x : ℕ) (o : Option Window) → option_and_then (λ a. leads (own_within n window) u y x a.backing) o ≡ Some s
-    → option_map_or (λ p. p ∷ ancestors_within m window p) (option_and_then (λ a. parent_number a.backing) o) [] ≡ option_map_or (λ p. p ∷ ancestors_within n window p) (option_and_then (λ a. parent_number a.backing) o) []
+    → option_map_or (λ p. p ∷ ancestors_within m window p) (option_and_then (λ a. parent_number a.backing) o) []
+    ≡ option_map_or (λ p. p ∷ ancestors_within n window p) (option_and_then (λ a. parent_number a.backing) o) []
 anc-at n m window s more u y x None h = refl
 anc-at n m window s more u y x (Some a) h = anc-backing n m window s more u y x a.backing h
 
@@ -106,7 +107,8 @@ parent_there : (o : Option Window) (P : Window → Type 0) → IsSomeAnd o P →
 parent_there None P h = absurd h
 parent_there (Some a) P h = (a, refl, h)
 
-pub Walk-step : (windows : Windows) (w u line column : ℕ) (part : Part) → AreSoundWindows windows → (h : Walk windows.window w u line column) → h.above.backing ≡ part_of part.parent part.line part.column
+pub Walk-step : (windows : Windows) (w u line column : ℕ) (part : Part) → AreSoundWindows windows → (h : Walk windows.window w u line column)
+    → h.above.backing ≡ part_of part.parent part.line part.column
     → Walk windows.window w part.parent (line + part.line) (column + part.column)
 Walk-step windows w u line column part s h is =
     let sound = sound_at windows u h.above s h.at_is in
@@ -121,7 +123,8 @@ Walk-step windows w u line column part s h is =
       leads = λ y x.
           h.leads y x
           ∙ own-parent windows.window u h.above part h.at_is is sound.chain_ends (y + line) (x + column)
-          ∙ (λ i. own windows.window part.parent ((let e : y + line + part.line ≡ y + (line + part.line) = omega arith in e) i) ((let e : x + column + part.column ≡ x + (column + part.column) = omega arith in e) i));
+          ∙ (λ i. own windows.window part.parent ((let e : y + line + part.line ≡ y + (line + part.line) = omega arith in e) i)
+          ((let e : x + column + part.column ≡ x + (column + part.column) = omega arith in e) i));
     }
 
 -- a window has its first place

@@ -31,7 +31,8 @@ spread-more (Some r) left n h =
     cc
 
 -- the test holds from left to right
-touched-span : (left right : ℕ) (test : ℕ → Bool) (r : Option Columns) → ((x : ℕ) → test x ≡ (nat_le left x && nat_le x right)) → (n : ℕ) → left ≤ n → n ≤ right → touched_below (suc n) test r ≡ joined_columns r left n
+touched-span : (left right : ℕ) (test : ℕ → Bool) (r : Option Columns) → ((x : ℕ) → test x ≡ (nat_le left x && nat_le x right)) → (n : ℕ) → left ≤ n → n ≤ right
+    → touched_below (suc n) test r ≡ joined_columns r left n
 touched-span left right test r h zero l u =
     let here : test 0 ≡ true = grind (arith, nat_tests, h 0) in
     let e : left ≡ 0 = omega arith in
@@ -46,7 +47,8 @@ touched-span left right test r h (suc n) l u =
       | inr up ↦ rw (here, touched-span left right test r h n up (omega arith)) (spread-more r left n up)
     ]
 
-pub touched-past : (left right : ℕ) (test : ℕ → Bool) (r : Option Columns) → ((x : ℕ) → test x ≡ (nat_le left x && nat_le x right)) → left ≤ right → (d : ℕ) → touched_below (suc right + d) test r ≡ joined_columns r left right
+pub touched-past : (left right : ℕ) (test : ℕ → Bool) (r : Option Columns) → ((x : ℕ) → test x ≡ (nat_le left x && nat_le x right)) → left ≤ right → (d : ℕ)
+    → touched_below (suc right + d) test r ≡ joined_columns r left right
 touched-past left right test r h l zero = rw add-zero (touched-span left right test r h right l (omega arith))
 touched-past left right test r h l (suc d) =
     let past : test (suc right + d) ≡ false = grind (arith, nat_tests, h (suc right + d)) in
@@ -59,7 +61,8 @@ row_test_off : (a : Window) (y left right : ℕ) (c : Glyph) (z x : ℕ) → (z 
 row_test_off a y left right c z x other = grind (arith, nat_tests)
 
 -- a row that was written touches its columns
-touched-row : (a : Window) (y left right : ℕ) (c : Glyph) → y < a.lines → left ≤ right → right < a.columns → (z : ℕ) → touched_by (filled y left right c) a z ≡ (if z == y then joined_columns (a.touched z) left right else a.touched z)
+touched-row : (a : Window) (y left right : ℕ) (c : Glyph) → y < a.lines → left ≤ right → right < a.columns → (z : ℕ)
+    → touched_by (filled y left right c) a z ≡ (if z == y then joined_columns (a.touched z) left right else a.touched z)
 touched-row a y left right c in_lines l in_cols z =
     let test : ℕ → Bool = λ x. is_some (within a (filled y left right c) z x) in
     elim (cases_eq z y) [
@@ -74,10 +77,12 @@ touched-row a y left right c in_lines l in_cols z =
           touched-none a.columns test (a.touched z) (λ x lt. row_test_off a y left right c z x other) ∙ sym (cond-false (z == y) (joined_columns (a.touched z) left right) (a.touched z) off)
     ]
 
-moved_row_at : (place : GridPlace) (a : Window) (y left right : ℕ) (c : Glyph) → y < a.lines → right < a.columns → (z x : ℕ) → moved place (within a (filled y left right c)) z x ≡ filled (place.line + y) (place.column + left) (place.column + right) c z x
+moved_row_at : (place : GridPlace) (a : Window) (y left right : ℕ) (c : Glyph) → y < a.lines → right < a.columns → (z x : ℕ)
+    → moved place (within a (filled y left right c)) z x ≡ filled (place.line + y) (place.column + left) (place.column + right) c z x
 moved_row_at place a y left right c in_lines in_cols z x = grind (arith, nat_tests)
 
-moved-row : (place : GridPlace) (a : Window) (y left right : ℕ) (c : Glyph) → y < a.lines → right < a.columns → moved place (within a (filled y left right c)) ≡ filled (place.line + y) (place.column + left) (place.column + right) c
+moved-row : (place : GridPlace) (a : Window) (y left right : ℕ) (c : Glyph) → y < a.lines → right < a.columns
+    → moved place (within a (filled y left right c)) ≡ filled (place.line + y) (place.column + left) (place.column + right) c
 moved-row place a y left right c in_lines in_cols = fun_ext (λ z. fun_ext (λ x. moved_row_at place a y left right c in_lines in_cols z x))
 
 -- the windows after one slot was changed
@@ -109,8 +114,10 @@ window_at : (slots : List (Option Kept)) (u w : ℕ) (b a : Window) → window_m
 window_at slots u w b a is here same = let moved_here = ap (window_map slots) same in cc
 
 -- the grid and the marks, by whether they are this window's
-merged_by : (p q : Bool) (b : Window) (f1 f2 : Drawing) (touched : ℕ → Option Columns) (y left right : ℕ) → f2 ≡ f1 → (q ≡ true → touched ≡ (λ z. if z == y then joined_columns (b.touched z) left right else b.touched z)) →
-    (if q then with_touched y left right (if p then with_drawing f1 b else b) else (if p then with_drawing f1 b else b)) ≡ record b { backing = (if p then laid_over f2 b.backing else b.backing); touched = (if q then touched else b.touched) }
+merged_by : (p q : Bool) (b : Window) (f1 f2 : Drawing) (touched : ℕ → Option Columns) (y left right : ℕ) → f2 ≡ f1
+    → (q ≡ true → touched ≡ (λ z. if z == y then joined_columns (b.touched z) left right else b.touched z)) →
+    (if q then with_touched y left right (if p then with_drawing f1 b else b) else (if p then with_drawing f1 b else b))
+    ≡ record b { backing = (if p then laid_over f2 b.backing else b.backing); touched = (if q then touched else b.touched) }
 merged_by true true b f1 f2 touched y left right e h = let t = h refl in rw (e, t) refl
 merged_by true false b f1 f2 touched y left right e h = rw e refl
 merged_by false true b f1 f2 touched y left right e h = let t = h refl in rw t refl
@@ -163,7 +170,8 @@ touched-copied a window src sy sx dy dx n in_lines in_columns some z =
     ap (λ (test : ℕ → Bool). touched_below a.columns test (a.touched z)) (fun_ext (λ x. copied_test a window src sy sx dy dx n z x some))
     ∙ touched-row a dy dx (dx + n - 1) blank in_lines (omega arith) in_columns z
 
-copied_here : (place : GridPlace) (a : Window) (dy dx n z x : ℕ) (c1 c2 : Glyph) → dy < a.lines → dx + n ≤ a.columns → z ≡ place.line + dy → place.column + dx ≤ x → x < place.column + dx + n → c1 ≡ c2 →
+copied_here : (place : GridPlace) (a : Window) (dy dx n z x : ℕ) (c1 c2 : Glyph) → dy < a.lines → dx + n ≤ a.columns → z ≡ place.line + dy → place.column + dx ≤ x → x < place.column + dx + n
+    → c1 ≡ c2 →
     (if nat_le place.line z && nat_le place.column x
     then (if nat_lt (z - place.line) a.lines && nat_lt (x - place.column) a.columns
     then (if (z - place.line == dy) && (nat_le dx (x - place.column) && nat_lt (x - place.column) (dx + n)) then Some c1 else None) else None) else None)
@@ -182,7 +190,8 @@ moved-copied : (place : GridPlace) (a : Window) (window : WindowMap) (src sy sx 
 moved-copied place a window src sy sx dy dx n cells in_lines in_columns all read = fun_ext (λ z. fun_ext (λ x.
     let shown = cell_at window src sy (sx + (x - place.column - dx)) in
     let held = get_or cells (x - (place.column + dx)) blank in
-    let away : ((z ≡ place.line + dy) → (place.column + dx ≤ x) → (x < place.column + dx + n) → ⊥) → moved place (within a (copied window src sy sx dy dx n false)) z x ≡ listed (place.line + dy) (place.column + dx) cells z x =
+    let away : ((z ≡ place.line + dy) → (place.column + dx ≤ x) → (x < place.column + dx + n) → ⊥) → moved place (within a (copied window src sy sx dy dx n false)) z x
+    ≡ listed (place.line + dy) (place.column + dx) cells z x =
     λ other. rw all (copied_away place a dy dx n z x shown held other) in
     elim (cases_eq z (place.line + dy)) [
       | inr line ↦ away (λ e _ _. line e)

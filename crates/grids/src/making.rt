@@ -155,7 +155,8 @@ impl Grids {
         requires { IsSome ((windows self.old).window win.0) }
         ensures refused { RefusedBy (first_of (part_tests (windows self.old) win.0 nlines ncols y x)) result }
         ensures number { IfOk result (λ new. new_number (windows self.old).window ≡ Some new.0) }
-        ensures made { IfOk result (λ new. windows self.new ≡ numbered (windows self.old) (next_window (windows self.old)) (derived_from (windows self.old) win.0 nlines ncols y x)) }
+        ensures made { IfOk result (λ new. windows self.new ≡ numbered (windows self.old) (next_window (windows self.old))
+            (derived_from (windows self.old) win.0 nlines ncols y x)) }
         ensures unchanged { OnErr result (self.new ≡ self.old) }
         ensures sound { AreSoundWindows (windows self.new) }
     {

@@ -32,7 +32,8 @@ impl Grids {
         requires from { 0 < lines → 0 < columns → HasPlace (windows self.old).window src.0 (sy + lines - 1) (sx + columns - 1) }
         requires to { 0 < lines → 0 < columns → HasPlace (windows self.old).window dst.0 (dy + lines - 1) (dx + columns - 1) }
         ensures written { windows self.new ≡ put (windows self.old) dst.0 (rectangle_copied (windows self.old).window src.0 sy sx dy dx lines columns overlay) }
-        ensures frame { result ≡ drawing_frame (windows self.old) dst.0 (λ a. rectangle_copied (windows self.old).window src.0 sy sx dy dx lines columns overlay) }
+        ensures frame { result ≡ drawing_frame (windows self.old) dst.0 (λ a. rectangle_copied
+            (windows self.old).window src.0 sy sx dy dx lines columns overlay) }
         ensures sound { AreSoundWindows (windows self.new) }
     {
         let from = Place {
@@ -67,8 +68,10 @@ impl Grids {
         requires some_column { 0 < columns }
         requires from { HasPlace (windows self.old).window from.win.0 (from.line + lines - 1) (from.column + columns - 1) }
         requires to { HasPlace (windows self.old).window to.win.0 (to.line + lines - 1) (to.column + columns - 1) }
-        ensures written { windows self.new ≡ put (windows self.old) to.win.0 (rectangle_copied (windows self.old).window from.win.0 from.line from.column to.line to.column lines columns overlay) }
-        ensures frame { result ≡ drawing_frame (windows self.old) to.win.0 (λ a. rectangle_copied (windows self.old).window from.win.0 from.line from.column to.line to.column lines columns overlay) }
+        ensures written { windows self.new ≡ put (windows self.old) to.win.0 (rectangle_copied
+            (windows self.old).window from.win.0 from.line from.column to.line to.column lines columns overlay) }
+        ensures frame { result ≡ drawing_frame (windows self.old) to.win.0 (λ a. rectangle_copied
+            (windows self.old).window from.win.0 from.line from.column to.line to.column lines columns overlay) }
     {
         let source = origin_of(&self.slots, from.win.0);
         let target = origin_of(&self.slots, to.win.0);

@@ -110,8 +110,10 @@ impl Grids {
         requires some { 0 < n }
         requires from { HasPlace (windows self.old).window from.win.0 from.line (from.column + n - 1) }
         requires to { HasPlace (windows self.old).window to.win.0 to.line (to.column + n - 1) }
-        ensures written { windows self.new ≡ put (windows self.old) to.win.0 (copied (windows self.old).window from.win.0 from.line from.column to.line to.column n overlay) }
-        ensures frame { result ≡ drawing_frame (windows self.old) to.win.0 (λ a. copied (windows self.old).window from.win.0 from.line from.column to.line to.column n overlay) }
+        ensures written { windows self.new ≡ put (windows self.old) to.win.0 (copied
+            (windows self.old).window from.win.0 from.line from.column to.line to.column n overlay) }
+        ensures frame { result ≡ drawing_frame (windows self.old) to.win.0 (λ a. copied
+            (windows self.old).window from.win.0 from.line from.column to.line to.column n overlay) }
     {
         if overlay {
             self.overlay_cells(from, to, n)
@@ -125,8 +127,10 @@ impl Grids {
         requires some { 0 < n }
         requires from { HasPlace (windows self.old).window from.win.0 from.line (from.column + n - 1) }
         requires to { HasPlace (windows self.old).window to.win.0 to.line (to.column + n - 1) }
-        ensures frame { result ≡ drawing_frame (windows self.old) to.win.0 (λ a. copied (windows self.old).window from.win.0 from.line from.column to.line to.column n false) }
-        ensures written { windows self.new ≡ put (windows self.old) to.win.0 (copied (windows self.old).window from.win.0 from.line from.column to.line to.column n false) }
+        ensures frame { result ≡ drawing_frame (windows self.old) to.win.0 (λ a. copied
+            (windows self.old).window from.win.0 from.line from.column to.line to.column n false) }
+        ensures written { windows self.new ≡ put (windows self.old) to.win.0 (copied
+            (windows self.old).window from.win.0 from.line from.column to.line to.column n false) }
     {
         let source = origin_of(&self.slots, from.win.0);
         let target = origin_of(&self.slots, to.win.0);
@@ -159,8 +163,10 @@ impl Grids {
         requires some { 0 < n }
         requires from { HasPlace (windows self.old).window from.win.0 from.line (from.column + n - 1) }
         requires to { HasPlace (windows self.old).window to.win.0 to.line (to.column + n - 1) }
-        ensures written { windows self.new ≡ put (windows self.old) to.win.0 (copied (windows self.old).window from.win.0 from.line from.column to.line to.column n true) }
-        ensures frame { result ≡ drawing_frame (windows self.old) to.win.0 (λ a. copied (windows self.old).window from.win.0 from.line from.column to.line to.column n true) }
+        ensures written { windows self.new ≡ put (windows self.old) to.win.0 (copied
+            (windows self.old).window from.win.0 from.line from.column to.line to.column n true) }
+        ensures frame { result ≡ drawing_frame (windows self.old) to.win.0 (λ a. copied
+            (windows self.old).window from.win.0 from.line from.column to.line to.column n true) }
     {
         let source = origin_of(&self.slots, from.win.0);
         let target = origin_of(&self.slots, to.win.0);
@@ -183,8 +189,10 @@ impl Grids {
     fn overlay_cell(&mut self, from: Place, to: Place) -> Option<Rect>
         requires from { HasPlace (windows self.old).window from.win.0 from.line from.column }
         requires to { HasPlace (windows self.old).window to.win.0 to.line to.column }
-        ensures written { windows self.new ≡ put (windows self.old) to.win.0 (copied (windows self.old).window from.win.0 from.line from.column to.line to.column 1 true) }
-        ensures frame { result ≡ drawing_frame (windows self.old) to.win.0 (λ a. copied (windows self.old).window from.win.0 from.line from.column to.line to.column 1 true) }
+        ensures written { windows self.new ≡ put (windows self.old) to.win.0 (copied
+            (windows self.old).window from.win.0 from.line from.column to.line to.column 1 true) }
+        ensures frame { result ≡ drawing_frame (windows self.old) to.win.0 (λ a. copied
+            (windows self.old).window from.win.0 from.line from.column to.line to.column 1 true) }
     {
         let cell = self.cell(from.win, from.line, from.column);
         if is_visible(cell) {

@@ -84,7 +84,10 @@ impl Grids {
         requires other { win ≢ source }
         requires window { EndsWithin (windows self.old).window win at }
         requires source { EndsWithin (windows self.old).window source source_at }
-        ensures touched { windows self.new ≡ record (windows self.old) { window = changed (windows self.old).window win (touching (touched_shown (windows self.old).window source source_at at)) } }
+        ensures touched { windows self.new ≡ record (windows self.old) {
+          window = changed (windows self.old).window win
+              (touching (touched_shown (windows self.old).window source source_at at));
+        } }
         ensures depths { (u : ℕ) → depth_at self.new.slots u ≡ depth_at self.old.slots u }
     {
         prove!(self.is_sound());
@@ -108,7 +111,8 @@ impl Grids {
         requires line { HasPlace (windows self.now).window win y 0 }
         requires window { EndsWithin (windows self.now).window win at }
         requires source { EndsWithin (windows self.now).window source source_at }
-        ensures shown { IsSomeAnd ((windows self.now).window win) (λ a. (x : ℕ) → x < a.columns → touched_shown (windows self.now).window source source_at at y x ≡ has_column result x) }
+        ensures shown { IsSomeAnd ((windows self.now).window win) (λ a. (x : ℕ) → x < a.columns
+            → touched_shown (windows self.now).window source source_at at y x ≡ has_column result x) }
         ensures within { IsSomeAnd ((windows self.now).window win) (λ a. AreColumnsWithin a.columns result) }
     {
         let (lines, _) = self.size(source);
@@ -148,7 +152,10 @@ impl Grids {
     fn touch_columns(&mut self, win: u16, y: u16, columns: Columns)
         requires ordered { columns.first ≤ columns.last }
         requires there { HasPlace (windows self.old).window win y columns.last }
-        ensures touched { windows self.new ≡ record (windows self.old) { window = changed (windows self.old).window win (with_touched y columns.first columns.last) } }
+        ensures touched { windows self.new ≡ record (windows self.old) {
+          window = changed (windows self.old).window win
+              (with_touched y columns.first columns.last);
+        } }
         ensures depths { (u : ℕ) → depth_at self.new.slots u ≡ depth_at self.old.slots u }
     {
         touch_row(&mut self.slots, win, y, columns.first, columns.last);

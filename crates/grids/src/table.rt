@@ -76,7 +76,8 @@ impl Grids {
 
     /// The slot of a window.
     pub(crate) fn slot(&self, win: WinId) -> Result<&Slot, Refusal>
-        ensures { MatchResult result (λ s. slot_at self.now.slots win.0 ≡ Some s.now) (λ e. (slot_at self.now.slots win.0 ≡ None) × (e ≡ Refusal.NoSuchWindow)) }
+        ensures { MatchResult result (λ s. slot_at self.now.slots win.0 ≡ Some s.now)
+            (λ e. (slot_at self.now.slots win.0 ≡ None) × (e ≡ Refusal.NoSuchWindow)) }
     {
         match self.slots.get(usize::from(win.0)) {
             Some(Some(slot)) => Ok(slot),

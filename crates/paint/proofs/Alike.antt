@@ -24,7 +24,8 @@ drop-same other n a b same h =
 
 -- ---- pictures
 
-module _ {lines columns : ℕ} {changes : List Stretch} {shown wanted : Picture} (old_size : HasSize lines columns shown) (new_size : HasSize lines columns wanted) (only : DifferOnly changes shown wanted) where
+module _ {lines columns : ℕ} {changes : List Stretch} {shown wanted : Picture} (old_size : HasSize lines columns shown) (new_size : HasSize lines columns wanted)
+    (only : DifferOnly changes shown wanted) where
   abbrev width : (y : ℕ) → y < lines → length (line_of shown y) ≡ columns
   width y below = length-line y old_size below
 

@@ -24,11 +24,13 @@ shown-outside {lines} {columns} {picture} size y x out = elim (cases_lt y lines)
   ]
 ]
 
-pub same-outside : {lines columns : ℕ} {one other : Picture} → HasSize lines columns one → HasSize lines columns other → (y x : ℕ) → (y < lines → x < columns → ⊥) → shown_at one (y, x) ≡ shown_at other (y, x)
+pub same-outside : {lines columns : ℕ} {one other : Picture} → HasSize lines columns one → HasSize lines columns other → (y x : ℕ) → (y < lines → x < columns → ⊥)
+    → shown_at one (y, x) ≡ shown_at other (y, x)
 same-outside size other_size y x out = shown-outside size y x out ∙ sym (shown-outside other_size y x out)
 
 -- two pictures of one size differ at most everywhere
-pub differ-anywhere : {lines columns : ℕ} {changes : List Stretch} {one other : Picture} → IsWhole lines columns changes → HasSize lines columns one → HasSize lines columns other → DifferOnly changes one other
+pub differ-anywhere : {lines columns : ℕ} {changes : List Stretch} {one other : Picture} → IsWhole lines columns changes → HasSize lines columns one → HasSize lines columns other
+    → DifferOnly changes one other
 differ-anywhere whole size other_size = record { others = λ y x none. same-outside size other_size y x (λ below left. false≢true (sym none ∙ whole.all y x below left)) }
 
 -- what is shown at the start has the painter's size
@@ -46,7 +48,8 @@ start-known lines columns picture wanted (Some cursor) known only = only
 
 -- ---- a line is copied
 
-module _ {lines columns : ℕ} {changes : List Stretch} {old new wanted : Picture} (old_size : HasSize lines columns old) (new_size : HasSize lines columns new) (wanted_size : HasSize lines columns wanted)
+module _ {lines columns : ℕ} {changes : List Stretch} {old new wanted : Picture} (old_size : HasSize lines columns old) (new_size : HasSize lines columns new)
+    (wanted_size : HasSize lines columns wanted)
     (only : DifferOnly changes old wanted) (y : ℕ) (below : y < lines) {part : ℕ × ℕ} (within : IsWithin columns (stretch_of changes y) part) (piece : List Shown)
     (is : piece ≡ take (part.1 - part.0) (drop part.0 (line_of wanted y))) (long : length piece ≡ part.1 - part.0)
     (put : (v u : ℕ) → shown_at new (v, u) ≡ (if (v == y) && (nat_le part.0 u && nat_lt u (part.0 + length piece)) then get_or piece (u - part.0) shown_blank else shown_at old (v, u))) where

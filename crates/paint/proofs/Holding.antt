@@ -92,7 +92,8 @@ module _ (painter : PainterState) (clear : Bool) (wanted : ShownPicture) {a b c 
   is_update lines columns few_lines few_columns cursor rendition strokes ending there none =
       let ended = change drawn.rendition no_rendition ++ move_from drawn.cursor wanted.cursor in
       let rest = strokes.piece ++ ended in
-      let begun : under first (start_of_update painter clear).picture ≡ showing (start_of_update painter clear).picture (start_of_update painter clear).cursor = λ i. record { picture = (start_of_update painter clear).picture; cursor = cursor i; rendition = rendition i } in
+      let begun : under first (start_of_update painter clear).picture ≡ showing (start_of_update painter clear).picture (start_of_update painter clear).cursor = λ i.
+      record { picture = (start_of_update painter clear).picture; cursor = cursor i; rendition = rendition i } in
       let done : under last wanted.picture ≡ showing wanted.picture wanted.cursor = λ i. record { picture = wanted.picture; cursor = there i; rendition = none i } in
       let leads : Leads rest (showing (start_of_update painter clear).picture (start_of_update painter clear).cursor) (showing wanted.picture wanted.cursor) =
       subst (λ t. Leads rest t (showing wanted.picture wanted.cursor)) begun
@@ -146,11 +147,13 @@ module _ (painter : PainterState) (clear : Bool) (wanted : ShownPicture) {a b c 
       }
 
   -- the pen was taken up at what is known
-  pub holds-from : painter.lines ≤ LARGEST_SCREEN → painter.columns ≤ LARGEST_SCREEN → HasSize painter.lines painter.columns wanted.picture → wanted.cursor.0 < painter.lines → wanted.cursor.1 < painter.columns
+  pub holds-from : painter.lines ≤ LARGEST_SCREEN → painter.columns ≤ LARGEST_SCREEN → HasSize painter.lines painter.columns wanted.picture → wanted.cursor.0 < painter.lines
+      → wanted.cursor.1 < painter.columns
       → {shown : Picture} {from : Option ShownPicture} → from ≡ known painter clear → shown ≡ (start_from painter from).picture → HasSize painter.lines painter.columns shown
       → {seen : Seen} → IsGathered seen a first.outbox (opening_from from) → first.cursor ≡ Some (start_from painter from).cursor → first.rendition ≡ no_rendition
       → Strokes (picture_bytes shown wanted.picture) a b first drawn shown wanted.picture
-      → ((picture : Picture) → wanted.cursor.1 < length (line_of picture wanted.cursor.0) → Draws (change drawn.rendition no_rendition ++ move_from drawn.cursor wanted.cursor) b c drawn last picture picture)
+      → ((picture : Picture) → wanted.cursor.1 < length (line_of picture wanted.cursor.0) → Draws (change drawn.rendition no_rendition ++ move_from drawn.cursor wanted.cursor) b c drawn last
+      picture picture)
       → last.cursor ≡ Some wanted.cursor → last.rendition ≡ no_rendition
       → HoldsUpdate painter clear wanted seen c last.outbox
   holds-from most_lines most_columns wanted_size line column {shown} {from} is_known is_shown size {seen} gathered cursor rendition strokes ending there none =
@@ -162,7 +165,8 @@ module _ (painter : PainterState) (clear : Bool) (wanted : ShownPicture) {a b c 
       (ending wanted.picture (omega (arith, length-line wanted.cursor.0 wanted_size line))) there none
 
 -- what is known where a cursor is, unless a clear screen is asked for
-pub known-last : (painter : PainterState) (picture : Picture) (cursor : Option Place) (clear : Bool) (result : Option Place) → painter.last ≡ last_shown picture cursor → result ≡ (if clear then None else cursor)
+pub known-last : (painter : PainterState) (picture : Picture) (cursor : Option Place) (clear : Bool) (result : Option Place) → painter.last ≡ last_shown picture cursor
+    → result ≡ (if clear then None else cursor)
     → last_shown picture result ≡ known painter clear
 known-last painter picture cursor true result last is = ap (last_shown picture) is
 known-last painter picture cursor false result last is = ap (last_shown picture) is ∙ sym last

@@ -51,7 +51,8 @@ module _ {lines columns : ℕ} {shown wanted : Picture} (old_size : HasSize line
 
   back : map blanked (drop (y + 1) before) ≡ drop (y + 1) wanted
   back =
-      let kept : drop (y + 1) before ≡ drop (y + 1) shown = drop-set-lt (y + 1) (mixed y wanted shown) y (mixed x (line_of wanted y) (line_of shown y)) (omega arith) ∙ drop-mixed y wanted shown (omega (arith, new_size.height)) same in
+      let kept : drop (y + 1) before ≡ drop (y + 1) shown = drop-set-lt (y + 1) (mixed y wanted shown) y (mixed x (line_of wanted y) (line_of shown y)) (omega arith)
+      ∙ drop-mixed y wanted shown (omega (arith, new_size.height)) same in
       let long : length (drop (y + 1) shown) ≡ length (drop (y + 1) wanted) = omega (arith, length-drop (y + 1) shown, length-drop (y + 1) wanted, same) in
       ap (map blanked) kept ∙ blank-rest lines columns (y + 1) shown old_size ∙ ap (λ n. blank_picture n columns) long ∙ sym (blank-rest lines columns (y + 1) wanted new_size)
       ∙ kept-later blanked blank (y + 1) wanted below all_blank

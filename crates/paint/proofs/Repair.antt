@@ -82,7 +82,8 @@ Agrees-update painter clear wanted stream text t size agrees is_text =
     let shows = shows-update painter clear wanted stream text t size agrees is_text in
     record { in_profile = (showing wanted.picture wanted.cursor, LeadsWithBreaks-in_profile (stream ++ text) t (showing wanted.picture wanted.cursor) shows); leads = shows }
 
-pub Agrees-fault : (painter : PainterState) (clear : Bool) (wanted : ShownPicture) (stream text : List ℕ) (sent : ℕ) (t : Terminal) → HasSize painter.lines painter.columns t.picture → Agrees painter stream t
+pub Agrees-fault : (painter : PainterState) (clear : Bool) (wanted : ShownPicture) (stream text : List ℕ) (sent : ℕ) (t : Terminal) → HasSize painter.lines painter.columns t.picture
+    → Agrees painter stream t
     → IsUpdateText painter clear wanted text → sent ≤ length text → Agrees (record painter { last = None }) (stream ++ take sent text) t
 Agrees-fault painter clear wanted stream text sent t size agrees is_text within = record {
   in_profile = rw is_text.parts (cut painter wanted stream is_text.rest t agrees.in_profile.0 size agrees.in_profile.1 (known painter clear) sent (known-leads painter clear stream t agrees)

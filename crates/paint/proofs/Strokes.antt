@@ -199,14 +199,24 @@ pub erases-line : {before after : Seen} (old new : Pen) (place : Place) (picture
     → Draws (spelling (El ToEnd)) before after old new picture (erased_at ToEnd place picture)
 erases-line old new place picture cursor plain gathers rest =
     Draws-token (El ToEnd) picture (erased_at ToEnd place picture) tt gathers
-    (rw (cursor, plain) (λ i. Some (record { picture = erased_at ToEnd place picture; cursor = (sym cursor ∙ sym (ap (λ (p : Pen). p.cursor) rest)) i; rendition = (sym plain ∙ sym (ap (λ (p : Pen). p.rendition) rest)) i })))
+    (rw (cursor, plain) (λ i. Some (record {
+      picture = erased_at ToEnd place picture;
+      cursor = (sym cursor ∙ sym (ap (λ (p : Pen). p.cursor) rest)) i;
+      rendition =
+          (sym plain ∙ sym (ap (λ (p : Pen). p.rendition) rest)) i;
+    })))
 
 pub erases-page : {before after : Seen} (old new : Pen) (place : Place) (picture : Picture) → old.cursor ≡ Some place → old.rendition ≡ no_rendition
     → Gathers before after old.outbox new.outbox (spelling (Ed ToEnd)) → new ≡ record old { outbox = new.outbox }
     → Draws (spelling (Ed ToEnd)) before after old new picture (erased_page ToEnd place picture)
 erases-page old new place picture cursor plain gathers rest =
     Draws-token (Ed ToEnd) picture (erased_page ToEnd place picture) tt gathers
-    (rw (cursor, plain) (λ i. Some (record { picture = erased_page ToEnd place picture; cursor = (sym cursor ∙ sym (ap (λ (p : Pen). p.cursor) rest)) i; rendition = (sym plain ∙ sym (ap (λ (p : Pen). p.rendition) rest)) i })))
+    (rw (cursor, plain) (λ i. Some (record {
+      picture = erased_page ToEnd place picture;
+      cursor = (sym cursor ∙ sym (ap (λ (p : Pen). p.cursor) rest)) i;
+      rendition =
+          (sym plain ∙ sym (ap (λ (p : Pen). p.rendition) rest)) i;
+    })))
 
 -- ---- the end: a move behind what left the cursor where it was
 

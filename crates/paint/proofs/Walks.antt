@@ -49,7 +49,8 @@ pub line-begun : (seen : Seen) (pen : Pen) (line x : ℕ) (shown wanted : List S
 line-begun seen pen line x shown wanted front = record {
   spent = 0;
   within = omega (arith, line_bytes-drop x shown wanted);
-  strokes = λ picture inside is. subst (Strokes 0 seen seen pen pen picture) (sym (same-line picture line (mixed x wanted shown) (is ∙ sym (mixed-front x wanted shown front)))) (Strokes-nothing seen pen picture);
+  strokes = λ picture inside is. subst (Strokes 0 seen seen pen pen picture) (sym (same-line picture line (mixed x wanted shown) (is ∙ sym (mixed-front x wanted shown front))))
+      (Strokes-nothing seen pen picture);
   columns = refl;
 }
 
@@ -61,7 +62,8 @@ left x shown wanted same inside = let a = drop_more shown x shown_blank inside i
 pub line-drawn : {before mid now : Seen} {old pen next : Pen} {line x : ℕ} {shown wanted : List Shown} (cell : Shown) → length shown ≡ length wanted → x < length shown
     → IsLinePainted before mid old pen line x shown wanted → length shown ≡ old.columns → cell ≡ get_or wanted x shown_blank
     → same_shown (get_or shown x shown_blank) (get_or wanted x shown_blank) ≡ false
-    → ((picture : Picture) → length (line_of picture line) ≡ pen.columns → take x (line_of picture line) ≡ take x wanted → Strokes (cell_bytes cell) mid now pen next picture (with_shown picture (line, x) cell))
+    → ((picture : Picture) → length (line_of picture line) ≡ pen.columns → take x (line_of picture line) ≡ take x wanted
+    → Strokes (cell_bytes cell) mid now pen next picture (with_shown picture (line, x) cell))
     → next.columns ≡ pen.columns → IsLinePainted before now old next line (x + 1) shown wanted
 line-drawn {before} {mid} {now} {old} {pen} {next} {line} {x} {shown} {wanted} cell same inside h wide is differs strokes columns = record {
   spent = h.spent + cell_bytes cell;
@@ -81,7 +83,8 @@ line-drawn {before} {mid} {now} {old} {pen} {next} {line} {x} {shown} {wanted} c
       ∙ ap (λ c. set picture line (set row x c)) is
       ∙ ap (set picture line) (mixed-more shown_blank x wanted shown inside same) in
       let long : length (line_of (set picture line row) line) ≡ pen.columns = ap length here ∙ length-mixed x wanted shown same ∙ wide ∙ sym h.columns in
-      Strokes-then (h.strokes picture high at) (subst (Strokes (cell_bytes cell) mid now pen next (set picture line row)) drawn (strokes (set picture line row) long (ap (take x) here ∙ take-mixed x wanted shown (omega arith))));
+      Strokes-then (h.strokes picture high at) (subst (Strokes (cell_bytes cell) mid now pen next (set picture line row)) drawn
+      (strokes (set picture line row) long (ap (take x) here ∙ take-mixed x wanted shown (omega arith))));
   columns = columns ∙ h.columns;
 }
 
@@ -194,7 +197,8 @@ line-stands {before} {mid} {now} {old} {pen} {next} {line} {from} {shown} {wante
   spent = line_bytes shown wanted + 4;
   within = omega arith;
   strokes = λ picture high at.
-      let whole : mixed (length wanted) wanted shown ≡ wanted = mixed-back (length wanted) wanted shown (drop_all (length wanted) shown (omega (arith, same)) ∙ sym (drop_all (length wanted) wanted (omega arith))) in
+      let whole : mixed (length wanted) wanted shown ≡ wanted = mixed-back (length wanted) wanted shown
+      (drop_all (length wanted) shown (omega (arith, same)) ∙ sym (drop_all (length wanted) wanted (omega arith))) in
       let ended : Strokes 4 mid now pen next (set picture line wanted) (set picture line wanted) = record {
         piece = change pen.rendition no_rendition;
         draws = ending (set picture line wanted);
@@ -292,7 +296,8 @@ pub picture-drawn : {before mid now : Seen} {old pen next : Pen} {line : ℕ} {s
 picture-drawn {before} {mid} {now} {old} {pen} {next} {line} {shown} {wanted} same inside h strokes columns =
     let a = drop_more shown line [] inside in
     let b = drop_more wanted line [] (omega arith) in
-    let left : picture_bytes (drop line shown) (drop line wanted) ≡ picture_bytes (line_of shown line ∷ drop (line + 1) shown) (line_of wanted line ∷ drop (line + 1) wanted) = λ i. picture_bytes (a i) (b i) in
+    let left : picture_bytes (drop line shown) (drop line wanted) ≡ picture_bytes (line_of shown line ∷ drop (line + 1) shown) (line_of wanted line ∷ drop (line + 1) wanted) = λ i. picture_bytes
+    (a i) (b i) in
     let picture = mixed line wanted shown in
     let drawn = strokes picture (omega (arith, length-mixed line wanted shown same)) (mixed-at [] line wanted shown inside same) in
     record {

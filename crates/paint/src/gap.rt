@@ -27,7 +27,8 @@ pub fn approach<W: Sink>(
     requires line { line < LARGEST_SCREEN }
     requires inside { start + length gap.now < pen.old.columns }
     requires columns { pen.old.columns ≤ LARGEST_SCREEN }
-    ensures strokes { (picture : Picture) → length (line_of picture line) ≡ pen.old.columns → take (length gap.now) (drop start (line_of picture line)) ≡ gap.now
+    ensures strokes { (picture : Picture) → length (line_of picture line) ≡ pen.old.columns
+        → take (length gap.now) (drop start (line_of picture line)) ≡ gap.now
         → Strokes (approach_bytes pen.old.cursor pen.old.rendition (line, start) gap.now rendition) (W.seen sink.old) (W.seen sink.new) pen.old pen.new picture picture }
     ensures rendition { pen.new.rendition ≡ rendition }
     ensures cursor { pen.new.cursor ≡ Some (line, start + length gap.now) }
@@ -70,7 +71,8 @@ fn is_printed_again(pen: &Pen, line: u16, start: u16, gap: &[Shown], rendition: 
     requires inside { start + length gap.now < LARGEST_SCREEN }
     ensures few { result ≡ true → length gap.now ≤ 10 }
     ensures at { result ≡ true → is_at pen.now.cursor (line, start) ≡ true }
-    ensures again { result ≡ true → approach_bytes pen.now.cursor pen.now.rendition (line, start) gap.now rendition ≡ again_bytes pen.now.rendition gap.now rendition }
+    ensures again { result ≡ true → approach_bytes pen.now.cursor pen.now.rendition (line, start) gap.now rendition
+        ≡ again_bytes pen.now.rendition gap.now rendition }
     ensures moved { result ≡ false → approach_bytes pen.now.cursor pen.now.rendition (line, start) gap.now rendition
         ≡ moved_bytes pen.now.cursor pen.now.rendition (line, start + length gap.now) rendition }
 {

@@ -15,14 +15,16 @@ pub fn unknown_agrees()
 
 /// After a doupdate all that was sent agrees with the painter, which knows what it showed.
 pub fn agrees_after_update()
-    ensures { (painter : PainterState) (clear : Bool) (wanted : ShownPicture) (stream text : List ℕ) (t : Terminal) → HasSize painter.lines painter.columns t.picture
+    ensures { (painter : PainterState) (clear : Bool) (wanted : ShownPicture) (stream text : List ℕ) (t : Terminal)
+        → HasSize painter.lines painter.columns t.picture
         → Agrees painter stream t → IsUpdateText painter clear wanted text
         → Agrees (record painter { last = Some wanted }) (stream ++ text) t }
 {}
 
 /// After a doupdate that was broken off all that was sent agrees with the painter, which knows nothing then.
 pub fn agrees_after_fault()
-    ensures { (painter : PainterState) (clear : Bool) (wanted : ShownPicture) (stream text : List ℕ) (sent : ℕ) (t : Terminal) → HasSize painter.lines painter.columns t.picture
+    ensures { (painter : PainterState) (clear : Bool) (wanted : ShownPicture) (stream text : List ℕ) (sent : ℕ) (t : Terminal)
+        → HasSize painter.lines painter.columns t.picture
         → Agrees painter stream t → IsUpdateText painter clear wanted text → sent ≤ length text
         → Agrees (record painter { last = None }) (stream ++ take sent text) t }
 {}
@@ -30,7 +32,8 @@ pub fn agrees_after_fault()
 /// Behind any stream that agrees with the painter, the text of a doupdate leaves the terminal showing the picture and the
 /// cursor.
 pub fn shows_after_update()
-    ensures { (painter : PainterState) (clear : Bool) (wanted : ShownPicture) (stream text : List ℕ) (t : Terminal) → HasSize painter.lines painter.columns t.picture
+    ensures { (painter : PainterState) (clear : Bool) (wanted : ShownPicture) (stream text : List ℕ) (t : Terminal)
+        → HasSize painter.lines painter.columns t.picture
         → Agrees painter stream t → IsUpdateText painter clear wanted text
         → LeadsWithBreaks (stream ++ text) t (showing wanted.picture wanted.cursor) }
 {}

@@ -74,7 +74,8 @@ pub fn paint_last_line<W: Sink>(
     requires wanted { length wanted.now ≡ pen.old.columns }
     ensures strokes { result ≡ None → (picture : Picture) → line < length picture → line_of picture line ≡ shown.now
         → Strokes (line_bytes shown.now wanted.now) (W.seen sink.old) (W.seen sink.new) pen.old pen.new picture (slice_set picture line wanted.now) }
-    ensures ready { MatchOption result ⊤ (λ column. IsReadyToErase (line_bytes shown.now wanted.now + 27) (W.seen sink.old) (W.seen sink.new) pen.old pen.new line column shown.now wanted.now) }
+    ensures ready { MatchOption result ⊤ (λ column. IsReadyToErase (line_bytes shown.now wanted.now + 27) (W.seen sink.old)
+        (W.seen sink.new) pen.old pen.new line column shown.now wanted.now) }
     ensures columns { pen.new.columns ≡ pen.old.columns }
     ensures same { W.name sink.new ≡ W.name sink.old }
 {
@@ -174,7 +175,8 @@ fn paint_cell<W: Sink>(
     requires line { line < LARGEST_SCREEN }
     requires inside { start + length gap.now < pen.old.columns }
     requires columns { pen.old.columns ≤ LARGEST_SCREEN }
-    ensures strokes { (picture : Picture) → length (line_of picture line) ≡ pen.old.columns → take (length gap.now) (drop start (line_of picture line)) ≡ gap.now
+    ensures strokes { (picture : Picture) → length (line_of picture line) ≡ pen.old.columns
+        → take (length gap.now) (drop start (line_of picture line)) ≡ gap.now
         → Strokes (cell_bytes cell) (W.seen sink.old) (W.seen sink.new) pen.old pen.new picture (with_shown picture (line, start + length gap.now) cell) }
     ensures columns { pen.new.columns ≡ pen.old.columns }
     ensures same { W.name sink.new ≡ W.name sink.old }

@@ -172,7 +172,8 @@ fn draw<W: Sink>(
     requires column { cursor.1 < size.1 }
     requires height { length changes.now ≡ size.0 }
     requires changes { DifferOnly changes.now (start_from (first_painter size.0 size.1) (last_shown shown.old known)).picture picture.now }
-    ensures holds { (painter : PainterState) (clear : Bool) → painter.lines ≡ size.0 → painter.columns ≡ size.1 → last_shown shown.old known ≡ known_to painter clear
+    ensures holds { (painter : PainterState) (clear : Bool) → painter.lines ≡ size.0 → painter.columns ≡ size.1
+        → last_shown shown.old known ≡ known_to painter clear
         → HoldsUpdate painter clear (record { picture = picture.now; cursor = cursor }) (W.seen sink.old) (W.seen sink.new) result.outbox }
     ensures shown { shown.new ≡ (start_from (first_painter size.0 size.1) (last_shown shown.old known)).picture }
     ensures size { HasSize size.0 size.1 shown.new }
@@ -216,7 +217,8 @@ fn begin<W: Sink>(
 ) -> Pen
     ensures gathered { IsGathered (W.seen sink.old) (W.seen sink.new) result.outbox (opening_from (last_shown shown.old known)) }
     ensures cursor { (painter : PainterState) → result.cursor ≡ Some (start_from painter (last_shown shown.old known)).cursor }
-    ensures picture { (painter : PainterState) → HasSize painter.lines painter.columns shown.old → shown.new ≡ (start_from painter (last_shown shown.old known)).picture }
+    ensures picture { (painter : PainterState) → HasSize painter.lines painter.columns shown.old
+        → shown.new ≡ (start_from painter (last_shown shown.old known)).picture }
     ensures size { (lines : ℕ) → HasSize lines columns shown.old → HasSize lines columns shown.new }
     ensures rendition { result.rendition ≡ no_rendition }
     ensures columns { result.columns ≡ columns }
@@ -235,7 +237,8 @@ fn begin<W: Sink>(
 
 /// Sends what is left of a text, and flushes.
 fn send_text<W: Sink>(pen: Pen, sink: &mut W) -> Result<Sent, WriteFault>
-    ensures text { (painter : PainterState) (clear : Bool) (wanted : ShownPicture) (start : Seen) → HoldsUpdate painter clear wanted start (W.seen sink.old) pen.outbox
+    ensures text { (painter : PainterState) (clear : Bool) (wanted : ShownPicture) (start : Seen)
+        → HoldsUpdate painter clear wanted start (W.seen sink.old) pen.outbox
         → MatchResult result (λ sent. Updates painter clear start (W.seen sink.new) wanted sent.bytes) (λ fault. BreaksOff painter clear start (W.seen sink.new) wanted fault.sent) }
     ensures same { W.name sink.new ≡ W.name sink.old }
 {

@@ -82,7 +82,8 @@ impl Pen {
 
     /// Prints in a rendition from now on.
     pub fn select<W: Sink>(&mut self, sink: &mut W, rendition: Rendition)
-        ensures draws { (picture : Picture) → Draws (change self.old.rendition rendition) (W.seen sink.old) (W.seen sink.new) self.old self.new picture picture }
+        ensures draws { (picture : Picture) → Draws (change self.old.rendition rendition) (W.seen sink.old)
+            (W.seen sink.new) self.old self.new picture picture }
         ensures rendition { self.new.rendition ≡ rendition }
         ensures cursor { self.new.cursor ≡ self.old.cursor }
         ensures columns { self.new.columns ≡ self.old.columns }
@@ -201,7 +202,8 @@ impl Pen {
     pub fn erase_line<W: Sink>(&mut self, sink: &mut W, line: u16, column: u16)
         requires cursor { self.old.cursor ≡ Some (line, column) }
         requires rendition { self.old.rendition ≡ no_rendition }
-        ensures draws { (picture : Picture) → Draws (spelling (El ToEnd)) (W.seen sink.old) (W.seen sink.new) self.old self.new picture (erased_at ToEnd (line, column) picture) }
+        ensures draws { (picture : Picture) → Draws (spelling (El ToEnd)) (W.seen sink.old) (W.seen sink.new) self.old self.new picture
+            (erased_at ToEnd (line, column) picture) }
         ensures rest { self.new ≡ record self.old { outbox = self.new.outbox } }
         ensures same { W.name sink.new ≡ W.name sink.old }
     {
@@ -212,7 +214,8 @@ impl Pen {
     pub fn erase_page<W: Sink>(&mut self, sink: &mut W, line: u16, column: u16)
         requires cursor { self.old.cursor ≡ Some (line, column) }
         requires rendition { self.old.rendition ≡ no_rendition }
-        ensures draws { (picture : Picture) → Draws (spelling (Ed ToEnd)) (W.seen sink.old) (W.seen sink.new) self.old self.new picture (erased_page ToEnd (line, column) picture) }
+        ensures draws { (picture : Picture) → Draws (spelling (Ed ToEnd)) (W.seen sink.old) (W.seen sink.new) self.old self.new picture
+            (erased_page ToEnd (line, column) picture) }
         ensures rest { self.new ≡ record self.old { outbox = self.new.outbox } }
         ensures same { W.name sink.new ≡ W.name sink.old }
     {

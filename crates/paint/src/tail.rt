@@ -29,8 +29,10 @@ pub fn erased_from(
     requires few { length wanted.now ≤ LARGEST_SCREEN }
     ensures from { tail ≤ result }
     ensures to { result ≤ column }
-    ensures changed { reach_bytes pen.now.cursor pen.now.rendition line wanted.now gap result ≤ reach_bytes pen.now.cursor pen.now.rendition line wanted.now gap column }
-    ensures begun { reach_bytes pen.now.cursor pen.now.rendition line wanted.now gap result ≤ reach_bytes pen.now.cursor pen.now.rendition line wanted.now gap tail }
+    ensures changed { reach_bytes pen.now.cursor pen.now.rendition line wanted.now gap result ≤ reach_bytes pen.now.cursor pen.now.rendition line wanted.now
+        gap column }
+    ensures begun { reach_bytes pen.now.cursor pen.now.rendition line wanted.now gap result ≤ reach_bytes pen.now.cursor pen.now.rendition line wanted.now
+        gap tail }
 {
     let near = nearer(pen, line, wanted, gap, tail, column);
     match pen.stands_in(line, tail, column) {
@@ -45,7 +47,8 @@ fn nearer(pen: &Pen, line: u16, wanted: &[Shown], gap: usize, one: usize, other:
     requires one { one < length wanted.now }
     requires other { other < length wanted.now }
     requires few { length wanted.now ≤ LARGEST_SCREEN }
-    ensures { result ≡ (if nat_lt (reach_bytes pen.now.cursor pen.now.rendition line wanted.now gap one) (reach_bytes pen.now.cursor pen.now.rendition line wanted.now gap other) then one else other) }
+    ensures { result ≡ (if nat_lt (reach_bytes pen.now.cursor pen.now.rendition line wanted.now gap one)
+        (reach_bytes pen.now.cursor pen.now.rendition line wanted.now gap other) then one else other) }
 {
     if reach_length(pen, line, wanted, gap, one) < reach_length(pen, line, wanted, gap, other) {
         one
@@ -70,7 +73,8 @@ pub fn is_erased(
     requires first { first < length wanted.now }
     requires last { last < length wanted.now }
     requires few { length wanted.now ≤ LARGEST_SCREEN }
-    ensures { result ≡ nat_lt (reach_bytes pen.now.cursor pen.now.rendition line wanted.now gap from + 3 + first) (reach_bytes pen.now.cursor pen.now.rendition line wanted.now gap first + last + 1) }
+    ensures { result ≡ nat_lt (reach_bytes pen.now.cursor pen.now.rendition line wanted.now gap from + 3 + first)
+        (reach_bytes pen.now.cursor pen.now.rendition line wanted.now gap first + last + 1) }
 {
     let erased = reach_length(pen, line, wanted, gap, from) + ERASURE;
     erased + first < reach_length(pen, line, wanted, gap, first) + last + 1

@@ -136,10 +136,12 @@ widened-more r n old now h from to below = record {
     | inl same ↦
         let joined : Option Columns = joined_columns (columns_of old n) r.left r.right in
         let here : (if frame_has_line r n && nat_lt n n then joined else columns_of old n) ≡ columns_of old n = here-not (frame_has_line r n) n joined (columns_of old n) in
-        subst (λ k. columns_of (slice_set now n (joined_columns (columns_of now n) r.left r.right)) k ≡ (if frame_has_line r k && nat_lt k (n + 1) then joined_columns (columns_of old k) r.left r.right else columns_of old k)) (sym same)
+        subst (λ k. columns_of (slice_set now n (joined_columns (columns_of now n) r.left r.right)) k
+        ≡ (if frame_has_line r k && nat_lt k (n + 1) then joined_columns (columns_of old k) r.left r.right else columns_of old k)) (sym same)
         (get_or-set_same now n (joined_columns (columns_of now n) r.left r.right) None below
         ∙ ap (λ c. joined_columns c r.left r.right) (h.each n ∙ here)
-        ∙ sym (yes (frame_has_line r n) (nat_lt n (n + 1)) joined (columns_of old n) (and_from (nat_le r.top n) (nat_le n r.bottom) (le-leb r.top n from) (le-leb n r.bottom to)) (lt-ltb n (n + 1) (omega arith))))
+        ∙ sym (yes (frame_has_line r n) (nat_lt n (n + 1)) joined (columns_of old n) (and_from (nat_le r.top n) (nat_le n r.bottom) (le-leb r.top n from) (le-leb n r.bottom to))
+        (lt-ltb n (n + 1) (omega arith))))
     | inr other ↦
         get_or-set_other now n v (joined_columns (columns_of now n) r.left r.right) None other
         ∙ h.each v
@@ -168,7 +170,8 @@ joined-covers (Some c) left right x h =
     let last = leb-true x right both.1 in
     and_from (nat_le (min c.first left) x) (nat_le x (max c.last right)) (le-leb (min c.first left) x (omega arith)) (le-leb x (max c.last right) (omega arith))
 
-within-if : (b : Bool) (columns : ℕ) (c : Option Columns) (left right : ℕ) → left ≤ right → right < columns → AreColumnsWithin columns c → AreColumnsWithin columns (if b then joined_columns c left right else c)
+within-if : (b : Bool) (columns : ℕ) (c : Option Columns) (left right : ℕ) → left ≤ right → right < columns → AreColumnsWithin columns c
+    → AreColumnsWithin columns (if b then joined_columns c left right else c)
 within-if true columns c left right ordered inside h = joined-within columns c left right ordered inside h
 within-if false columns c left right ordered inside h = h
 

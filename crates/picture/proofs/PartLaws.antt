@@ -37,7 +37,8 @@ module _ (windows : Windows) (w top left lines : ℕ) (h : StandsAt windows w (t
   pub frame-holds : (columns : ℕ) → 0 < lines → h.window.columns ≡ columns → (y x : ℕ) → frame_holds (frame_from top left lines columns) y x ≡ holds windows.window w y x
   frame-holds columns some same y x = sym (holds-is y x ∙ rw (h.height, same) (inside-same top left lines columns y x some (let has = h.has_column in omega (arith, same)))) where
     inside-same : (top left lines columns y x : ℕ) → 0 < lines → 0 < columns
-        → ((nat_le top y && nat_lt y (top + lines)) && (nat_le left x && nat_lt x (left + columns))) ≡ ((nat_le top y && nat_le y (top + lines - 1)) && (nat_le left x && nat_le x (left + columns - 1)))
+        → ((nat_le top y && nat_lt y (top + lines)) && (nat_le left x && nat_lt x (left + columns)))
+        ≡ ((nat_le top y && nat_le y (top + lines - 1)) && (nat_le left x && nat_le x (left + columns - 1)))
     inside-same top left lines columns y x some more = grind (arith, nat_tests)
 
   pub frame-within : (columns : ℕ) → 0 < lines → h.window.columns ≡ columns → IsFrameWithin windows.lines windows.columns (frame_from top left lines columns)

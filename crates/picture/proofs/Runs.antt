@@ -85,7 +85,8 @@ module _ (old now : Windows) (panels : Panels) (y x edge w last : ℕ) (r : Rect
       → LineShown (λ u. shown pairs (found_from_top old.window panels y u)) y start (last + 1) before new
   run-line pairs start before after new so_far begun put size height width =
       subst (λ k. LineShown (λ u. shown pairs (found_from_top old.window panels y u)) y start k before new) run-number
-      (LineShown-more (λ u. shown pairs (found_from_top old.window panels y u)) (λ u. shown pairs (slice_index_or cells (u - x) blank)) y start x (x + length cells) before after new so_far begun (omega arith)
+      (LineShown-more (λ u. shown pairs (found_from_top old.window panels y u)) (λ u. shown pairs (slice_index_or cells (u - x) blank)) y start x (x + length cells) before after new so_far begun
+      (omega arith)
       (λ u from upto. ap (shown pairs) (run-cells u from upto)) put size height width)
 
   -- and as many were lent

@@ -33,4 +33,5 @@ one-shows window panels p None h = h
 one-shows window panels p (Some w) h = shows (window w) h.window_is
 
 pub sound-windows : (window : WindowMap) (panels : Panels) → AreSoundPanels window panels → HasPanelWindows window panels
-sound-windows window panels h = λ k d below. one-shows window panels (slice_index_or panels.visible k d) (panels.window (slice_index_or panels.visible k d)) (h.each (slice_index_or panels.visible k d))
+sound-windows window panels h = λ k d below. one-shows window panels (slice_index_or panels.visible k d) (panels.window (slice_index_or panels.visible k d))
+    (h.each (slice_index_or panels.visible k d))

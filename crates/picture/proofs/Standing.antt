@@ -44,7 +44,8 @@ stands windows w place lines (Some a) e sound place_is size size_is columns know
       touched = window.touched;
     }
 
-pub stands-at : (windows : Windows) (w : ℕ) (place : Place) (lines columns : ℕ) → AreSoundWindows windows → place_on_screen windows.window w ≡ Some place → window_size windows.window w ≡ Some (lines, columns)
+pub stands-at : (windows : Windows) (w : ℕ) (place : Place) (lines columns : ℕ) → AreSoundWindows windows → place_on_screen windows.window w ≡ Some place
+    → window_size windows.window w ≡ Some (lines, columns)
     → StandsAt windows w place lines
 stands-at windows w place lines columns sound place_is size_is = stands windows w place lines (windows.window w) refl sound place_is (window_size windows.window w) refl columns size_is
 
@@ -52,8 +53,11 @@ stands-at windows w place lines columns sound place_is size_is = stands windows 
 placed-from : (windows : Windows) (w : ℕ) (place : Place) (o : Option Window) → windows.window w ≡ o → AreSoundWindows windows → option_and_then (λ (a : Window). a.place) o ≡ Some place
     → (lines : ℕ) × StandsAt windows w place lines
 placed-from windows w place None e sound is = cc
-placed-from windows w place (Some a) e sound is =
-    (a.lines, stands-at windows w place a.lines a.columns sound (ap (λ (o : Option Window). option_and_then (λ (b : Window). b.place) o) e ∙ is) (ap (λ (o : Option Window). option_map (λ (b : Window). (b.lines, b.columns)) o) e))
+placed-from windows w place (Some a) e sound is = (
+  a.lines,
+  stands-at windows w place a.lines a.columns sound (ap (λ (o : Option Window). option_and_then (λ (b : Window). b.place) o) e ∙ is)
+      (ap (λ (o : Option Window). option_map (λ (b : Window). (b.lines, b.columns)) o) e),
+)
 
 pub placed : (windows : Windows) (w : ℕ) (place : Place) → AreSoundWindows windows → place_on_screen windows.window w ≡ Some place → (lines : ℕ) × StandsAt windows w place lines
 placed windows w place sound is = placed-from windows w place (windows.window w) refl sound is

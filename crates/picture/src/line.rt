@@ -31,7 +31,8 @@ pub fn compose_row<'a, R: Rows<'a>>(
     requires ordered { left ≤ right }
     requires line { y < length picture.old }
     requires columns { right < length (line_of picture.old y) }
-    ensures shown { (v u : ℕ) → shown_at picture.new (v, u) ≡ (if (v == y) && (nat_le left u && nat_lt u (right + 1)) then shown pairs.now (found_from_top (R.windows rows.old).window (panels stack.now) y u) else shown_at picture.old (v, u)) }
+    ensures shown { (v u : ℕ) → shown_at picture.new (v, u) ≡ (if (v == y) && (nat_le left u && nat_lt u (right + 1)) then shown pairs.now
+        (found_from_top (R.windows rows.old).window (panels stack.now) y u) else shown_at picture.old (v, u)) }
     ensures size { (lines columns : ℕ) → HasSize lines columns picture.old → HasSize lines columns picture.new }
     ensures counted { GrewBy (right - left + 1) (R.lent rows.old) (R.lent rows.new) }
     ensures same { R.windows rows.new ≡ R.windows rows.old }

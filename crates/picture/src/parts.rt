@@ -21,7 +21,8 @@ use world::PanelId;
 pub fn window_part(table: &Grids, win: WinId) -> Option<Rect>
     ensures holds { (y x : ℕ) → part_holds result y x ≡ holds (windows_of table.now).window win.0 y x }
     ensures within { MatchOption result ⊤ (IsFrameWithin table.now.lines table.now.columns) }
-    ensures place { MatchOption result (is_no_pad (windows_of table.now).window win.0 ≡ false) (λ frame. (frame.top, frame.left) ≡ place_of (windows_of table.now).window win.0) }
+    ensures place { MatchOption result (is_no_pad (windows_of table.now).window win.0 ≡ false)
+        (λ frame. (frame.top, frame.left) ≡ place_of (windows_of table.now).window win.0) }
 {
     match (table.getbegyx(win), table.getmaxyx(win)) {
         (Ok((top, left)), Ok((lines, columns))) => Some(Rect {

@@ -38,7 +38,8 @@ pub fn show_piece(
     requires line { y < table.now.lines }
     requires columns { x + n ≤ table.now.columns }
     requires size { HasSize table.now.lines table.now.columns picture.old }
-    ensures shown { (v u : ℕ) → shown_at picture.new (v, u) ≡ (if (v == y) && (nat_le x u && nat_lt u (x + n)) then shown pairs.now (cell_at (windows_of table.now).window source.win.0 source.line (source.column + (u - x))) else shown_at picture.old (v, u)) }
+    ensures shown { (v u : ℕ) → shown_at picture.new (v, u) ≡ (if (v == y) && (nat_le x u && nat_lt u (x + n)) then shown pairs.now
+        (cell_at (windows_of table.now).window source.win.0 source.line (source.column + (u - x))) else shown_at picture.old (v, u)) }
     ensures size { HasSize table.now.lines table.now.columns picture.new }
 {
     let cells = piece(
@@ -55,7 +56,8 @@ pub fn show_piece(
 pub fn show_cells(cells: &[Cell], pairs: &Pairs, y: u16, x: u16, picture: &mut Grid<Shown>)
     requires line { y < length picture.old }
     requires columns { x + length cells.now ≤ length (line_of picture.old y) }
-    ensures shown { (v u : ℕ) → shown_at picture.new (v, u) ≡ (if (v == y) && (nat_le x u && nat_lt u (x + length cells.now)) then shown pairs.now (slice_index_or cells.now (u - x) blank) else shown_at picture.old (v, u)) }
+    ensures shown { (v u : ℕ) → shown_at picture.new (v, u) ≡ (if (v == y) && (nat_le x u && nat_lt u (x + length cells.now)) then shown pairs.now
+        (slice_index_or cells.now (u - x) blank) else shown_at picture.old (v, u)) }
     ensures size { (lines columns : ℕ) → HasSize lines columns picture.old → HasSize lines columns picture.new }
     ensures height { length picture.new ≡ length picture.old }
     ensures width { (v : ℕ) → length (line_of picture.new v) ≡ length (line_of picture.old v) }

@@ -32,8 +32,10 @@ pub fn show_damaged<'a, R: Rows<'a>>(
     requires height { length damage.old ≡ (R.windows rows.old).lines }
     requires within { (y : ℕ) → AreColumnsWithin (R.windows rows.old).columns (columns_of damage.old y) }
     requires size { HasSize (R.windows rows.old).lines (R.windows rows.old).columns picture.old }
-    requires covered { (y x : ℕ) → y < (R.windows rows.old).lines → x < (R.windows rows.old).columns → has_damage_at damage.old y x ≡ false → shown_at picture.old (y, x) ≡ shown pairs.now (found_from_top (R.windows rows.old).window (panels stack.now) y x) }
-    ensures shown { picture.new ≡ picture_of (R.windows rows.old).lines (R.windows rows.old).columns (λ y x. shown pairs.now (found_from_top (R.windows rows.old).window (panels stack.now) y x)) }
+    requires covered { (y x : ℕ) → y < (R.windows rows.old).lines → x < (R.windows rows.old).columns → has_damage_at damage.old y x ≡ false
+        → shown_at picture.old (y, x) ≡ shown pairs.now (found_from_top (R.windows rows.old).window (panels stack.now) y x) }
+    ensures shown { picture.new ≡ picture_of (R.windows rows.old).lines (R.windows rows.old).columns
+        (λ y x. shown pairs.now (found_from_top (R.windows rows.old).window (panels stack.now) y x)) }
     ensures cells { AreShown picture.new }
     ensures height { length damage.new ≡ (R.windows rows.old).lines }
     ensures none { (y : ℕ) → columns_of damage.new y ≡ None }

@@ -85,10 +85,25 @@ pub record Entry : Type 0 where
 -- making and placing
 abbrev pub making_entry : MakingWord → Entry
 making_entry making.Newwin = record { word = codes "newwin"; forms = Number ∷ Number ∷ Number ∷ Number ∷ []; call = λ a. Making (Newwin (number a 0) (number a 1) (number a 2) (number a 3)) }
-making_entry making.Subwin = record { word = codes "subwin"; forms = Number ∷ Number ∷ Number ∷ Number ∷ Number ∷ []; call = λ a. Making (Subwin (window a) (number a 1) (number a 2) (number a 3) (number a 4)) }
-making_entry making.Derwin = record { word = codes "derwin"; forms = Number ∷ Number ∷ Number ∷ Number ∷ Number ∷ []; call = λ a. Making (Derwin (window a) (number a 1) (number a 2) (number a 3) (number a 4)) }
+making_entry making.Subwin = record {
+  word = codes "subwin";
+  forms = Number ∷ Number ∷ Number ∷ Number ∷ Number ∷ [];
+  call = λ a. Making
+      (Subwin (window a) (number a 1) (number a 2) (number a 3) (number a 4));
+}
+making_entry making.Derwin = record {
+  word = codes "derwin";
+  forms = Number ∷ Number ∷ Number ∷ Number ∷ Number ∷ [];
+  call = λ a. Making
+      (Derwin (window a) (number a 1) (number a 2) (number a 3) (number a 4));
+}
 making_entry making.Newpad = record { word = codes "newpad"; forms = Number ∷ Number ∷ []; call = λ a. Making (Newpad (number a 0) (number a 1)) }
-making_entry making.Subpad = record { word = codes "subpad"; forms = Number ∷ Number ∷ Number ∷ Number ∷ Number ∷ []; call = λ a. Making (Subpad (window a) (number a 1) (number a 2) (number a 3) (number a 4)) }
+making_entry making.Subpad = record {
+  word = codes "subpad";
+  forms = Number ∷ Number ∷ Number ∷ Number ∷ Number ∷ [];
+  call = λ a. Making
+      (Subpad (window a) (number a 1) (number a 2) (number a 3) (number a 4));
+}
 making_entry making.Delwin = record { word = codes "delwin"; forms = Number ∷ []; call = λ a. Making (Delwin (window a)) }
 making_entry making.Mvwin = record { word = codes "mvwin"; forms = Number ∷ Number ∷ Number ∷ []; call = λ a. Making (Mvwin (window a) (number a 1) (number a 2)) }
 making_entry making.Mvderwin = record { word = codes "mvderwin"; forms = Number ∷ Number ∷ Number ∷ []; call = λ a. Making (Mvderwin (window a) (number a 1) (number a 2)) }
@@ -121,7 +136,12 @@ writing_entry writing.Bkgdpair = record { word = codes "bkgdpair"; forms = Numbe
 abbrev pub copying_entry : CopyingWord → Entry
 copying_entry copying.Overlay = record { word = codes "overlay"; forms = Number ∷ Number ∷ []; call = λ a. Copying (Overlay (window a) (window_at a 1)) }
 copying_entry copying.Overwrite = record { word = codes "overwrite"; forms = Number ∷ Number ∷ []; call = λ a. Copying (Overwrite (window a) (window_at a 1)) }
-copying_entry copying.Copywin = record { word = codes "copywin"; forms = Number ∷ Number ∷ Number ∷ Number ∷ Number ∷ Number ∷ Number ∷ Number ∷ Flag ∷ []; call = λ a. Copying (Copywin (window a) (window_at a 1) (number a 2) (number a 3) (number a 4) (number a 5) (number a 6) (number a 7) a.flag) }
+copying_entry copying.Copywin = record {
+  word = codes "copywin";
+  forms = Number ∷ Number ∷ Number ∷ Number ∷ Number ∷ Number ∷ Number ∷ Number ∷ Flag ∷ [];
+  call = λ a. Copying
+      (Copywin (window a) (window_at a 1) (number a 2) (number a 3) (number a 4) (number a 5) (number a 6) (number a 7) a.flag);
+}
 copying_entry copying.Touchwin = record { word = codes "touchwin"; forms = Number ∷ []; call = λ a. Copying (Touchwin (window a)) }
 copying_entry copying.Untouchwin = record { word = codes "untouchwin"; forms = Number ∷ []; call = λ a. Copying (Untouchwin (window a)) }
 copying_entry copying.Touchline = record { word = codes "touchline"; forms = Number ∷ Number ∷ Number ∷ []; call = λ a. Copying (Touchline (window a) (number a 1) (number a 2)) }
@@ -157,7 +177,12 @@ stacking_entry stacking.PanelHidden = record { word = codes "panel_hidden"; form
 -- refresh
 abbrev pub refresh_entry : RefreshWord → Entry
 refresh_entry refresh.Noutrefresh = record { word = codes "noutrefresh"; forms = Number ∷ []; call = λ a. Refresh (Noutrefresh (window a)) }
-refresh_entry refresh.Pnoutrefresh = record { word = codes "pnoutrefresh"; forms = Number ∷ Number ∷ Number ∷ Number ∷ Number ∷ Number ∷ Number ∷ []; call = λ a. Refresh (Pnoutrefresh (window a) (number a 1) (number a 2) (number a 3) (number a 4) (number a 5) (number a 6)) }
+refresh_entry refresh.Pnoutrefresh = record {
+  word = codes "pnoutrefresh";
+  forms = Number ∷ Number ∷ Number ∷ Number ∷ Number ∷ Number ∷ Number ∷ [];
+  call = λ a. Refresh
+      (Pnoutrefresh (window a) (number a 1) (number a 2) (number a 3) (number a 4) (number a 5) (number a 6));
+}
 refresh_entry refresh.UpdatePanels = record { word = codes "update_panels"; forms = []; call = λ a. Refresh UpdatePanels }
 refresh_entry refresh.Doupdate = record { word = codes "doupdate"; forms = []; call = λ a. Refresh Doupdate }
 refresh_entry refresh.InitPair = record { word = codes "init_pair"; forms = Number ∷ Number ∷ Number ∷ []; call = λ a. Refresh (InitPair (number a 0) (number a 1) (number a 2)) }

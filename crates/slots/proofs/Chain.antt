@@ -29,7 +29,8 @@ pub each_at : (slots : List (Option Kept)) → IsChained slots → (w : ℕ) (k 
 each_at slots s w k e = rw e at (s.each w)
 
 -- the slot of a parent
-pub parent_at : (slots : List (Option Kept)) → IsChained slots → (w : ℕ) (k : Kept) (part : Part) → slot_at slots w ≡ Some k → k.cells ≡ Shared part → (p : Kept) × (slot_at slots part.parent ≡ Some p) × FitsIn k part p
+pub parent_at : (slots : List (Option Kept)) → IsChained slots → (w : ℕ) (k : Kept) (part : Part) → slot_at slots w ≡ Some k → k.cells ≡ Shared part
+    → (p : Kept) × (slot_at slots part.parent ≡ Some p) × FitsIn k part p
 parent_at slots s w k part e is =
     from_match (slot_at slots part.parent) (FitsIn k part) (subst (λ c. StandsIn slots k c) is (each_at slots s w k e).1)
 
@@ -113,14 +114,16 @@ pub record Leads (slots : List (Option Kept)) (win grid line column : ℕ) : Typ
   pub lines : line + lines_at slots win ≤ lines_at slots grid
   pub columns : column + columns_at slots win ≤ columns_at slots grid
 
-own_step : (slots : List (Option Kept)) (w : ℕ) (k : Kept) (part : Part) → slot_at slots w ≡ Some k → k.cells ≡ Shared part → (n y x : ℕ) → own_within (suc n) (window_map slots) w y x ≡ own_within n (window_map slots) part.parent (y + part.line) (x + part.column)
+own_step : (slots : List (Option Kept)) (w : ℕ) (k : Kept) (part : Part) → slot_at slots w ≡ Some k → k.cells ≡ Shared part → (n y x : ℕ)
+    → own_within (suc n) (window_map slots) w y x ≡ own_within n (window_map slots) part.parent (y + part.line) (x + part.column)
 own_step slots w k part e is n y x = rw (e, is) refl
 
 end_of : (further : ℕ → ℕ → ℕ → Option GridPlace) (w y x : ℕ) (cells : Cells) → part_in cells ≡ None → leads further w y x (backing_of cells) ≡ Some (record { grid = w; line = y; column = x })
 end_of further w y x (Own sheet) is = refl
 end_of further w y x (Shared part) is = cc
 
-own_end : (slots : List (Option Kept)) (w : ℕ) (k : Kept) → slot_at slots w ≡ Some k → part_in k.cells ≡ None → (n y x : ℕ) → own_within (suc n) (window_map slots) w y x ≡ Some (record { grid = w; line = y; column = x })
+own_end : (slots : List (Option Kept)) (w : ℕ) (k : Kept) → slot_at slots w ≡ Some k → part_in k.cells ≡ None → (n y x : ℕ)
+    → own_within (suc n) (window_map slots) w y x ≡ Some (record { grid = w; line = y; column = x })
 own_end slots w k e is n y x = rw e (end_of (own_within n (window_map slots)) w y x k.cells is)
 
 pub shared_of : (cells : Cells) (part : Part) → part_in cells ≡ Some part → cells ≡ Shared part
@@ -152,7 +155,8 @@ Leads-step slots s win grid line column k part e in_part h =
     }
 
 -- the end of the chain
-pub Leads-end : (slots : List (Option Kept)) → IsChained slots → length slots ≤ MOST_WINDOWS + 1 → (win grid line column : ℕ) (k : Kept) → IsSome (slot_at slots win) → slot_at slots grid ≡ Some k → part_in k.cells ≡ None →
+pub Leads-end : (slots : List (Option Kept)) → IsChained slots → length slots ≤ MOST_WINDOWS + 1 → (win grid line column : ℕ) (k : Kept) → IsSome (slot_at slots win) → slot_at slots grid ≡ Some k
+    → part_in k.cells ≡ None →
     Leads slots win grid line column → own_within window_limit (window_map slots) win 0 0 ≡ Some (record { grid = grid; line = line; column = column })
 Leads-end slots s few win grid line column k taken e is h =
     let n = window_limit - suc (depth_at slots win) in

@@ -6,7 +6,8 @@ use Rattle.world.specs.Windows.{Backing, own_grid, part_of, GridPlace, Window, W
 use Rattle.world.proofs.WindowLaws.{own-onward}
 use Rattle.slots.specs.declared.slot.Part.{Part}
 
-leads-more : (f g : ℕ → ℕ → ℕ → Option GridPlace) (s : GridPlace) → ((w y x : ℕ) → f w y x ≡ Some s → g w y x ≡ Some s) → (w y x : ℕ) (b : Backing) → leads f w y x b ≡ Some s → leads g w y x b ≡ Some s
+leads-more : (f g : ℕ → ℕ → ℕ → Option GridPlace) (s : GridPlace) → ((w y x : ℕ) → f w y x ≡ Some s → g w y x ≡ Some s) → (w y x : ℕ) (b : Backing) → leads f w y x b ≡ Some s
+    → leads g w y x b ≡ Some s
 leads-more f g s more w y x (own_grid cells) h = h
 leads-more f g s more w y x (part_of parent line column) h = more parent (y + line) (x + column) h
 

@@ -72,7 +72,8 @@ none_within : (columns : ℕ) (o : Option Columns) → o ≡ None → AreColumns
 none_within columns None e = tt
 none_within columns (Some r) e = cc
 
-pub IsKept-new : (lines columns depth : ℕ) (place : Option Place) (origin : Origin) (cells : Cells) → 0 < lines → 0 < columns → lines ≤ LARGEST_PAD → columns ≤ LARGEST_PAD → IsGridOf lines columns cells
+pub IsKept-new : (lines columns depth : ℕ) (place : Option Place) (origin : Origin) (cells : Cells) → 0 < lines → 0 < columns → lines ≤ LARGEST_PAD → columns ≤ LARGEST_PAD
+    → IsGridOf lines columns cells
     → IsKept (record { lines = lines; columns = columns; place = place; settings = first_settings lines; touched = replicate lines None; depth = depth; origin = origin; cells = cells })
 IsKept-new lines columns depth place origin cells has_line has_column few_lines few_columns grid = record {
   has_line = has_line;
@@ -89,7 +90,17 @@ pub IsGridOf-blank : (lines columns : ℕ) → IsGridOf lines columns (Own (blan
 IsGridOf-blank lines columns = (HasSize-all_of blank lines columns, EachCell-all_of IsCell blank lines columns IsCell-blank)
 
 pub window-blank : (lines columns depth : ℕ) (place : Option Place) (origin : Origin)
-    → window_of (record { lines = lines; columns = columns; place = place; settings = first_settings lines; touched = replicate lines None; depth = depth; origin = origin; cells = Own (blank_sheet lines columns) })
+    → window_of (record {
+      lines = lines;
+      columns = columns;
+      place = place;
+      settings = first_settings lines;
+      touched = replicate lines None;
+      depth = depth;
+      origin = origin;
+      cells = Own
+          (blank_sheet lines columns);
+    })
     ≡ new_window lines columns place blank_grid
 window-blank lines columns depth place origin =
     let none : (λ y. get_or (replicate lines (let o : Option Columns = None in o)) y None) ≡ (λ y. None) = fun_ext (λ y. touched-none lines y) in

@@ -54,7 +54,8 @@ module _ (slots : List (Option Kept)) (s : IsChained slots) (few : length slots 
       root-from k.0.depth win 0 0 k.0 k.1 refl (record { taken = taken; same = λ n. refl; lines = omega arith; columns = omega arith })
 
 -- so its origin is that place
-pub origin-is : (slots : List (Option Kept)) → IsChained slots → AreOrigins slots → length slots ≤ MOST_WINDOWS + 1 → (win : ℕ) (k : Kept) → slot_at slots win ≡ Some k → IsRoot slots win (grid_place k.origin)
+pub origin-is : (slots : List (Option Kept)) → IsChained slots → AreOrigins slots → length slots ≤ MOST_WINDOWS + 1 → (win : ℕ) (k : Kept) → slot_at slots win ≡ Some k
+    → IsRoot slots win (grid_place k.origin)
 origin-is slots s origins few win k e =
     let found = some-root slots s few win (rw e refl) in
     let here : own (window_map slots) win 0 0 ≡ Some (grid_place k.origin) = rw e at (origins.each win) in
@@ -96,7 +97,8 @@ module _ (old new : List (Option Kept)) (P : ℕ → Type 0) (same : (w : ℕ) �
 abbrev pub HasOrigin : List (Option Kept) → ℕ → Kept → Type 0
 HasOrigin slots w k = own (window_map slots) w 0 0 ≡ Some (grid_place k.origin)
 
-origin-still : (old new : List (Option Kept)) (w : ℕ) (o : Option Kept) → (IsSome o → own (window_map new) w 0 0 ≡ own (window_map old) w 0 0) → MatchOption o ⊤ (HasOrigin old w) → MatchOption o ⊤ (HasOrigin new w)
+origin-still : (old new : List (Option Kept)) (w : ℕ) (o : Option Kept) → (IsSome o → own (window_map new) w 0 0 ≡ own (window_map old) w 0 0) → MatchOption o ⊤ (HasOrigin old w)
+    → MatchOption o ⊤ (HasOrigin new w)
 origin-still old new w None same h = h
 origin-still old new w (Some k) same h = same refl ∙ h
 
@@ -167,7 +169,8 @@ module _ (old new : List (Option Kept)) (at : ℕ) (k : Kept) (s : IsChained old
 
 -- ---- a number is given up from which no window derives
 
-pub origins-without : (old new : List (Option Kept)) (at : ℕ) → SetAt old new at None → ((w : ℕ) (k : Kept) (part : Part) → slot_at old w ≡ Some k → k.cells ≡ Shared part → part.parent ≢ at) → AreOrigins old → AreOrigins new
+pub origins-without : (old new : List (Option Kept)) (at : ℕ) → SetAt old new at None → ((w : ℕ) (k : Kept) (part : Part) → slot_at old w ≡ Some k → k.cells ≡ Shared part → part.parent ≢ at)
+    → AreOrigins old → AreOrigins new
 origins-without old new at set apart s =
     origins-beside old new at None set s tt
     (λ w other taken. own-kept old new (λ v. v ≢ at) (λ v t. ap link (set.others v t)) (λ v k part t e is. apart v k part e is) w other)

@@ -379,7 +379,8 @@ fn mark_lines(
     requires ordered { start ≤ end }
     requires there { end ≤ length touched.old.items }
     ensures length { length touched.new.items ≡ length touched.old.items }
-    ensures each { (y : ℕ) → slice_index_or touched.new.items y None ≡ (if nat_le start y && nat_lt y end then columns else slice_index_or touched.old.items y None) }
+    ensures each { (y : ℕ) → slice_index_or touched.new.items y None ≡ (if nat_le start y && nat_lt y end then columns else slice_index_or touched.old.items
+        y None) }
 {
     for y in start..end {
         touched[y] = columns;

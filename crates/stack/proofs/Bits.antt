@@ -10,14 +10,16 @@ module _ (words : List ℕ) (number word : ℕ) (within : number / 64 < length w
   bit-set_same = ap (λ n. bit_at n (number % 64)) (get_or-set_same words (number / 64) word 0 within)
 
   -- a word that keeps its other bits keeps the bit of each other number
-  bit-set_other : ((i : ℕ) → i < 64 → i ≢ number % 64 → bit_at word i ≡ bit_at (get_or words (number / 64) 0) i) → (p : ℕ) → p ≢ number → number_bit (set words (number / 64) word) p ≡ number_bit words p
+  bit-set_other : ((i : ℕ) → i < 64 → i ≢ number % 64 → bit_at word i ≡ bit_at (get_or words (number / 64) 0) i) → (p : ℕ) → p ≢ number
+      → number_bit (set words (number / 64) word) p ≡ number_bit words p
   bit-set_other kept p differs =
       elim (cases_eq (p / 64) (number / 64)) [
         | inl same ↦ rw (same, get_or-set_same words (number / 64) word 0 within) (kept (p % 64) (omega arith) (λ index. differs (omega arith)))
         | inr apart ↦ ap (λ n. bit_at n (p % 64)) (get_or-set_other words (number / 64) (p / 64) word 0 apart)
       ]
 
-  bit-set : (bit : ℕ) → bit_at word (number % 64) ≡ bit → ((i : ℕ) → i < 64 → i ≢ number % 64 → bit_at word i ≡ bit_at (get_or words (number / 64) 0) i) → (p : ℕ) → number_bit (set words (number / 64) word) p ≡ (if p == number then bit else number_bit words p)
+  bit-set : (bit : ℕ) → bit_at word (number % 64) ≡ bit → ((i : ℕ) → i < 64 → i ≢ number % 64 → bit_at word i ≡ bit_at (get_or words (number / 64) 0) i) → (p : ℕ)
+      → number_bit (set words (number / 64) word) p ≡ (if p == number then bit else number_bit words p)
   bit-set bit here kept p = elim (cases_eq p number) [
     | inl same ↦ rw (eq-eqb p number same) (rw same (bit-set_same ∙ here))
     | inr other ↦ rw (ne_eqb p number other) (bit-set_other kept p other)
@@ -30,7 +32,8 @@ module _ (words : List ℕ) (number : ℕ) (within : number / 64 < length words)
       let word = get_or words (number / 64) 0 in
       bit-set words number _ within 1 (bit_at_set_same w64 word (number % 64) index) (λ i below differs. bit_at_set_other w64 word (number % 64) index i differs)
 
-  pub bit-freed : (p : ℕ) → number_bit (set words (number / 64) (bit_and (get_or words (number / 64) 0) (bit_not w64 (1 * 2 ^ (number % 64) % 2 ^ 64)))) p ≡ (if p == number then 0 else number_bit words p)
+  pub bit-freed : (p : ℕ) → number_bit (set words (number / 64) (bit_and (get_or words (number / 64) 0) (bit_not w64 (1 * 2 ^ (number % 64) % 2 ^ 64)))) p
+      ≡ (if p == number then 0 else number_bit words p)
   bit-freed =
       let index : number % 64 < 64 = omega arith in
       let word = get_or words (number / 64) 0 in

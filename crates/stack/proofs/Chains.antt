@@ -70,7 +70,8 @@ same-each old new u v same [] hu hv = tt
 same-each old new u v same (x ∷ xs) hu hv = (same x (λ e. hu.0 (sym e)) (λ e. hv.0 (sym e)), same-each old new u v same xs hu.1 hv.1)
 
 module _ (above below above' below' : ℕ → ℕ) where
-  pub chain-same : (a : ℕ) (xs : List ℕ) (z : ℕ) → above' a ≡ above a → AllByRecursion (λ q. above' q ≡ above q) xs → AllByRecursion (λ q. below' q ≡ below q) xs → below' z ≡ below z → IsChain above below a xs z → IsChain above' below' a xs z
+  pub chain-same : (a : ℕ) (xs : List ℕ) (z : ℕ) → above' a ≡ above a → AllByRecursion (λ q. above' q ≡ above q) xs → AllByRecursion (λ q. below' q ≡ below q) xs → below' z ≡ below z
+      → IsChain above below a xs z → IsChain above' below' a xs z
   chain-same a [] z first aboves belows last h = (first ∙ h.0, last ∙ h.1)
   chain-same a (x ∷ xs) z first aboves belows last h =
       ((first ∙ h.0.0, belows.0 ∙ h.0.1), chain-same x xs z aboves.0 aboves.1 belows.1 last h.1)
@@ -82,7 +83,8 @@ module _ (above below above' below' : ℕ → ℕ) where
     pub aboves : SameBut above above' p (below p)
     pub belows : SameBut below below' p (above p)
 
-  pub chain-removed : (p : ℕ) → Removed p → (a : ℕ) (xs ys : List ℕ) (z : ℕ) → IsChain above below a (xs ++ p ∷ ys) z → AreOnce (xs ++ p ∷ ys) → IsOut a (xs ++ p ∷ ys) → IsOut z (xs ++ p ∷ ys) → IsChain above' below' a (xs ++ ys) z
+  pub chain-removed : (p : ℕ) → Removed p → (a : ℕ) (xs ys : List ℕ) (z : ℕ) → IsChain above below a (xs ++ p ∷ ys) z → AreOnce (xs ++ p ∷ ys) → IsOut a (xs ++ p ∷ ys) → IsOut z (xs ++ p ∷ ys)
+      → IsChain above' below' a (xs ++ ys) z
   chain-removed p r a [] [] z h once oa oz =
       let lower = r.lower in
       let upper = r.upper in
@@ -121,7 +123,8 @@ module _ (above below above' below' : ℕ → ℕ) where
     pub aboves : SameBut above above' p lower
     pub belows : SameBut below below' p upper
 
-  pub chain-pushed : (p a : ℕ) (xs : List ℕ) (z : ℕ) → Inserted (below z) p z → IsChain above below a xs z → AreOnce xs → (a ≡ p → ⊥) → IsOut a xs → IsOut z xs → IsOut p xs → IsChain above' below' a (xs ++ p ∷ []) z
+  pub chain-pushed : (p a : ℕ) (xs : List ℕ) (z : ℕ) → Inserted (below z) p z → IsChain above below a xs z → AreOnce xs → (a ≡ p → ⊥) → IsOut a xs → IsOut z xs → IsOut p xs
+      → IsChain above' below' a (xs ++ p ∷ []) z
   chain-pushed p a [] z r h once ap oa oz op =
       let lower_above = r.lower_above in
       let lower_below = r.lower_below in
@@ -134,7 +137,8 @@ module _ (above below above' below' : ℕ → ℕ) where
     chain-pushed p x xs z r h.1 once.1 (λ e. op.0 (sym e)) once.0 oz.1 op.1,
   )
 
-  pub chain-put : (p a : ℕ) (xs : List ℕ) (z : ℕ) → Inserted a p (above a) → IsChain above below a xs z → AreOnce xs → (z ≡ p → ⊥) → IsOut a xs → IsOut z xs → IsOut p xs → IsChain above' below' a (p ∷ xs) z
+  pub chain-put : (p a : ℕ) (xs : List ℕ) (z : ℕ) → Inserted a p (above a) → IsChain above below a xs z → AreOnce xs → (z ≡ p → ⊥) → IsOut a xs → IsOut z xs → IsOut p xs
+      → IsChain above' below' a (p ∷ xs) z
   chain-put p a [] z r h once zp oa oz op =
       let upper_above = r.upper_above in
       let upper_below = r.upper_below in

@@ -14,7 +14,8 @@ use Rattle.stack.proofs.Bits.{zeros}
 use Rattle.stack.proofs.Windows.{given-other, given-same, window-free}
 
 -- nothing that they say changed
-pub indexed-same : (old new : List Node) (numbers holders holders' : List ℕ) → IsIndexed old numbers holders → length new ≤ MOST_PANELS + 1 → (1 < length new → window_limit ≤ length holders') → ((p : ℕ) → window_at new p ≡ window_at old p) → ((w : ℕ) → holder_at holders' w ≡ holder_at holders w) → IsIndexed new numbers holders'
+pub indexed-same : (old new : List Node) (numbers holders holders' : List ℕ) → IsIndexed old numbers holders → length new ≤ MOST_PANELS + 1 → (1 < length new → window_limit ≤ length holders')
+    → ((p : ℕ) → window_at new p ≡ window_at old p) → ((w : ℕ) → holder_at holders' w ≡ holder_at holders w) → IsIndexed new numbers holders'
 indexed-same old new numbers holders holders' h few room windows same = record {
   few = few;
   room = room;
@@ -59,7 +60,8 @@ set-behind end nodes zero node some = absurd (omega arith)
 set-behind end nodes (suc p) node some = let e : p ≡ suc p - 1 = omega arith in ap (λ (k : ℕ). end ∷ set nodes k node) e
 
 -- a node that no panel has
-pub indexed-pushed : (nodes : List Node) (node : Node) (numbers holders holders' : List ℕ) → IsIndexed nodes numbers holders → length nodes ≤ MOST_PANELS → window_in node ≡ None → window_limit ≤ length holders' → ((w : ℕ) → holder_at holders' w ≡ holder_at holders w) → IsIndexed (nodes ++ node ∷ []) numbers holders'
+pub indexed-pushed : (nodes : List Node) (node : Node) (numbers holders holders' : List ℕ) → IsIndexed nodes numbers holders → length nodes ≤ MOST_PANELS → window_in node ≡ None
+    → window_limit ≤ length holders' → ((w : ℕ) → holder_at holders' w ≡ holder_at holders w) → IsIndexed (nodes ++ node ∷ []) numbers holders'
 indexed-pushed nodes node numbers holders holders' h few none room same =
     indexed-same nodes (nodes ++ node ∷ []) numbers holders holders' h (let more = length_push nodes node in omega arith) (λ some. room)
     (window-free nodes node none) same
@@ -131,7 +133,8 @@ module _ (old new : List Node) (numbers numbers' holders middle holders' : List 
         ]
       ]
 
-      pub indexed-windowed : length middle ≡ length holders → length holders' ≡ length middle → ((q : ℕ) → q < number_limit → number_bit numbers' q ≡ (if q == p then (if is_some o then 1 else 0) else number_bit numbers q)) → IsIndexed new numbers' holders'
+      pub indexed-windowed : length middle ≡ length holders → length holders' ≡ length middle → ((q : ℕ) → q < number_limit
+          → number_bit numbers' q ≡ (if q == p then (if is_some o then 1 else 0) else number_bit numbers q)) → IsIndexed new numbers' holders'
       indexed-windowed first second bits = record {
         few = let few = h.few in omega arith;
         room = λ some. let room = h.room (omega arith) in omega arith;
@@ -142,7 +145,8 @@ module _ (old new : List Node) (numbers numbers' holders middle holders' : List 
       }
 
 -- as the code has the window
-pub free-window : (nodes : List Node) (win : Option WinId) → MatchOption win (Unit {0}) (λ u. (q : ℕ) → window_at nodes q ≡ Some u.0 → ⊥) → (q w : ℕ) → option_map (λ (u : WinId). u.0) win ≡ Some w → window_at nodes q ≡ Some w → ⊥
+pub free-window : (nodes : List Node) (win : Option WinId) → MatchOption win (Unit {0}) (λ u. (q : ℕ) → window_at nodes q ≡ Some u.0 → ⊥) → (q w : ℕ) → option_map (λ (u : WinId). u.0) win ≡ Some w
+    → window_at nodes q ≡ Some w → ⊥
 free-window nodes None h q w e is = cc
 free-window nodes (Some u) h q w e is = h q (is ∙ sym e)
 

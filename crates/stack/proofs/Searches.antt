@@ -61,7 +61,8 @@ module _ (nodes : List Node) where
       ∙ ap search_from e
 
 -- the least number whose bit is clear
-module _ (nodes : List Node) (table : IsPanelTable nodes) (n : ℕ) (free : n < number_limit → taken_bit n (window_at nodes n) ≡ 0) (taken : (p : ℕ) → p < n → p < number_limit → taken_bit p (window_at nodes p) ≡ 1) where
+module _ (nodes : List Node) (table : IsPanelTable nodes) (n : ℕ) (free : n < number_limit → taken_bit n (window_at nodes n) ≡ 0)
+    (taken : (p : ℕ) → p < n → p < number_limit → taken_bit p (window_at nodes p) ≡ 1) where
   least-positive : 0 < n
   least-positive = elim (cases_eq n 0) [
     | inl zero_is ↦ absurd (let e : taken_bit n (window_at nodes n) ≡ 1 = rw zero_is refl in let f = free (omega arith) in omega arith)

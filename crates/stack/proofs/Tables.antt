@@ -149,7 +149,8 @@ module _ (old new : List Node) (p : ℕ) (o : Option ℕ) (table : IsPanelTable 
 -- ---- the calls
 
 -- a panel is deleted
-module _ (old mid new : List Node) (p : ℕ) (table : IsPanelTable old) (panel : IsPanel old p) (order : Reordered old mid (without p (from_bottom old))) (out : IsOut p (from_bottom mid)) (windowed : Windowed mid new p None) where
+module _ (old mid new : List Node) (p : ℕ) (table : IsPanelTable old) (panel : IsPanel old p) (order : Reordered old mid (without p (from_bottom old))) (out : IsOut p (from_bottom mid))
+    (windowed : Windowed mid new p None) where
   mid-table : IsPanelTable mid
   mid-table = reordered-table old mid (without p (from_bottom old)) table order
 
@@ -198,7 +199,8 @@ module _ (old mid new : List Node) (p w : ℕ) (table : IsPanelTable old) (free 
 -- a number is a panel's
 module _ (old new : List Node) (p w : ℕ) (table : IsPanelTable old) (free : IsFree old p) where
   free-out : IsOut p (from_bottom old)
-  free-out = out-each (λ q. IsPanel old q) p (λ panel. let some = panel.1 in let none = free.free in subst (λ (o : Option ℕ). IsSome o → ⊥) (sym none) (λ h. cc) some) (from_bottom old) table.threaded.panels
+  free-out = out-each (λ q. IsPanel old q) p (λ panel. let some = panel.1 in let none = free.free in subst (λ (o : Option ℕ). IsSome o → ⊥) (sym none) (λ h. cc) some)
+      (from_bottom old) table.threaded.panels
 
   pub entered-windowed : p < length old → Windowed old new p (Some w) → Entered old new p w
   entered-windowed lt windowed =
@@ -273,7 +275,8 @@ some-from None h = cc
 some-from (Some w) h = refl
 
 pub panel-from : (nodes : List Node) (table : IsPanelTable nodes) (p : ℕ) (node : Node) → node ≡ node_at nodes p → is_some node.window ≡ true → IsPanel nodes p
-panel-from nodes table zero node is has = let end = table.end in absurd (let some = subst (λ (n : Node). IsSome (window_in n)) is (some-from node.window has) in subst (λ (o : Option ℕ). IsSome o → ⊥) (sym end) (λ h. cc) some)
+panel-from nodes table zero node is has = let end = table.end in absurd (let some = subst (λ (n : Node). IsSome (window_in n)) is (some-from node.window has) in subst
+    (λ (o : Option ℕ). IsSome o → ⊥) (sym end) (λ h. cc) some)
 panel-from nodes table (suc p) node is has = (omega arith, subst (λ (n : Node). IsSome (window_in n)) is (some-from node.window has))
 
 is_none-some : (o : Option ℕ) → IsSome o → is_none o ≡ false

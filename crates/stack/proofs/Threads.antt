@@ -185,7 +185,8 @@ module _ (old new : List Node) (same : SameWindows old new) where
 
 -- ---- a panel leaves
 
-module _ (old new : List Node) (p : ℕ) (windows : SameWindows old new) (t : Twice (above_at old) (below_at old) (above_at new) (below_at new) (below_at old p) (above_at old p) p p) (panel : IsPanel old p) where
+module _ (old new : List Node) (p : ℕ) (windows : SameWindows old new) (t : Twice (above_at old) (below_at old) (above_at new) (below_at new) (below_at old p) (above_at old p) p p)
+    (panel : IsPanel old p) where
   alone : IsAlone new p
   alone = (
     t.aboves p ∙ if-same p p p (if p == below_at old p then above_at old p else above_at old p) refl,

@@ -19,7 +19,8 @@ window-is (node ∷ nodes) zero = refl
 window-is (node ∷ nodes) (suc p) = window-is nodes p
 
 -- panels with this order and these windows
-pub panels-are : (nodes : List Node) (visible : List ℕ) (window : ℕ → Option ℕ) → from_bottom nodes ≡ visible → ((p : ℕ) → window_at nodes p ≡ window p) → panels (table_of nodes) ≡ record { visible = visible; window = window }
+pub panels-are : (nodes : List Node) (visible : List ℕ) (window : ℕ → Option ℕ) → from_bottom nodes ≡ visible → ((p : ℕ) → window_at nodes p ≡ window p)
+    → panels (table_of nodes) ≡ record { visible = visible; window = window }
 panels-are nodes visible window e f =
     let g : (λ (p : ℕ). slice_index_or (map window_in nodes) p None) ≡ window = fun_ext (λ p. window-is nodes p ∙ f p) in
     λ i. record { visible = e i; window = g i }
@@ -58,7 +59,8 @@ given-panel old new p o windows q some h = elim (cases_eq q p) [
   | inr other ↦ (h.0, subst (λ (w : Option ℕ). IsSome w) (sym (windows q ∙ given-other (window_at old) p o q other)) h.1)
 ]
 
-given-panels : (old new : List Node) (p : ℕ) (o : Option ℕ) → ((q : ℕ) → window_at new q ≡ given (window_at old) p o q) → (order : List ℕ) → IsSome o ⊎ IsOut p order → AllByRecursion (IsPanel old) order → AllByRecursion (IsPanel new) order
+given-panels : (old new : List Node) (p : ℕ) (o : Option ℕ) → ((q : ℕ) → window_at new q ≡ given (window_at old) p o q) → (order : List ℕ) → IsSome o ⊎ IsOut p order
+    → AllByRecursion (IsPanel old) order → AllByRecursion (IsPanel new) order
 given-panels old new p o windows [] some h = tt
 given-panels old new p o windows (x ∷ order) (inl some) h =
     (given-panel old new p o windows x (λ _. some) h.0, given-panels old new p o windows order (inl some) h.1)
@@ -111,7 +113,8 @@ module _ (nodes : List Node) (node : Node) where
   same-below f order each = each-weaker (λ q. q < length nodes) (λ q. f (node_at (nodes ++ node ∷ []) q) ≡ f (node_at nodes q)) (λ q lt. ap f (node-below q lt)) order each
 
   -- one that names itself leaves the order as it is
-  pub threaded-pushed : (order : List ℕ) → 0 < length nodes → node.above ≡ length nodes → node.below ≡ length nodes → IsOut (length nodes) order → IsThreaded nodes order → IsThreaded (nodes ++ node ∷ []) order
+  pub threaded-pushed : (order : List ℕ) → 0 < length nodes → node.above ≡ length nodes → node.below ≡ length nodes → IsOut (length nodes) order → IsThreaded nodes order
+      → IsThreaded (nodes ++ node ∷ []) order
   threaded-pushed order some above below out_new h =
       let each = each-weaker (IsPanel nodes) (λ q. q < length nodes) (panel-below nodes) order h.panels in
       record {

@@ -38,7 +38,8 @@ module _ (windows : Windows) (w : ℕ) (s : WindowState) (h : IsStateOf windows 
 
   -- ---- clearing
 
-  pub erased : (now new : Windows) → now ≡ put windows w (everywhere s.settings.background) → new ≡ set now w (with_cursor origin) → new ≡ after_edit windows (draws w erase_drawing (Some (with_cursor origin)))
+  pub erased : (now new : Windows) → now ≡ put windows w (everywhere s.settings.background) → new ≡ set now w (with_cursor origin)
+      → new ≡ after_edit windows (draws w erase_drawing (Some (with_cursor origin)))
   erased now new drawn moved =
       moved ∙ ap (λ v. set v w (with_cursor origin)) drawn ∙ sym (call-is (λ a. drawn_to windows w (erase_drawing a) origin) refl)
 
@@ -77,7 +78,8 @@ module _ (windows : Windows) (w : ℕ) (s : WindowState) (h : IsStateOf windows 
       → new ≡ after_edit windows (draws w (insertln_drawing windows.window w) None)
   line_inserted new e = e ∙ sym (call-is (λ a. put windows w (insertln_drawing windows.window w a)) refl)
 
-  pub line_inserted_frame : (r : Rect) → r ≡ record { top = s.settings.cursor.0; left = 0; bottom = s.lines - 1; right = s.columns - 1 } → Some r ≡ drawing_frame windows w (insertln_drawing windows.window w)
+  pub line_inserted_frame : (r : Rect) → r ≡ record { top = s.settings.cursor.0; left = 0; bottom = s.lines - 1; right = s.columns - 1 }
+      → Some r ≡ drawing_frame windows w (insertln_drawing windows.window w)
   line_inserted_frame r e =
       let line = h.within.cursor_line in let some = h.has_line in
       ap Some e
@@ -88,7 +90,8 @@ module _ (windows : Windows) (w : ℕ) (s : WindowState) (h : IsStateOf windows 
       → new ≡ after_edit windows (draws w (deleteln_drawing windows.window w) None)
   line_deleted new e = e ∙ sym (call-is (λ a. put windows w (deleteln_drawing windows.window w a)) refl)
 
-  pub line_deleted_frame : (r : Rect) → r ≡ record { top = s.settings.cursor.0; left = 0; bottom = s.lines - 1; right = s.columns - 1 } → Some r ≡ drawing_frame windows w (deleteln_drawing windows.window w)
+  pub line_deleted_frame : (r : Rect) → r ≡ record { top = s.settings.cursor.0; left = 0; bottom = s.lines - 1; right = s.columns - 1 }
+      → Some r ≡ drawing_frame windows w (deleteln_drawing windows.window w)
   line_deleted_frame r e =
       let line = h.within.cursor_line in let some = h.has_line in
       ap Some e
@@ -98,7 +101,8 @@ module _ (windows : Windows) (w : ℕ) (s : WindowState) (h : IsStateOf windows 
   -- ---- characters
 
   pub character_inserted_frame : (r : Rect) (character : ℕ)
-      → r ≡ record { top = s.settings.cursor.0; left = s.settings.cursor.1; bottom = s.settings.cursor.0; right = s.columns - 1 } → Some r ≡ drawing_frame windows w (insch_drawing windows.window w character)
+      → r ≡ record { top = s.settings.cursor.0; left = s.settings.cursor.1; bottom = s.settings.cursor.0; right = s.columns - 1 }
+      → Some r ≡ drawing_frame windows w (insch_drawing windows.window w character)
   character_inserted_frame r character e =
       ap Some e
       ∙ sym (frame-inserted (window_in_state s) s.settings.cursor.0 s.settings.cursor.1 h.within.cursor_line h.within.cursor_column windows.window w (written_glyph s.settings character))

@@ -80,7 +80,8 @@ placed (Some b) a p e h = let same : b ≡ a = cc in subst (λ (w : Window). w.p
 
 module _ (w : Windows) (src dst : ℕ) (a b : Window) (p q : Place) (there_src : w.window src ≡ Some a) (there_dst : w.window dst ≡ Some b)
     (place_src : place_on_screen w.window src ≡ Some p) (place_dst : place_on_screen w.window dst ≡ Some q) (overlay : Bool) where
-  same_there : AreSame b (common_copied w.window src dst overlay) (common_rectangle w.window src dst a b p q there_src there_dst (placed (w.window src) a p there_src place_src) (placed (w.window dst) b q there_dst place_dst) overlay)
+  same_there : AreSame b (common_copied w.window src dst overlay) (common_rectangle w.window src dst a b p q there_src there_dst (placed (w.window src) a p there_src place_src)
+      (placed (w.window dst) b q there_dst place_dst) overlay)
   same_there = common-same w.window src dst a b p q there_src there_dst (placed (w.window src) a p there_src place_src) (placed (w.window dst) b q there_dst place_dst) overlay
 
   abbrev pub shared : Drawing

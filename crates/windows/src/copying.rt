@@ -61,9 +61,12 @@ impl Windows {
         dmaxcol: u16,
         overlay: bool,
     ) -> Result<Option<Rect>, Refusal>
-        ensures refused { result_err result ≡ copying_refusal (windows self.old.table) (Copying.Copywin src dst sminrow smincol dminrow dmincol dmaxrow dmaxcol overlay) }
-        ensures written { OnOk result (windows self.new.table ≡ after_copying (windows self.old.table) (Copying.Copywin src dst sminrow smincol dminrow dmincol dmaxrow dmaxcol overlay)) }
-        ensures frame { IfOk result (λ frame. frame ≡ copying_frame (windows self.old.table) (Copying.Copywin src dst sminrow smincol dminrow dmincol dmaxrow dmaxcol overlay)) }
+        ensures refused { result_err result ≡ copying_refusal (windows self.old.table)
+            (Copying.Copywin src dst sminrow smincol dminrow dmincol dmaxrow dmaxcol overlay) }
+        ensures written { OnOk result (windows self.new.table ≡ after_copying (windows self.old.table)
+            (Copying.Copywin src dst sminrow smincol dminrow dmincol dmaxrow dmaxcol overlay)) }
+        ensures frame { IfOk result (λ frame. frame ≡ copying_frame (windows self.old.table)
+            (Copying.Copywin src dst sminrow smincol dminrow dmincol dmaxrow dmaxcol overlay)) }
         ensures unchanged { OnErr result (self.new ≡ self.old) }
         ensures sound { AreSoundWindows (windows self.new.table) }
     {
@@ -112,7 +115,8 @@ fn copy_common(
     overlay: bool,
 ) -> Result<Option<Rect>, Refusal>
     ensures refused { result_err result ≡ first_of (overlay_tests (windows table.old) src.0 dst.0) }
-    ensures written { OnOk result (windows table.new ≡ after_edit (windows table.old) (draws dst.0 (λ a. common_copied (windows table.old).window src.0 dst.0 overlay) None)) }
+    ensures written { OnOk result (windows table.new ≡ after_edit (windows table.old)
+        (draws dst.0 (λ a. common_copied (windows table.old).window src.0 dst.0 overlay) None)) }
     ensures frame { IfOk result (λ frame. frame ≡ drawing_frame (windows table.old) dst.0 (λ a. common_copied (windows table.old).window src.0 dst.0 overlay)) }
     ensures unchanged { OnErr result (table.new ≡ table.old) }
     ensures sound { AreSoundWindows (windows table.new) }

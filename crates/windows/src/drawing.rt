@@ -41,7 +41,8 @@ pub fn delete_cell(table: &mut Grids, win: WinId, state: &WindowState, y: u16, x
     requires state { IsStateOf (windows table.old) win.0 state.now }
     requires line { y < state.now.lines }
     requires column { x < state.now.columns }
-    ensures written { windows table.new ≡ put (windows table.old) win.0 (character_deleted (windows table.old).window win.0 (y, x) (state.now.columns - 1) state.now.settings.background) }
+    ensures written { windows table.new ≡ put (windows table.old) win.0 (character_deleted (windows table.old).window win.0 (y, x)
+        (state.now.columns - 1) state.now.settings.background) }
     ensures sound { AreSoundWindows (windows table.new) }
 {
     let last = state.columns - 1;
@@ -105,7 +106,8 @@ pub fn move_down(table: &mut Grids, win: WinId, state: &WindowState, top: u16, b
     requires state { IsStateOf (windows table.old) win.0 state.now }
     requires ordered { top ≤ bottom }
     requires lines { bottom < state.now.lines }
-    ensures written { windows table.new ≡ put (windows table.old) win.0 (lines_down (windows table.old).window win.0 top bottom n state.now.settings.background) }
+    ensures written { windows table.new ≡ put (windows table.old) win.0 (lines_down
+        (windows table.old).window win.0 top bottom n state.now.settings.background) }
     ensures state { IsStateOf (windows table.new) win.0 state.now }
 {
     for moved in 0..bottom + 1 - top {
@@ -118,8 +120,10 @@ fn take_below(table: &mut Grids, win: WinId, state: &WindowState, line: u16, bot
     requires state { IsStateOf (windows table.old) win.0 state.now }
     requires ordered { line ≤ bottom }
     requires lines { bottom < state.now.lines }
-    ensures taken { line + n ≤ bottom → windows table.new ≡ put (windows table.old) win.0 (copied (windows table.old).window win.0 (line + n) 0 line 0 state.now.columns false) }
-    ensures cleared { bottom < line + n → windows table.new ≡ put (windows table.old) win.0 (filled line 0 (state.now.columns - 1) state.now.settings.background) }
+    ensures taken { line + n ≤ bottom → windows table.new ≡ put (windows table.old) win.0
+        (copied (windows table.old).window win.0 (line + n) 0 line 0 state.now.columns false) }
+    ensures cleared { bottom < line + n → windows table.new ≡ put (windows table.old) win.0
+        (filled line 0 (state.now.columns - 1) state.now.settings.background) }
     ensures state { IsStateOf (windows table.new) win.0 state.now }
 {
     if n <= bottom - line {
@@ -134,7 +138,8 @@ fn take_above(table: &mut Grids, win: WinId, state: &WindowState, top: u16, line
     requires state { IsStateOf (windows table.old) win.0 state.now }
     requires ordered { top ≤ line }
     requires lines { line < state.now.lines }
-    ensures taken { top + n ≤ line → windows table.new ≡ put (windows table.old) win.0 (copied (windows table.old).window win.0 (line - n) 0 line 0 state.now.columns false) }
+    ensures taken { top + n ≤ line → windows table.new ≡ put (windows table.old) win.0
+        (copied (windows table.old).window win.0 (line - n) 0 line 0 state.now.columns false) }
     ensures cleared { line < top + n → windows table.new ≡ put (windows table.old) win.0 (filled line 0 (state.now.columns - 1) state.now.settings.background) }
     ensures state { IsStateOf (windows table.new) win.0 state.now }
 {

@@ -78,7 +78,8 @@ refused call = refusal screen (Stacking call)
 lines : Stack_call → List ℕ
 lines call = filter (affected_lines screen (Stacking call)) (range_with_len 0 4)
 
-answers : (reply (PanelAbove (Some (panel 1))) ≡ Panel (Some (panel 2))) × (reply (PanelBelow (Some (panel 1))) ≡ Panel None) × (reply (PanelBelow None) ≡ Panel (Some (panel 2))) × (reply (PanelWindow (panel 3)) ≡ Number (win 3)) × (reply (PanelHidden (panel 3)) ≡ Flag true) × (reply (ShowPanel (panel 3)) ≡ Nothing)
+answers : (reply (PanelAbove (Some (panel 1))) ≡ Panel (Some (panel 2))) × (reply (PanelBelow (Some (panel 1))) ≡ Panel None) × (reply (PanelBelow None) ≡ Panel (Some (panel 2))) ×
+    (reply (PanelWindow (panel 3)) ≡ Number (win 3)) × (reply (PanelHidden (panel 3)) ≡ Flag true) × (reply (ShowPanel (panel 3)) ≡ Nothing)
 unfolding reply screen windows three panel win screen_after window_limit panel_limit
 answers = (refl, refl, refl, refl, refl, refl)
 
@@ -96,7 +97,8 @@ hidden_has_no_depth : (refused (TopPanel (panel 3)) ≡ Some Hidden) × (refused
 unfolding refused screen windows three panel win screen_after window_limit panel_limit
 hidden_has_no_depth = (refl, refl, refl)
 
-no_new_panel : (refused (NewPanel (win 9)) ≡ Some NoSuchWindow) × (refused (NewPanel (win 0)) ≡ Some StandardScreen) × (refused (NewPanel (win 4)) ≡ Some IsPad) × (refused (NewPanel (win 3)) ≡ Some InPanel)
+no_new_panel : (refused (NewPanel (win 9)) ≡ Some NoSuchWindow) × (refused (NewPanel (win 0)) ≡ Some StandardScreen) × (refused (NewPanel (win 4)) ≡ Some IsPad) ×
+    (refused (NewPanel (win 3)) ≡ Some InPanel)
 unfolding refused screen windows three panel win screen_after window_limit panel_limit
 no_new_panel = (refl, refl, refl, refl)
 
@@ -134,6 +136,7 @@ columns_of_move : (columns screen (Stacking (MovePanel (panel 1) 2 1)) 0 ≡ 0 �
 unfolding columns screen windows three panel screen_after win window_limit
 columns_of_move = (refl, refl)
 
-columns_of_order : (columns screen (Stacking (HidePanel (panel 2))) 1 ≡ 3 ∷ 4 ∷ 5 ∷ 6 ∷ 7 ∷ []) × (columns screen (Stacking (MovePanel (panel 3) 0 0)) 0 ≡ []) × (columns screen (Stacking (PanelHidden (panel 1))) 0 ≡ [])
+columns_of_order : (columns screen (Stacking (HidePanel (panel 2))) 1 ≡ 3 ∷ 4 ∷ 5 ∷ 6 ∷ 7 ∷ []) × (columns screen (Stacking (MovePanel (panel 3) 0 0)) 0 ≡ []) ×
+    (columns screen (Stacking (PanelHidden (panel 1))) 0 ≡ [])
 unfolding columns screen windows three panel screen_after win window_limit
 columns_of_order = (refl, refl, refl)

@@ -89,7 +89,8 @@ unfolding line_of_virtual end pad screen_after win typed window_limit
 end_shown = (refl, refl, refl)
 
 -- line 5 was copied from, and of line 4 nothing was
-lines_untouched : (touched_columns pad.windows.window 1 5 ≡ Some (record { first = 17; last = 19 })) × (touched_columns end.windows.window 1 5 ≡ None) × (touched_columns (world_after pad (Refresh (Pnoutrefresh (win 1) 4 17 0 0 0 2))).windows.window 1 5 ≡ Some (record { first = 17; last = 19 }))
+lines_untouched : (touched_columns pad.windows.window 1 5 ≡ Some (record { first = 17; last = 19 })) × (touched_columns end.windows.window 1 5 ≡ None) ×
+    (touched_columns (world_after pad (Refresh (Pnoutrefresh (win 1) 4 17 0 0 0 2))).windows.window 1 5 ≡ Some (record { first = 17; last = 19 }))
 unfolding end pad screen_after win typed window_limit
 lines_untouched = (refl, refl, refl)
 
@@ -112,11 +113,14 @@ of_windows : (refusal pad (Refresh (Noutrefresh (win 2))) ≡ Some NoSuchWindow)
 unfolding pad screen_after win typed window_limit
 of_windows = (refl, refl, refl)
 
-of_pads : (refusal pad (Refresh (Pnoutrefresh (win 2) 0 0 1 0 0 0)) ≡ Some NoSuchWindow) × (refusal pad (Refresh (Pnoutrefresh (win 0) 0 0 1 0 0 0)) ≡ Some NotPad) × (refusal pad (Refresh (Pnoutrefresh (win 1) 9 9 1 0 0 0)) ≡ Some BadRectangle)
+of_pads : (refusal pad (Refresh (Pnoutrefresh (win 2) 0 0 1 0 0 0)) ≡ Some NoSuchWindow) × (refusal pad (Refresh (Pnoutrefresh (win 0) 0 0 1 0 0 0)) ≡ Some NotPad) ×
+    (refusal pad (Refresh (Pnoutrefresh (win 1) 9 9 1 0 0 0)) ≡ Some BadRectangle)
 unfolding pad screen_after win typed window_limit
 of_pads = (refl, refl, refl)
 
-of_rectangles : (refusal pad (Refresh (Pnoutrefresh (win 1) 5 18 0 0 0 2)) ≡ Some OutsideWindow) × (refusal pad (Refresh (Pnoutrefresh (win 1) 5 18 4 9 4 11)) ≡ Some OutsideWindow) × (refusal pad (Refresh (Pnoutrefresh (win 1) 0 0 3 9 3 10)) ≡ Some OffScreen) × (refusal pad (Refresh (Pnoutrefresh (win 1) 0 0 4 0 4 0)) ≡ Some OffScreen) × (refusal pad (Refresh (Pnoutrefresh (win 1) 0 0 3 9 3 9)) ≡ None)
+of_rectangles : (refusal pad (Refresh (Pnoutrefresh (win 1) 5 18 0 0 0 2)) ≡ Some OutsideWindow) × (refusal pad (Refresh (Pnoutrefresh (win 1) 5 18 4 9 4 11)) ≡ Some OutsideWindow) ×
+    (refusal pad (Refresh (Pnoutrefresh (win 1) 0 0 3 9 3 10)) ≡ Some OffScreen) × (refusal pad (Refresh (Pnoutrefresh (win 1) 0 0 4 0 4 0)) ≡ Some OffScreen) ×
+    (refusal pad (Refresh (Pnoutrefresh (win 1) 0 0 3 9 3 9)) ≡ None)
 unfolding pad screen_after win typed window_limit
 of_rectangles = (refl, refl, refl, refl, refl)
 

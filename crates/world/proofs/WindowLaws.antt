@@ -10,7 +10,8 @@ use Rattle.world.specs.Windows.{Backing, own_grid, part_of, Window, WindowMap, G
 use Rattle.world.specs.declared.settings.Columns.{Columns}
 
 -- a window's places lead to the places of one rectangle of a grid: own is own of (0, 0), moved
-leads-onward : (further : ℕ → ℕ → ℕ → Option GridPlace) → ((w y x a b : ℕ) → further w (y + a) (x + b) ≡ option_map (onward a b) (further w y x)) → (w y x a b : ℕ) (s : Backing) → leads further w (y + a) (x + b) s ≡ option_map (onward a b) (leads further w y x s)
+leads-onward : (further : ℕ → ℕ → ℕ → Option GridPlace) → ((w y x a b : ℕ) → further w (y + a) (x + b) ≡ option_map (onward a b) (further w y x)) → (w y x a b : ℕ) (s : Backing)
+    → leads further w (y + a) (x + b) s ≡ option_map (onward a b) (leads further w y x s)
 leads-onward further h w y x a b (own_grid cells) = refl
 leads-onward further h w y x a b (part_of parent line column) =
     let lines : y + a + line ≡ y + line + a = omega arith in
@@ -44,7 +45,8 @@ step-drawn : (f g : ℕ → ℕ → ℕ → Option GridPlace) → ((w y x : ℕ)
 step-drawn f g h w a spot d u y x None = refl
 step-drawn f g h w a spot d u y x (Some c) = leads-laid f u y x (u == spot.grid) (moved spot (within a d)) c.backing ∙ leads-more f g h u y x c.backing
 
-own_within-put_from : (n : ℕ) (window : WindowMap) (w : ℕ) (a : Option Window) (spot : Option GridPlace) (d : Drawing) (u y x : ℕ) → own_within n (put_from window w a spot d) u y x ≡ own_within n window u y x
+own_within-put_from : (n : ℕ) (window : WindowMap) (w : ℕ) (a : Option Window) (spot : Option GridPlace) (d : Drawing) (u y x : ℕ)
+    → own_within n (put_from window w a spot d) u y x ≡ own_within n window u y x
 own_within-put_from zero window w a spot d u y x = refl
 own_within-put_from (suc n) window w None spot d u y x = refl
 own_within-put_from (suc n) window w (Some a) None d u y x = refl
@@ -73,7 +75,8 @@ touched-widened : (n : ℕ) (test : ℕ → Bool) (r : Option Columns) (x : ℕ)
 touched-widened zero test r x = refl
 touched-widened (suc n) test r x = by_test n x (test n) (touched_below n test (widened r x)) (touched_below n test r) (touched-widened n test r x)
 
-by_tests : (n : ℕ) (s : ℕ → Bool) (p q : Bool) (t r : Option Columns) → touched_below n s t ≡ r → (if p then widened (touched_below n s (if q then widened t n else t)) n else touched_below n s (if q then widened t n else t)) ≡ (if p || q then widened r n else r)
+by_tests : (n : ℕ) (s : ℕ → Bool) (p q : Bool) (t r : Option Columns) → touched_below n s t ≡ r → (if p then widened (touched_below n s (if q then widened t n else t)) n else touched_below n s
+    (if q then widened t n else t)) ≡ (if p || q then widened r n else r)
 by_tests n s true true t r h = ap (λ o. widened o n) (touched-widened n s t n) ∙ widened-twice (touched_below n s t) n ∙ ap (λ o. widened o n) h
 by_tests n s true false t r h = ap (λ o. widened o n) h
 by_tests n s false true t r h = touched-widened n s t n ∙ ap (λ o. widened o n) h
@@ -84,7 +87,8 @@ touched-touched zero s t r = refl
 touched-touched (suc n) s t r = by_tests n s (s n) (t n) (touched_below n t r) (touched_below n (λ x. s x || t x) r) (touched-touched n s t r)
 
 -- a second drawing over a first one, at one place
-laid-point : (t1 t2 : Bool) (g f : Option Glyph) (c : Glyph) → unwrap_or (if t1 then (if t2 then g else None) else None) (unwrap_or (if t1 then (if t2 then f else None) else None) c) ≡ unwrap_or (if t1 then (if t2 then (if is_some g then g else f) else None) else None) c
+laid-point : (t1 t2 : Bool) (g f : Option Glyph) (c : Glyph) → unwrap_or (if t1 then (if t2 then g else None) else None) (unwrap_or (if t1 then (if t2 then f else None) else None) c)
+    ≡ unwrap_or (if t1 then (if t2 then (if is_some g then g else f) else None) else None) c
 laid-point true true (Some v) f c = refl
 laid-point true true None f c = refl
 laid-point true false g f c = refl
@@ -116,11 +120,14 @@ drawn-by true false b f2 g2 h2 f g e = λ i. record b { backing = e i }
 drawn-by false true b f2 g2 h2 f g e = λ i. record b { touched = λ y. touched_by-twice b f g y i }
 drawn-by false false b f2 g2 h2 f g e = refl
 
-twice-at : (w : ℕ) (a : Window) (spot : GridPlace) (f g : Drawing) (u : ℕ) (o : Option Window) → option_map (drawn w (drawn w a spot f w a) spot g u) (option_map (drawn w a spot f u) o) ≡ option_map (drawn w a spot (over g f) u) o
+twice-at : (w : ℕ) (a : Window) (spot : GridPlace) (f g : Drawing) (u : ℕ) (o : Option Window) → option_map (drawn w (drawn w a spot f w a) spot g u) (option_map (drawn w a spot f u) o)
+    ≡ option_map (drawn w a spot (over g f) u) o
 twice-at w a spot f g u None = refl
-twice-at w a spot f g u (Some b) = ap Some (drawn-by (u == spot.grid) (u == w) b (moved spot (within a f)) (moved spot (within a g)) (moved spot (within a (over g f))) f g (laid-laid spot a f g b.backing))
+twice-at w a spot f g u (Some b) = ap Some (drawn-by (u == spot.grid) (u == w) b (moved spot (within a f)) (moved spot (within a g)) (moved spot (within a (over g f))) f g
+    (laid-laid spot a f g b.backing))
 
-twice : (window : WindowMap) (w : ℕ) (o : Option Window) → window w ≡ o → (s : Option GridPlace) (f g : Drawing) → put_from (put_from window w o s f) w (put_from window w o s f w) s g ≡ put_from window w o s (over g f)
+twice : (window : WindowMap) (w : ℕ) (o : Option Window) → window w ≡ o → (s : Option GridPlace) (f g : Drawing)
+    → put_from (put_from window w o s f) w (put_from window w o s f w) s g ≡ put_from window w o s (over g f)
 twice window w None e s f g = rw e refl
 twice window w (Some a) e None f g = rw e refl
 twice window w (Some a) e (Some spot) f g = rw e (fun_ext (λ u. twice-at w a spot f g u (window u)))
@@ -142,11 +149,13 @@ kept-at : (w : ℕ) (a : Window) (spot : GridPlace) (f : Drawing) (s : GridPlace
 kept-at w a spot f s None h = refl
 kept-at w a spot f s (Some b) h = kept-point (s.grid == spot.grid) (moved spot (within a f)) b.backing s.line s.column h
 
-pub cell_at-kept : (window : WindowMap) (w : ℕ) (a : Window) (spot : GridPlace) (f : Drawing) (u y x : ℕ) (s : GridPlace) → window w ≡ Some a → own window w 0 0 ≡ Some spot → own window u y x ≡ Some s →
+pub cell_at-kept : (window : WindowMap) (w : ℕ) (a : Window) (spot : GridPlace) (f : Drawing) (u y x : ℕ) (s : GridPlace) → window w ≡ Some a → own window w 0 0 ≡ Some spot
+    → own window u y x ≡ Some s →
     moved spot (within a f) s.line s.column ≡ None → cell_at (put_windows window w f) u y x ≡ cell_at window u y x
 cell_at-kept window w a spot f u y x s e leads_w leads_u h =
     let p = put_windows window w f in
-    let here : p s.grid ≡ option_map (drawn w a spot f s.grid) (window s.grid) = ap (λ o. put_from window w o (own window w 0 0) f s.grid) e ∙ ap (λ o. put_from window w (Some a) o f s.grid) leads_w in
+    let here : p s.grid ≡ option_map (drawn w a spot f s.grid) (window s.grid) = ap (λ o. put_from window w o (own window w 0 0) f s.grid) e
+    ∙ ap (λ o. put_from window w (Some a) o f s.grid) leads_w in
     ap (cell_in_grid p) (own-put window w f u y x ∙ leads_u)
     ∙ ap (λ o. option_map_or (λ c. cell_of c.backing s.line s.column) o blank) here
     ∙ kept-at w a spot f s (window s.grid) h
@@ -176,7 +185,8 @@ run-nothing false f b h = refl
 nothing-at : (w : ℕ) (a : Window) (spot : GridPlace) (f : Drawing) (u : ℕ) (o : Option Window) → ((y x : ℕ) → f y x ≡ None) → option_map (drawn w a spot f u) o ≡ o
 nothing-at w a spot f u None h = refl
 nothing-at w a spot f u (Some b) h =
-    let e = laid-nothing (u == spot.grid) (moved spot (within a f)) b.backing (λ y x. none_either (nat_le spot.line y && nat_le spot.column x) (within a f (y - spot.line) (x - spot.column)) (nothing-within a f h (y - spot.line) (x - spot.column))) in
+    let e = laid-nothing (u == spot.grid) (moved spot (within a f)) b.backing (λ y x. none_either (nat_le spot.line y && nat_le spot.column x) (within a f (y - spot.line) (x - spot.column))
+    (nothing-within a f h (y - spot.line) (x - spot.column))) in
     let r = run-nothing (u == w) f b h in
     λ i. Some (record b { backing = e i; touched = r i })
 
@@ -189,11 +199,13 @@ pub put-nothing : (window : WindowMap) (w : ℕ) (f : Drawing) → ((y x : ℕ) 
 put-nothing window w f h = nothing-from window w (window w) (own window w 0 0) f h
 
 -- a write leaves each window its size
-size-at : (w : ℕ) (a : Window) (spot : GridPlace) (f : Drawing) (u : ℕ) (o : Option Window) (y x : ℕ) → IsSomeAnd o (λ b. (y < b.lines) × (x < b.columns)) → IsSomeAnd (option_map (drawn w a spot f u) o) (λ b. (y < b.lines) × (x < b.columns))
+size-at : (w : ℕ) (a : Window) (spot : GridPlace) (f : Drawing) (u : ℕ) (o : Option Window) (y x : ℕ) → IsSomeAnd o (λ b. (y < b.lines) × (x < b.columns))
+    → IsSomeAnd (option_map (drawn w a spot f u) o) (λ b. (y < b.lines) × (x < b.columns))
 size-at w a spot f u None y x h = h
 size-at w a spot f u (Some b) y x h = h
 
-size-from : (window : WindowMap) (w : ℕ) (o : Option Window) (s : Option GridPlace) (f : Drawing) (u y x : ℕ) → IsSomeAnd (window u) (λ b. (y < b.lines) × (x < b.columns)) → IsSomeAnd (put_from window w o s f u) (λ b. (y < b.lines) × (x < b.columns))
+size-from : (window : WindowMap) (w : ℕ) (o : Option Window) (s : Option GridPlace) (f : Drawing) (u y x : ℕ) → IsSomeAnd (window u) (λ b. (y < b.lines) × (x < b.columns))
+    → IsSomeAnd (put_from window w o s f u) (λ b. (y < b.lines) × (x < b.columns))
 size-from window w None s f u y x h = h
 size-from window w (Some a) None f u y x h = h
 size-from window w (Some a) (Some spot) f u y x h = size-at w a spot f u (window u) y x h
@@ -205,11 +217,13 @@ HasPlace-put window w f u y x h = size-from window w (window w) (own window w 0 
 abbrev pub Ends : WindowMap → GridPlace → Type 0
 Ends window s = (g : Window) × (cells : ℕ → ℕ → Glyph) × (window s.grid ≡ Some g) × (g.backing ≡ own_grid cells)
 
-ends-leads : (window : WindowMap) (further : ℕ → ℕ → ℕ → Option GridPlace) → ((w y x : ℕ) (s : GridPlace) → further w y x ≡ Some s → Ends window s) → (w y x : ℕ) (a : Window) (src : Backing) → window w ≡ Some a → a.backing ≡ src → (s : GridPlace) → leads further w y x src ≡ Some s → Ends window s
+ends-leads : (window : WindowMap) (further : ℕ → ℕ → ℕ → Option GridPlace) → ((w y x : ℕ) (s : GridPlace) → further w y x ≡ Some s → Ends window s) → (w y x : ℕ) (a : Window) (src : Backing)
+    → window w ≡ Some a → a.backing ≡ src → (s : GridPlace) → leads further w y x src ≡ Some s → Ends window s
 ends-leads window further h w y x a (own_grid cells) e is s found = let same : w ≡ s.grid = cc in (a, cells, ap window (sym same) ∙ e, is)
 ends-leads window further h w y x a (part_of parent line column) e is s found = h parent (y + line) (x + column) s found
 
-ends-at : (window : WindowMap) (further : ℕ → ℕ → ℕ → Option GridPlace) → ((w y x : ℕ) (s : GridPlace) → further w y x ≡ Some s → Ends window s) → (w y x : ℕ) (o : Option Window) → window w ≡ o → (s : GridPlace) → option_and_then (λ c. leads further w y x c.backing) o ≡ Some s → Ends window s
+ends-at : (window : WindowMap) (further : ℕ → ℕ → ℕ → Option GridPlace) → ((w y x : ℕ) (s : GridPlace) → further w y x ≡ Some s → Ends window s) → (w y x : ℕ) (o : Option Window) → window w ≡ o
+    → (s : GridPlace) → option_and_then (λ c. leads further w y x c.backing) o ≡ Some s → Ends window s
 ends-at window further h w y x None e s found = cc
 ends-at window further h w y x (Some a) e s found = ends-leads window further h w y x a a.backing e refl s found
 
@@ -240,7 +254,8 @@ put-takes window w a spot f y x c u v z e leads_w in_lines in_cols is same =
     let there : own window u v z ≡ Some s = same ∙ own-onward window w y x ∙ ap (option_map (onward y x)) leads_w in
     let end = own-ends window_limit window u v z s there in
     let p = put_windows window w f in
-    let here : p s.grid ≡ option_map (drawn w a spot f s.grid) (window s.grid) = ap (λ o. put_from window w o (own window w 0 0) f s.grid) e ∙ ap (λ o. put_from window w (Some a) o f s.grid) leads_w in
+    let here : p s.grid ≡ option_map (drawn w a spot f s.grid) (window s.grid) = ap (λ o. put_from window w o (own window w 0 0) f s.grid) e
+    ∙ ap (λ o. put_from window w (Some a) o f s.grid) leads_w in
     ap (cell_in_grid p) (own-put window w f u v z ∙ there)
     ∙ ap (λ o. option_map_or (λ b. cell_of b.backing s.line s.column) o blank) (here ∙ ap (option_map (drawn w a spot f s.grid)) end.2)
     ∙ taken-point (s.grid == spot.grid) (moved spot (within a f)) (end.0).backing s.line s.column end.1 c (eq-eqb s.grid spot.grid refl) end.3 (drawn-point spot a f y x c in_lines in_cols is)

@@ -57,7 +57,8 @@ pub extern "C" fn curspan_copywin(
     dmaxcol: u16,
     overlay: bool,
 ) -> Answer
-    ensures { Called ⟦<Outlet as Sink>⟧ screen.old.value (Call.Copying (Copying.Copywin (record { 0 = src }) (record { 0 = dst }) sminrow smincol dminrow dmincol dmaxrow dmaxcol overlay)) result screen.new.value }
+    ensures { Called ⟦<Outlet as Sink>⟧ screen.old.value (Call.Copying (Copying.Copywin (record { 0 = src })
+        (record { 0 = dst }) sminrow smincol dminrow dmincol dmaxrow dmaxcol overlay)) result screen.new.value }
 {
     screen.call(
         alloc,

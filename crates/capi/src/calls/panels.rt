@@ -114,7 +114,8 @@ pub extern "C" fn curspan_replace_panel(
     panel: u16,
     win: u16,
 ) -> Answer
-    ensures { Called ⟦<Outlet as Sink>⟧ screen.old.value (Call.Stacking (Stacking.ReplacePanel (record { 0 = panel }) (record { 0 = win }))) result screen.new.value }
+    ensures { Called ⟦<Outlet as Sink>⟧ screen.old.value (Call.Stacking (Stacking.ReplacePanel (record { 0 = panel }) (record { 0 = win }))) result
+        screen.new.value }
 {
     screen.call(
         alloc,

@@ -32,7 +32,8 @@ pub extern "C" fn curspan_pnoutrefresh(
     smaxrow: u16,
     smaxcol: u16,
 ) -> Answer
-    ensures { Called ⟦<Outlet as Sink>⟧ screen.old.value (Call.Refresh (Refresh.Pnoutrefresh (record { 0 = pad }) pminrow pmincol sminrow smincol smaxrow smaxcol)) result screen.new.value }
+    ensures { Called ⟦<Outlet as Sink>⟧ screen.old.value (Call.Refresh (Refresh.Pnoutrefresh
+        (record { 0 = pad }) pminrow pmincol sminrow smincol smaxrow smaxcol)) result screen.new.value }
 {
     screen.call(
         alloc,

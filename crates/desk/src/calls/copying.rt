@@ -46,7 +46,8 @@ impl<W: Sink> Screen<W> {
         dmaxcol: u16,
         overlay: bool,
     ) -> Result<(), Fault>
-        ensures { CallMade W.seen W.name self.old (Call.Copying (Copying.Copywin src dst sminrow smincol dminrow dmincol dmaxrow dmaxcol overlay)) (told no_answer result) self.new }
+        ensures { CallMade W.seen W.name self.old (Call.Copying (Copying.Copywin src dst sminrow smincol dminrow dmincol dmaxrow dmaxcol overlay))
+            (told no_answer result) self.new }
     {
         self.nothing(&Call::Copying(Copying::Copywin {
             src,

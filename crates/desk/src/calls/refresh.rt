@@ -36,7 +36,8 @@ impl<W: Sink> Screen<W> {
         smaxrow: u16,
         smaxcol: u16,
     ) -> Result<(), Fault>
-        ensures { CallMade W.seen W.name self.old (Call.Refresh (Refresh.Pnoutrefresh pad pminrow pmincol sminrow smincol smaxrow smaxcol)) (told no_answer result) self.new }
+        ensures { CallMade W.seen W.name self.old (Call.Refresh (Refresh.Pnoutrefresh pad pminrow pmincol sminrow smincol smaxrow smaxcol))
+            (told no_answer result) self.new }
     {
         self.nothing(&Call::Refresh(Refresh::Pnoutrefresh {
             pad,

@@ -8,7 +8,8 @@ use Rattle.compose.proofs.calls.make_damaging.Goals as goal
 pub damage_affected-requires-clause-height : goal.damage_affected-requires-clause-height
 damage_affected-requires-clause-height c =
     let e = c.in_ok-changed.ensures in
-    let size = same-size (windows c.args.table.now) (windows c.make.new.table) (panels c.args.stack.now) (making_change (windows c.args.table.now) c.args.making) c.in_ok-changed.changed.affected e.made e.affected in
+    let size = same-size (windows c.args.table.now) (windows c.make.new.table) (panels c.args.stack.now)
+    (making_change (windows c.args.table.now) c.args.making) c.in_ok-changed.changed.affected e.made e.affected in
     c.requires.height ∙ sym size.lines
 
 pub damage_affected-requires-clause-possible : goal.damage_affected-requires-clause-possible

@@ -9,16 +9,19 @@ use Rattle.compose.proofs.calls.write_damaging.Goals as goal
 pub damage_affected-requires-clause-height : goal.damage_affected-requires-clause-height
 damage_affected-requires-clause-height c =
     let e = c.in_ok-changed.ensures in
-    let size = same-size (windows c.args.windows.now.table) (windows c.write.new.windows.table) (panels c.args.stack.now) (edits (writing_edit (windows c.args.windows.now.table) c.args.writing)) c.in_ok-changed.changed.affected e.written e.affected in
+    let size = same-size (windows c.args.windows.now.table) (windows c.write.new.windows.table) (panels c.args.stack.now)
+    (edits (writing_edit (windows c.args.windows.now.table) c.args.writing)) c.in_ok-changed.changed.affected e.written e.affected in
     c.requires.height ∙ sym size.lines
 
 pub damage_affected-requires-clause-possible : goal.damage_affected-requires-clause-possible
 damage_affected-requires-clause-possible c =
     let e = c.in_ok-changed.ensures in
-    possible (windows c.args.windows.now.table) (windows c.write.new.windows.table) (panels c.args.stack.now) (edits (writing_edit (windows c.args.windows.now.table) c.args.writing)) c.in_ok-changed.changed.affected e.written e.affected
+    possible (windows c.args.windows.now.table) (windows c.write.new.windows.table) (panels c.args.stack.now)
+    (edits (writing_edit (windows c.args.windows.now.table) c.args.writing)) c.in_ok-changed.changed.affected e.written e.affected
 
 pub returns-clause-damaged : goal.returns-clause-damaged
 returns-clause-damaged c =
     let e = c.in_ok-changed.ensures in
-    damages (windows c.args.windows.now.table) (windows c.write.new.windows.table) (panels c.args.stack.now) (edits (writing_edit (windows c.args.windows.now.table) c.args.writing)) c.in_ok-changed.changed.affected e.written e.affected
+    damages (windows c.args.windows.now.table) (windows c.write.new.windows.table) (panels c.args.stack.now)
+    (edits (writing_edit (windows c.args.windows.now.table) c.args.writing)) c.in_ok-changed.changed.affected e.written e.affected
     c.args.damage.now c.damage_affected.new.damage c.damage_affected.ensures.damaged

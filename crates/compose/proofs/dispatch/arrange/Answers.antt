@@ -15,19 +15,23 @@ returns-in_ok-del-in-DelPanel-clause-sound_panels c =
 
 pub returns-in_ok-show-in-ShowPanel-clause-sound_panels : goal.returns-in_ok-show-in-ShowPanel-clause-sound_panels
 returns-in_ok-show-in-ShowPanel-clause-sound_panels c =
-    sound-kept (windows c.args.table.now).window c.args.stack.now c.show.new.self (after_show_panel (panels c.args.stack.now) c.in-ShowPanel.panel.0) c.show.result c.requires c.show.ensures.sound refl c.show.ensures.shown c.show.ensures.unchanged
+    sound-kept (windows c.args.table.now).window c.args.stack.now c.show.new.self (after_show_panel (panels c.args.stack.now) c.in-ShowPanel.panel.0) c.show.result c.requires c.show.ensures.sound
+    refl c.show.ensures.shown c.show.ensures.unchanged
 
 pub returns-in_ok-hide-in-HidePanel-clause-sound_panels : goal.returns-in_ok-hide-in-HidePanel-clause-sound_panels
 returns-in_ok-hide-in-HidePanel-clause-sound_panels c =
-    sound-kept (windows c.args.table.now).window c.args.stack.now c.hide.new.self (after_hide_panel (panels c.args.stack.now) c.in-HidePanel.panel.0) c.hide.result c.requires c.hide.ensures.sound refl c.hide.ensures.hidden c.hide.ensures.unchanged
+    sound-kept (windows c.args.table.now).window c.args.stack.now c.hide.new.self (after_hide_panel (panels c.args.stack.now) c.in-HidePanel.panel.0) c.hide.result c.requires c.hide.ensures.sound
+    refl c.hide.ensures.hidden c.hide.ensures.unchanged
 
 pub returns-in_ok-top-in-TopPanel-clause-sound_panels : goal.returns-in_ok-top-in-TopPanel-clause-sound_panels
 returns-in_ok-top-in-TopPanel-clause-sound_panels c =
-    sound-kept (windows c.args.table.now).window c.args.stack.now c.top.new.self (after_show_panel (panels c.args.stack.now) c.in-TopPanel.panel.0) c.top.result c.requires c.top.ensures.sound refl c.top.ensures.moved c.top.ensures.unchanged
+    sound-kept (windows c.args.table.now).window c.args.stack.now c.top.new.self (after_show_panel (panels c.args.stack.now) c.in-TopPanel.panel.0) c.top.result c.requires c.top.ensures.sound refl
+    c.top.ensures.moved c.top.ensures.unchanged
 
 pub returns-in_ok-bottom-in-BottomPanel-clause-sound_panels : goal.returns-in_ok-bottom-in-BottomPanel-clause-sound_panels
 returns-in_ok-bottom-in-BottomPanel-clause-sound_panels c =
-    sound-kept (windows c.args.table.now).window c.args.stack.now c.bottom.new.self (after_bottom_panel (panels c.args.stack.now) c.in-BottomPanel.panel.0) c.bottom.result c.requires c.bottom.ensures.sound refl c.bottom.ensures.moved c.bottom.ensures.unchanged
+    sound-kept (windows c.args.table.now).window c.args.stack.now c.bottom.new.self (after_bottom_panel (panels c.args.stack.now) c.in-BottomPanel.panel.0) c.bottom.result c.requires
+    c.bottom.ensures.sound refl c.bottom.ensures.moved c.bottom.ensures.unchanged
 
 pub returns-in_ok-move_panel-in-MovePanel-clause-sound_panels : goal.returns-in_ok-move_panel-in-MovePanel-clause-sound_panels
 returns-in_ok-move_panel-in-MovePanel-clause-sound_panels c =

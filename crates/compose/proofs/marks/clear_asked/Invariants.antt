@@ -11,5 +11,6 @@ abbrev pub invariant-loop-panel : goal.invariant-loop-panel
 invariant-loop-panel l = record {
   can_next : (goal.iterator-loop-panel).can_next l.panel-iterator;
   is_finite : (goal.iterator-loop-panel).is_finite l.panel-iterator;
-  asked : list_any (asks_for_clear (windows l.table).window) (windows_from_top (panels l.stack)) ≡ list_any (asks_for_clear (windows l.table).window) (filter_map (panels l.stack).window l.panel-iterator);
+  asked : list_any (asks_for_clear (windows l.table).window) (windows_from_top (panels l.stack)) ≡ list_any (asks_for_clear (windows l.table).window)
+      (filter_map (panels l.stack).window l.panel-iterator);
 }

@@ -6,4 +6,5 @@ use Rattle.compose.proofs.refresh.show_rectangle.Given as goal
 
 abbrev pub invariant-loop-y : goal.invariant-loop-y
 invariant-loop-y l =
-    LaidAbove l.pairs (copywin_drawing (windows l.table).window l.source.win.0 l.source.line l.source.column l.frame.top l.frame.left l.frame.bottom l.frame.right false) l.table.lines l.table.columns l.fn.picture (l.frame.top + l.y) l.picture
+    LaidAbove l.pairs (copywin_drawing (windows l.table).window l.source.win.0 l.source.line l.source.column l.frame.top l.frame.left l.frame.bottom l.frame.right false) l.table.lines
+    l.table.columns l.fn.picture (l.frame.top + l.y) l.picture

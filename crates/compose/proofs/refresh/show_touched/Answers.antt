@@ -39,4 +39,5 @@ returns-clause-shown c =
     let ws = windows table in
     let w = a.win.0 in
     let stands = stands-at ws w (a.top, a.left) c.in-Ok.lines c.in-Ok.field-0-1 c.requires.windows c.requires.place c.in-Ok.ensures.size in
-    laid-all a.pairs.now (touched_cells ws.window w) table.lines table.columns a.picture.now (a.top + c.loop-y.y) c.loop-y.picture c.loop-y.invariant (λ v from below. bare-below ws w (a.top, a.left) c.in-Ok.lines stands v (omega arith))
+    laid-all a.pairs.now (touched_cells ws.window w) table.lines table.columns a.picture.now (a.top + c.loop-y.y) c.loop-y.picture c.loop-y.invariant
+    (λ v from below. bare-below ws w (a.top, a.left) c.in-Ok.lines stands v (omega arith))

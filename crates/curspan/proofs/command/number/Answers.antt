@@ -5,4 +5,5 @@ use Rattle.curspan.proofs.command.number.Goals as goal
 
 pub returns : goal.returns
 returns c =
-    number_read (λ t r. ParsesUnsigned 16 10 t r × ExplainsUnsignedError 10 t r × HasUnsignedDigitsIfOk t r) (λ t n h. h.0) (found_of c.args.found.now) c.args.option.now _ c.get_one.ensures.none c.get_one.ensures.value
+    number_read (λ t r. ParsesUnsigned 16 10 t r × ExplainsUnsignedError 10 t r × HasUnsignedDigitsIfOk t r) (λ t n h. h.0)
+    (found_of c.args.found.now) c.args.option.now _ c.get_one.ensures.none c.get_one.ensures.value

@@ -29,6 +29,7 @@ loop-y-preserved c =
       | in_default w ↦ rw w.changes-is (record {
         height = h.height;
         keeps = h.keeps;
-        shown = no-wider {Q = λ v u. shown_at desk.virtual.picture (v, u) ≡ picture (world desk) v u} c.loop-y.changes y desk.windows.columns h.shown (λ u left. w.in_default.ensures.shown u left refl);
+        shown = no-wider {Q = λ v u. shown_at desk.virtual.picture (v, u) ≡ picture (world desk) v u} c.loop-y.changes y desk.windows.columns h.shown
+            (λ u left. w.in_default.ensures.shown u left refl);
       })
     ]

@@ -26,7 +26,8 @@ returns-in-Noutrefresh-clause-same c =
     let sound = c.size-lines.ensures.sound in
     let untouched = rw c.windows.ensures at c.widen_touched.ensures.none in
     rw c.in-Noutrefresh.is (λ accepted y x none.
-    redrawn desk.windows.lines desk.windows.columns (shown_over desk.pairs desk.virtual.picture (touched_cells (windows desk.windows).window c.in-Noutrefresh.win.0)) desk.virtual.picture sound.virtual.size y x
+    redrawn desk.windows.lines desk.windows.columns (shown_over desk.pairs desk.virtual.picture (touched_cells (windows desk.windows).window c.in-Noutrefresh.win.0)) desk.virtual.picture
+    sound.virtual.size y x
     (λ below left. ap (λ o. option_map_or (shown desk.pairs) o (shown_at desk.virtual.picture (y, x)))
     (untouched accepted y x (omega (arith, below, c.requires)) (omega (arith, below, sound.windows.few_lines)) (omega (arith, left, sound.windows.few_columns)) none)))
 

@@ -25,5 +25,7 @@ pub returns-clause-others : goal.returns-clause-others
 returns-clause-others c = λ y x below left none.
     let h = c.loop-y.invariant in
     let frame = c.args.frame in
-    beside (record { start = frame.left; end = c.saturating_add.result }) frame.top frame.bottom frame.left frame.right y x refl (c.saturating_add.ensures ∙ ap (λ n. min (n + 1) 65535) c.max.ensures) left
-    (λ from to. h.others y x from (omega (arith, c.loop-y-test.false, c.min-y-end.ensures, c.saturating_add-end.ensures, c.max-2.ensures, c.ranges.lines.fits)) (omega (arith, h.height, c.requires)) none)
+    beside (record { start = frame.left; end = c.saturating_add.result }) frame.top frame.bottom frame.left frame.right y x refl
+    (c.saturating_add.ensures ∙ ap (λ n. min (n + 1) 65535) c.max.ensures) left
+    (λ from to. h.others y x from (omega (arith, c.loop-y-test.false, c.min-y-end.ensures, c.saturating_add-end.ensures, c.max-2.ensures, c.ranges.lines.fits))
+    (omega (arith, h.height, c.requires)) none)

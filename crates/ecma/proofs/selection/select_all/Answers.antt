@@ -8,16 +8,19 @@ pub returns : goal.returns
 returns c = λ digits same.
     let whole = take_all c.loop-parameter.parameter-index c.args.ended.now (omega arith) in
     let all = ap (λ parameters. selected_by parameters c.args.rendition) (sym whole) ∙ c.loop-parameter.invariant in
-    c.select-2.ensures ∙ ap (λ code. select code c.loop-parameter.selected) c.number_or-2.ensures ∙ sym (selected-last digits c.args.ended.now c.args.last c.args.rendition c.loop-parameter.selected same all)
+    c.select-2.ensures ∙ ap (λ code. select code c.loop-parameter.selected) c.number_or-2.ensures ∙ sym
+    (selected-last digits c.args.ended.now c.args.last c.args.rendition c.loop-parameter.selected same all)
 
 pub returns-in-None : goal.returns-in-None
 returns-in-None c = λ digits same.
     let here = c.select.ensures ∙ ap (λ code. select code c.loop-parameter.selected) c.number_or.ensures in
-    let next = selected-next c.args.ended.now c.loop-parameter.parameter-index c.parameter-item.result c.args.rendition c.loop-parameter.selected c.loop-parameter-test.true c.parameter-item.is c.loop-parameter.invariant in
+    let next = selected-next c.args.ended.now c.loop-parameter.parameter-index c.parameter-item.result c.args.rendition c.loop-parameter.selected c.loop-parameter-test.true c.parameter-item.is
+    c.loop-parameter.invariant in
     sym (selected-none digits c.args.ended.now c.args.last c.loop-parameter.parameter-index c.args.rendition same c.loop-parameter-test.true (next ∙ sym here ∙ c.in-None.is))
 
 pub loop-parameter-preserved : goal.loop-parameter-preserved
 loop-parameter-preserved c =
     let here = c.select.ensures ∙ ap (λ code. select code c.loop-parameter.selected) c.number_or.ensures in
-    selected-next c.args.ended.now c.loop-parameter.parameter-index c.parameter-item.result c.args.rendition c.loop-parameter.selected c.loop-parameter-test.true c.parameter-item.is c.loop-parameter.invariant
+    selected-next c.args.ended.now c.loop-parameter.parameter-index c.parameter-item.result c.args.rendition c.loop-parameter.selected c.loop-parameter-test.true c.parameter-item.is
+    c.loop-parameter.invariant
     ∙ sym here ∙ c.in-Some.is

@@ -44,7 +44,8 @@ loop-x-preserved g c =
     subst (λ at. Strokes (cell_bytes c.index-wanted-x-in-loop-x.result) (g.W.Sink.seen c.loop-x.sink) (g.W.Sink.seen c.paint_cell.new.sink) c.loop-x.pen c.paint_cell.new.pen picture
     (with_shown picture (c.args.line, at) c.index-wanted-x-in-loop-x.result)) gap.end (c.paint_cell.ensures.strokes picture wide gap.shown) in
     record {
-      painted = λ before old h. line-drawn c.index-wanted-x-in-loop-x.result same inside (c.loop-x.invariant.painted before old h) (c.requires.shown ∙ sym c.loop-x.invariant.columns ∙ (c.loop-x.invariant.painted before old h).columns) cell differs strokes c.paint_cell.ensures.columns;
+      painted = λ before old h. line-drawn c.index-wanted-x-in-loop-x.result same inside (c.loop-x.invariant.painted before old h)
+          (c.requires.shown ∙ sym c.loop-x.invariant.columns ∙ (c.loop-x.invariant.painted before old h).columns) cell differs strokes c.paint_cell.ensures.columns;
       gap = omega arith;
       columns = c.paint_cell.ensures.columns ∙ c.loop-x.invariant.columns;
       same = c.paint_cell.ensures.same ∙ c.loop-x.invariant.same;

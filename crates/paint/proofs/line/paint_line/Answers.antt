@@ -9,7 +9,11 @@ use Rattle.paint.proofs.line.paint_line.Goals as goal
 pub paint_cells-requires-2-clause-ordered : goal.paint_cells-requires-2-clause-ordered
 paint_cells-requires-2-clause-ordered g c =
     let same : length c.args.shown.now ≡ length c.args.wanted.now = c.requires.shown ∙ sym c.requires.wanted in
-    omega (arith, differs-before (c.in-Some-last_changed.last + 1) c.in-Some-changed_tail.column c.args.shown.now c.args.wanted.now same c.in-Some-last_changed.ensures.1 c.in-Some-changed_tail.ensures.3)
+    omega (
+      arith,
+      differs-before (c.in-Some-last_changed.last + 1) c.in-Some-changed_tail.column c.args.shown.now c.args.wanted.now same c.in-Some-last_changed.ensures.1
+          c.in-Some-changed_tail.ensures.3,
+    )
 
 pub returns-in_default-changed_tail-clause-strokes : goal.returns-in_default-changed_tail-clause-strokes
 returns-in_default-changed_tail-clause-strokes g c =

@@ -14,12 +14,14 @@ loop-end-init c = record {
 pub first_changed-requires-clause-before : goal.first_changed-requires-clause-before
 first_changed-requires-clause-before c =
     let y = c.loop-end.end - 1 in
-    rw (c.row.ensures.row, c.row-in-loop-end.ensures.row, c.from-at.ensures) (line-front c.requires.shown c.requires.wanted c.requires.changes y (omega (arith, c.loop-end.invariant.within)) c.within-from.ensures)
+    rw (c.row.ensures.row, c.row-in-loop-end.ensures.row, c.from-at.ensures) (line-front c.requires.shown c.requires.wanted c.requires.changes y
+    (omega (arith, c.loop-end.invariant.within)) c.within-from.ensures)
 
 pub first_changed-requires-clause-after : goal.first_changed-requires-clause-after
 first_changed-requires-clause-after c =
     let y = c.loop-end.end - 1 in
-    rw (c.row.ensures.row, c.row-in-loop-end.ensures.row, c.from-at.ensures) (line-back c.requires.shown c.requires.wanted c.requires.changes y (omega (arith, c.loop-end.invariant.within)) c.within-from.ensures)
+    rw (c.row.ensures.row, c.row-in-loop-end.ensures.row, c.from-at.ensures) (line-back c.requires.shown c.requires.wanted c.requires.changes y
+    (omega (arith, c.loop-end.invariant.within)) c.within-from.ensures)
 
 pub returns-clause-kept : goal.returns-clause-kept
 returns-clause-kept c =

@@ -9,7 +9,8 @@ use Rattle.paint.proofs.page.paint_picture.Goals as goal
 
 pub loop-line-init : goal.loop-line-init
 loop-line-init g c = record {
-  painted = picture-begun _ _ c.first_line-line.result c.args.shown.now c.args.wanted.now (lines-front c.requires.shown c.requires.wanted c.requires.changes c.first_line-line.result c.first_line-line.ensures);
+  painted = picture-begun _ _ c.first_line-line.result c.args.shown.now c.args.wanted.now (lines-front c.requires.shown c.requires.wanted c.requires.changes c.first_line-line.result
+      c.first_line-line.ensures);
   same = refl;
 }
 
@@ -71,7 +72,8 @@ returns-in-Some-clause-strokes g c =
     let shown = rw c.from-at.ensures at c.row-old.ensures.row in
     let wanted = rw c.from-at.ensures at c.row-new.ensures.row in
     let ready = rw (shown, wanted) at c.in-Some.ensures.ready in
-    page-erased c.requires.shown c.requires.wanted below c.page_end-blank.ensures.blank later inside (c.changed_lines-changed.ensures.changed (omega arith)) c.loop-line.invariant.painted ready c.erase_page.ensures.draws
+    page-erased c.requires.shown c.requires.wanted below c.page_end-blank.ensures.blank later inside
+    (c.changed_lines-changed.ensures.changed (omega arith)) c.loop-line.invariant.painted ready c.erase_page.ensures.draws
 
 pub returns-clause-strokes : goal.returns-clause-strokes
 returns-clause-strokes g c =

@@ -69,7 +69,8 @@ overflow_sub-y g c =
     let run : IsRun old.window ps a.y l.x a.right win last = subst (λ (ws : Windows). IsRun ws.window ps a.y l.x a.right win last) l.invariant.same c.run-run.ensures.run in
     let from = run.from in
     let standard : (u : ℕ) → l.x ≤ u → u ≤ a.right → holds old.window standard_screen a.y u ≡ true = λ u after upto. c.requires.standard u (omega (arith, begun, after)) upto in
-    let between : IsBetween c.rect-rect.result a.y l.x = held-between c.rect-rect.result a.y l.x (c.rect-rect.ensures.holds a.y l.x ∙ held old now ps a.y l.x a.right win last l.invariant.same run standard l.x (omega arith) from) in
+    let between : IsBetween c.rect-rect.result a.y l.x = held-between c.rect-rect.result a.y l.x (c.rect-rect.ensures.holds a.y l.x
+    ∙ held old now ps a.y l.x a.right win last l.invariant.same run standard l.x (omega arith) from) in
     between.top
 
 pub overflow_sub-x : goal.overflow_sub-x
@@ -85,7 +86,8 @@ overflow_sub-x g c =
     let run : IsRun old.window ps a.y l.x a.right win last = subst (λ (ws : Windows). IsRun ws.window ps a.y l.x a.right win last) l.invariant.same c.run-run.ensures.run in
     let from = run.from in
     let standard : (u : ℕ) → l.x ≤ u → u ≤ a.right → holds old.window standard_screen a.y u ≡ true = λ u after upto. c.requires.standard u (omega (arith, begun, after)) upto in
-    let between : IsBetween c.rect-rect.result a.y l.x = held-between c.rect-rect.result a.y l.x (c.rect-rect.ensures.holds a.y l.x ∙ held old now ps a.y l.x a.right win last l.invariant.same run standard l.x (omega arith) from) in
+    let between : IsBetween c.rect-rect.result a.y l.x = held-between c.rect-rect.result a.y l.x (c.rect-rect.ensures.holds a.y l.x
+    ∙ held old now ps a.y l.x a.right win last l.invariant.same run standard l.x (omega arith) from) in
     between.left
 
 pub overflow_sub-run : goal.overflow_sub-run
@@ -101,7 +103,8 @@ overflow_sub-run g c =
     let run : IsRun old.window ps a.y l.x a.right win last = subst (λ (ws : Windows). IsRun ws.window ps a.y l.x a.right win last) l.invariant.same c.run-run.ensures.run in
     let from = run.from in
     let standard : (u : ℕ) → l.x ≤ u → u ≤ a.right → holds old.window standard_screen a.y u ≡ true = λ u after upto. c.requires.standard u (omega (arith, begun, after)) upto in
-    let between : IsBetween c.rect-rect.result a.y l.x = held-between c.rect-rect.result a.y l.x (c.rect-rect.ensures.holds a.y l.x ∙ held old now ps a.y l.x a.right win last l.invariant.same run standard l.x (omega arith) from) in
+    let between : IsBetween c.rect-rect.result a.y l.x = held-between c.rect-rect.result a.y l.x (c.rect-rect.ensures.holds a.y l.x
+    ∙ held old now ps a.y l.x a.right win last l.invariant.same run standard l.x (omega arith) from) in
     let left = between.left in
     omega (arith, left, from)
 
@@ -155,7 +158,8 @@ returns-then-run-right-clause-shown g c =
     let line : LineShown f a.y a.left (last + 1) a.picture.now c.show_cells.new.picture =
     run-line old now ps a.y l.x a.right win last rect cells lent a.pairs.now a.left a.picture.now l.picture c.show_cells.new.picture l.invariant.line begun
     c.show_cells.ensures.shown c.show_cells.ensures.size c.show_cells.ensures.height (c.show_cells.ensures.width a.y) in
-    let all : LineShown f a.y a.left (a.right + 1) a.picture.now c.show_cells.new.picture = subst (λ k. LineShown f a.y a.left (k + 1) a.picture.now c.show_cells.new.picture) c.if-run-right.true line in
+    let all : LineShown f a.y a.left (a.right + 1) a.picture.now c.show_cells.new.picture = subst (λ k. LineShown f a.y a.left (k + 1) a.picture.now c.show_cells.new.picture) c.if-run-right.true
+    line in
     all.shown
 
 pub returns-then-run-right-clause-size : goal.returns-then-run-right-clause-size
@@ -187,7 +191,8 @@ returns-then-run-right-clause-counted g c =
     let upto = l.invariant.within in
     let sum : a.right + 1 - a.left ≡ a.right - a.left + 1 = omega (arith, begun, upto) in
     let more : GrewBy (last + 1 - a.left) (g.R.Rows.lent a.rows.now) (g.R.Rows.lent c.lend-cells.new.self) =
-    run-grew old now ps a.y l.x a.right win last rect cells lent a.left (g.R.Rows.lent a.rows.now) (g.R.Rows.lent l.rows) (g.R.Rows.lent c.lend-cells.new.self) begun l.invariant.counted c.lend-cells.ensures.counted in
+    run-grew old now ps a.y l.x a.right win last rect cells lent a.left (g.R.Rows.lent a.rows.now) (g.R.Rows.lent l.rows)
+    (g.R.Rows.lent c.lend-cells.new.self) begun l.invariant.counted c.lend-cells.ensures.counted in
     subst (λ n. GrewBy n (g.R.Rows.lent a.rows.now) (g.R.Rows.lent c.lend-cells.new.self)) (ap (λ k. k + 1 - a.left) c.if-run-right.true ∙ sum) more
 
 pub loop-owners-preserved : goal.loop-owners-preserved
@@ -220,7 +225,8 @@ loop-owners-preserved g c =
       within = omega (arith, within, not_last);
       same = c.lend-cells.ensures.same ∙ l.invariant.same;
       known = subst (λ (ws : Windows). KnowsOwners ws.window ps a.y c.run-run.new.self) l.invariant.same c.run-run.ensures.known;
-      counted = run-grew old now ps a.y l.x a.right win last rect cells lent a.left (g.R.Rows.lent a.rows.now) (g.R.Rows.lent l.rows) (g.R.Rows.lent c.lend-cells.new.self) begun l.invariant.counted c.lend-cells.ensures.counted;
+      counted = run-grew old now ps a.y l.x a.right win last rect cells lent a.left (g.R.Rows.lent a.rows.now) (g.R.Rows.lent l.rows)
+          (g.R.Rows.lent c.lend-cells.new.self) begun l.invariant.counted c.lend-cells.ensures.counted;
       line = run-line old now ps a.y l.x a.right win last rect cells lent a.pairs.now a.left a.picture.now l.picture c.show_cells.new.picture l.invariant.line begun
           c.show_cells.ensures.shown c.show_cells.ensures.size c.show_cells.ensures.height (c.show_cells.ensures.width a.y);
     }

@@ -39,7 +39,8 @@ loop-panel-preserved-in-Some-held_part g c =
           let laid : new ≡ (if test then win else old) =
           c.lay-in-Some-held_part.ensures.laid (x - left) ∙ ap (λ (b : Bool). if b then win else old) (moved left part.first part.last x from ordered begun) in
           owner-step ws.window ps y x p win rest old new test
-          (subst (λ (l : List ℕ). owner_window ws.window ps y x ≡ last_or_other (panel_holds ws.window ps y x) (λ q. window_or_standard ps (Some q)) l old) c.in-Some.ensures.steps (c.loop-panel.invariant.found x begun upto))
+          (subst (λ (l : List ℕ). owner_window ws.window ps y x ≡ last_or_other (panel_holds ws.window ps y x) (λ q. window_or_standard ps (Some q)) l old) c.in-Some.ensures.steps
+          (c.loop-panel.invariant.found x begun upto))
           c.in-Ok.ensures.answer holds laid;
     }
 
@@ -61,6 +62,7 @@ loop-panel-preserved-in_default-held_part g c =
           let old : ℕ = slice_index c.loop-panel.owners (x - c.args.left) in
           let holds : holds ws.window win y x ≡ false = sym (c.rect-rect.ensures.holds y x) ∙ c.held_part.ensures.none c.in_default-held_part.is x begun upto in
           owner-step ws.window ps y x p win rest old old false
-          (subst (λ (l : List ℕ). owner_window ws.window ps y x ≡ last_or_other (panel_holds ws.window ps y x) (λ q. window_or_standard ps (Some q)) l old) c.in-Some.ensures.steps (c.loop-panel.invariant.found x begun upto))
+          (subst (λ (l : List ℕ). owner_window ws.window ps y x ≡ last_or_other (panel_holds ws.window ps y x) (λ q. window_or_standard ps (Some q)) l old) c.in-Some.ensures.steps
+          (c.loop-panel.invariant.found x begun upto))
           c.in-Ok.ensures.answer holds refl;
     }

@@ -7,7 +7,8 @@ use Rattle.picture.proofs.piece.piece.Goals as goal
 pub prove-unreachable-requires : goal.prove-unreachable-requires
 prove-unreachable-requires c =
     let a = c.args in
-    let inside : a.left + a.n - 1 < length c.row-row.result.now = (line-has (windows a.table.now).window a.win.0 a.y (a.left + a.n - 1) c.requires.place c.row-row.result.now c.row-row.ensures.row).0 in
+    let inside : a.left + a.n - 1 < length c.row-row.result.now = (line-has (windows a.table.now).window a.win.0 a.y
+    (a.left + a.n - 1) c.requires.place c.row-row.result.now c.row-row.ensures.row).0 in
     let past = c.if-prove.true in
     let at = c.from-from.ensures in
     let some = c.requires.some in

@@ -110,9 +110,11 @@ loop-y-preserved g c =
         | in-Some s ↦
             let r = s.in-Some.field-0 in
             rw (s.damage-is, s.picture-is, s.clear.ensures)
-            (composed-more f old.lines old.columns before c.args.picture.now c.requires.covered y r c.loop-y.damage c.loop-y.picture s.compose_row.new.picture h.composed below (sym c.line.ensures ∙ s.in-Some.is)
+            (composed-more f old.lines old.columns before c.args.picture.now c.requires.covered y r c.loop-y.damage c.loop-y.picture s.compose_row.new.picture h.composed below
+            (sym c.line.ensures ∙ s.in-Some.is)
             (λ v u. s.compose_row.ensures.shown v u
-            ∙ ap (λ (ws : Windows). if (v == y) && (nat_le r.first u && nat_lt u (r.last + 1)) then shown c.args.pairs.now (found_from_top ws.window ps y u) else shown_at c.loop-y.picture (v, u)) h.windows)
+            ∙ ap (λ (ws : Windows). if (v == y) && (nat_le r.first u && nat_lt u (r.last + 1)) then shown c.args.pairs.now (found_from_top ws.window ps y u) else shown_at c.loop-y.picture (v, u))
+            h.windows)
             (s.compose_row.ensures.size old.lines old.columns h.composed.above.size))
         | in_default s ↦ rw (s.damage-is, s.picture-is)
             (composed-bare f old.lines old.columns before c.args.picture.now c.requires.covered y c.loop-y.damage c.loop-y.picture h.composed below (sym c.line.ensures ∙ s.in_default.is))
@@ -124,4 +126,5 @@ returns-clause-shown g c =
     let old = g.R.Rows.windows c.args.rows.now in
     let end = c.loop-y-test.false in
     let all = c.requires.lines in
-    shown-all (λ v u. shown c.args.pairs.now (found_from_top old.window (panels c.args.stack.now) v u)) old.lines old.columns c.loop-y.y c.loop-y.picture (omega (arith, end, all)) c.loop-y.invariant.composed.above
+    shown-all (λ v u. shown c.args.pairs.now (found_from_top old.window (panels c.args.stack.now) v u)) old.lines old.columns c.loop-y.y c.loop-y.picture
+    (omega (arith, end, all)) c.loop-y.invariant.composed.above

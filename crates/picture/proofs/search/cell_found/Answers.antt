@@ -39,7 +39,8 @@ owner_span-span-requires c κs =
     let inside = c.requires.column in (
       (refl, record {}),
       (
-        subst (λ (ws : Windows). HasPanelWindows ws.window (panels c.args.stack.now)) (sym c.of.ensures.windows) (sound-windows (windows_of c.args.table.now).window (panels c.args.stack.now) c.requires.panels),
+        subst (λ (ws : Windows). HasPanelWindows ws.window (panels c.args.stack.now)) (sym c.of.ensures.windows)
+            (sound-windows (windows_of c.args.table.now).window (panels c.args.stack.now) c.requires.panels),
         omega (arith, inside),
       ),
     )
@@ -77,4 +78,5 @@ returns c =
     let win = c.window_of-win.result.0 in
     c.cell.ensures.cell
     ∙ ap (λ (p : Place). cell_at ws.window win (a.y - p.0) (a.x - p.1)) c.place-top.ensures
-    ∙ ap (λ v. cell_on_screen ws.window v a.y a.x) (found ws (windows_of c.of.result.table.now) ps a.y a.x (a.columns - 1) win c.owner_span-span.result c.of.ensures.windows c.owner_span-span.ensures c.window_of-win.ensures)
+    ∙ ap (λ v. cell_on_screen ws.window v a.y a.x) (found ws (windows_of c.of.result.table.now) ps a.y a.x
+    (a.columns - 1) win c.owner_span-span.result c.of.ensures.windows c.owner_span-span.ensures c.window_of-win.ensures)

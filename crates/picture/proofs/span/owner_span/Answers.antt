@@ -24,7 +24,8 @@ loop-panel-init g c =
     record {
       can_next = tt;
       is_finite = tt;
-      there = subst (λ (l : List ℕ). AllByRecursion (λ p. MatchOption (ps.window p) ⊤ (λ w. is_no_pad ws.window w ≡ true)) l) (sym all) (each-back (λ p. MatchOption (ps.window p) ⊤ (λ w. is_no_pad ws.window w ≡ true)) ps.visible c.requires.panels);
+      there = subst (λ (l : List ℕ). AllByRecursion (λ p. MatchOption (ps.window p) ⊤ (λ w. is_no_pad ws.window w ≡ true)) l) (sym all)
+          (each-back (λ p. MatchOption (ps.window p) ⊤ (λ w. is_no_pad ws.window w ≡ true)) ps.visible c.requires.panels);
       searched = subst (λ (l : List ℕ). Searched f o c.args.x c.args.edge c.args.edge l) (sym all) first;
     }
 
@@ -37,7 +38,8 @@ returns-then-held g c =
     let p = c.in-Some.panel.0 in
     let found = c.along-held.result in
     let e = c.along-held.ensures in
-    let now : Searched f o c.args.x c.args.edge c.loop-panel.end (p ∷ c.next.new.self) = subst (λ (l : List ℕ). Searched f o c.args.x c.args.edge c.loop-panel.end l) c.in-Some.ensures.steps c.loop-panel.invariant.searched in
+    let now : Searched f o c.args.x c.args.edge c.loop-panel.end (p ∷ c.next.new.self) = subst (λ (l : List ℕ). Searched f o c.args.x c.args.edge c.loop-panel.end l) c.in-Some.ensures.steps
+    c.loop-panel.invariant.searched in
     let along : IsAlong f p c.args.x c.loop-panel.end found.1 true = subst (λ b. IsAlong f p c.args.x c.loop-panel.end found.1 b) c.if-held.true
     (along-of ws.window ps c.args.y p c.in-Ok.win.0 c.rect.result c.args.x c.loop-panel.end found.1 found.0 c.in-Ok.ensures.answer c.rect.ensures.holds e.from e.within e.same e.another) in
     let held = searched-held f o c.args.x c.args.edge c.loop-panel.end p c.next.new.self found.1 now along in

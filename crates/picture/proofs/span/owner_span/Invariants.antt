@@ -13,5 +13,6 @@ invariant-loop-panel g l = record {
   can_next : (goal.iterator-loop-panel g).can_next l.panel-iterator;
   is_finite : (goal.iterator-loop-panel g).is_finite l.panel-iterator;
   there : AllByRecursion (λ p. MatchOption ((panels l.stack).window p) ⊤ (λ w. is_no_pad (g.R.Rows.windows l.rows).window w ≡ true)) l.panel-iterator;
-  searched : Searched (λ u p. panel_holds (g.R.Rows.windows l.rows).window (panels l.stack) l.y u p) (λ u. owner (g.R.Rows.windows l.rows).window (panels l.stack) l.y u) l.x l.edge l.end l.panel-iterator;
+  searched : Searched (λ u p. panel_holds (g.R.Rows.windows l.rows).window (panels l.stack) l.y u p)
+      (λ u. owner (g.R.Rows.windows l.rows).window (panels l.stack) l.y u) l.x l.edge l.end l.panel-iterator;
 }

@@ -11,7 +11,8 @@ use Rattle.picture.specs.Spans.{HasPanelWindows}
 use Rattle.picture.proofs.Standard.{sound-windows, standard-holds}
 use Rattle.picture.proofs.tests.composed.Goals as goal
 
-width : (ws : Windows) (o : Option Window) (lines columns : ℕ) → IsSomeAnd o (IsStandardScreen ws) → option_map {U = ℕ × ℕ} (λ (a : Window). (a.lines, a.columns)) o ≡ Some (lines, columns) → columns ≡ ws.columns
+width : (ws : Windows) (o : Option Window) (lines columns : ℕ) → IsSomeAnd o (IsStandardScreen ws) → option_map {U = ℕ × ℕ} (λ (a : Window). (a.lines, a.columns)) o ≡ Some (lines, columns)
+    → columns ≡ ws.columns
 width ws None lines columns h is = absurd h
 width ws (Some a) lines columns h is = let both : (a.lines, a.columns) ≡ (lines, columns) = cc in sym (ap (λ (p : ℕ × ℕ). p.1) both) ∙ h.columns
 

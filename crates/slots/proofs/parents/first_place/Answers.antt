@@ -17,4 +17,7 @@ returns c =
     let slots = c.args.slots.now in
     let at = c.loop-next.at in
     let k = some_and (slot_at slots at.win.0) (λ k. None ≡ option_map (in_parent at) (part_in k.cells)) c.in_default.ensures.next in
-    record { leads = Leads-end slots c.requires.chained c.requires.few c.args.win at.win.0 at.line at.column k.0 c.requires.taken k.1 (no_parent at (part_in k.0.cells) k.2) c.loop-next.invariant.leads }
+    record {
+      leads = Leads-end slots c.requires.chained c.requires.few c.args.win at.win.0 at.line at.column k.0 c.requires.taken k.1
+          (no_parent at (part_in k.0.cells) k.2) c.loop-next.invariant.leads;
+    }

@@ -12,7 +12,19 @@ returns-clause-written c =
     let t = c.in_ok-target in
     common-put (windows a.table.now) a.src.0 a.dst.0 s.ensures.state.window t.ensures.state.window c.in_ok-from.from c.in_ok-to.to s.ensures.state.there t.ensures.state.there
     c.in_ok-from.ensures.place c.in_ok-to.ensures.place a.overlay (windows c.copy_rectangle.new.self)
-    (rw (s.ensures.state.lines, s.ensures.state.columns, t.ensures.state.lines, t.ensures.state.columns, ← c.overlap-lines.ensures.source, ← c.overlap-lines.ensures.target, ← c.overlap-lines.ensures.len, ← c.overlap-columns.ensures.source, ← c.overlap-columns.ensures.target, ← c.overlap-columns.ensures.len) c.copy_rectangle.ensures.written)
+    (rw (
+      s.ensures.state.lines,
+      s.ensures.state.columns,
+      t.ensures.state.lines,
+      t.ensures.state.columns,
+      ← c.overlap-lines.ensures.source,
+      ← c.overlap-lines.ensures.target,
+      ←
+          c.overlap-lines.ensures.len,
+      ← c.overlap-columns.ensures.source,
+      ← c.overlap-columns.ensures.target,
+      ← c.overlap-columns.ensures.len,
+    ) c.copy_rectangle.ensures.written)
     ∙ sym (drawn-there (windows a.table.now) a.dst.0 t.ensures.state.window (common_copied (windows a.table.now).window a.src.0 a.dst.0 a.overlay) t.ensures.state.there)
 
 pub returns-clause-frame : goal.returns-clause-frame
@@ -20,6 +32,18 @@ returns-clause-frame c =
     let a = c.args in
     let s = c.in_ok-source in
     let t = c.in_ok-target in
-    (rw (s.ensures.state.lines, s.ensures.state.columns, t.ensures.state.lines, t.ensures.state.columns, ← c.overlap-lines.ensures.source, ← c.overlap-lines.ensures.target, ← c.overlap-lines.ensures.len, ← c.overlap-columns.ensures.source, ← c.overlap-columns.ensures.target, ← c.overlap-columns.ensures.len) c.copy_rectangle.ensures.frame)
+    (rw (
+      s.ensures.state.lines,
+      s.ensures.state.columns,
+      t.ensures.state.lines,
+      t.ensures.state.columns,
+      ← c.overlap-lines.ensures.source,
+      ← c.overlap-lines.ensures.target,
+      ←
+          c.overlap-lines.ensures.len,
+      ← c.overlap-columns.ensures.source,
+      ← c.overlap-columns.ensures.target,
+      ← c.overlap-columns.ensures.len,
+    ) c.copy_rectangle.ensures.frame)
     ∙ common-frame (windows a.table.now) a.src.0 a.dst.0 s.ensures.state.window t.ensures.state.window c.in_ok-from.from c.in_ok-to.to s.ensures.state.there t.ensures.state.there
     c.in_ok-from.ensures.place c.in_ok-to.ensures.place a.overlay

@@ -15,7 +15,8 @@ loop-line-init c = record {
 
 pub loop-line-preserved : goal.loop-line-preserved
 loop-line-preserved c = record {
-  cleared = line_cleared (windows c.args.table.now) c.args.win.0 c.args.state.now c.requires.state (everywhere c.args.state.now.settings.background) c.loop-line.line c.args.state.now.settings.background
+  cleared = line_cleared (windows c.args.table.now) c.args.win.0 c.args.state.now c.requires.state (everywhere c.args.state.now.settings.background) c.loop-line.line
+      c.args.state.now.settings.background
       (windows c.loop-line.table) (windows c.fill.new.self) (λ x. refl) c.loop-line.invariant.cleared c.fill.ensures.written;
   state = state-written (windows c.loop-line.table) (windows c.fill.new.self) c.args.win.0 c.args.state.now
       (filled c.loop-line.line 0 (c.args.state.now.columns - 1) c.args.state.now.settings.background) c.loop-line.invariant.state c.fill.ensures.written c.fill.ensures.sound;

@@ -44,7 +44,8 @@ returns-clause-cells g c =
     let grid = c.self.inside in
     let piece = PieceFits-from c.self.invariant c.self.view_is c.requires.line c.requires.columns in
     let after = IsGrid-piece g.T.Element.blank grid.lines grid.columns grid.cells.items c.args.cells.now c.args.y c.args.x c.self.invariant piece.below piece.fits c.requires.cells in
-    rw c.put_piece.ensures (λ _. EachCell-rows grid.lines grid.columns (splice grid.cells.items (c.args.y * grid.columns + c.args.x) (c.args.y * grid.columns + c.args.x + length c.args.cells.now) c.args.cells.now) after)
+    rw c.put_piece.ensures (λ _. EachCell-rows grid.lines grid.columns (splice grid.cells.items (c.args.y * grid.columns + c.args.x)
+    (c.args.y * grid.columns + c.args.x + length c.args.cells.now) c.args.cells.now) after)
 
 pub returns-clause-height : goal.returns-clause-height
 returns-clause-height g c =

@@ -124,7 +124,9 @@ invariant_of-self-in-Copying c =
     let new = behind d.windows.table c.copy_damaging.new.windows.table d.stack d.pairs virtual d.damage c.copy_damaging.new.damage in
     record {
       sound = IsSound-after d.windows.table c.copy_damaging.new.windows.table d.stack d.pairs virtual (after_copying ws copying) r h.sound e.sound (size-change ws (copying_change ws copying))
-          (λ done is p w has other there. keeps-change ws (panels d.stack) (copying_change ws copying) h.sound.panels (ready (world old) (calls.Copying copying) (accepted-by (copying_refusal ws copying) r (refused-by (copying_refusal ws copying) r e.refused) done is)) p w has there) e.copied e.unchanged;
+          (λ done is p w has other there. keeps-change ws (panels d.stack) (copying_change ws copying) h.sound.panels
+          (ready (world old) (calls.Copying copying) (accepted-by (copying_refusal ws copying) r (refused-by (copying_refusal ws copying) r e.refused) done is)) p w has there) e.copied
+          e.unchanged;
       covered = covered-result old new (calls.Copying copying) r h refl (accepted-by (copying_refusal ws copying) r (refused-by (copying_refusal ws copying) r e.refused))
           (windows-left d.windows.table c.copy_damaging.new.windows.table d.stack d.pairs virtual d.damage c.copy_damaging.new.damage (after_copying ws copying) r e.copied) e.damaged
           (windows-unchanged d.windows.table c.copy_damaging.new.windows.table d.stack d.pairs virtual d.damage c.copy_damaging.new.damage r e.unchanged e.undamaged);

@@ -35,10 +35,12 @@ new_desk c =
       damage = c.damage_part.new.damage;
     }
 
-accepted : (c : goal.After-unmark_lines) → refresh_refusal (windows c.self.inside.windows.table) (Pnoutrefresh c.args.pad c.args.pminrow c.args.pmincol c.args.sminrow c.args.smincol c.args.smaxrow c.args.smaxcol) ≡ None
+accepted : (c : goal.After-unmark_lines) → refresh_refusal (windows c.self.inside.windows.table) (Pnoutrefresh c.args.pad c.args.pminrow c.args.pmincol c.args.sminrow c.args.smincol c.args.smaxrow
+    c.args.smaxcol) ≡ None
 accepted c = search rules
 
-left : (c : goal.After-unmark_lines) → world (new_desk c) ≡ world_after (world (old_desk c)) (calls.Refresh (Pnoutrefresh c.args.pad c.args.pminrow c.args.pmincol c.args.sminrow c.args.smincol c.args.smaxrow c.args.smaxcol))
+left : (c : goal.After-unmark_lines) → world (new_desk c) ≡ world_after (world (old_desk c)) (calls.Refresh
+    (Pnoutrefresh c.args.pad c.args.pminrow c.args.pmincol c.args.sminrow c.args.smincol c.args.smaxrow c.args.smaxcol))
 left c = search rules
 
 abbrev drawing : goal.After-unmark_lines → Drawing

@@ -35,7 +35,8 @@ new_desk c =
     }
 
 shown_then : (c : goal.After-unmark_composed)
-    → c.show_damaged-cells.new.picture ≡ picture_of c.self.inside.windows.table.lines c.self.inside.windows.table.columns (λ y x. shown c.self.inside.pairs (found_from_top (windows c.self.inside.windows.table).window (panels c.self.inside.stack) y x))
+    → c.show_damaged-cells.new.picture ≡ picture_of c.self.inside.windows.table.lines c.self.inside.windows.table.columns
+    (λ y x. shown c.self.inside.pairs (found_from_top (windows c.self.inside.windows.table).window (panels c.self.inside.stack) y x))
 shown_then c =
     let d = c.self.inside in
     c.show_damaged-cells.ensures.shown
@@ -62,7 +63,8 @@ show_damaged-cells-requires c κs =
                 λ y. subst (λ n. AreColumnsWithin n (columns_of d.damage y)) columns (h.covered.within y),
                 (
                   subst (λ (ws : Windows). HasSize ws.lines ws.columns d.picture) back h.sound.virtual.size,
-                  subst (λ (ws : Windows). (y x : ℕ) → y < ws.lines → x < ws.columns → has_damage_at d.damage y x ≡ false → shown_at d.picture (y, x) ≡ shown d.pairs (found_from_top ws.window ps y x)) back h.covered.shown,
+                  subst (λ (ws : Windows). (y x : ℕ) → y < ws.lines → x < ws.columns → has_damage_at d.damage y x ≡ false
+                      → shown_at d.picture (y, x) ≡ shown d.pairs (found_from_top ws.window ps y x)) back h.covered.shown,
                 ),
               ),
             ),
@@ -101,7 +103,8 @@ returns c =
     let cells = c.show_damaged-cells.result in
     let old = old_desk c in
     let now = c.self.view_is in
-    let may : MayRead (world old) (is_damaged_line old) cells = may-read old c.self.invariant cells (c.show_damaged-cells.ensures.read ∙ ap (λ (ws : Windows). cells_above old.damage ws.lines) c.of-rows.ensures.windows) in (
+    let may : MayRead (world old) (is_damaged_line old) cells = may-read old c.self.invariant cells
+    (c.show_damaged-cells.ensures.read ∙ ap (λ (ws : Windows). cells_above old.damage ws.lines) c.of-rows.ensures.windows) in (
       refl,
       (cells, subst (λ (t : DeskTable). MayRead (world t) (is_damaged_line t) cells) now may, refl),
       subst (λ (t : DeskTable). world (new_desk c) ≡ world_after (world t) (calls.Refresh UpdatePanels)) now (left c),

@@ -10,7 +10,8 @@ invariant_of-self g c =
     let h = c.widen_for.ensures in
     record {
       size = record { lines = c.self.invariant.size.lines ∙ sym size.0; columns = c.self.invariant.size.columns ∙ sym size.1 };
-      kept = kept-called c.self.inside.desk c.call.new.self c.args.call.now c.call.result c.self.inside.painter c.self.inside.changes c.widen_for.new.changes c.call.ensures h.height h.keeps h.same c.self.invariant.kept;
+      kept = kept-called c.self.inside.desk c.call.new.self c.args.call.now c.call.result c.self.inside.painter c.self.inside.changes c.widen_for.new.changes c.call.ensures h.height h.keeps h.same
+          c.self.invariant.kept;
     }
 
 pub returns-clause-call : goal.returns-clause-call
@@ -24,5 +25,6 @@ invariant_of-self-2 g c =
     let h = c.widen_for.ensures in
     record {
       size = record { lines = c.self.invariant.size.lines ∙ sym size.0; columns = c.self.invariant.size.columns ∙ sym size.1 };
-      kept = kept-called c.self.inside.desk c.call.new.self c.args.call.now c.call.result c.self.inside.painter c.self.inside.changes c.widen_for.new.changes c.call.ensures h.height h.keeps h.same c.self.invariant.kept;
+      kept = kept-called c.self.inside.desk c.call.new.self c.args.call.now c.call.result c.self.inside.painter c.self.inside.changes c.widen_for.new.changes c.call.ensures h.height h.keeps h.same
+          c.self.invariant.kept;
     }

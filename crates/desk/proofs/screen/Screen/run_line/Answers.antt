@@ -12,7 +12,8 @@ returns-in-Err-clause-line g c =
 
 pub returns-in-Ok-log_answer-clause-line : goal.returns-in-Ok-log_answer-clause-line
 returns-in-Ok-log_answer-clause-line g c =
-    rw c.script_end-in-Ok-log_answer.ensures (line_is_run g.W.Sink.seen c.args.self.now c.answer.new.self c.args.number c.args.line.now (g.L.Sink.seen c.args.log.now) (g.L.Sink.seen c.log_answer.new.log) _ c.in-Ok.answer _
+    rw c.script_end-in-Ok-log_answer.ensures (line_is_run g.W.Sink.seen c.args.self.now c.answer.new.self c.args.number c.args.line.now (g.L.Sink.seen c.args.log.now)
+    (g.L.Sink.seen c.log_answer.new.log) _ c.in-Ok.answer _
     (rw c.in-Ok-Some.field-0-is at c.in-Ok-Some.ensures)
     (rw c.call.ensures at c.in-Ok.ensures.answer)
     c.is_err-refused.ensures.value
@@ -20,7 +21,8 @@ returns-in-Ok-log_answer-clause-line g c =
 
 pub returns-in-Err-log_answer-clause-line : goal.returns-in-Err-log_answer-clause-line
 returns-in-Err-log_answer-clause-line g c =
-    rw c.script_end-in-Err-log_answer.ensures (line_is_not_logged g.W.Sink.seen c.args.self.now c.answer.new.self c.args.number c.args.line.now (g.L.Sink.seen c.args.log.now) (g.L.Sink.seen c.log_answer.new.log) _ c.in-Ok.answer _ c.in-Err-log_answer.field-0.sent
+    rw c.script_end-in-Err-log_answer.ensures (line_is_not_logged g.W.Sink.seen c.args.self.now c.answer.new.self c.args.number c.args.line.now (g.L.Sink.seen c.args.log.now)
+    (g.L.Sink.seen c.log_answer.new.log) _ c.in-Ok.answer _ c.in-Err-log_answer.field-0.sent
     (rw c.in-Ok-Some.field-0-is at c.in-Ok-Some.ensures)
     (rw c.call.ensures at c.in-Ok.ensures.answer)
     c.is_err-refused.ensures.value

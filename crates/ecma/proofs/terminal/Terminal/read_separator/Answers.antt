@@ -11,7 +11,8 @@ returns-then-self-lt-MOST_ENDED c = λ at read.
     let kept = ap (λ r. length r.ended) c.self.view_is in
     let few : length s.ended < 15 = omega (arith, length-take c.self.inside.count c.self.inside.ended) in
     Follows-from s _ _ Parameters at 59 59 c.requires
-    (ap (λ ended. reader_of c.self.inside.page c.self.inside.state ended no_digits c.self.inside.read c.self.inside.start) (take_more_set c.self.inside.ended c.self.inside.count c.self.inside.current (search rules))
+    (ap (λ ended. reader_of c.self.inside.page c.self.inside.state ended no_digits c.self.inside.read c.self.inside.start)
+    (take_more_set c.self.inside.ended c.self.inside.count c.self.inside.current (search rules))
     ∙ ap (λ r. reader_of r.terminal r.state (r.ended ++ r.current ∷ []) no_digits r.read r.start) c.self.view_is
     ∙ ap (λ state. reader_of s.terminal state (s.ended ++ s.current ∷ []) no_digits s.read s.start) c.requires
     ∙ ap (λ n. reader_of s.terminal Parameters (s.ended ++ s.current ∷ []) no_digits n s.start) read)

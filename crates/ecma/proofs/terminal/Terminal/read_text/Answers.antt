@@ -15,7 +15,8 @@ returns-then-not-print c =
     (ap (λ t. reader_of t Failed (take c.self.inside.count c.self.inside.ended) c.self.inside.current c.self.inside.read c.args.at) (c.print.ensures.same c.if-not-print.true)
     ∙ ap (λ r. reader_of r.terminal Failed r.ended r.current r.read c.args.at) c.self.view_is
     ∙ ap (λ read. reader_of s.terminal Failed s.ended s.current read c.args.at) c.requires.read)
-    refl (unprinted-follows s.terminal s.ended s.current c.args.at s.start c.args.byte c.if-byte-eq-ESCAPE.false (when-false c.print.result (is_printable c.args.byte) c.print.new.self (print c.args.byte s.terminal) c.if-not-print.true effect))
+    refl (unprinted-follows s.terminal s.ended s.current c.args.at s.start c.args.byte c.if-byte-eq-ESCAPE.false
+    (when-false c.print.result (is_printable c.args.byte) c.print.new.self (print c.args.byte s.terminal) c.if-not-print.true effect))
 
 pub returns-else-not-print : goal.returns-else-not-print
 returns-else-not-print c =

@@ -44,8 +44,10 @@ invariant_of-self c =
     let a = c.args in
     let o = c.origin_of-target.result in
     let t = the_view c.self.inside in
-    let s = IsWindowTable-changed t c.put_row.new.slots.items o.grid (with_drawing (listed (o.line + a.to.line) (o.column + a.to.column) c.cells.result.now)) c.self.invariant c.put_row.ensures (λ b. refl) in
-    IsWindowTable-changed (record t { slots = c.put_row.new.slots.items }) c.touch_row.new.slots.items a.to.win.0 (with_touched a.to.line a.to.column (a.to.column + a.n - 1)) s c.touch_row.ensures (λ b. refl)
+    let s = IsWindowTable-changed t c.put_row.new.slots.items o.grid (with_drawing (listed (o.line + a.to.line) (o.column + a.to.column) c.cells.result.now)) c.self.invariant c.put_row.ensures
+    (λ b. refl) in
+    IsWindowTable-changed (record t { slots = c.put_row.new.slots.items }) c.touch_row.new.slots.items a.to.win.0 (with_touched a.to.line a.to.column (a.to.column + a.n - 1)) s c.touch_row.ensures
+    (λ b. refl)
 
 pub returns-clause-written : goal.returns-clause-written
 returns-clause-written c =
@@ -60,7 +62,8 @@ returns-clause-written c =
     let held : IsPiece (window_map t.slots) a.from.win.0 a.from.line a.from.column a.n c.cells.result.now = rw (c.cells.ensures, c.hold.ensures) piece in
     let to = rw (← c.self.view_is) at c.requires.to in
     rw (← c.self.view_is)
-    (windows-copied t c.put_row.new.slots.items c.touch_row.new.slots.items a.from.win.0 a.to.win.0 (record { grid = d.result.grid; line = d.result.line; column = d.result.column }) a.from.line a.from.column a.to.line a.to.column a.n c.cells.result.now
+    (windows-copied t c.put_row.new.slots.items c.touch_row.new.slots.items a.from.win.0 a.to.win.0
+    (record { grid = d.result.grid; line = d.result.line; column = d.result.column }) a.from.line a.from.column a.to.line a.to.column a.n c.cells.result.now
     to c.requires.some leads_to held.all held.each c.put_row.ensures c.touch_row.ensures)
 
 pub returns-clause-frame : goal.returns-clause-frame

@@ -24,7 +24,8 @@ copy_line-copied-requires-clause-from c =
     let a = c.args in let k = c.downward.k in
     let lt : k < a.lines = omega (arith, c.downward-test.true) in
     rw c.down_by.ensures
-    (place_after_above (windows a.self.now) (windows c.downward.self) a.to.win.0 (rectangle_copied (windows a.self.now).window a.from.win.0 a.from.line a.from.column a.to.line a.to.column k a.columns a.overlay) a.from.win.0 (a.from.line + a.lines - 1) (a.from.column + a.columns - 1) (a.from.line + k)
+    (place_after_above (windows a.self.now) (windows c.downward.self) a.to.win.0 (rectangle_copied (windows a.self.now).window a.from.win.0 a.from.line a.from.column a.to.line a.to.column k
+    a.columns a.overlay) a.from.win.0 (a.from.line + a.lines - 1) (a.from.column + a.columns - 1) (a.from.line + k)
     c.downward.invariant.written c.requires.from (omega (arith, lt)))
 
 pub copy_line-copied-requires-clause-to : goal.copy_line-copied-requires-clause-to
@@ -32,7 +33,8 @@ copy_line-copied-requires-clause-to c =
     let a = c.args in let k = c.downward.k in
     let lt : k < a.lines = omega (arith, c.downward-test.true) in
     rw c.down_by-in-downward.ensures
-    (place_after_above (windows a.self.now) (windows c.downward.self) a.to.win.0 (rectangle_copied (windows a.self.now).window a.from.win.0 a.from.line a.from.column a.to.line a.to.column k a.columns a.overlay) a.to.win.0 (a.to.line + a.lines - 1) (a.to.column + a.columns - 1) (a.to.line + k)
+    (place_after_above (windows a.self.now) (windows c.downward.self) a.to.win.0 (rectangle_copied (windows a.self.now).window a.from.win.0 a.from.line a.from.column a.to.line a.to.column k
+    a.columns a.overlay) a.to.win.0 (a.to.line + a.lines - 1) (a.to.column + a.columns - 1) (a.to.line + k)
     c.downward.invariant.written c.requires.to (omega (arith, lt)))
 
 pub downward-preserved : goal.downward-preserved
@@ -42,8 +44,10 @@ downward-preserved c =
     let v = windows c.downward.self in
     let from : GridPlace = record { grid = c.origin_of-source.result.grid; line = c.origin_of-source.result.line; column = c.origin_of-source.result.column } in
     let to : GridPlace = record { grid = c.origin_of-target.result.grid; line = c.origin_of-target.result.line; column = c.origin_of-target.result.column } in
-    let leads_from : own w.window a.from.win.0 0 0 ≡ Some from = subst (λ (t : Grids). own (window_map t.slots) a.from.win.0 0 0 ≡ Some from) c.self.view_is (rw c.deref.ensures.value at c.origin_of-source.ensures.leads) in
-    let leads_to : own w.window a.to.win.0 0 0 ≡ Some to = subst (λ (t : Grids). own (window_map t.slots) a.to.win.0 0 0 ≡ Some to) c.self.view_is (rw c.deref-2.ensures.value at c.origin_of-target.ensures.leads) in
+    let leads_from : own w.window a.from.win.0 0 0 ≡ Some from = subst (λ (t : Grids). own (window_map t.slots) a.from.win.0 0 0 ≡ Some from) c.self.view_is
+    (rw c.deref.ensures.value at c.origin_of-source.ensures.leads) in
+    let leads_to : own w.window a.to.win.0 0 0 ≡ Some to = subst (λ (t : Grids). own (window_map t.slots) a.to.win.0 0 0 ≡ Some to) c.self.view_is
+    (rw c.deref-2.ensures.value at c.origin_of-target.ensures.leads) in
     let there = window_there w a.to.win.0 (a.to.line + a.lines - 1) (a.to.column + a.columns - 1) c.requires.to in
     let f = rectangle_copied w.window a.from.win.0 a.from.line a.from.column a.to.line a.to.column k a.columns a.overlay in
     let now = copied v.window a.from.win.0 (a.from.line + k) a.from.column (a.to.line + k) a.to.column a.columns a.overlay in
@@ -73,7 +77,8 @@ copy_line-copied-requires-in-upward-clause-from c =
     let a = c.args in let k = c.upward.k in
     let lt : k - 1 < a.lines = omega (arith, c.upward-test.true, c.upward.auto.k) in
     rw c.down_by-in-upward.ensures
-    (place_after_above (windows a.self.now) (windows c.upward.self) a.to.win.0 (rectangle_copied (windows a.self.now).window a.from.win.0 (a.from.line + k) a.from.column (a.to.line + k) a.to.column (a.lines - k) a.columns a.overlay) a.from.win.0 (a.from.line + a.lines - 1) (a.from.column + a.columns - 1) (a.from.line + (k - 1))
+    (place_after_above (windows a.self.now) (windows c.upward.self) a.to.win.0 (rectangle_copied (windows a.self.now).window a.from.win.0 (a.from.line + k) a.from.column (a.to.line + k) a.to.column
+    (a.lines - k) a.columns a.overlay) a.from.win.0 (a.from.line + a.lines - 1) (a.from.column + a.columns - 1) (a.from.line + (k - 1))
     c.upward.invariant.written c.requires.from (omega (arith, lt)))
 
 pub copy_line-copied-requires-in-upward-clause-to : goal.copy_line-copied-requires-in-upward-clause-to
@@ -81,7 +86,8 @@ copy_line-copied-requires-in-upward-clause-to c =
     let a = c.args in let k = c.upward.k in
     let lt : k - 1 < a.lines = omega (arith, c.upward-test.true, c.upward.auto.k) in
     rw c.down_by-in-upward-2.ensures
-    (place_after_above (windows a.self.now) (windows c.upward.self) a.to.win.0 (rectangle_copied (windows a.self.now).window a.from.win.0 (a.from.line + k) a.from.column (a.to.line + k) a.to.column (a.lines - k) a.columns a.overlay) a.to.win.0 (a.to.line + a.lines - 1) (a.to.column + a.columns - 1) (a.to.line + (k - 1))
+    (place_after_above (windows a.self.now) (windows c.upward.self) a.to.win.0 (rectangle_copied (windows a.self.now).window a.from.win.0 (a.from.line + k) a.from.column (a.to.line + k) a.to.column
+    (a.lines - k) a.columns a.overlay) a.to.win.0 (a.to.line + a.lines - 1) (a.to.column + a.columns - 1) (a.to.line + (k - 1))
     c.upward.invariant.written c.requires.to (omega (arith, lt)))
 
 pub upward-preserved : goal.upward-preserved
@@ -93,22 +99,28 @@ upward-preserved c =
     let one : c.upward.k ≡ k + 1 = omega (arith, c.upward-test.true) in
     let from : GridPlace = record { grid = c.origin_of-source.result.grid; line = c.origin_of-source.result.line; column = c.origin_of-source.result.column } in
     let to : GridPlace = record { grid = c.origin_of-target.result.grid; line = c.origin_of-target.result.line; column = c.origin_of-target.result.column } in
-    let leads_from : own w.window a.from.win.0 0 0 ≡ Some from = subst (λ (t : Grids). own (window_map t.slots) a.from.win.0 0 0 ≡ Some from) c.self.view_is (rw c.deref.ensures.value at c.origin_of-source.ensures.leads) in
-    let leads_to : own w.window a.to.win.0 0 0 ≡ Some to = subst (λ (t : Grids). own (window_map t.slots) a.to.win.0 0 0 ≡ Some to) c.self.view_is (rw c.deref-2.ensures.value at c.origin_of-target.ensures.leads) in
+    let leads_from : own w.window a.from.win.0 0 0 ≡ Some from = subst (λ (t : Grids). own (window_map t.slots) a.from.win.0 0 0 ≡ Some from) c.self.view_is
+    (rw c.deref.ensures.value at c.origin_of-source.ensures.leads) in
+    let leads_to : own w.window a.to.win.0 0 0 ≡ Some to = subst (λ (t : Grids). own (window_map t.slots) a.to.win.0 0 0 ≡ Some to) c.self.view_is
+    (rw c.deref-2.ensures.value at c.origin_of-target.ensures.leads) in
     let there = window_there w a.to.win.0 (a.to.line + a.lines - 1) (a.to.column + a.columns - 1) c.requires.to in
     let f = rectangle_copied w.window a.from.win.0 (a.from.line + (k + 1)) a.from.column (a.to.line + (k + 1)) a.to.column (a.lines - (k + 1)) a.columns a.overlay in
     let now = copied v.window a.from.win.0 (a.from.line + k) a.from.column (a.to.line + k) a.to.column a.columns a.overlay in
     let h = copied w.window a.from.win.0 (a.from.line + k) a.from.column (a.to.line + k) a.to.column a.columns a.overlay in
     let g = rectangle_copied w.window a.from.win.0 (a.from.line + k) a.from.column (a.to.line + k) a.to.column (a.lines - k) a.columns a.overlay in
     let before : v ≡ put w a.to.win.0 f =
-    subst (λ j. v ≡ put w a.to.win.0 (rectangle_copied w.window a.from.win.0 (a.from.line + j) a.from.column (a.to.line + j) a.to.column (a.lines - j) a.columns a.overlay)) one c.upward.invariant.written in
+    subst (λ j. v ≡ put w a.to.win.0 (rectangle_copied w.window a.from.win.0 (a.from.line + j) a.from.column (a.to.line + j) a.to.column (a.lines - j) a.columns a.overlay)) one
+    c.upward.invariant.written in
     let framed : c.upward.frame ≡ drawing_frame w a.to.win.0 (λ b. f) =
-    subst (λ j. c.upward.frame ≡ drawing_frame w a.to.win.0 (λ b. rectangle_copied w.window a.from.win.0 (a.from.line + j) a.from.column (a.to.line + j) a.to.column (a.lines - j) a.columns a.overlay)) one c.upward.invariant.frame in
+    subst (λ j. c.upward.frame ≡ drawing_frame w a.to.win.0 (λ b. rectangle_copied w.window a.from.win.0 (a.from.line + j) a.from.column (a.to.line + j) a.to.column
+    (a.lines - j) a.columns a.overlay)) one c.upward.invariant.frame in
     let same : now ≡ h =
     ap (λ (u : Windows). copied u.window a.from.win.0 (a.from.line + k) a.from.column (a.to.line + k) a.to.column a.columns a.overlay) before
-    ∙ upward-same w.window a.from.win.0 a.to.win.0 from to there.0 there.1 leads_to leads_from a.from.line a.from.column a.to.line a.to.column k (a.lines - (k + 1)) a.columns a.overlay c.if-target-to.false in
+    ∙ upward-same w.window a.from.win.0 a.to.win.0 from to there.0 there.1 leads_to leads_from a.from.line a.from.column a.to.line a.to.column k
+    (a.lines - (k + 1)) a.columns a.overlay c.if-target-to.false in
     let join = line-before w.window a.from.win.0 a.from.column a.to.column a.columns a.overlay a.from.line a.to.line k a.lines lt in
-    let written : windows c.copy_line-copied-in-upward.new.self ≡ put v a.to.win.0 now = rw (c.down_by-in-upward.ensures, c.down_by-in-upward-2.ensures) at c.copy_line-copied-in-upward.ensures.written in
+    let written : windows c.copy_line-copied-in-upward.new.self ≡ put v a.to.win.0 now = rw (c.down_by-in-upward.ensures, c.down_by-in-upward-2.ensures) at
+    c.copy_line-copied-in-upward.ensures.written in
     record {
       written = copy-step w v (windows c.copy_line-copied-in-upward.new.self) a.to.win.0 f now h g before same join written;
       frame = frame-step w v a.to.win.0 f now h g c.upward.frame c.copy_line-copied-in-upward.result c.joined-frame-in-upward.result before same join framed

@@ -15,7 +15,8 @@ returns-clause-written c =
     elim c.if-lines-gt0.branch [
       | then-lines-gt0+then-columns-gt0 k ↦ ap (λ (g : Grids). windows g) k.self-is ∙ k.copy_lines-frame.ensures.written
       | else-lines-gt0 k ↦ ap (λ (g : Grids). windows g) k.self-is ∙ elim k.else-lines-gt0.branch [
-        | else-lines-gt0-via-then-lines-gt0+else-columns-gt0 j ↦ put-none w a.dst.0 f (no-columns w.window a.src.0 a.sy a.sx a.dy a.dx a.lines a.columns a.overlay (omega (arith, j.if-columns-gt0.false)))
+        | else-lines-gt0-via-then-lines-gt0+else-columns-gt0 j ↦ put-none w a.dst.0 f (no-columns w.window a.src.0 a.sy a.sx a.dy a.dx a.lines a.columns a.overlay
+            (omega (arith, j.if-columns-gt0.false)))
         | else-lines-gt0-via-else-lines-gt0 j ↦ put-none w a.dst.0 f (no-lines w.window a.src.0 a.sy a.sx a.dy a.dx a.lines a.columns a.overlay (omega (arith, j.if-lines-gt0.false)))
       ]
     ]
@@ -28,7 +29,8 @@ returns-clause-frame c =
     elim c.if-lines-gt0.branch [
       | then-lines-gt0+then-columns-gt0 k ↦ k.frame-is ∙ k.copy_lines-frame.ensures.frame
       | else-lines-gt0 k ↦ k.frame-is ∙ elim k.else-lines-gt0.branch [
-        | else-lines-gt0-via-then-lines-gt0+else-columns-gt0 j ↦ sym (nothing-frame w a.dst.0 f (no-columns w.window a.src.0 a.sy a.sx a.dy a.dx a.lines a.columns a.overlay (omega (arith, j.if-columns-gt0.false))))
+        | else-lines-gt0-via-then-lines-gt0+else-columns-gt0 j ↦ sym (nothing-frame w a.dst.0 f (no-columns w.window a.src.0 a.sy a.sx a.dy a.dx a.lines a.columns a.overlay
+            (omega (arith, j.if-columns-gt0.false))))
         | else-lines-gt0-via-else-lines-gt0 j ↦ sym (nothing-frame w a.dst.0 f (no-lines w.window a.src.0 a.sy a.sx a.dy a.dx a.lines a.columns a.overlay (omega (arith, j.if-lines-gt0.false))))
       ]
     ]

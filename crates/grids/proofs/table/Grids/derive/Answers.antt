@@ -60,4 +60,5 @@ returns-clause-made c =
     rw (← c.self.view_is, next)
     (windows-added t c.fill_slot_at.new.slots.items n c.in_ok-slot.slot c.in_ok-fill_slot_at.ensures.set
     (new_window c.in_ok-lines.lines c.in_ok-columns.columns (place_from p.place a.y a.x) (part_of a.win.0 a.y a.x)) made
-    ∙ ap (numbered (windows t) n) (made_derived (window_map t.slots) p a.win.0 a.nlines a.ncols a.y a.x c.in_ok-lines.lines c.in_ok-columns.columns (ap (option_map window_of) e) lines.given columns.given))
+    ∙ ap (numbered (windows t) n) (made_derived (window_map t.slots) p a.win.0 a.nlines a.ncols a.y a.x c.in_ok-lines.lines c.in_ok-columns.columns
+    (ap (option_map window_of) e) lines.given columns.given))

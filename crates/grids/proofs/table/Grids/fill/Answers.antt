@@ -11,7 +11,8 @@ invariant_of-self c =
     let a = c.args in
     let o = c.origin_of-origin.result in
     let t = the_view c.self.inside in
-    let s = IsWindowTable-changed t c.fill_row.new.slots.items o.grid (with_drawing (filled (o.line + a.y) (o.column + a.left) (o.column + a.right) a.cell)) c.self.invariant c.fill_row.ensures (λ b. refl) in
+    let s = IsWindowTable-changed t c.fill_row.new.slots.items o.grid (with_drawing (filled (o.line + a.y) (o.column + a.left) (o.column + a.right) a.cell)) c.self.invariant c.fill_row.ensures
+    (λ b. refl) in
     IsWindowTable-changed (record t { slots = c.fill_row.new.slots.items }) c.touch_row.new.slots.items a.win.0 (with_touched a.y a.left a.right) s c.touch_row.ensures (λ b. refl)
 
 pub returns-clause-written : goal.returns-clause-written
@@ -21,5 +22,6 @@ returns-clause-written c =
     let t = the_view c.self.inside in
     let there = rw (← c.self.view_is) at c.requires.there in
     let leads = rw c.deref.ensures.value at o.ensures.leads in
-    rw (← c.self.view_is) (windows-put_row t c.fill_row.new.slots.items c.touch_row.new.slots.items a.win.0 (record { grid = o.result.grid; line = o.result.line; column = o.result.column }) a.y a.left a.right a.cell
+    rw (← c.self.view_is) (windows-put_row t c.fill_row.new.slots.items c.touch_row.new.slots.items a.win.0
+    (record { grid = o.result.grid; line = o.result.line; column = o.result.column }) a.y a.left a.right a.cell
     there c.requires.ordered leads c.fill_row.ensures c.touch_row.ensures)

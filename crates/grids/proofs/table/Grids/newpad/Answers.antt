@@ -25,4 +25,5 @@ returns-clause-made c =
     let free = rw (c.deref.ensures.value, c.in_ok-number.ensures.ok_part) at c.free_number.ensures.number in
     let next : next_window (windows t) ≡ c.in_ok-number.number = ap (λ o. unwrap_or o standard_screen) (sym free) in
     rw (← c.self.view_is, next)
-    (windows-added t c.fill_slot_at.new.slots.items c.in_ok-number.number c.in_ok-slot.slot c.in_ok-fill_slot_at.ensures.set (new_window c.args.nlines c.args.ncols None blank_grid) c.in_ok-slot.ensures.window)
+    (windows-added t c.fill_slot_at.new.slots.items c.in_ok-number.number c.in_ok-slot.slot c.in_ok-fill_slot_at.ensures.set
+    (new_window c.args.nlines c.args.ncols None blank_grid) c.in_ok-slot.ensures.window)

@@ -35,4 +35,5 @@ returns-clause-made c =
     let free = rw (c.deref.ensures.value, c.in_ok-number.ensures.ok_part) at c.free_number.ensures.number in
     let next : next_window (windows t) ≡ n = ap (λ o. unwrap_or o standard_screen) (sym free) in
     rw (← c.self.view_is, next)
-    (windows-added t c.fill_slot_at.new.slots.items n c.in_ok-slot.slot c.in_ok-fill_slot_at.ensures.set (made (extent a.nlines t.lines a.begin_y) (extent a.ncols t.columns a.begin_x)) (c.in_ok-slot.ensures.window ∙ found))
+    (windows-added t c.fill_slot_at.new.slots.items n c.in_ok-slot.slot c.in_ok-fill_slot_at.ensures.set (made (extent a.nlines t.lines a.begin_y) (extent a.ncols t.columns a.begin_x))
+    (c.in_ok-slot.ensures.window ∙ found))

@@ -23,7 +23,8 @@ returns-else-is_visible-clause-written c =
     let a = c.args in
     let w = windows a.self.now in
     let is : is_some (overlaid true (cell_at w.window a.from.win.0 a.from.line a.from.column)) ≡ false = rw (← c.cell-cell.ensures.cell) (sym c.is_visible.ensures ∙ c.if-is_visible.false) in
-    ap (λ (ws : WindowMap). record w { window = ws }) (sym (put-nothing w.window a.to.win.0 (copied w.window a.from.win.0 a.from.line a.from.column a.to.line a.to.column 1 true) (one-hidden w.window a.from.win.0 a.from.line a.from.column a.to.line a.to.column true is)))
+    ap (λ (ws : WindowMap). record w { window = ws }) (sym (put-nothing w.window a.to.win.0 (copied w.window a.from.win.0 a.from.line a.from.column a.to.line a.to.column 1 true)
+    (one-hidden w.window a.from.win.0 a.from.line a.from.column a.to.line a.to.column true is)))
 
 pub returns-then-is_visible-clause-frame : goal.returns-then-is_visible-clause-frame
 returns-then-is_visible-clause-frame c =

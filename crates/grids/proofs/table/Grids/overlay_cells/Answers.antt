@@ -24,7 +24,8 @@ overlay_cell-copied-requires-clause-from c =
     let a = c.args in let k = c.forward.k in
     let lt : k < a.n = omega (arith, c.forward-test.true) in
     rw c.right_by.ensures
-    (place_after (windows a.self.now) (windows c.forward.self) a.to.win.0 (copied (windows a.self.now).window a.from.win.0 a.from.line a.from.column a.to.line a.to.column k true) a.from.win.0 a.from.line (a.from.column + a.n - 1) (a.from.column + k)
+    (place_after (windows a.self.now) (windows c.forward.self) a.to.win.0 (copied (windows a.self.now).window a.from.win.0 a.from.line a.from.column a.to.line a.to.column k true) a.from.win.0
+    a.from.line (a.from.column + a.n - 1) (a.from.column + k)
     c.forward.invariant.written c.requires.from (omega (arith, lt)))
 
 pub overlay_cell-copied-requires-clause-to : goal.overlay_cell-copied-requires-clause-to
@@ -32,7 +33,8 @@ overlay_cell-copied-requires-clause-to c =
     let a = c.args in let k = c.forward.k in
     let lt : k < a.n = omega (arith, c.forward-test.true) in
     rw c.right_by-in-forward.ensures
-    (place_after (windows a.self.now) (windows c.forward.self) a.to.win.0 (copied (windows a.self.now).window a.from.win.0 a.from.line a.from.column a.to.line a.to.column k true) a.to.win.0 a.to.line (a.to.column + a.n - 1) (a.to.column + k)
+    (place_after (windows a.self.now) (windows c.forward.self) a.to.win.0 (copied (windows a.self.now).window a.from.win.0 a.from.line a.from.column a.to.line a.to.column k true) a.to.win.0
+    a.to.line (a.to.column + a.n - 1) (a.to.column + k)
     c.forward.invariant.written c.requires.to (omega (arith, lt)))
 
 pub forward-preserved : goal.forward-preserved
@@ -43,8 +45,10 @@ forward-preserved c =
     let lt : k < a.n = omega (arith, c.forward-test.true) in
     let from : GridPlace = record { grid = c.origin_of-source.result.grid; line = c.origin_of-source.result.line; column = c.origin_of-source.result.column } in
     let to : GridPlace = record { grid = c.origin_of-target.result.grid; line = c.origin_of-target.result.line; column = c.origin_of-target.result.column } in
-    let leads_from : own w.window a.from.win.0 0 0 ≡ Some from = subst (λ (t : Grids). own (window_map t.slots) a.from.win.0 0 0 ≡ Some from) c.self.view_is (rw c.deref.ensures.value at c.origin_of-source.ensures.leads) in
-    let leads_to : own w.window a.to.win.0 0 0 ≡ Some to = subst (λ (t : Grids). own (window_map t.slots) a.to.win.0 0 0 ≡ Some to) c.self.view_is (rw c.deref-2.ensures.value at c.origin_of-target.ensures.leads) in
+    let leads_from : own w.window a.from.win.0 0 0 ≡ Some from = subst (λ (t : Grids). own (window_map t.slots) a.from.win.0 0 0 ≡ Some from) c.self.view_is
+    (rw c.deref.ensures.value at c.origin_of-source.ensures.leads) in
+    let leads_to : own w.window a.to.win.0 0 0 ≡ Some to = subst (λ (t : Grids). own (window_map t.slots) a.to.win.0 0 0 ≡ Some to) c.self.view_is
+    (rw c.deref-2.ensures.value at c.origin_of-target.ensures.leads) in
     let there = window_there w a.to.win.0 a.to.line (a.to.column + a.n - 1) c.requires.to in
     let f = copied w.window a.from.win.0 a.from.line a.from.column a.to.line a.to.column k true in
     let now = copied v.window a.from.win.0 a.from.line (a.from.column + k) a.to.line (a.to.column + k) 1 true in
@@ -76,7 +80,8 @@ overlay_cell-copied-requires-in-backward-clause-from c =
     let a = c.args in let k = c.backward.k in
     let lt : k - 1 < a.n = omega (arith, c.backward-test.true, c.backward.auto.k) in
     rw c.right_by-in-backward.ensures
-    (place_after (windows a.self.now) (windows c.backward.self) a.to.win.0 (copied (windows a.self.now).window a.from.win.0 a.from.line (a.from.column + k) a.to.line (a.to.column + k) (a.n - k) true) a.from.win.0 a.from.line (a.from.column + a.n - 1) (a.from.column + (k - 1))
+    (place_after (windows a.self.now) (windows c.backward.self) a.to.win.0 (copied (windows a.self.now).window a.from.win.0 a.from.line (a.from.column + k) a.to.line (a.to.column + k)
+    (a.n - k) true) a.from.win.0 a.from.line (a.from.column + a.n - 1) (a.from.column + (k - 1))
     c.backward.invariant.written c.requires.from (omega (arith, lt)))
 
 pub overlay_cell-copied-requires-in-backward-clause-to : goal.overlay_cell-copied-requires-in-backward-clause-to
@@ -84,7 +89,8 @@ overlay_cell-copied-requires-in-backward-clause-to c =
     let a = c.args in let k = c.backward.k in
     let lt : k - 1 < a.n = omega (arith, c.backward-test.true, c.backward.auto.k) in
     rw c.right_by-in-backward-2.ensures
-    (place_after (windows a.self.now) (windows c.backward.self) a.to.win.0 (copied (windows a.self.now).window a.from.win.0 a.from.line (a.from.column + k) a.to.line (a.to.column + k) (a.n - k) true) a.to.win.0 a.to.line (a.to.column + a.n - 1) (a.to.column + (k - 1))
+    (place_after (windows a.self.now) (windows c.backward.self) a.to.win.0 (copied (windows a.self.now).window a.from.win.0 a.from.line (a.from.column + k) a.to.line (a.to.column + k)
+    (a.n - k) true) a.to.win.0 a.to.line (a.to.column + a.n - 1) (a.to.column + (k - 1))
     c.backward.invariant.written c.requires.to (omega (arith, lt)))
 
 pub backward-preserved : goal.backward-preserved
@@ -96,8 +102,10 @@ backward-preserved c =
     let one : c.backward.k ≡ k + 1 = omega (arith, c.backward-test.true) in
     let from : GridPlace = record { grid = c.origin_of-source.result.grid; line = c.origin_of-source.result.line; column = c.origin_of-source.result.column } in
     let to : GridPlace = record { grid = c.origin_of-target.result.grid; line = c.origin_of-target.result.line; column = c.origin_of-target.result.column } in
-    let leads_from : own w.window a.from.win.0 0 0 ≡ Some from = subst (λ (t : Grids). own (window_map t.slots) a.from.win.0 0 0 ≡ Some from) c.self.view_is (rw c.deref.ensures.value at c.origin_of-source.ensures.leads) in
-    let leads_to : own w.window a.to.win.0 0 0 ≡ Some to = subst (λ (t : Grids). own (window_map t.slots) a.to.win.0 0 0 ≡ Some to) c.self.view_is (rw c.deref-2.ensures.value at c.origin_of-target.ensures.leads) in
+    let leads_from : own w.window a.from.win.0 0 0 ≡ Some from = subst (λ (t : Grids). own (window_map t.slots) a.from.win.0 0 0 ≡ Some from) c.self.view_is
+    (rw c.deref.ensures.value at c.origin_of-source.ensures.leads) in
+    let leads_to : own w.window a.to.win.0 0 0 ≡ Some to = subst (λ (t : Grids). own (window_map t.slots) a.to.win.0 0 0 ≡ Some to) c.self.view_is
+    (rw c.deref-2.ensures.value at c.origin_of-target.ensures.leads) in
     let there = window_there w a.to.win.0 a.to.line (a.to.column + a.n - 1) c.requires.to in
     let f = copied w.window a.from.win.0 a.from.line (a.from.column + (k + 1)) a.to.line (a.to.column + (k + 1)) (a.n - (k + 1)) true in
     let now = copied v.window a.from.win.0 a.from.line (a.from.column + k) a.to.line (a.to.column + k) 1 true in
@@ -106,12 +114,14 @@ backward-preserved c =
     let before : v ≡ put w a.to.win.0 f =
     subst (λ j. v ≡ put w a.to.win.0 (copied w.window a.from.win.0 a.from.line (a.from.column + j) a.to.line (a.to.column + j) (a.n - j) true)) one c.backward.invariant.written in
     let framed : c.backward.frame ≡ drawing_frame w a.to.win.0 (λ b. f) =
-    subst (λ j. c.backward.frame ≡ drawing_frame w a.to.win.0 (λ b. copied w.window a.from.win.0 a.from.line (a.from.column + j) a.to.line (a.to.column + j) (a.n - j) true)) one c.backward.invariant.frame in
+    subst (λ j. c.backward.frame ≡ drawing_frame w a.to.win.0 (λ b. copied w.window a.from.win.0 a.from.line (a.from.column + j) a.to.line (a.to.column + j) (a.n - j) true)) one
+    c.backward.invariant.frame in
     let same : now ≡ h = one-same v.window w.window a.from.win.0 a.from.line (a.from.column + k) a.to.line (a.to.column + k) true
     (ap (λ (u : Windows). cell_at u.window a.from.win.0 a.from.line (a.from.column + k)) before
     ∙ backward-read w.window a.from.win.0 a.to.win.0 from to there.0 a.from.line a.from.column a.to.line a.to.column k (a.n - (k + 1)) true there.1 leads_to leads_from c.if-target-to.false) in
     let join = more-before w.window a.from.win.0 a.from.line a.from.column a.to.line a.to.column k a.n true lt in
-    let written : windows c.overlay_cell-copied-in-backward.new.self ≡ put v a.to.win.0 now = rw (c.right_by-in-backward.ensures, c.right_by-in-backward-2.ensures) at c.overlay_cell-copied-in-backward.ensures.written in
+    let written : windows c.overlay_cell-copied-in-backward.new.self ≡ put v a.to.win.0 now = rw (c.right_by-in-backward.ensures, c.right_by-in-backward-2.ensures) at
+    c.overlay_cell-copied-in-backward.ensures.written in
     record {
       written = copy-step w v (windows c.overlay_cell-copied-in-backward.new.self) a.to.win.0 f now h g before same join written;
       frame = frame-step w v a.to.win.0 f now h g c.backward.frame c.overlay_cell-copied-in-backward.result c.joined-frame-in-backward.result before same join framed

@@ -54,7 +54,8 @@ loop-y-preserved c =
           let shown = rw l.here at v.in-Some.ensures.shown in
           record {
             touched = ap (λ (g : Grids). windows g) v.self-is
-                ∙ next-some w a.win test l.window l.there c.loop-y.y r.first r.last l.below within.0 within.1 (λ x on. same x ∙ shown x on) cur (windows v.touch_columns.new.self) c.loop-y.invariant.touched v.touch_columns.ensures.touched;
+                ∙ next-some w a.win test l.window l.there c.loop-y.y r.first r.last l.below within.0 within.1 (λ x on. same x ∙ shown x on) cur
+                (windows v.touch_columns.new.self) c.loop-y.invariant.touched v.touch_columns.ensures.touched;
             depths = λ u. ap (λ (g : Grids). depth_at g.slots u) v.self-is ∙ v.touch_columns.ensures.depths u ∙ c.loop-y.invariant.depths u;
           }
       | in_default v ↦
