@@ -1,5 +1,6 @@
 -- A piece of a line of a grid that is written at once.
-use Rattle.std.proofs.Common.{◌≡◌, ℕ, suc, ◌∷◌, ◌+◌, ◌-◌, ◌*◌, ◌<◌, ◌≤◌, ◌==◌, ◌&&◌, nat_le, nat_lt, if◌then◌else◌, true, false, List, [], ◌++◌, length, take, drop, get_or, ap, sym, ◌∙◌, refl, arith, inl, inr, ◌⊎◌, length-append, eq-eqb, ne_eqb}
+use Rattle.std.proofs.Common.{◌≡◌, ℕ, suc, ◌∷◌, ◌+◌, ◌-◌, ◌*◌, ◌<◌, ◌≤◌, ◌==◌, ◌&&◌, nat_le, nat_lt, if◌then◌else◌, true, false, List, [], ◌++◌, length, take, drop, get_or, ap, sym, ◌∙◌, refl}
+use Rattle.std.proofs.Common.{arith, inl, inr, ◌⊎◌, length-append, eq-eqb, ne_eqb}
 use Rattle.std.specs.List.{AllByRecursion, splice}
 use Rattle.std.proofs.Math.ListN.{get_or-append}
 use Rattle.std.proofs.Math.Seq.{get_or-append_right}

@@ -1,5 +1,6 @@
 -- Where clap refuses nothing of the words, they name a subcommand and give both numbers.
-use Rattle.std.proofs.Common.{◌≡◌, ◌≤◌, ◌⊎◌, ◌∷◌, ◌||◌, ◌==◌, ℕ, ℤ, Bool, true, false, cond, not, List, [], Option, Some, None, refl, sym, ap, subst, arith, codes, drop, is_some, unwrap_or, ◌∙◌, inl, inr}
+use Rattle.std.proofs.Common.{◌≡◌, ◌≤◌, ◌⊎◌, ◌∷◌, ◌||◌, ◌==◌, ℕ, ℤ, Bool, true, false, cond, not, List, [], Option, Some, None, refl, sym, ap, subst, arith, codes, drop, is_some, unwrap_or, ◌∙◌}
+use Rattle.std.proofs.Common.{inl, inr}
 use Rattle.std.proofs.lemmas.Bool.{both_ways, eq-eqb}
 use Rattle.std.specs.Prelude.{◌≤ℤ◌, IfSome, find, neg_ℤ, option_and_then, pos}
 use Rattle.std.specs.List.{All}

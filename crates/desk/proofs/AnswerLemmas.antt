@@ -9,7 +9,8 @@ use Rattle.desk.specs.States.{IsWithin, state_of}
 use Rattle.script.specs.Words.{placeless}
 use Rattle.world.specs.declared.call.Call.{Call}
 use Rattle.world.specs.declared.call.Call.TheVariants.{Making, Writing, Copying, Query, Stacking, Refresh}
-use Rattle.world.specs.declared.call.Writing.TheVariants.{Move, Addch, Addstr, Insch, Delch, Insertln, Deleteln, Erase, Clear, Clrtoeol, Clrtobot, Scrl, Setscrreg, Scrollok, Clearok, Attrset, Attron, Attroff, Bkgdset, ColorSet, Bkgdpair}
+use Rattle.world.specs.declared.call.Writing.TheVariants.{Move, Addch, Addstr, Insch, Delch, Insertln, Deleteln, Erase, Clear, Clrtoeol, Clrtobot, Scrl, Setscrreg, Scrollok, Clearok, Attrset}
+use Rattle.world.specs.declared.call.Writing.TheVariants.{Attron, Attroff, Bkgdset, ColorSet, Bkgdpair}
 use Rattle.world.specs.declared.call.Reply.{Reply}
 use Rattle.desk.specs.declared.screen.Fault.TheVariants.{Refused, Write}
 use Rattle.desk.specs.States.{ScreenOver}

@@ -1,5 +1,6 @@
 -- What one more byte does to where a reader stands.
-use Rattle.std.proofs.Common.{◌≡◌, ℕ, ◌+◌, ◌*◌, ◌-◌, ◌<◌, ◌≤◌, Bool, true, false, List, [], ◌∷◌, ◌++◌, length, map, Option, Some, None, inl, inr, refl, sym, ap, ◌∙◌, subst, arith, append_assoc, length-append}
+use Rattle.std.proofs.Common.{◌≡◌, ℕ, ◌+◌, ◌*◌, ◌-◌, ◌<◌, ◌≤◌, Bool, true, false, List, [], ◌∷◌, ◌++◌, length, map, Option, Some, None, inl, inr, refl, sym, ap, ◌∙◌, subst, arith, append_assoc}
+use Rattle.std.proofs.Common.{length-append}
 use Rattle.std.specs.Prelude.{◌⊎◌, if◌then◌else◌, IsTrue, codes}
 use Rattle.std.specs.List.{AllByRecursion, join_with_byte}
 use Rattle.std.specs.Option.{option_and_then}
@@ -11,7 +12,8 @@ use Rattle.std.proofs.lemmas.Str.{digit_value_digit}
 use Rattle.cell.specs.Glyphs.{is_printable}
 use Rattle.ecma.specs.declared.terminal.State.{State}
 use Rattle.ecma.specs.declared.terminal.State.TheVariants.{Text, Escape, Parameters, Failed}
-use Rattle.ecma.specs.Items.{Function, CUP, ED, EL, SGR, Printable, Control, Unfinished, IsDigit, AreParameters, IsBeginning, EndsOrEscapes, final_byte, control_sequence, escape, introducer, separator}
+use Rattle.ecma.specs.Items.{Function, CUP, ED, EL, SGR, Printable, Control, Unfinished, IsDigit, AreParameters, IsBeginning, EndsOrEscapes, final_byte, control_sequence, escape, introducer}
+use Rattle.ecma.specs.Items.{separator}
 use Rattle.ecma.specs.Terminals.{Terminal, print, effect}
 use Rattle.ecma.specs.Streams.{FailsAt, IsInProfile, Leads, LeadsWithBreaks}
 use Rattle.ecma.specs.Parameters.{Parameter, parameter_of}

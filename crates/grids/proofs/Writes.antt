@@ -1,5 +1,6 @@
 -- A row written through a window is one put.
-use Rattle.std.proofs.Common.{◌≡◌, ℕ, zero, suc, ◌+◌, ◌-◌, ◌<◌, ◌≤◌, min, max, Bool, true, false, if◌then◌else◌, ◌==◌, ◌&&◌, nat_le, nat_lt, Option, Some, None, is_some, IsSomeAnd, List, length, ap, get_or, arith, refl, sym, ◌∙◌, inl, inr, get_or-set_other, get_or-set_same, eq-eqb, ne_eqb, add-zero, add-suc}
+use Rattle.std.proofs.Common.{◌≡◌, ℕ, zero, suc, ◌+◌, ◌-◌, ◌<◌, ◌≤◌, min, max, Bool, true, false, if◌then◌else◌, ◌==◌, ◌&&◌, nat_le, nat_lt, Option, Some, None, is_some, IsSomeAnd, List, length}
+use Rattle.std.proofs.Common.{ap, get_or, arith, refl, sym, ◌∙◌, inl, inr, get_or-set_other, get_or-set_same, eq-eqb, ne_eqb, add-zero, add-suc}
 use Rattle.std.specs.Option.{option_map}
 use mathlib.Core.Path.{fun_ext}
 use Rattle.std.proofs.lemmas.Bool.{cases_eq, cases_lt, eqb-true, cond-true, cond-false}

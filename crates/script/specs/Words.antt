@@ -11,7 +11,8 @@ use Rattle.world.specs.declared.panel.PanelId.{PanelId}
 use Rattle.world.specs.declared.call.Call.{Call}
 use Rattle.world.specs.declared.call.Call.TheVariants.{Making, Writing, Copying, Query, Stacking, Refresh}
 use Rattle.world.specs.declared.call.Making.TheVariants.{Newwin, Subwin, Derwin, Newpad, Subpad, Delwin, Mvwin, Mvderwin}
-use Rattle.world.specs.declared.call.Writing.TheVariants.{Move, Addch, Addstr, Insch, Delch, Insertln, Deleteln, Erase, Clear, Clrtoeol, Clrtobot, Scrl, Setscrreg, Scrollok, Clearok, Attrset, Attron, Attroff, Bkgdset, ColorSet, Bkgdpair}
+use Rattle.world.specs.declared.call.Writing.TheVariants.{Move, Addch, Addstr, Insch, Delch, Insertln, Deleteln, Erase, Clear, Clrtoeol, Clrtobot, Scrl, Setscrreg, Scrollok, Clearok, Attrset}
+use Rattle.world.specs.declared.call.Writing.TheVariants.{Attron, Attroff, Bkgdset, ColorSet, Bkgdpair}
 use Rattle.world.specs.declared.call.Copying.TheVariants.{Overlay, Overwrite, Copywin, Touchwin, Untouchwin, Touchline, Touchln, Syncup, Syncdown, IsLinetouched, IsWintouched}
 use Rattle.world.specs.declared.call.Query.TheVariants.{Getyx, Getbegyx, Getmaxyx, Getparyx, Inch}
 use Rattle.world.specs.declared.call.Stacking.TheVariants.{NewPanel, DelPanel, ShowPanel, HidePanel, TopPanel, BottomPanel, MovePanel, ReplacePanel, PanelAbove, PanelBelow, PanelWindow, PanelHidden}
@@ -20,7 +21,8 @@ use Rattle.script.specs.declared.words.letters.TheConstants.{WORDS}
 use Rattle.script.specs.declared.words.Form.{Form}
 use Rattle.script.specs.declared.words.Form.TheVariants.{Number, NumberOrNone, Signed, Attributes, Flag, Character, Text}
 use Rattle.script.specs.declared.words.Word.{Word}
-use Rattle.script.specs.declared.words.Word.TheVariants.{Making as Making_word, Writing as Writing_word, Copying as Copying_word, Query as Query_word, Stacking as Stacking_word, Refresh as Refresh_word}
+use Rattle.script.specs.declared.words.Word.TheVariants.{Making as Making_word, Writing as Writing_word, Copying as Copying_word, Query as Query_word, Stacking as Stacking_word}
+use Rattle.script.specs.declared.words.Word.TheVariants.{Refresh as Refresh_word}
 use Rattle.script.specs.declared.words.making.MakingWord.{MakingWord}
 use Rattle.script.specs.declared.words.making.MakingWord.TheVariants as making
 use Rattle.script.specs.declared.words.writing.WritingWord.{WritingWord}

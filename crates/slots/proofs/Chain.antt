@@ -1,5 +1,6 @@
 -- The chain of parents: it ends, and it is no longer than the number of windows.
-use Rattle.std.proofs.Common.{◌≡◌, ℕ, zero, suc, ◌+◌, ◌-◌, ◌<◌, ◌≤◌, ◌≢◌, Option, Some, None, MatchOption, IsSome, IsSomeAnd, List, [], ◌∷◌, length, slice_set, ap, arith, refl, sym, ◌∙◌, subst, inl, inr, ◌⊎◌, get_or-set_other}
+use Rattle.std.proofs.Common.{◌≡◌, ℕ, zero, suc, ◌+◌, ◌-◌, ◌<◌, ◌≤◌, ◌≢◌, Option, Some, None, MatchOption, IsSome, IsSomeAnd, List, [], ◌∷◌, length, slice_set, ap, arith, refl, sym, ◌∙◌, subst}
+use Rattle.std.proofs.Common.{inl, inr, ◌⊎◌, get_or-set_other}
 use Rattle.std.specs.Option.{option_map}
 use Rattle.std.proofs.lemmas.Bool.{cases_eq}
 use Rattle.cell.specs.Glyphs.{Glyph}

@@ -1,5 +1,6 @@
 -- The bits of numbers, where one is set or cleared, and the least that is clear.
-use Rattle.std.proofs.Common.{◌≡◌, ◌≢◌, ℕ, zero, suc, ◌+◌, ◌*◌, ◌/◌, ◌%◌, ◌^◌, ◌<◌, ◌≤◌, List, ◌∷◌, length, replicate, get_or, set, slice_index_or, bit_and, bit_or, w64, refl, ap, ◌∙◌, ◌==◌, if◌then◌else◌, inl, inr, arith, get_or-set_same, get_or-set_other}
+use Rattle.std.proofs.Common.{◌≡◌, ◌≢◌, ℕ, zero, suc, ◌+◌, ◌*◌, ◌/◌, ◌%◌, ◌^◌, ◌<◌, ◌≤◌, List, ◌∷◌, length, replicate, get_or, set, slice_index_or, bit_and, bit_or, w64, refl, ap, ◌∙◌, ◌==◌}
+use Rattle.std.proofs.Common.{if◌then◌else◌, inl, inr, arith, get_or-set_same, get_or-set_other}
 use Rattle.std.specs.Int.{bit_at, bit_not, trailing_ones}
 use Rattle.std.proofs.lemmas.Bool.{cases_eq, eq-eqb, ne_eqb}
 use Rattle.std.proofs.lemmas.Nat.Bits.{bit_at-zero, bit_at-pow_other, bit_at_ones, bit_at-trailing_ones, bit_at_set_same, bit_at_set_other, bit_at_clear_same, bit_at_clear_other}

@@ -1,5 +1,6 @@
 -- How the bits of the numbers and the panels of windows follow the nodes.
-use Rattle.std.proofs.Common.{◌≡◌, ℕ, zero, suc, ◌+◌, ◌-◌, ◌<◌, ◌≤◌, ◌==◌, if◌then◌else◌, ◌⊎◌, Option, None, Some, is_some, MatchOption, List, [], ◌∷◌, ◌++◌, length, set, take, replicate, length-set, get_or-set_same, get_or-set_other, sym, ap, ◌∙◌, refl, inl, inr, arith}
+use Rattle.std.proofs.Common.{◌≡◌, ℕ, zero, suc, ◌+◌, ◌-◌, ◌<◌, ◌≤◌, ◌==◌, if◌then◌else◌, ◌⊎◌, Option, None, Some, is_some, MatchOption, List, [], ◌∷◌, ◌++◌, length, set, take, replicate}
+use Rattle.std.proofs.Common.{length-set, get_or-set_same, get_or-set_other, sym, ap, ◌∙◌, refl, inl, inr, arith}
 use Rattle.std.proofs.lemmas.Bool.{cases_eq, eq-eqb, ne_eqb}
 use Rattle.std.proofs.lemmas.List.{length_push, take_all}
 use Rattle.cell.specs.declared.limits.TheConstants.{MOST_PANELS}

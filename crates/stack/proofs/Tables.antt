@@ -1,5 +1,6 @@
 -- Tables of panels: what is known of each, and each call's table.
-use Rattle.std.proofs.Common.{◌≡◌, ℕ, zero, suc, true, false, ◌<◌, ◌==◌, if◌then◌else◌, ◌⊎◌, Option, None, Some, IsSome, MatchOption, List, [], ◌∷◌, ◌++◌, length, slice_index_or, sym, ap, subst, ◌∙◌, refl, inl, inr, arith, lit≤, eqb, All}
+use Rattle.std.proofs.Common.{◌≡◌, ℕ, zero, suc, true, false, ◌<◌, ◌==◌, if◌then◌else◌, ◌⊎◌, Option, None, Some, IsSome, MatchOption, List, [], ◌∷◌, ◌++◌, length, slice_index_or, sym, ap, subst}
+use Rattle.std.proofs.Common.{◌∙◌, refl, inl, inr, arith, lit≤, eqb, All}
 use Rattle.std.specs.List.{AllByRecursion}
 use Rattle.std.specs.Option.{is_none, is_some, option_map}
 use Rattle.std.proofs.lemmas.Bool.{eqb-false}

@@ -9,7 +9,8 @@ use Rattle.stack.specs.Nodes.{no_node, node_at, above_at, below_at, window_in, I
 use Rattle.stack.specs.steps.Links.{Linked, Reordered, SameWindows}
 use Rattle.stack.specs.declared.nodes.Node.{Node}
 use Rattle.stack.proofs.Chains.{Inserted, Removed, chain-back, chain-front, chain-pushed, chain-put, chain-removed, chain-reverse, first-each, last-each, not-first, not-last, way-chain}
-use Rattle.stack.proofs.Orders.{each-append, each-back, each-front, each-reverse, each-weaker, length-once, once-after, once-before, once-push, once-without, out-append, out-back, out-each, out-front, out_or_in, without-out, without-split}
+use Rattle.stack.proofs.Orders.{each-append, each-back, each-front, each-reverse, each-weaker, length-once, once-after, once-before, once-push, once-without, out-append, out-back, out-each}
+use Rattle.stack.proofs.Orders.{out-front, out_or_in, without-out, without-split}
 
 -- ---- the order is what is threaded
 

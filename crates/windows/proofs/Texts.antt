@@ -1,5 +1,6 @@
 -- A text is written character after character: the windows stay, and the rectangle grows.
-use Rattle.std.proofs.Common.{◌≡◌, ℕ, ◌+◌, ◌-◌, ◌<◌, min, max, Bool, true, false, if◌then◌else◌, ◌==◌, nat_lt, Option, Some, None, IsSome, is_some, List, [], ◌∷◌, ◌++◌, length, get_or, take, ap, arith, refl, sym, ◌∙◌}
+use Rattle.std.proofs.Common.{◌≡◌, ℕ, ◌+◌, ◌-◌, ◌<◌, min, max, Bool, true, false, if◌then◌else◌, ◌==◌, nat_lt, Option, Some, None, IsSome, is_some, List, [], ◌∷◌, ◌++◌, length, get_or, take, ap}
+use Rattle.std.proofs.Common.{arith, refl, sym, ◌∙◌}
 use Rattle.std.specs.Option.{option_map}
 use Rattle.std.proofs.lemmas.List.{take_more}
 use Rattle.cell.specs.Pictures.{Place}
@@ -7,7 +8,8 @@ use Rattle.world.specs.Windows.{Window, WindowMap, Windows, GridPlace, Drawing, 
 use Rattle.world.specs.Settings.{set_in, set, with_cursor}
 use Rattle.world.specs.Drawings.{written_glyph, at_place, to_end_of_line}
 use Rattle.world.specs.Frames.{joined}
-use Rattle.world.specs.Typing.{newline, carriage_return, backspace, drawn_to, region_up, scrolls, is_last_line, to_next_line, character_printed, line_ended, typed_in, after_character, frame_of_character, after_text, text_frame}
+use Rattle.world.specs.Typing.{newline, carriage_return, backspace, drawn_to, region_up, scrolls, is_last_line, to_next_line, character_printed, line_ended, typed_in, after_character}
+use Rattle.world.specs.Typing.{frame_of_character, after_text, text_frame}
 use Rattle.cell.specs.declared.window.Rect.{Rect}
 use Rattle.world.specs.declared.settings.Settings.{Settings}
 

@@ -11,7 +11,8 @@ use Rattle.world.specs.Windows.{Windows, put}
 use Rattle.world.specs.Settings.{set, with_cursor}
 use Rattle.world.specs.Drawings.{written_glyph, at_place, to_end_of_line, lines_up}
 use Rattle.world.specs.Frames.{joined, frame_of}
-use Rattle.world.specs.Typing.{scrolls, region_up, to_next_line, next_line_frame, character_printed, character_frame, line_ended, line_ended_frame, typed_in, typed_frame, after_character, frame_of_character}
+use Rattle.world.specs.Typing.{scrolls, region_up, to_next_line, next_line_frame, character_printed, character_frame, line_ended, line_ended_frame, typed_in, typed_frame, after_character}
+use Rattle.world.specs.Typing.{frame_of_character}
 use Rattle.cell.specs.declared.window.Rect.{Rect}
 use Rattle.world.specs.declared.settings.Settings.{Settings}
 use Rattle.windows.specs.steps.State.{IsStateOf, window_in_state}

@@ -9,7 +9,8 @@ use Rattle.world.specs.Windows.{Window, WindowMap, Windows, is_missing, window_l
 use Rattle.world.specs.Panels.{Panels, is_in_panel, standard_screen}
 use Rattle.world.specs.Sound.{AreSoundPanels, IsSoundPanel}
 use Rattle.world.specs.Effects.{Change, asks, deletes, edits, makes, marks, moves, shifts}
-use Rattle.world.specs.calls.Making.{columns_from, free_among, has_derived, has_no_parent, is_before, is_full, is_inside, is_no_pad, is_outside, is_pad, lines_from, making_change, making_refusal, new_number, part_tests}
+use Rattle.world.specs.calls.Making.{columns_from, free_among, has_derived, has_no_parent, is_before, is_full, is_inside, is_no_pad, is_outside, is_pad, lines_from, making_change, making_refusal}
+use Rattle.world.specs.calls.Making.{new_number, part_tests}
 use Rattle.world.proofs.PanelLaws.{in_panel-some}
 use Rattle.world.specs.declared.call.Making.{Making}
 use Rattle.world.specs.declared.call.Making.TheVariants.{Newwin, Subwin, Derwin, Newpad, Subpad, Delwin, Mvwin, Mvderwin}

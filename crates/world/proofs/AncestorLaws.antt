@@ -6,7 +6,8 @@ use Rattle.std.specs.List.{list_any}
 use mathlib.Core.Path.{fun_ext}
 use Rattle.std.proofs.lemmas.Bool.{eqb-false, ne_eqb, or_parts}
 use Rattle.cell.specs.Glyphs.{blank}
-use Rattle.world.specs.Windows.{Backing, own_grid, part_of, Window, WindowMap, Windows, GridPlace, ancestors_within, cell_at, cell_in_grid, cell_of, changed, derives, leads, own, own_within, parent_number, parent_of, replaced, window_limit}
+use Rattle.world.specs.Windows.{Backing, own_grid, part_of, Window, WindowMap, Windows, GridPlace, ancestors_within, cell_at, cell_in_grid, cell_of, changed, derives, leads, own, own_within}
+use Rattle.world.specs.Windows.{parent_number, parent_of, replaced, window_limit}
 use Rattle.world.proofs.ViewLaws.{same-if}
 use Rattle.world.specs.Effects.{shifted_to, with_offset, with_part}
 

@@ -8,7 +8,8 @@ use Rattle.world.specs.Panels.{Panels}
 use Rattle.world.specs.World.{World}
 use Rattle.world.specs.Drawings.{at_place, to_end_of_line, written_glyph}
 use Rattle.world.specs.Typing.{after_character, after_text, backspace, carriage_return, character_printed, drawn_to, is_last_line, line_ended, newline, region_up, scrolls, to_next_line, typed_in}
-use Rattle.world.specs.Effects.{Change, Edit, Effect, Order, adds, after, after_change, after_edit, arranges, asks, carries, changes, colours, composes, deletes, draws, edits, makes, marks, moves, orders, refreshes, sets, shifts, shows, types, windows_after}
+use Rattle.world.specs.Effects.{Change, Edit, Effect, Order, adds, after, after_change, after_edit, arranges, asks, carries, changes, colours, composes, deletes, draws, edits, makes, marks}
+use Rattle.world.specs.Effects.{moves, orders, refreshes, sets, shifts, shows, types, windows_after}
 use Rattle.world.specs.calls.Dispatch.{effect_of, world_after}
 use Rattle.world.specs.declared.call.Call.{Call}
 

@@ -1,12 +1,14 @@
 -- Laws of windows that share cells.
-use Rattle.std.proofs.Common.{◌≡◌, ℕ, zero, suc, ◌+◌, ◌-◌, ◌<◌, min, max, Bool, true, false, if◌then◌else◌, ◌==◌, ◌&&◌, ◌||◌, nat_lt, nat_le, Option, Some, None, is_some, IsSome, IsSomeAnd, unwrap_or, subst, ◌≤◌, inl, inr, ap, arith, refl, sym, ◌∙◌, zero-add, eq-eqb}
+use Rattle.std.proofs.Common.{◌≡◌, ℕ, zero, suc, ◌+◌, ◌-◌, ◌<◌, min, max, Bool, true, false, if◌then◌else◌, ◌==◌, ◌&&◌, ◌||◌, nat_lt, nat_le, Option, Some, None, is_some, IsSome, IsSomeAnd}
+use Rattle.std.proofs.Common.{unwrap_or, subst, ◌≤◌, inl, inr, ap, arith, refl, sym, ◌∙◌, zero-add, eq-eqb}
 use Rattle.std.specs.Prelude.{option_and_then}
 use Rattle.std.specs.Option.{option_map, option_map_or}
 use mathlib.Core.Path.{fun_ext}
 use Rattle.std.proofs.lemmas.Bool.{cases_lt, lt-ltb, le-ltb, le-leb, lt-leb, eqb-true}
 use Rattle.std.proofs.lemmas.Bool.Decides.{nat_tests}
 use Rattle.cell.specs.Glyphs.{Glyph, blank}
-use Rattle.world.specs.Windows.{Backing, own_grid, part_of, Window, WindowMap, GridPlace, Drawing, leads, own_within, own, cell_of, cell_in_grid, cell_at, within, moved, laid_over, joined_columns, touched_below, touched_by, drawn, put_from, put_windows, HasPlace, window_limit, onward, over}
+use Rattle.world.specs.Windows.{Backing, own_grid, part_of, Window, WindowMap, GridPlace, Drawing, leads, own_within, own, cell_of, cell_in_grid, cell_at, within, moved, laid_over}
+use Rattle.world.specs.Windows.{joined_columns, touched_below, touched_by, drawn, put_from, put_windows, HasPlace, window_limit, onward, over}
 use Rattle.world.specs.declared.settings.Columns.{Columns}
 
 -- a window's places lead to the places of one rectangle of a grid: own is own of (0, 0), moved

@@ -9,7 +9,8 @@ use Rattle.world.specs.Drawings.{at_place, to_end_of_line, written_glyph}
 use Rattle.world.specs.Frames.{Covers, IsFrameOf, frame_of, joined}
 use Rattle.world.specs.Panels.{Panels, first_panels, found_from_top, holds, standard_screen}
 use Rattle.world.specs.Sound.{AreSoundWindows}
-use Rattle.world.specs.Typing.{after_character, after_text, backspace, carriage_return, character_frame, character_printed, drawn_to, frame_of_character, is_last_line, line_ended, line_ended_frame, newline, next_line_frame, region_up, scrolls, text_frame, to_next_line, typed_frame, typed_in}
+use Rattle.world.specs.Typing.{after_character, after_text, backspace, carriage_return, character_frame, character_printed, drawn_to, frame_of_character, is_last_line, line_ended}
+use Rattle.world.specs.Typing.{line_ended_frame, newline, next_line_frame, region_up, scrolls, text_frame, to_next_line, typed_frame, typed_in}
 use Rattle.world.specs.Effects.{Edit, after_edit, draws, edit_frame, edit_window, sets, types}
 use Rattle.world.specs.calls.Affected.{edit_shows_at, frame_shows_at}
 use Rattle.world.proofs.FrameLaws.{frame_of-is}

@@ -8,7 +8,8 @@ use Rattle.world.specs.Windows.{WindowMap, Windows, any_below, derives}
 use Rattle.world.specs.Panels.{Panels, holds, panel_holds, place_of, windows_from_top, windows_of_picture}
 use Rattle.world.specs.World.{World}
 use Rattle.world.specs.Sharing.{shows_part_of}
-use Rattle.world.specs.Effects.{Edit, edit_frame, edit_window, Change, asks, edits, marks, makes, deletes, moves, shifts, Order, changes, adds, orders, carries, Effect, arranges, refreshes, composes, shows, colours, panels_after, windows_after}
+use Rattle.world.specs.Effects.{Edit, edit_frame, edit_window, Change, asks, edits, marks, makes, deletes, moves, shifts, Order, changes, adds, orders, carries, Effect, arranges, refreshes}
+use Rattle.world.specs.Effects.{composes, shows, colours, panels_after, windows_after}
 use Rattle.world.specs.calls.Dispatch.{effect_of, is_update_panels, refusal, world_after}
 use Rattle.cell.specs.declared.window.Rect.{Rect}
 use Rattle.world.specs.declared.call.Call.{Call}

@@ -1,5 +1,6 @@
 use Rattle.std.proofs.Common.{◌<◌, length, arith}
-use Rattle.script.proofs.ByteLemmas.{ends_behind, gathered_failed, gathered_last, gathered_line, gathered_more, gathered_none, gathered_too_long, more_read, none_read, not_newline, full_line, room_left}
+use Rattle.script.proofs.ByteLemmas.{ends_behind, gathered_failed, gathered_last, gathered_line, gathered_more, gathered_none, gathered_too_long, more_read, none_read, not_newline, full_line}
+use Rattle.script.proofs.ByteLemmas.{room_left}
 use Rattle.script.specs.declared.limits.TheConstants.{LONGEST_LINE}
 use Rattle.script.proofs.bytes.Bytes.next_line.Goals as goal
 
