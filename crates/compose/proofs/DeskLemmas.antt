@@ -91,7 +91,7 @@ pub IsSound-pairs : (w : WindowTable) (ps : PanelTable) (old new : Pairs) (virtu
     → IsSound (world (desk_of w ps new virtual))
 IsSound-pairs w ps old new virtual h pairs = record { windows = h.windows; panels = h.panels; pairs = pairs; virtual = h.virtual }
 
-world-left : (old new : DeskTable) (call : Call) → MayLeave old call new → world new ≡ world_after (world old) call
+pub world-left : (old new : DeskTable) (call : Call) → MayLeave old call new → world new ≡ world_after (world old) call
 world-left old new (calls.Making making) h = h
 world-left old new (calls.Writing writing) h = h
 world-left old new (calls.Copying copying) h = h

@@ -14,9 +14,9 @@ use Rattle.paint.proofs.Copying.{same-outside}
 use Rattle.std.specs.Prelude.{⊤, if◌then◌else◌}
 use Rattle.world.specs.Panels.{cell_on_screen, holds_place, screen_place}
 use Rattle.cell.specs.declared.refusal.Refusal.{Refusal}
-use Rattle.compose.specs.Calling.{Called, MayLeave}
+use Rattle.compose.specs.Calling.{Called}
 use Rattle.compose.specs.Desks.{DeskTable, world}
-use Rattle.compose.proofs.DeskLemmas.{size-called}
+use Rattle.compose.proofs.DeskLemmas.{size-called, world-left}
 use Rattle.desk.specs.States.{IsKept}
 use Rattle.paint.specs.Changes.{DifferOnly}
 use Rattle.paint.specs.Updates.{PainterState}
@@ -24,7 +24,6 @@ use Rattle.world.specs.World.{World}
 use Rattle.world.specs.calls.Copying.{copywin_drawing}
 use Rattle.world.specs.calls.Dispatch.{refusal, world_after}
 use Rattle.world.specs.declared.call.Call.{Call}
-use Rattle.world.specs.declared.call.Call.TheVariants as calls
 use Rattle.world.specs.declared.call.Reply.{Reply}
 use Rattle.world.specs.Windows.{Window, WindowMap}
 use Rattle.world.specs.calls.Queries.{place_on_screen, touched_columns}
@@ -100,14 +99,6 @@ pub untouched : (window : WindowMap) (w top left y u : ℕ) → place_on_screen 
 untouched window w top left y u is none = ap (λ b. if b then Some (cell_on_screen window w (top + y) u) else None) (not-touched (window w) top left y u is none)
 
 -- ---- what the painter must be told of
-
-world-left : (old new : DeskTable) (call : Call) → MayLeave old call new → world new ≡ world_after (world old) call
-world-left old new (calls.Making making) h = h
-world-left old new (calls.Writing writing) h = h
-world-left old new (calls.Copying copying) h = h
-world-left old new (calls.Query query) h = ap world h
-world-left old new (calls.Stacking stacking) h = h
-world-left old new (calls.Refresh refresh) h = h
 
 -- a call leaves what it doesn't change, so that only what is added may be changed now
 pub kept-called : (old new : DeskTable) (call : Call) (r : Result Reply Refusal) (painter : PainterState) (changes wide : List Stretch) → Called old call r new
