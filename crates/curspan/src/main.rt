@@ -47,6 +47,3 @@ fn run<L: Sink>(rt: &HostRuntime, log: &mut L) -> io::Result<u8> {
     let mut out = Counted::new(BufWriter::with_capacity(alloc, WRITTEN_AT_ONCE, rt.stdout())?);
     Ok(serve(alloc, words.as_slice(), &mut input, &mut out, log))
 }
-
-#[cfg(test)]
-mod tests;
