@@ -17,4 +17,4 @@ unreachable-requires-in-Err-clearok c =
 pub returns-clause-unmarked : goal.returns-clause-unmarked
 returns-clause-unmarked c =
     let a = c.args in
-    c.in-Ok-clearok.ensures.set ∙ ap (λ (v : Windows). after_writing v (Clearok a.win false)) c.in-Ok.ensures.touched ∙ lines-unmarked (windows a.windows.now.table) a.win a.first a.n
+    c.in-Ok-clearok.ensures.written ∙ ap (λ (v : Windows). after_writing v (Clearok a.win false)) c.in-Ok.ensures.touched ∙ lines-unmarked (windows a.windows.now.table) a.win a.first a.n
