@@ -1,4 +1,4 @@
-//! Readers and writers that give or take pieces, that fail, and that count.
+//! Readers and writers that give or take pieces, and that fail.
 
 use std::alloc::Global;
 use std::io;
@@ -83,35 +83,6 @@ impl Write for Halting {
             self.stop = None;
             return Err(io::Error::from(ErrorKind::Other));
         }
-        Ok(())
-    }
-}
-
-/// A writer that takes everything, and counts its calls and the bytes.
-#[derive(Drop)]
-pub(crate) struct Counting {
-    pub(crate) writes: u32,
-    pub(crate) bytes: usize,
-}
-
-impl Counting {
-    /// One that was not called yet.
-    pub(crate) fn new() -> Counting {
-        Counting {
-            writes: 0,
-            bytes: 0,
-        }
-    }
-}
-
-impl Write for Counting {
-    fn write(&mut self, buf: &[u8]) -> io::Result<usize> {
-        self.writes = self.writes.saturating_add(1);
-        self.bytes = self.bytes.saturating_add(buf.len());
-        Ok(buf.len())
-    }
-
-    fn flush(&mut self) -> io::Result<()> {
         Ok(())
     }
 }

@@ -1,7 +1,7 @@
 ghost use Rattle.std.specs.Prelude.{IfOk};
 ghost use Rattle.cell.specs.Pictures.{HasSize};
 
-use crate::faulty::{Counting, Halting};
+use crate::faulty::Halting;
 use cell::{Attr, Colour, ColourPair, Grid, Refusal, Rendition, Shown};
 use paint::{Counted, Painter, Sent, WriteFault};
 use std::alloc::Global;
@@ -127,42 +127,5 @@ fn refuses_other_sizes(rt: HostRuntime) -> Result<(), Fail> {
         );
     }
     let _ = Painter::new(rt.alloc(), 999, 999)?;
-    Ok(())
-}
-
-/// The screen of 5 lines and 900 columns with letters in all lines but the last.
-fn letters(alloc: Global) -> Result<Grid<Shown>, Fail>
-    ensures { IfOk result (λ grid. HasSize 5 900 grid) }
-{
-    let mut grid = Grid::new(alloc, 5, 900)?;
-    let letter = Shown::new(b'x', Rendition::NONE).ok_or("no cell")?;
-    grid.fill(0, 0, 900, letter);
-    grid.fill(1, 0, 900, letter);
-    grid.fill(2, 0, 900, letter);
-    grid.fill(3, 0, 900, letter);
-    Ok(grid)
-}
-
-#[test]
-fn writes_once_up_to_4096_bytes(rt: HostRuntime) -> Result<(), Fail> {
-    let mut picture = letters(rt.alloc())?;
-    let mut painter = Painter::new(rt.alloc(), 5, 900)?;
-    let mut sink = Counted::new(Counting::new());
-    painter.doupdate(&picture, (0, 0), false, &mut sink)?;
-    assert_eq!(rt;
-        (sink.get_ref().writes, sink.get_ref().bytes > 3600),
-        (1, true)
-    );
-    picture.fill(
-        4,
-        0,
-        900,
-        Shown::new(b'y', Rendition::NONE).ok_or("no cell")?,
-    );
-    painter.doupdate(&picture, (0, 0), true, &mut sink)?;
-    assert_eq!(rt;
-        (sink.get_ref().writes, sink.get_ref().bytes > 8100),
-        (3, true)
-    );
     Ok(())
 }
