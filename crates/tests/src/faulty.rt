@@ -1,4 +1,4 @@
-//! Readers and writers that give or take pieces, and that fail.
+//! Readers and writers that give or take pieces, that fail, and that count.
 
 use std::alloc::Global;
 use std::io;
@@ -83,6 +83,23 @@ impl Write for Halting {
             self.stop = None;
             return Err(io::Error::from(ErrorKind::Other));
         }
+        Ok(())
+    }
+}
+
+/// A writer that takes everything, and counts its calls.
+#[derive(Drop)]
+pub(crate) struct Counting {
+    pub(crate) writes: u32,
+}
+
+impl Write for Counting {
+    fn write(&mut self, buf: &[u8]) -> io::Result<usize> {
+        self.writes = self.writes.saturating_add(1);
+        Ok(buf.len())
+    }
+
+    fn flush(&mut self) -> io::Result<()> {
         Ok(())
     }
 }

@@ -1,8 +1,8 @@
-//! Screens over writers that fail, scripts whose reader fails, and what a run counts.
+//! Screens over writers that fail or count, scripts whose reader fails, and what a run counts.
 
-use crate::faulty::{Halting, Pieces};
+use crate::faulty::{Counting, Halting, Pieces};
 use crate::of_desk::{HI, UPDATE, addstr, breaking_after, run, run_script, screen};
-use cell::Rendition;
+use cell::{Attr, Rendition};
 use desk::{
     Call, Counted, CountedReader, Fault, Refusal, Reply, Screen, ScriptEnd, ScriptFault, Sent,
     Sink, TextFault, WinId, WriteFault, Writing,
@@ -151,5 +151,33 @@ fn a_line_is_too_long_before_a_read_fails(rt: HostRuntime) -> Result<(), Fail> {
         );
         assert!(rt; both, "at {letters}");
     }
+    Ok(())
+}
+
+/// How many writes a first frame takes that shows a letter in each cell of lines of 400 columns.
+fn writes_of(alloc: Global, lines: u16) -> Result<u32, Refusal> {
+    let mut screen = Screen::new(alloc, lines, 400, Counted::new(Counting { writes: 0 }))?;
+    let win = WinId(0);
+    let attrs = Attr::NONE;
+    run(
+        &mut screen,
+        &[
+            Call::Writing(Writing::Bkgdset {
+                win,
+                attrs,
+                ch: b'x',
+            }),
+            Call::Writing(Writing::Erase { win }),
+            UPDATE[0],
+            UPDATE[1],
+        ],
+    );
+    Ok(screen.writer().get_ref().writes)
+}
+
+#[test]
+fn a_doupdate_writes_once_up_to_4096_bytes(rt: HostRuntime) -> Result<(), Fail> {
+    assert_eq!(rt; writes_of(rt.alloc(), 10)?, 1);
+    assert_eq!(rt; writes_of(rt.alloc(), 11)?, 2);
     Ok(())
 }
