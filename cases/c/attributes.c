@@ -51,10 +51,7 @@ int main(void) {
     wbkgdset(win, '.');
     mvwaddch(win, 3, 0, ' ');
     waddch(win, ' ' | A_REVERSE);
-    wnoutrefresh(stdscr);
-    wnoutrefresh(win);
-    doupdate();
-    shot();
+    look_over_screen(win);
     mvprintw(20, 0, "of none: %d %d %d", wattron(NULL, A_BOLD), wattrset(NULL, 0), wstandend(NULL));
     refresh();
     shot();

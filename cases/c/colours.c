@@ -45,10 +45,7 @@ int main(void) {
     mvwchgat(win, 0, 4, 2, A_UNDERLINE, 5, NULL);
     wmove(win, 0, 7);
     wchgat(win, 1, A_BLINK, 0, NULL);
-    wnoutrefresh(stdscr);
-    wnoutrefresh(win);
-    doupdate();
-    shot();
+    look_over_screen(win);
     endwin();
     return 0;
 }

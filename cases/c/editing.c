@@ -6,12 +6,6 @@ static void write_lines(WINDOW *win) {
     for (int y = 0; y < getmaxy(win) - 1; y++) mvwprintw(win, y, 0, "%d: the quick brown fox jumps", y);
 }
 
-static void look(WINDOW *win) {
-    wmove(win, 0, 0);
-    wrefresh(win);
-    shot();
-}
-
 int main(void) {
     initscr();
     write_lines(stdscr);
@@ -36,10 +30,10 @@ int main(void) {
     insdelln(-1);
     move(20, 9);
     clrtoeol();
-    look(stdscr);
+    look_at(stdscr);
     move(21, 3);
     clrtobot();
-    look(stdscr);
+    look_at(stdscr);
     WINDOW *win = newwin(10, 30, 5, 40);
     write_lines(win);
     wmove(win, 0, 3);
@@ -60,16 +54,16 @@ int main(void) {
     wmove(win, 1, 0);
     winsdelln(win, -1);
     winsdelln(win, 1);
-    look(win);
+    look_at(win);
     wmove(win, 4, 6);
     wclrtoeol(win);
     wmove(win, 6, 2);
     wclrtobot(win);
-    look(win);
+    look_at(win);
     werase(win);
-    look(win);
+    look_at(win);
     mvprintw(23, 0, "of none: %d %d %d %d", winsch(NULL, 'x'), wdelch(NULL), winsdelln(NULL, 1), werase(NULL));
-    look(stdscr);
+    look_at(stdscr);
     endwin();
     return 0;
 }

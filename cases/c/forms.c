@@ -37,10 +37,7 @@ int main(void) {
     waddchnstr(win, row, 4);
     mvwaddchstr(win, 6, 1, row);
     mvwaddchnstr(win, 7, 1, row, -1);
-    wnoutrefresh(stdscr);
-    wnoutrefresh(win);
-    doupdate();
-    shot();
+    look_over_screen(win);
     mvprintw(22, 0, "outside: %d %d %d", move(-1, 0), mvaddch(0, 80, 'x'), mvwaddstr(win, 8, 0, "x"));
     mvprintw(23, 0, "of none: %d %d %d", wmove(NULL, 0, 0), waddch(NULL, 'x'), waddstr(NULL, "x"));
     refresh();

@@ -26,10 +26,7 @@ int main(void) {
     move(20, 0);
     printw("moved %d", mvwin(win, 8, 30));
     printw(", not moved %d", mvwin(win, 22, 70));
-    wnoutrefresh(stdscr);
-    wnoutrefresh(win);
-    doupdate();
-    shot();
+    look_over_screen(win);
     mvprintw(21, 0, "deleted %d", delwin(rest));
     mvprintw(22, 0, "of none: %d %d %d %d", delwin(NULL), mvwin(NULL, 0, 0), getmaxy(nothing), getcurx(nothing));
     move(23, 0);

@@ -31,10 +31,7 @@ int main(void) {
     waddch(win, 'y');
     waddch(win, '\b');
     waddch(win, '\003');
-    wnoutrefresh(stdscr);
-    wnoutrefresh(win);
-    doupdate();
-    shot();
+    look_over_screen(win);
     endwin();
     return 0;
 }

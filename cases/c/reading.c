@@ -65,10 +65,7 @@ int main(void) {
     winchstr(win, row);
     tell(19, "row", row);
     mvprintw(22, 0, "of none: %d %d", winnstr(NULL, text, 3), winchnstr(NULL, row, 3));
-    wnoutrefresh(stdscr);
-    wnoutrefresh(win);
-    doupdate();
-    shot();
+    look_over_screen(win);
     endwin();
     return 0;
 }

@@ -48,4 +48,19 @@ static inline void fill(WINDOW *win, chtype first) {
     wmove(win, 0, 0);
 }
 
+/* Shows a window with its cursor at its first place, and lets the screen be looked at. */
+static inline void look_at(WINDOW *win) {
+    wmove(win, 0, 0);
+    wrefresh(win);
+    shot();
+}
+
+/* Shows a window over the standard screen, and lets the screen be looked at. */
+static inline void look_over_screen(WINDOW *win) {
+    wnoutrefresh(stdscr);
+    wnoutrefresh(win);
+    doupdate();
+    shot();
+}
+
 #endif
