@@ -43,7 +43,9 @@ same_shown-equal a b h =
 -- ---- each is an equivalence
 
 pub same_glyph-equivalence : IsEquivalence same_glyph
-same_glyph-equivalence = and_equiv (on_equiv (λ (a : Glyph). a.character) nat_eq_equiv) (and_equiv (on_equiv (λ (a : Glyph). a.attributes) nat_eq_equiv) (on_equiv (λ (a : Glyph). a.pair) nat_eq_equiv))
+same_glyph-equivalence =
+    and_equiv (on_equiv (λ (a : Glyph). a.character) nat_eq_equiv)
+    (and_equiv (on_equiv (λ (a : Glyph). a.attributes) nat_eq_equiv) (on_equiv (λ (a : Glyph). a.pair) nat_eq_equiv))
 
 pub same_rendition-equivalence : IsEquivalence same_rendition
 same_rendition-equivalence =
