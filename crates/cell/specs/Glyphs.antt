@@ -1,6 +1,6 @@
 -- What a cell holds: a character that is printed, attributes, and the number of a colour pair.
 -- X/Open Curses Issue 7, "Characters": a `chtype`, of the characters those of ASCII.
-use Rattle.std.specs.Prelude.{ℕ, Bool, ◌&&◌, ◌≤◌, ◌<◌, nat_le}
+use Rattle.std.specs.Prelude.{ℕ, Bool, ◌==◌, ◌&&◌, ◌≤◌, ◌<◌, nat_le}
 use Rattle.cell.specs.declared.limits.TheConstants.{FIRST_CHARACTER, LAST_CHARACTER, LAST_PAIR}
 
 pub record Glyph : Type 0 where
@@ -22,3 +22,6 @@ pub record IsCell (glyph : Glyph) : Type 0 where
   pub to_tilde : glyph.character ≤ LAST_CHARACTER
   pub of_the_six : glyph.attributes < 64
   pub of_the_table : glyph.pair ≤ LAST_PAIR
+
+abbrev pub same_glyph : Glyph → Glyph → Bool
+same_glyph a b = a.character == b.character && (a.attributes == b.attributes && a.pair == b.pair)

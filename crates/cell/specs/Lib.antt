@@ -2,7 +2,10 @@ pub mod Limits
 pub mod Attributes
 pub mod Glyphs
 pub mod Shown
+pub mod Packing
+pub mod PackingLaws
 pub mod Pictures
 pub mod Differences
+pub mod EqualityLaws
 pub mod Grids
 pub mod Refusals

@@ -1,8 +1,9 @@
 //! A cell: a character with attributes and a colour pair.
 
-ghost use Rattle.std.specs.Prelude.{◌≡◌, ◌+◌, ◌*◌, ◌&&◌, nat_le, if◌then◌else◌};
+ghost use Rattle.std.specs.Prelude.{◌≡◌, ◌+◌, ◌*◌, ◌&&◌, ◌<◌, nat_le, if◌then◌else◌, true};
 ghost use Rattle.cell.specs.Attributes.{bits_of, known};
-ghost use Rattle.cell.specs.Glyphs.{IsCell, is_printable};
+ghost use Rattle.cell.specs.Glyphs.{IsCell, is_printable, same_glyph};
+ghost use Rattle.std.specs.Cmp.{partial_equiv_from_equiv};
 ghost use Rattle.cell.specs.declared.limits.TheConstants.{LAST_PAIR};
 
 use crate::attr::Attr;
@@ -11,33 +12,49 @@ use crate::limits::{FIRST_CHARACTER, LAST_CHARACTER};
 use bitflags::Flags;
 use std::marker::Model;
 
-/// A character from 32 to 126 with its attributes and the number of its colour pair.
-#[derive(Clone, Copy, PartialEq, Eq, Debug)]
+/// A character from 32 to 126 with its attributes and the number of its colour pair. It is kept as its number of `bits`.
+#[derive(Clone, Copy, Debug)]
 pub struct Cell {
-    ch: u8,
-    attr: Attr,
-    pair: PairId,
+    bits: u32,
 }
 
 impl Model for Cell {
     ghost use Rattle.cell.specs.Glyphs.{Glyph, IsCell};
+    ghost use Rattle.cell.specs.Packing.{glyph_bits, glyph_of};
+    ghost use Rattle.cell.specs.PackingLaws.{glyph_bits-of};
 
     ghost Value = { Glyph };
 
-    ghost view = { λ c. record { character = c.ch; attributes = c.attr.0; pair = c.pair } };
+    ghost view = { λ c. glyph_of c.bits };
 
-    ghost invariant = { λ c. IsCell (record { character = c.ch; attributes = c.attr.0; pair = c.pair }) };
+    ghost invariant = { λ c. IsCell (glyph_of c.bits) };
 
-    ghost inverse = { λ glyph. record { ch = glyph.character; attr = record { 0 = glyph.attributes }; pair = glyph.pair } };
+    ghost inverse = { λ glyph. record { bits = glyph_bits glyph } };
+
+    ghost inverse_ok = { λ c h i. record { bits = glyph_bits-of c.bits i } };
+}
+
+impl PartialEq for Cell {
+    ghost use Rattle.cell.specs.EqualityLaws.{same_glyph-equivalence};
+
+    ghost eq = { same_glyph };
+
+    ghost laws = { partial_equiv_from_equiv same_glyph-equivalence };
+
+    fn eq(&self, other: &Cell) -> bool {
+        self.bits == other.bits
+    }
+}
+
+impl Eq for Cell {
+    ghost use Rattle.cell.specs.EqualityLaws.{same_glyph-equivalence};
+
+    ghost laws = { same_glyph-equivalence };
 }
 
 impl Cell {
     /// The space without attributes, of pair 0.
-    pub const BLANK: Cell = Cell {
-        ch: b' ',
-        attr: Attr::NONE,
-        pair: PairId::DEFAULT,
-    };
+    pub const BLANK: Cell = Cell { bits: 32 };
 
     /// The cell of a character from 32 to 126 and a pair up to `LAST_PAIR`, and none for others.
     pub fn new(ch: u8, attr: Attr, pair: u16) -> Option<Cell>
@@ -45,14 +62,7 @@ impl Cell {
             then Some (record { character = ch; attributes = known (bits_of attr); pair = pair }) else None) }
     {
         match PairId::new(pair) {
-            Some(pair) if is_printable(ch) => {
-                prove!(pair.is_sound());
-                Some(Cell {
-                    ch,
-                    attr: attr.known(),
-                    pair,
-                })
-            }
+            Some(pair) if is_printable(ch) => Some(packed(ch, attr.known(), pair)),
             _ => None,
         }
     }
@@ -61,8 +71,7 @@ impl Cell {
     pub fn with_pair(self, pair: PairId) -> Cell
         ensures { result ≡ record self { pair = pair } }
     {
-        prove!(pair.is_sound());
-        Cell { pair, ..self }
+        packed(self.ch(), self.attr(), pair)
     }
 
     /// The character.
@@ -70,7 +79,7 @@ impl Cell {
         ensures value { result ≡ self.character }
         ensures sound { IsCell self }
     {
-        self.ch
+        (self.bits % 256) as u8
     }
 
     /// The attributes.
@@ -78,7 +87,7 @@ impl Cell {
         ensures value { bits_of result ≡ self.attributes }
         ensures sound { IsCell self }
     {
-        self.attr
+        Attr::from_bits_retain((self.bits / 256 % 256) as u8)
     }
 
     /// The colour pair.
@@ -86,16 +95,26 @@ impl Cell {
         ensures value { result ≡ self.pair }
         ensures sound { IsCell self }
     {
-        self.pair
+        PairId::of_number((self.bits / 65_536) as u8)
     }
 
     /// The cell as one number: 65,536 times its pair, 256 times its attributes, and its character.
     pub fn bits(self) -> u32
-        ensures { result ≡ 65536 * self.pair + 256 * self.attributes + self.character }
+        ensures value { result ≡ 65536 * self.pair + 256 * self.attributes + self.character }
+        ensures sound { IsCell self }
     {
-        u32::from(self.pair.number()) * 65_536
-            + u32::from(self.attr.bits()) * 256
-            + u32::from(self.ch)
+        self.bits
+    }
+}
+
+/// The cell of a printable character, some of the six attributes and a pair.
+fn packed(ch: u8, attr: Attr, pair: PairId) -> Cell
+    requires character { is_printable ch ≡ true }
+    requires attributes { bits_of attr < 64 }
+    ensures { result ≡ record { character = ch; attributes = bits_of attr; pair = pair } }
+{
+    Cell {
+        bits: u32::from(pair.number()) * 65_536 + u32::from(attr.bits()) * 256 + u32::from(ch),
     }
 }
 

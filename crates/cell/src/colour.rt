@@ -4,8 +4,9 @@ ghost use Rattle.std.specs.Prelude.{◌≡◌, ◌&&◌, is_none, ◌≤◌, nat
 ghost use Rattle.cell.specs.Shown.{ArePairs, IsColour, first_pairs, shown};
 
 use crate::cell::Cell;
+use crate::colour_bits::ColourBits;
 use crate::limits::{LAST_COLOUR, LAST_PAIR};
-use crate::shown::{Rendition, Shown};
+use crate::shown::Shown;
 use std::marker::Model;
 
 /// One of the eight colours of X/Open Curses, by its number.
@@ -53,6 +54,14 @@ impl Colour {
         }
     }
 
+    /// The colour of a number that is one.
+    pub(crate) fn of_number(number: u8) -> Colour
+        requires { number ≤ LAST_COLOUR }
+        ensures { result ≡ number }
+    {
+        Colour(number)
+    }
+
     /// The number.
     pub fn number(self) -> u8
         ensures value { result ≡ self }
@@ -92,6 +101,14 @@ impl PairId {
         } else {
             None
         }
+    }
+
+    /// The pair of a number that is one.
+    pub(crate) fn of_number(number: u8) -> PairId
+        requires { number ≤ LAST_PAIR }
+        ensures { result ≡ number }
+    {
+        PairId(number)
     }
 
     /// The number.
@@ -136,7 +153,7 @@ impl ColourPair {
 /// The table of colour pairs, by their numbers.
 #[derive(Drop)]
 pub struct Pairs {
-    pairs: [ColourPair; PAIRS],
+    pairs: [ColourBits; PAIRS],
 }
 
 /// How many pairs there are.
@@ -158,7 +175,7 @@ impl Pairs {
         ensures { result ≡ first_pairs }
     {
         Pairs {
-            pairs: [ColourPair::DEFAULT; PAIRS],
+            pairs: [ColourBits::DEFAULT; PAIRS],
         }
     }
 
@@ -166,11 +183,10 @@ impl Pairs {
     pub fn set(&mut self, at: PairId, foreground: Colour, background: Colour)
         ensures { self.new ≡ slice_set self.old at (record { foreground = Some foreground; background = Some background }) }
     {
-        let pair = ColourPair {
+        let pair = ColourBits::new(ColourPair {
             foreground: Some(foreground),
             background: Some(background),
-        };
-        prove!(is_colour(pair.foreground) && is_colour(pair.background));
+        });
         self.pairs[usize::from(at.number())] = pair;
     }
 
@@ -187,7 +203,7 @@ impl Pairs {
         ensures { result ≡ shown self.now cell }
     {
         let pair = self.pairs[usize::from(cell.pair().number())];
-        Shown::of_cell(cell, Rendition::new(cell.attr(), pair))
+        Shown::of_cell(cell, pair)
     }
 }
 

@@ -5,6 +5,7 @@
 mod attr;
 mod cell;
 mod colour;
+mod colour_bits;
 mod difference;
 mod grid;
 mod limits;

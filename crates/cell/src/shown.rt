@@ -4,52 +4,70 @@ ghost use Rattle.std.specs.Prelude.{◌≡◌, if◌then◌else◌, true};
 ghost use Rattle.cell.specs.Attributes.{bits_of, known};
 ghost use Rattle.cell.specs.Glyphs.{is_printable};
 ghost use Rattle.cell.specs.Shown.{IsRendition, IsShown, rendition_with};
+ghost use Rattle.cell.specs.Differences.{same_rendition, same_shown};
+ghost use Rattle.std.specs.Cmp.{partial_equiv_from_equiv};
 
 use crate::attr::Attr;
 use crate::cell::{Cell, is_printable};
-use crate::colour::{Colour, ColourPair, is_colour};
+use crate::colour::ColourPair;
+use crate::colour_bits::ColourBits;
 use bitflags::Flags;
 use std::marker::Model;
 
-/// How characters are printed: with attributes, and in the colours of a pair.
-#[derive(Clone, Copy, PartialEq, Eq, Debug)]
+/// How characters are printed: with attributes, and in the colours of a pair. It is kept as the number of a shown cell without its
+/// character.
+#[derive(Clone, Copy, Debug)]
 pub struct Rendition {
-    attrs: Attr,
-    foreground: Option<Colour>,
-    background: Option<Colour>,
+    bits: u32,
 }
 
 impl Model for Rendition {
-    ghost use Rattle.cell.specs.Glyphs.{is_printable};
+    ghost use Rattle.std.specs.Prelude.{◌≡◌, ◌%◌};
+    ghost use Rattle.cell.specs.Packing.{rendition_bits, rendition_of};
+    ghost use Rattle.cell.specs.PackingLaws.{rendition_bits-of};
     ghost use Rattle.cell.specs.Shown.{Rendition, IsRendition};
 
     ghost Value = { Rendition };
 
-    ghost view = { λ r. record { attributes = r.attrs.0; foreground = r.foreground; background = r.background } };
+    ghost view = { λ r. rendition_of r.bits };
 
-    ghost invariant = { λ r. IsRendition (record { attributes = r.attrs.0; foreground = r.foreground; background = r.background }) };
+    ghost invariant = { λ r. IsRendition (rendition_of r.bits) × (r.bits % 256 ≡ 0) };
 
-    ghost inverse = { λ r. record { attrs = record { 0 = r.attributes }; foreground = r.foreground; background = r.background } };
+    ghost inverse = { λ rendition. record { bits = rendition_bits rendition } };
+
+    ghost inverse_ok = { λ r h i. record { bits = rendition_bits-of r.bits h.1 i } };
+}
+
+impl PartialEq for Rendition {
+    ghost use Rattle.cell.specs.EqualityLaws.{same_rendition-equivalence};
+
+    ghost eq = { same_rendition };
+
+    ghost laws = { partial_equiv_from_equiv same_rendition-equivalence };
+
+    fn eq(&self, other: &Rendition) -> bool {
+        self.bits == other.bits
+    }
+}
+
+impl Eq for Rendition {
+    ghost use Rattle.cell.specs.EqualityLaws.{same_rendition-equivalence};
+
+    ghost laws = { same_rendition-equivalence };
 }
 
 impl Rendition {
     /// No attributes, and the default colours.
-    pub const NONE: Rendition = Rendition {
-        attrs: Attr::NONE,
-        foreground: None,
-        background: None,
-    };
+    pub const NONE: Rendition = Rendition { bits: 0 };
 
     /// The six attributes of a set, in the colours of a pair.
     pub fn new(attrs: Attr, pair: ColourPair) -> Rendition
         ensures value { result ≡ rendition_with pair (known (bits_of attrs)) }
         ensures sound { IsRendition result }
     {
-        prove!(is_colour(pair.foreground) && is_colour(pair.background));
+        let colours = ColourBits::new(pair);
         Rendition {
-            attrs: attrs.known(),
-            foreground: pair.foreground,
-            background: pair.background,
+            bits: colours.bits() + u32::from(attrs.known().bits()) * 256,
         }
     }
 
@@ -57,17 +75,14 @@ impl Rendition {
     pub fn attrs(self) -> Attr
         ensures { bits_of result ≡ self.attributes }
     {
-        self.attrs
+        Attr::from_bits_retain((self.bits / 256 % 256) as u8)
     }
 
     /// The foreground and the background.
     pub fn colours(self) -> ColourPair
         ensures { result ≡ record { foreground = self.foreground; background = self.background } }
     {
-        ColourPair {
-            foreground: self.foreground,
-            background: self.background,
-        }
+        ColourBits::of_bits(self.bits).pair()
     }
 
     /// Always true: what it ensures is what is known of each rendition.
@@ -75,57 +90,74 @@ impl Rendition {
         ensures yes { result ≡ true }
         ensures sound { IsRendition self }
     {
-        self.attrs.bits() < 64
+        self.bits % 256 == 0
     }
 }
 
-/// A character from 32 to 126 with its rendition.
-#[derive(Clone, Copy, PartialEq, Eq, Debug)]
+/// A character from 32 to 126 with its rendition. It is kept as one number: the character in bits 0 to 7, the attributes in bits 8 to
+/// 15, and from bit 16 on the colours.
+#[derive(Clone, Copy, Debug)]
 pub struct Shown {
-    ch: u8,
-    rendition: Rendition,
+    bits: u32,
 }
 
 impl Model for Shown {
-    ghost use Rattle.cell.specs.Glyphs.{is_printable};
+    ghost use Rattle.cell.specs.Packing.{shown_bits, shown_of};
+    ghost use Rattle.cell.specs.PackingLaws.{shown_bits-of};
     ghost use Rattle.cell.specs.Shown.{Shown, IsShown};
 
     ghost Value = { Shown };
 
-    ghost view = { λ s. record { character = s.ch; rendition = s.rendition } };
+    ghost view = { λ s. shown_of s.bits };
 
-    ghost invariant = { λ s. IsShown (record { character = s.ch; rendition = s.rendition }) };
+    ghost invariant = { λ s. IsShown (shown_of s.bits) };
 
-    ghost inverse = { λ s. record { ch = s.character; rendition = s.rendition } };
+    ghost inverse = { λ shown. record { bits = shown_bits shown } };
+
+    ghost inverse_ok = { λ s h i. record { bits = shown_bits-of s.bits i } };
+}
+
+impl PartialEq for Shown {
+    ghost use Rattle.cell.specs.EqualityLaws.{same_shown-equivalence};
+
+    ghost eq = { same_shown };
+
+    ghost laws = { partial_equiv_from_equiv same_shown-equivalence };
+
+    fn eq(&self, other: &Shown) -> bool {
+        self.bits == other.bits
+    }
+}
+
+impl Eq for Shown {
+    ghost use Rattle.cell.specs.EqualityLaws.{same_shown-equivalence};
+
+    ghost laws = { same_shown-equivalence };
 }
 
 impl Shown {
     /// The space with the empty rendition.
-    pub const BLANK: Shown = Shown {
-        ch: b' ',
-        rendition: Rendition::NONE,
-    };
+    pub const BLANK: Shown = Shown { bits: 32 };
 
     /// A character from 32 to 126 with a rendition, and none for another.
     pub fn new(ch: u8, rendition: Rendition) -> Option<Shown>
         ensures { result ≡ (if is_printable ch then Some (record { character = ch; rendition = rendition }) else None) }
     {
-        prove!(rendition.is_sound());
         if is_printable(ch) {
-            Some(Shown { ch, rendition })
+            Some(Shown {
+                bits: rendition.bits + u32::from(ch),
+            })
         } else {
             None
         }
     }
 
-    /// The character of a cell with a rendition.
-    pub(crate) fn of_cell(cell: Cell, rendition: Rendition) -> Shown
-        ensures { result ≡ record { character = cell.character; rendition = rendition } }
+    /// The character and the attributes of a cell in other colours than its pair's.
+    pub(crate) fn of_cell(cell: Cell, colours: ColourBits) -> Shown
+        ensures { result ≡ record { character = cell.character; rendition = rendition_with colours cell.attributes } }
     {
-        prove!(rendition.is_sound());
         Shown {
-            ch: cell.ch(),
-            rendition,
+            bits: cell.bits() % 65_536 + colours.bits(),
         }
     }
 
@@ -134,7 +166,7 @@ impl Shown {
         ensures value { result ≡ self.character }
         ensures sound { IsShown self }
     {
-        self.ch
+        (self.bits % 256) as u8
     }
 
     /// The rendition.
@@ -142,6 +174,8 @@ impl Shown {
         ensures value { result ≡ self.rendition }
         ensures sound { IsShown self }
     {
-        self.rendition
+        Rendition {
+            bits: self.bits - self.bits % 256,
+        }
     }
 }

@@ -1,46 +1,12 @@
 -- Pictures that differ in no place are one.
-use Rattle.std.proofs.Common.{◌≡◌, ℕ, ◌+◌, true, false, List, [], ◌∷◌, length, inl, inr, refl, sym, ap, ◌∙◌, arith}
-use Rattle.std.specs.Prelude.{◌==◌, ◌&&◌, ◌↔◌, Option, Some, None}
+use Rattle.std.proofs.Common.{◌≡◌, ℕ, ◌+◌, true, false, List, [], ◌∷◌, length, inl, inr, refl, sym, ◌∙◌, arith}
+use Rattle.std.specs.Prelude.{◌↔◌}
 use Rattle.std.specs.List.{AllByRecursion}
-use Rattle.std.proofs.lemmas.Bool.{and_parts, eqb-true, eqb-false, true_from_ne_false, cases_Bool}
-use Rattle.cell.specs.Shown.{Rendition, Shown}
+use Rattle.std.proofs.lemmas.Bool.{cases_Bool}
+use Rattle.cell.specs.Shown.{Shown}
 use Rattle.cell.specs.Pictures.{Picture, HasSize}
-use Rattle.cell.specs.Differences.{same_colour, same_rendition, same_shown, line_difference, difference}
-
-same_colour-equal : (a b : Option ℕ) → same_colour a b ≡ true → a ≡ b
-same_colour-equal None None h = refl
-same_colour-equal (Some a) (Some b) h = ap Some (eqb-true a b h)
-same_colour-equal None (Some b) h = absurd cc
-same_colour-equal (Some a) None h = absurd cc
-
-pub same_rendition-equal : (a b : Rendition) → same_rendition a b ≡ true → a ≡ b
-same_rendition-equal a b h =
-    let parts = and_parts (a.attributes == b.attributes) (same_colour a.foreground b.foreground && same_colour a.background b.background) h in
-    let colours = and_parts (same_colour a.foreground b.foreground) (same_colour a.background b.background) parts.1 in
-    let attributes : a.attributes ≡ b.attributes = eqb-true a.attributes b.attributes parts.0 in
-    let foreground = same_colour-equal a.foreground b.foreground colours.0 in
-    let background = same_colour-equal a.background b.background colours.1 in
-    λ i. record { attributes = attributes i; foreground = foreground i; background = background i }
-
-pub same_shown-equal : (a b : Shown) → same_shown a b ≡ true → a ≡ b
-same_shown-equal a b h =
-    let parts = and_parts (a.character == b.character) (same_rendition a.rendition b.rendition) h in
-    let character : a.character ≡ b.character = eqb-true a.character b.character parts.0 in
-    let rendition : a.rendition ≡ b.rendition = same_rendition-equal a.rendition b.rendition parts.1 in
-    λ i. record { character = character i; rendition = rendition i }
-
-eqb-self : (n : ℕ) → (n == n) ≡ true
-eqb-self n = true_from_ne_false (n == n) (λ e. eqb-false n n e refl)
-
-same_colour-self : (a : Option ℕ) → same_colour a a ≡ true
-same_colour-self None = refl
-same_colour-self (Some a) = eqb-self a
-
-same_rendition-self : (a : Rendition) → same_rendition a a ≡ true
-same_rendition-self a = rw (eqb-self a.attributes, same_colour-self a.foreground, same_colour-self a.background) refl
-
-pub same_shown-self : (a : Shown) → same_shown a a ≡ true
-same_shown-self a = rw (eqb-self a.character, same_rendition-self a.rendition) refl
+use Rattle.cell.specs.Differences.{same_shown, line_difference, difference}
+pub use Rattle.cell.specs.EqualityLaws.{same_rendition-equal, same_shown-equal, same_shown-self}
 
 -- ---- lines
 
