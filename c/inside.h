@@ -53,6 +53,8 @@ int curspan_put_column(WINDOW *win, int y, int x, int n, chtype cell);
 int curspan_read_cells(WINDOW *win, int y, int x, chtype *cells, int n);
 /* Forgets the pad in which rows are made. */
 void curspan_forget_rows(void);
+/* Forgets the colours of pairs. */
+void curspan_forget_colours(void);
 
 static inline bool is_number(int n) { return n >= 0 && n <= NUMBER; }
 

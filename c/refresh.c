@@ -49,9 +49,11 @@ static int not_negative(int n) { return n < 0 ? 0 : n; }
 int pnoutrefresh(WINDOW *pad, int pad_y, int pad_x, int top, int left, int bottom, int right) {
     const int part[6] = {not_negative(pad_y), not_negative(pad_x), not_negative(top), not_negative(left), bottom, right};
     if (is_there(pad) == ERR || !are_numbers(part[0], part[1], part[2], part[3]) || !are_numbers(bottom, right, 0, 0)) return ERR;
+    if (done(curspan_pnoutrefresh(SCREEN_AND(pad), (uint16_t)part[0], (uint16_t)part[1], (uint16_t)part[2], (uint16_t)part[3],
+                                  (uint16_t)bottom, (uint16_t)right)) == ERR)
+        return ERR;
     memcpy(pad->part, part, sizeof part);
-    return done(curspan_pnoutrefresh(SCREEN_AND(pad), (uint16_t)part[0], (uint16_t)part[1], (uint16_t)part[2], (uint16_t)part[3],
-                                     (uint16_t)bottom, (uint16_t)right));
+    return OK;
 }
 
 int prefresh(WINDOW *pad, int pad_y, int pad_x, int top, int left, int bottom, int right) {

@@ -23,6 +23,7 @@ static void forget(WINDOW *win) {
 void curspan_forget_all(void) {
     for (int i = 0; i < MOST; i++) forget(&windows[i]);
     curspan_forget_rows();
+    curspan_forget_colours();
     stdscr = curscr = NULL;
 }
 
@@ -52,8 +53,6 @@ void curspan_begin(curspan_answer answer) {
     stdscr = made(answer, false, NULL);
     curscr = &the_terminal;
 }
-
-
 
 WINDOW *newwin(int lines, int columns, int y, int x) {
     if (!are_numbers(lines, columns, y, x)) return NULL;
@@ -145,7 +144,6 @@ int wsetscrreg(WINDOW *win, int top, int bottom) {
     win->bottom = bottom;
     return OK;
 }
-
 
 int idlok(WINDOW *win, bool flag) {
     (void)flag;
