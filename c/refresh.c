@@ -15,7 +15,7 @@ int copywin(const WINDOW *from, WINDOW *to, int from_y, int from_x, int to_top, 
                                 (uint16_t)to_left, (uint16_t)to_bottom, (uint16_t)to_right, overlays != 0));
 }
 
-int touchwin(WINDOW *win) { return done(curspan_touchwin(SCREEN_AND(win))); }
+int touchwin(WINDOW *win) { return is_terminal(win) ? clearok(curscr, TRUE) : done(curspan_touchwin(SCREEN_AND(win))); }
 int untouchwin(WINDOW *win) { return done(curspan_untouchwin(SCREEN_AND(win))); }
 
 int wtouchln(WINDOW *win, int y, int n, int changed) {
@@ -38,8 +38,7 @@ void wcursyncup(WINDOW *win) {
 /* ---- refresh */
 
 int wnoutrefresh(WINDOW *win) {
-    if (win && win == curscr) return clearok(curscr, TRUE);
-    return done(curspan_wnoutrefresh(SCREEN_AND(win)));
+    return is_terminal(win) ? clearok(curscr, TRUE) : done(curspan_wnoutrefresh(SCREEN_AND(win)));
 }
 
 int wrefresh(WINDOW *win) { return wnoutrefresh(win) == ERR ? ERR : doupdate(); }
@@ -67,10 +66,10 @@ int pechochar(WINDOW *pad, const chtype ch) {
 }
 
 int wredrawln(WINDOW *win, int y, int n) {
-    if (win && win == curscr) return clearok(curscr, TRUE);
+    if (is_terminal(win)) return clearok(curscr, TRUE);
     if (touchline(win, y, n) == ERR) return ERR;
     curspan_invalidate(&curspan_the_screen);
     return OK;
 }
 
-int redrawwin(WINDOW *win) { return wredrawln(win, 0, win && win == curscr ? 0 : not_negative(getmaxy(win))); }
+int redrawwin(WINDOW *win) { return wredrawln(win, 0, not_negative(getmaxy(win))); }

@@ -124,7 +124,7 @@ int getparx(const WINDOW *win) { return second_of(curspan_getparyx(SCREEN_AND(wi
 /* ---- options */
 
 int clearok(WINDOW *win, bool flag) {
-    if (win && win == curscr) {
+    if (is_terminal(win)) {
         if (flag) curspan_invalidate(&curspan_the_screen);
         return OK;
     }
