@@ -2,8 +2,11 @@
 #include "inside.h"
 
 #include <stddef.h>
+#include <string.h>
 
 static short colours[LAST_PAIR + 1][2];
+
+void curspan_forget_colours(void) { memset(colours, 0, sizeof colours); }
 
 static uint8_t bits_of(chtype ch) { return (uint8_t)(ch >> 8 & 0xff); }
 

@@ -20,12 +20,12 @@ static int least(int a, int b) { return a < b ? a : b; }
 
 int whline(WINDOW *win, chtype ch, int n) {
     int y = getcury(win), x = getcurx(win);
-    return y == ERR ? ERR : draw(win, y, x, least(n, getmaxx(win) - x), ch ? ch : ACS_HLINE, false);
+    return y == ERR || n < 0 ? ERR : draw(win, y, x, least(n, getmaxx(win) - x), ch ? ch : ACS_HLINE, false);
 }
 
 int wvline(WINDOW *win, chtype ch, int n) {
     int y = getcury(win), x = getcurx(win);
-    return y == ERR ? ERR : draw(win, y, x, least(n, getmaxy(win) - y), ch ? ch : ACS_VLINE, true);
+    return y == ERR || n < 0 ? ERR : draw(win, y, x, least(n, getmaxy(win) - y), ch ? ch : ACS_VLINE, true);
 }
 
 int wborder(WINDOW *win, chtype left, chtype right, chtype top, chtype bottom, chtype top_left, chtype top_right,

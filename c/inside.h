@@ -53,6 +53,8 @@ int curspan_put_column(WINDOW *win, int y, int x, int n, chtype cell);
 int curspan_read_cells(WINDOW *win, int y, int x, chtype *cells, int n);
 /* Forgets the pad in which rows are made. */
 void curspan_forget_rows(void);
+/* Forgets the colours of pairs. */
+void curspan_forget_colours(void);
 
 static inline bool is_number(int n) { return n >= 0 && n <= NUMBER; }
 
@@ -61,6 +63,7 @@ static inline bool are_numbers(int a, int b, int c, int d) {
 }
 
 static inline int is_there(const WINDOW *win) { return curspan_number(win) == NUMBER ? ERR : OK; }
+static inline bool is_terminal(const WINDOW *win) { return win && win == curscr; }
 static inline int done(curspan_answer answer) { return answer.status == CURSPAN_OK ? OK : ERR; }
 static inline int first_of(curspan_answer answer) { return answer.status == CURSPAN_OK ? (int)answer.first : ERR; }
 

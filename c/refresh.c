@@ -15,7 +15,7 @@ int copywin(const WINDOW *from, WINDOW *to, int from_y, int from_x, int to_top, 
                                 (uint16_t)to_left, (uint16_t)to_bottom, (uint16_t)to_right, overlays != 0));
 }
 
-int touchwin(WINDOW *win) { return done(curspan_touchwin(SCREEN_AND(win))); }
+int touchwin(WINDOW *win) { return is_terminal(win) ? clearok(curscr, TRUE) : done(curspan_touchwin(SCREEN_AND(win))); }
 int untouchwin(WINDOW *win) { return done(curspan_untouchwin(SCREEN_AND(win))); }
 
 int wtouchln(WINDOW *win, int y, int n, int changed) {
@@ -38,8 +38,7 @@ void wcursyncup(WINDOW *win) {
 /* ---- refresh */
 
 int wnoutrefresh(WINDOW *win) {
-    if (win && win == curscr) return clearok(curscr, TRUE);
-    return done(curspan_wnoutrefresh(SCREEN_AND(win)));
+    return is_terminal(win) ? clearok(curscr, TRUE) : done(curspan_wnoutrefresh(SCREEN_AND(win)));
 }
 
 int wrefresh(WINDOW *win) { return wnoutrefresh(win) == ERR ? ERR : doupdate(); }
@@ -49,9 +48,11 @@ static int not_negative(int n) { return n < 0 ? 0 : n; }
 int pnoutrefresh(WINDOW *pad, int pad_y, int pad_x, int top, int left, int bottom, int right) {
     const int part[6] = {not_negative(pad_y), not_negative(pad_x), not_negative(top), not_negative(left), bottom, right};
     if (is_there(pad) == ERR || !are_numbers(part[0], part[1], part[2], part[3]) || !are_numbers(bottom, right, 0, 0)) return ERR;
+    if (done(curspan_pnoutrefresh(SCREEN_AND(pad), (uint16_t)part[0], (uint16_t)part[1], (uint16_t)part[2], (uint16_t)part[3],
+                                  (uint16_t)bottom, (uint16_t)right)) == ERR)
+        return ERR;
     memcpy(pad->part, part, sizeof part);
-    return done(curspan_pnoutrefresh(SCREEN_AND(pad), (uint16_t)part[0], (uint16_t)part[1], (uint16_t)part[2], (uint16_t)part[3],
-                                     (uint16_t)bottom, (uint16_t)right));
+    return OK;
 }
 
 int prefresh(WINDOW *pad, int pad_y, int pad_x, int top, int left, int bottom, int right) {
@@ -65,10 +66,10 @@ int pechochar(WINDOW *pad, const chtype ch) {
 }
 
 int wredrawln(WINDOW *win, int y, int n) {
-    if (win && win == curscr) return clearok(curscr, TRUE);
+    if (is_terminal(win)) return clearok(curscr, TRUE);
     if (touchline(win, y, n) == ERR) return ERR;
     curspan_invalidate(&curspan_the_screen);
     return OK;
 }
 
-int redrawwin(WINDOW *win) { return wredrawln(win, 0, win && win == curscr ? 0 : not_negative(getmaxy(win))); }
+int redrawwin(WINDOW *win) { return wredrawln(win, 0, not_negative(getmaxy(win))); }

@@ -16,11 +16,13 @@ int COLORS = 8, COLOR_PAIRS = LAST_PAIR + 1;
 curspan curspan_the_screen = CURSPAN_INIT;
 
 static int terminal = 1;   /* the descriptor that the bytes go to */
-static bool shows, ended; /* whether the picture is on the terminal, and whether endwin gave that back */
+static bool shows, ended;  /* whether the picture is on the terminal, and whether endwin gave that back */
+static int visible = 1;    /* how curs_set wants the cursor */
 static uint8_t *bytes;     /* the bytes on their way */
 static size_t room;
 
 static const char enter[] = "\033[?1049h", leave[] = "\033[?1049l";
+static const char hide_cursor[] = "\033[?25l";
 
 /* Writes all of some bytes. */
 static int put(const void *from, size_t length) {
@@ -60,7 +62,7 @@ static int hand_on(void) {
 
 int doupdate(void) {
     if (!shows) {
-        if (!stdscr || put_text(enter) == ERR) return ERR;
+        if (!stdscr || put_text(enter) == ERR || (visible == 0 && put_text(hide_cursor) == ERR)) return ERR;
         curspan_invalidate(&curspan_the_screen);
         shows = true;
     }
@@ -93,6 +95,7 @@ SCREEN *newterm(const char *type, FILE *out, FILE *in) {
     if (answer.status != CURSPAN_OK) return NULL;
     curspan_begin(answer);
     shows = ended = false;
+    visible = 1;
     return (SCREEN *)&curspan_the_screen;
 }
 
@@ -126,11 +129,10 @@ void delscreen(SCREEN *screen) {
 }
 
 int curs_set(int visibility) {
-    static int now = 1;
-    int before = now;
+    int before = visible;
     if (!stdscr || visibility < 0 || visibility > 2) return ERR;
-    if (put_text(visibility > 0 ? "\033[?25h" : "\033[?25l") == ERR) return ERR;
-    now = visibility;
+    if (shows && put_text(visibility > 0 ? "\033[?25h" : hide_cursor) == ERR) return ERR;
+    visible = visibility;
     return before;
 }
 

@@ -23,6 +23,7 @@ static void forget(WINDOW *win) {
 void curspan_forget_all(void) {
     for (int i = 0; i < MOST; i++) forget(&windows[i]);
     curspan_forget_rows();
+    curspan_forget_colours();
     stdscr = curscr = NULL;
 }
 
@@ -52,8 +53,6 @@ void curspan_begin(curspan_answer answer) {
     stdscr = made(answer, false, NULL);
     curscr = &the_terminal;
 }
-
-
 
 WINDOW *newwin(int lines, int columns, int y, int x) {
     if (!are_numbers(lines, columns, y, x)) return NULL;
@@ -125,7 +124,7 @@ int getparx(const WINDOW *win) { return second_of(curspan_getparyx(SCREEN_AND(wi
 /* ---- options */
 
 int clearok(WINDOW *win, bool flag) {
-    if (win && win == curscr) {
+    if (is_terminal(win)) {
         if (flag) curspan_invalidate(&curspan_the_screen);
         return OK;
     }
@@ -145,7 +144,6 @@ int wsetscrreg(WINDOW *win, int top, int bottom) {
     win->bottom = bottom;
     return OK;
 }
-
 
 int idlok(WINDOW *win, bool flag) {
     (void)flag;

@@ -12,14 +12,26 @@ int wmove(WINDOW *win, int y, int x) {
     return done(curspan_wmove(SCREEN_AND(win), (uint16_t)y, (uint16_t)x));
 }
 
-/* Writes a character with the attributes that were told: a tab as spaces, and another control character in two. */
+/* How a character is spelled at a column: a tab as spaces, another control character as a caret and a letter, and others as they are. It
+   answers how many characters that takes. */
+static int spell(uint8_t ch, int x, uint8_t spelled[8]) {
+    if (ch == '\t') {
+        memset(spelled, ' ', 8);
+        return 8 - x % 8;
+    }
+    spelled[0] = ch;
+    if (ch >= ' ' && ch != 127) return 1;
+    spelled[0] = '^';
+    spelled[1] = ch ^ 64;
+    return 2;
+}
+
+/* Writes a character with the attributes that were told. */
 static int add_character(WINDOW *win, uint8_t ch) {
-    static const char tab[] = "        ";
-    uint8_t caret[2] = {'^', (uint8_t)(ch ^ 64)};
+    uint8_t spelled[8];
     curspan_answer answer = curspan_waddch(SCREEN_AND(win), ch);
-    if (answer.status != CURSPAN_BAD_CHARACTER || ch > 127) return done(answer);
-    if (ch == '\t') return done(curspan_waddstr(SCREEN_AND(win), (const uint8_t *)tab, (size_t)(8 - getcurx(win) % 8)));
-    return done(curspan_waddstr(SCREEN_AND(win), caret, sizeof caret));
+    if (answer.status != CURSPAN_BAD_CHARACTER) return done(answer);
+    return done(curspan_waddstr(SCREEN_AND(win), spelled, (size_t)spell(ch, getcurx(win), spelled)));
 }
 
 int waddch(WINDOW *win, const chtype ch) {
@@ -75,16 +87,30 @@ int vw_printw(WINDOW *win, const char *format, va_list arguments) {
     return answer;
 }
 
+/* Whether a character can be inserted: those that move the cursor can't. */
+static bool is_spelled(uint8_t ch) { return ch <= 127 && ch != '\n' && ch != '\r' && ch != '\b'; }
+
+/* Inserts the characters of a text, as they are spelled and as far as the line goes, with the attributes that were told. */
+static int insert(WINDOW *win, const uint8_t *text, size_t length) {
+    uint8_t row[LONGEST + 8];
+    int from = getcurx(win), columns = getmaxx(win), to = from;
+    for (size_t i = 0; i < length && to < columns; i++) {
+        if (!is_spelled(text[i])) return ERR;
+        to += spell(text[i], to, row + to);
+    }
+    while (to > from)
+        if (done(curspan_winsch(SCREEN_AND(win), row[--to])) == ERR) return ERR;
+    return OK;
+}
+
 int winsch(WINDOW *win, chtype ch) {
+    uint8_t text = ch & A_CHARTEXT;
     if (is_there(win) == ERR || PAIR_NUMBER(ch) > LAST_PAIR || curspan_tell(win, curspan_with(win->attrs, ch)) == ERR) return ERR;
-    return done(curspan_winsch(SCREEN_AND(win), (uint8_t)(ch & A_CHARTEXT)));
+    return insert(win, &text, 1);
 }
 
 int winsnstr(WINDOW *win, const char *text, int n) {
-    if (!text || is_there(win) == ERR) return ERR;
-    for (size_t length = length_of(text, n); length > 0; length--)
-        if (winsch(win, (uint8_t)text[length - 1]) == ERR) return ERR;
-    return OK;
+    return !text || ready(win) == ERR ? ERR : insert(win, (const uint8_t *)text, length_of(text, n));
 }
 
 int wdelch(WINDOW *win) { return done(curspan_wdelch(SCREEN_AND(win))); }

@@ -101,7 +101,7 @@ typedef chtype attr_t;
 #define ACS_BLOCK ((chtype)'#')
 
 extern WINDOW *stdscr; /* the standard screen, from initscr on */
-extern WINDOW *curscr; /* what the terminal shows: for wrefresh, clearok and redrawwin alone, which draw all anew */
+extern WINDOW *curscr; /* what the terminal shows: for refresh, clearok, touchwin and redrawwin alone, which draw all anew */
 extern int LINES, COLS;
 extern int COLORS, COLOR_PAIRS;
 

@@ -3,6 +3,7 @@
 
 int main(void) {
     static const chtype each[] = {A_NORMAL, A_BOLD, A_DIM, A_UNDERLINE, A_BLINK, A_REVERSE, A_INVIS, A_STANDOUT};
+    static const attr_t same[] = {WA_NORMAL, WA_BOLD, WA_DIM, WA_UNDERLINE, WA_BLINK, WA_REVERSE, WA_INVIS, WA_STANDOUT};
     initscr();
     for (int i = 0; i < 8; i++) {
         attrset((int)each[i]);
@@ -10,7 +11,10 @@ int main(void) {
         attrset(A_NORMAL);
         mvaddch(i, 20, 'c' | each[i]);
         mvaddch(i, 22, 's' | each[i] | A_BOLD);
+        attr_set(same[i], 0, NULL);
+        mvaddstr(i, 30, "the same");
     }
+    attrset(A_NORMAL);
     refresh();
     shot();
     attron(A_BOLD | A_UNDERLINE);

@@ -17,6 +17,7 @@ int main(void) {
     refresh();
     shot();
     init_pair(9, COLOR_GREEN, COLOR_BLACK);
+    init_pair(10, COLOR_CYAN, COLOR_MAGENTA);
     touchwin(stdscr);
     refresh();
     shot();

@@ -54,6 +54,9 @@ int main(void) {
     wmove(win, 1, 0);
     winsdelln(win, -1);
     winsdelln(win, 1);
+    mvwinsch(win, 7, 3, '\001' | A_BOLD);
+    mvwinsstr(win, 7, 10, "a\tb\033c");
+    mvwinsch(win, 7, 28, '\177');
     look_at(win);
     wmove(win, 4, 6);
     wclrtoeol(win);

@@ -29,6 +29,10 @@ int main(void) {
     wmove(pad, 1, 4);
     pechochar(pad, 'X');
     look();
+    int refused = pnoutrefresh(pad, 59, 0, 0, 0, 30, 20);
+    pechochar(pad, 'Y');
+    mvprintw(22, 0, "refused: %d", refused == ERR);
+    look();
     delwin(part);
     delwin(pad);
     endwin();

@@ -25,7 +25,7 @@ int main(void) {
     shot();
     move(20, 0);
     printw("moved %d", mvwin(win, 8, 30));
-    printw(", not moved %d", mvwin(win, 22, 70));
+    printw(", not moved %d", mvwin(win, 22, 70) == ERR && getbegy(win) == 8 && wmove(win, 1, 1) == OK);
     look_over_screen(win);
     mvprintw(21, 0, "deleted %d", delwin(rest));
     mvprintw(22, 0, "of none: %d %d %d %d", delwin(NULL), mvwin(NULL, 0, 0), getmaxy(nothing), getcurx(nothing));

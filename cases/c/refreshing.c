@@ -50,6 +50,11 @@ int main(void) {
     clearok(curscr, TRUE);
     doupdate();
     shot();
+    touchwin(curscr);
+    wrefresh(curscr);
+    redrawwin(curscr);
+    doupdate();
+    shot();
     echochar('e');
     wechochar(right, 'w' | A_BOLD);
     shot();

@@ -31,7 +31,8 @@ static int key_byte(int milliseconds) {
     struct pollfd input = {0, POLLIN, 0};
     unsigned char byte;
     if (poll(&input, 1, milliseconds) <= 0) return NO_KEY;
-    return read(0, &byte, 1) == 1 ? byte : NO_MORE_KEYS;
+    if (read(0, &byte, 1) != 1) return NO_MORE_KEYS;
+    return byte;
 }
 
 /* The next key: a byte, or an arrow, which comes as ESC [ A to D or ESC O A to D. */

@@ -30,6 +30,9 @@ static double load_now(void) {
     return load;
 }
 
+/* Draws a frame of ASCII: the corners of box() are line-drawing characters where a curses has them. */
+static void frame(WINDOW *win) { wborder(win, '|', '|', '-', '-', '+', '+', '+', '+'); }
+
 /* Draws a bar of a part of a whole across a window. */
 static void bar(WINDOW *win, int y, double part) {
     int width = getmaxx(win) - 4, filled = (int)(part * width + 0.5);
@@ -44,7 +47,7 @@ static void show_memory(WINDOW *win) {
     mvwprintw(win, 2, 2, "%6ld of %6ld MiB are used", all - left, all);
     wclrtoeol(win);
     bar(win, 3, all > 0 ? (double)(all - left) / (double)all : 0);
-    box(win, '|', '-');
+    frame(win);
     mvwaddstr(win, 0, 2, " memory ");
 }
 
@@ -60,7 +63,7 @@ static void show_load(WINDOW *win) {
         if (tall > 0) mvwvline(win, 2 + height - tall, last - i, '#', tall);
     }
     wattroff(win, COLOR_PAIR(1));
-    box(win, '|', '-');
+    frame(win);
     mvwprintw(win, 0, 2, " load %.2f, highest %.2f ", known > 0 ? history[known - 1] : 0, most);
 }
 

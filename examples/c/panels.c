@@ -13,7 +13,7 @@ static PANEL *panels[COUNT];
 static PANEL *framed(int lines, int columns, int y, int x, const char *title, const char *text, short pair) {
     WINDOW *win = newwin(lines, columns, y, x);
     wbkgd(win, COLOR_PAIR(pair) | ' ');
-    box(win, '|', '-');
+    wborder(win, '|', '|', '-', '-', '+', '+', '+', '+');
     wattron(win, A_BOLD);
     mvwprintw(win, 0, 2, " %s ", title);
     wattroff(win, A_BOLD);
