@@ -1,3 +1,4 @@
+pub mod Ranges
 pub mod GridLemmas
 pub mod PictureLemmas
 pub mod Fills
