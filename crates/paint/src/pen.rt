@@ -1,6 +1,6 @@
 //! A pen: it knows where a terminal's cursor is and how the terminal prints, and draws there by strokes.
 
-ghost use Rattle.std.specs.Prelude.{◌≡◌, ◌+◌, ◌<◌, ◌≤◌, ⊤, MatchOption, ◌++◌, ◌∷◌, [], ℕ, List, length, Some, ◌^◌};
+ghost use Rattle.std.specs.Prelude.{◌≡◌, ◌+◌, ◌<◌, ◌≤◌, ⊤, MatchOption, ◌++◌, ◌∷◌, [], ℕ, IfOk, List, length, Some, ◌^◌};
 ghost use Rattle.std.specs.Option.{option_map};
 ghost use Rattle.cell.specs.Shown.{no_rendition};
 ghost use Rattle.cell.specs.Pictures.{Picture, line_of, origin, with_shown};
@@ -17,6 +17,7 @@ ghost use Rattle.paint.specs.steps.Strokes.{behind, change, is_at, move_from, Ar
 use crate::outbox::Outbox;
 use cell::{LARGEST_SCREEN, Rendition, Shown};
 use ecma::{Erase, LONGEST_SPELLING, Token, spell};
+use std::alloc::{AllocError, Global};
 use streams::{Sink, WriteFault};
 
 /// Draws on terminals of some columns.
@@ -30,19 +31,28 @@ pub struct Pen {
 }
 
 impl Pen {
-    /// A pen that gathered nothing, at a cursor, with the empty rendition.
-    pub fn new(columns: u16, cursor: (u16, u16)) -> Pen
-        ensures nothing { (seen : Seen) → IsGathered seen seen result.outbox [] }
-        ensures columns { result.columns ≡ columns }
-        ensures cursor { result.cursor ≡ Some cursor }
-        ensures rendition { result.rendition ≡ no_rendition }
+    /// A pen that gathered nothing.
+    pub fn new(alloc: Global, columns: u16) -> Result<Pen, AllocError>
+        ensures { IfOk result (λ pen. pen.columns ≡ columns) }
     {
-        Pen {
-            outbox: Outbox::new(),
+        Ok(Pen {
+            outbox: Outbox::new(alloc)?,
             columns,
-            cursor: Some(cursor),
+            cursor: None,
             rendition: Rendition::NONE,
-        }
+        })
+    }
+
+    /// Begins a text, at a cursor and with the empty rendition.
+    pub fn begin(&mut self, cursor: (u16, u16))
+        ensures nothing { (seen : Seen) → IsGathered seen seen self.new.outbox [] }
+        ensures columns { self.new.columns ≡ self.old.columns }
+        ensures cursor { self.new.cursor ≡ Some cursor }
+        ensures rendition { self.new.rendition ≡ no_rendition }
+    {
+        self.outbox.begin();
+        self.cursor = Some(cursor);
+        self.rendition = Rendition::NONE;
     }
 
     /// Puts a token behind what was gathered.
@@ -238,9 +248,10 @@ impl Pen {
     }
 
     /// Sends what is left of the text, and says how many bytes went out.
-    pub fn finish<W: Sink>(self, sink: &mut W) -> Result<u32, WriteFault>
-        ensures sends { (start : Seen) (text : List ℕ) → IsGathered start (W.seen sink.old) self.outbox text → length text < 2 ^ 32
+    pub fn finish<W: Sink>(&mut self, sink: &mut W) -> Result<u32, WriteFault>
+        ensures sends { (start : Seen) (text : List ℕ) → IsGathered start (W.seen sink.old) self.old.outbox text → length text < 2 ^ 32
             → Sends start (W.seen sink.new) 0 text result }
+        ensures columns { self.new.columns ≡ self.old.columns }
         ensures same { W.name sink.new ≡ W.name sink.old }
     {
         self.outbox.finish(sink)
