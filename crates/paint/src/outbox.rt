@@ -1,11 +1,14 @@
 //! Gathers a text in fixed room, from which it goes out in pieces.
 
-ghost use Rattle.std.specs.Prelude.{◌≡◌, ◌≤◌, ◌+◌, ◌<◌, ◌^◌, ℕ, List, [], ◌∷◌, length};
+ghost use Rattle.std.specs.Prelude.{◌≡◌, ◌≤◌, ◌+◌, ◌<◌, ◌^◌, ℕ, List, [], ◌∷◌, length, slice_index_or};
+ghost use Rattle.cell.specs.Shown.{IsShown, shown_blank};
 ghost use Rattle.streams.specs.Sending.{Sends};
 ghost use Rattle.streams.specs.Sinks.{Seen};
 ghost use Rattle.paint.specs.steps.Gathering.{Gathers, IsGathered};
+ghost use Rattle.paint.specs.steps.Strokes.{characters};
 
 use crate::room::{ROOM, Room};
+use cell::Shown;
 use std::alloc::{AllocError, Global};
 use streams::{Sink, WriteFault, send};
 
@@ -42,10 +45,31 @@ impl Outbox {
         ensures gathers { Gathers (W.seen sink.old) (W.seen sink.new) self.old self.new piece.now }
         ensures same { W.name sink.new ≡ W.name sink.old }
     {
-        if !self.room.fits(piece.len()) {
+        self.make_room(sink, piece.len());
+        self.room.append(piece);
+    }
+
+    /// Puts the characters of cells behind what was gathered.
+    pub fn put_characters<W: Sink>(&mut self, sink: &mut W, cells: &[Shown])
+        requires { length cells.now ≤ ROOM }
+        ensures gathers { Gathers (W.seen sink.old) (W.seen sink.new) self.old self.new (characters cells.now) }
+        ensures sound { (k : ℕ) → k < length cells.now → IsShown (slice_index_or cells.now k shown_blank) }
+        ensures same { W.name sink.new ≡ W.name sink.old }
+    {
+        self.make_room(sink, cells.len());
+        self.room.append_characters(cells);
+    }
+
+    /// Sends what was gathered, unless so many more bytes fit.
+    fn make_room<W: Sink>(&mut self, sink: &mut W, more: usize)
+        requires { more ≤ ROOM }
+        ensures gathers { Gathers (W.seen sink.old) (W.seen sink.new) self.old self.new [] }
+        ensures room { length self.new.room + more ≤ ROOM }
+        ensures same { W.name sink.new ≡ W.name sink.old }
+    {
+        if !self.room.fits(more) {
             self.hand_on(sink);
         }
-        self.room.append(piece);
     }
 
     /// Sends what was gathered.

@@ -1,8 +1,8 @@
 //! A pen: it knows where a terminal's cursor is and how the terminal prints, and draws there by strokes.
 
-ghost use Rattle.std.specs.Prelude.{◌≡◌, ◌+◌, ◌<◌, ◌≤◌, ⊤, MatchOption, ◌++◌, ◌∷◌, [], ℕ, IfOk, List, length, Some, ◌^◌};
+ghost use Rattle.std.specs.Prelude.{◌≡◌, ◌+◌, ◌<◌, ◌≤◌, ⊤, MatchOption, ◌++◌, ◌∷◌, [], ℕ, IfOk, List, length, slice_index_or, Some, ◌^◌};
 ghost use Rattle.std.specs.Option.{option_map};
-ghost use Rattle.cell.specs.Shown.{no_rendition};
+ghost use Rattle.cell.specs.Shown.{no_rendition, shown_blank};
 ghost use Rattle.cell.specs.Pictures.{Picture, line_of, origin, with_shown};
 ghost use Rattle.ecma.specs.Spelling.{spelling, IsToken};
 ghost use Rattle.ecma.specs.Terminals.{erased_at, erased_page};
@@ -12,7 +12,7 @@ ghost use Rattle.streams.specs.Sending.{Sends};
 ghost use Rattle.streams.specs.Sinks.{Seen};
 ghost use Rattle.paint.specs.Updates.{opening};
 ghost use Rattle.paint.specs.steps.Gathering.{Gathers, IsGathered};
-ghost use Rattle.paint.specs.steps.Strokes.{behind, change, is_at, move_from, ArePrinted, Draws};
+ghost use Rattle.paint.specs.steps.Strokes.{behind, change, characters, is_at, move_from, with_cells, within, ArePrinted, Draws};
 
 use crate::outbox::Outbox;
 use cell::{LARGEST_SCREEN, Rendition, Shown};
@@ -187,6 +187,33 @@ impl Pen {
     {
         if column + 1 < self.columns {
             Some((line, column + 1))
+        } else {
+            None
+        }
+    }
+
+    /// Prints some cells from the cursor on, which is at this place. They have the rendition in force.
+    pub fn print_run<W: Sink>(&mut self, sink: &mut W, line: u16, column: u16, cells: &[Shown])
+        requires cursor { self.old.cursor ≡ Some (line, column) }
+        requires rendition { (k : ℕ) → k < length cells.now → (slice_index_or cells.now k shown_blank).rendition ≡ self.old.rendition }
+        requires some { 0 < length cells.now }
+        requires inside { column + length cells.now ≤ self.old.columns }
+        requires columns { self.old.columns ≤ LARGEST_SCREEN }
+        ensures draws { (picture : Picture) → length (line_of picture line) ≡ self.old.columns
+            → Draws (characters cells.now) (W.seen sink.old) (W.seen sink.new) self.old self.new picture (with_cells picture (line, column) cells.now) }
+        ensures columns { self.new.columns ≡ self.old.columns }
+        ensures same { W.name sink.new ≡ W.name sink.old }
+    {
+        self.outbox.put_characters(sink, cells);
+        self.cursor = self.within(line, column + cells.len() as u16);
+    }
+
+    /// A place of a line, if it has the column.
+    fn within(&self, line: u16, column: u16) -> Option<(u16, u16)>
+        ensures { result ≡ within self.now.columns (line, column) }
+    {
+        if column < self.columns {
+            Some((line, column))
         } else {
             None
         }

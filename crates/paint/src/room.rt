@@ -1,7 +1,10 @@
 //! The room in which a text is gathered.
 
-ghost use Rattle.std.specs.Prelude.{◌≡◌, ◌+◌, ◌≤◌, ◌++◌, [], IfOk, length, true};
+ghost use Rattle.std.specs.Prelude.{◌≡◌, ◌+◌, ◌≤◌, ◌++◌, ◌<◌, ℕ, [], IfOk, length, slice_index_or, true, vec_capacity, vec_len};
+ghost use Rattle.cell.specs.Shown.{IsShown, shown_blank};
+ghost use Rattle.paint.specs.steps.Strokes.{characters};
 
+use cell::Shown;
 use std::alloc::{AllocError, Global};
 use std::marker::Model;
 
@@ -53,6 +56,15 @@ impl Room {
         }
     }
 
+    /// Puts the characters of cells at the end.
+    pub fn append_characters(&mut self, cells: &[Shown])
+        requires { length self.old + length cells.now ≤ ROOM }
+        ensures appended { self.new ≡ self.old ++ characters cells.now }
+        ensures sound { (k : ℕ) → k < length cells.now → IsShown (slice_index_or cells.now k shown_blank) }
+    {
+        push_characters(&mut self.bytes, cells);
+    }
+
     /// What is in it.
     pub fn bytes(&self) -> &[u8]
         ensures value { result.now ≡ self.now }
@@ -66,5 +78,17 @@ impl Room {
         ensures { self.new ≡ [] }
     {
         self.bytes.clear();
+    }
+}
+
+/// Puts the characters of cells at the end of bytes that have room for them.
+fn push_characters(bytes: &mut Vec<u8>, cells: &[Shown])
+    requires { vec_len bytes.old + length cells.now ≤ vec_capacity bytes.old }
+    ensures appended { bytes.new.items ≡ bytes.old.items ++ characters cells.now }
+    ensures capacity { vec_capacity bytes.new ≡ vec_capacity bytes.old }
+    ensures sound { (k : ℕ) → k < length cells.now → IsShown (slice_index_or cells.now k shown_blank) }
+{
+    for cell in cells {
+        bytes.push_reserved(cell.ch());
     }
 }
