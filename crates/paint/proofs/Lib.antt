@@ -8,6 +8,7 @@ pub mod Pages
 pub mod Holding
 pub mod Updating
 pub mod Repair
+pub mod Runs
 pub mod Changed
 pub mod LineParts
 pub mod Alike

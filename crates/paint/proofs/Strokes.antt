@@ -17,14 +17,14 @@ use Rattle.ecma.specs.Terminals.{erased_at, erased_page}
 use Rattle.ecma.proofs.Difference.{same_rendition-equal}
 use Rattle.ecma.proofs.Joining.{Leads-append}
 use Rattle.ecma.proofs.Leading.{Leads-nothing, Leads-token}
-use Rattle.ecma.proofs.Lengths.{length-selection, length-spelling}
+use Rattle.ecma.proofs.Lengths.{length-spelling}
 use Rattle.ecma.proofs.Printing.{printable}
 use Rattle.cell.specs.declared.limits.TheConstants.{LARGEST_SCREEN}
 use Rattle.streams.specs.Sinks.{Seen}
 use Rattle.paint.specs.declared.outbox.Outbox.{Outbox}
 use Rattle.paint.specs.declared.pen.Pen.{Pen}
 use Rattle.paint.specs.steps.Gathering.{Gathers, IsGathered}
-use Rattle.paint.specs.steps.Strokes.{behind, change, is_at, move_from, under, ArePrinted, Draws, Strokes, again_bytes, approach_bytes, cell_bytes, most_approach, moved_bytes, reach_bytes}
+use Rattle.paint.specs.steps.Strokes.{behind, change, is_at, move_from, under, ArePrinted, Draws, Strokes, again_bytes, approach_bytes, most_approach, moved_bytes, reach_bytes}
 
 -- ---- one after another
 
@@ -122,7 +122,7 @@ goes old mid place picture other few_lines few_columns inside gathers rest = rw 
 
 -- ---- a character
 
-spelled-print : (byte : ℕ) → spelling (Print byte) ≡ byte ∷ []
+pub spelled-print : (byte : ℕ) → spelling (Print byte) ≡ byte ∷ []
 unfolding spelling
 spelled-print byte = refl
 
@@ -239,7 +239,7 @@ length-change old new = elim (cases_Bool (same_rendition new old)) [
   | inr other ↦ rw (change-other old new other) (omega arith)
 ]
 
--- ---- an approach, and a cell behind it
+-- ---- an approach
 
 pub approach-move : {a b c : Seen} {x y z : Pen} {picture : Picture} (place : Place) (rendition : Rendition)
     → Draws (move_from x.cursor place) a b x y picture picture → y.rendition ≡ x.rendition → Draws (change y.rendition rendition) b c y z picture picture
@@ -275,14 +275,6 @@ pub approach-most : (cursor : Option Place) (rendition : Rendition) (start : Pla
 approach-most cursor rendition start gap wanted few_lines few_columns =
     let place : Place = (start.0, start.1 + length gap) in
     least (is_at cursor start) (again_bytes rendition gap wanted) (moved_bytes cursor rendition place wanted) (most_approach wanted) (moved-most cursor rendition place wanted few_lines few_columns)
-
-pub cell-strokes : {a b c : Seen} {x y z : Pen} {picture drawn : Picture} {n : ℕ} (cell : Shown) → IsRendition cell.rendition → n ≤ most_approach cell.rendition → Strokes n a b x y picture picture
-    → Draws (cell.character ∷ []) b c y z picture drawn → Strokes (cell_bytes cell) a c x z picture drawn
-cell-strokes cell is few h k = record {
-  piece = h.piece ++ cell.character ∷ [];
-  draws = Draws-then h.draws k;
-  short = omega (arith, h.short, few, length-append h.piece (cell.character ∷ []), length-selection cell.rendition is);
-}
 
 -- ---- which of two ways takes fewer bytes
 

@@ -25,7 +25,7 @@ six : (coloured : Bool) → 6 * (if coloured then 1 else 0) ≡ (if coloured the
 six true = refl
 six false = refl
 
-line_bytes-other : (a b : Shown) (old new : List Shown) → same_shown a b ≡ false → line_bytes (a ∷ old) (b ∷ new) ≡ cell_bytes b + line_bytes old new
+pub line_bytes-other : (a b : Shown) (old new : List Shown) → same_shown a b ≡ false → line_bytes (a ∷ old) (b ∷ new) ≡ cell_bytes b + line_bytes old new
 line_bytes-other a b old new h = rw h (omega (arith, six (has_colour b.rendition)))
 
 line_bytes-same : (a b : Shown) (old new : List Shown) → same_shown a b ≡ true → line_bytes (a ∷ old) (b ∷ new) ≡ line_bytes old new
@@ -54,39 +54,19 @@ line-begun seen pen line x shown wanted front = record {
   columns = refl;
 }
 
-left : (x : ℕ) (shown wanted : List Shown) → length shown ≡ length wanted → x < length shown
+pub left : (x : ℕ) (shown wanted : List Shown) → length shown ≡ length wanted → x < length shown
     → line_bytes (drop x shown) (drop x wanted) ≡ line_bytes (get_or shown x shown_blank ∷ drop (x + 1) shown) (get_or wanted x shown_blank ∷ drop (x + 1) wanted)
 left x shown wanted same inside = let a = drop_more shown x shown_blank inside in let b = drop_more wanted x shown_blank (omega arith) in λ i. line_bytes (a i) (b i)
 
 -- the next cell is drawn
-pub line-drawn : {before mid now : Seen} {old pen next : Pen} {line x : ℕ} {shown wanted : List Shown} (cell : Shown) → length shown ≡ length wanted → x < length shown
-    → IsLinePainted before mid old pen line x shown wanted → length shown ≡ old.columns → cell ≡ get_or wanted x shown_blank
-    → same_shown (get_or shown x shown_blank) (get_or wanted x shown_blank) ≡ false
-    → ((picture : Picture) → length (line_of picture line) ≡ pen.columns → take x (line_of picture line) ≡ take x wanted
-    → Strokes (cell_bytes cell) mid now pen next picture (with_shown picture (line, x) cell))
-    → next.columns ≡ pen.columns → IsLinePainted before now old next line (x + 1) shown wanted
-line-drawn {before} {mid} {now} {old} {pen} {next} {line} {x} {shown} {wanted} cell same inside h wide is differs strokes columns = record {
-  spent = h.spent + cell_bytes cell;
-  within = omega (
-    arith,
-    h.within,
-    left x shown wanted same inside,
-    line_bytes-other (get_or shown x shown_blank) (get_or wanted x shown_blank) (drop (x + 1) shown) (drop (x + 1) wanted) differs,
-    ap cell_bytes is,
-  );
-  strokes = λ picture high at.
-      let row = mixed x wanted shown in
-      let here : line_of (set picture line row) line ≡ row = get_or-set_same picture line row [] high in
-      let drawn : with_shown (set picture line row) (line, x) cell ≡ set picture line (mixed (x + 1) wanted shown) =
-      ap (λ cells. set (set picture line row) line (set cells x cell)) here
-      ∙ set-set picture line row (set row x cell)
-      ∙ ap (λ c. set picture line (set row x c)) is
-      ∙ ap (set picture line) (mixed-more shown_blank x wanted shown inside same) in
-      let long : length (line_of (set picture line row) line) ≡ pen.columns = ap length here ∙ length-mixed x wanted shown same ∙ wide ∙ sym h.columns in
-      Strokes-then (h.strokes picture high at) (subst (Strokes (cell_bytes cell) mid now pen next (set picture line row)) drawn
-      (strokes (set picture line row) long (ap (take x) here ∙ take-mixed x wanted shown (omega arith))));
-  columns = columns ∙ h.columns;
-}
+pub one-drawn : (picture : Picture) (line x : ℕ) (shown wanted : List Shown) (cell : Shown) → line < length picture → length shown ≡ length wanted → x < length shown
+    → cell ≡ get_or wanted x shown_blank → with_shown (set picture line (mixed x wanted shown)) (line, x) cell ≡ set picture line (mixed (x + 1) wanted shown)
+one-drawn picture line x shown wanted cell high same inside is =
+    let row = mixed x wanted shown in
+    ap (λ cells. set (set picture line row) line (set cells x cell)) (get_or-set_same picture line row [] high)
+    ∙ set-set picture line row (set row x cell)
+    ∙ ap (λ c. set picture line (set row x c)) is
+    ∙ ap (set picture line) (mixed-more shown_blank x wanted shown inside same)
 
 gap-length : (start x : ℕ) (wanted : List Shown) → start ≤ x → x ≤ length wanted → length (take (x - start) (drop start wanted)) ≡ x - start
 gap-length start x wanted ordered inside = length-take-le (x - start) (drop start wanted) (omega (arith, length-drop start wanted))

@@ -9,6 +9,7 @@ mod outbox;
 mod page;
 mod painter;
 mod pen;
+mod room;
 mod tail;
 
 pub use changes::{Changes, Stretch};

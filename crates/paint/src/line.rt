@@ -1,10 +1,11 @@
 //! The walk over the cells of a line: a pen draws where the wanted one differs from the one that is shown.
 
-ghost use Rattle.std.specs.Prelude.{◌≡◌, ◌+◌, ◌<◌, ◌≤◌, ⊤, MatchOption, None, Some, drop, length, slice_set, take};
-ghost use Rattle.cell.specs.Pictures.{Picture, line_of, with_shown};
-ghost use Rattle.cell.specs.Shown.{no_rendition};
+ghost use Rattle.std.specs.Prelude.{◌≡◌, ◌+◌, ◌<◌, ◌≤◌, ℕ, ⊤, MatchOption, None, Some, drop, false, length, slice_index_or, slice_set, take};
+ghost use Rattle.cell.specs.Differences.{same_shown};
+ghost use Rattle.cell.specs.Pictures.{Picture, line_of};
+ghost use Rattle.cell.specs.Shown.{no_rendition, shown_blank};
 ghost use Rattle.streams.specs.Sinks.{Seen};
-ghost use Rattle.paint.specs.steps.Strokes.{Strokes, cell_bytes, line_bytes, reach_bytes};
+ghost use Rattle.paint.specs.steps.Strokes.{Strokes, line_bytes, reach_bytes, run_bytes, with_cells};
 ghost use Rattle.paint.specs.steps.Walks.{IsLinePainted, IsReadyToErase};
 
 use crate::gap::approach;
@@ -153,34 +154,73 @@ fn paint_cells<W: Sink>(
     ensures same { W.name sink.new ≡ W.name sink.old }
 {
     let mut gap = gap;
-    for x in start..end {
+    let mut x = start;
+    while x < end {
         if shown[x] == wanted[x] {
+            x += 1;
             continue;
         }
-        paint_cell(pen, sink, line, gap as u16, &wanted[gap..x], wanted[x]);
-        gap = x + 1;
+        let stop = run_end(shown, wanted, x, end);
+        paint_run(
+            pen,
+            sink,
+            line,
+            gap as u16,
+            &wanted[gap..x],
+            &wanted[x..stop],
+        );
+        gap = stop;
+        x = stop;
     }
     gap
 }
 
-/// Draws a cell behind a gap of cells that are shown already.
-fn paint_cell<W: Sink>(
+/// Where the run of changed cells of one rendition ends that begins at a column, before an end.
+fn run_end(shown: &[Shown], wanted: &[Shown], start: usize, end: usize) -> usize
+    requires same { length shown.now ≡ length wanted.now }
+    requires begun { start < end }
+    requires inside { end ≤ length wanted.now }
+    requires differs { same_shown (slice_index_or shown.now start shown_blank) (slice_index_or wanted.now start shown_blank) ≡ false }
+    ensures some { start < result }
+    ensures within { result ≤ end }
+    ensures changed { (x : ℕ) → start ≤ x → x < result
+        → same_shown (slice_index_or shown.now x shown_blank) (slice_index_or wanted.now x shown_blank) ≡ false }
+    ensures rendition { (x : ℕ) → start ≤ x → x < result
+        → (slice_index_or wanted.now x shown_blank).rendition ≡ (slice_index_or wanted.now start shown_blank).rendition }
+{
+    let rendition = wanted[start].rendition();
+    for x in start + 1..end {
+        if shown[x] == wanted[x] {
+            return x;
+        }
+        if wanted[x].rendition() != rendition {
+            return x;
+        }
+    }
+    end
+}
+
+/// Draws a run of cells of one rendition behind a gap of cells that are shown already.
+fn paint_run<W: Sink>(
     pen: &mut Pen,
     sink: &mut W,
     line: u16,
     start: u16,
     gap: &[Shown],
-    cell: Shown,
+    run: &[Shown],
 )
     requires line { line < LARGEST_SCREEN }
-    requires inside { start + length gap.now < pen.old.columns }
+    requires some { 0 < length run.now }
+    requires inside { start + length gap.now + length run.now ≤ pen.old.columns }
     requires columns { pen.old.columns ≤ LARGEST_SCREEN }
+    requires rendition { (k : ℕ) → k < length run.now → (slice_index_or run.now k shown_blank).rendition ≡ (slice_index_or run.now 0 shown_blank).rendition }
     ensures strokes { (picture : Picture) → length (line_of picture line) ≡ pen.old.columns
         → take (length gap.now) (drop start (line_of picture line)) ≡ gap.now
-        → Strokes (cell_bytes cell) (W.seen sink.old) (W.seen sink.new) pen.old pen.new picture (with_shown picture (line, start + length gap.now) cell) }
+        → Strokes (run_bytes run.now) (W.seen sink.old) (W.seen sink.new) pen.old pen.new picture (with_cells picture (line, start + length gap.now) run.now) }
     ensures columns { pen.new.columns ≡ pen.old.columns }
     ensures same { W.name sink.new ≡ W.name sink.old }
 {
-    approach(pen, sink, line, start, gap, cell.rendition());
-    pen.print(sink, line, start + gap.len() as u16, cell);
+    let first = run[0];
+    approach(pen, sink, line, start, gap, first.rendition());
+    pen.print_run(sink, line, start + gap.len() as u16, run);
 }

@@ -1,34 +1,42 @@
 //! Gathers a text in fixed room, from which it goes out in pieces.
 
-ghost use Rattle.std.specs.Prelude.{◌≡◌, ◌≤◌, ◌<◌, ◌^◌, ℕ, List, [], ◌∷◌, length};
+ghost use Rattle.std.specs.Prelude.{◌≡◌, ◌≤◌, ◌+◌, ◌<◌, ◌^◌, ℕ, List, [], ◌∷◌, length, slice_index_or};
+ghost use Rattle.cell.specs.Shown.{IsShown, shown_blank};
 ghost use Rattle.streams.specs.Sending.{Sends};
 ghost use Rattle.streams.specs.Sinks.{Seen};
 ghost use Rattle.paint.specs.steps.Gathering.{Gathers, IsGathered};
+ghost use Rattle.paint.specs.steps.Strokes.{characters};
 
-use arrayvec::ArrayVec;
-use streams::{Sink, WriteFault, append, send};
-
-/// How many bytes are gathered before they are sent.
-const ROOM: usize = 4096;
+use crate::room::{ROOM, Room};
+use cell::Shown;
+use std::alloc::{AllocError, Global};
+use streams::{Sink, WriteFault, send};
 
 /// The next piece of a text, and how many bytes went out before it. Once a write failed nothing more is sent.
 #[derive(Drop)]
 pub struct Outbox {
-    room: ArrayVec<u8, ROOM>,
+    room: Room,
     sent: u32,
     failed: bool,
 }
 
 impl Outbox {
     /// Nothing was gathered, and nothing was sent.
-    pub fn new() -> Outbox
-        ensures { (seen : Seen) → IsGathered seen seen result [] }
-    {
-        Outbox {
-            room: ArrayVec::new(),
+    pub fn new(alloc: Global) -> Result<Outbox, AllocError> {
+        Ok(Outbox {
+            room: Room::new(alloc)?,
             sent: 0,
             failed: false,
-        }
+        })
+    }
+
+    /// Begins a text: nothing of it was gathered, and nothing was sent.
+    pub fn begin(&mut self)
+        ensures { (seen : Seen) → IsGathered seen seen self.new [] }
+    {
+        self.room.clear();
+        self.sent = 0;
+        self.failed = false;
     }
 
     /// Puts a piece behind what was gathered.
@@ -37,20 +45,41 @@ impl Outbox {
         ensures gathers { Gathers (W.seen sink.old) (W.seen sink.new) self.old self.new piece.now }
         ensures same { W.name sink.new ≡ W.name sink.old }
     {
-        if piece.len() > ROOM - self.room.len() {
+        self.make_room(sink, piece.len());
+        self.room.append(piece);
+    }
+
+    /// Puts the characters of cells behind what was gathered.
+    pub fn put_characters<W: Sink>(&mut self, sink: &mut W, cells: &[Shown])
+        requires { length cells.now ≤ ROOM }
+        ensures gathers { Gathers (W.seen sink.old) (W.seen sink.new) self.old self.new (characters cells.now) }
+        ensures sound { (k : ℕ) → k < length cells.now → IsShown (slice_index_or cells.now k shown_blank) }
+        ensures same { W.name sink.new ≡ W.name sink.old }
+    {
+        self.make_room(sink, cells.len());
+        self.room.append_characters(cells);
+    }
+
+    /// Sends what was gathered, unless so many more bytes fit.
+    fn make_room<W: Sink>(&mut self, sink: &mut W, more: usize)
+        requires { more ≤ ROOM }
+        ensures gathers { Gathers (W.seen sink.old) (W.seen sink.new) self.old self.new [] }
+        ensures room { length self.new.room + more ≤ ROOM }
+        ensures same { W.name sink.new ≡ W.name sink.old }
+    {
+        if !self.room.fits(more) {
             self.hand_on(sink);
         }
-        append(&mut self.room, piece);
     }
 
     /// Sends what was gathered.
     fn hand_on<W: Sink>(&mut self, sink: &mut W)
         ensures gathers { Gathers (W.seen sink.old) (W.seen sink.new) self.old self.new [] }
-        ensures empty { self.new.room.items ≡ [] }
+        ensures empty { self.new.room ≡ [] }
         ensures same { W.name sink.new ≡ W.name sink.old }
     {
         if !self.failed {
-            match send(sink, 0, self.room.as_slice()) {
+            match send(sink, 0, self.room.bytes()) {
                 Ok(sent) => self.sent = self.sent.saturating_add(sent),
                 Err(fault) => {
                     self.sent = self.sent.saturating_add(fault.sent);
@@ -62,17 +91,16 @@ impl Outbox {
     }
 
     /// Sends what is left of a text, and says how many bytes went out.
-    pub fn finish<W: Sink>(self, sink: &mut W) -> Result<u32, WriteFault>
-        ensures sends { (start : Seen) (text : List ℕ) → IsGathered start (W.seen sink.old) self text → length text < 2 ^ 32
+    pub fn finish<W: Sink>(&mut self, sink: &mut W) -> Result<u32, WriteFault>
+        ensures sends { (start : Seen) (text : List ℕ) → IsGathered start (W.seen sink.old) self.old text → length text < 2 ^ 32
             → Sends start (W.seen sink.new) 0 text result }
         ensures same { W.name sink.new ≡ W.name sink.old }
     {
-        let mut outbox = self;
-        outbox.hand_on(sink);
-        if outbox.failed {
-            Err(WriteFault { sent: outbox.sent })
+        self.hand_on(sink);
+        if self.failed {
+            Err(WriteFault { sent: self.sent })
         } else {
-            Ok(outbox.sent)
+            Ok(self.sent)
         }
     }
 }

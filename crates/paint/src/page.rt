@@ -30,6 +30,7 @@ pub fn paint_picture<W: Sink>(
     requires height { length changes.now ≡ lines }
     requires changes { DifferOnly changes.now shown.now wanted.now }
     ensures strokes { Strokes (picture_bytes shown.now wanted.now) (W.seen sink.old) (W.seen sink.new) pen.old pen.new shown.now wanted.now }
+    ensures columns { pen.new.columns ≡ pen.old.columns }
     ensures same { W.name sink.new ≡ W.name sink.old }
 {
     let changed = changed_lines(shown, wanted, pen.columns(), changes);

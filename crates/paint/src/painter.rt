@@ -29,11 +29,12 @@ pub struct Painter {
     cursor: Option<(u16, u16)>,
     // All columns of all lines: those of a picture of which nothing is said.
     whole: Changes,
+    pen: Pen,
 }
 
 impl Model for Painter {
     ghost use Rattle.std.specs.Option.{option_map};
-    ghost use Rattle.std.specs.Prelude.{◌≤◌};
+    ghost use Rattle.std.specs.Prelude.{◌≡◌, ◌≤◌};
     ghost use Rattle.cell.specs.Pictures.{HasSize};
     ghost use Rattle.cell.specs.declared.limits.TheConstants.{LARGEST_SCREEN};
     ghost use Rattle.paint.specs.Changes.{IsWhole};
@@ -43,7 +44,7 @@ impl Model for Painter {
 
     ghost view = { λ p. record { lines = p.lines; columns = p.columns; last = option_map (λ cursor. record { picture = p.picture; cursor = cursor }) p.cursor } };
 
-    ghost invariant = { λ p. (p.lines ≤ LARGEST_SCREEN) × (p.columns ≤ LARGEST_SCREEN) × HasSize p.lines p.columns p.picture × IsWhole p.lines p.columns p.whole };
+    ghost invariant = { λ p. (p.lines ≤ LARGEST_SCREEN) × (p.columns ≤ LARGEST_SCREEN) × HasSize p.lines p.columns p.picture × IsWhole p.lines p.columns p.whole × (p.pen.columns ≡ p.columns) };
 }
 
 impl Painter {
@@ -59,12 +60,14 @@ impl Painter {
         }
         let picture = Grid::new(alloc, lines, columns)?;
         let whole = Changes::whole(alloc, lines, columns)?;
+        let pen = Pen::new(alloc, columns)?;
         Ok(Painter {
             lines,
             columns,
             picture,
             cursor: None,
             whole,
+            pen,
         })
     }
 
@@ -97,7 +100,8 @@ impl Painter {
     {
         let known = known_cursor(self.cursor, clear);
         self.cursor = None;
-        let pen = draw(
+        draw(
+            &mut self.pen,
             sink,
             (self.lines, self.columns),
             known,
@@ -106,7 +110,7 @@ impl Painter {
             cursor,
             &self.whole,
         );
-        let sent = send_text(pen, sink)?;
+        let sent = send_text(&mut self.pen, sink)?;
         self.picture.copy_from(picture);
         self.cursor = Some(cursor);
         Ok(sent)
@@ -138,7 +142,8 @@ impl Painter {
         }
         let known = self.cursor;
         self.cursor = None;
-        let pen = draw(
+        draw(
+            &mut self.pen,
             sink,
             (self.lines, self.columns),
             known,
@@ -147,7 +152,7 @@ impl Painter {
             cursor,
             changes,
         );
-        let sent = send_text(pen, sink)?;
+        let sent = send_text(&mut self.pen, sink)?;
         copy_changes(&mut self.picture, picture, self.columns, changes);
         self.cursor = Some(cursor);
         Ok(sent)
@@ -156,6 +161,7 @@ impl Painter {
 
 /// Draws what differs from what is known to be shown, or from a blank picture behind the opening. It may differ in some columns only.
 fn draw<W: Sink>(
+    pen: &mut Pen,
     sink: &mut W,
     size: (u16, u16),
     known: Option<(u16, u16)>,
@@ -163,7 +169,8 @@ fn draw<W: Sink>(
     picture: &Grid<Shown>,
     cursor: (u16, u16),
     changes: &Changes,
-) -> Pen
+)
+    requires width { pen.old.columns ≡ size.1 }
     requires lines { size.0 ≤ LARGEST_SCREEN }
     requires columns { size.1 ≤ LARGEST_SCREEN }
     requires shown { HasSize size.0 size.1 shown.old }
@@ -174,16 +181,16 @@ fn draw<W: Sink>(
     requires changes { DifferOnly changes.now (start_from (first_painter size.0 size.1) (last_shown shown.old known)).picture picture.now }
     ensures holds { (painter : PainterState) (clear : Bool) → painter.lines ≡ size.0 → painter.columns ≡ size.1
         → last_shown shown.old known ≡ known_to painter clear
-        → HoldsUpdate painter clear (record { picture = picture.now; cursor = cursor }) (W.seen sink.old) (W.seen sink.new) result.outbox }
+        → HoldsUpdate painter clear (record { picture = picture.now; cursor = cursor }) (W.seen sink.old) (W.seen sink.new) pen.new.outbox }
+    ensures columns { pen.new.columns ≡ pen.old.columns }
     ensures shown { shown.new ≡ (start_from (first_painter size.0 size.1) (last_shown shown.old known)).picture }
     ensures size { HasSize size.0 size.1 shown.new }
     ensures same { W.name sink.new ≡ W.name sink.old }
 {
-    let (lines, columns) = size;
-    let mut pen = begin(sink, columns, known, shown);
-    paint_picture(&mut pen, sink, lines, shown, picture, changes);
+    let (lines, _) = size;
+    begin(pen, sink, known, shown);
+    paint_picture(pen, sink, lines, shown, picture, changes);
     pen.end(sink, cursor);
-    pen
 }
 
 /// Takes over the columns of a picture, of lines of so many, in which it may differ from another.
@@ -208,38 +215,33 @@ fn known_cursor(cursor: Option<(u16, u16)>, clear: bool) -> Option<(u16, u16)>
     if clear { None } else { cursor }
 }
 
-/// Takes up a pen where the cursor is known to be. Where it is not, it clears the terminal, which shows a blank picture then.
-fn begin<W: Sink>(
-    sink: &mut W,
-    columns: u16,
-    known: Option<(u16, u16)>,
-    shown: &mut Grid<Shown>,
-) -> Pen
-    ensures gathered { IsGathered (W.seen sink.old) (W.seen sink.new) result.outbox (opening_from (last_shown shown.old known)) }
-    ensures cursor { (painter : PainterState) → result.cursor ≡ Some (start_from painter (last_shown shown.old known)).cursor }
+/// Begins a text where the cursor is known to be. Where it is not, it clears the terminal, which shows a blank picture then.
+fn begin<W: Sink>(pen: &mut Pen, sink: &mut W, known: Option<(u16, u16)>, shown: &mut Grid<Shown>)
+    ensures gathered { IsGathered (W.seen sink.old) (W.seen sink.new) pen.new.outbox (opening_from (last_shown shown.old known)) }
+    ensures cursor { (painter : PainterState) → pen.new.cursor ≡ Some (start_from painter (last_shown shown.old known)).cursor }
     ensures picture { (painter : PainterState) → HasSize painter.lines painter.columns shown.old
         → shown.new ≡ (start_from painter (last_shown shown.old known)).picture }
-    ensures size { (lines : ℕ) → HasSize lines columns shown.old → HasSize lines columns shown.new }
-    ensures rendition { result.rendition ≡ no_rendition }
-    ensures columns { result.columns ≡ columns }
+    ensures size { (lines columns : ℕ) → HasSize lines columns shown.old → HasSize lines columns shown.new }
+    ensures rendition { pen.new.rendition ≡ no_rendition }
+    ensures columns { pen.new.columns ≡ pen.old.columns }
     ensures same { W.name sink.new ≡ W.name sink.old }
 {
     match known {
-        Some(cursor) => Pen::new(columns, cursor),
+        Some(cursor) => pen.begin(cursor),
         None => {
             shown.clear();
-            let mut pen = Pen::new(columns, (0, 0));
+            pen.begin((0, 0));
             pen.open(sink);
-            pen
         }
     }
 }
 
 /// Sends what is left of a text, and flushes.
-fn send_text<W: Sink>(pen: Pen, sink: &mut W) -> Result<Sent, WriteFault>
+fn send_text<W: Sink>(pen: &mut Pen, sink: &mut W) -> Result<Sent, WriteFault>
     ensures text { (painter : PainterState) (clear : Bool) (wanted : ShownPicture) (start : Seen)
-        → HoldsUpdate painter clear wanted start (W.seen sink.old) pen.outbox
+        → HoldsUpdate painter clear wanted start (W.seen sink.old) pen.old.outbox
         → MatchResult result (λ sent. Updates painter clear start (W.seen sink.new) wanted sent.bytes) (λ fault. BreaksOff painter clear start (W.seen sink.new) wanted fault.sent) }
+    ensures columns { pen.new.columns ≡ pen.old.columns }
     ensures same { W.name sink.new ≡ W.name sink.old }
 {
     let sent = pen.finish(sink)?;

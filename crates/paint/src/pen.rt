@@ -1,8 +1,8 @@
 //! A pen: it knows where a terminal's cursor is and how the terminal prints, and draws there by strokes.
 
-ghost use Rattle.std.specs.Prelude.{◌≡◌, ◌+◌, ◌<◌, ◌≤◌, ⊤, MatchOption, ◌++◌, ◌∷◌, [], ℕ, List, length, Some, ◌^◌};
+ghost use Rattle.std.specs.Prelude.{◌≡◌, ◌+◌, ◌<◌, ◌≤◌, ⊤, MatchOption, ◌++◌, ◌∷◌, [], ℕ, IfOk, List, length, slice_index_or, Some, ◌^◌};
 ghost use Rattle.std.specs.Option.{option_map};
-ghost use Rattle.cell.specs.Shown.{no_rendition};
+ghost use Rattle.cell.specs.Shown.{no_rendition, shown_blank};
 ghost use Rattle.cell.specs.Pictures.{Picture, line_of, origin, with_shown};
 ghost use Rattle.ecma.specs.Spelling.{spelling, IsToken};
 ghost use Rattle.ecma.specs.Terminals.{erased_at, erased_page};
@@ -12,11 +12,12 @@ ghost use Rattle.streams.specs.Sending.{Sends};
 ghost use Rattle.streams.specs.Sinks.{Seen};
 ghost use Rattle.paint.specs.Updates.{opening};
 ghost use Rattle.paint.specs.steps.Gathering.{Gathers, IsGathered};
-ghost use Rattle.paint.specs.steps.Strokes.{behind, change, is_at, move_from, ArePrinted, Draws};
+ghost use Rattle.paint.specs.steps.Strokes.{behind, change, characters, is_at, move_from, with_cells, within, ArePrinted, Draws};
 
 use crate::outbox::Outbox;
 use cell::{LARGEST_SCREEN, Rendition, Shown};
 use ecma::{Erase, LONGEST_SPELLING, Token, spell};
+use std::alloc::{AllocError, Global};
 use streams::{Sink, WriteFault};
 
 /// Draws on terminals of some columns.
@@ -30,19 +31,28 @@ pub struct Pen {
 }
 
 impl Pen {
-    /// A pen that gathered nothing, at a cursor, with the empty rendition.
-    pub fn new(columns: u16, cursor: (u16, u16)) -> Pen
-        ensures nothing { (seen : Seen) → IsGathered seen seen result.outbox [] }
-        ensures columns { result.columns ≡ columns }
-        ensures cursor { result.cursor ≡ Some cursor }
-        ensures rendition { result.rendition ≡ no_rendition }
+    /// A pen that gathered nothing.
+    pub fn new(alloc: Global, columns: u16) -> Result<Pen, AllocError>
+        ensures { IfOk result (λ pen. pen.columns ≡ columns) }
     {
-        Pen {
-            outbox: Outbox::new(),
+        Ok(Pen {
+            outbox: Outbox::new(alloc)?,
             columns,
-            cursor: Some(cursor),
+            cursor: None,
             rendition: Rendition::NONE,
-        }
+        })
+    }
+
+    /// Begins a text, at a cursor and with the empty rendition.
+    pub fn begin(&mut self, cursor: (u16, u16))
+        ensures nothing { (seen : Seen) → IsGathered seen seen self.new.outbox [] }
+        ensures columns { self.new.columns ≡ self.old.columns }
+        ensures cursor { self.new.cursor ≡ Some cursor }
+        ensures rendition { self.new.rendition ≡ no_rendition }
+    {
+        self.outbox.begin();
+        self.cursor = Some(cursor);
+        self.rendition = Rendition::NONE;
     }
 
     /// Puts a token behind what was gathered.
@@ -182,6 +192,33 @@ impl Pen {
         }
     }
 
+    /// Prints some cells from the cursor on, which is at this place. They have the rendition in force.
+    pub fn print_run<W: Sink>(&mut self, sink: &mut W, line: u16, column: u16, cells: &[Shown])
+        requires cursor { self.old.cursor ≡ Some (line, column) }
+        requires rendition { (k : ℕ) → k < length cells.now → (slice_index_or cells.now k shown_blank).rendition ≡ self.old.rendition }
+        requires some { 0 < length cells.now }
+        requires inside { column + length cells.now ≤ self.old.columns }
+        requires columns { self.old.columns ≤ LARGEST_SCREEN }
+        ensures draws { (picture : Picture) → length (line_of picture line) ≡ self.old.columns
+            → Draws (characters cells.now) (W.seen sink.old) (W.seen sink.new) self.old self.new picture (with_cells picture (line, column) cells.now) }
+        ensures columns { self.new.columns ≡ self.old.columns }
+        ensures same { W.name sink.new ≡ W.name sink.old }
+    {
+        self.outbox.put_characters(sink, cells);
+        self.cursor = self.within(line, column + cells.len() as u16);
+    }
+
+    /// A place of a line, if it has the column.
+    fn within(&self, line: u16, column: u16) -> Option<(u16, u16)>
+        ensures { result ≡ within self.now.columns (line, column) }
+    {
+        if column < self.columns {
+            Some((line, column))
+        } else {
+            None
+        }
+    }
+
     /// Prints cells that the terminal shows already, each in its rendition. The cursor is at the first of them, and there is a place
     /// behind the last.
     pub fn print_again<W: Sink>(&mut self, sink: &mut W, line: u16, column: u16, cells: &[Shown])
@@ -238,9 +275,10 @@ impl Pen {
     }
 
     /// Sends what is left of the text, and says how many bytes went out.
-    pub fn finish<W: Sink>(self, sink: &mut W) -> Result<u32, WriteFault>
-        ensures sends { (start : Seen) (text : List ℕ) → IsGathered start (W.seen sink.old) self.outbox text → length text < 2 ^ 32
+    pub fn finish<W: Sink>(&mut self, sink: &mut W) -> Result<u32, WriteFault>
+        ensures sends { (start : Seen) (text : List ℕ) → IsGathered start (W.seen sink.old) self.old.outbox text → length text < 2 ^ 32
             → Sends start (W.seen sink.new) 0 text result }
+        ensures columns { self.new.columns ≡ self.old.columns }
         ensures same { W.name sink.new ≡ W.name sink.old }
     {
         self.outbox.finish(sink)

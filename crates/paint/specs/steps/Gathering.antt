@@ -16,7 +16,7 @@ GoesOut true start now room sent text = (taken : ℕ) × (sent ≡ counted_bytes
 
 -- The sink was seen so at the text's start, and is seen so now.
 pub record IsGathered (start now : Seen) (outbox : Outbox) (text : List ℕ) : Type 0 where
-  pub goes_out : GoesOut outbox.failed start now outbox.room.items outbox.sent text
+  pub goes_out : GoesOut outbox.failed start now outbox.room outbox.sent text
 
 -- the piece was put behind what was gathered
 abbrev pub Gathers : Seen → Seen → Outbox → Outbox → List ℕ → Type 0

@@ -1,7 +1,7 @@
 -- What the strokes of a pen send, what a terminal shows behind them, and how many bytes they have.
-use Rattle.std.specs.Prelude.{◌≡◌, ℕ, ◌+◌, ◌-◌, ◌*◌, ◌≤◌, min, if◌then◌else◌, List, [], ◌∷◌, length, take, drop, Option, Some, None, Bool, false, nat_lt}
-use Rattle.cell.specs.Shown.{Rendition, Shown, has_colour, no_rendition}
-use Rattle.cell.specs.Pictures.{Picture, Place, line_of}
+use Rattle.std.specs.Prelude.{◌≡◌, ℕ, ◌+◌, ◌-◌, ◌*◌, ◌≤◌, min, if◌then◌else◌, List, [], ◌∷◌, length, map, take, drop, Option, Some, None, Bool, false, nat_lt, slice_index_or}
+use Rattle.cell.specs.Shown.{Rendition, Shown, has_colour, no_rendition, shown_blank}
+use Rattle.cell.specs.Pictures.{Picture, Place, line_of, with_shown}
 use Rattle.cell.specs.Differences.{same_rendition, line_difference, difference}
 use Rattle.ecma.specs.Difference.{line_colour_difference, colour_difference}
 use Rattle.ecma.specs.Spelling.{spelling}
@@ -32,7 +32,20 @@ move_from cursor place = if is_at cursor place then [] else spelling (Cup place.
 abbrev pub behind : ℕ → Place → Option Place
 behind columns place = if nat_lt (place.1 + 1) columns then Some (place.0, place.1 + 1) else None
 
+-- a place of a line, if it has the column
+abbrev pub within : ℕ → Place → Option Place
+within columns place = if nat_lt place.1 columns then Some place else None
+
 -- ---- what they do
+
+-- cells in a line, one after another from a place on
+abbrev pub with_cells : Picture → Place → List Shown → Picture
+with_cells picture place [] = picture
+with_cells picture place (cell ∷ cells) = with_cells (with_shown picture place cell) (place.0, place.1 + 1) cells
+
+-- what is sent for them
+abbrev pub characters : List Shown → List ℕ
+characters cells = map (λ cell. cell.character) cells
 
 -- the terminal that shows this picture, with the pen's cursor and rendition
 abbrev pub under : Pen → Picture → Terminal
@@ -90,6 +103,10 @@ most_approach rendition = 10 + length (spelling (Sgr rendition))
 -- these and a character
 abbrev pub cell_bytes : Shown → ℕ
 cell_bytes cell = 27 + (if has_colour cell.rendition then 6 else 0)
+
+-- these of the first of some cells, and the characters of the others
+abbrev pub run_bytes : List Shown → ℕ
+run_bytes cells = cell_bytes (slice_index_or cells 0 shown_blank) + (length cells - 1)
 
 abbrev pub line_bytes : List Shown → List Shown → ℕ
 line_bytes old new = 27 * line_difference old new + 6 * line_colour_difference old new

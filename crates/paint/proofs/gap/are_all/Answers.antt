@@ -1,14 +1,10 @@
-use Rattle.std.proofs.Common.{◌≡◌, Bool, true, false, refl, sym, ap, ◌∙◌}
-use Rattle.std.specs.Prelude.{not}
+use Rattle.std.proofs.Common.{◌≡◌, sym, ap, ◌∙◌}
 use Rattle.std.proofs.lemmas.List.{take_all}
 use Rattle.std.proofs.lemmas.List.Elements.{All-more}
 use Rattle.cell.specs.Shown.{Shown}
 use Rattle.ecma.proofs.Difference.{same_rendition-equal}
+use Rattle.paint.proofs.Runs.{not-other}
 use Rattle.paint.proofs.gap.are_all.Goals as goal
-
-not-other : (same : Bool) → not same ≡ false → same ≡ true
-not-other true h = refl
-not-other false h = absurd cc
 
 pub loop-cell-preserved : goal.loop-cell-preserved
 loop-cell-preserved c =

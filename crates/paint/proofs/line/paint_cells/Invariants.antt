@@ -1,4 +1,4 @@
-use Rattle.std.proofs.Common.{◌≡◌, ◌≤◌}
+use Rattle.std.proofs.Common.{◌≡◌, ◌-◌, ◌≤◌}
 use Rattle.streams.specs.Sinks.{Seen}
 use Rattle.paint.specs.declared.pen.Pen.{Pen}
 use Rattle.paint.specs.steps.Walks.{IsLinePainted}
@@ -9,6 +9,10 @@ invariant-loop-x g l = record {
   painted : (before : Seen) (old : Pen) → IsLinePainted before (g.W.Sink.seen l.fn.sink) old l.fn.pen l.line l.start l.shown l.wanted
       → IsLinePainted before (g.W.Sink.seen l.sink) old l.pen l.line l.x l.shown l.wanted;
   gap : l.gap ≤ l.x;
+  within : l.x ≤ l.end;
   columns : l.pen.columns ≡ l.fn.pen.columns;
   same : g.W.Sink.name l.sink ≡ g.W.Sink.name l.fn.sink;
 }
+
+abbrev pub decreases-loop-x : goal.decreases-loop-x
+decreases-loop-x g l = l.end - l.x

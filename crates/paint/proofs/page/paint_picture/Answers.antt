@@ -1,5 +1,6 @@
-use Rattle.std.proofs.Common.{◌≡◌, ◌+◌, ◌-◌, ◌<◌, ◌≤◌, ◌∙◌, length, refl, sym, subst, arith}
+use Rattle.std.proofs.Common.{◌≡◌, ◌+◌, ◌-◌, ◌<◌, ◌≤◌, ◌∙◌, length, refl, sym, ap, subst, arith}
 use Rattle.paint.specs.Changes.{stretch_of}
+use Rattle.paint.specs.declared.pen.Pen.{Pen}
 use Rattle.paint.specs.steps.Walks.{IsWithin}
 use Rattle.paint.proofs.Alike.{line-back, line-front, line-whole, lines-front}
 use Rattle.paint.proofs.Mixed.{drop-later}
@@ -79,3 +80,6 @@ pub returns-clause-strokes : goal.returns-clause-strokes
 returns-clause-strokes g c =
     picture-painted c.loop-line.invariant.painted
     (drop-later c.changed_lines-changed.result c.loop-line.line c.args.shown.now c.args.wanted.now c.loop-line-test.false c.changed_lines-changed.ensures.kept)
+
+pub returns-in-Some-clause-columns : goal.returns-in-Some-clause-columns
+returns-in-Some-clause-columns g c = ap (λ (pen : Pen). pen.columns) c.erase_page.ensures.rest ∙ c.paint_last_line.ensures.columns ∙ c.loop-line.invariant.painted.columns

@@ -6,25 +6,25 @@ use Rattle.paint.proofs.Holding.{holds-from}
 use Rattle.paint.proofs.painter.draw.Goals as goal
 
 pub paint_picture-requires-clause-shown : goal.paint_picture-requires-clause-shown
-paint_picture-requires-clause-shown g c = rw c.begin-pen.ensures.columns (c.begin-pen.ensures.size c.args.size.0 c.requires.shown)
+paint_picture-requires-clause-shown g c = rw (c.begin.ensures.columns, c.requires.width) (c.begin.ensures.size c.args.size.0 c.args.size.1 c.requires.shown)
 
 pub paint_picture-requires-clause-changes : goal.paint_picture-requires-clause-changes
 paint_picture-requires-clause-changes g c =
-    subst (λ p. DifferOnly c.args.changes.now p c.args.picture.now) (sym (c.begin-pen.ensures.picture (first_painter c.args.size.0 c.args.size.1) c.requires.shown)) c.requires.changes
+    subst (λ p. DifferOnly c.args.changes.now p c.args.picture.now) (sym (c.begin.ensures.picture (first_painter c.args.size.0 c.args.size.1) c.requires.shown)) c.requires.changes
 
 pub returns-clause-holds : goal.returns-clause-holds
 returns-clause-holds g c = λ painter clear lines columns known.
     let wanted : ShownPicture = record { picture = c.args.picture.now; cursor = c.args.cursor } in
     let shown_size : HasSize painter.lines painter.columns c.args.shown.now = rw (lines, columns) c.requires.shown in
     let size : HasSize painter.lines painter.columns c.args.picture.now = rw (lines, columns) c.requires.wanted in
-    let new_size : HasSize painter.lines painter.columns c.begin-pen.new.shown = rw (lines, columns) (c.begin-pen.ensures.size c.args.size.0 c.requires.shown) in
+    let new_size : HasSize painter.lines painter.columns c.begin.new.shown = rw (lines, columns) (c.begin.ensures.size c.args.size.0 c.args.size.1 c.requires.shown) in
     holds-from painter clear wanted (rw lines c.requires.lines) (rw columns c.requires.columns) size (rw lines c.requires.line) (rw columns c.requires.column)
-    known (c.begin-pen.ensures.picture painter shown_size) new_size
-    c.begin-pen.ensures.gathered (c.begin-pen.ensures.cursor painter) c.begin-pen.ensures.rendition
+    known (c.begin.ensures.picture painter shown_size) new_size
+    c.begin.ensures.gathered (c.begin.ensures.cursor painter) c.begin.ensures.rendition
     c.paint_picture.ensures.strokes c.end.ensures.draws c.end.ensures.cursor c.end.ensures.rendition
 
 pub returns-clause-shown : goal.returns-clause-shown
-returns-clause-shown g c = c.begin-pen.ensures.picture (first_painter c.args.size.0 c.args.size.1) c.requires.shown
+returns-clause-shown g c = c.begin.ensures.picture (first_painter c.args.size.0 c.args.size.1) c.requires.shown
 
 pub returns-clause-size : goal.returns-clause-size
-returns-clause-size g c = c.begin-pen.ensures.size c.args.size.0 c.requires.shown
+returns-clause-size g c = c.begin.ensures.size c.args.size.0 c.args.size.1 c.requires.shown

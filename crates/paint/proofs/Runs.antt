@@ -1,0 +1,159 @@
+-- Runs of cells: printed one after another, and drawn in a line.
+use Rattle.std.proofs.Common.{◌≡◌, Bool, ℕ, zero, suc, ◌+◌, ◌-◌, ◌<◌, ◌≤◌, true, false, List, [], ◌∷◌, ◌++◌, length, get_or, set, take, drop, inl, inr, Some, refl, sym, ap, ◌∙◌, subst, arith, length-append, length-set}
+use Rattle.std.specs.Prelude.{not}
+use Rattle.std.proofs.lemmas.Bool.{cases_lt, lt-ltb}
+use Rattle.std.proofs.lemmas.List.{get_or_past, get_or-drop, get_or-set_same, get_or-take, length-map}
+use Rattle.cell.specs.Shown.{IsRendition, IsShown, Rendition, Shown, shown_blank}
+use Rattle.cell.specs.Pictures.{Picture, line_of, with_shown}
+use Rattle.cell.specs.Differences.{same_shown}
+use Rattle.ecma.proofs.Joining.{Leads-append}
+use Rattle.ecma.proofs.Leading.{Leads-nothing, Leads-token}
+use Rattle.ecma.proofs.Lengths.{length-selection}
+use Rattle.ecma.proofs.Printing.{printable}
+use Rattle.ecma.specs.Streams.{Leads}
+use Rattle.ecma.specs.Terminals.{Terminal}
+use Rattle.ecma.specs.declared.token.Token.TheVariants.{Print}
+use Rattle.streams.specs.Sinks.{Seen}
+use Rattle.paint.specs.declared.pen.Pen.{Pen}
+use Rattle.paint.specs.steps.Gathering.{Gathers}
+use Rattle.paint.specs.steps.Strokes.{Draws, Strokes, cell_bytes, characters, line_bytes, most_approach, run_bytes, with_cells, within}
+use Rattle.paint.specs.steps.Walks.{mixed, IsLinePainted}
+use Rattle.paint.proofs.Mixed.{length-mixed, take-mixed}
+use Rattle.paint.proofs.Strokes.{Draws-then, Strokes-then, spelled-print}
+use Rattle.paint.proofs.Walks.{left, line_bytes-other, one-drawn}
+
+-- ---- what a terminal shows behind a run
+
+abbrev at : Picture → ℕ → ℕ → ℕ → Rendition → Terminal
+at picture columns line column rendition = record { picture = picture; cursor = within columns (line, column); rendition = rendition }
+
+character-leads : (columns line column : ℕ) (picture : Picture) (rendition : Rendition) (cell : Shown) → IsShown cell → cell.rendition ≡ rendition → length (line_of picture line) ≡ columns → column < columns
+    → Leads (cell.character ∷ []) (at picture columns line column rendition) (at (with_shown picture (line, column) cell) columns line (column + 1) rendition)
+character-leads columns line column picture rendition cell is same wide inside = rw (← spelled-print cell.character)
+    (Leads-token (Print cell.character) (at picture columns line column rendition) (at (with_shown picture (line, column) cell) columns line (column + 1) rendition)
+    (printable cell.character is.from_space is.to_tilde)
+    (rw (lt-ltb column columns inside, wide, ← same) refl))
+
+-- a line keeps its width
+still-wide : (columns line column : ℕ) (picture : Picture) (cell : Shown) → length (line_of picture line) ≡ columns → column < columns
+    → length (line_of (with_shown picture (line, column) cell) line) ≡ columns
+still-wide columns line column picture cell wide inside = elim (cases_lt line (length picture)) [
+  | inl high ↦ ap length (get_or-set_same picture line (set (line_of picture line) column cell) [] high) ∙ length-set (line_of picture line) column cell ∙ wide
+  | inr past ↦ let none : length (line_of picture line) ≡ 0 = ap (length {A = Shown}) (get_or_past picture line [] past) in absurd (omega arith)
+]
+
+run-leads : (columns line column end : ℕ) (picture : Picture) (rendition : Rendition) (cells : List Shown) → ((k : ℕ) → k < length cells → IsShown (get_or cells k shown_blank))
+    → ((k : ℕ) → k < length cells → (get_or cells k shown_blank).rendition ≡ rendition) → length (line_of picture line) ≡ columns → column + length cells ≡ end → end ≤ columns
+    → Leads (characters cells) (at picture columns line column rendition) (at (with_cells picture (line, column) cells) columns line end rendition)
+run-leads columns line column end picture rendition [] sound same wide ends room =
+    let none : column ≡ end = omega arith in
+    subst (λ n. Leads [] (at picture columns line column rendition) (at picture columns line n rendition)) none (Leads-nothing (at picture columns line column rendition))
+run-leads columns line column end picture rendition (cell ∷ cells) sound same wide ends room =
+    let inside : column < columns = omega arith in
+    Leads-append (cell.character ∷ []) (characters cells) (at picture columns line column rendition) (at (with_shown picture (line, column) cell) columns line (column + 1) rendition)
+    (at (with_cells picture (line, column) (cell ∷ cells)) columns line end rendition)
+    (character-leads columns line column picture rendition cell (sound 0 (omega arith)) (same 0 (omega arith)) wide inside)
+    (run-leads columns line (column + 1) end (with_shown picture (line, column) cell) rendition cells (λ k few. sound (suc k) (omega arith)) (λ k few. same (suc k) (omega arith))
+    (still-wide columns line column picture cell wide inside) (omega arith) room)
+
+pub prints-run : {before after : Seen} (old new : Pen) (line column : ℕ) (cells : List Shown) (picture : Picture) → ((k : ℕ) → k < length cells → IsShown (get_or cells k shown_blank))
+    → ((k : ℕ) → k < length cells → (get_or cells k shown_blank).rendition ≡ old.rendition) → 0 < length cells → column + length cells ≤ old.columns → old.cursor ≡ Some (line, column)
+    → length (line_of picture line) ≡ old.columns → Gathers before after old.outbox new.outbox (characters cells)
+    → new.rendition ≡ old.rendition → new.cursor ≡ within old.columns (line, column + length cells)
+    → Draws (characters cells) before after old new picture (with_cells picture (line, column) cells)
+prints-run old new line column cells picture sound same some room known wide gathers rendition cursor =
+    let start : old.cursor ≡ within old.columns (line, column) = known ∙ sym (rw (lt-ltb column old.columns (omega arith)) refl) in
+    let leads = run-leads old.columns line column (column + length cells) picture old.rendition cells sound same wide refl room in
+    record { gathers = gathers; leads = rw (start, cursor, rendition) leads }
+
+-- ---- a run behind an approach
+
+pub run-strokes : {a b c : Seen} {x y z : Pen} {picture drawn : Picture} {n : ℕ} (cells : List Shown) → IsRendition (get_or cells 0 shown_blank).rendition → 0 < length cells
+    → n ≤ most_approach (get_or cells 0 shown_blank).rendition → Strokes n a b x y picture picture
+    → Draws (characters cells) b c y z picture drawn → Strokes (run_bytes cells) a c x z picture drawn
+run-strokes cells is some few h k = record {
+  piece = h.piece ++ characters cells;
+  draws = Draws-then h.draws k;
+  short = omega (arith, h.short, few, length-append h.piece (characters cells), length-map cells (λ (cell : Shown). cell.character), length-selection (get_or cells 0 shown_blank).rendition is);
+}
+
+-- ---- a run in a line
+
+-- the cells of a run are those of the wanted line
+run-mixed : (picture : Picture) (line x : ℕ) (shown wanted cells : List Shown) → line < length picture → length shown ≡ length wanted → x + length cells ≤ length shown
+    → ((k : ℕ) → k < length cells → get_or cells k shown_blank ≡ get_or wanted (x + k) shown_blank)
+    → with_cells (set picture line (mixed x wanted shown)) (line, x) cells ≡ set picture line (mixed (x + length cells) wanted shown)
+run-mixed picture line x shown wanted [] high same room are = let none : x ≡ x + 0 = omega arith in ap (λ n. set picture line (mixed n wanted shown)) none
+run-mixed picture line x shown wanted (cell ∷ cells) high same room are =
+    let here : x + 0 ≡ x = omega arith in
+    let is : cell ≡ get_or wanted x shown_blank = are 0 (omega arith) ∙ ap (λ n. get_or wanted n shown_blank) here in
+    let next : x + 1 + length cells ≡ x + suc (length cells) = omega arith in
+    ap (λ p. with_cells p (line, x + 1) cells) (one-drawn picture line x shown wanted cell high same (omega arith) is)
+    ∙ run-mixed picture line (x + 1) shown wanted cells high same (omega arith)
+    (λ k few. let later : x + suc k ≡ x + 1 + k = omega arith in are (suc k) (omega arith) ∙ ap (λ n. get_or wanted n shown_blank) later)
+    ∙ ap (λ n. set picture line (mixed n wanted shown)) next
+
+-- each may cost a byte at least
+run-cost : (x n : ℕ) (shown wanted : List Shown) → length shown ≡ length wanted → x + n ≤ length shown
+    → ((v : ℕ) → x ≤ v → v < x + n → same_shown (get_or shown v shown_blank) (get_or wanted v shown_blank) ≡ false)
+    → n + line_bytes (drop (x + n) shown) (drop (x + n) wanted) ≤ line_bytes (drop x shown) (drop x wanted)
+run-cost x zero shown wanted same room differs = let none : x + 0 ≡ x = omega arith in omega (arith, ap (λ n. line_bytes (drop n shown) (drop n wanted)) none)
+run-cost x (suc n) shown wanted same room differs =
+    let next : x + suc n ≡ x + 1 + n = omega arith in
+    omega (
+      arith,
+      left x shown wanted same (omega arith),
+      line_bytes-other (get_or shown x shown_blank) (get_or wanted x shown_blank) (drop (x + 1) shown) (drop (x + 1) wanted) (differs x (omega arith) (omega arith)),
+      run-cost (x + 1) n shown wanted same (omega arith) (λ v from to. differs v (omega arith) (omega arith)),
+      ap (λ k. line_bytes (drop k shown) (drop k wanted)) next,
+    )
+
+pub line-run : {before mid now : Seen} {old pen next : Pen} {line x : ℕ} {shown wanted : List Shown} (cells : List Shown) → length shown ≡ length wanted → 0 < length cells → x + length cells ≤ length shown
+    → IsLinePainted before mid old pen line x shown wanted → length shown ≡ old.columns
+    → ((k : ℕ) → k < length cells → get_or cells k shown_blank ≡ get_or wanted (x + k) shown_blank)
+    → ((v : ℕ) → x ≤ v → v < x + length cells → same_shown (get_or shown v shown_blank) (get_or wanted v shown_blank) ≡ false)
+    → ((picture : Picture) → length (line_of picture line) ≡ pen.columns → take x (line_of picture line) ≡ take x wanted
+    → Strokes (run_bytes cells) mid now pen next picture (with_cells picture (line, x) cells))
+    → next.columns ≡ pen.columns → IsLinePainted before now old next line (x + length cells) shown wanted
+line-run {mid} {now} {pen} {next} {line} {x} {shown} {wanted} cells same some room h wide are differs strokes columns = record {
+  spent = h.spent + run_bytes cells;
+  within =
+      let here : x + 0 ≡ x = omega arith in
+      let next : x + 1 + (length cells - 1) ≡ x + length cells = omega arith in
+      let first : get_or cells 0 shown_blank ≡ get_or wanted x shown_blank = are 0 some ∙ ap (λ n. get_or wanted n shown_blank) here in
+      omega (
+        arith,
+        h.within,
+        left x shown wanted same (omega arith),
+        line_bytes-other (get_or shown x shown_blank) (get_or wanted x shown_blank) (drop (x + 1) shown) (drop (x + 1) wanted) (differs x (omega arith) (omega arith)),
+        run-cost (x + 1) (length cells - 1) shown wanted same (omega arith) (λ v from to. differs v (omega arith) (omega arith)),
+        ap (λ k. line_bytes (drop k shown) (drop k wanted)) next,
+        ap cell_bytes first,
+      );
+  strokes = λ picture high at.
+      let row = mixed x wanted shown in
+      let here : line_of (set picture line row) line ≡ row = get_or-set_same picture line row [] high in
+      let long : length (line_of (set picture line row) line) ≡ pen.columns = ap length here ∙ length-mixed x wanted shown same ∙ wide ∙ sym h.columns in
+      Strokes-then (h.strokes picture high at) (subst (Strokes (run_bytes cells) mid now pen next (set picture line row)) (run-mixed picture line x shown wanted cells high same room are)
+      (strokes (set picture line row) long (ap (take x) here ∙ take-mixed x wanted shown (omega arith))));
+  columns = columns ∙ h.columns;
+}
+
+-- a part of the wanted line as a run
+pub part-of : (x stop k : ℕ) (wanted : List Shown) → k < stop - x → get_or (take (stop - x) (drop x wanted)) k shown_blank ≡ get_or wanted (x + k) shown_blank
+part-of x stop k wanted few = get_or-take (stop - x) (drop x wanted) k shown_blank few ∙ get_or-drop x wanted k shown_blank
+
+-- all of which has the rendition of its first cell, if the line has it there
+pub part-alike : (x stop k : ℕ) (wanted : List Shown) → k < stop - x
+    → ((v : ℕ) → x ≤ v → v < stop → (get_or wanted v shown_blank).rendition ≡ (get_or wanted x shown_blank).rendition)
+    → (get_or (take (stop - x) (drop x wanted)) k shown_blank).rendition ≡ (get_or (take (stop - x) (drop x wanted)) 0 shown_blank).rendition
+part-alike x stop k wanted few alike =
+    let here : x ≡ x + 0 = omega arith in
+    ap (λ (cell : Shown). cell.rendition) (part-of x stop k wanted few)
+    ∙ alike (x + k) (omega arith) (omega arith)
+    ∙ ap (λ n. (get_or wanted n shown_blank).rendition) here
+    ∙ ap (λ (cell : Shown). cell.rendition) (sym (part-of x stop 0 wanted (omega arith)))
+
+pub not-other : (same : Bool) → not same ≡ false → same ≡ true
+not-other true h = refl
+not-other false h = absurd cc
