@@ -1,5 +1,5 @@
-# follow NAME LOG CRATES COMMAND..: runs a command of `rt`, puts all that it says into a log, and tells on standard error, behind a name,
-# which of the crates it is proving. Where the command fails, the log's end comes behind that, and the status is not 0.
+# follow NAME LOG CRATES COMMAND..: runs a command of `rt`, puts all that it says into a log, and tells on standard error, after a name,
+# which of the crates it is proving. Where the command fails, the log's end comes after that, and the status is not 0.
 follow() {
     local name=$1 log=$2 crates=$3
     shift 3

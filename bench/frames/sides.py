@@ -56,7 +56,7 @@ class Bench:
         return whole, [0] + sent
 
     def ncurses_frames(self, script, size):
-        """What ncurses sent, and how much of it at the start and behind each frame."""
+        """What ncurses sent, and how much of it at the start and after each frame."""
         out, frames = f'{self.work}/out', f'{self.work}/frames'
         subprocess.run(self.reference(size, out) + [frames], input=as_text(script), env=self.environment, check=True)
         with open(out, 'rb') as sent, open(frames) as offsets:
@@ -67,7 +67,7 @@ class Bench:
         return [f'{self.work}/ncurses_run', str(lines), str(columns), out]
 
     def compare_pictures(self, size, ours, our_ends, theirs, their_ends):
-        """Both must show the same behind some frames, the last one among them."""
+        """Both must show the same after some frames, the last one among them."""
         last = len(their_ends) - 1
         for frame in sorted({max(1, last * part // 5) for part in range(1, 6)}):
             left = self.curspan('show', size, ours[:our_ends[frame]]) if our_ends else None
@@ -75,7 +75,7 @@ class Bench:
                 left = self.curspan('show', size, ours)
             right = self.curspan('show', size, theirs[:their_ends[frame]])
             if left is not None and left != right:
-                raise Failure(f'behind frame {frame} the pictures differ')
+                raise Failure(f'after frame {frame} the pictures differ')
 
     def spend(self, words, script):
         """The processor time of a program on a script, in seconds."""

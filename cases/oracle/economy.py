@@ -8,7 +8,7 @@ def position(place):
 
 
 class Reading:
-    """Reads the text of an update, behind its opening, item by item."""
+    """Reads the text of an update, after its opening, item by item."""
 
     def __init__(self, lines, columns, update):
         self.update = update
@@ -16,7 +16,7 @@ class Reading:
         self.terminal.picture = [line[:] for line in update.before]
         self.terminal.cursor = update.cursor_before
         self.before = None      # the final byte of the item before
-        self.gap = None         # how many unchanged cells were printed behind a changed one; None where no gap may begin
+        self.gap = None         # how many unchanged cells were printed after a changed one; None where no gap may begin
 
     def is_changed(self, place):
         y, x = place
@@ -54,7 +54,7 @@ class Reading:
 
     def waste_of_end(self):
         """A gap leads to a changed cell."""
-        return 'a gap behind which no changed cell stands' if self.gap else None
+        return 'a gap after which no changed cell stands' if self.gap else None
 
     def begins_blank_end(self, place):
         y, x = place
@@ -75,7 +75,7 @@ class Reading:
 
 
 def waste_of(update, text, lines, columns):
-    """Why a text, behind its opening, has an item that isn't needed, or None."""
+    """Why a text, after its opening, has an item that isn't needed, or None."""
     reading = Reading(lines, columns, update)
     for item in ITEM.finditer(text):
         waste = reading.waste_of(item)

@@ -64,7 +64,7 @@ class Run:
         return 2 if self.fault else 1 if self.has_refusals else 0
 
     def painted(self):
-        """What paint prints: the picture of the windows, and nothing behind a fault."""
+        """What paint prints: the picture of the windows, and nothing after a fault."""
         if self.fault:
             return ''
         return picture_text(self.world.picture(), self.world.screen_cursor(self.world.topmost()))

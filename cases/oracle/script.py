@@ -89,7 +89,7 @@ READERS = {'number': unsigned, 'signed': signed, 'attributes': attributes, 'flag
 
 
 def pieces_of(line, forms):
-    """The words of a line behind its call. A text or a character is all that is left behind the space before it."""
+    """The words of a line after its call. A text or a character is all that is left after the space before it."""
     if forms and forms[-1] in ('text', 'character'):
         return line.split(b' ', len(forms))[1:]
     return line.split(b' ')[1:]
@@ -124,7 +124,7 @@ def read_line(line):
 
 
 def lines_of(script):
-    """The lines of a script. What stands behind the last newline is a line where it isn't empty."""
+    """The lines of a script. What stands after the last newline is a line where it isn't empty."""
     lines = script.split(b'\n')
     return lines[:-1] if lines[-1] == b'' else lines
 

@@ -1,4 +1,4 @@
-"""What a stream of bytes leaves on a terminal: items one behind the other, each with an effect or none."""
+"""What a stream of bytes leaves on a terminal: items one after the other, each with an effect or none."""
 import re
 
 from . import cells

@@ -1,7 +1,7 @@
 # Reads a case, and writes what came in the same form, which ../README.md tells. A case is kept in
 #   steps      how many scripts or streams it has, or 1
 #   order      its sections, each as the number of its step and its name
-#   head       what stands behind the name of each
+#   head       what stands after the name of each
 #   body       the lines of each, without marks
 #   preface    what is told before the first
 #   case_fault what is wrong with its text, if something is
@@ -12,7 +12,7 @@ declare -A head body used came
 # Notes the first fault of a case.
 find_fault() { [ -n "$case_fault" ] || case_fault="line $number: $1"; }
 
-# Whether a section of a name may have this behind its name.
+# Whether a section of a name may have this after its name.
 may_have() {
     case $1 in
         size) [[ $2 =~ ^[0-9]+\ [0-9]+$ ]] ;;
@@ -26,7 +26,7 @@ may_have() {
     esac
 }
 
-# Begins the section that a line behind its dashes tells.
+# Begins the section that a line after its dashes tells.
 begin_section() {
     local name=${1%% *} rest=
     [[ $1 != *' '* ]] || rest=${1#* }
@@ -117,7 +117,7 @@ spell() {
     done
 }
 
-# Leaves in `spelled` bytes as escapes, with a line for each place that the cursor is sent to, but behind an erase.
+# Leaves in `spelled` bytes as escapes, with a line for each place that the cursor is sent to, but after an erase.
 spell_bytes() {
     local line_breaks='s/([^J\n])(\\e\[[0-9;]*H)/\1\n\2/g'
     spell "${1//\\/\\\\}"

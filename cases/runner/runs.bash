@@ -79,7 +79,7 @@ compare_ending() {
     [ "$wanted_status" = "$status" ] || came["$step status"]=$status
 }
 
-# Leaves in `text` what came behind what had come of the steps before.
+# Leaves in `text` what came after what had come of the steps before.
 take_behind() {
     text=$1
     if [ "${1:0:${#2}}" = "$2" ]; then text=${1:${#2}}; fi

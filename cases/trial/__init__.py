@@ -1,7 +1,7 @@
 """The product's own trial: scripts and streams by chance, and what must hold whatever they are. cases/random starts it.
 
 scripts      writes scripts: a walk that looks at the oracle's world, so that most calls are accepted
-arguments    what stands behind each word of a script
+arguments    what stands after each word of a script
 spoiling     faulty lines, long lines and bytes of every kind
 streams      writes streams of terminal bytes: valid, mutated, cut
 program      runs the program: whole, in pieces, and with a write that fails

@@ -68,7 +68,7 @@ def fails_at_once(program, script):
 
 
 def has_picture_broken_off(program, script):
-    """Where the picture, or what check tells, can't be written, a prefix went out, and the log says so behind its other lines."""
+    """Where the picture, or what check tells, can't be written, a prefix went out, and the log says so after its other lines."""
     job = script.chance.choice(('paint', 'check', 'show'))
     text = program.run(script.words('run'), script.text).out if job == 'show' else script.text
     whole = program.run(script.words(job), text)
@@ -80,7 +80,7 @@ def has_picture_broken_off(program, script):
 
 
 def has_log_broken_off(program, script):
-    """Where the log can't be written, its first bytes stand, and the calls behind that were not made."""
+    """Where the log can't be written, its first bytes stand, and the calls after that were not made."""
     whole = program.run(script.words('run'), script.text)
     if not whole.log:
         return
@@ -95,7 +95,7 @@ def has_log_broken_off(program, script):
 
 
 def failing_call(script, limit):
-    """The number of the line whose words in the log have the byte behind the limit."""
+    """The number of the line whose words in the log have the byte after the limit."""
     for line in script.wanted.log:
         if limit < len(line):
             return int(line.split()[1][:-1])

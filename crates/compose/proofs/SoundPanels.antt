@@ -1,6 +1,6 @@
 -- Panels stay sound: each has a window that is there, and is neither a pad nor the standard screen.
 use Rattle.std.proofs.Common.{◌≡◌, ◌≢◌, ℕ, Bool, true, false, if◌then◌else◌, ◌==◌, Option, Some, None, Result, Ok, Err, [], ◌∷◌, refl, sym, ap, subst, ◌∙◌}
-use Rattle.std.specs.Prelude.{IfOk, OnErr, OnOk, IsSome, IsSomeAnd, MatchOption, is_none, ⊤}
+use Rattle.std.specs.Prelude.{OnErr, OnOk, IsSome, IsSomeAnd, MatchOption, is_none, ⊤}
 use Rattle.std.specs.Option.{option_map_or}
 use Rattle.cell.specs.Pictures.{Place}
 use Rattle.cell.specs.Refusals.{first_of}
@@ -70,7 +70,7 @@ module _ (window : WindowMap) where
   some-is w v may is = let same : w ≡ v = cc in subst (MayBeIn window) same may
 
   pub sound-new : (old new : PanelTable) (w : ℕ) (r : Result PanelId Refusal) → AreSoundPanels window (panels old) → IsSoundOrder (panels new) → MayBeIn window w
-      → IfOk r (λ p. panels new ≡ with_panel (panels old) (next_panel (panels old)) w) → OnErr r (new ≡ old) → AreSoundPanels window (panels new)
+      → OnOk r (panels new ≡ with_panel (panels old) (next_panel (panels old)) w) → OnErr r (new ≡ old) → AreSoundPanels window (panels new)
   sound-new old new w (Ok p) h order may made unchanged =
       sound-given (panels old) (panels new) (next_panel (panels old)) (Some w) h order (ap (λ ps. ps.window) made) (λ v is. some-is w v may is)
   sound-new old new w (Err e) h order may made unchanged = subst (λ t. AreSoundPanels window (panels t)) (sym unchanged) h

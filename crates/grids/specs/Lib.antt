@@ -2,4 +2,5 @@ pub use Rattle.slots.specs.Kept
 pub use Rattle.slots.specs.Slots
 pub use Rattle.slots.specs.Changes
 pub mod Tables
+pub mod Calls
 pub mod steps

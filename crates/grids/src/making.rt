@@ -1,12 +1,11 @@
 //! Making, moving and deleting windows and pads. The table knows no panels: it moves and deletes as where no window is in one.
 
-ghost use Rattle.std.specs.Prelude.{◌≡◌, ℕ, ◌<◌, ◌≤◌, ◌+◌, ◌^◌, ◌||◌, false, Some, None, IsSome, IsSomeAnd, MatchOption, ⊤, IfOk, OnOk, OnErr, nat_le, if◌then◌else◌, true};
-ghost use Rattle.std.specs.Result.{result_err};
-ghost use Rattle.cell.specs.Refusals.{RefusedBy, first_of};
-ghost use Rattle.world.specs.Sound.{AreSoundWindows};
-ghost use Rattle.world.specs.calls.Making.{is_inside, extent, new_number, place_from, part_tests, after_making, derived_from, in_no_panel, making_refusal, next_window};
-ghost use Rattle.world.specs.Effects.{numbered};
+ghost use Rattle.std.specs.Prelude.{◌≡◌, ◌<◌, ◌+◌, ◌^◌, Some, None, IsSome, MatchOption, ⊤, nat_le, if◌then◌else◌};
+ghost use Rattle.cell.specs.Refusals.{first_of};
+ghost use Rattle.world.specs.calls.Making.{is_inside, extent, place_from, part_tests, derived_from, next_window};
+ghost use Rattle.world.specs.Effects.{makes};
 ghost use Rattle.world.specs.declared.call.Making.{Making};
+ghost use Rattle.grids.specs.Calls.{Changed, Made, its_number, nothing};
 ghost use Rattle.grids.specs.Tables.{windows};
 
 use crate::table::Grids;
@@ -29,11 +28,7 @@ impl Grids {
         begin_y: u16,
         begin_x: u16,
     ) -> Result<WinId, Refusal>
-        ensures refused { RefusedBy (making_refusal (windows self.old) in_no_panel (Making.Newwin nlines ncols begin_y begin_x)) result }
-        ensures number { IfOk result (λ win. new_number (windows self.old).window ≡ Some win.0) }
-        ensures made { IfOk result (λ win. windows self.new ≡ after_making (windows self.old) (Making.Newwin nlines ncols begin_y begin_x)) }
-        ensures unchanged { OnErr result (self.new ≡ self.old) }
-        ensures sound { AreSoundWindows (windows self.new) }
+        ensures { Made its_number self.old (Making.Newwin nlines ncols begin_y begin_x) result self.new }
     {
         prove!(self.is_sound());
         let lines = extent_inside(nlines, self.lines, begin_y).ok_or(Refusal::OffScreen)?;
@@ -50,11 +45,7 @@ impl Grids {
     /// # Errors
     /// `BadSize`, `TooMany`, `NoMemory`.
     pub fn newpad(&mut self, nlines: u16, ncols: u16) -> Result<WinId, Refusal>
-        ensures refused { RefusedBy (making_refusal (windows self.old) in_no_panel (Making.Newpad nlines ncols)) result }
-        ensures number { IfOk result (λ win. new_number (windows self.old).window ≡ Some win.0) }
-        ensures made { IfOk result (λ win. windows self.new ≡ after_making (windows self.old) (Making.Newpad nlines ncols)) }
-        ensures unchanged { OnErr result (self.new ≡ self.old) }
-        ensures sound { AreSoundWindows (windows self.new) }
+        ensures { Made its_number self.old (Making.Newpad nlines ncols) result self.new }
     {
         prove!(self.is_sound());
         if is_no_size(LARGEST_PAD, nlines) || is_no_size(LARGEST_PAD, ncols) {
@@ -79,11 +70,7 @@ impl Grids {
         begin_y: u16,
         begin_x: u16,
     ) -> Result<WinId, Refusal>
-        ensures refused { RefusedBy (making_refusal (windows self.old) in_no_panel (Making.Derwin win nlines ncols begin_y begin_x)) result }
-        ensures number { IfOk result (λ new. new_number (windows self.old).window ≡ Some new.0) }
-        ensures made { IfOk result (λ new. windows self.new ≡ after_making (windows self.old) (Making.Derwin win nlines ncols begin_y begin_x)) }
-        ensures unchanged { OnErr result (self.new ≡ self.old) }
-        ensures sound { AreSoundWindows (windows self.new) }
+        ensures { Made its_number self.old (Making.Derwin win nlines ncols begin_y begin_x) result self.new }
     {
         prove!(self.is_sound());
         if self.slot(win)?.place().is_none() {
@@ -104,11 +91,7 @@ impl Grids {
         begin_y: u16,
         begin_x: u16,
     ) -> Result<WinId, Refusal>
-        ensures refused { RefusedBy (making_refusal (windows self.old) in_no_panel (Making.Subwin win nlines ncols begin_y begin_x)) result }
-        ensures number { IfOk result (λ new. new_number (windows self.old).window ≡ Some new.0) }
-        ensures made { IfOk result (λ new. windows self.new ≡ after_making (windows self.old) (Making.Subwin win nlines ncols begin_y begin_x)) }
-        ensures unchanged { OnErr result (self.new ≡ self.old) }
-        ensures sound { AreSoundWindows (windows self.new) }
+        ensures { Made its_number self.old (Making.Subwin win nlines ncols begin_y begin_x) result self.new }
     {
         prove!(self.is_sound());
         let (top, left) = self.slot(win)?.place().ok_or(Refusal::IsPad)?;
@@ -130,11 +113,7 @@ impl Grids {
         begin_y: u16,
         begin_x: u16,
     ) -> Result<WinId, Refusal>
-        ensures refused { RefusedBy (making_refusal (windows self.old) in_no_panel (Making.Subpad pad nlines ncols begin_y begin_x)) result }
-        ensures number { IfOk result (λ new. new_number (windows self.old).window ≡ Some new.0) }
-        ensures made { IfOk result (λ new. windows self.new ≡ after_making (windows self.old) (Making.Subpad pad nlines ncols begin_y begin_x)) }
-        ensures unchanged { OnErr result (self.new ≡ self.old) }
-        ensures sound { AreSoundWindows (windows self.new) }
+        ensures { Made its_number self.old (Making.Subpad pad nlines ncols begin_y begin_x) result self.new }
     {
         prove!(self.is_sound());
         if self.slot(pad)?.place().is_some() {
@@ -153,12 +132,8 @@ impl Grids {
         x: u16,
     ) -> Result<WinId, Refusal>
         requires { IsSome ((windows self.old).window win.0) }
-        ensures refused { RefusedBy (first_of (part_tests (windows self.old) win.0 nlines ncols y x)) result }
-        ensures number { IfOk result (λ new. new_number (windows self.old).window ≡ Some new.0) }
-        ensures made { IfOk result (λ new. windows self.new ≡ numbered (windows self.old) (next_window (windows self.old))
-            (derived_from (windows self.old) win.0 nlines ncols y x)) }
-        ensures unchanged { OnErr result (self.new ≡ self.old) }
-        ensures sound { AreSoundWindows (windows self.new) }
+        ensures { Changed its_number self.old (first_of (part_tests (windows self.old) win.0 nlines ncols y x))
+            (makes (next_window (windows self.old)) (derived_from (windows self.old) win.0 nlines ncols y x)) result self.new }
     {
         prove!(self.is_sound());
         let parent = self.slot(win)?;
@@ -184,10 +159,7 @@ impl Grids {
     /// # Errors
     /// `NoSuchWindow`, `StandardScreen`, `IsPad`, `OffScreen`.
     pub fn mvwin(&mut self, win: WinId, y: u16, x: u16) -> Result<(), Refusal>
-        ensures refused { result_err result ≡ making_refusal (windows self.old) in_no_panel (Making.Mvwin win y x) }
-        ensures moved { OnOk result (windows self.new ≡ after_making (windows self.old) (Making.Mvwin win y x)) }
-        ensures unchanged { OnErr result (self.new ≡ self.old) }
-        ensures sound { AreSoundWindows (windows self.new) }
+        ensures { Made nothing self.old (Making.Mvwin win y x) result self.new }
     {
         prove!(self.is_sound());
         let slot = self.slot(win)?;
@@ -211,10 +183,7 @@ impl Grids {
     /// # Errors
     /// `NoSuchWindow`, `NotDerived`, `OutsideParent`.
     pub fn mvderwin(&mut self, win: WinId, par_y: u16, par_x: u16) -> Result<(), Refusal>
-        ensures refused { result_err result ≡ making_refusal (windows self.old) in_no_panel (Making.Mvderwin win par_y par_x) }
-        ensures moved { OnOk result (windows self.new ≡ after_making (windows self.old) (Making.Mvderwin win par_y par_x)) }
-        ensures unchanged { OnErr result (self.new ≡ self.old) }
-        ensures sound { AreSoundWindows (windows self.new) }
+        ensures { Made nothing self.old (Making.Mvderwin win par_y par_x) result self.new }
     {
         prove!(self.is_sound());
         let slot = self.slot(win)?;
@@ -236,10 +205,7 @@ impl Grids {
     /// # Errors
     /// `NoSuchWindow`, `StandardScreen`, `HasDerived`.
     pub fn delwin(&mut self, win: WinId) -> Result<(), Refusal>
-        ensures refused { result_err result ≡ making_refusal (windows self.old) in_no_panel (Making.Delwin win) }
-        ensures deleted { OnOk result (windows self.new ≡ after_making (windows self.old) (Making.Delwin win)) }
-        ensures unchanged { OnErr result (self.new ≡ self.old) }
-        ensures sound { AreSoundWindows (windows self.new) }
+        ensures { Made nothing self.old (Making.Delwin win) result self.new }
     {
         prove!(self.is_sound());
         self.slot(win)?;

@@ -1,13 +1,13 @@
 //! What is touched of a window, and whether it asks for a clear screen.
 
-ghost use Rattle.std.specs.Prelude.{◌≡◌, ◌≤◌, ◌+◌, true, false, IsSome, IsSomeAnd, IfOk, OnOk, OnErr};
-ghost use Rattle.std.specs.Result.{result_err};
+ghost use Rattle.std.specs.Prelude.{◌≡◌, ◌≤◌, ◌+◌, IsSome, IsSomeAnd};
 ghost use Rattle.world.specs.Sound.{AreSoundWindows};
 ghost use Rattle.world.specs.Windows.{HasPlace, changed};
-ghost use Rattle.world.specs.calls.Copying.{is_linetouched, is_wintouched, after_copying, copying_refusal, lines_marked};
+ghost use Rattle.world.specs.calls.Copying.{lines_marked};
 ghost use Rattle.world.specs.calls.Queries.{touched_columns};
 ghost use Rattle.world.specs.Effects.{unmarked};
 ghost use Rattle.world.specs.declared.call.Copying.{Copying};
+ghost use Rattle.grids.specs.Calls.{Marked, its_flag, nothing};
 ghost use Rattle.grids.specs.Tables.{windows};
 
 use crate::table::Grids;
@@ -44,10 +44,7 @@ impl Grids {
     /// # Errors
     /// `NoSuchWindow`.
     pub fn touchwin(&mut self, win: WinId) -> Result<(), Refusal>
-        ensures refused { result_err result ≡ copying_refusal (windows self.old) (Copying.Touchwin win) }
-        ensures touched { OnOk result (windows self.new ≡ after_copying (windows self.old) (Copying.Touchwin win)) }
-        ensures unchanged { OnErr result (self.new ≡ self.old) }
-        ensures sound { AreSoundWindows (windows self.new) }
+        ensures { Marked nothing self.old (Copying.Touchwin win) result self.new }
     {
         prove!(self.is_sound());
         let lines = self.slot(win)?.lines();
@@ -60,10 +57,7 @@ impl Grids {
     /// # Errors
     /// `NoSuchWindow`.
     pub fn untouchwin(&mut self, win: WinId) -> Result<(), Refusal>
-        ensures refused { result_err result ≡ copying_refusal (windows self.old) (Copying.Untouchwin win) }
-        ensures touched { OnOk result (windows self.new ≡ after_copying (windows self.old) (Copying.Untouchwin win)) }
-        ensures unchanged { OnErr result (self.new ≡ self.old) }
-        ensures sound { AreSoundWindows (windows self.new) }
+        ensures { Marked nothing self.old (Copying.Untouchwin win) result self.new }
     {
         prove!(self.is_sound());
         let lines = self.slot(win)?.lines();
@@ -76,10 +70,7 @@ impl Grids {
     /// # Errors
     /// `NoSuchWindow`; `OutsideWindow` if the window hasn't line `y`, or not `n` lines from it on.
     pub fn touchline(&mut self, win: WinId, y: u16, n: u16) -> Result<(), Refusal>
-        ensures refused { result_err result ≡ copying_refusal (windows self.old) (Copying.Touchline win y n) }
-        ensures touched { OnOk result (windows self.new ≡ after_copying (windows self.old) (Copying.Touchline win y n)) }
-        ensures unchanged { OnErr result (self.new ≡ self.old) }
-        ensures sound { AreSoundWindows (windows self.new) }
+        ensures { Marked nothing self.old (Copying.Touchline win y n) result self.new }
     {
         self.wtouchln(win, y, n, true)
     }
@@ -89,10 +80,7 @@ impl Grids {
     /// # Errors
     /// `NoSuchWindow`; `OutsideWindow` if the window hasn't line `y`, or not `n` lines from it on.
     pub fn wtouchln(&mut self, win: WinId, y: u16, n: u16, flag: bool) -> Result<(), Refusal>
-        ensures refused { result_err result ≡ copying_refusal (windows self.old) (Copying.Touchln win y n flag) }
-        ensures touched { OnOk result (windows self.new ≡ after_copying (windows self.old) (Copying.Touchln win y n flag)) }
-        ensures unchanged { OnErr result (self.new ≡ self.old) }
-        ensures sound { AreSoundWindows (windows self.new) }
+        ensures { Marked nothing self.old (Copying.Touchln win y n flag) result self.new }
     {
         prove!(self.is_sound());
         let lines = self.slot(win)?.lines();
@@ -118,9 +106,7 @@ impl Grids {
     /// # Errors
     /// `NoSuchWindow`; `OutsideWindow` if the window hasn't line `y`.
     pub fn is_linetouched(&self, win: WinId, y: u16) -> Result<bool, Refusal>
-        ensures refused { result_err result ≡ copying_refusal (windows self.now) (Copying.IsLinetouched win y) }
-        ensures touched { IfOk result (λ touched. touched ≡ is_linetouched (windows self.now).window win.0 y) }
-        ensures sound { AreSoundWindows (windows self.now) }
+        ensures { Marked its_flag self.now (Copying.IsLinetouched win y) result self.now }
     {
         prove!(self.is_sound());
         let slot = self.slot(win)?;
@@ -135,9 +121,7 @@ impl Grids {
     /// # Errors
     /// `NoSuchWindow`.
     pub fn is_wintouched(&self, win: WinId) -> Result<bool, Refusal>
-        ensures refused { result_err result ≡ copying_refusal (windows self.now) (Copying.IsWintouched win) }
-        ensures touched { IfOk result (λ touched. touched ≡ is_wintouched (windows self.now).window win.0) }
-        ensures sound { AreSoundWindows (windows self.now) }
+        ensures { Marked its_flag self.now (Copying.IsWintouched win) result self.now }
     {
         prove!(self.is_sound());
         let slot = self.slot(win)?;

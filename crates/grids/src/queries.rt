@@ -1,10 +1,10 @@
 //! What a window or pad is asked.
 
-ghost use Rattle.std.specs.Prelude.{◌≡◌, Some, is_some, IfOk};
-ghost use Rattle.std.specs.Result.{result_err};
+ghost use Rattle.std.specs.Prelude.{◌≡◌, is_some};
 ghost use Rattle.world.specs.Sound.{AreSoundWindows};
-ghost use Rattle.world.specs.calls.Queries.{cursor_of, place_on_screen, window_size, offset_in_parent, query_refusal};
+ghost use Rattle.world.specs.calls.Queries.{cursor_of, place_on_screen, window_size, offset_in_parent};
 ghost use Rattle.world.specs.declared.call.Query.{Query};
+ghost use Rattle.grids.specs.Calls.{Asked};
 ghost use Rattle.grids.specs.Tables.{windows};
 
 use crate::table::Grids;
@@ -32,9 +32,7 @@ impl Grids {
     /// # Errors
     /// `NoSuchWindow`.
     pub fn getyx(&self, win: WinId) -> Result<(u16, u16), Refusal>
-        ensures refused { result_err result ≡ query_refusal (windows self.now) (Query.Getyx win) }
-        ensures cursor { IfOk result (λ place. cursor_of (windows self.now).window win.0 ≡ Some place) }
-        ensures sound { AreSoundWindows (windows self.now) }
+        ensures { Asked self.now (Query.Getyx win) (cursor_of (windows self.now).window win.0) result }
     {
         prove!(self.is_sound());
         let slot = self.slot(win)?;
@@ -46,9 +44,7 @@ impl Grids {
     /// # Errors
     /// `NoSuchWindow`, `IsPad`.
     pub fn getbegyx(&self, win: WinId) -> Result<(u16, u16), Refusal>
-        ensures refused { result_err result ≡ query_refusal (windows self.now) (Query.Getbegyx win) }
-        ensures place { IfOk result (λ place. place_on_screen (windows self.now).window win.0 ≡ Some place) }
-        ensures sound { AreSoundWindows (windows self.now) }
+        ensures { Asked self.now (Query.Getbegyx win) (place_on_screen (windows self.now).window win.0) result }
     {
         prove!(self.is_sound());
         let slot = self.slot(win)?;
@@ -60,9 +56,7 @@ impl Grids {
     /// # Errors
     /// `NoSuchWindow`.
     pub fn getmaxyx(&self, win: WinId) -> Result<(u16, u16), Refusal>
-        ensures refused { result_err result ≡ query_refusal (windows self.now) (Query.Getmaxyx win) }
-        ensures size { IfOk result (λ size. window_size (windows self.now).window win.0 ≡ Some size) }
-        ensures sound { AreSoundWindows (windows self.now) }
+        ensures { Asked self.now (Query.Getmaxyx win) (window_size (windows self.now).window win.0) result }
     {
         prove!(self.is_sound());
         let slot = self.slot(win)?;
@@ -74,9 +68,7 @@ impl Grids {
     /// # Errors
     /// `NoSuchWindow`, `NotDerived`.
     pub fn getparyx(&self, win: WinId) -> Result<(u16, u16), Refusal>
-        ensures refused { result_err result ≡ query_refusal (windows self.now) (Query.Getparyx win) }
-        ensures offset { IfOk result (λ place. offset_in_parent (windows self.now).window win.0 ≡ Some place) }
-        ensures sound { AreSoundWindows (windows self.now) }
+        ensures { Asked self.now (Query.Getparyx win) (offset_in_parent (windows self.now).window win.0) result }
     {
         prove!(self.is_sound());
         let slot = self.slot(win)?;

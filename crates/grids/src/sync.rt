@@ -1,12 +1,12 @@
 //! What is touched of a window, handed to its ancestors or taken from them.
 
-ghost use Rattle.std.specs.Prelude.{◌≡◌, ◌≢◌, ℕ, ◌<◌, ◌≤◌, ◌+◌, ◌-◌, ◌&&◌, nat_le, ⊤, IsSome, IsSomeAnd, MatchOption, OnOk, OnErr};
-ghost use Rattle.std.specs.Result.{result_err};
+ghost use Rattle.std.specs.Prelude.{◌≡◌, ◌≢◌, ℕ, ◌<◌, ◌≤◌, ◌+◌, ◌-◌, ◌&&◌, nat_le, ⊤, IsSome, IsSomeAnd, MatchOption};
 ghost use Rattle.cell.specs.declared.limits.TheConstants.{LARGEST_PAD};
-ghost use Rattle.world.specs.Sound.{AreColumnsWithin, AreSoundWindows};
+ghost use Rattle.world.specs.Sound.{AreColumnsWithin};
 ghost use Rattle.world.specs.Windows.{HasPlace, changed};
-ghost use Rattle.world.specs.calls.Copying.{touching, after_copying, copying_refusal};
+ghost use Rattle.world.specs.calls.Copying.{touching, after_copying};
 ghost use Rattle.world.specs.declared.call.Copying.{Copying};
+ghost use Rattle.grids.specs.Calls.{Marked, nothing};
 ghost use Rattle.grids.specs.Tables.{windows};
 ghost use Rattle.slots.specs.Changes.{with_touched};
 ghost use Rattle.slots.specs.Slots.{depth_at};
@@ -24,10 +24,7 @@ impl Grids {
     /// # Errors
     /// `NoSuchWindow`.
     pub fn wsyncup(&mut self, win: WinId) -> Result<(), Refusal>
-        ensures refused { result_err result ≡ copying_refusal (windows self.old) (Copying.Syncup win) }
-        ensures touched { OnOk result (windows self.new ≡ after_copying (windows self.old) (Copying.Syncup win)) }
-        ensures unchanged { OnErr result (self.new ≡ self.old) }
-        ensures sound { AreSoundWindows (windows self.new) }
+        ensures { Marked nothing self.old (Copying.Syncup win) result self.new }
     {
         prove!(self.is_sound());
         self.slot(win)?;
@@ -41,10 +38,7 @@ impl Grids {
     /// # Errors
     /// `NoSuchWindow`.
     pub fn wsyncdown(&mut self, win: WinId) -> Result<(), Refusal>
-        ensures refused { result_err result ≡ copying_refusal (windows self.old) (Copying.Syncdown win) }
-        ensures touched { OnOk result (windows self.new ≡ after_copying (windows self.old) (Copying.Syncdown win)) }
-        ensures unchanged { OnErr result (self.new ≡ self.old) }
-        ensures sound { AreSoundWindows (windows self.new) }
+        ensures { Marked nothing self.old (Copying.Syncdown win) result self.new }
     {
         prove!(self.is_sound());
         self.slot(win)?;

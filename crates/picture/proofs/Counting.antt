@@ -1,5 +1,5 @@
 -- A count that grows by one number and then by another grows by both.
-use Rattle.std.proofs.Common.{◌≡◌, ℕ, ◌+◌, ◌%◌, ◌^◌, sym, ap, ◌∙◌, add_assoc}
+use Rattle.std.proofs.Common.{ℕ, ◌+◌, ◌%◌, ◌^◌, sym, ap, ◌∙◌, add_assoc}
 use Rattle.std.proofs.Math.Nat.{mod-add-mod}
 use Rattle.picture.specs.Counts.{GrewBy}
 

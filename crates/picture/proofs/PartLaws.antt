@@ -9,10 +9,9 @@ use Rattle.cell.specs.declared.window.Rect.{Rect}
 use Rattle.world.specs.Frames.{AreRectangle, IsIn, IsSmallest}
 use Rattle.world.specs.Panels.{holds, holds_place, place_of, screen_place}
 use Rattle.world.specs.Sharing.{SharesPart, shows_part_of}
-use Rattle.world.specs.Windows.{Window, Windows, any_below}
+use Rattle.world.specs.Windows.{Window, Windows}
 use Rattle.world.specs.calls.Affected.{shows_at}
-use Rattle.world.proofs.Below.{any_below-some}
-use Rattle.picture.specs.Parts.{IsFrameWithin, frame_has_line, frame_holds}
+use Rattle.picture.specs.Parts.{IsFrameWithin, frame_holds}
 use Rattle.picture.proofs.Held.{held-between}
 use Rattle.picture.proofs.Standing.{StandsAt}
 

@@ -1,10 +1,8 @@
 -- Rectangles of the screen, both ends inclusive, and pieces of a window's line.
-use Rattle.std.specs.Prelude.{◌≡◌, ℕ, ◌+◌, ◌<◌, ◌==◌, Bool, false, ◌&&◌, nat_le, Option, Some, List, length, slice_index_or}
-use Rattle.std.specs.List.{list_any}
+use Rattle.std.specs.Prelude.{◌≡◌, ℕ, ◌+◌, ◌<◌, Bool, false, ◌&&◌, nat_le, Option, List, length, slice_index_or}
 use Rattle.std.specs.Option.{option_map_or}
 use Rattle.cell.specs.Glyphs.{Glyph, blank}
 use Rattle.cell.specs.declared.window.Rect.{Rect}
-use Rattle.world.specs.Panels.{Panels, window_or_standard}
 use Rattle.world.specs.Windows.{WindowMap, cell_at}
 
 -- the rectangle has the line

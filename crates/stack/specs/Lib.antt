@@ -1,4 +1,5 @@
 pub mod Nodes
 pub mod Indexes
 pub mod Tables
+pub mod Calls
 pub mod steps

@@ -1,10 +1,8 @@
 //! The calls that make panels, delete them and change their order.
 
-ghost use Rattle.std.specs.Prelude.{◌≡◌, Some, IfOk, OnOk, OnErr};
-ghost use Rattle.std.specs.Result.{result_err};
-ghost use Rattle.cell.specs.Refusals.{RefusedBy, first_of};
-ghost use Rattle.world.specs.calls.Stacking.{new_panel_number, new_panel_tests, replace_panel_tests, IsSoundOrder, after_stacking, panel_tests, visible_tests};
+ghost use Rattle.world.specs.calls.Stacking.{new_panel_tests, panel_tests, replace_panel_tests, visible_tests};
 ghost use Rattle.world.specs.declared.call.Stacking.{Stacking};
+ghost use Rattle.stack.specs.Calls.{Arranged, its_panel, nothing};
 ghost use Rattle.stack.specs.Tables.{panels};
 
 use crate::entries::{enter, free_number, holder, require_panel, require_visible};
@@ -19,11 +17,7 @@ impl Stack {
     /// # Errors
     /// `InPanel`, `TooMany`, `NoMemory`.
     pub fn new_panel(&mut self, win: WinId) -> Result<PanelId, Refusal>
-        ensures refused { RefusedBy (first_of (new_panel_tests (panels self.old) win.0)) result }
-        ensures number { IfOk result (λ p. new_panel_number (panels self.old) ≡ Some p.0) }
-        ensures made { IfOk result (λ p. panels self.new ≡ after_stacking (panels self.old) (Stacking.NewPanel win)) }
-        ensures unchanged { OnErr result (self.new ≡ self.old) }
-        ensures sound { IsSoundOrder (panels self.new) }
+        ensures { Arranged its_panel (new_panel_tests (panels self.old) win.0) self.old (Stacking.NewPanel win) result self.new }
     {
         prove!(self.is_sound());
         if holder(&self.nodes, win).is_some() {
@@ -41,10 +35,7 @@ impl Stack {
     /// # Errors
     /// `NoSuchPanel`.
     pub fn del(&mut self, panel: PanelId) -> Result<(), Refusal>
-        ensures refused { result_err result ≡ first_of (panel_tests (panels self.old) panel.0) }
-        ensures deleted { OnOk result (panels self.new ≡ after_stacking (panels self.old) (Stacking.DelPanel panel)) }
-        ensures unchanged { OnErr result (self.new ≡ self.old) }
-        ensures sound { IsSoundOrder (panels self.new) }
+        ensures { Arranged nothing (panel_tests (panels self.old) panel.0) self.old (Stacking.DelPanel panel) result self.new }
     {
         prove!(self.is_sound());
         require_panel(&self.nodes, panel)?;
@@ -59,10 +50,7 @@ impl Stack {
     /// # Errors
     /// `NoSuchPanel`.
     pub fn show(&mut self, panel: PanelId) -> Result<(), Refusal>
-        ensures refused { result_err result ≡ first_of (panel_tests (panels self.old) panel.0) }
-        ensures shown { OnOk result (panels self.new ≡ after_stacking (panels self.old) (Stacking.ShowPanel panel)) }
-        ensures unchanged { OnErr result (self.new ≡ self.old) }
-        ensures sound { IsSoundOrder (panels self.new) }
+        ensures { Arranged nothing (panel_tests (panels self.old) panel.0) self.old (Stacking.ShowPanel panel) result self.new }
     {
         prove!(self.is_sound());
         require_panel(&self.nodes, panel)?;
@@ -76,10 +64,7 @@ impl Stack {
     /// # Errors
     /// `NoSuchPanel`, `Hidden`.
     pub fn hide(&mut self, panel: PanelId) -> Result<(), Refusal>
-        ensures refused { result_err result ≡ first_of (visible_tests (panels self.old) panel.0) }
-        ensures hidden { OnOk result (panels self.new ≡ after_stacking (panels self.old) (Stacking.HidePanel panel)) }
-        ensures unchanged { OnErr result (self.new ≡ self.old) }
-        ensures sound { IsSoundOrder (panels self.new) }
+        ensures { Arranged nothing (visible_tests (panels self.old) panel.0) self.old (Stacking.HidePanel panel) result self.new }
     {
         prove!(self.is_sound());
         require_visible(&self.nodes, panel)?;
@@ -93,10 +78,7 @@ impl Stack {
     /// # Errors
     /// `NoSuchPanel`, `Hidden`.
     pub fn top(&mut self, panel: PanelId) -> Result<(), Refusal>
-        ensures refused { result_err result ≡ first_of (visible_tests (panels self.old) panel.0) }
-        ensures moved { OnOk result (panels self.new ≡ after_stacking (panels self.old) (Stacking.TopPanel panel)) }
-        ensures unchanged { OnErr result (self.new ≡ self.old) }
-        ensures sound { IsSoundOrder (panels self.new) }
+        ensures { Arranged nothing (visible_tests (panels self.old) panel.0) self.old (Stacking.TopPanel panel) result self.new }
     {
         prove!(self.is_sound());
         require_visible(&self.nodes, panel)?;
@@ -108,10 +90,7 @@ impl Stack {
     /// # Errors
     /// `NoSuchPanel`, `Hidden`.
     pub fn bottom(&mut self, panel: PanelId) -> Result<(), Refusal>
-        ensures refused { result_err result ≡ first_of (visible_tests (panels self.old) panel.0) }
-        ensures moved { OnOk result (panels self.new ≡ after_stacking (panels self.old) (Stacking.BottomPanel panel)) }
-        ensures unchanged { OnErr result (self.new ≡ self.old) }
-        ensures sound { IsSoundOrder (panels self.new) }
+        ensures { Arranged nothing (visible_tests (panels self.old) panel.0) self.old (Stacking.BottomPanel panel) result self.new }
     {
         prove!(self.is_sound());
         require_visible(&self.nodes, panel)?;
@@ -125,10 +104,7 @@ impl Stack {
     /// # Errors
     /// `NoSuchPanel`, `InPanel`.
     pub fn replace(&mut self, panel: PanelId, win: WinId) -> Result<(), Refusal>
-        ensures refused { result_err result ≡ first_of (replace_panel_tests (panels self.old) panel.0 win.0) }
-        ensures replaced { OnOk result (panels self.new ≡ after_stacking (panels self.old) (Stacking.ReplacePanel panel win)) }
-        ensures unchanged { OnErr result (self.new ≡ self.old) }
-        ensures sound { IsSoundOrder (panels self.new) }
+        ensures { Arranged nothing (replace_panel_tests (panels self.old) panel.0 win.0) self.old (Stacking.ReplacePanel panel win) result self.new }
     {
         prove!(self.is_sound());
         require_panel(&self.nodes, panel)?;

@@ -10,7 +10,6 @@ use Rattle.std.specs.Prelude.{◌&&◌, nat_le}
 use Rattle.world.specs.Windows.{Windows}
 use Rattle.world.specs.Settings.{after_set_settings, set}
 use Rattle.world.specs.calls.Writing.{with_attributes, with_background, with_background_pair, with_pair, with_region, with_clear, with_scrolling, cleared, with_new_background}
-use Rattle.world.specs.Effects.{sets}
 use Rattle.cell.specs.Attributes.{without}
 use Rattle.cell.specs.declared.attr.Attr.{Attr}
 use Rattle.world.specs.declared.settings.Settings.{Settings}

@@ -3,18 +3,28 @@ use Rattle.std.specs.Prelude.{◌≡◌, IfOk, None, OnErr, OnOk, Option, Result
 use Rattle.std.specs.Result.{result_err}
 use Rattle.cell.specs.declared.refusal.Refusal.{Refusal}
 use Rattle.cell.specs.declared.window.Rect.{Rect}
+use Rattle.world.specs.Effects.{Change, after_change, change_frame, edits}
 use Rattle.world.specs.Sound.{AreSoundWindows}
-use Rattle.world.specs.calls.Writing.{after_writing, writing_frame, writing_refusal}
+use Rattle.world.specs.calls.Copying.{copying_change, copying_refusal}
+use Rattle.world.specs.calls.Writing.{writing_edit, writing_refusal}
+use Rattle.world.specs.declared.call.Copying.{Copying}
 use Rattle.world.specs.declared.call.Writing.{Writing}
 use Rattle.grids.specs.Tables.{WindowTable, windows}
 
--- it was refused exactly as its tests have it, and then nothing changed; else the windows are those of its effect
-pub record Wrote {T : Type 0} (frame_of : T → Option Rect) (old : WindowTable) (writing : Writing) (r : Result T Refusal) (new : WindowTable) : Type 0 where
-  pub refused : result_err r ≡ writing_refusal (windows old) writing
-  pub written : OnOk r (windows new ≡ after_writing (windows old) writing)
-  pub frame : IfOk r (λ t. frame_of t ≡ writing_frame (windows old) writing)
+-- it was refused exactly as its tests have it, and then nothing changed; else the frame and the windows are those of its effect
+pub record Drew {T : Type 0} (frame_of : T → Option Rect) (old : WindowTable) (refusal : Option Refusal) (change : Change) (r : Result T Refusal) (new : WindowTable)
+    : Type 0 where
+  pub refused : result_err r ≡ refusal
+  pub written : OnOk r (windows new ≡ after_change (windows old) change)
+  pub frame : IfOk r (λ t. frame_of t ≡ change_frame (windows old) change)
   pub unchanged : OnErr r (new ≡ old)
   pub sound : AreSoundWindows (windows new)
+
+abbrev pub Wrote : {T : Type 0} → (T → Option Rect) → WindowTable → Writing → Result T Refusal → WindowTable → Type 0
+Wrote frame_of old writing r new = Drew frame_of old (writing_refusal (windows old) writing) (edits (writing_edit (windows old) writing)) r new
+
+abbrev pub Copied : {T : Type 0} → (T → Option Rect) → WindowTable → Copying → Result T Refusal → WindowTable → Type 0
+Copied frame_of old copying r new = Drew frame_of old (copying_refusal (windows old) copying) (copying_change (windows old) copying) r new
 
 -- of a call that writes no cell
 abbrev pub no_frame : Unit {0} → Option Rect

@@ -1,13 +1,12 @@
 //! The calls that copy cells from window to window.
 
-ghost use Rattle.std.specs.Prelude.{◌≡◌, ◌+◌, ◌-◌, ◌<◌, ◌^◌, max, min, nat_lt, true, false, IfOk, OnOk, OnErr};
-ghost use Rattle.std.specs.Result.{result_err};
+ghost use Rattle.std.specs.Prelude.{◌≡◌, None, ◌+◌, ◌-◌, ◌<◌, ◌^◌, max, min, nat_lt};
 ghost use Rattle.cell.specs.Refusals.{first_of};
-ghost use Rattle.world.specs.Sound.{AreSoundWindows};
-ghost use Rattle.world.specs.calls.Copying.{after_copying, common_copied, copying_frame, copying_refusal, overlay_tests};
-ghost use Rattle.world.specs.Effects.{after_edit, drawing_frame, draws};
+ghost use Rattle.world.specs.calls.Copying.{common_copied, overlay_tests};
+ghost use Rattle.world.specs.Effects.{draws, edits};
 ghost use Rattle.world.specs.declared.call.Copying.{Copying};
 ghost use Rattle.grids.specs.Tables.{windows};
+ghost use Rattle.windows.specs.Calls.{Copied, Drew, its_frame};
 
 use crate::state::state_of;
 use crate::table::Windows;
@@ -20,11 +19,7 @@ impl Windows {
     /// # Errors
     /// `NoSuchWindow`, `IsPad`, each for either window.
     pub fn overlay(&mut self, src: WinId, dst: WinId) -> Result<Option<Rect>, Refusal>
-        ensures refused { result_err result ≡ copying_refusal (windows self.old.table) (Copying.Overlay src dst) }
-        ensures written { OnOk result (windows self.new.table ≡ after_copying (windows self.old.table) (Copying.Overlay src dst)) }
-        ensures frame { IfOk result (λ frame. frame ≡ copying_frame (windows self.old.table) (Copying.Overlay src dst)) }
-        ensures unchanged { OnErr result (self.new ≡ self.old) }
-        ensures sound { AreSoundWindows (windows self.new.table) }
+        ensures { Copied its_frame self.old.table (Copying.Overlay src dst) result self.new.table }
     {
         copy_common(&mut self.table, src, dst, true)
     }
@@ -34,11 +29,7 @@ impl Windows {
     /// # Errors
     /// `NoSuchWindow`, `IsPad`, each for either window.
     pub fn overwrite(&mut self, src: WinId, dst: WinId) -> Result<Option<Rect>, Refusal>
-        ensures refused { result_err result ≡ copying_refusal (windows self.old.table) (Copying.Overwrite src dst) }
-        ensures written { OnOk result (windows self.new.table ≡ after_copying (windows self.old.table) (Copying.Overwrite src dst)) }
-        ensures frame { IfOk result (λ frame. frame ≡ copying_frame (windows self.old.table) (Copying.Overwrite src dst)) }
-        ensures unchanged { OnErr result (self.new ≡ self.old) }
-        ensures sound { AreSoundWindows (windows self.new.table) }
+        ensures { Copied its_frame self.old.table (Copying.Overwrite src dst) result self.new.table }
     {
         copy_common(&mut self.table, src, dst, false)
     }
@@ -61,14 +52,8 @@ impl Windows {
         dmaxcol: u16,
         overlay: bool,
     ) -> Result<Option<Rect>, Refusal>
-        ensures refused { result_err result ≡ copying_refusal (windows self.old.table)
-            (Copying.Copywin src dst sminrow smincol dminrow dmincol dmaxrow dmaxcol overlay) }
-        ensures written { OnOk result (windows self.new.table ≡ after_copying (windows self.old.table)
-            (Copying.Copywin src dst sminrow smincol dminrow dmincol dmaxrow dmaxcol overlay)) }
-        ensures frame { IfOk result (λ frame. frame ≡ copying_frame (windows self.old.table)
-            (Copying.Copywin src dst sminrow smincol dminrow dmincol dmaxrow dmaxcol overlay)) }
-        ensures unchanged { OnErr result (self.new ≡ self.old) }
-        ensures sound { AreSoundWindows (windows self.new.table) }
+        ensures { Copied its_frame self.old.table (Copying.Copywin src dst sminrow smincol dminrow dmincol dmaxrow dmaxcol overlay)
+            result self.new.table }
     {
         let source = state_of(&self.table, src)?;
         let target = state_of(&self.table, dst)?;
@@ -114,12 +99,8 @@ fn copy_common(
     dst: WinId,
     overlay: bool,
 ) -> Result<Option<Rect>, Refusal>
-    ensures refused { result_err result ≡ first_of (overlay_tests (windows table.old) src.0 dst.0) }
-    ensures written { OnOk result (windows table.new ≡ after_edit (windows table.old)
-        (draws dst.0 (λ a. common_copied (windows table.old).window src.0 dst.0 overlay) None)) }
-    ensures frame { IfOk result (λ frame. frame ≡ drawing_frame (windows table.old) dst.0 (λ a. common_copied (windows table.old).window src.0 dst.0 overlay)) }
-    ensures unchanged { OnErr result (table.new ≡ table.old) }
-    ensures sound { AreSoundWindows (windows table.new) }
+    ensures { Drew its_frame table.old (first_of (overlay_tests (windows table.old) src.0 dst.0))
+        (edits (draws dst.0 (λ a. common_copied (windows table.old).window src.0 dst.0 overlay) None)) result table.new }
 {
     let source = state_of(table, src)?;
     let target = state_of(table, dst)?;

@@ -1,4 +1,5 @@
 pub mod Missing
+pub mod Refused
 pub mod Making
 pub mod Writing
 pub mod Copying

@@ -12,7 +12,7 @@ pub loop-y-init : goal.loop-y-init
 loop-y-init c =
     let a = c.args in
     let ws = windows a.table.now in
-    let stands = stands-at ws a.win.0 (a.top, a.left) c.in-Ok.lines c.in-Ok.field-0-1 c.requires.windows c.requires.place c.in-Ok.ensures.size in
+    let stands = stands-at ws a.win.0 (a.top, a.left) c.in-Ok.lines c.in-Ok.field-0-1 c.requires.windows c.requires.place c.in-Ok.ensures.answer in
     record {
       height = c.requires.height;
       above = above-none ws.columns (touched_cells ws.window a.win.0) a.damage.now (a.top + 0) (λ v before. bare-above ws a.win.0 (a.top, a.left) c.in-Ok.lines stands v (omega (arith, before)));
@@ -22,7 +22,7 @@ pub returns : goal.returns
 returns c =
     let a = c.args in
     let ws = windows a.table.now in
-    let stands = stands-at ws a.win.0 (a.top, a.left) c.in-Ok.lines c.in-Ok.field-0-1 c.requires.windows c.requires.place c.in-Ok.ensures.size in
+    let stands = stands-at ws a.win.0 (a.top, a.left) c.in-Ok.lines c.in-Ok.field-0-1 c.requires.windows c.requires.place c.in-Ok.ensures.answer in
     record {
       damaged = above-all ws.columns (touched_cells ws.window a.win.0) a.damage.now (a.top + c.loop-y.y) c.loop-y.damage c.loop-y.invariant.above
           (λ v from. bare-below ws a.win.0 (a.top, a.left) c.in-Ok.lines stands v (let end = c.loop-y-test.false in omega (arith, from, end)));
@@ -34,7 +34,7 @@ loop-y-preserved c =
     let ws = windows a.table.now in
     let w = a.win.0 in
     let y = c.loop-y.y in
-    let stands = stands-at ws w (a.top, a.left) c.in-Ok.lines c.in-Ok.field-0-1 c.requires.windows c.requires.place c.in-Ok.ensures.size in
+    let stands = stands-at ws w (a.top, a.left) c.in-Ok.lines c.in-Ok.field-0-1 c.requires.windows c.requires.place c.in-Ok.ensures.answer in
     let f : Drawing = touched_cells ws.window w in
     let next : a.top + y + 1 ≡ a.top + (y + 1) = omega arith in
     record {

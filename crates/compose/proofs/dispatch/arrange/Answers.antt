@@ -11,27 +11,27 @@ use Rattle.compose.proofs.dispatch.arrange.Goals as goal
 
 pub returns-in_ok-del-in-DelPanel-clause-sound_panels : goal.returns-in_ok-del-in-DelPanel-clause-sound_panels
 returns-in_ok-del-in-DelPanel-clause-sound_panels c =
-    sound-deleted (windows c.args.table.now).window c.args.stack.now c.del.new.self c.in-DelPanel.panel.0 c.del.result c.requires c.del.ensures.sound c.del.ensures.deleted c.del.ensures.unchanged
+    sound-deleted (windows c.args.table.now).window c.args.stack.now c.del.new.self c.in-DelPanel.panel.0 c.del.result c.requires c.del.ensures.sound c.del.ensures.arranged c.del.ensures.unchanged
 
 pub returns-in_ok-show-in-ShowPanel-clause-sound_panels : goal.returns-in_ok-show-in-ShowPanel-clause-sound_panels
 returns-in_ok-show-in-ShowPanel-clause-sound_panels c =
     sound-kept (windows c.args.table.now).window c.args.stack.now c.show.new.self (after_show_panel (panels c.args.stack.now) c.in-ShowPanel.panel.0) c.show.result c.requires c.show.ensures.sound
-    refl c.show.ensures.shown c.show.ensures.unchanged
+    refl c.show.ensures.arranged c.show.ensures.unchanged
 
 pub returns-in_ok-hide-in-HidePanel-clause-sound_panels : goal.returns-in_ok-hide-in-HidePanel-clause-sound_panels
 returns-in_ok-hide-in-HidePanel-clause-sound_panels c =
     sound-kept (windows c.args.table.now).window c.args.stack.now c.hide.new.self (after_hide_panel (panels c.args.stack.now) c.in-HidePanel.panel.0) c.hide.result c.requires c.hide.ensures.sound
-    refl c.hide.ensures.hidden c.hide.ensures.unchanged
+    refl c.hide.ensures.arranged c.hide.ensures.unchanged
 
 pub returns-in_ok-top-in-TopPanel-clause-sound_panels : goal.returns-in_ok-top-in-TopPanel-clause-sound_panels
 returns-in_ok-top-in-TopPanel-clause-sound_panels c =
     sound-kept (windows c.args.table.now).window c.args.stack.now c.top.new.self (after_show_panel (panels c.args.stack.now) c.in-TopPanel.panel.0) c.top.result c.requires c.top.ensures.sound refl
-    c.top.ensures.moved c.top.ensures.unchanged
+    c.top.ensures.arranged c.top.ensures.unchanged
 
 pub returns-in_ok-bottom-in-BottomPanel-clause-sound_panels : goal.returns-in_ok-bottom-in-BottomPanel-clause-sound_panels
 returns-in_ok-bottom-in-BottomPanel-clause-sound_panels c =
     sound-kept (windows c.args.table.now).window c.args.stack.now c.bottom.new.self (after_bottom_panel (panels c.args.stack.now) c.in-BottomPanel.panel.0) c.bottom.result c.requires
-    c.bottom.ensures.sound refl c.bottom.ensures.moved c.bottom.ensures.unchanged
+    c.bottom.ensures.sound refl c.bottom.ensures.arranged c.bottom.ensures.unchanged
 
 pub returns-in_ok-move_panel-in-MovePanel-clause-sound_panels : goal.returns-in_ok-move_panel-in-MovePanel-clause-sound_panels
 returns-in_ok-move_panel-in-MovePanel-clause-sound_panels c =

@@ -10,4 +10,4 @@ returns-clause-sound c =
     let window = (windows c.args.table.now).window in
     let passed : first_of (window_tests window c.args.win.0) ≡ None = search rules in
     sound-new window c.args.stack.now c.new_panel.new.self c.args.win.0 c.new_panel.result c.requires c.new_panel.ensures.sound (may-be-in window c.args.win.0 passed)
-    c.new_panel.ensures.made c.new_panel.ensures.unchanged
+    c.new_panel.ensures.arranged c.new_panel.ensures.unchanged

@@ -10,4 +10,4 @@ returns-clause-sound c =
     let window = (windows c.args.table.now).window in
     let passed : first_of (window_tests window c.args.win.0) ≡ None = search rules in
     sound-replaced window c.args.stack.now c.replace.new.self c.args.panel.0 c.args.win.0 c.replace.result c.requires c.replace.ensures.sound
-    (may-be-in window c.args.win.0 passed) c.replace.ensures.replaced c.replace.ensures.unchanged
+    (may-be-in window c.args.win.0 passed) c.replace.ensures.arranged c.replace.ensures.unchanged

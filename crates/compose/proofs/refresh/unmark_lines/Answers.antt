@@ -10,11 +10,11 @@ pub unreachable-requires-in-Err-clearok : goal.unreachable-requires-in-Err-clear
 unreachable-requires-in-Err-clearok c =
     let a = c.args in
     let never : Some c.in-Err-clearok.field-0 ≡ None =
-    c.in-Err-clearok.ensures.refused ∙ ap (λ (v : Windows). writing_refusal v (Clearok a.win false)) c.in-Ok.ensures.touched
+    c.in-Err-clearok.ensures.refused ∙ ap (λ (v : Windows). writing_refusal v (Clearok a.win false)) c.in-Ok.ensures.changed
     ∙ still-there (windows a.windows.now.table) a.win a.first a.n (λ b. (a.first < b.lines) × (a.first + a.n ≤ b.lines)) c.requires in
     cc
 
 pub returns-clause-unmarked : goal.returns-clause-unmarked
 returns-clause-unmarked c =
     let a = c.args in
-    c.in-Ok-clearok.ensures.written ∙ ap (λ (v : Windows). after_writing v (Clearok a.win false)) c.in-Ok.ensures.touched ∙ lines-unmarked (windows a.windows.now.table) a.win a.first a.n
+    c.in-Ok-clearok.ensures.written ∙ ap (λ (v : Windows). after_writing v (Clearok a.win false)) c.in-Ok.ensures.changed ∙ lines-unmarked (windows a.windows.now.table) a.win a.first a.n

@@ -22,7 +22,7 @@ compose_row-requires c κs =
     let ps = panels c.args.stack.now in
     let sound = c.in_ok-lines.ensures.sound in
     let some = sound.has_line in
-    let columns = width ws (ws.window standard_screen) c.in_ok-lines.lines c.in_ok-lines.columns sound.standard c.in_ok-lines.ensures.size in
+    let columns = width ws (ws.window standard_screen) c.in_ok-lines.lines c.in_ok-lines.columns sound.standard c.in_ok-lines.ensures.answer in
     let right : c.args.right < ws.columns = let inside = c.if-columns-right.false in omega (arith, inside, columns) in
     let size = c.in_ok-picture.ensures in
     let height = size.height in

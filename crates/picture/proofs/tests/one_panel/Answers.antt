@@ -42,5 +42,5 @@ pub returns : goal.returns
 returns c =
     let window = (windows c.args.table.now).window in
     let p = next_panel first_panels in
-    let made : panels c.new_panel.new.self ≡ with_panel first_panels p 1 = c.in_ok-new_panel.ensures.made ∙ ap (λ (ps : Panels). with_panel ps (next_panel ps) 1) c.new-stack.ensures in
-    one-sound window (panels c.new_panel.new.self) 1 p c.new_panel.ensures.sound made (there-is (window 1) c.in_ok-getbegyx.field-0 c.in_ok-getbegyx.ensures.place) (λ same. cc)
+    let made : panels c.new_panel.new.self ≡ with_panel first_panels p 1 = c.in_ok-new_panel.ensures.arranged ∙ ap (λ (ps : Panels). with_panel ps (next_panel ps) 1) c.new-stack.ensures in
+    one-sound window (panels c.new_panel.new.self) 1 p c.new_panel.ensures.sound made (there-is (window 1) c.in_ok-getbegyx.field-0 c.in_ok-getbegyx.ensures.answer) (λ same. cc)

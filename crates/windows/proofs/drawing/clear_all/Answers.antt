@@ -1,7 +1,6 @@
 use Rattle.std.proofs.Common.{◌-◌, arith, refl}
 use Rattle.world.specs.Rows.{filled}
 use Rattle.world.specs.Drawings.{everywhere}
-use Rattle.world.specs.calls.Writing.{cleared}
 use Rattle.grids.specs.Tables.{windows}
 use Rattle.windows.proofs.States.{state-written}
 use Rattle.windows.proofs.Steps.{starts_above, line_cleared, all_cleared}

@@ -1,7 +1,6 @@
 use Rattle.std.proofs.Common.{◌≡◌}
 use Rattle.world.specs.Windows.{put}
 use Rattle.world.specs.Drawings.{everywhere}
-use Rattle.world.specs.calls.Writing.{cleared}
 use Rattle.grids.specs.Tables.{windows}
 use Rattle.windows.specs.steps.State.{IsStateOf}
 use Rattle.windows.proofs.Strokes.{above}

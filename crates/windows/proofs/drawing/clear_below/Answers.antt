@@ -1,7 +1,6 @@
 use Rattle.std.proofs.Common.{◌-◌, arith}
 use Rattle.world.specs.Rows.{filled}
 use Rattle.world.specs.Drawings.{to_bottom}
-use Rattle.world.specs.calls.Writing.{cleared}
 use Rattle.grids.specs.Tables.{windows}
 use Rattle.windows.proofs.States.{state-written}
 use Rattle.windows.proofs.Strokes.{to_bottom-below}

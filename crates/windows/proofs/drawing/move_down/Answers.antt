@@ -1,7 +1,6 @@
 use Rattle.std.proofs.Common.{◌≡◌, ◌+◌, ◌-◌, arith, subst}
 use Rattle.world.specs.Windows.{put}
 use Rattle.world.specs.Drawings.{lines_down}
-use Rattle.world.specs.calls.Writing.{cleared}
 use Rattle.grids.specs.Tables.{windows}
 use Rattle.windows.proofs.Strokes.{from}
 use Rattle.windows.proofs.Steps.{down_started, down_more, down_ended}

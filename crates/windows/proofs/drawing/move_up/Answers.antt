@@ -1,4 +1,3 @@
-use Rattle.world.specs.calls.Writing.{cleared}
 use Rattle.std.proofs.Common.{arith}
 use Rattle.grids.specs.Tables.{windows}
 use Rattle.windows.proofs.Steps.{up_started, up_more, up_ended}

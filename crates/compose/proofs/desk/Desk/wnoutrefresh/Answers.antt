@@ -50,7 +50,7 @@ invariant_of-self c =
     record {
       sound = IsSound-refreshed d.windows.table c.unmark.new.self d.stack d.pairs virtual w (c.in_ok-top.top, c.in_ok-top.left)
           c.show_touched.new.picture (shown_over d.pairs d.picture (touched_cells (windows d.windows.table).window w)) c.cursor_on_screen-self-inside.result _
-          h.sound c.unmark.ensures.sound c.unmark.ensures.unmarked c.in_ok-top.ensures.place c.show_touched.ensures.shown c.show_touched.ensures.cells c.cursor_on_screen-self-inside.ensures;
+          h.sound c.unmark.ensures.sound c.unmark.ensures.unmarked c.in_ok-top.ensures.answer c.show_touched.ensures.shown c.show_touched.ensures.cells c.cursor_on_screen-self-inside.ensures;
       covered = covered-after (old_desk c) (new_desk c) (call c) h (accepted c) refl (left c) c.damage_touched.ensures.damaged;
     }
 

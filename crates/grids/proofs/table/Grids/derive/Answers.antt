@@ -1,5 +1,5 @@
 use Rattle.std.specs.Prelude.{unwrap_or}
-use Rattle.std.proofs.Common.{◌≡◌, ◌+◌, Some, arith, ◌∙◌, ap, refl, sym}
+use Rattle.std.proofs.Common.{◌≡◌, ◌+◌, Some, arith, ◌∙◌, ap, refl, sym, rules}
 use Rattle.std.specs.Option.{option_map}
 use Rattle.std.proofs.lemmas.Grind.{common_steps}
 use Rattle.world.specs.Windows.{part_of}
@@ -45,20 +45,26 @@ invariant_of-self-2 c =
     (record { parent = a.win.0; line = a.y; column = a.x }) (record { grid = o.result.grid; line = o.result.line; column = o.result.column }) kept.2 (rw e refl) leads
     (c.in_ok-slot.ensures.origin ∙ c.onward-origin.ensures) c.in_ok-fill_slot_at.ensures.set.few chained)
 
-pub returns-clause-made : goal.returns-clause-made
-returns-clause-made c =
-    let a = c.args in
-    let t = the_view c.self.inside in
-    let n = c.in_ok-number.number in
-    let p = c.in_ok-parent.parent.now in
-    let e : slot_at t.slots a.win.0 ≡ Some p = grind (arith, common_steps) in
-    let lines = extent-is a.nlines p.lines a.y c.in_ok-lines.lines (rw (← c.lines.ensures) (sym c.extent_inside.ensures ∙ c.in_ok-lines.ensures.ok_part)) in
-    let columns = extent-is a.ncols p.columns a.x c.in_ok-columns.columns (rw (← c.columns.ensures) (sym c.extent_inside-2.ensures ∙ c.in_ok-columns.ensures.ok_part)) in
-    let made = rw (c.place_from-place.ensures, c.place.ensures) at c.in_ok-slot.ensures.window in
-    let free = rw (c.deref-2.ensures.value, c.in_ok-number.ensures.ok_part) at c.free_number.ensures.number in
-    let next : next_window (windows t) ≡ n = ap (λ o. unwrap_or o standard_screen) (sym free) in
-    rw (← c.self.view_is, next)
-    (windows-added t c.fill_slot_at.new.slots.items n c.in_ok-slot.slot c.in_ok-fill_slot_at.ensures.set
-    (new_window c.in_ok-lines.lines c.in_ok-columns.columns (place_from p.place a.y a.x) (part_of a.win.0 a.y a.x)) made
-    ∙ ap (numbered (windows t) n) (made_derived (window_map t.slots) p a.win.0 a.nlines a.ncols a.y a.x c.in_ok-lines.lines c.in_ok-columns.columns
-    (ap (option_map window_of) e) lines.given columns.given))
+pub returns : goal.returns
+returns c = record {
+  refused = search rules;
+  reply = search rules;
+  changed =
+      let a = c.args in
+      let t = the_view c.self.inside in
+      let n = c.in_ok-number.number in
+      let p = c.in_ok-parent.parent.now in
+      let e : slot_at t.slots a.win.0 ≡ Some p = grind (arith, common_steps) in
+      let lines = extent-is a.nlines p.lines a.y c.in_ok-lines.lines (rw (← c.lines.ensures) (sym c.extent_inside.ensures ∙ c.in_ok-lines.ensures.ok_part)) in
+      let columns = extent-is a.ncols p.columns a.x c.in_ok-columns.columns (rw (← c.columns.ensures) (sym c.extent_inside-2.ensures ∙ c.in_ok-columns.ensures.ok_part)) in
+      let made = rw (c.place_from-place.ensures, c.place.ensures) at c.in_ok-slot.ensures.window in
+      let free = rw (c.deref-2.ensures.value, c.in_ok-number.ensures.ok_part) at c.free_number.ensures.number in
+      let next : next_window (windows t) ≡ n = ap (λ o. unwrap_or o standard_screen) (sym free) in
+      rw (← c.self.view_is, next)
+      (windows-added t c.fill_slot_at.new.slots.items n c.in_ok-slot.slot c.in_ok-fill_slot_at.ensures.set
+      (new_window c.in_ok-lines.lines c.in_ok-columns.columns (place_from p.place a.y a.x) (part_of a.win.0 a.y a.x)) made
+      ∙ ap (numbered (windows t) n) (made_derived (window_map t.slots) p a.win.0 a.nlines a.ncols a.y a.x c.in_ok-lines.lines c.in_ok-columns.columns
+      (ap (option_map window_of) e) lines.given columns.given));
+  unchanged = tt;
+  sound = search rules;
+}

@@ -1,4 +1,4 @@
-use Rattle.std.proofs.Common.{arith}
+use Rattle.std.proofs.Common.{arith, rules, refl}
 use Rattle.std.proofs.lemmas.Grind.{common_steps}
 use Rattle.grids.specs.contracts.table.Grids.{the_view}
 use Rattle.grids.proofs.Shifts.{IsWindowTable-shifted, chained-shifted, windows-shifted}
@@ -17,7 +17,13 @@ invariant_of-self c =
     (grind (arith, common_steps)) (grind (arith, common_steps)) (grind (arith, common_steps)) (grind (arith, common_steps)) (grind (arith, common_steps))
     c.settle.new.slots.items c.settle.ensures
 
-pub returns-clause-moved : goal.returns-clause-moved
-returns-clause-moved c =
-    rw (← c.self.view_is)
-    (windows-shifted (the_view c.self.inside) c.shift_slot.new.slots.items c.args.win.0 c.args.par_y c.args.par_x c.self.invariant c.shift_slot.ensures c.settle.new.slots.items c.settle.ensures)
+pub returns : goal.returns
+returns c = record {
+  refused = search rules;
+  reply = refl;
+  changed =
+      rw (← c.self.view_is)
+      (windows-shifted (the_view c.self.inside) c.shift_slot.new.slots.items c.args.win.0 c.args.par_y c.args.par_x c.self.invariant c.shift_slot.ensures c.settle.new.slots.items c.settle.ensures);
+  unchanged = tt;
+  sound = search rules;
+}

@@ -1,4 +1,4 @@
-use Rattle.std.proofs.Common.{arith}
+use Rattle.std.proofs.Common.{arith, rules, refl}
 use Rattle.std.proofs.lemmas.Grind.{common_steps}
 use Rattle.std.proofs.lemmas.Bool.Decides.{nat_tests}
 use Rattle.world.specs.Effects.{with_place}
@@ -11,6 +11,12 @@ invariant_of-self c =
     IsWindowTable-moved (the_view c.self.inside) c.place_slot.new.slots.items c.args.win.0 (with_place c.args.y c.args.x) c.self.invariant c.place_slot.ensures
     (grind (arith, common_steps, nat_tests), grind (arith, common_steps, nat_tests)) (λ e. grind (arith, common_steps, nat_tests))
 
-pub returns-clause-moved : goal.returns-clause-moved
-returns-clause-moved c =
-    rw (← c.self.view_is) (windows-changed (the_view c.self.inside) c.place_slot.new.slots.items c.args.win.0 (with_place c.args.y c.args.x) c.self.invariant c.place_slot.ensures)
+pub returns : goal.returns
+returns c = record {
+  refused = search rules;
+  reply = refl;
+  changed =
+      rw (← c.self.view_is) (windows-changed (the_view c.self.inside) c.place_slot.new.slots.items c.args.win.0 (with_place c.args.y c.args.x) c.self.invariant c.place_slot.ensures);
+  unchanged = tt;
+  sound = search rules;
+}

@@ -1,6 +1,6 @@
 use Rattle.std.specs.Prelude.{unwrap_or}
 use Rattle.world.specs.World.{blank_grid, new_window}
-use Rattle.std.proofs.Common.{None, ◌≡◌, ap, sym}
+use Rattle.std.proofs.Common.{None, ◌≡◌, ap, sym, rules}
 use Rattle.world.specs.calls.Making.{next_window}
 use Rattle.world.specs.Panels.{standard_screen}
 use Rattle.grids.specs.Tables.{windows}
@@ -19,11 +19,17 @@ invariant_of-self-2 c =
     (placed_pad t.lines t.columns c.args.nlines c.args.ncols blank_grid k c.in_ok-slot.ensures.window)
     (λ chained. origin-alone t.slots c.fill_slot_at.new.slots.items c.in_ok-number.number k c.self.invariant.chained c.in_ok-fill_slot_at.ensures.set free.free kept.2 c.in_ok-slot.ensures.origin)
 
-pub returns-clause-made : goal.returns-clause-made
-returns-clause-made c =
-    let t = the_view c.self.inside in
-    let free = rw (c.deref.ensures.value, c.in_ok-number.ensures.ok_part) at c.free_number.ensures.number in
-    let next : next_window (windows t) ≡ c.in_ok-number.number = ap (λ o. unwrap_or o standard_screen) (sym free) in
-    rw (← c.self.view_is, next)
-    (windows-added t c.fill_slot_at.new.slots.items c.in_ok-number.number c.in_ok-slot.slot c.in_ok-fill_slot_at.ensures.set
-    (new_window c.args.nlines c.args.ncols None blank_grid) c.in_ok-slot.ensures.window)
+pub returns : goal.returns
+returns c = record {
+  refused = search rules;
+  reply = search rules;
+  changed =
+      let t = the_view c.self.inside in
+      let free = rw (c.deref.ensures.value, c.in_ok-number.ensures.ok_part) at c.free_number.ensures.number in
+      let next : next_window (windows t) ≡ c.in_ok-number.number = ap (λ o. unwrap_or o standard_screen) (sym free) in
+      rw (← c.self.view_is, next)
+      (windows-added t c.fill_slot_at.new.slots.items c.in_ok-number.number c.in_ok-slot.slot c.in_ok-fill_slot_at.ensures.set
+      (new_window c.args.nlines c.args.ncols None blank_grid) c.in_ok-slot.ensures.window);
+  unchanged = tt;
+  sound = search rules;
+}

@@ -1,5 +1,5 @@
 use Rattle.std.specs.Prelude.{unwrap_or}
-use Rattle.std.proofs.Common.{◌≡◌, ℕ, Some, ◌∙◌, sym, ap}
+use Rattle.std.proofs.Common.{◌≡◌, ℕ, Some, ◌∙◌, sym, ap, rules}
 use Rattle.world.specs.Windows.{Window}
 use Rattle.world.specs.World.{blank_grid, new_window}
 use Rattle.world.specs.calls.Making.{extent, next_window}
@@ -23,17 +23,23 @@ invariant_of-self-2 c =
     (placed_new t.lines t.columns c.in_ok-lines.lines c.in_ok-columns.columns a.begin_y a.begin_x blank_grid k c.in_ok-slot.ensures.window lines.inside columns.inside)
     (λ chained. origin-alone t.slots c.fill_slot_at.new.slots.items c.in_ok-number.number k c.self.invariant.chained c.in_ok-fill_slot_at.ensures.set free.free kept.2 c.in_ok-slot.ensures.origin)
 
-pub returns-clause-made : goal.returns-clause-made
-returns-clause-made c =
-    let a = c.args in
-    let t = the_view c.self.inside in
-    let n = c.in_ok-number.number in
-    let lines = extent-is a.nlines t.lines a.begin_y c.in_ok-lines.lines (sym c.extent_inside.ensures ∙ c.in_ok-lines.ensures.ok_part) in
-    let columns = extent-is a.ncols t.columns a.begin_x c.in_ok-columns.columns (sym c.extent_inside-2.ensures ∙ c.in_ok-columns.ensures.ok_part) in
-    let made : ℕ → ℕ → Window = λ l m. new_window l m (Some (a.begin_y, a.begin_x)) blank_grid in
-    let found : made c.in_ok-lines.lines c.in_ok-columns.columns ≡ made (extent a.nlines t.lines a.begin_y) (extent a.ncols t.columns a.begin_x) = λ i. made (lines.given i) (columns.given i) in
-    let free = rw (c.deref.ensures.value, c.in_ok-number.ensures.ok_part) at c.free_number.ensures.number in
-    let next : next_window (windows t) ≡ n = ap (λ o. unwrap_or o standard_screen) (sym free) in
-    rw (← c.self.view_is, next)
-    (windows-added t c.fill_slot_at.new.slots.items n c.in_ok-slot.slot c.in_ok-fill_slot_at.ensures.set (made (extent a.nlines t.lines a.begin_y) (extent a.ncols t.columns a.begin_x))
-    (c.in_ok-slot.ensures.window ∙ found))
+pub returns : goal.returns
+returns c = record {
+  refused = search rules;
+  reply = search rules;
+  changed =
+      let a = c.args in
+      let t = the_view c.self.inside in
+      let n = c.in_ok-number.number in
+      let lines = extent-is a.nlines t.lines a.begin_y c.in_ok-lines.lines (sym c.extent_inside.ensures ∙ c.in_ok-lines.ensures.ok_part) in
+      let columns = extent-is a.ncols t.columns a.begin_x c.in_ok-columns.columns (sym c.extent_inside-2.ensures ∙ c.in_ok-columns.ensures.ok_part) in
+      let made : ℕ → ℕ → Window = λ l m. new_window l m (Some (a.begin_y, a.begin_x)) blank_grid in
+      let found : made c.in_ok-lines.lines c.in_ok-columns.columns ≡ made (extent a.nlines t.lines a.begin_y) (extent a.ncols t.columns a.begin_x) = λ i. made (lines.given i) (columns.given i) in
+      let free = rw (c.deref.ensures.value, c.in_ok-number.ensures.ok_part) at c.free_number.ensures.number in
+      let next : next_window (windows t) ≡ n = ap (λ o. unwrap_or o standard_screen) (sym free) in
+      rw (← c.self.view_is, next)
+      (windows-added t c.fill_slot_at.new.slots.items n c.in_ok-slot.slot c.in_ok-fill_slot_at.ensures.set (made (extent a.nlines t.lines a.begin_y) (extent a.ncols t.columns a.begin_x))
+      (c.in_ok-slot.ensures.window ∙ found));
+  unchanged = tt;
+  sound = search rules;
+}

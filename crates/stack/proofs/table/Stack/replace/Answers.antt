@@ -1,4 +1,4 @@
-use Rattle.std.proofs.Common.{ap, arith, ◌∙◌}
+use Rattle.std.proofs.Common.{ap, arith, ◌∙◌, rules, refl}
 use Rattle.world.specs.calls.Stacking.{after_replace_panel}
 use Rattle.stack.specs.Tables.{panels, PanelTable}
 use Rattle.stack.proofs.Searches.{none-has}
@@ -15,8 +15,14 @@ invariant_of-self c =
     replaced-table old c.set_window.new.self c.args.panel.0 c.args.win.0
     c.self.invariant c.in_ok-require_panel.ensures.panel c.set_window.ensures free
 
-pub returns-clause-replaced : goal.returns-clause-replaced
-returns-clause-replaced c =
-    replaced-panels c.self.inside.nodes c.set_window.new.self c.args.panel.0 c.args.win.0
-    c.self.invariant c.in_ok-require_panel.ensures.panel c.set_window.ensures
-    ∙ ap (λ (t : PanelTable). after_replace_panel (panels t) c.args.panel.0 c.args.win.0) c.self.view_is
+pub returns : goal.returns
+returns c = record {
+  refused = search rules;
+  reply = refl;
+  arranged =
+      replaced-panels c.self.inside.nodes c.set_window.new.self c.args.panel.0 c.args.win.0
+      c.self.invariant c.in_ok-require_panel.ensures.panel c.set_window.ensures
+      ∙ ap (λ (t : PanelTable). after_replace_panel (panels t) c.args.panel.0 c.args.win.0) c.self.view_is;
+  unchanged = tt;
+  sound = search rules;
+}

@@ -1,14 +1,20 @@
-use Rattle.std.proofs.Common.{[], ◌∷◌, ◌++◌, ap, ◌∙◌}
+use Rattle.std.proofs.Common.{[], ◌∷◌, ◌++◌, ap, ◌∙◌, rules, refl}
 use Rattle.world.specs.calls.Stacking.{after_show_panel, without}
 use Rattle.stack.specs.Nodes.{from_bottom}
 use Rattle.stack.specs.Tables.{panels, PanelTable}
 use Rattle.stack.proofs.Tables.{reordered-panels}
 use Rattle.stack.proofs.table.Stack.show.Goals as goal
 
-pub returns-clause-shown : goal.returns-clause-shown
-returns-clause-shown c =
-    let old = c.self.inside.nodes in
-    let p = c.args.panel.0 in
-    let order = without p (from_bottom old) in
-    reordered-panels old c.move_to_top.new.nodes (order ++ p ∷ []) c.move_to_top.ensures
-    ∙ ap (λ (t : PanelTable). after_show_panel (panels t) p) c.self.view_is
+pub returns : goal.returns
+returns c = record {
+  refused = search rules;
+  reply = refl;
+  arranged =
+      let old = c.self.inside.nodes in
+      let p = c.args.panel.0 in
+      let order = without p (from_bottom old) in
+      reordered-panels old c.move_to_top.new.nodes (order ++ p ∷ []) c.move_to_top.ensures
+      ∙ ap (λ (t : PanelTable). after_show_panel (panels t) p) c.self.view_is;
+  unchanged = tt;
+  sound = search rules;
+}

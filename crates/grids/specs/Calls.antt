@@ -1,0 +1,50 @@
+-- A call made on a table of windows.
+use Rattle.std.specs.Prelude.{◌≡◌, Bool, IfOk, OnErr, OnOk, Option, Result, Some}
+use Rattle.std.specs.Result.{result_err}
+use Rattle.cell.specs.declared.refusal.Refusal.{Refusal}
+use Rattle.cell.specs.declared.window.WinId.{WinId}
+use Rattle.world.specs.Effects.{Change, after_change, change_reply, change_takes_memory}
+use Rattle.world.specs.Sound.{AreSoundWindows}
+use Rattle.world.specs.calls.Copying.{copying_change, copying_refusal}
+use Rattle.world.specs.calls.Making.{in_no_panel, making_change, making_refusal}
+use Rattle.world.specs.calls.Queries.{query_refusal}
+use Rattle.world.specs.calls.Refused.{Refused}
+use Rattle.world.specs.declared.call.Copying.{Copying}
+use Rattle.world.specs.declared.call.Making.{Making}
+use Rattle.world.specs.declared.call.Query.{Query}
+use Rattle.world.specs.declared.call.Reply.{Reply}
+use Rattle.world.specs.declared.call.Reply.TheVariants.{Flag, Nothing, Number}
+use Rattle.grids.specs.Tables.{WindowTable, windows}
+
+-- it was refused as its tests have it, and then nothing changed; else the answer and the windows are those of its effect
+pub record Changed {T : Type 0} (reply_of : T → Reply) (old : WindowTable) (refusal : Option Refusal) (change : Change) (r : Result T Refusal) (new : WindowTable)
+    : Type 0 where
+  pub refused : Refused (change_takes_memory change) refusal r
+  pub reply : IfOk r (λ t. reply_of t ≡ change_reply change)
+  pub changed : OnOk r (windows new ≡ after_change (windows old) change)
+  pub unchanged : OnErr r (new ≡ old)
+  pub sound : AreSoundWindows (windows new)
+
+-- of making and placing, as where no window is in a panel
+abbrev pub Made : {T : Type 0} → (T → Reply) → WindowTable → Making → Result T Refusal → WindowTable → Type 0
+Made reply_of old making r new = Changed reply_of old (making_refusal (windows old) in_no_panel making) (making_change (windows old) making) r new
+
+-- of copies and marks
+abbrev pub Marked : {T : Type 0} → (T → Reply) → WindowTable → Copying → Result T Refusal → WindowTable → Type 0
+Marked reply_of old copying r new = Changed reply_of old (copying_refusal (windows old) copying) (copying_change (windows old) copying) r new
+
+-- what it answers: nothing, the window that it made, or yes or no
+abbrev pub nothing : Unit {0} → Reply
+nothing done = Nothing
+
+abbrev pub its_number : WinId → Reply
+its_number win = Number win
+
+abbrev pub its_flag : Bool → Reply
+its_flag flag = Flag flag
+
+-- a query was refused exactly as its tests have it; else this is its answer
+pub record Asked {T : Type 0} (table : WindowTable) (query : Query) (told : Option T) (r : Result T Refusal) : Type 0 where
+  pub refused : result_err r ≡ query_refusal (windows table) query
+  pub answer : IfOk r (λ t. told ≡ Some t)
+  pub sound : AreSoundWindows (windows table)
