@@ -1,5 +1,6 @@
 pub use Rattle.slots.specs.Kept
 pub use Rattle.slots.specs.Slots
 pub use Rattle.slots.specs.Changes
+pub use Rattle.slots.specs.Inks
 pub mod Tables
 pub mod steps
