@@ -158,42 +158,45 @@ windows-put_row t a1 a2 win place y left right c there l leads h1 h2 =
     (put-any t.slots a1 a2 win place k.0 (filled y left right c) (filled (place.line + y) (place.column + left) (place.column + right) c) y left right k.1 leads
     (moved-row place a y left right c k.2 k.3) (touched-row a y left right c k.2 l k.3) h1 h2)
 
--- copied cells
+-- cells of a line, in columns that stand side by side
 
-copied_test : (a : Window) (window : WindowMap) (src sy sx dy dx n : ℕ) (z x : ℕ) → 0 < n →
-    is_some (within a (copied window src sy sx dy dx n false) z x) ≡ is_some (within a (filled dy dx (dx + n - 1) blank) z x)
-copied_test a window src sy sx dy dx n z x some = grind (arith, nat_tests)
+abbrev side_by_side : ℕ → ℕ → ℕ → (ℕ → Glyph) → Drawing
+side_by_side dy dx n shown y x = if (y == dy) && (nat_le dx x && nat_lt x (dx + n)) then Some (shown (x - dx)) else None
+
+beside_test : (a : Window) (dy dx n : ℕ) (shown : ℕ → Glyph) (z x : ℕ) → 0 < n →
+    is_some (within a (side_by_side dy dx n shown) z x) ≡ is_some (within a (filled dy dx (dx + n - 1) blank) z x)
+beside_test a dy dx n shown z x some = grind (arith, nat_tests)
 
 -- they touch their columns
-touched-copied : (a : Window) (window : WindowMap) (src sy sx dy dx n : ℕ) → dy < a.lines → dx + n - 1 < a.columns → 0 < n → (z : ℕ) →
-    touched_by (copied window src sy sx dy dx n false) a z ≡ (if z == dy then joined_columns (a.touched z) dx (dx + n - 1) else a.touched z)
-touched-copied a window src sy sx dy dx n in_lines in_columns some z =
-    ap (λ (test : ℕ → Bool). touched_below a.columns test (a.touched z)) (fun_ext (λ x. copied_test a window src sy sx dy dx n z x some))
+touched-beside : (a : Window) (dy dx n : ℕ) (shown : ℕ → Glyph) → dy < a.lines → dx + n - 1 < a.columns → 0 < n → (z : ℕ) →
+    touched_by (side_by_side dy dx n shown) a z ≡ (if z == dy then joined_columns (a.touched z) dx (dx + n - 1) else a.touched z)
+touched-beside a dy dx n shown in_lines in_columns some z =
+    ap (λ (test : ℕ → Bool). touched_below a.columns test (a.touched z)) (fun_ext (λ x. beside_test a dy dx n shown z x some))
     ∙ touched-row a dy dx (dx + n - 1) blank in_lines (omega arith) in_columns z
 
-copied_here : (place : GridPlace) (a : Window) (dy dx n z x : ℕ) (c1 c2 : Glyph) → dy < a.lines → dx + n ≤ a.columns → z ≡ place.line + dy → place.column + dx ≤ x → x < place.column + dx + n
+beside_here : (place : GridPlace) (a : Window) (dy dx n z x : ℕ) (c1 c2 : Glyph) → dy < a.lines → dx + n ≤ a.columns → z ≡ place.line + dy → place.column + dx ≤ x → x < place.column + dx + n
     → c1 ≡ c2 →
     (if nat_le place.line z && nat_le place.column x
     then (if nat_lt (z - place.line) a.lines && nat_lt (x - place.column) a.columns
     then (if (z - place.line == dy) && (nat_le dx (x - place.column) && nat_lt (x - place.column) (dx + n)) then Some c1 else None) else None) else None)
     ≡ (if (z == place.line + dy) && (nat_le (place.column + dx) x && nat_lt x (place.column + dx + n)) then Some c2 else None)
-copied_here place a dy dx n z x c1 c2 in_lines in_columns line from to same = rw same (grind (arith, nat_tests))
+beside_here place a dy dx n z x c1 c2 in_lines in_columns line from to same = rw same (grind (arith, nat_tests))
 
-copied_away : (place : GridPlace) (a : Window) (dy dx n z x : ℕ) (c1 c2 : Glyph) → ((z ≡ place.line + dy) → (place.column + dx ≤ x) → (x < place.column + dx + n) → ⊥) →
+beside_away : (place : GridPlace) (a : Window) (dy dx n z x : ℕ) (c1 c2 : Glyph) → ((z ≡ place.line + dy) → (place.column + dx ≤ x) → (x < place.column + dx + n) → ⊥) →
     (if nat_le place.line z && nat_le place.column x
     then (if nat_lt (z - place.line) a.lines && nat_lt (x - place.column) a.columns
     then (if (z - place.line == dy) && (nat_le dx (x - place.column) && nat_lt (x - place.column) (dx + n)) then Some c1 else None) else None) else None)
     ≡ (if (z == place.line + dy) && (nat_le (place.column + dx) x && nat_lt x (place.column + dx + n)) then Some c2 else None)
-copied_away place a dy dx n z x c1 c2 away = grind (arith, nat_tests)
+beside_away place a dy dx n z x c1 c2 away = grind (arith, nat_tests)
 
-moved-copied : (place : GridPlace) (a : Window) (window : WindowMap) (src sy sx dy dx n : ℕ) (cells : List Glyph) → dy < a.lines → dx + n ≤ a.columns → length cells ≡ n →
-    ((k : ℕ) → k < n → get_or cells k blank ≡ cell_at window src sy (sx + k)) → moved place (within a (copied window src sy sx dy dx n false)) ≡ listed (place.line + dy) (place.column + dx) cells
-moved-copied place a window src sy sx dy dx n cells in_lines in_columns all read = fun_ext (λ z. fun_ext (λ x.
-    let shown = cell_at window src sy (sx + (x - place.column - dx)) in
+moved-beside : (place : GridPlace) (a : Window) (dy dx n : ℕ) (shown : ℕ → Glyph) (cells : List Glyph) → dy < a.lines → dx + n ≤ a.columns → length cells ≡ n →
+    ((k : ℕ) → k < n → get_or cells k blank ≡ shown k) → moved place (within a (side_by_side dy dx n shown)) ≡ listed (place.line + dy) (place.column + dx) cells
+moved-beside place a dy dx n shown cells in_lines in_columns all read = fun_ext (λ z. fun_ext (λ x.
+    let was = shown (x - place.column - dx) in
     let held = get_or cells (x - (place.column + dx)) blank in
-    let away : ((z ≡ place.line + dy) → (place.column + dx ≤ x) → (x < place.column + dx + n) → ⊥) → moved place (within a (copied window src sy sx dy dx n false)) z x
+    let away : ((z ≡ place.line + dy) → (place.column + dx ≤ x) → (x < place.column + dx + n) → ⊥) → moved place (within a (side_by_side dy dx n shown)) z x
     ≡ listed (place.line + dy) (place.column + dx) cells z x =
-    λ other. rw all (copied_away place a dy dx n z x shown held other) in
+    λ other. rw all (beside_away place a dy dx n z x was held other) in
     elim (cases_eq z (place.line + dy)) [
       | inr line ↦ away (λ e _ _. line e)
       | inl line ↦ elim (cases_lt x (place.column + dx)) [
@@ -201,14 +204,30 @@ moved-copied place a window src sy sx dy dx n cells in_lines in_columns all read
         | inr from ↦ elim (cases_lt x (place.column + dx + n)) [
           | inr behind ↦ away (λ _ _ to. omega arith)
           | inl to ↦
-              let same : shown ≡ held =
-              ap (λ k. cell_at window src sy (sx + k)) (let e : x - place.column - dx ≡ x - (place.column + dx) = omega arith in e)
+              let same : was ≡ held =
+              ap shown (let e : x - place.column - dx ≡ x - (place.column + dx) = omega arith in e)
               ∙ sym (read (x - (place.column + dx)) (omega arith)) in
-              rw all (copied_here place a dy dx n z x shown held in_lines in_columns line from to same)
+              rw all (beside_here place a dy dx n z x was held in_lines in_columns line from to same)
         ]
       ]
     ]))
 
+windows-beside : (t : WindowTable) (a1 a2 : List (Option Kept)) (dst : ℕ) (place : GridPlace) (dy dx n : ℕ) (shown : ℕ → Glyph) (cells : List Glyph) →
+    HasPlace (window_map t.slots) dst dy (dx + n - 1) → 0 < n → own (window_map t.slots) dst 0 0 ≡ Some place → length cells ≡ n →
+    ((k : ℕ) → k < n → get_or cells k blank ≡ shown k) →
+    Changed t.slots a1 place.grid (with_drawing (listed (place.line + dy) (place.column + dx) cells)) →
+    Changed a1 a2 dst (with_touched dy dx (dx + n - 1)) →
+    windows (record t { slots = a2 }) ≡ put (windows t) dst (side_by_side dy dx n shown)
+windows-beside t a1 a2 dst place dy dx n shown cells there some leads all read h1 h2 =
+    let k = some_and (slot_at t.slots dst) dy (dx + n - 1) there in
+    let a = window_of k.0 in
+    let in_columns : dx + n ≤ a.columns = omega (arith, k.3) in
+    ap (λ (ws : WindowMap). record (windows t) { window = ws })
+    (put-any t.slots a1 a2 dst place k.0 (side_by_side dy dx n shown) (listed (place.line + dy) (place.column + dx) cells) dy dx (dx + n - 1) k.1 leads
+    (moved-beside place a dy dx n shown cells k.2 in_columns all read)
+    (touched-beside a dy dx n shown k.2 k.3 some) h1 h2)
+
+-- copied cells
 pub windows-copied : (t : WindowTable) (a1 a2 : List (Option Kept)) (src dst : ℕ) (place : GridPlace) (sy sx dy dx n : ℕ) (cells : List Glyph) →
     HasPlace (window_map t.slots) dst dy (dx + n - 1) → 0 < n → own (window_map t.slots) dst 0 0 ≡ Some place → length cells ≡ n →
     ((k : ℕ) → k < n → get_or cells k blank ≡ cell_at (window_map t.slots) src sy (sx + k)) →
@@ -216,10 +235,13 @@ pub windows-copied : (t : WindowTable) (a1 a2 : List (Option Kept)) (src dst : �
     Changed a1 a2 dst (with_touched dy dx (dx + n - 1)) →
     windows (record t { slots = a2 }) ≡ put (windows t) dst (copied (window_map t.slots) src sy sx dy dx n false)
 windows-copied t a1 a2 src dst place sy sx dy dx n cells there some leads all read h1 h2 =
-    let k = some_and (slot_at t.slots dst) dy (dx + n - 1) there in
-    let a = window_of k.0 in
-    let in_columns : dx + n ≤ a.columns = omega (arith, k.3) in
-    ap (λ (ws : WindowMap). record (windows t) { window = ws })
-    (put-any t.slots a1 a2 dst place k.0 (copied (window_map t.slots) src sy sx dy dx n false) (listed (place.line + dy) (place.column + dx) cells) dy dx (dx + n - 1) k.1 leads
-    (moved-copied place a (window_map t.slots) src sy sx dy dx n cells k.2 in_columns all read)
-    (touched-copied a (window_map t.slots) src sy sx dy dx n k.2 k.3 some) h1 h2)
+    windows-beside t a1 a2 dst place dy dx n (λ k. cell_at (window_map t.slots) src sy (sx + k)) cells there some leads all read h1 h2
+
+-- cells of a list
+pub windows-listed : (t : WindowTable) (a1 a2 : List (Option Kept)) (win : ℕ) (place : GridPlace) (y left : ℕ) (cells : List Glyph) →
+    HasPlace (window_map t.slots) win y (left + length cells - 1) → 0 < length cells → own (window_map t.slots) win 0 0 ≡ Some place →
+    Changed t.slots a1 place.grid (with_drawing (listed (place.line + y) (place.column + left) cells)) →
+    Changed a1 a2 win (with_touched y left (left + length cells - 1)) →
+    windows (record t { slots = a2 }) ≡ put (windows t) win (listed y left cells)
+windows-listed t a1 a2 win place y left cells there some leads h1 h2 =
+    windows-beside t a1 a2 win place y left (length cells) (λ k. get_or cells k blank) cells there some leads refl (λ k below. refl) h1 h2

@@ -1,11 +1,12 @@
 //! Reading a line of a window, and the two writes of which every write is made.
 
-ghost use Rattle.std.specs.Prelude.{◌≡◌, ℕ, ◌<◌, ◌≤◌, ◌+◌, ◌-◌, is_some, true, false};
+ghost use Rattle.std.specs.Prelude.{◌≡◌, ℕ, ◌<◌, ◌≤◌, ◌+◌, ◌-◌, is_some, length, map, slice_index, EachIndex, true, false};
 ghost use Rattle.std.specs.List.{AllByRecursion};
-ghost use Rattle.cell.specs.Glyphs.{IsCell};
+ghost use Rattle.cell.specs.Glyphs.{IsCell, is_printable};
+ghost use Rattle.slots.specs.Inks.{inked};
 ghost use Rattle.world.specs.Windows.{HasPlace, cell_at, put};
 ghost use Rattle.world.specs.Sound.{AreSoundWindows};
-ghost use Rattle.world.specs.Rows.{filled, overlaid, copied, line_shown};
+ghost use Rattle.world.specs.Rows.{filled, listed, overlaid, copied, line_shown};
 ghost use Rattle.world.specs.Effects.{drawing_frame};
 ghost use Rattle.grids.specs.Tables.{windows};
 
@@ -62,6 +63,29 @@ impl Grids {
             cell,
         );
         touch_row(&mut self.slots, win.0, y, left, right);
+        prove!(self.is_sound());
+    }
+
+    /// Prints characters from 32 to 126 in line `y` of a window, from column `left` on, each with the attributes and the pair of a
+    /// pen; a space becomes the pen itself. The places must be there.
+    pub fn print(&mut self, win: WinId, y: u16, left: u16, text: &[u8], pen: Cell)
+        requires some { 0 < length text.now }
+        requires there { HasPlace (windows self.old).window win.0 y (left + length text.now - 1) }
+        requires printable { EachIndex text.now (λ k. is_printable (slice_index text.now k) ≡ true) }
+        ensures written { windows self.new ≡ put (windows self.old) win.0 (listed y left (map (inked pen) text.now)) }
+        ensures sound { AreSoundWindows (windows self.new) }
+    {
+        let origin = origin_of(&self.slots, win.0);
+        let end = left + text.len() as u16;
+        self.line.write(text, pen);
+        put_row(
+            &mut self.slots,
+            origin.grid,
+            origin.line + y,
+            origin.column + left,
+            self.line.cells(),
+        );
+        touch_row(&mut self.slots, win.0, y, left, end - 1);
         prove!(self.is_sound());
     }
 

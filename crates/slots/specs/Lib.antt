@@ -1,4 +1,5 @@
 pub mod Kept
 pub mod Slots
 pub mod Changes
+pub mod Inks
 pub mod steps

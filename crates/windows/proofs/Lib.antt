@@ -5,6 +5,7 @@ pub mod Steps
 pub mod Calls
 pub mod Typing
 pub mod Texts
+pub mod Runs
 pub mod OptionLemmas
 pub mod Scrolls
 pub mod Examples

@@ -25,7 +25,7 @@ some-place (Some p) h = (p, refl)
 pub spot-of : (windows : Windows) (w : ℕ) (s : WindowState) → IsStateOf windows w s → (p : GridPlace) × (own windows.window w 0 0 ≡ Some p)
 spot-of windows w s h = some-place (own windows.window w 0 0) h.chain_ends
 
-window-put : (window : WindowMap) (w : ℕ) (a : Window) (p : GridPlace) (f : Drawing) → window w ≡ Some a → own window w 0 0 ≡ Some p
+pub window-put : (window : WindowMap) (w : ℕ) (a : Window) (p : GridPlace) (f : Drawing) → window w ≡ Some a → own window w 0 0 ≡ Some p
     → put_windows window w f w ≡ Some (drawn w a p f w a)
 window-put window w a p f there leads =
     ap (λ o. put_from window w o (own window w 0 0) f w) there ∙ ap (λ o. put_from window w (Some a) o f w) leads ∙ ap (option_map (drawn w a p f w)) there

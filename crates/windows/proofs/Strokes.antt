@@ -216,10 +216,10 @@ filled-at : (y left right v u : ℕ) (c : Glyph) (t : Bool) → ((v == y) && (na
     → filled y left right c v u ≡ (if t then Some c else None)
 filled-at y left right v u c t h = ap (λ (t : Bool). let o : Option Glyph = if t then Some c else None in o) h
 
-over-some : (g f : Drawing) (v u : ℕ) (c : Glyph) → g v u ≡ Some c → over g f v u ≡ Some c
+pub over-some : (g f : Drawing) (v u : ℕ) (c : Glyph) → g v u ≡ Some c → over g f v u ≡ Some c
 over-some g f v u c h = rw h refl
 
-over-none : (g f : Drawing) (v u : ℕ) → g v u ≡ None → over g f v u ≡ f v u
+pub over-none : (g f : Drawing) (v u : ℕ) → g v u ≡ None → over g f v u ≡ f v u
 over-none g f v u h = rw h refl
 
 module _ (window : WindowMap) (w : ℕ) (a : Window) (y x : ℕ) (c : Glyph) (left : x < a.columns) where

@@ -1,21 +1,19 @@
--- A text is written character after character: the windows stay, and the rectangle grows.
-use Rattle.std.proofs.Common.{◌≡◌, ℕ, ◌+◌, ◌-◌, ◌<◌, min, max, Bool, true, false, if◌then◌else◌, ◌==◌, nat_lt, Option, Some, None, IsSome, is_some, List, [], ◌∷◌, ◌++◌, length, get_or, take, ap}
-use Rattle.std.proofs.Common.{arith, refl, sym, ◌∙◌}
+-- A character is written: the windows stay. And the rectangles of several.
+use Rattle.std.proofs.Common.{◌≡◌, ℕ, ◌+◌, ◌-◌, min, max, Bool, true, false, if◌then◌else◌, ◌==◌, nat_lt, Option, Some, None, is_some}
+use Rattle.std.proofs.Common.{arith, refl, ◌∙◌}
 use Rattle.std.specs.Option.{option_map}
-use Rattle.std.proofs.lemmas.List.{take_more}
 use Rattle.cell.specs.Pictures.{Place}
 use Rattle.world.specs.Windows.{Window, WindowMap, Windows, GridPlace, Drawing, own, drawn, put_from, put}
 use Rattle.world.specs.Settings.{set_in, set, with_cursor}
 use Rattle.world.specs.Drawings.{written_glyph, at_place, to_end_of_line}
 use Rattle.world.specs.Frames.{joined}
-use Rattle.world.specs.Typing.{newline, carriage_return, backspace, drawn_to, region_up, scrolls, is_last_line, to_next_line, character_printed, line_ended, typed_in, after_character}
-use Rattle.world.specs.Typing.{frame_of_character, after_text, text_frame}
+use Rattle.world.specs.Typing.{newline, carriage_return, backspace, drawn_to, region_up, scrolls, is_last_line, to_next_line, character_printed, line_ended, typed_in}
 use Rattle.cell.specs.declared.window.Rect.{Rect}
 use Rattle.world.specs.declared.settings.Settings.{Settings}
 
 -- ---- no window comes or goes
 
-abbrev HasSame : Windows → Windows → Type 0
+abbrev pub HasSame : Windows → Windows → Type 0
 HasSame before after = (u : ℕ) → is_some (after.window u) ≡ is_some (before.window u)
 
 some-mapped : (change : Window → Window) (o : Option Window) → is_some (option_map change o) ≡ is_some o
@@ -59,23 +57,20 @@ same-ended windows w a u =
     let rest = to_end_of_line a.settings.cursor a.settings.background in
     same-next_line (put windows w rest) w a (a.settings.cursor.0, 0) u ∙ same-put windows w rest u
 
-same-typed : (windows : Windows) (w character : ℕ) (a : Window) → HasSame windows (typed_in windows w character a)
+pub same-typed : (windows : Windows) (w character : ℕ) (a : Window) → HasSame windows (typed_in windows w character a)
 same-typed windows w character a =
     same-if (character == newline) windows _ _ (same-ended windows w a)
     (same-if (character == carriage_return) windows _ _ (same-set windows w (with_cursor (a.settings.cursor.0, 0)))
     (same-if (character == backspace) windows _ _ (same-set windows w (with_cursor (a.settings.cursor.0, a.settings.cursor.1 - 1)))
     (same-printed windows w character a)))
 
-pub still_there : (windows new : Windows) (w character : ℕ) (a : Window) → IsSome (windows.window w) → new ≡ typed_in windows w character a → IsSome (new.window w)
-still_there windows new w character a there e = ap (λ (v : Windows). is_some (v.window w)) e ∙ same-typed windows w character a w ∙ there
-
--- ---- one character more
+-- ---- rectangles one after another
 
 pub joined-none : (o : Option Rect) → joined o None ≡ o
 joined-none None = refl
 joined-none (Some a) = refl
 
-joined-joined : (o p q : Option Rect) → joined (joined o p) q ≡ joined o (joined p q)
+pub joined-joined : (o p q : Option Rect) → joined (joined o p) q ≡ joined o (joined p q)
 joined-joined None p q = refl
 joined-joined (Some a) None None = refl
 joined-joined (Some a) None (Some c) = refl
@@ -86,28 +81,3 @@ joined-joined (Some a) (Some b) (Some c) =
     let bottom : max (max a.bottom b.bottom) c.bottom ≡ max a.bottom (max b.bottom c.bottom) = omega arith in
     let right : max (max a.right b.right) c.right ≡ max a.right (max b.right c.right) = omega arith in
     λ i. Some (record { top = top i; left = left i; bottom = bottom i; right = right i })
-
-frame-push : (text : List ℕ) (windows : Windows) (w character : ℕ)
-    → text_frame windows w (text ++ (character ∷ [])) ≡ joined (text_frame windows w text) (frame_of_character (after_text windows w text) w character)
-frame-push [] windows w character = joined-none (frame_of_character windows w character)
-frame-push (first ∷ text) windows w character =
-    ap (λ o. joined (frame_of_character windows w first) o) (frame-push text (after_character windows w first) w character)
-    ∙ sym (joined-joined (frame_of_character windows w first) (text_frame (after_character windows w first) w text)
-    (frame_of_character (after_text (after_character windows w first) w text) w character))
-
-after-push : (text : List ℕ) (windows : Windows) (w character : ℕ) → after_text windows w (text ++ (character ∷ [])) ≡ after_character (after_text windows w text) w character
-after-push [] windows w character = refl
-after-push (first ∷ text) windows w character = after-push text (after_character windows w first) w character
-
-module _ (windows now new : Windows) (w : ℕ) (text : List ℕ) (i : ℕ) (inside : i < length text) (before : now ≡ after_text windows w (take i text)) where
-  more_text : take (i + 1) text ≡ take i text ++ (get_or text i 0 ∷ [])
-  more_text = take_more text i 0 inside
-
-  pub text_more : new ≡ after_character now w (get_or text i 0) → new ≡ after_text windows w (take (i + 1) text)
-  text_more e = e ∙ ap (λ v. after_character v w (get_or text i 0)) before ∙ sym (ap (after_text windows w) more_text ∙ after-push (take i text) windows w (get_or text i 0))
-
-  pub frame_more : (frame next o : Option Rect) → frame ≡ text_frame windows w (take i text) → next ≡ frame_of_character now w (get_or text i 0) → o ≡ joined frame next
-      → o ≡ text_frame windows w (take (i + 1) text)
-  frame_more frame next o so_far e is =
-      is ∙ (λ k. joined (so_far k) (e k)) ∙ ap (λ v. joined (text_frame windows w (take i text)) (frame_of_character v w (get_or text i 0))) before
-      ∙ sym (ap (text_frame windows w) more_text ∙ frame-push (take i text) windows w (get_or text i 0))

@@ -1,13 +1,13 @@
 //! The calls that write characters.
 
-ghost use Rattle.std.specs.Prelude.{◌≡◌, ◌<◌, ◌==◌, if◌then◌else◌, IsSome, IfOk, OnOk, OnErr, false, true};
+ghost use Rattle.std.specs.Prelude.{◌≡◌, ℕ, ◌+◌, ◌<◌, ◌≤◌, ◌==◌, if◌then◌else◌, length, slice_index, take, EachIndex, IsSome, Some, IfOk, OnOk, OnErr, false, true};
 ghost use Rattle.std.specs.List.{list_any};
 ghost use Rattle.std.specs.Result.{result_err};
 ghost use Rattle.cell.specs.Attributes.{bits_of};
 ghost use Rattle.world.specs.Drawings.{written_glyph};
 ghost use Rattle.world.specs.Sound.{AreSoundWindows};
 ghost use Rattle.world.specs.calls.Writing.{is_bad_character, after_writing, writing_frame, writing_refusal};
-ghost use Rattle.world.specs.Typing.{to_next_line, next_line_frame, character_printed, character_frame, line_ended, line_ended_frame, typed_in, typed_frame, after_character, frame_of_character, after_text, text_frame};
+ghost use Rattle.world.specs.Typing.{to_next_line, next_line_frame, character_printed, character_frame, line_ended, line_ended_frame, typed_in, typed_frame, after_text, text_frame};
 ghost use Rattle.world.specs.declared.call.Writing.{Writing};
 ghost use Rattle.cell.specs.Glyphs.{is_printable};
 ghost use Rattle.grids.specs.Tables.{windows};
@@ -108,24 +108,75 @@ fn type_text(table: &mut Grids, win: WinId, text: &[u8]) -> Option<Rect>
     ensures sound { AreSoundWindows (windows table.new) }
 {
     let mut frame = None;
-    for &ch in text {
-        frame = joined(frame, type_next(table, win, ch));
+    let mut rest = text;
+    while !rest.is_empty() {
+        let (count, written) = type_first(table, win, rest);
+        frame = joined(frame, written);
+        rest = rest.split_at(count).1;
     }
     frame
 }
 
-/// Writes an accepted character in a window that is there.
-fn type_next(table: &mut Grids, win: WinId, ch: u8) -> Option<Rect>
+/// Writes the first characters of an accepted text in a window that is there, and answers how many: at once those that are printed
+/// in the cursor's line before its last column, or else one.
+fn type_first(table: &mut Grids, win: WinId, text: &[u8]) -> (usize, Option<Rect>)
     requires there { IsSome ((windows table.old).window win.0) }
-    requires accepted { is_bad_character ch ≡ false }
-    ensures written { windows table.new ≡ after_character (windows table.old) win.0 ch }
-    ensures frame { result ≡ frame_of_character (windows table.old) win.0 ch }
+    requires accepted { list_any is_bad_character text.now ≡ false }
+    requires some { 0 < length text.now }
+    ensures some { 0 < result.0 }
+    ensures within { result.0 ≤ length text.now }
+    ensures written { windows table.new ≡ after_text (windows table.old) win.0 (take result.0 text.now) }
+    ensures frame { result.1 ≡ text_frame (windows table.old) win.0 (take result.0 text.now) }
     ensures there { IsSome ((windows table.new).window win.0) }
     ensures sound { AreSoundWindows (windows table.new) }
 {
     match state_of(table, win) {
-        Ok(state) => type_character(table, win, &state, ch),
+        Ok(state) => {
+            let count = run_length(&state, text);
+            if count == 0 {
+                return (1, type_character(table, win, &state, text[0]));
+            }
+            (count, Some(print_run(table, win, &state, &text[..count])))
+        }
         Err(_) => unreachable!(),
+    }
+}
+
+/// How many first characters of a text are printed in the cursor's line before its last column.
+fn run_length(state: &WindowState, text: &[u8]) -> usize
+    requires { state.now.settings.cursor.1 < state.now.columns }
+    ensures within { result ≤ length text.now }
+    ensures inside { state.now.settings.cursor.1 + result < state.now.columns }
+    ensures printable { (k : ℕ) → k < result → is_printable (slice_index text.now k) ≡ true }
+{
+    let room = usize::from(state.columns - 1 - state.settings.cursor.1);
+    for (count, ch) in text.iter().enumerate() {
+        if count == room || !is_printable(*ch) {
+            return count;
+        }
+    }
+    text.len()
+}
+
+/// Prints characters at the cursor that end before the last column.
+fn print_run(table: &mut Grids, win: WinId, state: &WindowState, run: &[u8]) -> Rect
+    requires state { IsStateOf (windows table.old) win.0 state.now }
+    requires some { 0 < length run.now }
+    requires inside { state.now.settings.cursor.1 + length run.now < state.now.columns }
+    requires printable { EachIndex run.now (λ k. is_printable (slice_index run.now k) ≡ true) }
+    ensures written { windows table.new ≡ after_text (windows table.old) win.0 run.now }
+    ensures frame { Some result ≡ text_frame (windows table.old) win.0 run.now }
+    ensures sound { AreSoundWindows (windows table.new) }
+{
+    let (y, x) = state.settings.cursor;
+    let end = x + run.len() as u16;
+    table.print(win, y, x, run, written_cell(&state.settings, b' '));
+    set_cursor(table, win, state, y, end);
+    Rect {
+        top: y,
+        left: x,
+        bottom: y,
+        right: end - 1,
     }
 }
 

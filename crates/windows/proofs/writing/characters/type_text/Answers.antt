@@ -1,14 +1,20 @@
 use Rattle.grids.specs.Tables.{windows}
-use Rattle.windows.proofs.Texts.{text_more, frame_more}
+use Rattle.windows.proofs.Runs.{text_goes_on, frame_goes_on, rest_accepted}
 use Rattle.windows.proofs.writing.characters.type_text.Goals as goal
 
-pub loop-ch-preserved : goal.loop-ch-preserved
-loop-ch-preserved c = record {
-  written = text_more (windows c.args.table.now) (windows c.loop-ch.table) (windows c.type_next.new.table) c.args.win.0 c.args.text.now c.loop-ch.ch-index
-      c.loop-ch-test.true c.loop-ch.invariant.written c.type_next.ensures.written;
-  frame = frame_more (windows c.args.table.now) (windows c.loop-ch.table) (windows c.type_next.new.table) c.args.win.0 c.args.text.now c.loop-ch.ch-index
-      c.loop-ch-test.true c.loop-ch.invariant.written c.loop-ch.frame c.type_next.result c.joined-frame.result c.loop-ch.invariant.frame
-      c.type_next.ensures.frame c.joined-frame.ensures;
-  there = c.type_next.ensures.there;
-  sound = c.type_next.ensures.sound;
-}
+pub loop-rest-preserved : goal.loop-rest-preserved
+loop-rest-preserved c =
+    let before = windows c.args.table.now in
+    let now = windows c.loop-rest.table in
+    let new = windows c.type_first-count.new.table in
+    let rest = c.loop-rest.rest.now in
+    let count = c.type_first-count.result.0 in
+    let first = c.type_first-count.ensures in
+    rw c.split_at.ensures.back (record {
+      written = text_goes_on before now new c.args.win.0 c.args.text.now rest count first.written c.loop-rest.invariant.written;
+      frame = frame_goes_on before now new c.args.win.0 c.args.text.now rest count first.written c.loop-rest.frame c.type_first-count.result.1 c.joined-frame.result
+          c.loop-rest.invariant.frame first.frame c.joined-frame.ensures;
+      accepted = rest_accepted count rest c.loop-rest.invariant.accepted;
+      there = first.there;
+      sound = first.sound;
+    })

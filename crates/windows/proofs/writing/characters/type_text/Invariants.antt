@@ -1,14 +1,21 @@
-use Rattle.std.proofs.Common.{◌≡◌, IsSome, take}
+use Rattle.std.proofs.Common.{◌≡◌, IsSome, false, length}
+use Rattle.std.specs.List.{list_any}
 use Rattle.world.specs.Sound.{AreSoundWindows}
+use Rattle.world.specs.Frames.{joined}
 use Rattle.world.specs.Typing.{after_text, text_frame}
+use Rattle.world.specs.calls.Writing.{is_bad_character}
 use Rattle.grids.specs.Tables.{windows}
 use Rattle.windows.proofs.writing.characters.type_text.Given as goal
 
--- the characters so far are written
-abbrev pub invariant-loop-ch : goal.invariant-loop-ch
-invariant-loop-ch l = record {
-  written : windows l.table ≡ after_text (windows l.fn.table) l.win.0 (take l.ch-index l.text);
-  frame : l.frame ≡ text_frame (windows l.fn.table) l.win.0 (take l.ch-index l.text);
+-- what is left is to be written, and then all is
+abbrev pub invariant-loop-rest : goal.invariant-loop-rest
+invariant-loop-rest l = record {
+  written : after_text (windows l.table) l.win.0 l.rest ≡ after_text (windows l.fn.table) l.win.0 l.text;
+  frame : joined l.frame (text_frame (windows l.table) l.win.0 l.rest) ≡ text_frame (windows l.fn.table) l.win.0 l.text;
+  accepted : list_any is_bad_character l.rest ≡ false;
   there : IsSome ((windows l.table).window l.win.0);
   sound : AreSoundWindows (windows l.table);
 }
+
+abbrev pub decreases-loop-rest : goal.decreases-loop-rest
+decreases-loop-rest l = length l.rest

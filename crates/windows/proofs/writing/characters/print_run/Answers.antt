@@ -1,0 +1,26 @@
+use Rattle.std.proofs.Common.{◌+◌, ◌-◌, length, map, refl}
+use Rattle.world.specs.Rows.{listed}
+use Rattle.grids.specs.Inks.{inked}
+use Rattle.grids.specs.Tables.{windows}
+use Rattle.windows.proofs.States.{state-written}
+use Rattle.windows.proofs.Runs.{run_printed, run_frame}
+use Rattle.windows.proofs.writing.characters.print_run.Goals as goal
+
+pub set_cursor-requires-clause-state : goal.set_cursor-requires-clause-state
+set_cursor-requires-clause-state c =
+    let s = c.args.state.now in
+    state-written (windows c.args.table.now) (windows c.print.new.self) c.args.win.0 s
+    (listed s.settings.cursor.0 s.settings.cursor.1 (map (inked c.written_cell.result) c.args.run.now)) c.requires.state c.print.ensures.written c.print.ensures.sound
+
+pub returns-clause-written : goal.returns-clause-written
+returns-clause-written c =
+    let s = c.args.state.now in
+    run_printed (windows c.args.table.now) c.args.win.0 s c.requires.state c.args.run.now c.requires.printable c.requires.inside c.written_cell.result
+    (windows c.print.new.self) (windows c.set_cursor.new.table) (s.settings.cursor.1 + length c.args.run.now) c.written_cell.ensures refl
+    c.print.ensures.written c.set_cursor.ensures.set
+
+pub returns-clause-frame : goal.returns-clause-frame
+returns-clause-frame c =
+    let s = c.args.state.now in
+    run_frame (windows c.args.table.now) c.args.win.0 s c.requires.state c.args.run.now c.requires.printable c.requires.inside c.requires.some
+    (s.settings.cursor.1 + length c.args.run.now - 1) refl

@@ -1,0 +1,33 @@
+use Rattle.std.proofs.Common.{get_or, take}
+use Rattle.grids.specs.Tables.{windows}
+use Rattle.windows.proofs.Typing.{added, added_frame}
+use Rattle.windows.proofs.Runs.{one_written, one_covered, text_keeps}
+use Rattle.windows.proofs.writing.characters.type_first.Goals as goal
+
+pub returns-then-count-eq0-clause-written : goal.returns-then-count-eq0-clause-written
+returns-then-count-eq0-clause-written c =
+    let before = windows c.args.table.now in
+    let after = windows c.type_character.new.table in
+    let text = c.args.text.now in
+    one_written before after c.args.win.0 text c.requires.some
+    (added before c.args.win.0 c.in-Ok.state c.in-Ok.ensures.state after (get_or text 0 0) c.type_character.ensures.written)
+
+pub returns-then-count-eq0-clause-frame : goal.returns-then-count-eq0-clause-frame
+returns-then-count-eq0-clause-frame c =
+    let before = windows c.args.table.now in
+    let text = c.args.text.now in
+    one_covered before c.args.win.0 text c.type_character.result c.requires.some
+    (added_frame before c.args.win.0 c.in-Ok.state c.in-Ok.ensures.state c.type_character.result (get_or text 0 0) c.type_character.ensures.frame)
+
+pub returns-then-count-eq0-clause-there : goal.returns-then-count-eq0-clause-there
+returns-then-count-eq0-clause-there c =
+    let before = windows c.args.table.now in
+    let after = windows c.type_character.new.table in
+    let text = c.args.text.now in
+    text_keeps before after c.args.win.0 (take 1 text) c.requires.there
+    (one_written before after c.args.win.0 text c.requires.some
+    (added before c.args.win.0 c.in-Ok.state c.in-Ok.ensures.state after (get_or text 0 0) c.type_character.ensures.written))
+
+pub returns-clause-there : goal.returns-clause-there
+returns-clause-there c =
+    text_keeps (windows c.args.table.now) (windows c.print_run.new.table) c.args.win.0 (take c.run_length-count.result c.args.text.now) c.requires.there c.print_run.ensures.written
