@@ -16,8 +16,6 @@ static int draw(WINDOW *win, int y, int x, int n, chtype ch, bool down) {
     return curspan_put_cells(win, y, x, row, n);
 }
 
-static int least(int a, int b) { return a < b ? a : b; }
-
 int whline(WINDOW *win, chtype ch, int n) {
     int y = getcury(win), x = getcurx(win);
     return y == ERR || n < 0 ? ERR : draw(win, y, x, least(n, getmaxx(win) - x), ch ? ch : ACS_HLINE, false);

@@ -23,9 +23,14 @@ struct curspan_window {
 };
 
 extern curspan curspan_the_screen;
+extern struct curspan_window curspan_windows[MOST];
 
 /* The number of a window, and for a pointer to none a number that no window has. */
-uint16_t curspan_number(const WINDOW *win);
+static inline uint16_t curspan_number(const WINDOW *win) {
+    uintptr_t from_first = (uintptr_t)win - (uintptr_t)curspan_windows;
+    return from_first < sizeof curspan_windows && win->is_there ? (uint16_t)(from_first / sizeof *win) : NUMBER;
+}
+
 /* The window of an answer that is its number, and NULL of a refusal. */
 WINDOW *curspan_window_of(curspan_answer answer);
 /* Makes the standard screen of an answer that is its number. */
@@ -36,8 +41,12 @@ void curspan_forget_all(void);
 /* The screen, and a window of it, as arguments. */
 #define SCREEN_AND(win) &curspan_the_screen, curspan_number(win)
 
+/* Tells Curspan that a window writes with other attributes than before. */
+int curspan_tell_other(WINDOW *win, attr_t attrs);
+
 /* Tells Curspan with which attributes a window writes next. */
-int curspan_tell(WINDOW *win, attr_t attrs);
+static inline int curspan_tell(WINDOW *win, attr_t attrs) { return win->told == attrs ? OK : curspan_tell_other(win, attrs); }
+
 /* One set of attributes with another added, whose pair goes before where it has one. */
 attr_t curspan_with(attr_t attrs, attr_t more);
 /* Sets the background, that of the window in `win` or another. */
@@ -63,6 +72,7 @@ static inline bool are_numbers(int a, int b, int c, int d) {
 }
 
 static inline int is_there(const WINDOW *win) { return curspan_number(win) == NUMBER ? ERR : OK; }
+static inline int least(int a, int b) { return a < b ? a : b; }
 static inline bool is_terminal(const WINDOW *win) { return win && win == curscr; }
 static inline int done(curspan_answer answer) { return answer.status == CURSPAN_OK ? OK : ERR; }
 static inline int first_of(curspan_answer answer) { return answer.status == CURSPAN_OK ? (int)answer.first : ERR; }

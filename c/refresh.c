@@ -18,8 +18,10 @@ int copywin(const WINDOW *from, WINDOW *to, int from_y, int from_x, int to_top, 
 int touchwin(WINDOW *win) { return is_terminal(win) ? clearok(curscr, TRUE) : done(curspan_touchwin(SCREEN_AND(win))); }
 int untouchwin(WINDOW *win) { return done(curspan_untouchwin(SCREEN_AND(win))); }
 
+/* Of lines past the window's last none is touched, as over ncurses. */
 int wtouchln(WINDOW *win, int y, int n, int changed) {
     if (!are_numbers(y, n, 0, 0)) return ERR;
+    if (y < getmaxy(win)) n = least(n, getmaxy(win) - y);
     return done(curspan_wtouchln(SCREEN_AND(win), (uint16_t)y, (uint16_t)n, changed != 0));
 }
 
@@ -45,9 +47,13 @@ int wrefresh(WINDOW *win) { return wnoutrefresh(win) == ERR ? ERR : doupdate(); 
 
 static int not_negative(int n) { return n < 0 ? 0 : n; }
 
+/* The part of the screen ends where the pad does, as over ncurses. */
 int pnoutrefresh(WINDOW *pad, int pad_y, int pad_x, int top, int left, int bottom, int right) {
-    const int part[6] = {not_negative(pad_y), not_negative(pad_x), not_negative(top), not_negative(left), bottom, right};
+    int part[6] = {not_negative(pad_y), not_negative(pad_x), not_negative(top), not_negative(left), bottom, right};
     if (is_there(pad) == ERR || !are_numbers(part[0], part[1], part[2], part[3]) || !are_numbers(bottom, right, 0, 0)) return ERR;
+    bottom = least(bottom, part[2] + getmaxy(pad) - 1 - part[0]);
+    right = least(right, part[3] + getmaxx(pad) - 1 - part[1]);
+    if (bottom < 0 || right < 0) return ERR;
     if (done(curspan_pnoutrefresh(SCREEN_AND(pad), (uint16_t)part[0], (uint16_t)part[1], (uint16_t)part[2], (uint16_t)part[3],
                                   (uint16_t)bottom, (uint16_t)right)) == ERR)
         return ERR;

@@ -6,14 +6,8 @@
 
 WINDOW *stdscr, *curscr;
 
-static struct curspan_window windows[MOST];
+struct curspan_window curspan_windows[MOST];
 static struct curspan_window the_terminal;
-
-uint16_t curspan_number(const WINDOW *win) {
-    uintptr_t at = (uintptr_t)win, first = (uintptr_t)windows;
-    if (at < first || at >= first + sizeof windows || !win->is_there) return NUMBER;
-    return (uint16_t)(win - windows);
-}
 
 static void forget(WINDOW *win) {
     const struct curspan_window none = {.is_there = false, .background = ' '};
@@ -21,14 +15,14 @@ static void forget(WINDOW *win) {
 }
 
 void curspan_forget_all(void) {
-    for (int i = 0; i < MOST; i++) forget(&windows[i]);
+    for (int i = 0; i < MOST; i++) forget(&curspan_windows[i]);
     curspan_forget_rows();
     curspan_forget_colours();
     stdscr = curscr = NULL;
 }
 
 WINDOW *curspan_window_of(curspan_answer answer) {
-    return answer.status == CURSPAN_OK ? &windows[answer.first] : NULL;
+    return answer.status == CURSPAN_OK ? &curspan_windows[answer.first] : NULL;
 }
 
 /* A window that was made by an answer, with its size. A derived one begins with its parent's attributes and background. */

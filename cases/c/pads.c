@@ -29,9 +29,13 @@ int main(void) {
     wmove(pad, 1, 4);
     pechochar(pad, 'X');
     look();
-    int refused = pnoutrefresh(pad, 59, 0, 0, 0, 30, 20);
+    int refused = pnoutrefresh(pad, 0, 0, 0, 0, 30, 20);
     pechochar(pad, 'Y');
     mvprintw(22, 0, "refused: %d", refused == ERR);
+    look();
+    mvprintw(22, 0, "larger than the pad: %d", prefresh(part, 1, 5, 14, 10, LINES - 1, COLS - 1) == OK);
+    look();
+    mvprintw(22, 0, "past the pad, and past the screen: %d %d", prefresh(part, 5, 0, 0, 0, 4, 4), prefresh(pad, 0, 0, 0, 0, LINES, 4));
     look();
     delwin(part);
     delwin(pad);

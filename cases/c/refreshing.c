@@ -26,6 +26,9 @@ int main(void) {
     shot();
     wtouchln(right, 0, 8, 1);
     wtouchln(right, 3, 4, 0);
+    untouchwin(left);
+    touchline(left, 6, 50);
+    printw(" %d %d", is_linetouched(left, 5), is_linetouched(left, 7));
     mvprintw(21, 0, "lines:");
     for (int y = 0; y < 8; y++) printw(" %d", is_linetouched(right, y));
     wnoutrefresh(stdscr);

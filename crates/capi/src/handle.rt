@@ -62,10 +62,11 @@ impl Handle {
         }
     }
 
-    /// Frees what it owns.
+    /// Frees what it owns, which is mostly nothing.
+    #[inline(always)]
     fn free(self, alloc: Global) {
         if let Some(loose) = self.into_loose(alloc) {
-            drop(loose.into_box());
+            free_surface(loose);
         }
     }
 
@@ -144,6 +145,12 @@ impl Handle {
             self.put(alloc, surface);
         }
     }
+}
+
+#[cold]
+#[inline(never)]
+fn free_surface(loose: Loose<Surface, Global>) {
+    drop(loose.into_box());
 }
 
 /// A blank screen in a box.
