@@ -6,7 +6,7 @@ follow() {
     mkdir -p "$(dirname "$log")"
     if ! (
         set -o pipefail
-        "$@" < /dev/null 2>&1 | tee "$log" | tell_progress "$name" "$crates" >&2
+        "$@" < /dev/null 2>&1 | tee "$log" | tell_progress "$name" "$crates"
     ); then
         tail -n 40 "$log" >&2
         echo "$name: this failed; all that it said is in $log" >&2
@@ -14,27 +14,39 @@ follow() {
     fi
 }
 
-# Puts out, of what `rt` says, which crate is being proved, its place among some crates, and how many of its functions have been
-# looked at, as `proving grids (6 of 12): 40 of 83`. Where `rt` was told how many provers to take it names a crate only with the first
-# item that is proved.
+# Tells on standard error how far something is: on a terminal in one line, which is written anew, and else in a line of its own.
+tell() {
+    if [ -t 2 ]; then printf '\r%s\033[K' "$1" >&2; else printf '%s\n' "$1" >&2; fi
+}
+
+# Ends the line in which `tell` told how far something is, which is done.
+end_telling() {
+    if [ -t 2 ]; then printf '\r\033[K' >&2; fi
+}
+
+# Tells, of what `rt` says, which crate is being proved, its place among some crates, and how many of its functions have been looked at,
+# as `proving grids (6 of 12): 40 of 83`. Where `rt` was told how many provers to take it names a crate only with the first item that is
+# proved.
 tell_progress() {
     local name=$1 among crate='' line
     read -ra among <<< "$2"
     while IFS= read -r line; do
         if [[ $line =~ ^'rt: chose --jobs '[0-9]+' for '(.+) ]]; then
             crate=$(placed "${BASH_REMATCH[1]}" "${among[@]}")
-            echo "$name: proving $crate"
+            tell "$name: proving $crate"
         elif [[ $line =~ ^'so far: '([0-9]+)' of '([0-9]+) ]]; then
-            echo "$name: proving ${crate:-a crate}: ${BASH_REMATCH[1]} of ${BASH_REMATCH[2]}"
+            tell "$name: proving ${crate:-a crate}: ${BASH_REMATCH[1]} of ${BASH_REMATCH[2]}"
         elif [[ -z $crate && $line =~ ^[a-z]+' '([a-z_]+)::.*': proved'$ ]]; then
             crate=$(placed "${BASH_REMATCH[1]}" "${among[@]}")
-            echo "$name: proving $crate"
+            tell "$name: proving $crate"
         elif [[ $line == 'logic=not-proved'* ]]; then
-            echo "$name: not proved: ${crate:-}"
+            end_telling
+            echo "$name: not proved: ${crate:-}" >&2
         elif [[ $line == 'logic=proved'* ]]; then
             crate=
         fi
     done
+    end_telling
 }
 
 # Puts out a crate with its place among some crates.
@@ -59,6 +71,18 @@ crates_up_to() {
         }
         { sub(/#.*/, ""); split($0, side, ":"); split(side[1], word, " "); below[word[1]] = side[2] }
         END { add(last) }' "$(dirname "${BASH_SOURCE[0]}")/../crates.txt"
+}
+
+# Whether a file is missing, or older than crates.txt or than a file in one of some folders, as src, of a crate or of those below it.
+is_older() {
+    local file=$1 last=$2 crate folder places=() root
+    root=$(dirname "${BASH_SOURCE[0]}")/..
+    shift 2
+    [ -f "$file" ] || return 0
+    for crate in $(crates_up_to "$last"); do
+        for folder in "$@"; do places+=("$root/crates/$crate/$folder"); done
+    done
+    [ -n "$(find "$root/crates.txt" "${places[@]}" -type f -newer "$file" -print -quit 2> /dev/null)" ]
 }
 
 # Ends with status 125 where `rt` is missing.
