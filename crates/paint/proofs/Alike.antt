@@ -55,5 +55,8 @@ module _ {lines columns : ℕ} {changes : List Stretch} {shown wanted : Picture}
   pub lines-front : (n : ℕ) → ((y : ℕ) → y < n → stretch_of changes y ≡ no_stretch) → take n shown ≡ take n wanted
   lines-front n none = take-same [] n shown wanted (old_size.height ∙ sym new_size.height) (λ y few below. line-none y (omega (arith, below, old_size.height)) (none y few))
 
+  pub lines-first : (n : ℕ) → ((y x : ℕ) → y < n → may_change changes y x ≡ false) → take n shown ≡ take n wanted
+  lines-first n none = take-same [] n shown wanted (old_size.height ∙ sym new_size.height) (λ y few below. line-alike y (omega (arith, below, old_size.height)) (λ x left. none y x few))
+
   pub lines-back : (n : ℕ) → ((y : ℕ) → n ≤ y → stretch_of changes y ≡ no_stretch) → drop n shown ≡ drop n wanted
   lines-back n none = drop-same [] n shown wanted (old_size.height ∙ sym new_size.height) (λ y from below. line-none y (omega (arith, below, old_size.height)) (none y from))

@@ -295,6 +295,24 @@ picture-kept {now} {pen} {line} {shown} {wanted} same inside h alike =
     (λ picture high is. Strokes-more (subst (Strokes 0 now now pen pen picture) (sym (same-line picture line (line_of wanted line) (is ∙ alike))) (Strokes-nothing now pen picture)) (omega arith))
     refl
 
+skipped-by : (n : ℕ) {before now : Seen} {old pen : Pen} {line : ℕ} {shown wanted : Picture} → length shown ≡ length wanted → line + n ≤ length shown
+    → IsPicturePainted before now old pen line shown wanted → ((y : ℕ) → line ≤ y → y < line + n → line_of shown y ≡ line_of wanted y)
+    → IsPicturePainted before now old pen (line + n) shown wanted
+skipped-by zero {before} {now} {old} {pen} {line} {shown} {wanted} same inside h alike =
+    let none : line ≡ line + 0 = omega arith in subst (λ k. IsPicturePainted before now old pen k shown wanted) none h
+skipped-by (suc n) {before} {now} {old} {pen} {line} {shown} {wanted} same inside h alike =
+    let next : line + 1 + n ≡ line + suc n = omega arith in
+    subst (λ k. IsPicturePainted before now old pen k shown wanted) next
+    (skipped-by n same (omega arith) (picture-kept same (omega arith) h (alike line (omega arith) (omega arith))) (λ y from to. alike y (omega arith) (omega arith)))
+
+-- and so are all up to another one
+pub picture-skipped : {before now : Seen} {old pen : Pen} {line : ℕ} {shown wanted : Picture} (end : ℕ) → length shown ≡ length wanted → line ≤ end → end ≤ length shown
+    → IsPicturePainted before now old pen line shown wanted → ((y : ℕ) → line ≤ y → y < end → line_of shown y ≡ line_of wanted y)
+    → IsPicturePainted before now old pen end shown wanted
+picture-skipped {before} {now} {old} {pen} {line} {shown} {wanted} end same ordered inside h alike =
+    let split : line + (end - line) ≡ end = omega arith in
+    subst (λ k. IsPicturePainted before now old pen k shown wanted) split (skipped-by (end - line) same (omega arith) h (λ y from to. alike y from (omega arith)))
+
 pub picture-painted : {before now : Seen} {old pen : Pen} {line : ℕ} {shown wanted : Picture} → IsPicturePainted before now old pen line shown wanted → drop line shown ≡ drop line wanted
     → Strokes (picture_bytes shown wanted) before now old pen shown wanted
 picture-painted {before} {now} {old} {pen} {line} {shown} {wanted} h back =

@@ -1,12 +1,18 @@
 //! The columns of each line in which a picture may differ from the one that was shown last.
 
-ghost use Rattle.std.specs.Prelude.{◌≡◌, ℕ, ◌<◌, ◌≤◌, IfOk, false, length, replicate, slice_set};
+ghost use Rattle.std.specs.Prelude.{◌≡◌, ℕ, ◌<◌, ◌≤◌, IfOk, false, length, replicate, slice_index_or, slice_set, true};
 ghost use Rattle.cell.specs.declared.limits.TheConstants.{LARGEST_SCREEN};
 ghost use Rattle.paint.specs.Changes.{is_in, joined, may_change, no_stretch, stretch_of};
 ghost use Rattle.paint.specs.steps.Walks.{IsWithin};
 
 use std::alloc::{AllocError, Global};
 use std::marker::Model;
+
+/// How many lines a block has.
+const BLOCK: usize = 16;
+
+/// The blocks of the largest screen.
+const BLOCKS: usize = 64;
 
 /// Columns of a line, or lines of a screen, from `start` up to `end`, which isn't one of them. Where `end` isn't past `start` there are none.
 #[derive(Clone, Copy, PartialEq, Eq, Debug)]
@@ -39,6 +45,8 @@ pub struct Changes {
     stretches: Vec<Stretch>,
     // No other line has any.
     lines: Stretch,
+    // Of each block of lines in turn whether one of them may have any.
+    blocks: [bool; BLOCKS],
 }
 
 impl Model for Changes {
@@ -50,7 +58,7 @@ impl Model for Changes {
 
     ghost view = { λ changes. changes.stretches.items };
 
-    ghost invariant = { λ changes. AreChanges changes.lines changes.stretches.items };
+    ghost invariant = { λ changes. AreChanges changes.lines changes.blocks changes.stretches.items };
 }
 
 impl Changes {
@@ -62,6 +70,7 @@ impl Changes {
         Ok(Changes {
             stretches: vec![in alloc; Stretch::NONE; usize::from(lines)]?,
             lines: Stretch::NONE,
+            blocks: [false; BLOCKS],
         })
     }
 
@@ -80,6 +89,7 @@ impl Changes {
                 start: 0,
                 end: lines,
             },
+            blocks: all_blocks(),
         })
     }
 
@@ -97,6 +107,29 @@ impl Changes {
         ensures others { (y : ℕ) → is_in result y ≡ false → stretch_of self.now y ≡ no_stretch }
     {
         self.lines
+    }
+
+    /// The first line from one on that has any, and where there is none, a line that isn't before the end of `lines`.
+    pub fn next(&self, from: u16) -> u16
+        ensures from { from ≤ result }
+        ensures inside { from ≤ length self.now → result ≤ length self.now }
+        ensures none { (y x : ℕ) → from ≤ y → y < result → may_change self.now y x ≡ false }
+    {
+        let mut y = from;
+        while y < self.lines.end {
+            let at = usize::from(y);
+            if !self.blocks[at / BLOCK] {
+                let end = (at / BLOCK + 1) * BLOCK;
+                y = self.lines.end.min(end as u16);
+                continue;
+            }
+            let stretch = self.stretches[at];
+            if stretch.start < stretch.end {
+                return y;
+            }
+            y += 1;
+        }
+        y
     }
 
     /// Those of a line of so many columns, from one up to another, which isn't one of them.
@@ -118,6 +151,7 @@ impl Changes {
             return;
         }
         self.stretches[at] = self.stretches[at].join(stretch);
+        self.blocks[at / BLOCK] = true;
         self.lines = self.lines.join(Stretch {
             start: y,
             end: y + 1,
@@ -133,5 +167,14 @@ impl Changes {
             self.stretches[usize::from(y)] = Stretch::NONE;
         }
         self.lines = Stretch::NONE;
+        self.blocks = [false; BLOCKS];
     }
+}
+
+/// Each block is one of which a line may have any.
+fn all_blocks() -> [bool; BLOCKS]
+    ensures all { length result ≡ BLOCKS }
+    ensures marked { (k : ℕ) → slice_index_or result k true ≡ true }
+{
+    [true; BLOCKS]
 }

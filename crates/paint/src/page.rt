@@ -1,9 +1,9 @@
 //! The walk over the lines of a picture.
 
-ghost use Rattle.std.specs.Prelude.{◌≡◌, ◌≢◌, ℕ, ◌-◌, ◌<◌, ◌≤◌, drop, length, map, min};
+ghost use Rattle.std.specs.Prelude.{◌≡◌, ◌≢◌, ℕ, ◌-◌, ◌<◌, ◌≤◌, drop, false, length, map, min};
 ghost use Rattle.cell.specs.Pictures.{HasSize, line_of};
 ghost use Rattle.ecma.specs.Terminals.{blanked};
-ghost use Rattle.paint.specs.Changes.{DifferOnly, no_stretch, stretch_of};
+ghost use Rattle.paint.specs.Changes.{DifferOnly, may_change};
 ghost use Rattle.paint.specs.steps.Strokes.{Strokes, picture_bytes};
 
 use crate::changes::Changes;
@@ -35,33 +35,35 @@ pub fn paint_picture<W: Sink>(
 {
     let changed = changed_lines(shown, wanted, pen.columns(), changes);
     let blank = page_end(wanted, lines, changed);
-    for line in first_line(pen, changes, blank)..changed {
-        let (start, end) = changes.within(line, pen.columns());
-        if start == end && pen.line() != Some(line) {
-            continue;
-        }
+    let mut line = next_line(pen, changes, blank, 0);
+    while line < changed {
         let at = usize::from(line);
         let old = shown.row(at);
         let new = wanted.row(at);
         if line + 1 < blank || line + 1 == changed {
+            let (start, end) = changes.within(line, pen.columns());
             paint_line(pen, sink, line, old, new, start, end);
+            line = next_line(pen, changes, blank, line + 1);
             continue;
         }
         if let Some(column) = paint_last_line(pen, sink, line, old, new) {
             pen.erase_page(sink, line, column as u16);
             return;
         }
+        line = next_line(pen, changes, blank, line + 1);
     }
 }
 
-/// The first line to look at: the first that may differ, or the pen's, where that comes before and all below it is blank.
-fn first_line(pen: &Pen, changes: &Changes, blank: u16) -> u16
-    ensures { (y : ℕ) → y < result → stretch_of changes.now y ≡ no_stretch }
+/// The next line to look at, from one on: the first that may differ, or the pen's, where that comes before and all below it is blank.
+fn next_line(pen: &Pen, changes: &Changes, blank: u16, from: u16) -> u16
+    ensures from { from ≤ result }
+    ensures inside { from ≤ length changes.now → result ≤ length changes.now }
+    ensures none { (y x : ℕ) → from ≤ y → y < result → may_change changes.now y x ≡ false }
 {
-    let first = changes.lines().start;
+    let next = changes.next(from);
     match pen.line() {
-        Some(line) if blank <= line.saturating_add(1) => first.min(line),
-        _ => first,
+        Some(line) if from <= line && blank <= line.saturating_add(1) => next.min(line),
+        _ => next,
     }
 }
 

@@ -201,10 +201,12 @@ fn copy_changes(shown: &mut Grid<Shown>, wanted: &Grid<Shown>, columns: u16, cha
     ensures { shown.new ≡ wanted.now }
 {
     let lines = changes.lines();
-    for y in lines.start..lines.end {
+    let mut y = changes.next(lines.start);
+    while y < lines.end {
         let at = usize::from(y);
         let (start, end) = changes.within(y, usize::from(columns));
         shown.put_cells(at, start, &wanted.row(at)[start..end]);
+        y = changes.next(y + 1);
     }
 }
 

@@ -2,43 +2,34 @@ use Rattle.std.proofs.Common.{◌≡◌, ◌+◌, ◌-◌, ◌<◌, ◌≤◌, �
 use Rattle.paint.specs.Changes.{stretch_of}
 use Rattle.paint.specs.declared.pen.Pen.{Pen}
 use Rattle.paint.specs.steps.Walks.{IsWithin}
-use Rattle.paint.proofs.Alike.{line-back, line-front, line-whole, lines-front}
+use Rattle.paint.proofs.Alike.{line-alike, line-back, line-front, lines-first}
 use Rattle.paint.proofs.Mixed.{drop-later}
 use Rattle.paint.proofs.Pages.{page-erased}
-use Rattle.paint.proofs.Walks.{picture-begun, picture-drawn, picture-kept, picture-painted}
+use Rattle.paint.proofs.Walks.{picture-begun, picture-drawn, picture-painted, picture-skipped}
 use Rattle.paint.proofs.page.paint_picture.Goals as goal
 
 pub loop-line-init : goal.loop-line-init
-loop-line-init g c = record {
-  painted = picture-begun _ _ c.first_line-line.result c.args.shown.now c.args.wanted.now (lines-front c.requires.shown c.requires.wanted c.requires.changes c.first_line-line.result
-      c.first_line-line.ensures);
-  same = refl;
-}
-
-pub loop-line-preserved-then-ne : goal.loop-line-preserved-then-ne
-loop-line-preserved-then-ne g c =
-    let y = c.loop-line.line in
-    let below : y < c.args.lines = omega (arith, c.loop-line-test.true, c.changed_lines-changed.ensures.within, c.requires.height) in
-    let same : length c.args.shown.now ≡ length c.args.wanted.now = c.requires.shown.height ∙ sym c.requires.wanted.height in
-    let part = subst (λ n. IsWithin n (stretch_of c.args.changes.now y) c.within-start.result) (c.columns-in-loop-line.ensures ∙ c.loop-line.invariant.painted.columns) c.within-start.ensures in
+loop-line-init g c =
+    let next = c.next_line-line in
     record {
-      painted = picture-kept same (omega (arith, c.requires.shown.height)) c.loop-line.invariant.painted
-          (line-whole c.requires.shown c.requires.wanted c.requires.changes y below part c.if-start-end.true);
-      same = c.loop-line.invariant.same;
+      painted = picture-begun _ _ next.result c.args.shown.now c.args.wanted.now
+          (lines-first c.requires.shown c.requires.wanted c.requires.changes next.result (λ y x few. next.ensures.none y x (omega arith) few));
+      inside = omega (arith, next.ensures.inside (omega arith), c.requires.height);
+      same = refl;
     }
 
 pub paint_line-requires-clause-before : goal.paint_line-requires-clause-before
 paint_line-requires-clause-before g c =
     let y = c.loop-line.line in
     let below : y < c.args.lines = omega (arith, c.loop-line-test.true, c.changed_lines-changed.ensures.within, c.requires.height) in
-    let part = subst (λ n. IsWithin n (stretch_of c.args.changes.now y) c.within-start.result) (c.columns-in-loop-line.ensures ∙ c.loop-line.invariant.painted.columns) c.within-start.ensures in
+    let part = subst (λ n. IsWithin n (stretch_of c.args.changes.now y) c.within-start.result) (c.columns-then-line-blank.ensures ∙ c.loop-line.invariant.painted.columns) c.within-start.ensures in
     rw (c.row-old.ensures.row, c.row-new.ensures.row, c.from-at.ensures) (line-front c.requires.shown c.requires.wanted c.requires.changes y below part)
 
 pub paint_line-requires-clause-after : goal.paint_line-requires-clause-after
 paint_line-requires-clause-after g c =
     let y = c.loop-line.line in
     let below : y < c.args.lines = omega (arith, c.loop-line-test.true, c.changed_lines-changed.ensures.within, c.requires.height) in
-    let part = subst (λ n. IsWithin n (stretch_of c.args.changes.now y) c.within-start.result) (c.columns-in-loop-line.ensures ∙ c.loop-line.invariant.painted.columns) c.within-start.ensures in
+    let part = subst (λ n. IsWithin n (stretch_of c.args.changes.now y) c.within-start.result) (c.columns-then-line-blank.ensures ∙ c.loop-line.invariant.painted.columns) c.within-start.ensures in
     rw (c.row-old.ensures.row, c.row-new.ensures.row, c.from-at.ensures) (line-back c.requires.shown c.requires.wanted c.requires.changes y below part)
 
 pub loop-line-preserved-then-line-blank : goal.loop-line-preserved-then-line-blank
@@ -47,8 +38,13 @@ loop-line-preserved-then-line-blank g c =
     let inside : c.loop-line.line < length c.args.shown.now = omega (arith, c.requires.shown.height, c.loop-line-test.true, c.changed_lines-changed.ensures.within) in
     let shown = rw c.from-at.ensures at c.row-old.ensures.row in
     let wanted = rw c.from-at.ensures at c.row-new.ensures.row in
+    let drawn = picture-drawn same inside c.loop-line.invariant.painted (rw (shown, wanted) at c.paint_line.ensures.strokes) c.paint_line.ensures.columns in
+    let next = c.next_line-line-then-line-blank in
+    let few : next.result ≤ c.args.lines = omega (arith, next.ensures.inside (omega (arith, inside, c.requires.shown.height, c.requires.height)), c.requires.height) in
     record {
-      painted = picture-drawn same inside c.loop-line.invariant.painted (rw (shown, wanted) at c.paint_line.ensures.strokes) c.paint_line.ensures.columns;
+      painted = picture-skipped next.result same next.ensures.from (omega (arith, few, c.requires.shown.height)) drawn
+          (λ y from to. line-alike c.requires.shown c.requires.wanted c.requires.changes y (omega (arith, to, few)) (λ x left. next.ensures.none y x from to));
+      inside = few;
       same = c.paint_line.ensures.same ∙ c.loop-line.invariant.same;
     }
 
@@ -58,8 +54,13 @@ loop-line-preserved g c =
     let inside : c.loop-line.line < length c.args.shown.now = omega (arith, c.requires.shown.height, c.loop-line-test.true, c.changed_lines-changed.ensures.within) in
     let shown = rw c.from-at.ensures at c.row-old.ensures.row in
     let wanted = rw c.from-at.ensures at c.row-new.ensures.row in
+    let drawn = picture-drawn same inside c.loop-line.invariant.painted (rw (shown, wanted) at (c.paint_last_line.ensures.strokes c.in_default.is)) c.paint_last_line.ensures.columns in
+    let next = c.next_line-line-in-loop-line in
+    let few : next.result ≤ c.args.lines = omega (arith, next.ensures.inside (omega (arith, inside, c.requires.shown.height, c.requires.height)), c.requires.height) in
     record {
-      painted = picture-drawn same inside c.loop-line.invariant.painted (rw (shown, wanted) at (c.paint_last_line.ensures.strokes c.in_default.is)) c.paint_last_line.ensures.columns;
+      painted = picture-skipped next.result same next.ensures.from (omega (arith, few, c.requires.shown.height)) drawn
+          (λ y from to. line-alike c.requires.shown c.requires.wanted c.requires.changes y (omega (arith, to, few)) (λ x left. next.ensures.none y x from to));
+      inside = few;
       same = c.paint_last_line.ensures.same ∙ c.loop-line.invariant.same;
     }
 

@@ -1,4 +1,5 @@
-use Rattle.std.proofs.Common.{◌≡◌, ◌-◌, ◌<◌, take, drop, length, inl, List, ap, ◌∙◌, arith}
+use Rattle.std.proofs.Common.{◌≡◌, ◌+◌, ◌-◌, ◌<◌, take, drop, length, inl, inr, List, ap, ◌∙◌, arith}
+use Rattle.std.proofs.lemmas.Bool.{cases_lt}
 use Rattle.std.proofs.lemmas.List.{length-drop, length-take-le}
 use Rattle.cell.specs.Pictures.{line_of}
 use Rattle.cell.specs.Shown.{Shown}
@@ -11,7 +12,10 @@ pub loop-y-init : goal.loop-y-init
 loop-y-init c = record {
   size = c.requires.shown;
   only = c.requires.changes;
-  done = λ v u before. none-there c.requires.changes v u (c.lines-lines.ensures.others v (is_out c.lines-lines.result v (inl before)));
+  done = λ v u before. elim (cases_lt v c.lines-lines.result.start) [
+    | inl early ↦ none-there c.requires.changes v u (c.lines-lines.ensures.others v (is_out c.lines-lines.result v (inl early)))
+    | inr from ↦ c.requires.changes.others v u (c.next-y.ensures.none v u from before)
+  ];
 }
 
 pub loop-y-preserved : goal.loop-y-preserved
@@ -29,10 +33,14 @@ loop-y-preserved c =
     let long : length piece ≡ part.1 - part.0 = length-take-le (part.1 - part.0) (drop part.0 row) (omega (arith, length-drop part.0 row, wide, within.inside)) in
     let size = c.put_cells.ensures.size (length c.args.changes.now) c.args.columns h.size in
     let put = rw c.from-at.ensures at c.put_cells.ensures.shown in
+    let only = still-only h.size size c.requires.wanted h.only y below within piece is long put in
     record {
       size = size;
-      only = still-only h.size size c.requires.wanted h.only y below within piece is long put;
-      done = one-more h.size size c.requires.wanted h.only y below within piece is long put h.done;
+      only = only;
+      done = λ v u before. elim (cases_lt v (y + 1)) [
+        | inl early ↦ one-more h.size size c.requires.wanted h.only y below within piece is long put h.done v u early
+        | inr from ↦ only.others v u (c.next-y-in-loop-y.ensures.none v u from before)
+      ];
     }
 
 pub returns : goal.returns

@@ -1,4 +1,4 @@
-use Rattle.std.proofs.Common.{◌≡◌, ℕ, ◌<◌, length}
+use Rattle.std.proofs.Common.{◌≡◌, ℕ, ◌-◌, ◌<◌, length}
 use Rattle.cell.specs.Pictures.{HasSize, shown_at}
 use Rattle.paint.specs.Changes.{DifferOnly}
 use Rattle.paint.proofs.painter.copy_changes.Given as goal
@@ -9,3 +9,6 @@ invariant-loop-y l = record {
   only : DifferOnly l.changes l.shown l.wanted;
   done : (v u : ℕ) → v < l.y → shown_at l.shown (v, u) ≡ shown_at l.wanted (v, u);
 }
+
+abbrev pub decreases-loop-y : goal.decreases-loop-y
+decreases-loop-y l = l.lines.end - l.y

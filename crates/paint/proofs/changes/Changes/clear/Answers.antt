@@ -1,5 +1,5 @@
-use Rattle.std.proofs.Common.{length, length-set, refl, ◌∙◌, ap, arith}
-use Rattle.paint.specs.Changes.{no_stretch}
+use Rattle.std.proofs.Common.{rules, ◌≡◌, ℕ, length, length-set, refl, ◌∙◌, ap, arith}
+use Rattle.paint.specs.Changes.{no_stretch, stretch_of}
 use Rattle.paint.proofs.Changed.{behind, is_out, one-less}
 use Rattle.paint.proofs.changes.Changes.clear.Goals as goal
 
@@ -21,10 +21,13 @@ loop-y-preserved c =
 pub invariant_of-self : goal.invariant_of-self
 invariant_of-self c =
     let h = c.loop-y.invariant in
+    let none : (y : ℕ) → stretch_of c.loop-y.self-inside.stretches.items y ≡ no_stretch = λ y. h.others y (is_out (record { start = c.loop-y.y; end = c.self.inside.lines.end }) y (behind c.loop-y.y c.self.inside.lines.end y c.loop-y-test.false)) in
     record {
       few = h.few;
       inside = omega arith;
-      others = λ y out. h.others y (is_out (record { start = c.loop-y.y; end = c.self.inside.lines.end }) y (behind c.loop-y.y c.self.inside.lines.end y c.loop-y-test.false));
+      others = λ y out. none y;
+      marked = search rules;
+      others_in_blocks = λ y out. none y;
     }
 
 pub returns : goal.returns
