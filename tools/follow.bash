@@ -92,3 +92,26 @@ want_rt() {
         exit 125
     fi
 }
+
+# Puts out the folders of a crate and of those below it: of each that in which its work is kept, if it is there.
+folders_of_work() {
+    local crate folder root
+    root=$(readlink -f "$(dirname "${BASH_SOURCE[0]}")/..")
+    for crate in $(crates_up_to "$1"); do
+        folder=$root/crates/$crate
+        [ ! -d "$folder/out" ] || folder+=/out
+        printf '%s\n' "$folder"
+    done
+}
+
+# Ends with status 125 where one of some folders, in which a build of something keeps its work, is there and can't be written.
+want_writable() {
+    local name=$1 what=$2 folder
+    shift 2
+    for folder in "$@"; do
+        if [ -d "$folder" ] && [ ! -w "$folder" ]; then
+            echo "$name: $what is to be built, and the folder $folder can't be written" >&2
+            exit 125
+        fi
+    done
+}
