@@ -1,6 +1,6 @@
 use crate::faulty::Halting;
 use desk::{
-    Call, Counted, CountedReader, Fault, PanelId, Refresh, Refusal, RunEnd, Screen, ScriptEnd,
+    Call, Calls, Counted, CountedReader, Fault, PanelId, Refresh, Refusal, RunEnd, Screen, ScriptEnd,
     ScriptFault, Sink, Source, WinId, WriteFault, Writing,
 };
 use std::alloc::Global;
