@@ -27,7 +27,8 @@ each-call P others doupdate (calls.Refresh (InitPair pair foreground background)
 abbrev pub IsQuiet : State → Reply → List ℕ → Call → Type 0
 IsQuiet s reply sent call = (sent ≡ []) × MayTell s.world s.damaged call reply
 
-pub quiet-reply : (s : State) (reply : Reply) (sent : List ℕ) (call : Call) → is_doupdate call ≡ false → (MayReply s call reply sent → IsQuiet s reply sent call) × (IsQuiet s reply sent call → MayReply s call reply sent)
+pub quiet-reply : (s : State) (reply : Reply) (sent : List ℕ) (call : Call) → is_doupdate call ≡ false
+    → (MayReply s call reply sent → IsQuiet s reply sent call) × (IsQuiet s reply sent call → MayReply s call reply sent)
 quiet-reply s reply sent (calls.Making making) other = (λ h. h, λ h. h)
 quiet-reply s reply sent (calls.Writing writing) other = (λ h. h, λ h. h)
 quiet-reply s reply sent (calls.Copying copying) other = (λ h. h, λ h. h)
