@@ -8,7 +8,7 @@ ghost use Rattle.capi.specs.Called.{Makes};
 ghost use Rattle.capi.specs.Held.{IsBlank, pending};
 
 use crate::answer::Answer;
-use desk::{Call, Counted, Fault, Refusal, Reply, Screen, Sink};
+use desk::{Call, Calls, Counted, Fault, Refusal, Reply, Screen, Sink};
 use std::alloc::Global;
 
 /// Where a screen sends its bytes.

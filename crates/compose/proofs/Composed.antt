@@ -1,5 +1,5 @@
 -- The virtual screen stays sound where it takes the picture of windows and panels.
-use Rattle.std.proofs.Common.{◌≡◌, ℕ, ◌+◌, ◌<◌, ◌≤◌, Bool, true, false, ◌==◌, Option, Some, None, List, refl, ap, ◌∙◌, arith}
+use Rattle.std.proofs.Common.{◌≡◌, ℕ, ◌+◌, ◌<◌, ◌≤◌, Bool, true, ◌==◌, Option, Some, None, List, refl, ap, ◌∙◌, arith}
 use Rattle.std.specs.Prelude.{IsSomeAnd, MatchOption, is_some, option_and_then, unwrap_or, ⊤}
 use Rattle.std.specs.List.{list_any}
 use Rattle.std.specs.Option.{option_map_or}
@@ -10,10 +10,8 @@ use Rattle.world.specs.Windows.{Window, Windows, changed}
 use Rattle.world.specs.Panels.{Panels, cursor_from, cursor_of_topmost, cursor_on_screen, screen_place, standard_screen, topmost, window_or_standard}
 use Rattle.world.specs.World.{VirtualScreen}
 use Rattle.world.specs.Sound.{AreSoundPanels, AreSoundWindows, IsSound, IsSoundPanel, IsSoundWindow, IsStandardScreen}
-use Rattle.world.specs.calls.Copying.{lines_marked}
 use Rattle.world.specs.calls.Queries.{place_on_screen}
 use Rattle.world.specs.Effects.{unmarked_lines, unmarked, with_unmarked}
-use Rattle.world.specs.calls.Writing.{with_clear}
 use Rattle.world.proofs.PlaceLaws.{has_place, panels-kept, places-changed, same_if, there-true}
 use Rattle.world.proofs.Sizes.{SameSize}
 use Rattle.grids.specs.Tables.{WindowTable, windows}

@@ -1,30 +1,20 @@
 -- Where damage covers what a call may change, the damage of a desk still covers all that differs after it; and few lines are damaged.
-use Rattle.std.proofs.Common.{◌≡◌, ℕ, zero, suc, ◌<◌, Bool, true, false, Option, Some, None, List, length, replicate, refl, sym, ap, subst, ◌∙◌, Result, Ok, Err}
-use Rattle.std.specs.Prelude.{is_some, OnErr, OnOk, slice_index_or}
+use Rattle.std.proofs.Common.{◌≡◌, ℕ, zero, suc, ◌<◌, Bool, true, false, Option, None, List, length, replicate, refl, sym, ap, subst, ◌∙◌, Result, Ok, Err}
+use Rattle.std.specs.Prelude.{OnErr, OnOk, slice_index_or}
 use Rattle.std.proofs.lemmas.List.{length-replicate}
-use Rattle.std.specs.Option.{option_map_or}
-use Rattle.cell.specs.Glyphs.{Glyph}
-use Rattle.cell.specs.Pictures.{Picture, blank_picture, picture_of, shown_at}
-use Rattle.cell.specs.Shown.{Pairs, Shown, first_pairs, shown, shown_blank}
+use Rattle.cell.specs.Pictures.{Picture, blank_picture, shown_at}
+use Rattle.cell.specs.Shown.{Pairs, first_pairs, shown_blank}
 use Rattle.cell.specs.declared.refusal.Refusal.{Refusal}
-use Rattle.cell.proofs.PictureLemmas.{cell_or-lines_from}
 use Rattle.grids.specs.Tables.{WindowTable, windows}
 use Rattle.stack.specs.Tables.{PanelTable, panels}
 use Rattle.world.specs.Panels.{first_panels}
-use Rattle.world.specs.Windows.{Drawing, window_limit}
-use Rattle.world.specs.World.{VirtualScreen, World, first_world, picture}
-use Rattle.world.specs.Sound.{AreColumnsWithin, AreSoundWindows, IsSound}
-use Rattle.world.specs.calls.Copying.{copywin_drawing}
+use Rattle.world.specs.Windows.{window_limit}
+use Rattle.world.specs.World.{VirtualScreen, first_world, picture}
+use Rattle.world.specs.Sound.{AreColumnsWithin, AreSoundWindows}
 use Rattle.world.specs.calls.Dispatch.{is_update_panels, refusal, world_after}
 use Rattle.world.specs.calls.Affected.{affects_place}
-use Rattle.world.specs.Effects.{shown_over}
-use Rattle.world.specs.calls.Refresh.{touched_cells}
 use Rattle.world.specs.declared.settings.Columns.{Columns}
 use Rattle.world.specs.declared.call.Call.{Call}
-use Rattle.world.specs.declared.call.Call.TheVariants as calls
-use Rattle.world.specs.declared.call.Stacking.{Stacking}
-use Rattle.world.specs.declared.call.Stacking.TheVariants.{NewPanel, DelPanel, ShowPanel, HidePanel, TopPanel, BottomPanel, MovePanel, ReplacePanel, PanelAbove, PanelBelow, PanelWindow, PanelHidden}
-use Rattle.world.specs.declared.call.Refresh.TheVariants.{Noutrefresh, Pnoutrefresh, UpdatePanels, Doupdate, InitPair}
 use Rattle.world.proofs.Sizes.{size-call}
 use Rattle.picture.specs.Damages.{Damages, columns_of, has_damage_at}
 use Rattle.picture.proofs.DamageLaws.{damages-line}

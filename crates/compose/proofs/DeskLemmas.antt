@@ -1,15 +1,15 @@
 -- What a desk keeps, and the world that it stands for, call by call.
-use Rattle.std.proofs.Common.{rules, ◌≡◌, ◌≢◌, ℕ, Bool, true, false, ◌⊎◌, Option, Some, None, List, [], ◌∷◌, ◌==◌, Result, Ok, Err, inl, inr, refl, sym, ap, subst, ◌∙◌}
-use Rattle.std.specs.Prelude.{IfOk, MatchOption, OnErr, OnOk, is_none, ⊤}
+use Rattle.std.proofs.Common.{rules, ◌≡◌, ◌≢◌, ℕ, Bool, true, false, ◌⊎◌, Option, Some, None, List, [], Result, Ok, Err, inl, inr, refl, sym, ap, subst, ◌∙◌}
+use Rattle.std.specs.Prelude.{IfOk, OnErr, OnOk}
 use Rattle.std.specs.Result.{result_err}
-use Rattle.cell.specs.Refusals.{RefusedBy, first_of}
+use Rattle.cell.specs.Refusals.{RefusedBy}
 use Rattle.cell.specs.Shown.{Pairs, ArePairs, IsShown, first_pairs, shown_blank}
 use Rattle.cell.specs.Pictures.{Picture, blank_picture}
 use Rattle.cell.proofs.PictureLemmas.{ArePairs-first, EachCell-all_of, HasSize-all_of, IsShown-blank}
-use Rattle.world.specs.Windows.{Window, Windows}
+use Rattle.world.specs.Windows.{Windows}
 use Rattle.world.specs.Panels.{Panels, is_in_panel, first_panels, standard_screen}
 use Rattle.world.specs.World.{VirtualScreen, World, first_world}
-use Rattle.world.specs.Sound.{AreSoundPanels, AreSoundWindows, IsSound, IsSoundPanel}
+use Rattle.world.specs.Sound.{AreSoundPanels, AreSoundWindows, IsSound}
 use Rattle.world.specs.calls.Making.{after_making, making_change, making_refusal}
 use Rattle.world.specs.calls.Dispatch.{refusal, takes_memory, world_after}
 use Rattle.cell.specs.declared.refusal.Refusal.{Refusal}

@@ -1,13 +1,12 @@
 -- What a call on panels damages: the part of the panel that it names, as it was, and that of the panel that it changed or made, as it is.
-use Rattle.std.proofs.Common.{◌≡◌, ℕ, ◌+◌, ◌≤◌, Bool, true, false, ◌==◌, ◌&&◌, ◌||◌, Option, Some, None, List, [], ◌∷◌, refl, sym, ap, subst, ◌∙◌, arith}
-use Rattle.std.specs.Prelude.{IsSome, MatchOption, ⊤, find, if◌then◌else◌, is_none, unwrap_or}
-use Rattle.std.specs.List.{list_any}
+use Rattle.std.proofs.Common.{◌≡◌, ℕ, ◌+◌, Bool, true, false, ◌&&◌, ◌||◌, Option, Some, None, List, [], ◌∷◌, refl, sym, ap, subst, ◌∙◌, arith}
+use Rattle.std.specs.Prelude.{MatchOption, ⊤, find, if◌then◌else◌, is_none, unwrap_or}
 use Rattle.std.specs.Option.{option_map_or}
 use Rattle.cell.specs.declared.window.Rect.{Rect}
 use Rattle.world.specs.Panels.{Panels, panel_holds}
 use Rattle.world.specs.Windows.{WindowMap, Windows}
 use Rattle.world.specs.Sound.{AreSoundPanels, IsSoundPanel}
-use Rattle.world.specs.Effects.{Order, adds, carries, changes, orders, panels_after, windows_after}
+use Rattle.world.specs.Effects.{panels_after, windows_after}
 use Rattle.world.specs.calls.Affected.{order_shows_at, panel_shows_at}
 use Rattle.world.specs.calls.Stacking.{new_panel_number, next_panel, stacking_order}
 use Rattle.world.specs.declared.call.Stacking.{Stacking}

@@ -3,7 +3,6 @@ use Rattle.std.specs.Prelude.{◌≡◌, ◌≤◌, ◌⊎◌, ℕ, Bool, true, 
 use Rattle.world.specs.World.{World}
 use Rattle.world.specs.calls.Affected.{affected_after, owed}
 use Rattle.world.specs.calls.Dispatch.{refusal, reply_of, takes_memory, world_after}
-use Rattle.world.specs.Windows.{changed}
 use Rattle.cell.specs.Differences.{difference}
 use Rattle.cell.specs.declared.refusal.Refusal.{Refusal}
 use Rattle.cell.specs.declared.refusal.Refusal.TheVariants.{NoMemory}

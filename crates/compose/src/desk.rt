@@ -1,6 +1,6 @@
 //! The windows and panels under a virtual screen.
 
-ghost use Rattle.std.specs.Prelude.{◌≡◌, ◌<◌, ◌≤◌, ◌-◌, ◌==◌, ◌&&◌, ℕ, Ok, Some, IfOk, false, if◌then◌else◌, length, nat_le, nat_lt, slice_index_or};
+ghost use Rattle.std.specs.Prelude.{◌≡◌, ◌<◌, ◌≤◌, ◌-◌, ◌==◌, ◌&&◌, ℕ, Ok, Some, IfOk, OnErr, OnOk, false, if◌then◌else◌, length, nat_le, nat_lt, slice_index_or};
 ghost use Rattle.std.specs.Result.{result_err};
 ghost use Rattle.cell.specs.Pictures.{AreShown, HasSize, line_of, picture_of, shown_at};
 ghost use Rattle.cell.specs.Glyphs.{blank};
@@ -9,21 +9,27 @@ ghost use Rattle.world.specs.World.{first_world, picture};
 ghost use Rattle.world.specs.Sound.{IsSound};
 ghost use Rattle.world.specs.calls.Making.{new_refusal};
 ghost use Rattle.world.specs.calls.Refresh.{among, colour_tests};
-ghost use Rattle.world.specs.calls.Dispatch.{is_doupdate};
+ghost use Rattle.world.specs.Rows.{line_shown};
+ghost use Rattle.world.specs.Windows.{HasPlace};
+ghost use Rattle.world.specs.Effects.{order_reply, order_takes_memory};
+ghost use Rattle.world.specs.calls.Dispatch.{world_after};
+ghost use Rattle.world.specs.calls.Stacking.{stacking_order, stacking_refusal};
 ghost use Rattle.cell.specs.Refusals.{RefusedBy, first_of};
 ghost use Rattle.grids.specs.Tables.{windows as windows_of};
 ghost use Rattle.stack.specs.Tables.{panels};
 ghost use Rattle.picture.specs.Spans.{IsSpan};
 ghost use Rattle.world.specs.declared.call.Call.{Call};
 ghost use Rattle.world.specs.declared.call.Refresh.{Refresh};
+ghost use Rattle.world.specs.declared.call.Stacking.{Stacking};
 ghost use Rattle.compose.specs.Desks.{damaged_columns, is_damaged_line, world};
-ghost use Rattle.compose.specs.Calling.{Called};
+ghost use Rattle.compose.specs.Calling.{Called, DamagesFew};
 
-use crate::calls::{copy_damaging, make_damaging, write_damaging};
+use crate::calls::{arrange_damaging, copy_damaging, make_damaging, write_damaging};
 use crate::damaging::damage_part;
 use crate::dispatch::{query, refresh};
 use crate::marks::{clear_asked, unmark_composed};
-use cell::{Colour, Grid, PairId, Pairs, Refusal, Shown, WinId};
+use crate::methods::Calls;
+use cell::{Cell, Colour, Grid, PairId, Pairs, Refusal, Shown, WinId};
 use grids::Grids;
 use picture::{
     Damage, Lent, Span, cell_found, owner_span, show_damaged, wanted_cursor, window_part,
@@ -32,7 +38,7 @@ use stack::Stack;
 use std::alloc::Global;
 use std::marker::Model;
 use windows::Windows;
-use world::{Call, Columns, Composed, Reply};
+use world::{Call, Columns, Composed, Reply, Stacking};
 
 /// A screen's windows and pads, its panels, its colour pairs, and its virtual screen: a picture, where the cursor is wanted, and whether the terminal is
 /// to be cleared first. Of each line it keeps the damaged columns: everywhere else the virtual screen shows what the search from the top finds.
@@ -101,39 +107,9 @@ impl Desk {
         &self.windows
     }
 
-    /// Makes a call that sends nothing, which is any but `doupdate`.
-    pub fn call(&mut self, call: &Call<'_>) -> Result<Reply, Refusal>
-        requires { is_doupdate call.now ≡ false }
-        ensures { Called self.old call.now result self.new }
-    {
-        match *call {
-            Call::Making(making) => make_damaging(
-                &mut self.windows.table,
-                &self.stack,
-                &mut self.damage,
-                making,
-            ),
-            Call::Writing(writing) => write_damaging(
-                &mut self.windows,
-                &self.stack,
-                &mut self.damage,
-                writing,
-            ),
-            Call::Copying(copying) => copy_damaging(
-                &mut self.windows,
-                &self.stack,
-                &mut self.damage,
-                copying,
-            ),
-            Call::Query(asked) => query(&self.windows, asked),
-            Call::Stacking(stacking) => self.arrange(stacking),
-            Call::Refresh(asked) => refresh(self, asked),
-        }
-    }
-
     /// Takes the picture of windows and panels, and the topmost's cursor, into the virtual screen. It reads windows where the screen is
     /// damaged, tells how many cells that were, and leaves no damage.
-    pub fn update_panels(&mut self) -> Composed
+    pub(crate) fn compose(&mut self) -> Composed
         ensures { Called self.old (Call.Refresh Refresh.UpdatePanels) (Ok (Reply.Composed result)) self.new }
     {
         let (lines, _) = self.windows.table.screen_size();
@@ -152,6 +128,24 @@ impl Desk {
         Composed { cells }
     }
 
+    /// Makes a call of the table of panels.
+    fn arrange(&mut self, stacking: Stacking) -> Result<Reply, Refusal>
+        ensures refused { RefusedBy (stacking_refusal (world self.old).windows (world self.old).panels stacking) result }
+        ensures exact { order_takes_memory (stacking_order (world self.old).panels stacking) ≡ false
+            → result_err result ≡ stacking_refusal (world self.old).windows (world self.old).panels stacking }
+        ensures reply { IfOk result (λ reply. reply ≡ order_reply (stacking_order (world self.old).panels stacking)) }
+        ensures arranged { OnOk result (world self.new ≡ world_after (world self.old) (Call.Stacking stacking)) }
+        ensures damaged { OnOk result (DamagesFew self.old (Call.Stacking stacking) self.new) }
+        ensures unchanged { OnErr result (self.new ≡ self.old) }
+    {
+        arrange_damaging(
+            &mut self.windows.table,
+            &mut self.stack,
+            &mut self.damage,
+            stacking,
+        )
+    }
+
     /// The damaged columns of a line, or none: everywhere else the virtual screen shows what the search from the top finds.
     pub fn damaged(&self, y: u16) -> Option<Columns>
         requires { y < self.now.windows.lines }
@@ -166,7 +160,7 @@ impl Desk {
     ///
     /// # Errors
     /// `BadPair` for pair 0, for one past `LAST_PAIR`, and for a colour past `LAST_COLOUR`.
-    pub fn init_pair(
+    pub(crate) fn set_colours(
         &mut self,
         pair: u16,
         foreground: u16,
@@ -209,6 +203,14 @@ impl Desk {
         let (_, columns) = self.size();
         let rows = Lent::of(&self.windows.table);
         owner_span(&rows, &self.stack, y, x, columns - 1)
+    }
+
+    /// The cells of line `y` of a window or pad, from left to right. The line must be there.
+    pub fn row(&self, win: WinId, y: u16) -> &[Cell]
+        requires { HasPlace (world self.now).windows.window win.0 y 0 }
+        ensures { result.now ≡ line_shown (world self.now).windows.window win.0 y }
+    {
+        self.windows.table.row(win, y)
     }
 
     /// How many lines and columns the screen has.
@@ -256,6 +258,42 @@ impl Desk {
     {
         self.clear = false;
     }
+}
+
+impl Calls for Desk {
+    ghost use Rattle.compose.specs.steps.KindLaws.{answers-called};
+
+    type Error = Refusal;
+
+    ghost made = { Called };
+
+    fn call(&mut self, call: &Call<'_>) -> Result<Reply, Refusal> {
+        match *call {
+            Call::Making(making) => make_damaging(
+                &mut self.windows.table,
+                &self.stack,
+                &mut self.damage,
+                making,
+            ),
+            Call::Writing(writing) => write_damaging(
+                &mut self.windows,
+                &self.stack,
+                &mut self.damage,
+                writing,
+            ),
+            Call::Copying(copying) => copy_damaging(
+                &mut self.windows,
+                &self.stack,
+                &mut self.damage,
+                copying,
+            ),
+            Call::Query(asked) => query(&self.windows, asked),
+            Call::Stacking(stacking) => self.arrange(stacking),
+            Call::Refresh(asked) => refresh(self, asked),
+        }
+    }
+
+    ghost answers = { answers-called };
 }
 
 /// A pair that can be set, and two colours.

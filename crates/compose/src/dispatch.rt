@@ -203,12 +203,12 @@ pub(crate) fn refresh(desk: &mut Desk, refresh: Refresh) -> Result<Reply, Refusa
     ensures { Called desk.old (Call.Refresh refresh) result desk.new }
 {
     match refresh {
-        Refresh::Noutrefresh { win } => nothing(desk.wnoutrefresh(win)?),
+        Refresh::Noutrefresh { win } => nothing(desk.refresh_window(win)?),
         Refresh::Pnoutrefresh { pad, pminrow, pmincol, sminrow, smincol, smaxrow, smaxcol } =>
-            nothing(desk.pnoutrefresh(pad, pminrow, pmincol, sminrow, smincol, smaxrow, smaxcol)?),
-        Refresh::UpdatePanels => Ok(Reply::Composed(desk.update_panels())),
+            nothing(desk.refresh_pad(pad, pminrow, pmincol, sminrow, smincol, smaxrow, smaxcol)?),
+        Refresh::UpdatePanels => Ok(Reply::Composed(desk.compose())),
         Refresh::Doupdate => unreachable!(),
-        Refresh::InitPair { pair, foreground, background } => desk.init_pair(pair, foreground, background),
+        Refresh::InitPair { pair, foreground, background } => desk.set_colours(pair, foreground, background),
     }
 }
 

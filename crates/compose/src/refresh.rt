@@ -31,7 +31,7 @@ impl Desk {
     ///
     /// # Errors
     /// `NoSuchWindow`, `IsPad`.
-    pub fn wnoutrefresh(&mut self, win: WinId) -> Result<(), Refusal>
+    pub(crate) fn refresh_window(&mut self, win: WinId) -> Result<(), Refusal>
         ensures refused { result_err result ≡ refresh_refusal (world self.old).windows (Refresh.Noutrefresh win) }
         ensures refreshed { OnOk result (world self.new ≡ world_after (world self.old) (Call.Refresh (Refresh.Noutrefresh win))) }
         ensures damaged { OnOk result (DamagesFew self.old (Call.Refresh (Refresh.Noutrefresh win)) self.new) }
@@ -61,7 +61,7 @@ impl Desk {
     /// # Errors
     /// `NoSuchWindow`, `NotPad`; `BadRectangle` if a last line or column comes before its first; `OutsideWindow` if the rectangle isn't
     /// in the pad; `OffScreen` if it isn't on the screen.
-    pub fn pnoutrefresh(
+    pub(crate) fn refresh_pad(
         &mut self,
         pad: WinId,
         pminrow: u16,

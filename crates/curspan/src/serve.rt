@@ -27,7 +27,7 @@ use crate::status::{ACCEPTED, BAD_TEXT, no_memory, status_of, tell_failure};
 use cell::Rendition;
 use clap::Error;
 use clap::error::ErrorKind;
-use desk::{Call, Desk, Refresh, Refusal, Screen, ScriptEnd, ScriptFault, Sink, Source};
+use desk::{Call, Calls, Desk, Refresh, Refusal, Screen, ScriptEnd, ScriptFault, Sink, Source};
 use script::last_line;
 use std::alloc::Global;
 use std::convert::AsStr;

@@ -8,5 +8,4 @@ pub mod ShowingLemmas
 pub mod AnswerLemmas
 pub mod LineEndLemmas
 pub mod ScriptLemmas
-pub mod KindLemmas
 pub mod Widening

@@ -13,27 +13,19 @@ use Rattle.script.specs.Readings.{said_by_line}
 use Rattle.script.specs.Log.{log_line}
 use Rattle.desk.specs.ScriptEnds.{LineEnds}
 use Rattle.world.specs.declared.call.Call.{Call}
-use Rattle.world.specs.declared.call.Call.TheVariants.{Making, Writing, Copying, Query, Stacking, Refresh}
-use Rattle.world.specs.declared.call.Refresh.TheVariants.{Noutrefresh, Pnoutrefresh, UpdatePanels, Doupdate, InitPair}
+use Rattle.world.specs.declared.call.Call.TheVariants.{Refresh}
+use Rattle.world.specs.declared.call.Refresh.TheVariants.{Doupdate}
 use Rattle.world.specs.declared.call.Reply.{Reply}
 use Rattle.cell.specs.declared.refusal.Refusal.{Refusal}
 use Rattle.streams.specs.declared.sending.WriteFault.{WriteFault}
 use Rattle.desk.specs.States.{ScreenOver}
+use Rattle.desk.specs.steps.Quiet.{each-call}
 use Rattle.script.specs.declared.fault.TextFault.{TextFault}
 use Rattle.script.specs.declared.fault.ScriptFault.TheVariants.{Text, Write, Log}
 use Rattle.desk.specs.declared.screen.Fault.TheVariants.{Write as Cut}
 
 the_doupdate : (call : Call) → is_doupdate call ≡ true → call ≡ Refresh Doupdate
-the_doupdate (Making m) h = cc
-the_doupdate (Writing w) h = cc
-the_doupdate (Copying w) h = cc
-the_doupdate (Query q) h = cc
-the_doupdate (Stacking s) h = cc
-the_doupdate (Refresh (Noutrefresh win)) h = cc
-the_doupdate (Refresh (Pnoutrefresh pad pminrow pmincol sminrow smincol smaxrow smaxcol)) h = cc
-the_doupdate (Refresh UpdatePanels) h = cc
-the_doupdate (Refresh (InitPair pair foreground background)) h = cc
-the_doupdate (Refresh Doupdate) h = refl
+the_doupdate call h = each-call (λ call. is_doupdate call ≡ true → call ≡ Refresh Doupdate) (λ call other h. let no : false ≡ true = sym other ∙ h in cc) (λ h. refl) call h
 
 or_nothing : (b : Bool) → (b || false) ≡ b
 or_nothing true = refl

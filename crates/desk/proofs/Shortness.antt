@@ -4,25 +4,18 @@ use Rattle.cell.specs.declared.refusal.Refusal.{Refusal}
 use Rattle.desk.specs.States.{State}
 use Rattle.desk.specs.Runs.{Outcome, AreShort, MayAnswer, Run, most_sent, state_after}
 use Rattle.world.specs.declared.call.Call.{Call}
-use Rattle.world.specs.declared.call.Call.TheVariants as calls
-use Rattle.world.specs.declared.call.Refresh.TheVariants.{Noutrefresh, Pnoutrefresh, UpdatePanels, Doupdate, InitPair}
 use Rattle.world.specs.declared.call.Reply.{Reply}
+use Rattle.desk.specs.steps.Quiet.{each-call, quiet-reply}
 
 sends-nothing : (sent : List ℕ) (most : ℕ) → sent ≡ [] → length sent ≤ most
 sends-nothing sent most none = omega (arith, ap length none)
 
 short-call : (s : State) (call : Call) (answer : Result Reply Refusal) (sent : List ℕ) → MayAnswer s call answer sent → length sent ≤ most_sent s call
 short-call s call (Err e) sent may = sends-nothing sent (most_sent s call) may.1
-short-call s (calls.Making making) (Ok r) sent may = sends-nothing sent 0 may.1.0
-short-call s (calls.Writing writing) (Ok r) sent may = sends-nothing sent 0 may.1.0
-short-call s (calls.Copying copying) (Ok r) sent may = sends-nothing sent 0 may.1.0
-short-call s (calls.Query query) (Ok r) sent may = sends-nothing sent 0 may.1.0
-short-call s (calls.Stacking stacking) (Ok r) sent may = sends-nothing sent 0 may.1.0
-short-call s (calls.Refresh (Noutrefresh win)) (Ok r) sent may = sends-nothing sent 0 may.1.0
-short-call s (calls.Refresh (Pnoutrefresh pad pminrow pmincol sminrow smincol smaxrow smaxcol)) (Ok r) sent may = sends-nothing sent 0 may.1.0
-short-call s (calls.Refresh UpdatePanels) (Ok r) sent may = sends-nothing sent 0 may.1.0
-short-call s (calls.Refresh (InitPair pair foreground background)) (Ok r) sent may = sends-nothing sent 0 may.1.0
-short-call s (calls.Refresh Doupdate) (Ok r) sent may = may.1.0.short
+short-call s call (Ok r) sent may =
+    each-call (λ call. MayAnswer s call (Ok r) sent → length sent ≤ most_sent s call)
+    (λ call other may. sends-nothing sent (most_sent s call) ((quiet-reply s r sent call other).0 may.1).0)
+    (λ may. may.1.0.short) call may
 
 pub short-run : (s : State) (cs : List Call) (outcomes : List Outcome) → Run s cs outcomes → AreShort s cs outcomes
 short-run s [] [] run = tt

@@ -21,7 +21,7 @@ use Rattle.paint.specs.Updates.{Agrees, PainterState}
 use Rattle.streams.specs.declared.sending.WriteFault.{WriteFault}
 use Rattle.paint.proofs.Repair.{Agrees-update, Agrees-fault, IsKnown, reads-known}
 use Rattle.desk.proofs.MakesLemmas.{Makes-nothing, Makes-one}
-use Rattle.desk.proofs.StateLemmas.{IsWithin-refl}
+use Rattle.desk.proofs.StateLemmas.{IsWithin-refl, painter-quiet}
 use Rattle.desk.specs.States.{IsWithin, State, after, wanted}
 use Rattle.desk.specs.Runs.{Outcome, MayAnswer, Run, all_sent, state_after, state_at_end}
 use Rattle.world.proofs.Sizes.{size-call}
@@ -31,7 +31,8 @@ use Rattle.desk.specs.States.{state_of}
 use Rattle.desk.specs.Showing.{EndsInDoupdate, EndsInUpdate, ShowsWorld, RunShows, showing_virtual}
 use Rattle.world.specs.declared.call.Call.{Call}
 use Rattle.world.specs.declared.call.Call.TheVariants as calls
-use Rattle.world.specs.declared.call.Refresh.TheVariants.{Noutrefresh, Pnoutrefresh, UpdatePanels, Doupdate, InitPair}
+use Rattle.world.specs.declared.call.Refresh.TheVariants.{UpdatePanels, Doupdate}
+use Rattle.desk.specs.steps.Quiet.{each-call, quiet-reply}
 use Rattle.world.specs.declared.call.Reply.{Reply}
 use Rattle.desk.specs.declared.screen.RunEnd.{RunEnd}
 use Rattle.desk.specs.States.{HasOneSize, KeepsSize, ScreenOver}
@@ -62,16 +63,10 @@ still-sized same h = record {
 }
 
 size-painter : (s : State) (call : Call) → ((after s call).painter.lines ≡ s.painter.lines) × ((after s call).painter.columns ≡ s.painter.columns)
-size-painter s (calls.Making making) = (refl, refl)
-size-painter s (calls.Writing writing) = (refl, refl)
-size-painter s (calls.Copying copying) = (refl, refl)
-size-painter s (calls.Query query) = (refl, refl)
-size-painter s (calls.Stacking stacking) = (refl, refl)
-size-painter s (calls.Refresh (Noutrefresh win)) = (refl, refl)
-size-painter s (calls.Refresh (Pnoutrefresh pad pminrow pmincol sminrow smincol smaxrow smaxcol)) = (refl, refl)
-size-painter s (calls.Refresh UpdatePanels) = (refl, refl)
-size-painter s (calls.Refresh Doupdate) = (refl, refl)
-size-painter s (calls.Refresh (InitPair pair foreground background)) = (refl, refl)
+size-painter s call =
+    each-call (λ call. ((after s call).painter.lines ≡ s.painter.lines) × ((after s call).painter.columns ≡ s.painter.columns))
+    (λ call other. let same = painter-quiet s call other in (ap (λ (p : PainterState). p.lines) same, ap (λ (p : PainterState). p.columns) same))
+    (refl, refl) call
 
 size-after : (lines columns : ℕ) (s : State) (call : Call) (answer : Result Reply Refusal) → HasScreenSize lines columns s → HasScreenSize lines columns (state_after s call answer)
 size-after lines columns s call (Err e) h = h
@@ -98,17 +93,13 @@ nothing-sent painter stream sent t e h = rw (e, append-nil) h
 agrees-call : (lines columns : ℕ) (s : State) (call : Call) (answer : Result Reply Refusal) (sent stream : List ℕ) (t : Terminal) → HasScreenSize lines columns s → HasSize lines columns t.picture
     → MayAnswer s call answer sent → Agrees s.painter stream t → Agrees (state_after s call answer).painter (stream ++ sent) t
 agrees-call lines columns s call (Err e) sent stream t size fits may h = nothing-sent s.painter stream sent t may.1 h
-agrees-call lines columns s (calls.Making making) (Ok r) sent stream t size fits may h = nothing-sent s.painter stream sent t may.1.0 h
-agrees-call lines columns s (calls.Writing writing) (Ok r) sent stream t size fits may h = nothing-sent s.painter stream sent t may.1.0 h
-agrees-call lines columns s (calls.Copying copying) (Ok r) sent stream t size fits may h = nothing-sent s.painter stream sent t may.1.0 h
-agrees-call lines columns s (calls.Query query) (Ok r) sent stream t size fits may h = nothing-sent s.painter stream sent t may.1.0 h
-agrees-call lines columns s (calls.Stacking stacking) (Ok r) sent stream t size fits may h = nothing-sent s.painter stream sent t may.1.0 h
-agrees-call lines columns s (calls.Refresh (Noutrefresh win)) (Ok r) sent stream t size fits may h = nothing-sent s.painter stream sent t may.1.0 h
-agrees-call lines columns s (calls.Refresh (Pnoutrefresh pad pminrow pmincol sminrow smincol smaxrow smaxcol)) (Ok r) sent stream t size fits may h = nothing-sent s.painter stream sent t may.1.0 h
-agrees-call lines columns s (calls.Refresh UpdatePanels) (Ok r) sent stream t size fits may h = nothing-sent s.painter stream sent t may.1.0 h
-agrees-call lines columns s (calls.Refresh (InitPair pair foreground background)) (Ok r) sent stream t size fits may h = nothing-sent s.painter stream sent t may.1.0 h
-agrees-call lines columns s (calls.Refresh Doupdate) (Ok r) sent stream t size fits may h =
-    Agrees-update s.painter s.world.virtual.clear (wanted s.world) stream sent t (rw (size.painter_lines, size.painter_columns) fits) h may.1.0
+agrees-call lines columns s call (Ok r) sent stream t size fits may h =
+    each-call (λ call. MayAnswer s call (Ok r) sent → Agrees (after s call).painter (stream ++ sent) t)
+    (λ call other may.
+    subst (λ p. Agrees p (stream ++ sent) t) (sym (painter-quiet s call other))
+    (nothing-sent s.painter stream sent t ((quiet-reply s r sent call other).0 may.1).0 h))
+    (λ may. Agrees-update s.painter s.world.virtual.clear (wanted s.world) stream sent t (rw (size.painter_lines, size.painter_columns) fits) h may.1.0)
+    call may
 
 pub agrees-run : (lines columns : ℕ) (s : State) (cs : List Call) (outcomes : List Outcome) (stream : List ℕ) (t : Terminal) → HasScreenSize lines columns s → HasSize lines columns t.picture
     → Run s cs outcomes → Agrees s.painter stream t → Agrees (state_at_end s cs outcomes).painter (stream ++ all_sent outcomes) t
@@ -135,24 +126,19 @@ leads-nothing lines columns painter sent t e fits known = record { last = t; lea
 leads-call : (lines columns : ℕ) (s : State) (call : Call) (answer : Result Reply Refusal) (sent : List ℕ) (t : Terminal) → HasScreenSize lines columns s → HasSize lines columns t.picture
     → MayAnswer s call answer sent → IsKnown s.painter.last t → LeadsOn lines columns (state_after s call answer).painter sent t
 leads-call lines columns s call (Err e) sent t size fits may h = leads-nothing lines columns s.painter sent t may.1 fits h
-leads-call lines columns s (calls.Making making) (Ok r) sent t size fits may h = leads-nothing lines columns s.painter sent t may.1.0 fits h
-leads-call lines columns s (calls.Writing writing) (Ok r) sent t size fits may h = leads-nothing lines columns s.painter sent t may.1.0 fits h
-leads-call lines columns s (calls.Copying copying) (Ok r) sent t size fits may h = leads-nothing lines columns s.painter sent t may.1.0 fits h
-leads-call lines columns s (calls.Query query) (Ok r) sent t size fits may h = leads-nothing lines columns s.painter sent t may.1.0 fits h
-leads-call lines columns s (calls.Stacking stacking) (Ok r) sent t size fits may h = leads-nothing lines columns s.painter sent t may.1.0 fits h
-leads-call lines columns s (calls.Refresh (Noutrefresh win)) (Ok r) sent t size fits may h = leads-nothing lines columns s.painter sent t may.1.0 fits h
-leads-call lines columns s (calls.Refresh (Pnoutrefresh pad pminrow pmincol sminrow smincol smaxrow smaxcol))
-    (Ok r) sent t size fits may h = leads-nothing lines columns s.painter sent t may.1.0 fits h
-leads-call lines columns s (calls.Refresh UpdatePanels) (Ok r) sent t size fits may h = leads-nothing lines columns s.painter sent t may.1.0 fits h
-leads-call lines columns s (calls.Refresh (InitPair pair foreground background)) (Ok r) sent t size fits may h = leads-nothing lines columns s.painter sent t may.1.0 fits h
-leads-call lines columns s (calls.Refresh Doupdate) (Ok r) sent t size fits may h =
-    let leads = may.1.0.shows t (reads-known s.painter s.world.virtual.clear t (rw (size.painter_lines, size.painter_columns) fits) h) in
+leads-call lines columns s call (Ok r) sent t size fits may h =
+    each-call (λ call. MayAnswer s call (Ok r) sent → LeadsOn lines columns (after s call).painter sent t)
+    (λ call other may.
+    subst (λ p. LeadsOn lines columns p sent t) (sym (painter-quiet s call other))
+    (leads-nothing lines columns s.painter sent t ((quiet-reply s r sent call other).0 may.1).0 fits h))
+    (λ may. let leads = may.1.0.shows t (reads-known s.painter s.world.virtual.clear t (rw (size.painter_lines, size.painter_columns) fits) h) in
     record {
       last = showing s.world.virtual.picture s.world.virtual.cursor;
       leads = leads;
       fits = size-effects lines columns leads.items t (showing s.world.virtual.picture s.world.virtual.cursor) fits leads.have_effect;
       known = refl;
-    }
+    })
+    call may
 
 pub leads-run : (lines columns : ℕ) (s : State) (cs : List Call) (outcomes : List Outcome) (t : Terminal) → HasScreenSize lines columns s → HasSize lines columns t.picture
     → Run s cs outcomes → IsKnown s.painter.last t → LeadsOn lines columns (state_at_end s cs outcomes).painter (all_sent outcomes) t

@@ -1,5 +1,5 @@
 -- States with more lines damaged: what may come of calls in one may come in the other.
-use Rattle.std.proofs.Common.{◌≡◌, ◌≤◌, ℕ, ◌||◌, if◌then◌else◌, Bool, true, false, cond, List, [], ◌∷◌, Result, Ok, Err, refl, sym, subst, ◌∙◌, arith}
+use Rattle.std.proofs.Common.{◌≡◌, ◌≤◌, ℕ, ◌||◌, if◌then◌else◌, Bool, true, false, cond, List, [], ◌∷◌, Some, Result, Ok, Err, ap, refl, sym, subst, ◌∙◌, arith}
 use Rattle.std.proofs.Math.Nat.{mul-le-mul_right}
 use Rattle.std.proofs.lemmas.List.Sums.{sum_by-le-sum_by}
 use Rattle.std.specs.List.{count_by, range_with_len}
@@ -7,9 +7,9 @@ use Rattle.cell.specs.declared.refusal.Refusal.{Refusal}
 use Rattle.paint.specs.Updates.{PainterState}
 use Rattle.world.specs.World.{World}
 use Rattle.world.specs.calls.Affected.{affected_after, affected_lines}
-use Rattle.world.specs.calls.Dispatch.{is_update_panels}
+use Rattle.world.specs.calls.Dispatch.{is_doupdate, is_update_panels}
 use Rattle.compose.specs.Calling.{MayRead}
-use Rattle.desk.specs.States.{IsWithin, ScreenOver, State, after, state_of}
+use Rattle.desk.specs.States.{IsWithin, ScreenOver, State, after, state_of, wanted}
 use Rattle.desk.specs.Runs.{MayAnswer, Outcome, Run, state_after, state_at_end}
 use Rattle.world.specs.declared.call.Call.{Call}
 use Rattle.world.specs.declared.call.Call.TheVariants as calls
@@ -47,6 +47,10 @@ read-among w few more cells h may =
     record { at_least = may.at_least; at_most = omega (arith, may.at_most, lines) }
 
 -- ---- states
+
+-- a call that sends nothing leaves the painter as it was
+pub painter-quiet : (s : State) (call : Call) → is_doupdate call ≡ false → (after s call).painter ≡ s.painter
+painter-quiet s call other = ap (λ b. if b then record s.painter { last = Some (wanted s.world) } else s.painter) other
 
 pub IsWithin-refl : (s : State) → IsWithin s s
 IsWithin-refl s = record { world = refl; painter = refl; damaged = λ line h. h }

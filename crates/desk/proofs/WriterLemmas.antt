@@ -14,13 +14,16 @@ use Rattle.world.specs.calls.Refresh.{refresh_refusal}
 use Rattle.world.specs.declared.call.Call.{Call}
 use Rattle.world.specs.declared.call.Call.TheVariants as calls
 use Rattle.world.specs.declared.call.Refresh.{Refresh}
-use Rattle.world.specs.declared.call.Refresh.TheVariants.{Noutrefresh, Pnoutrefresh, UpdatePanels, Doupdate, InitPair}
+use Rattle.world.specs.declared.call.Refresh.TheVariants.{Doupdate}
 use Rattle.world.specs.declared.call.Reply.{Reply}
 use Rattle.world.specs.declared.call.Reply.TheVariants.{Sent}
 use Rattle.compose.specs.Desks.{DeskTable, world}
 use Rattle.desk.specs.States.{IsWithin, ScreenOver, after, state_of, wanted}
 use Rattle.compose.specs.Calling.{Called, DamagesFew, MayRefuse}
 use Rattle.desk.specs.Runs.{flushes_after}
+use Rattle.desk.specs.steps.Quiet.{each-call, quiet-reply}
+use Rattle.desk.proofs.StateLemmas.{painter-quiet}
+use Rattle.compose.proofs.DeskLemmas.{world-left}
 use Rattle.desk.specs.Ends.{CallEnds, Writes}
 use Rattle.desk.specs.declared.screen.Fault.TheVariants.{Refused, Write}
 
@@ -66,17 +69,10 @@ module _ {W : Type 0} (seen : W → Seen) where
 
   -- a refused call
   pub Writes-refused : (old : ScreenOver W) (call : Call) (e : Refusal) → MayRefuse (world old.desk) call e → Writes seen old old (call ∷ []) []
-  Writes-refused old (calls.Making m) e h = quiet old old (calls.Making m) refl refl
-  Writes-refused old (calls.Writing w) e h = quiet old old (calls.Writing w) refl refl
-  Writes-refused old (calls.Copying k) e h = quiet old old (calls.Copying k) refl refl
-  Writes-refused old (calls.Query q) e h = quiet old old (calls.Query q) refl refl
-  Writes-refused old (calls.Stacking s) e h = quiet old old (calls.Stacking s) refl refl
-  Writes-refused old (calls.Refresh (Noutrefresh win)) e h = quiet old old (calls.Refresh (Noutrefresh win)) refl refl
-  Writes-refused old (calls.Refresh (Pnoutrefresh pad pminrow pmincol sminrow smincol smaxrow smaxcol)) e h = quiet old old
-      (calls.Refresh (Pnoutrefresh pad pminrow pmincol sminrow smincol smaxrow smaxcol)) refl refl
-  Writes-refused old (calls.Refresh UpdatePanels) e h = absurd (never-refused (world old.desk) UpdatePanels e refl refl h)
-  Writes-refused old (calls.Refresh Doupdate) e h = absurd (never-refused (world old.desk) Doupdate e refl refl h)
-  Writes-refused old (calls.Refresh (InitPair pair foreground background)) e h = quiet old old (calls.Refresh (InitPair pair foreground background)) refl refl
+  Writes-refused old call e h =
+      each-call (λ call. MayRefuse (world old.desk) call e → Writes seen old old (call ∷ []) [])
+      (λ call other h. quiet old old call other refl)
+      (λ h. absurd (never-refused (world old.desk) Doupdate e refl refl h)) call h
 
   -- ---- one call
 
@@ -87,33 +83,9 @@ module _ {W : Type 0} (seen : W → Seen) where
   -- a call of the desk was accepted
   pub called-ends : (old : ScreenOver W) (desk : DeskTable) (call : Call) (reply : Reply) → is_doupdate call ≡ false → Called old.desk call (Ok reply) desk
       → CallEnds seen old call (Ok reply) (record old { desk = desk })
-  called-ends old desk (calls.Making m) reply other h =
-      (is-after old desk (calls.Making m) h.2 h.3 refl, ([], (h.0, (refl, h.1)), quiet old (record old { desk = desk }) (calls.Making m) refl refl))
-  called-ends old desk (calls.Writing w) reply other h =
-      (is-after old desk (calls.Writing w) h.2 h.3 refl, ([], (h.0, (refl, h.1)), quiet old (record old { desk = desk }) (calls.Writing w) refl refl))
-  called-ends old desk (calls.Copying k) reply other h =
-      (is-after old desk (calls.Copying k) h.2 h.3 refl, ([], (h.0, (refl, h.1)), quiet old (record old { desk = desk }) (calls.Copying k) refl refl))
-  called-ends old desk (calls.Query q) reply other h =
-      (is-after old desk (calls.Query q) (ap world h.2) h.3 refl, ([], (h.0, (refl, h.1)), quiet old (record old { desk = desk }) (calls.Query q) refl refl))
-  called-ends old desk (calls.Stacking s) reply other h =
-      (is-after old desk (calls.Stacking s) h.2 h.3 refl, ([], (h.0, (refl, h.1)), quiet old (record old { desk = desk }) (calls.Stacking s) refl refl))
-  called-ends old desk (calls.Refresh (Noutrefresh win)) reply other h =
-      (is-after old desk (calls.Refresh (Noutrefresh win)) h.2 h.3 refl, ([], (h.0, (refl, h.1)), quiet old (record old { desk = desk }) (calls.Refresh (Noutrefresh win)) refl refl))
-  called-ends old desk (calls.Refresh (Pnoutrefresh pad pminrow pmincol sminrow smincol smaxrow smaxcol)) reply other h = (
-    is-after old desk (calls.Refresh (Pnoutrefresh pad pminrow pmincol sminrow smincol smaxrow smaxcol)) h.2 h.3 refl,
-    ([], (h.0, (refl, h.1)), quiet old (record old { desk = desk }) (calls.Refresh (Pnoutrefresh pad pminrow pmincol sminrow smincol smaxrow smaxcol)) refl refl),
-  )
-  called-ends old desk (calls.Refresh UpdatePanels) reply other h =
-      (is-after old desk (calls.Refresh UpdatePanels) h.2 h.3 refl, ([], (h.0, (refl, h.1)), quiet old (record old { desk = desk }) (calls.Refresh UpdatePanels) refl refl))
-  called-ends old desk (calls.Refresh Doupdate) reply other h = cc
-  called-ends old desk (calls.Refresh (InitPair pair foreground background)) reply other h = (
-    is-after old desk (calls.Refresh (InitPair pair foreground background)) h.2 h.3 refl,
-    (
-      [],
-      (h.0, (refl, h.1)),
-      quiet old (record old { desk = desk })
-          (calls.Refresh (InitPair pair foreground background)) refl refl,
-    ),
+  called-ends old desk call reply other h = (
+    is-after old desk call (world-left old.desk desk call h.2) h.3 (painter-quiet (state_of old) call other),
+    ([], (h.0, (quiet-reply (state_of old) reply [] call other).1 (refl, h.1)), quiet old (record old { desk = desk }) call other refl),
   )
 
   -- a call of the desk was refused

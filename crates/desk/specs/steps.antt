@@ -1,2 +1,3 @@
 pub mod Answers
-pub mod Kinds
+pub mod Quiet
+pub mod AnswerLaws

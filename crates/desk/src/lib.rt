@@ -1,13 +1,12 @@
 //! A screen over a writer: runs of calls and of script lines, with what they send and log.
 #![tactic(auto)]
 
-mod calls;
 mod changing;
 mod run_script;
 mod screen;
 
 pub use cell::{Attr, Cell, Refusal, WinId};
-pub use compose::Desk;
+pub use compose::{Answer, Calls, Desk};
 pub use screen::{Fault, RunEnd, Screen};
 pub use script::{ScriptEnd, ScriptFault, TextFault};
 pub use streams::{Counted, CountedReader, Sent, Sink, Source, WriteFault};

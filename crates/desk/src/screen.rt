@@ -16,11 +16,11 @@ ghost use Rattle.desk.specs.declared.screen.Fault.TheVariants.{Refused};
 
 use crate::changing::widen_for;
 use cell::Refusal;
-use compose::Desk;
+use compose::{Calls, Desk};
 use paint::{Changes, Painter};
 use std::alloc::Global;
 use std::marker::Model;
-use streams::{Sink, WriteFault};
+use streams::{Sent, Sink, WriteFault};
 use world::{Call, Refresh, Reply};
 
 /// A desk, the painter that shows it, and the writer that the bytes go to.
@@ -131,6 +131,8 @@ impl<W: Sink> Screen<W> {
     ghost use Rattle.desk.specs.States.{HasOneSize, KeepsSize};
     ghost use Rattle.desk.specs.Ends.{CallEnds, RunEnds, cut_of};
     ghost use Rattle.desk.specs.Showing.{RunShows};
+    ghost use Rattle.desk.specs.Methods.{CallMade};
+    ghost use Rattle.compose.specs.Methods.{told};
 
     /// The windows and the virtual screen.
     pub fn desk(&self) -> &Desk
@@ -146,17 +148,16 @@ impl<W: Sink> Screen<W> {
         &self.writer
     }
 
-    /// Makes one call.
-    pub fn call(&mut self, call: &Call<'_>) -> Result<Reply, Fault>
-        ensures call { CallEnds W.seen self.old call.now result self.new }
-        ensures shown { RunShows W.seen self.old self.new (call.now ∷ []) (cut_of result) }
-        ensures failures { (W.seen self.new.writer).failures ≡ counted (is_some (cut_of result)) (W.seen self.old.writer).failures }
-        ensures same { W.name self.new.writer ≡ W.name self.old.writer }
-        ensures sound { IsSound (world self.new.desk) }
-        ensures size { KeepsSize self.old.desk self.new.desk }
+    /// Shows the virtual screen on the terminal. It tells how many bytes it sent.
+    ///
+    /// # Errors
+    /// A `WriteFault`, with how many bytes were taken: what is on the terminal is unknown then, and the next one clears
+    /// it.
+    pub fn doupdate(&mut self) -> Result<Sent, Fault>
+        ensures { CallMade W.seen W.name self.old (Call.Refresh Refresh.Doupdate) (told Reply.Sent result) self.new }
     {
         prove!(self.is_sound());
-        let end = self.make_call(call);
+        let end = self.send_update();
         prove!(self.is_sound());
         end
     }
@@ -176,7 +177,7 @@ impl<W: Sink> Screen<W> {
         ensures same { W.name self.new.writer ≡ W.name self.old.writer }
     {
         match *call {
-            Call::Refresh(Refresh::Doupdate) => self.send_update(),
+            Call::Refresh(Refresh::Doupdate) => Ok(Reply::Sent(self.send_update()?)),
             _ => self.call_desk(call),
         }
     }
@@ -193,9 +194,9 @@ impl<W: Sink> Screen<W> {
     }
 
     /// Shows the virtual screen.
-    fn send_update(&mut self) -> Result<Reply, Fault>
-        ensures call { CallEnds W.seen self.old (Call.Refresh Refresh.Doupdate) result self.new }
-        ensures failures { (W.seen self.new.writer).failures ≡ counted (is_some (cut_of result)) (W.seen self.old.writer).failures }
+    fn send_update(&mut self) -> Result<Sent, Fault>
+        ensures call { CallEnds W.seen self.old (Call.Refresh Refresh.Doupdate) (told Reply.Sent result) self.new }
+        ensures failures { (W.seen self.new.writer).failures ≡ counted (is_some (cut_of (told Reply.Sent result))) (W.seen self.old.writer).failures }
         ensures same { W.name self.new.writer ≡ W.name self.old.writer }
     {
         let cursor = self.desk.wanted_cursor();
@@ -208,7 +209,7 @@ impl<W: Sink> Screen<W> {
             Ok(sent) => {
                 self.desk.clear_done();
                 self.changes.clear();
-                Ok(Reply::Sent(sent))
+                Ok(sent)
             }
             Err(fault) => Err(Fault::Write(fault)),
         }
@@ -256,6 +257,27 @@ impl<W: Sink> Screen<W> {
         }
         end
     }
+}
+
+impl<W: Sink> Calls for Screen<W> {
+    ghost use Rattle.desk.specs.Methods.{CallMade};
+    ghost use Rattle.desk.specs.steps.AnswerLaws.{answers-made};
+
+    type Error = Fault;
+
+    ghost made = { CallMade W.seen W.name };
+
+    /// Makes one call, which may be `doupdate`.
+    fn call(&mut self, call: &Call<'_>) -> Result<Reply, Fault>
+        ensures { CallMade W.seen W.name self.old call.now result self.new }
+    {
+        prove!(self.is_sound());
+        let end = self.make_call(call);
+        prove!(self.is_sound());
+        end
+    }
+
+    ghost answers = { answers-made W.seen W.name };
 }
 
 /// How many cells an answer says were read.

@@ -2,7 +2,7 @@
 //! list of its updates.
 #![tactic(auto)]
 
-use desk::{Attr, Counted, Fault, Refusal, Screen, Sink, WinId};
+use desk::{Attr, Calls, Counted, Fault, Refusal, Screen, Sink, WinId};
 use std::alloc::{AllocError, Global};
 
 /// The lines and the columns of the screen.

@@ -2,7 +2,7 @@
 #![tactic(auto)]
 
 use cell::Refusal;
-use desk::{Reply, Screen};
+use desk::{Calls, Reply, Screen};
 use script::{Arguments, LONGEST_LINE, read_line};
 use std::env;
 use std::io::{self, ErrorKind, Read, Write};

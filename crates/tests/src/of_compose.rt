@@ -2,7 +2,7 @@
 //! calls are made by helpers without a contract.
 
 use cell::{Refusal, WinId};
-use compose::{Desk, Span};
+use compose::{Calls, Desk, Span};
 use std::alloc::Global;
 use std::test::Fail;
 use world::{Call, Composed, Making, PanelId, Reply, Writing};
@@ -37,7 +37,7 @@ fn shown(desk: &Desk, alloc: Global) -> Result<Vec<u8>, Fail> {
     Ok(shown)
 }
 
-fn update_panels(desk: &mut Desk) -> Composed {
+fn update_panels(desk: &mut Desk) -> Result<Composed, Refusal> {
     desk.update_panels()
 }
 
@@ -48,7 +48,7 @@ pub(crate) fn shows(desk: &Desk, alloc: Global, text: &[u8]) -> Result<bool, Fai
 
 /// Whether the picture that is composed now is a text.
 fn composes(desk: &mut Desk, alloc: Global, text: &[u8]) -> Result<bool, Fail> {
-    update_panels(desk);
+    update_panels(desk)?;
     shows(desk, alloc, text)
 }
 
@@ -100,7 +100,7 @@ fn replace_panel(desk: &mut Desk, panel: PanelId, win: WinId) -> Result<(), Refu
     desk.replace_panel(panel, win)
 }
 
-fn panel_window(desk: &Desk, panel: PanelId) -> Result<WinId, Refusal> {
+fn panel_window(desk: &mut Desk, panel: PanelId) -> Result<WinId, Refusal> {
     desk.panel_window(panel)
 }
 
@@ -142,7 +142,7 @@ struct Taken {
 fn take(desk: &mut Desk, alloc: Global) -> Result<Taken, Fail> {
     write_abcd(desk)?;
     let before = wanted_cursor(desk);
-    let composed = update_panels(desk);
+    let composed = update_panels(desk)?;
     let behind = wanted_cursor(desk);
     clear_done(desk);
     let is_shown = composes(desk, alloc, b"abcd  ".as_slice())?;

@@ -1,7 +1,7 @@
 use crate::faulty::Halting;
 use desk::{
-    Call, Counted, CountedReader, Fault, PanelId, Refresh, Refusal, RunEnd, Screen, ScriptEnd,
-    ScriptFault, Sink, Source, WinId, WriteFault, Writing,
+    Call, Calls, Counted, CountedReader, Fault, PanelId, Refresh, Refusal, RunEnd, Screen,
+    ScriptEnd, ScriptFault, Sink, Source, WinId, WriteFault, Writing,
 };
 use std::alloc::Global;
 use std::io;

@@ -1,6 +1,6 @@
 -- What a call affects of what windows show, and where one of them shows something of it.
 use Rattle.std.specs.Prelude.{ℕ, ◌≤◌, Bool, false, Option, Some, None, ⊤}
-use Rattle.std.specs.Option.{option_map, option_map_or}
+use Rattle.std.specs.Option.{option_map}
 use Rattle.cell.specs.declared.window.WinId.{WinId}
 use Rattle.world.specs.Panels.{Panels}
 use Rattle.world.specs.Windows.{Windows, HasPlace, WindowMap}

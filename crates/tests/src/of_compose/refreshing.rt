@@ -1,9 +1,9 @@
 use crate::of_compose::{make, new_desk, shows, wanted_cursor, write};
 use cell::{Refusal, WinId};
-use compose::Desk;
+use compose::{Calls, Desk};
 use std::alloc::Global;
 use std::test::Fail;
-use world::{Call, Making, Refresh, Reply, Writing};
+use world::{Making, Writing};
 
 /// Writes a text from a place of a window on.
 fn write_at(desk: &mut Desk, win: WinId, y: u16, x: u16, text: &[u8]) -> Result<(), Refusal> {
@@ -17,16 +17,8 @@ fn wnoutrefresh(desk: &mut Desk, win: WinId) -> Result<(), Refusal> {
 }
 
 /// Takes three cells of a pad into the first columns of line 1.
-fn pnoutrefresh(desk: &mut Desk, pad: WinId, line: u16, column: u16) -> Result<Reply, Refusal> {
-    desk.call(&Call::Refresh(Refresh::Pnoutrefresh {
-        pad,
-        pminrow: line,
-        pmincol: column,
-        sminrow: 1,
-        smincol: 0,
-        smaxrow: 1,
-        smaxcol: 2,
-    }))
+fn pnoutrefresh(desk: &mut Desk, pad: WinId, line: u16, column: u16) -> Result<(), Refusal> {
+    desk.pnoutrefresh(pad, line, column, 1, 0, 1, 2)
 }
 
 /// Takes a window that says something: whether it is shown, and where the cursor is wanted.
@@ -55,7 +47,7 @@ fn touched_cells_of_a_window_are_taken(rt: HostRuntime) -> Result<(), Fail> {
     Ok(())
 }
 
-/// Takes the end of a pad: whether that answers nothing and is shown.
+/// Takes the end of a pad: whether that is shown.
 fn takes_pad(desk: &mut Desk, alloc: Global) -> Result<bool, Fail> {
     let newpad = Making::Newpad {
         lines: 6,
@@ -63,8 +55,8 @@ fn takes_pad(desk: &mut Desk, alloc: Global) -> Result<bool, Fail> {
     };
     let pad = make(desk, newpad)?;
     write_at(desk, pad, 5, 17, b"end".as_slice())?;
-    let answer = pnoutrefresh(desk, pad, 5, 17)?;
-    Ok(answer == Reply::Nothing && shows(desk, alloc, b"     end  ".as_slice())?)
+    pnoutrefresh(desk, pad, 5, 17)?;
+    shows(desk, alloc, b"     end  ".as_slice())
 }
 
 fn shows_pad(alloc: Global) -> Result<bool, Fail> {

@@ -4,8 +4,8 @@ use crate::faulty::{Counting, Halting, Pieces};
 use crate::of_desk::{HI, UPDATE, addstr, breaking_after, run, run_script, screen};
 use cell::{Attr, Rendition};
 use desk::{
-    Call, Counted, CountedReader, Fault, Refusal, Reply, Screen, ScriptEnd, ScriptFault, Sent,
-    Sink, TextFault, WinId, WriteFault, Writing,
+    Call, Calls, Counted, CountedReader, Fault, Refusal, Reply, Screen, ScriptEnd, ScriptFault,
+    Sent, Sink, TextFault, WinId, WriteFault, Writing,
 };
 use ecma::Terminal;
 use std::alloc::Global;

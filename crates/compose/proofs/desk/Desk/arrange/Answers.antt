@@ -6,7 +6,7 @@ use Rattle.world.specs.declared.call.Call.TheVariants as calls
 use Rattle.grids.specs.Tables.{windows}
 use Rattle.stack.specs.Tables.{panels}
 use Rattle.compose.specs.Calling.{DamagesFew}
-use Rattle.compose.specs.Desks.{DeskTable, world}
+use Rattle.compose.specs.Desks.{DeskTable}
 use Rattle.compose.proofs.Arranging.{arranged-size, arranged-sound, arranged-world}
 use Rattle.compose.proofs.Covering.{covered-result, few-result}
 use Rattle.compose.proofs.DeskLemmas.{accepted-by, err-three}

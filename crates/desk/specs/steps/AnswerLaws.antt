@@ -1,0 +1,20 @@
+-- The answer of each call on a screen but doupdate is of the kind that the call has.
+use Rattle.std.specs.Prelude.{◌≡◌, ℕ, false, Ok}
+use Rattle.streams.specs.Sinks.{Seen}
+use Rattle.world.specs.calls.Dispatch.{is_doupdate}
+use Rattle.world.specs.declared.call.Call.{Call}
+use Rattle.world.specs.declared.call.Reply.{Reply}
+use Rattle.compose.specs.Desks.{is_damaged_line, world}
+use Rattle.compose.specs.Kinds.{IsAnswerTo}
+use Rattle.compose.specs.steps.KindLaws.{kind-told}
+use Rattle.desk.specs.Methods.{CallMade}
+use Rattle.desk.specs.States.{ScreenOver, state_of}
+use Rattle.desk.specs.steps.Quiet.{quiet-reply}
+
+pub answers-made : {W : Type 0} (seen : W → Seen) (name : W → ℕ) (old : ScreenOver W) (call : Call) (reply : Reply) (new : ScreenOver W) → is_doupdate call ≡ false
+    → CallMade seen name old call (Ok reply) new → IsAnswerTo call reply
+answers-made seen name old call reply new other made =
+    let sent = made.ends.1.0 in
+    let may = made.ends.1.1 in
+    let quiet = (quiet-reply (state_of old) reply sent call other).0 may.1 in
+    (world old.desk, kind-told (world old.desk) (is_damaged_line old.desk) call reply other may.0 quiet.1)
