@@ -237,7 +237,7 @@ reported_ends first old new before lines behind false r written h = record {
       ∙ ap (λ b. counted b first.flushes) (same_end (length (flat lines)) h.sent (length behind) ∙ ap (λ n. length (flat lines) + h.sent == n) (sym (length-append (flat lines) behind)));
 }
 
--- with how many lines behind them
+-- with how many lines after them
 pub counted_ends : (first old new : Seen) (before : Report) (written : Bool) (count : List ℕ) (lines : List (List ℕ)) → count ≡ count_line before.faulty
     → before.is_written ≡ true → WritingEnds written old new count → IsReported first old before lines → WritingEnds written first new (report true lines)
 counted_ends first old new before written count lines is all h r =

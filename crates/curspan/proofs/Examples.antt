@@ -5,7 +5,7 @@ use Rattle.clap.specs.declared.error.kind.ErrorKind.TheVariants as kind
 use Rattle.clap.proofs.OnLiterals.{clap_on_literals}
 use Rattle.curspan.specs.CommandLine.{curspan}
 
--- the words behind the program's name
+-- the words after the program's name
 abbrev faults : List Text → Kinds
 faults words = fault_of curspan (codes "curspan" ∷ words)
 

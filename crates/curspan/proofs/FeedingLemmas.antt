@@ -8,7 +8,7 @@ use Rattle.streams.specs.Sources.{SourceSeen}
 use Rattle.streams.specs.Counts.{moved_nothing}
 use Rattle.ecma.specs.Standing.{Follows, Reader, StandsAfter}
 
--- a front of the stream was read
+-- a prefix of the stream was read
 pub record IsPartlyFed (old new : SourceSeen) (before after : Reader) : Type 0 where
   pub front : List ℕ
   pub read : Consumes old.left new.left front

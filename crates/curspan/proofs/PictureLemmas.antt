@@ -14,12 +14,12 @@ without : {X : Type 0} {A : Type 0} (B : X → Type 0) (o : Option X) → is_som
 without B None none a = a
 without B (Some x) none a = cc
 
--- Behind a script without a fault writing the picture failed, and the log is told.
+-- After a script without a fault writing the picture failed, and the log is told.
 pub Prints-failed : (end : ScriptEnd) (world : World) (told : Seen) (old new : Outputs) (status : ℕ) → is_some end.fault ≡ false → status ≡ 3
     → IsNotWritten old.output new.output (picture_text world) → IsTold told new.log (last_line Log) → Prints end world told old new status
 Prints-failed end world told old new status none failed output log = without _ end.fault none (inr (failed, output, log))
 
--- Behind a script without a fault the picture was written, and the log has nothing more.
+-- After a script without a fault the picture was written, and the log has nothing more.
 pub Prints-written : (end : ScriptEnd) (world : World) (told : Seen) (old new : Outputs) (status : ℕ) → is_some end.fault ≡ false → status ≡ status_of end
     → IsWritten old.output new.output (picture_text world) → new.log ≡ told → Prints end world told old new status
 Prints-written end world told old new status none is output log = without _ end.fault none (inl (is, output, log))
@@ -28,7 +28,7 @@ of-some : {X : Type 0} (A : Type 0) (B : X → Type 0) (o : Option X) → is_som
 of-some A B None some h = cc
 of-some A B (Some x) some h = h x
 
--- Behind a script with a fault nothing is printed, and the log has nothing more.
+-- After a script with a fault nothing is printed, and the log has nothing more.
 pub Prints-nothing : (end : ScriptEnd) (world : World) (told : Seen) (old new : Outputs) (status : ℕ) → is_some end.fault ≡ true → status ≡ status_of end
     → new.output ≡ old.output → new.log ≡ told → Prints end world told old new status
 Prints-nothing end world told old new status some is output log = of-some _ _ end.fault some (λ fault. (is, output, log))

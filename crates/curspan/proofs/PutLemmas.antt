@@ -14,7 +14,7 @@ use Rattle.streams.specs.declared.sending.WriteFault.{WriteFault}
 use Rattle.curspan.specs.Written.{IsNotWritten, IsTold, TakesFront, WritingEnds}
 use Rattle.curspan.specs.steps.Putting.{PuttingEnds}
 
--- a front of a text was written, and the rest wasn't yet
+-- a prefix of a text was written, and the rest wasn't yet
 pub record IsPartlyPut (old new : Seen) (text rest : List ℕ) : Type 0 where
   pub front : List ℕ
   pub whole : text ≡ front ++ rest
@@ -65,7 +65,7 @@ cut_put old mid new text rest piece after at fault p s front back =
       failures = s.ends.4 ∙ ap next_count p.failures;
     }
 
--- ---- a text, and a flush behind it
+-- ---- a text, and a flush after it
 
 pub not_put : (old new : Seen) (text : List ℕ) (is_put : Bool) → PuttingEnds is_put old new text → is_put ≡ false → IsNotWritten old new text
 not_put old new text is_put p is =
@@ -118,7 +118,7 @@ front_before old new text behind h = record {
 pub nothing_put : (old : Seen) → PuttingEnds true old old []
 nothing_put old = record { taken = λ e. Appends-nil old.taken; cut = λ e. cc; flushes = refl; failures = refl }
 
--- what was put out behind another text, all of it
+-- what was put out after another text, all of it
 pub put_behind : (old mid new : Seen) (front text : List ℕ) (is_put written : Bool) → PuttingEnds is_put old mid front → is_put ≡ true → PuttingEnds written mid new text
     → PuttingEnds written old new (front ++ text)
 put_behind old mid new front text is_put written before is p = record {
@@ -128,7 +128,7 @@ put_behind old mid new front text is_put written before is p = record {
   failures = p.failures ∙ ap (counted (not written)) (before.failures ∙ ap (λ b. counted (not b) old.failures) is);
 }
 
--- a text that was cut, and what was to come behind it
+-- a text that was cut, and what was to come after it
 pub cut_before : (old new : Seen) (text behind : List ℕ) (is_put : Bool) → PuttingEnds is_put old new text → is_put ≡ false → PuttingEnds false old new (text ++ behind)
 cut_before old new text behind is_put p is = record {
   taken = λ e. cc;

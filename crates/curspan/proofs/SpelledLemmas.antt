@@ -6,7 +6,7 @@ use Rattle.curspan.specs.Spelled.{spelled, spelled_byte}
 use Rattle.curspan.specs.steps.Putting.{PuttingEnds}
 use Rattle.curspan.proofs.PutLemmas.{cut_before, nothing_put, put_behind}
 
--- the spelling of a front of a text was written, and that of the rest wasn't yet
+-- the spelling of a prefix of a text was written, and that of the rest wasn't yet
 pub record IsPartlySpelled (old new : Seen) (text rest : List ℕ) : Type 0 where
   pub front : List ℕ
   pub whole : text ≡ front ++ rest

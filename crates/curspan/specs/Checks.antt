@@ -22,7 +22,7 @@ abbrev pub finding_of : ℕ → List ℕ → Result (Option Call) TextFault → 
 finding_of number line (Ok call) = []
 finding_of number line (Err fault) = finding number fault line ∷ []
 
--- The bytes behind the last newline, where a read failed behind them: they are no line, unless they are too many.
+-- The bytes after the last newline, where a read failed after them: they are no line, unless they are too many.
 abbrev pub finding_of_rest : ℕ → List ℕ → List (List ℕ)
 finding_of_rest number rest = if nat_lt LONGEST_LINE (length rest) then finding number LineTooLong rest ∷ [] else []
 
@@ -32,7 +32,7 @@ findings_from failed n [] = []
 findings_from true n (rest ∷ []) = finding_of_rest n rest
 findings_from failed n (line ∷ lines) = finding_of n line (said_by_line line) ++ findings_from failed (next_number n) lines
 
--- A line for each faulty line of a script whose bytes these are. A read failed behind them, or they are all.
+-- A line for each faulty line of a script whose bytes these are. A read failed after them, or they are all.
 abbrev pub findings : Bool → List ℕ → List (List ℕ)
 findings failed text = findings_from failed 1 (slice_split is_newline text)
 
@@ -45,7 +45,7 @@ count_of lines = min (length lines) (2 ^ 64 - 1)
 abbrev pub count_line : ℕ → List ℕ
 count_line n = if n == 0 then [] else decimal n ++ (if n == 1 then codes " faulty line" else codes " faulty lines") ++ newline ∷ []
 
--- the lines, and behind those of a whole script how many they are, if there is one
+-- the lines, and after those of a whole script how many they are, if there is one
 abbrev pub report : Bool → List (List ℕ) → List ℕ
 report is_whole lines = flat_map (λ line. line) lines ++ (if is_whole then count_line (count_of lines) else [])
 

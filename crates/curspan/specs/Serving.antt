@@ -68,7 +68,7 @@ Refuses words old new status = (kind : ErrorKind) × ((kind ≡ OutOfMemory) ⊎
 
 -- ---- a script
 
--- The script that was read ran on a screen, and ended so. A failure was counted exactly where its end has such a fault. Behind the lines of
+-- The script that was read ran on a screen, and ended so. A failure was counted exactly where its end has such a fault. After the lines of
 -- the calls the log is told of a fault, and of nothing else.
 pub record Tells {W : Type 0} (seen : W → Seen) (first last : ScreenOver W) (input rest : SourceSeen) (log told : Seen) (end : ScriptEnd) : Type 0 where
   pub logged : Seen
@@ -102,7 +102,7 @@ module _ {W : Type 0} (seen : W → Seen) where
 abbrev pub picture_text : World → List ℕ
 picture_text world = printed_picture (picture_of world.windows.lines world.windows.columns (picture world)) (Some (topmost_cursor world)) no_rendition
 
--- A script that ends with a fault prints nothing. Behind another the picture is printed; or writing it failed, and the log, on which the
+-- A script that ends with a fault prints nothing. After another the picture is printed; or writing it failed, and the log, on which the
 -- script had told this, is told of it.
 abbrev pub Prints : ScriptEnd → World → Seen → Outputs → Outputs → ℕ → Type 0
 Prints end world told old new status = MatchOption end.fault

@@ -20,7 +20,7 @@ abbrev pub IsWholeAt : Bool → SourceSeen → Type 0
 IsWholeAt true seen = (seen.met_end ≡ true) × IsAtEnd seen.left
 IsWholeAt false seen = ⊤
 
--- The source gave this stream, up to its end, behind which nothing was read; or it isn't whole, since a read failed behind it.
+-- The source gave this stream, up to its end, after which nothing was read; or it isn't whole, since a read failed after it.
 pub record ReadsStream (old new : SourceSeen) (is_whole : Bool) (stream : List ℕ) : Type 0 where
   pub read : Consumes old.left new.left stream
   pub whole : IsWholeAt is_whole new

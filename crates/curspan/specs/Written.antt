@@ -5,20 +5,20 @@ use Rattle.std.specs.Io.KnownBytes.{Appends}
 use Rattle.streams.specs.Counts.{counted, next_count}
 use Rattle.streams.specs.Sinks.{Seen}
 
--- The sink took a front of the text, and not all.
+-- The sink took a prefix of the text, and not all.
 pub record TakesFront (old new : Seen) (text : List ℕ) : Type 0 where
   pub sent : ℕ
   pub within : sent < length text
   pub taken : Appends old.taken new.taken (take sent text)
 
--- The sink took the text, all of it, and the one flush that was tried succeeded behind it. No failure was counted.
+-- The sink took the text, all of it, and the one flush that was tried succeeded after it. No failure was counted.
 pub record IsWritten (old new : Seen) (text : List ℕ) : Type 0 where
   pub taken : Appends old.taken new.taken text
   pub no_failure : new.failures ≡ old.failures
   pub flushes : new.flushes ≡ next_count old.flushes
   pub flushed : new.flushed ≡ true
 
--- The sink took a front of the text, and a write failed; or all of it, and the one flush behind it failed. One failure was counted.
+-- The sink took a prefix of the text, and a write failed; or all of it, and the one flush after it failed. One failure was counted.
 pub record IsNotWritten (old new : Seen) (text : List ℕ) : Type 0 where
   pub sent : ℕ
   pub within : sent ≤ length text

@@ -143,7 +143,7 @@ fn count_line(n: u64) -> ArrayVec<u8, COUNT_ROOM>
     text
 }
 
-/// Writes what stands behind the lines of a report and flushes, and answers whether all of it went out.
+/// Writes what stands after the lines of a report and flushes, and answers whether all of it went out.
 fn end_report<O: Sink>(out: &mut O, checked: Checked) -> bool
     ensures { EndsReport (O.seen out.old) (O.seen out.new) checked.is_whole checked.report result }
 {
@@ -157,7 +157,7 @@ fn end_report<O: Sink>(out: &mut O, checked: Checked) -> bool
     }
 }
 
-/// Reads a script to its end, tells on the output of each faulty line where it is and what is wrong, and behind them how
+/// Reads a script to its end, tells on the output of each faulty line where it is and what is wrong, and after them how
 /// many they are, and answers the status.
 pub fn check<R: Source, O: Sink, L: Sink>(input: &mut R, out: &mut O, log: &mut L) -> u8
     ensures checked { Checks (R.seen input.old) (R.seen input.new) (outputs (O.seen out.old) (L.seen log.old))

@@ -22,13 +22,13 @@ const LONGEST_CURSOR: usize = 2 * MOST_DECIMAL_DIGITS + 9;
 /// The most bytes that say a rendition.
 const LONGEST_RENDITION: usize = 16;
 
-/// Room for what stands behind the lines.
+/// Room for what stands after the lines.
 const ENDING_ROOM: usize = 128;
 
 /// The text of a line of a picture.
 type LineText = ArrayVec<u8, ROOM>;
 
-/// The text behind the lines.
+/// The text after the lines.
 type EndingText = ArrayVec<u8, ENDING_ROOM>;
 
 /// Whether some cell of a line has attributes.
@@ -136,7 +136,7 @@ fn append_cursor(text: &mut EndingText, cursor: Option<(u16, u16)>)
     append(text, b"\n");
 }
 
-/// Puts the signs of a rendition's colours at the end, behind a space, if it has one.
+/// Puts the signs of a rendition's colours at the end, after a space, if it has one.
 fn append_signs(text: &mut EndingText, rendition: Rendition)
     requires { length text.old.items + 3 ≤ ENDING_ROOM }
     ensures text { text.new.items ≡ text.old.items ++ (if has_colour rendition then 32 ∷ signs rendition else []) }
@@ -160,7 +160,7 @@ fn append_rendition(text: &mut EndingText, rendition: Rendition)
     append(text, b"\n");
 }
 
-/// The text behind the lines.
+/// The text after the lines.
 fn ending(cursor: Option<(u16, u16)>, rendition: Rendition) -> EndingText
     ensures { result.items ≡ cursor_text cursor ++ rendition_text rendition }
 {

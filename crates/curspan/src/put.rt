@@ -8,7 +8,7 @@ use streams::{Sink, send};
 /// How many bytes are sent at once.
 const PIECE: usize = 4096;
 
-/// Writes a text, and answers whether all of it went out. If not, a front of it did. It flushes nothing.
+/// Writes a text, and answers whether all of it went out. If not, a prefix of it did. It flushes nothing.
 pub fn put<W: Sink>(sink: &mut W, text: &[u8]) -> bool
     ensures { PuttingEnds result (W.seen sink.old) (W.seen sink.new) text.now }
 {

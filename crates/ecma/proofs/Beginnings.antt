@@ -29,7 +29,7 @@ NoEffect-text byte t other prints = record { each = none } where
   none (Control function parameters) following e is p = absurd (let same : byte ≡ 27 = cc in other same)
   none (Unfinished q) following e is p = absurd (other (escape-first byte q following is e))
 
--- ---- behind an escape
+-- ---- after an escape
 
 pub NoEffect-escape : (byte : ℕ) (t : Terminal) → (byte ≡ 27 → ⊥) → (byte ≡ 91 → ⊥) → NoEffect (27 ∷ byte ∷ []) t
 NoEffect-escape byte t other no_bracket = record { each = none } where
@@ -148,7 +148,7 @@ final-no_separator ED e = omega arith
 final-no_separator EL e = omega arith
 final-no_separator SGR e = omega arith
 
--- behind its first parameter, which a separator ends, a sequence has others
+-- after its first parameter, which a separator ends, a sequence has others
 record Others (qs : List (List ℕ)) (function : Function) (bytes : List ℕ) : Type 0 where
   first : List ℕ
   rest : List (List ℕ)

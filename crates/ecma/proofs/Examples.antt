@@ -32,7 +32,7 @@ begun = record { begun = omega arith; function = CUP; parameters = codes "5" ∷
 unfinished_at_end : IsInProfile (escape ∷ codes "[5") new new
 unfinished_at_end = record { items = Unfinished (escape ∷ codes "[5") ∷ []; splits = ([], refl, begun, tt, refl); have_effect = refl }
 
--- E[5E[2;3Hx puts the x at line 1 and column 2, and the cursor behind it
+-- E[5E[2;3Hx puts the x at line 1 and column 2, and the cursor after it
 restarted : IsInProfile (escape ∷ codes "[5" ++ escape ∷ codes "[2;3Hx") new
     (record {
       picture = replicate 10 shown_blank ∷ (shown_blank ∷ shown_blank ∷ shown_with no_rendition 120 ∷ replicate 7 shown_blank) ∷ replicate 2 (replicate 10 shown_blank);
@@ -91,7 +91,7 @@ right_of_last_column = refl
 
 -- ---- printing
 
--- E[1;10Hx: behind the last column the cursor is unknown
+-- E[1;10Hx: after the last column the cursor is unknown
 in_last_column : effects (Control CUP (codes "1" ∷ codes "10" ∷ []) ∷ Printable 120 ∷ []) new
     ≡ Some (record { picture = (replicate 9 shown_blank ++ shown_with no_rendition 120 ∷ []) ∷ replicate 3 (replicate 10 shown_blank); cursor = None; rendition = no_rendition })
 unfolding new blank_with

@@ -59,7 +59,7 @@ unended-in_profile stream first reader unfinished h begins there =
     subst (λ (bytes : List ℕ). IsInProfile bytes first reader.terminal) (sym h.whole)
     (InProfile-append h.front unfinished first reader.terminal reader.terminal h.in_profile (begun-in_profile unfinished reader.terminal begins) there)
 
--- ---- parameters one behind another
+-- ---- parameters one after another
 
 each-push : {A : Type 0} (P : A → Type 0) (xs : List A) (x : A) → AllByRecursion P xs → P x → AllByRecursion P (xs ++ x ∷ [])
 each-push P [] x h k = (k, tt)
@@ -215,7 +215,7 @@ module _ (t : Terminal) (ended : List Parameter) (current : Parameter) (at start
     is_counted = h.read;
   }
 
-  -- ---- behind an escape
+  -- ---- after an escape
 
   pub escape-follows : Follows (27 ∷ []) (reader_of t Escape ended current at start) (reader_of t Escape ended current (counted (at + 1)) at)
   escape-follows stream first h = broken-off stream first t Escape ended current at start (escape ∷ []) h escape-begins refl

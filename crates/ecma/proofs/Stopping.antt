@@ -8,7 +8,7 @@ use Rattle.ecma.specs.Streams.{FailsAt, IsInProfile, LeadsWithBreaks}
 use Rattle.ecma.proofs.Joining.{bytes_of_some, effects_first, effects-then, effects-append, Splits-append, Splits-then_escape, Splits-ends_then}
 use Rattle.ecma.proofs.Unique.{Splits-front}
 
--- no item at the front of these bytes has an effect on the terminal
+-- no item at the start of these bytes has an effect on the terminal
 pub record NoEffect (bytes : List ℕ) (t : Terminal) : Type 0 where
   pub each : (item : Item) (following : List ℕ) → bytes ≡ bytes_of item ++ following → IsItem item → MayPrecede item following → effect item t ≡ None
 
@@ -41,7 +41,7 @@ FailsAt-rest stream items rest offset first last h e at some none = record {
 
 -- ---- failing at once
 
--- behind items of which the last is finished
+-- after items of which the last is finished
 pub FailsAt-leads : (stream : List ℕ) (byte : ℕ) (first last : Terminal) → LeadsWithBreaks stream first last → NoEffect (byte ∷ []) last → FailsAt (stream ++ byte ∷ []) first (length stream) last
 FailsAt-leads stream byte first last h none =
     FailsAt-rest (stream ++ byte ∷ []) h.items (byte ∷ []) (length stream) first last (Splits-ends_then stream h.items (byte ∷ []) h.splits h.ends_finished) h.have_effect
@@ -61,7 +61,7 @@ record Split (a b c d : List ℕ) : Type 0 where
   long : a ≡ c ++ between
   behind : d ≡ between ++ b
 
--- of two fronts of one text the longer goes on from the shorter
+-- of two prefixes of one text the longer goes on from the shorter
 split : (a b c d : List ℕ) → a ++ b ≡ c ++ d → length c ≤ length a → Split a b c d
 split a b [] d e h = record { between = a; long = refl; behind = sym e }
 split [] b (y ∷ c) d e h = absurd (omega arith)

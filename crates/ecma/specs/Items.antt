@@ -34,7 +34,7 @@ pub data Item : Type 0 where
 abbrev pub escape : ℕ
 escape = 27
 
--- a left bracket behind the escape
+-- a left bracket after the escape
 abbrev pub introducer : List ℕ
 introducer = escape ∷ codes "["
 

@@ -33,7 +33,7 @@ codes_of rendition =
     ++ code_of_colour first_foreground rendition.foreground
     ++ code_of_colour first_background rendition.background
 
--- codes, each behind a separator
+-- codes, each after a separator
 abbrev pub selection : List ℕ → List ℕ
 selection codes = flat_map (λ code. separator ∷ decimal code) codes
 

@@ -9,7 +9,7 @@ use Rattle.ecma.specs.Streams.{FailsAt, IsInProfile, LeadsWithBreaks, showing}
 use Rattle.ecma.specs.declared.terminal.State.{State}
 use Rattle.ecma.specs.declared.terminal.State.TheVariants.{Text, Escape, Parameters, Failed}
 
--- A terminal, and what is kept of the stream: whether it ends in text, behind an escape, within parameters, or has failed; of the
+-- A terminal, and what is kept of the stream: whether it ends in text, after an escape, within parameters, or has failed; of the
 -- parameters those that a separator ended, and the one that goes on; the number of bytes, and the offset of the unfinished item or
 -- of the failure.
 pub record Reader : Type 0 where
@@ -29,7 +29,7 @@ pub record InText (stream : List ℕ) (first : Terminal) (reader : Reader) : Typ
   pub leads : LeadsWithBreaks stream first reader.terminal
   pub read : reader.read ≡ counted (length stream)
 
--- The stream is one in the profile, and an unfinished item behind it.
+-- The stream is one in the profile, and an unfinished item after it.
 pub record Unended (stream : List ℕ) (first : Terminal) (reader : Reader) (unfinished : List ℕ) : Type 0 where
   pub front : List ℕ
   pub in_profile : IsInProfile front first reader.terminal

@@ -10,7 +10,7 @@ ghost use Rattle.ecma.specs.Spelling.{spelling, IsToken, IsItemOf};
 ghost use Rattle.ecma.specs.declared.token.Token.{Token};
 ghost use Rattle.ecma.specs.Streams.{FailsAt, Leads, LeadsWithBreaks, IsInProfile, Reaches};
 
-/// A stream has one row of items at most. Of two rows of items at its front, the one that leaves no more bytes than the other goes on
+/// A stream has one row of items at most. Of two rows of items at its start, the one that leaves no more bytes than the other goes on
 /// from the other, also where items were never finished.
 pub fn one_row_of_items()
     ensures whole { (stream : List ℕ) (items others : List Item) → Splits stream items [] → Splits stream others [] → items ≡ others }

@@ -182,7 +182,7 @@ impl Page {
 }
 
 impl Page {
-    /// Executes the control function that a byte ends, with these parameters and a last one behind them.
+    /// Executes the control function that a byte ends, with these parameters and a last one after them.
     pub fn control(&mut self, byte: u8, ended: &[Parameter], last: Parameter) -> bool
         ensures effect { (digits : List (List ℕ)) → map parameter_of digits ≡ ended.now ++ last ∷ []
             → (if result then Some self.new else None) ≡ option_and_then (λ function. effect (Control function digits) self.old) (function_of byte) }

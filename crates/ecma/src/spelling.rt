@@ -40,7 +40,7 @@ fn append(out: &mut [u8; LONGEST_SPELLING], at: usize, piece: &[u8]) -> usize
     end
 }
 
-/// Writes the spelling of a token to the front of the buffer, and says how many bytes it has.
+/// Writes the spelling of a token to the start of the buffer, and says how many bytes it has.
 #[tactic(auto, unfolding(crate::specs::Spelling::spelling))]
 pub fn spell(token: &Token, out: &mut [u8; LONGEST_SPELLING]) -> usize
     requires { IsToken token.now }
@@ -95,7 +95,7 @@ fn append_codes(out: &mut [u8; LONGEST_SPELLING], at: usize, attr: Attr) -> usiz
     end
 }
 
-/// Appends the code of a colour, where black has the first one, behind a separator. The default has none.
+/// Appends the code of a colour, where black has the first one, after a separator. The default has none.
 fn append_colour(
     out: &mut [u8; LONGEST_SPELLING],
     at: usize,

@@ -24,20 +24,20 @@ pub struct NotInProfile {
 /// Where the bytes read so far end.
 #[derive(Clone, Copy, PartialEq, Eq, Debug)]
 pub enum State {
-    /// Behind an item, or at the start.
+    /// After an item, or at the start.
     Text,
-    /// Behind an escape.
+    /// After an escape.
     Escape,
     /// Within the parameters of a control sequence.
     Parameters,
-    /// Behind the stream's failure.
+    /// After the stream's failure.
     Failed,
 }
 
 /// The escape, which begins control sequences.
 const ESCAPE: u8 = 27;
 
-/// What stands behind the escape of a control sequence.
+/// What stands after the escape of a control sequence.
 const BRACKET: u8 = b'[';
 
 /// What stands between two parameters.
@@ -178,7 +178,7 @@ impl Terminal {
         }
     }
 
-    /// Reads the byte at an offset behind an item.
+    /// Reads the byte at an offset after an item.
     fn read_text(&mut self, at: u64, byte: u8)
         requires state { self.old.state ≡ State.Text }
         requires read { self.old.read ≡ counted (at + 1) }
@@ -193,7 +193,7 @@ impl Terminal {
         }
     }
 
-    /// Reads the byte at an offset behind an escape.
+    /// Reads the byte at an offset after an escape.
     fn read_escaped(&mut self, at: u64, byte: u8)
         requires state { self.old.state ≡ State.Escape }
         requires read { self.old.read ≡ counted (at + 1) }
@@ -240,7 +240,7 @@ impl Terminal {
         }
     }
 
-    /// Reads the separator behind a parameter.
+    /// Reads the separator after a parameter.
     fn read_separator(&mut self)
         requires { self.old.state ≡ State.Parameters }
         ensures { (at : ℕ) → self.old.read ≡ counted (at + 1) → Follows (separator ∷ []) (record self.old { read = at }) self.new }

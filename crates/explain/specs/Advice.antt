@@ -39,12 +39,12 @@ look_up (entry ∷ entries) name = if bytes_eq name entry.0 then Some entry.1 el
 unfoldable pub advice_on : List ℕ → Option Advice
 advice_on = look_up (map (λ entry. (entry.0.now, entry.1)) ADVICE)
 
--- the rest of a word behind these bytes, if it is a call
+-- the rest of a word after these bytes, if it is a call
 abbrev pub call_behind : List ℕ → List ℕ → Option (List ℕ)
 call_behind front word = if bytes_eq (take (length front) word) front && is_some (word_of (drop (length front) word)) then Some (drop (length front) word)
     else None
 
--- what stands for a word of curses that is no call: as the table has it; behind `mv` and `w` a call
+-- what stands for a word of curses that is no call: as the table has it; after `mv` and `w` a call
 abbrev pub call_advice : List ℕ → List ℕ
 call_advice word = option_map_or (λ advice. codes ": " ++ advice_text advice) (advice_on word)
     (option_map_or (λ rest. codes ": see move, " ++ rest) (call_behind (codes "mvw") word)

@@ -11,7 +11,7 @@ use Rattle.script.specs.declared.words.Form.{Form}
 use Rattle.script.specs.declared.fault.TextFault.{TextFault}
 use Rattle.script.specs.declared.fault.TextFault.TheVariants.{LineTooLong, BadByte, UnknownCall, WrongNumberOfArguments, BadArgument}
 
--- ---- the word of a line, and the arguments behind it
+-- ---- the word of a line, and the arguments after it
 
 abbrev pub word_in : List (List ℕ) → List ℕ
 word_in [] = []
@@ -25,7 +25,7 @@ abbrev pub arguments_in : List (List ℕ) → List (List ℕ)
 arguments_in [] = []
 arguments_in (word ∷ pieces) = arguments (forms_of word) pieces
 
--- The first of the arguments begins in this column, and one space is behind each: the column behind as many as there are forms.
+-- The first of the arguments begins in this column, and one space is after each: the column after as many as there are forms.
 abbrev pub column_behind : ℕ → List Form → List (List ℕ) → ℕ
 column_behind column (form ∷ forms) (argument ∷ others) = column_behind (column + length argument + 1) forms others
 column_behind column _ _ = column
@@ -59,7 +59,7 @@ bad_place line = unwrap_or (position is_bad_byte line) 0
 
 -- ---- the column of a fault, from 1
 
--- that of the byte behind the greatest line, of the bad byte, of the word, of the first argument too many or of the one that is missing, and
+-- that of the byte after the greatest line, of the bad byte, of the word, of the first argument too many or of the one that is missing, and
 -- of the argument without its form
 abbrev pub column_of : TextFault → List ℕ → ℕ
 column_of LineTooLong line = LONGEST_LINE + 1

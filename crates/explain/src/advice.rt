@@ -129,7 +129,7 @@ pub fn advice_on(name: &[u8]) -> Option<Advice>
     look_up(&ADVICE, name)
 }
 
-/// The rest of a word behind these bytes, if it is a call.
+/// The rest of a word after these bytes, if it is a call.
 pub fn call_behind<'a>(front: &[u8], word: &'a [u8]) -> Option<&'a [u8]>
     ensures rest { option_map (λ rest. rest.now) result ≡ call_behind front.now word.now }
     ensures short { IfSome result (λ rest. length rest.now ≤ length word.now) }

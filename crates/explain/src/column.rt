@@ -39,7 +39,7 @@ pub fn bad_byte(line: &[u8]) -> u8
     }
 }
 
-/// The column behind as many arguments as there are forms, of which the first begins in a column.
+/// The column after as many arguments as there are forms, of which the first begins in a column.
 fn column_behind(column: usize, forms: &[Form], text: Option<&[u8]>) -> usize
     requires short { IfSome text (λ t. column + length t.now ≤ LONGEST_LINE + 2) }
     ensures { result ≡ column_behind column forms.now (arguments forms.now (pieces_of text.entry)) }

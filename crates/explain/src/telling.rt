@@ -85,7 +85,7 @@ fn append_bad_byte(text: &mut Finding, byte: u8)
     append(text, byte_advice(byte));
 }
 
-/// Puts at the end a call that stands for a word, behind what is said of it.
+/// Puts at the end a call that stands for a word, after what is said of it.
 fn append_call(text: &mut Finding, said: &[u8], call: &[u8])
     requires { length text.old.items + length said.now + length call.now ≤ FINDING_ROOM }
     ensures { text.new.items ≡ text.old.items ++ (said.now ++ call.now) }

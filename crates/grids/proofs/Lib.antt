@@ -1,15 +1,30 @@
+-- one slot changed, for set_settings, mvwin, fill, mark and unmark
 pub mod Changes
+-- that windows are sound, for is_sound
 pub mod Sounds
+-- that a row is one write, for fill and copy_cells
 pub mod Writes
+-- a window shifted in its parent, for mvderwin
 pub mod Shifts
+-- a window given up, for delwin
 pub mod Deletion
+-- a window added, for newwin, newpad and derive
 pub mod NewWindows
+-- the cells that a window shows, for cell and row
 pub mod Showing
+-- copies cell by cell, for copy_row and overlay_cells
 pub mod Copies
+-- the rectangle of a copy, for copy_row, overlay_cells and copy_lines
 pub mod CopyFrames
-pub mod Lines
+-- copies line by line, for copy_lines and copy_rectangle
+pub mod LineCopies
+-- a window touched line by line, for touch_shown
 pub mod Touches
-pub mod Walks
+-- the ancestors of a window, for derives, hand_up and take_down
+pub mod Ancestors
+-- what is handed on from parent to parent, for hand_up and take_down
 pub mod Syncs
+-- the places that two windows share, for seen_in
 pub mod Shared
+-- that they are a rectangle, for seen_in
 pub mod Seen

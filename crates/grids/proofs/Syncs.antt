@@ -22,7 +22,7 @@ use Rattle.grids.specs.steps.Syncs.{EndsWithin, has_column, is_touched_at, part_
 use Rattle.slots.proofs.Chain.{from_parent, no_parent}
 use Rattle.grids.proofs.Shared.{shared-in, from-shared}
 use Rattle.grids.proofs.Touches.{changed-here, changed-nothing, changed-other, changed-same, changed-twice, touching-is, touching-none}
-use Rattle.grids.proofs.Walks.{Walk, Walk-start, Walk-step, ancestors-none, ancestors-parent, behind-none, behind-some, sound-there}
+use Rattle.grids.proofs.Ancestors.{Walk, Walk-start, Walk-step, ancestors-none, ancestors-parent, behind-none, behind-some, sound-there}
 
 -- ---- the test by numbers
 

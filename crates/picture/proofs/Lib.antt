@@ -1,13 +1,26 @@
+-- places that a window's rectangle holds, for cell_found and compose_row
 pub mod Held
+-- where a window stands, for shared_part
 pub mod Standing
+-- the part of the screen that shows cells of another window, for shared_part
 pub mod PartLaws
+-- that a visible panel is there, for is_visible
 pub mod VisiblePanels
+-- that the standard screen holds each place, for cell_found and show_damaged
 pub mod Standard
+-- the search along a line, for owner_span and cell_found
 pub mod Searching
+-- a line made run by run, for compose_row
 pub mod Runs
+-- the search from the bottom, for find_owners
 pub mod OwnerLaws
+-- counts that grow, for compose_row and show_damaged
 pub mod Counting
+-- a picture made line by line, for show_damaged and compose_row
 pub mod Lines
+-- a piece of a row, for piece
 pub mod RowPieces
+-- what steps do to the damage, for Damage::rectangle and compose's calls
 pub mod DamageLaws
+-- damaged lines composed one by one, for show_damaged
 pub mod Composing

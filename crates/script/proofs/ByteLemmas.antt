@@ -197,7 +197,7 @@ any_joined front behind b f e h = rw (list_any-append is_newline front (b ∷ be
 more_bytes : (unused bytes more front left : List ℕ) (b : ℕ) → unused ++ bytes ≡ front ++ b ∷ left → unused ++ (bytes ++ more) ≡ front ++ b ∷ (left ++ more)
 more_bytes unused bytes more front left b e = sym (append_assoc unused bytes more) ∙ ap (λ l. l ++ more) e ∙ append_assoc front (b ∷ left) more
 
--- what the bytes behind those of a line that is too long come to
+-- what the bytes after those of a line that is too long come to
 joined_ends : (end : LineEnd) (unused bytes more front left rest line : List ℕ) (b : ℕ) → unused ++ bytes ≡ front ++ b ∷ left → EndsLine end (left ++ more) line rest
     → EndsLine end (unused ++ (bytes ++ more)) (front ++ b ∷ line) rest
 joined_ends Newline unused bytes more front left rest line b e h = more_bytes unused bytes more front left b e ∙ ap (λ l. front ++ b ∷ l) h ∙ sym (append_assoc front (b ∷ line) (newline ∷ rest))

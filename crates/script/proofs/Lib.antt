@@ -1,7 +1,14 @@
+-- a text read a character at a time, for read_text
 pub mod TextLemmas
+-- a word looked for in its row, for find_named and words_like
 pub mod WordLemmas
+-- that each word is found, for Word::of and each_word_is_read
 pub mod WordLaws
+-- digits and their number, for digits_value
 pub mod NumberLemmas
+-- the pieces of a line, for split_at_space
 pub mod LineLemmas
+-- arguments one after another, for take_all and next_argument
 pub mod ArgumentLemmas
+-- a line gathered a byte at a time, for next_line and skip_line
 pub mod ByteLemmas

@@ -51,7 +51,7 @@ fault_text UnknownCall = codes "unknown call"
 fault_text WrongNumberOfArguments = codes "wrong number of arguments"
 fault_text BadArgument = codes "bad argument"
 
--- the last line of the log, behind those of the calls, for the fault that ended a script
+-- the last line of the log, after those of the calls, for the fault that ended a script
 abbrev pub last_line : ScriptFault → List ℕ
 last_line (Text line fault) = numbered_line line (fault_text fault)
 last_line Reading = codes "reading failed" ++ newline ∷ []

@@ -25,7 +25,7 @@ is_text Flag = false
 is_text Character = true
 is_text Text = true
 
--- The arguments as they stand behind the word. A text takes all pieces that are left, joined again.
+-- The arguments as they stand after the word. A text takes all pieces that are left, joined again.
 abbrev pub arguments : List Form → List (List ℕ) → List (List ℕ)
 arguments [] pieces = pieces
 arguments (form ∷ forms) [] = []
@@ -73,13 +73,13 @@ ends_with fault = record { calls = []; fault = fault }
 abbrev pub next_number : ℕ → ℕ
 next_number n = min (n + 1) (2 ^ 64 - 1)
 
--- the reading of a line with its number and of the others behind it
+-- the reading of a line with its number and of the others after it
 abbrev pub before_others : ℕ → Result (Option Call) TextFault → Reading → Reading
 before_others n (Err fault) others = ends_with (Some (Text_fault n fault))
 before_others n (Ok None) others = others
 before_others n (Ok (Some call)) others = record { calls = (n, call) ∷ others.calls; fault = others.fault }
 
--- The bytes behind the last newline, where a read failed behind them: they are no line.
+-- The bytes after the last newline, where a read failed after them: they are no line.
 abbrev pub cut_rest : ℕ → List ℕ → Reading
 cut_rest n rest = ends_with (Some (if nat_lt LONGEST_LINE (length rest) then Text_fault n LineTooLong else Reading_fault))
 
@@ -89,6 +89,6 @@ reading_of failed n [] = ends_with None
 reading_of true n (rest ∷ []) = cut_rest n rest
 reading_of failed n (line ∷ lines) = before_others n (said_by_line line) (reading_of failed (next_number n) lines)
 
--- The reading of a script whose bytes these are. A read failed behind them, or they are all.
+-- The reading of a script whose bytes these are. A read failed after them, or they are all.
 abbrev pub reading : Bool → List ℕ → Reading
 reading failed text = reading_of failed 1 (slice_split is_newline text)

@@ -26,7 +26,7 @@ number_up_to most piece =
 abbrev pub number_or_none : List ℕ → Option (Option ℕ)
 number_or_none piece = if bytes_eq piece (codes "none") then Some None else option_map Some (number_up_to GREATEST_NUMBER piece)
 
--- the number with a minus in front of it, which 0 has not
+-- the number with a minus before it, which 0 has not
 abbrev pub negative : ℕ → Option ℤ
 negative n = if n == 0 then None else Some (pos 0 -ℤ pos n)
 
@@ -53,7 +53,7 @@ abbrev pub flag_of : List ℕ → Option Bool
 flag_of piece = if bytes_eq piece (codes "on") then Some true
     else (if bytes_eq piece (codes "off") then Some false else None)
 
--- the character that a letter behind a backslash stands for
+-- the character that a letter after a backslash stands for
 abbrev pub escaped_character : ℕ → Option ℕ
 escaped_character letter = if letter == letter_n then Some newline
     else (if letter == letter_r then Some carriage_return
@@ -67,13 +67,13 @@ abbrev mutual
   text_of [] = Some []
   text_of (b ∷ bs) = if b == backslash then after_backslash bs else option_map (λ text. b ∷ text) (text_of bs)
 
-  -- behind a backslash
+  -- after a backslash
   pub after_backslash : List ℕ → Option (List ℕ)
   after_backslash [] = None
   after_backslash (b ∷ bs) = if b == letter_x then after_x bs
       else option_and_then (λ c. option_map (λ text. c ∷ text) (text_of bs)) (escaped_character b)
 
-  -- behind `\x`
+  -- after `\x`
   pub after_x : List ℕ → Option (List ℕ)
   after_x [] = None
   after_x (high ∷ []) = None

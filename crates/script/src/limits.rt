@@ -12,7 +12,7 @@ pub const MOST_DIGITS: usize = 5;
 /// The greatest number.
 pub const GREATEST_NUMBER: u16 = 65535;
 
-/// The greatest number that may have a minus in front of it.
+/// The greatest number that may have a minus before it.
 pub const GREATEST_SIGNED: u16 = 32767;
 
 /// The greatest set of attributes: all six.

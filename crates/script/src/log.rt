@@ -95,7 +95,7 @@ fn end_line(line: LogLine, text: &[u8]) -> LogLine
     line
 }
 
-/// The line behind those of the calls, for the fault that ended a script.
+/// The line after those of the calls, for the fault that ended a script.
 pub fn last_line(fault: ScriptFault) -> LogLine
     ensures { result.items ≡ last_line fault }
 {
@@ -112,7 +112,7 @@ pub fn last_line(fault: ScriptFault) -> LogLine
     }
 }
 
-/// Writes the line of a call that answers something or is refused, and nothing for another. An error leaves a front of the
+/// Writes the line of a call that answers something or is refused, and nothing for another. An error leaves a prefix of the
 /// line, and not all. Nothing is flushed.
 pub fn log_answer<L: Sink>(
     log: &mut L,

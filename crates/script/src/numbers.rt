@@ -66,7 +66,7 @@ pub fn number_or_none(piece: &[u8]) -> Option<Option<u16>>
     }
 }
 
-/// The number with a minus in front of it, which 0 has not.
+/// The number with a minus before it, which 0 has not.
 fn negative(n: u16) -> Option<i16>
     requires { n ≤ GREATEST_SIGNED }
     ensures { result ≡ negative n }

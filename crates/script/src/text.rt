@@ -20,7 +20,7 @@ fn escaped_character(letter: u8) -> Option<u8>
     }
 }
 
-/// The character of two hexadecimal digits, and what stands behind them.
+/// The character of two hexadecimal digits, and what stands after them.
 fn hex_character(digits: &[u8]) -> Option<(u8, &[u8])>
     ensures text { after_x digits.now ≡ option_and_then (λ p. option_map (λ text. p.0 ∷ text) (text_of p.1.now)) result }
     ensures shorter { IfSome result (λ p. length p.1.now < length digits.now) }
@@ -31,7 +31,7 @@ fn hex_character(digits: &[u8]) -> Option<(u8, &[u8])>
     Some((character, rest))
 }
 
-/// The first character of a text that is not empty, and what stands behind it.
+/// The first character of a text that is not empty, and what stands after it.
 fn first_character(piece: &[u8]) -> Option<(u8, &[u8])>
     requires { 0 < length piece.now }
     ensures text { text_of piece.now ≡ option_and_then (λ p. option_map (λ text. p.0 ∷ text) (text_of p.1.now)) result }
@@ -49,7 +49,7 @@ fn first_character(piece: &[u8]) -> Option<(u8, &[u8])>
     Some((character, rest))
 }
 
-/// Puts the characters of a text in place of what was there, and answers whether each backslash has behind it what it
+/// Puts the characters of a text in place of what was there, and answers whether each backslash has after it what it
 /// needs.
 pub fn read_text(piece: &[u8], text: &mut ArrayVec<u8, LONGEST_LINE>) -> bool
     requires { length piece.now ≤ LONGEST_LINE }

@@ -39,7 +39,7 @@ module _ (slots : List (Option Kept)) where
       ap (λ m. free_among m k (window_map slots)) (left k lt)
       ∙ found (window_limit - (k + 1)) k (window_map slots) (window_map slots k) (is_none-window (slot_at slots k) ∙ h)
 
-  -- the number behind the last slot
+  -- the number after the last slot
   pub search-behind : length slots < MOST_WINDOWS + 1 → search_from (length slots) ≡ Some (length slots)
   search-behind lt = search-here (length slots) lt (ap (λ (o : Option Kept). is_none o) (get_or_past slots (length slots) None (omega arith)))
 

@@ -88,7 +88,7 @@ fn names_parent(slot: &Option<Slot>, win: u16) -> bool
     }
 }
 
-/// The least free number from 1 on: that of an empty slot, or the one behind the last slot.
+/// The least free number from 1 on: that of an empty slot, or the one after the last slot.
 pub fn free_number(slots: &[Option<Slot>]) -> Option<u16>
     requires some { 0 < length slots.now }
     requires few { length slots.now ≤ MOST_WINDOWS + 1 }
@@ -107,7 +107,7 @@ pub fn free_number(slots: &[Option<Slot>]) -> Option<u16>
     }
 }
 
-/// Puts a window into an empty slot, or into a new one behind the last.
+/// Puts a window into an empty slot, or into a new one after the last.
 pub fn fill_slot_at(slots: &mut Vec<Option<Slot>>, at: u16, slot: Slot) -> Result<(), AllocError>
     requires free { IsFree slots.old.items at }
     requires few { length slots.old.items ≤ MOST_WINDOWS + 1 }

@@ -29,7 +29,7 @@ module _ (nodes : List Node) (order : List ℕ) (h : IsThreaded nodes order) whe
   pub out-end : IsOut 0 order
   out-end = out-each (λ q. 0 < q) 0 (λ lt. omega arith) order positive
 
-  -- no more than there are nodes behind the end
+  -- no more than there are nodes after the end
   pub few : 0 < length nodes → length order < length nodes
   few some =
       let each = each-weaker (IsPanel nodes) (λ q. q < length nodes) (panel-below nodes) order h.panels in

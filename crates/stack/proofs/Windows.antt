@@ -80,7 +80,7 @@ threaded-windowed old new p o windowed order some h =
           (windowed.above q ∙ alone.0, windowed.below q ∙ alone.1);
     }
 
--- ---- a node behind the last
+-- ---- a node after the last
 
 module _ (nodes : List Node) (node : Node) where
   pub node-below : (q : ℕ) → q < length nodes → node_at (nodes ++ node ∷ []) q ≡ node_at nodes q

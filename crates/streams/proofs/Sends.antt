@@ -32,7 +32,7 @@ Appends-keeps (Some x) None c s h k = absurd h
 Appends-keeps (Some x) (Some y) None s h k = absurd k
 Appends-keeps (Some x) (Some y) (Some z) s h k = k ∙ h
 
--- a front of a piece went out, and the rest didn't yet
+-- a prefix of a piece went out, and the rest didn't yet
 pub record IsPartlySent (old new : Seen) (sent : ℕ) (piece rest : List ℕ) (total : ℕ) : Type 0 where
   pub front : List ℕ
   pub whole : piece ≡ front ++ rest

@@ -6,13 +6,13 @@ use Rattle.streams.specs.declared.sending.WriteFault.{WriteFault}
 use Rattle.streams.specs.Counts.{next_count}
 use Rattle.streams.specs.Sinks.{Seen}
 
--- At Ok, with the number of all bytes, the sink took the text; at Err it took a front of it, not all, and counted one failure.
+-- At Ok, with the number of all bytes, the sink took the text; at Err it took a prefix of it, not all, and counted one failure.
 abbrev pub SendingEnds : Seen → Seen → ℕ → List ℕ → Result ℕ WriteFault → Type 0
 SendingEnds old new sent text (Ok total) = (total ≡ sent + length text) × Appends old.taken new.taken text × (new.failures ≡ old.failures)
 SendingEnds old new sent text (Err fault) =
     (taken : ℕ) × (taken < length text) × (fault.sent ≡ sent + taken) × Appends old.taken new.taken (take taken text) × (new.failures ≡ next_count old.failures)
 
--- behind `sent` bytes a text was sent, and nothing was flushed
+-- after `sent` bytes a text was sent, and nothing was flushed
 pub record Sends (old new : Seen) (sent : ℕ) (text : List ℕ) (result : Result ℕ WriteFault) : Type 0 where
   pub ends : SendingEnds old new sent text result
   pub flushes : new.flushes ≡ old.flushes

@@ -3,7 +3,7 @@
 use Rattle.std.specs.Prelude.{ℕ, List, Bool, true, Option, Result, Ok, Err, if◌then◌else◌}
 use Rattle.streams.specs.Counts.{moved_nothing}
 
--- The bytes that are left, where they are known, whether a read met the end, whether another came behind that, how many failures
+-- The bytes that are left, where they are known, whether a read met the end, whether another came after that, how many failures
 -- were counted, and after how many reads each further one fails.
 pub record SourceSeen : Type 0 where
   pub left : Option (List ℕ)

@@ -18,7 +18,7 @@ pub trait Sink {
     // Which sink it is: of two lent ones with one name, both are the same borrow. What isn't lent has none.
     ghost name: { Self → ℕ } = { λ s. 0 };
 
-    /// Takes a front of the piece, and says how long it is.
+    /// Takes a prefix of the piece, and says how long it is.
     fn write(&mut self, piece: &[u8]) -> io::Result<usize>
         ensures bound { WritesAtMost result piece.now }
         ensures bytes { WriteAppends (seen self.old).taken (seen self.new).taken result piece.now }

@@ -14,7 +14,7 @@ pub trait Source {
     // What is left of it, whether its end was met and read past, how often it failed, and how many reads are left.
     ghost seen: { Self → SourceSeen };
 
-    /// Puts the next bytes at the front of the buffer, and says how many. An answer of 0 for a buffer that isn't empty
+    /// Puts the next bytes at the start of the buffer, and says how many. An answer of 0 for a buffer that isn't empty
     /// is the end.
     fn read(&mut self, buffer: &mut [u8]) -> io::Result<usize>
         ensures bound { ReadsAtMost result buffer.new }

@@ -130,7 +130,7 @@ fn clear_done(desk: &mut Desk) {
     desk.clear_done();
 }
 
-/// What is composed once the characters are written, where the cursor was wanted before and behind it, and whether the screen shows them.
+/// What is composed once the characters are written, where the cursor was wanted before and after it, and whether the screen shows them.
 #[derive(Clone, Copy)]
 struct Taken {
     composed: Composed,

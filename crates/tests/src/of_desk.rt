@@ -50,7 +50,7 @@ pub(crate) const UPDATE: [Call<'static>; 2] = [
     Call::Refresh(Refresh::Doupdate),
 ];
 
-/// The text of a screen that shows `hi` at its top, with the cursor behind it.
+/// The text of a screen that shows `hi` at its top, with the cursor after it.
 pub(crate) const HI: &[u8] = b"\x1b[0m\x1b[2J\x1b[1;1Hhi";
 
 pub(crate) fn screen(

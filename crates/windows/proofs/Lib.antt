@@ -1,12 +1,24 @@
+-- the drawings of calls, made of writes of one line, for clear_all, clear_below, move_up and move_down
 pub mod Strokes
+-- the rectangles of the drawings, for the frames that calls answer
 pub mod Rectangles
+-- what a window of a known state keeps, for state_of and what writes a line
 pub mod States
-pub mod Steps
+-- one more write of a line, for clear_below, clear_rest, insert_cell, delete_cell, move_up and move_down
+pub mod NextWrites
+-- what calls make of a window of a known state, for the calls that edit and the copies
 pub mod Calls
+-- one character, for waddch and type_next
 pub mod Typing
+-- one character after another, for type_text
 pub mod Texts
+-- a run of characters that stay inside a line is one drawing, for type_text
 pub mod Runs
+-- settings changed, for the calls that set
 pub mod OptionLemmas
+-- the lines of a region, for scroll
 pub mod Scrolls
+-- two small windows worked out, for a reader of the definitions
 pub mod Examples
+-- the places that two windows cover, for copy_common
 pub mod CommonParts

@@ -85,7 +85,7 @@ impl Windows {
     }
 }
 
-/// Whether of so many lines or columns there are some more behind one.
+/// Whether of so many lines or columns there are some more after one.
 fn has_behind(all: u16, first: u16, more: u16) -> bool
     ensures { result ≡ nat_lt (first + more) all }
 {

@@ -36,7 +36,7 @@ pub fn insert_cell(table: &mut Grids, win: WinId, state: &WindowState, y: u16, x
     table.fill(win, y, x, x, cell);
 }
 
-/// Deletes a cell: those behind its column go one column left, and the last is set to the background.
+/// Deletes a cell: those after its column go one column left, and the last is set to the background.
 pub fn delete_cell(table: &mut Grids, win: WinId, state: &WindowState, y: u16, x: u16)
     requires state { IsStateOf (windows table.old) win.0 state.now }
     requires line { y < state.now.lines }

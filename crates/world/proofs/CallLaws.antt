@@ -22,9 +22,9 @@ use Rattle.world.proofs.StackingLaws.{IsOrdered, found-order, ordered-stacking}
 use Rattle.world.specs.declared.call.Call.{Call}
 use Rattle.world.specs.declared.call.Call.TheVariants as calls
 use Rattle.world.specs.declared.call.Copying.{Copying}
-use Rattle.world.specs.declared.call.Copying.TheVariants.{Overlay, Overwrite, Copywin, Touchwin, Untouchwin, Touchline, Touchln, Syncup, Syncdown, IsLinetouched, IsWintouched}
+use Rattle.world.specs.declared.call.Copying.TheVariants.{Overlay}
 use Rattle.world.specs.declared.call.Refresh.{Refresh}
-use Rattle.world.specs.declared.call.Refresh.TheVariants.{Noutrefresh, Pnoutrefresh, UpdatePanels, Doupdate, InitPair}
+use Rattle.world.specs.declared.call.Refresh.TheVariants.{Noutrefresh, UpdatePanels}
 
 -- ---- what each effect wants, which the tests of its call give
 
@@ -37,23 +37,11 @@ IsReady world (colours pair foreground background) = ⊤
 
 allowed-copying : (windows : Windows) (panels : Panels) (copying : Copying) → IsAllowed windows panels (copying_change windows copying)
 allowed-copying windows panels (Overlay src dst) = tt
-allowed-copying windows panels (Overwrite src dst) = tt
-allowed-copying windows panels (Copywin src dst sminrow smincol dminrow dmincol dmaxrow dmaxcol overlay) = tt
-allowed-copying windows panels (Touchwin win) = tt
-allowed-copying windows panels (Untouchwin win) = tt
-allowed-copying windows panels (Touchline win y n) = tt
-allowed-copying windows panels (Touchln win y n flag) = tt
-allowed-copying windows panels (Syncup win) = tt
-allowed-copying windows panels (Syncdown win) = tt
-allowed-copying windows panels (IsLinetouched win y) = tt
-allowed-copying windows panels (IsWintouched win) = tt
+allowed-copying windows panels _ = tt
 
 ready-refresh : (world : World) (refresh : Refresh) → IsReady world (refresh_effect world refresh)
 ready-refresh world (Noutrefresh win) = tt
-ready-refresh world (Pnoutrefresh pad pminrow pmincol sminrow smincol smaxrow smaxcol) = tt
-ready-refresh world UpdatePanels = tt
-ready-refresh world Doupdate = tt
-ready-refresh world (InitPair pair foreground background) = tt
+ready-refresh world _ = tt
 
 pub ready : (world : World) (call : Call) → refusal world call ≡ None → IsReady world (effect_of world call)
 ready world (calls.Making making) accepted = allowed-making world.windows world.panels making accepted
@@ -86,16 +74,9 @@ is_composing shows = false
 is_composing (colours pair foreground background) = false
 
 composing : (world : World) (call : Call) → is_composing (effect_of world call) ≡ is_update_panels call
-composing world (calls.Making making) = refl
-composing world (calls.Writing writing) = refl
-composing world (calls.Copying copying) = refl
-composing world (calls.Query query) = refl
-composing world (calls.Stacking stacking) = refl
-composing world (calls.Refresh (Noutrefresh win)) = refl
-composing world (calls.Refresh (Pnoutrefresh pad pminrow pmincol sminrow smincol smaxrow smaxcol)) = refl
 composing world (calls.Refresh UpdatePanels) = refl
-composing world (calls.Refresh Doupdate) = refl
-composing world (calls.Refresh (InitPair pair foreground background)) = refl
+composing world (calls.Refresh _) = refl
+composing world _ = refl
 
 module _ (world : World) (y x : ℕ) (below : y < world.windows.lines) (left : x < world.windows.columns) where
   laid-nothing : (pairs : Pairs) (o : Option Glyph) (before : Shown) → is_some o ≡ false → option_map_or (shown pairs) o before ≡ before

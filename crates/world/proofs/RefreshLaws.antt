@@ -11,7 +11,7 @@ use Rattle.world.specs.calls.Dispatch.{world_after}
 use Rattle.world.specs.calls.Refresh.{among_lines}
 use Rattle.world.specs.declared.call.Call.TheVariants as calls
 use Rattle.world.specs.declared.call.Refresh.{Refresh}
-use Rattle.world.specs.declared.call.Refresh.TheVariants.{Noutrefresh, Pnoutrefresh, UpdatePanels, Doupdate, InitPair}
+use Rattle.world.specs.declared.call.Refresh.TheVariants.{Noutrefresh, Pnoutrefresh, UpdatePanels}
 use Rattle.world.proofs.ViewLaws.{SameCells, backing_of, changed-cells, found-dressed, outline_of, place-same, same-if}
 
 module _ (window : WindowMap) (ws : List ℕ) where
@@ -47,5 +47,4 @@ found-refresh world (Noutrefresh win) y x = found-lines world.windows win.0 (λ 
 found-refresh world (Pnoutrefresh pad pminrow pmincol sminrow smincol smaxrow smaxcol) y x =
     found-lines world.windows pad.0 (among_lines pminrow (smaxrow - sminrow + 1)) world.panels y x
 found-refresh world UpdatePanels y x = found-unmarked world.windows.window (composed_windows world) world.panels y x
-found-refresh world Doupdate y x = refl
-found-refresh world (InitPair pair foreground background) y x = refl
+found-refresh world _ y x = refl

@@ -108,7 +108,7 @@ module _ (window : WindowMap) (w : ℕ) (r : Rect) (u : ℕ) where
               ∙ true-same (onward (q.line + y - p.line) (q.column + x - p.column) p) (onward y x q) (record { grid = h.grid; line = line; column = column })),
         )
 
-    -- the first line and column, and the first ones behind them that aren't shared
+    -- the first line and column, and the first ones after them that aren't shared
     first_line : ℕ
     first_line = p.line + r.top - q.line
 

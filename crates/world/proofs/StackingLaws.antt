@@ -18,7 +18,7 @@ use Rattle.world.specs.calls.Stacking.{stacking_order, stacking_refusal, without
 use Rattle.world.proofs.Allowed.{IsAllowed, passed, sound-panel}
 use Rattle.world.proofs.MoveLaws.{cell-placed, found-change, holds-placed}
 use Rattle.world.specs.declared.call.Stacking.{Stacking}
-use Rattle.world.specs.declared.call.Stacking.TheVariants.{NewPanel, DelPanel, ShowPanel, HidePanel, TopPanel, BottomPanel, MovePanel, ReplacePanel, PanelAbove, PanelBelow, PanelWindow, PanelHidden}
+use Rattle.world.specs.declared.call.Stacking.TheVariants.{NewPanel, DelPanel, ShowPanel, HidePanel, TopPanel, BottomPanel, MovePanel, ReplacePanel}
 
 -- ---- a search that passes the panel p by
 
@@ -184,10 +184,7 @@ ordered-stacking windows panels (BottomPanel panel) accepted =
     (without-itself panel.0 (without panel.0 panels.visible) ∙ without-twice panel.0 panels.visible, λ q other. refl)
 ordered-stacking windows panels (MovePanel panel line column) accepted = (passed (is_none (panels.window panel.0)) _ _ accepted).0
 ordered-stacking windows panels (ReplacePanel panel win) accepted = (refl, given-other panel.0 panels.window (Some win.0))
-ordered-stacking windows panels (PanelAbove panel) accepted = tt
-ordered-stacking windows panels (PanelBelow panel) accepted = tt
-ordered-stacking windows panels (PanelWindow panel) accepted = tt
-ordered-stacking windows panels (PanelHidden panel) accepted = tt
+ordered-stacking windows panels _ accepted = tt
 
 -- ---- each effect
 

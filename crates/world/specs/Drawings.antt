@@ -29,7 +29,7 @@ abbrev pub character_inserted : WindowMap → ℕ → Place → Glyph → Drawin
 character_inserted window w place glyph y x =
     if y == place.0 && nat_le place.1 x then Some (if x == place.1 then glyph else cell_at window w y (x - 1)) else None
 
--- the cells behind a place one column left, and a cell in the last column
+-- the cells after a place one column left, and a cell in the last column
 abbrev pub character_deleted : WindowMap → ℕ → Place → ℕ → Glyph → Drawing
 character_deleted window w place last glyph y x =
     if y == place.0 && nat_le place.1 x then Some (if x == last then glyph else cell_at window w y (x + 1)) else None

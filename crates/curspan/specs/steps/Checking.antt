@@ -21,12 +21,12 @@ finding_of_read number line true ReadFailed = []
 finding_of_read number line true Newline = finding_of number line (said_by_line line)
 finding_of_read number line true ScriptEnd = finding_of number line (said_by_line line)
 
--- These lines were put out, all of them or a front, and counted.
+-- These lines were put out, all of them or a prefix, and counted.
 pub record IsReported (old new : Seen) (report : Report) (lines : List (List ℕ)) : Type 0 where
   pub put : PuttingEnds report.is_written old new (flat_map (λ line. line) lines)
   pub faulty : report.faulty ≡ count_of lines
 
--- Behind what was reported some lines are, too.
+-- After what was reported some lines are, too.
 abbrev pub ReportsMore : Seen → Seen → Report → Report → List (List ℕ) → Type 0
 ReportsMore old new before after lines =
     (first : Seen) (reported : List (List ℕ)) → IsReported first old before reported → IsReported first new after (reported ++ lines)

@@ -5,7 +5,7 @@ use Rattle.streams.specs.Counts.{counted}
 use Rattle.streams.specs.Sinks.{Seen}
 use Rattle.curspan.specs.Written.{TakesFront}
 
--- Some bytes were put out, all of them or, where a write failed, a front of them. Nothing was flushed.
+-- Some bytes were put out, all of them or, where a write failed, a prefix of them. Nothing was flushed.
 pub record PuttingEnds (written : Bool) (old new : Seen) (bytes : List ℕ) : Type 0 where
   pub taken : written ≡ true → Appends old.taken new.taken bytes
   pub cut : written ≡ false → TakesFront old new bytes

@@ -24,7 +24,7 @@ abbrev pub byte_failed : Next → Bool
 byte_failed Failed = true
 byte_failed _ = false
 
--- The source gave some bytes, behind those that were not used. The first of all is the next byte.
+-- The source gave some bytes, after those that were not used. The first of all is the next byte.
 abbrev pub ReadsByte : SourceSeen → SourceSeen → List ℕ → List ℕ → Next → Type 0
 ReadsByte old new unused left (Byte b) = (bytes : List ℕ) × Consumes old.left new.left bytes × (unused ++ bytes ≡ b ∷ left)
 ReadsByte old new unused left End = (unused ≡ []) × (left ≡ []) × Consumes old.left new.left [] × IsAtEnd new.left
@@ -34,7 +34,7 @@ ReadsByte old new unused left Failed = (unused ≡ []) × (left ≡ []) × Consu
 abbrev pub work_left : SourceSeen → List ℕ → ℕ
 work_left seen unused = (LONGEST_PIECE + 1) * seen.reads_left + length unused
 
--- How a reading ends: that it met the end is remembered, where the end was not met before nothing was read behind it, that the reading
+-- How a reading ends: that it met the end is remembered, where the end was not met before nothing was read after it, that the reading
 -- failed is counted, and where it continues less is left.
 pub record ReadingEnds (old new : SourceSeen) (unused left : List ℕ) (meets_end fails continues : Bool) : Type 0 where
   pub ended : new.met_end ≡ (meets_end || old.met_end)
@@ -46,7 +46,7 @@ pub record ReadingEnds (old new : SourceSeen) (unused left : List ℕ) (meets_en
 abbrev pub HasNoNewline : List ℕ → Type 0
 HasNoNewline piece = list_any is_newline piece ≡ false
 
--- ---- what stands behind a line
+-- ---- what stands after a line
 
 abbrev pub has_newline : LineEnd → Bool
 has_newline Newline = true

@@ -58,7 +58,7 @@ fn reads_a_stream(rt: HostRuntime) -> Result<(), Fail> {
     Ok(())
 }
 
-/// The fault of a terminal behind some more bytes.
+/// The fault of a terminal after some more bytes.
 fn feed(terminal: &mut Terminal, bytes: &[u8]) -> Option<NotInProfile> {
     terminal.feed(bytes);
     terminal.fault()

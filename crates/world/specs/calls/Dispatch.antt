@@ -16,7 +16,7 @@ use Rattle.cell.specs.declared.refusal.Refusal.{Refusal}
 use Rattle.cell.specs.declared.window.Rect.{Rect}
 use Rattle.world.specs.declared.call.Call.{Call}
 use Rattle.world.specs.declared.call.Call.TheVariants as calls
-use Rattle.world.specs.declared.call.Refresh.TheVariants.{Noutrefresh, Pnoutrefresh, UpdatePanels, Doupdate, InitPair}
+use Rattle.world.specs.declared.call.Refresh.TheVariants.{UpdatePanels, Doupdate}
 use Rattle.world.specs.declared.call.Reply.{Reply}
 
 -- ---- two rows
@@ -62,25 +62,9 @@ call_frame world call = effect_frame world.windows (effect_of world call)
 -- ---- kinds of calls
 
 abbrev pub is_doupdate : Call → Bool
-is_doupdate (calls.Making making) = false
-is_doupdate (calls.Writing writing) = false
-is_doupdate (calls.Copying copying) = false
-is_doupdate (calls.Query query) = false
-is_doupdate (calls.Stacking stacking) = false
-is_doupdate (calls.Refresh (Noutrefresh win)) = false
-is_doupdate (calls.Refresh (Pnoutrefresh pad pminrow pmincol sminrow smincol smaxrow smaxcol)) = false
-is_doupdate (calls.Refresh UpdatePanels) = false
 is_doupdate (calls.Refresh Doupdate) = true
-is_doupdate (calls.Refresh (InitPair pair foreground background)) = false
+is_doupdate call = false
 
 abbrev pub is_update_panels : Call → Bool
-is_update_panels (calls.Making making) = false
-is_update_panels (calls.Writing writing) = false
-is_update_panels (calls.Copying copying) = false
-is_update_panels (calls.Query query) = false
-is_update_panels (calls.Stacking stacking) = false
-is_update_panels (calls.Refresh (Noutrefresh win)) = false
-is_update_panels (calls.Refresh (Pnoutrefresh pad pminrow pmincol sminrow smincol smaxrow smaxcol)) = false
 is_update_panels (calls.Refresh UpdatePanels) = true
-is_update_panels (calls.Refresh Doupdate) = false
-is_update_panels (calls.Refresh (InitPair pair foreground background)) = false
+is_update_panels call = false

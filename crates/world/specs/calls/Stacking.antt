@@ -29,7 +29,7 @@ is_hidden panels p = not (list_any (λ q. q == p) panels.visible)
 abbrev pub without : ℕ → List ℕ → List ℕ
 without p order = filter (λ q. not (q == p)) order
 
--- the first of a list, and the one behind p
+-- the first of a list, and the one after p
 abbrev pub first_in : List ℕ → Option ℕ
 first_in [] = None
 first_in (q ∷ order) = Some q

@@ -1,3 +1,4 @@
+-- Each run of columns has one owner, whose cells are put into the line; so the line is that of the picture.
 use Rattle.std.proofs.Common.{rules, ◌≡◌, ℕ, ◌+◌, ◌-◌, ◌≤◌, true, refl, sym, ap, subst, ◌∙◌, arith}
 use Rattle.cell.specs.Pictures.{Place}
 use Rattle.cell.specs.Shown.{Shown, shown}

@@ -1,3 +1,4 @@
+-- Each panel from the bottom up takes over the columns that it holds.
 use Rattle.std.proofs.Common.{◌≡◌, ◌≤◌, ◌-◌, ◌&&◌, ◌∷◌, ℕ, Bool, List, Some, true, false, if◌then◌else◌, nat_le, slice_index, refl, sym, ap, subst, ◌∙◌, arith}
 use Rattle.std.specs.Prelude.{MatchOption, ⊤}
 use Rattle.std.proofs.lemmas.Bool.Decides.{nat_tests}

@@ -1,3 +1,4 @@
+-- The rectangle that two windows share, at the place of one, is a part of the screen.
 use Rattle.std.proofs.Common.{rules, ◌≡◌, Some}
 use Rattle.world.specs.calls.Queries.{place_on_screen}
 use Rattle.grids.specs.Tables.{windows}

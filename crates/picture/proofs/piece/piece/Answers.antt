@@ -1,3 +1,4 @@
+-- The piece is cut out of the row of the window.
 use Rattle.std.proofs.Common.{◌≡◌, ◌<◌, ◌+◌, ◌-◌, length, arith}
 use Rattle.grids.specs.Tables.{windows}
 use Rattle.grids.proofs.Showing.{line-has}

@@ -1,3 +1,4 @@
+-- Each round composes the damaged columns of one line more; the others were those of the picture before.
 use Rattle.std.proofs.Common.{◌≡◌, ℕ, suc, ◌+◌, ◌-◌, ◌<◌, ◌≤◌, ◌==◌, ◌&&◌, true, nat_le, nat_lt, if◌then◌else◌, None, Some, refl, ap, subst, sym, ◌∙◌, arith}
 use Rattle.cell.specs.Pictures.{shown_at}
 use Rattle.cell.specs.Shown.{Shown, shown}

@@ -1,3 +1,4 @@
+-- The owner of a place shows there the cell that the search finds.
 use Rattle.std.proofs.Common.{◌≡◌, ◌<◌, ◌-◌, ℕ, true, refl, ap, sym, subst, ◌∙◌, arith}
 use Rattle.world.specs.Windows.{Windows, cell_at}
 use Rattle.cell.specs.Pictures.{Place}

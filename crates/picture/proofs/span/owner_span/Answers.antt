@@ -1,3 +1,4 @@
+-- The first panel from the top that holds the column owns it, up to where another begins.
 use Rattle.std.proofs.Common.{◌≡◌, ℕ, ◌∷◌, Bool, true, Option, refl, sym, subst, ◌∙◌, arith, List, reverse}
 use Rattle.std.specs.List.{AllByRecursion}
 use Rattle.std.specs.Prelude.{MatchOption, ⊤}

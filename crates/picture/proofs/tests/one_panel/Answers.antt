@@ -1,3 +1,4 @@
+-- Panels of which one has a window of the table are sound.
 use Rattle.std.proofs.Common.{◌≡◌, ◌≢◌, ℕ, Bool, true, false, if◌then◌else◌, ◌==◌, Option, Some, None, refl, sym, ap, subst, ◌∙◌}
 use Rattle.std.specs.Prelude.{IsSome, IsSomeAnd, MatchOption, ⊤, option_and_then}
 use Rattle.cell.specs.Pictures.{Place}

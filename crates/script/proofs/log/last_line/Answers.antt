@@ -1,3 +1,4 @@
+-- The line after the others is the fault's, with the bytes that were sent.
 use Rattle.std.proofs.Common.{◌≡◌, ℕ, List, ◌++◌, append_assoc, refl, codes, decimal, [], ◌∷◌}
 use Rattle.script.specs.Characters.{newline}
 use Rattle.script.proofs.log.last_line.Goals as goal

@@ -1,3 +1,4 @@
+-- Each round reads one character more.
 use Rattle.std.proofs.Common.{arith, ◌∙◌, ap, option_map}
 use Rattle.std.proofs.lemmas.Grind.{common_steps}
 use Rattle.script.proofs.TextLemmas.{nothing_in_front, one_in_front}

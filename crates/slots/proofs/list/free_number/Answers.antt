@@ -1,3 +1,4 @@
+-- The loop goes along the slots as the search along the numbers does.
 use Rattle.std.proofs.Common.{◌≡◌, true, false, None, arith, sym, ap, ◌∙◌, length}
 use Rattle.std.specs.Option.{is_none}
 use Rattle.std.proofs.lemmas.Grind.{common_steps}

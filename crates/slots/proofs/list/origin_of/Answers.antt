@@ -1,3 +1,4 @@
+-- The origin of a window is where the walk from its first place ends.
 use Rattle.std.proofs.Common.{◌≡◌, Some, arith}
 use Rattle.std.proofs.lemmas.Grind.{common_steps}
 use Rattle.slots.specs.Slots.{slot_at}

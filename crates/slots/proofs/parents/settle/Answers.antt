@@ -1,3 +1,4 @@
+-- Each round sets the origin of one more slot, and those of its parents were set before.
 use Rattle.std.proofs.Common.{◌≡◌, ◌<◌, None, length, arith, sym, ◌∙◌}
 use Rattle.std.proofs.lemmas.List.{get_or_read}
 use Rattle.slots.specs.Slots.{slot_at}

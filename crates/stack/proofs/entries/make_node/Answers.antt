@@ -1,3 +1,4 @@
+-- There is a node of the number, or one more at the end.
 use Rattle.std.proofs.Common.{◌≡◌, None, List, length, refl, sym, subst, arith}
 use Rattle.stack.specs.steps.Entries.{NodeMade}
 use Rattle.stack.specs.declared.nodes.Node.{Node}

@@ -1,3 +1,4 @@
+-- A node that names itself is a hidden panel's.
 use Rattle.std.proofs.Common.{not, sym, ap, ◌∙◌}
 use Rattle.std.proofs.lemmas.Bool.{eq-eqb, ne_eqb}
 use Rattle.stack.specs.Nodes.{above_at, from_bottom}

@@ -1,3 +1,4 @@
+-- A panel that was taken out is put in again at the bottom.
 use Rattle.std.proofs.Common.{◌∷◌}
 use Rattle.world.specs.calls.Stacking.{without}
 use Rattle.stack.specs.Nodes.{from_bottom}

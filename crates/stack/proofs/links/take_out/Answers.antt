@@ -1,3 +1,4 @@
+-- The neighbours of the panel are each other's now, and it names itself.
 use Rattle.std.proofs.Common.{◌<◌, length, List, ℕ, sym, subst, arith}
 use Rattle.stack.specs.Nodes.{from_bottom, IsOut}
 use Rattle.stack.specs.declared.nodes.Node.{Node}

@@ -1,3 +1,4 @@
+-- The rectangle that is copied is where both windows cover the screen.
 use Rattle.std.proofs.Common.{◌∙◌, sym, rules}
 use Rattle.grids.specs.Tables.{windows}
 use Rattle.world.specs.calls.Copying.{common_copied}

@@ -1,9 +1,10 @@
+-- Each round clears one line more.
 use Rattle.std.proofs.Common.{◌-◌, arith, refl}
 use Rattle.world.specs.Rows.{filled}
 use Rattle.world.specs.Drawings.{everywhere}
 use Rattle.grids.specs.Tables.{windows}
 use Rattle.windows.proofs.States.{state-written}
-use Rattle.windows.proofs.Steps.{starts_above, line_cleared, all_cleared}
+use Rattle.windows.proofs.NextWrites.{starts_above, line_cleared, all_cleared}
 use Rattle.windows.proofs.drawing.clear_all.Goals as goal
 
 pub loop-line-init : goal.loop-line-init

@@ -1,10 +1,11 @@
+-- Each round clears one line more of those below.
 use Rattle.std.proofs.Common.{◌-◌, arith}
 use Rattle.world.specs.Rows.{filled}
 use Rattle.world.specs.Drawings.{to_bottom}
 use Rattle.grids.specs.Tables.{windows}
 use Rattle.windows.proofs.States.{state-written}
 use Rattle.windows.proofs.Strokes.{to_bottom-below}
-use Rattle.windows.proofs.Steps.{bottom_started, line_cleared, bottom_cleared}
+use Rattle.windows.proofs.NextWrites.{bottom_started, line_cleared, bottom_cleared}
 use Rattle.windows.proofs.drawing.clear_below.Goals as goal
 
 pub loop-line-init : goal.loop-line-init

@@ -1,8 +1,9 @@
+-- The rest of a line is one write.
 use Rattle.std.proofs.Common.{◌-◌}
 use Rattle.world.specs.Rows.{filled}
 use Rattle.grids.specs.Tables.{windows}
 use Rattle.windows.proofs.States.{state-written}
-use Rattle.windows.proofs.Steps.{rest_of_line}
+use Rattle.windows.proofs.NextWrites.{rest_of_line}
 use Rattle.windows.proofs.drawing.clear_rest.Goals as goal
 
 pub returns-clause-written : goal.returns-clause-written

@@ -1,8 +1,9 @@
+-- A copy of the rest of the line and a write of its last cell are one drawing.
 use Rattle.std.proofs.Common.{◌+◌, ◌-◌, false, arith}
 use Rattle.world.specs.Rows.{copied}
 use Rattle.grids.specs.Tables.{windows}
 use Rattle.windows.proofs.States.{state-written, has_place}
-use Rattle.windows.proofs.Steps.{deleted}
+use Rattle.windows.proofs.NextWrites.{deleted}
 use Rattle.windows.proofs.drawing.delete_cell.Goals as goal
 
 pub fill-requires-clause-there : goal.fill-requires-clause-there

@@ -1,9 +1,10 @@
+-- Each round takes one line more from above, from the last on.
 use Rattle.std.proofs.Common.{◌≡◌, ◌+◌, ◌-◌, arith, subst}
 use Rattle.world.specs.Windows.{put}
 use Rattle.world.specs.Drawings.{lines_down}
 use Rattle.grids.specs.Tables.{windows}
 use Rattle.windows.proofs.Strokes.{from}
-use Rattle.windows.proofs.Steps.{down_started, down_more, down_ended}
+use Rattle.windows.proofs.NextWrites.{down_started, down_more, down_ended}
 use Rattle.windows.proofs.drawing.move_down.Goals as goal
 
 pub loop-moved-init : goal.loop-moved-init

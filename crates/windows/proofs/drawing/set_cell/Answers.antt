@@ -1,7 +1,8 @@
+-- A cell is one write.
 use Rattle.world.specs.Rows.{filled}
 use Rattle.grids.specs.Tables.{windows}
 use Rattle.windows.proofs.States.{state-written}
-use Rattle.windows.proofs.Steps.{one_cell}
+use Rattle.windows.proofs.NextWrites.{one_cell}
 use Rattle.windows.proofs.drawing.set_cell.Goals as goal
 
 pub returns-clause-written : goal.returns-clause-written

@@ -1,3 +1,4 @@
+-- A line is that below it, or blank where there is none in the region.
 use Rattle.std.proofs.Common.{◌+◌, ◌-◌, false}
 use Rattle.world.specs.Rows.{copied, filled}
 use Rattle.grids.specs.Tables.{windows}

@@ -1,3 +1,4 @@
+-- A call keeps the picture where the law of its effect says so, for edits, moves and all calls.
 use Rattle.std.proofs.Common.{ap}
 use Rattle.world.proofs.CallLaws.{picture-kept}
 use Rattle.world.proofs.LineLaws.{free-place}

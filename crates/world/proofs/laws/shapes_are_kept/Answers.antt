@@ -1,3 +1,4 @@
+-- An effect keeps the shape of each window, by the law of that effect.
 use Rattle.world.specs.Effects.{after_edit}
 use Rattle.world.proofs.MoveLaws.{move_shows-moved}
 use Rattle.world.proofs.PictureLaws.{frame_shows-same}

@@ -1,3 +1,4 @@
+-- The cell is that of the row, which a window shows from its grid.
 use Rattle.std.proofs.Common.{◌∙◌}
 use Rattle.std.proofs.lemmas.List.{get_or_read}
 use Rattle.cell.specs.Glyphs.{blank}

@@ -1,3 +1,4 @@
+-- The row that was read is one write in the other window, which touches the columns written.
 use Rattle.std.proofs.Common.{◌≡◌, ◌+◌, ◌-◌, length, arith, refl, ap, sym, ◌∙◌}
 use Rattle.cell.specs.Glyphs.{Glyph}
 use Rattle.world.specs.Rows.{listed}

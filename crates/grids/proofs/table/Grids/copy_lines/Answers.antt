@@ -1,3 +1,4 @@
+-- Each round copies one line more, upwards or downwards, so that no line is read after it was written.
 use Rattle.std.proofs.Common.{◌≡◌, ◌+◌, ◌-◌, ◌<◌, Some, refl, sym, ap, arith, subst, ◌∙◌}
 use Rattle.world.specs.Windows.{GridPlace, Windows, own, put}
 use Rattle.world.specs.Rows.{copied}
@@ -8,7 +9,7 @@ use Rattle.grids.specs.Tables.{windows}
 use Rattle.slots.specs.Slots.{window_map}
 use Rattle.grids.proofs.Copies.{window_there, copy-step, frame-step}
 use Rattle.grids.proofs.CopyFrames.{nothing-frame}
-use Rattle.grids.proofs.Lines.{no-lines, put-none, line-after, line-before, downward-same, upward-same, place_after_above}
+use Rattle.grids.proofs.LineCopies.{no-lines, put-none, line-after, line-before, downward-same, upward-same, place_after_above}
 use Rattle.grids.proofs.table.Grids.copy_lines.Goals as goal
 
 pub downward-init : goal.downward-init

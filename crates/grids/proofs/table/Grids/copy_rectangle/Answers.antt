@@ -1,9 +1,10 @@
+-- A copy of no line or column is a drawing of nothing; another is that of its lines.
 use Rattle.std.proofs.Common.{arith, ap, sym, ◌∙◌}
 use Rattle.world.specs.calls.Copying.{rectangle_copied}
 use Rattle.grids.specs.declared.table.Grids.{Grids}
 use Rattle.grids.specs.Tables.{windows}
 use Rattle.grids.proofs.CopyFrames.{nothing-frame}
-use Rattle.grids.proofs.Lines.{no-lines, no-columns, put-none}
+use Rattle.grids.proofs.LineCopies.{no-lines, no-columns, put-none}
 use Rattle.grids.proofs.table.Grids.copy_rectangle.Goals as goal
 use Rattle.grids.proofs.table.Grids.copy_rectangle.Goals.{then-lines-gt0+then-columns-gt0, else-lines-gt0, else-lines-gt0-via-then-lines-gt0+else-columns-gt0, else-lines-gt0-via-else-lines-gt0}
 

@@ -1,3 +1,4 @@
+-- One row copied is a drawing of one line.
 use Rattle.std.proofs.Common.{arith, ap, ◌∙◌}
 use Rattle.grids.specs.declared.table.Grids.{Grids}
 use Rattle.grids.specs.Tables.{windows}

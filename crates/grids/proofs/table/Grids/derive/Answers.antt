@@ -1,3 +1,4 @@
+-- The new slot names its parent, is inside it, and leads to its grid; so the table with it is sound.
 use Rattle.std.specs.Prelude.{unwrap_or}
 use Rattle.std.proofs.Common.{◌≡◌, ◌+◌, Some, arith, ◌∙◌, ap, refl, sym, rules}
 use Rattle.std.specs.Option.{option_map}

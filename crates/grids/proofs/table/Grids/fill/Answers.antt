@@ -1,3 +1,4 @@
+-- The filled line is one write, which touches the columns written.
 use Rattle.std.proofs.Common.{◌+◌, refl}
 use Rattle.world.specs.Rows.{filled}
 use Rattle.grids.specs.contracts.table.Grids.{the_view}

@@ -1,3 +1,4 @@
+-- Each round touches the next ancestor, and none that was touched before.
 use Rattle.std.proofs.Common.{◌≢◌, ◌<◌, arith, ap, ◌∙◌}
 use Rattle.slots.specs.declared.place.Place.{Place}
 use Rattle.grids.specs.Tables.{windows}

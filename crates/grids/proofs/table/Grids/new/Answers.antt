@@ -1,3 +1,4 @@
+-- A table of the standard screen alone is sound.
 use Rattle.std.proofs.Common.{rules, ◌≡◌, Some, [], ◌∷◌}
 use Rattle.slots.proofs.Origins.{origins-first}
 use Rattle.grids.proofs.table.Grids.new.Goals as goal

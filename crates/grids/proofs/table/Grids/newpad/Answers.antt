@@ -1,3 +1,4 @@
+-- The new slot has a grid of its own and no place; so the table with it is sound.
 use Rattle.std.specs.Prelude.{unwrap_or}
 use Rattle.world.specs.World.{blank_grid, new_window}
 use Rattle.std.proofs.Common.{None, ◌≡◌, ap, sym, rules}

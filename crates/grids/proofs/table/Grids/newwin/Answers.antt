@@ -1,3 +1,4 @@
+-- The new slot has a grid of its own and lies on the screen; so the table with it is sound.
 use Rattle.std.specs.Prelude.{unwrap_or}
 use Rattle.std.proofs.Common.{◌≡◌, ℕ, Some, ◌∙◌, sym, ap, rules}
 use Rattle.world.specs.Windows.{Window}

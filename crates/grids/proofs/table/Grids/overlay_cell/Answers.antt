@@ -1,3 +1,4 @@
+-- A space writes nothing, and another cell is one write of one cell.
 use Rattle.std.proofs.Common.{◌≡◌, true, false, Some, is_some, ap, sym, ◌∙◌}
 use Rattle.world.proofs.WindowLaws.{put-nothing}
 use Rattle.cell.specs.Glyphs.{Glyph}

@@ -1,3 +1,4 @@
+-- Each round lays one cell more over the line, in the direction in which none is read after it was written.
 use Rattle.std.proofs.Common.{◌≡◌, ◌+◌, ◌-◌, ◌<◌, true, Some, refl, sym, ap, arith, subst, ◌∙◌}
 use Rattle.world.specs.Windows.{GridPlace, Windows, cell_at, own, put}
 use Rattle.world.specs.Rows.{copied}

@@ -1,3 +1,4 @@
+-- The row is the line that the window shows.
 use Rattle.grids.specs.contracts.table.Grids.{the_view}
 use Rattle.grids.proofs.Showing.{row-read}
 use Rattle.grids.proofs.table.Grids.row.Goals as goal

@@ -1,3 +1,4 @@
+-- Windows of two grids share no cell; of one grid the shared lines and columns are the rectangle.
 use Rattle.std.proofs.Common.{◌≡◌, Some, subst}
 use Rattle.world.specs.Windows.{GridPlace, own}
 use Rattle.grids.specs.declared.table.Grids.{Grids}
@@ -5,7 +6,7 @@ use Rattle.slots.specs.Slots.{window_map}
 use Rattle.grids.specs.Tables.{windows}
 use Rattle.grids.proofs.Seen.{seen-above, seen-apart, seen-beside, seen-there}
 use Rattle.grids.proofs.Touches.{there-and}
-use Rattle.grids.proofs.Walks.{some_window}
+use Rattle.grids.proofs.Ancestors.{some_window}
 use Rattle.grids.proofs.table.Grids.seen_in.Goals as goal
 
 pub returns-then-source-target-clause-seen : goal.returns-then-source-target-clause-seen

@@ -1,3 +1,4 @@
+-- One slot has other settings, and its window no other cell.
 use Rattle.std.proofs.Common.{refl}
 use Rattle.world.specs.Settings.{with_settings}
 use Rattle.grids.specs.contracts.table.Grids.{the_view}

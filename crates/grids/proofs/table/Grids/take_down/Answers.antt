@@ -1,3 +1,4 @@
+-- Each round takes from the next ancestor what is touched of it.
 use Rattle.std.proofs.Common.{◌≢◌, ◌<◌, arith, ap, ◌∙◌}
 use Rattle.slots.specs.declared.place.Place.{Place}
 use Rattle.grids.specs.Tables.{windows}

@@ -1,3 +1,4 @@
+-- Each round touches what one line more shows, and leaves the lines before as they are.
 use Rattle.std.proofs.Common.{◌≡◌, ℕ, ◌+◌, ◌≤◌, false, Option, arith, ap, refl, sym, ◌∙◌}
 use Rattle.std.specs.Option.{option_map_or}
 use Rattle.cell.specs.declared.limits.TheConstants.{LARGEST_PAD}

@@ -1,3 +1,4 @@
+-- Each round damages one line more of the rectangle.
 use Rattle.std.proofs.Common.{◌<◌, ◌≤◌, length, arith}
 use Rattle.picture.proofs.DamageLaws.{damages-rectangle, widened-more}
 use Rattle.picture.proofs.damage.Damage.rectangle.Goals as goal

@@ -1,3 +1,4 @@
+-- The run is one of columns whose owner the search finds.
 use Rattle.std.proofs.Common.{sym, ap, ◌∙◌}
 use Rattle.world.specs.Panels.{window_or_standard}
 use Rattle.stack.specs.Tables.{panels}

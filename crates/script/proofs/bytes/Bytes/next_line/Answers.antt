@@ -1,3 +1,4 @@
+-- The bytes before the newline are the line, up to the greatest length.
 use Rattle.std.proofs.Common.{◌<◌, length, arith}
 use Rattle.script.proofs.ByteLemmas.{ends_behind, gathered_failed, gathered_last, gathered_line, gathered_more, gathered_none, gathered_too_long, more_read, none_read, not_newline, full_line}
 use Rattle.script.proofs.ByteLemmas.{room_left}

@@ -1,3 +1,4 @@
+-- A line that is kept is the one that was read.
 use Rattle.script.proofs.ByteLemmas.{ends_behind, kept, left_out, more_read, none_read}
 use Rattle.script.proofs.bytes.Bytes.next_whole_line.Goals as goal
 

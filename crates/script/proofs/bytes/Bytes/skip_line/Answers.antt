@@ -1,3 +1,4 @@
+-- The bytes before the newline are left out.
 use Rattle.std.proofs.Common.{[], refl}
 use Rattle.script.proofs.ByteLemmas.{ends_behind, gathered_none, more_read, none_read, not_newline, skipped_failed, skipped_last, skipped_line, skipped_more}
 use Rattle.script.proofs.bytes.Bytes.skip_line.Goals as goal

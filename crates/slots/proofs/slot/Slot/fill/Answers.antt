@@ -1,3 +1,4 @@
+-- The line is filled in the grid, and the slot's other cells stay.
 use Rattle.slots.specs.declared.slot.Cells.TheVariants.{Own}
 use Rattle.slots.specs.contracts.slot.Slot.{the_view}
 use Rattle.std.proofs.Common.{refl}

@@ -1,3 +1,4 @@
+-- The row is put into the grid's line, and the slot's other cells stay.
 use Rattle.slots.specs.declared.slot.Cells.TheVariants.{Own}
 use Rattle.slots.specs.contracts.slot.Slot.{the_view}
 use Rattle.std.proofs.Common.{refl}

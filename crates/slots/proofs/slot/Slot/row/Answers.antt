@@ -1,3 +1,4 @@
+-- The row is the part of the grid's line from the slot's first column on.
 use Rattle.std.proofs.Common.{◌≡◌, ◌+◌, ◌-◌, ◌≤◌, ◌<◌, length, arith, ap}
 use Rattle.cell.specs.Pictures.{line_of}
 use Rattle.cell.proofs.PictureLemmas.{length-line}

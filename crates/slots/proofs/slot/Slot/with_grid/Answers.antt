@@ -1,3 +1,4 @@
+-- A new slot has a blank grid of its size, and nothing of it is touched.
 use Rattle.slots.proofs.NewSlots.{IsKept-new, IsGridOf-blank, window-blank}
 use Rattle.std.proofs.Common.{refl}
 use Rattle.slots.specs.declared.slot.Cells.TheVariants.{Own}

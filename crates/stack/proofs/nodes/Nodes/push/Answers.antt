@@ -1,3 +1,4 @@
+-- A node that no panel has changes neither index.
 use Rattle.std.proofs.Common.{◌∷◌, ◌≤◌, List, length, sym, subst}
 use Rattle.cell.specs.declared.limits.TheConstants.{MOST_PANELS}
 use Rattle.stack.specs.declared.nodes.Node.{Node}

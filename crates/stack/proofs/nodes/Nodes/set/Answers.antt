@@ -1,3 +1,4 @@
+-- A node with the same window changes neither index.
 use Rattle.std.proofs.Common.{◌∷◌, ◌<◌, List, sym, ap, subst, ◌∙◌, arith, length}
 use Rattle.stack.specs.Indexes.{IsIndexed}
 use Rattle.stack.specs.Nodes.{window_at}

@@ -1,3 +1,4 @@
+-- Both indexes follow the window that the node has now.
 use Rattle.std.proofs.Common.{◌≡◌, ◌∷◌, ◌<◌, ◌==◌, if◌then◌else◌, Bool, List, sym, ap, subst, ◌∙◌, set, length}
 use Rattle.std.specs.Option.{option_map}
 use Rattle.cell.specs.declared.window.WinId.{WinId}

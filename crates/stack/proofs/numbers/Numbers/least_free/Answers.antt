@@ -1,3 +1,4 @@
+-- The words before are full, and the first clear bit of the next is the least.
 use Rattle.std.proofs.Common.{◌+◌, ◌*◌, ◌<◌, ◌^◌, subst, get_or, ℕ, inl, inr, arith, rules}
 use Rattle.std.proofs.lemmas.Bool.{cases_lt}
 use Rattle.stack.proofs.Bits.{bit-below, bit-clear, bit-full}

@@ -1,3 +1,4 @@
+-- The node above is the next panel of the order.
 use Rattle.std.proofs.Common.{◌∙◌, ap, sym, Option, Some}
 use Rattle.stack.specs.Nodes.{from_bottom}
 use Rattle.world.specs.calls.Stacking.{panel_above, panel_number}

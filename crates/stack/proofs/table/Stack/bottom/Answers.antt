@@ -1,3 +1,4 @@
+-- The order is that of the others with the panel before them.
 use Rattle.std.proofs.Common.{◌∷◌, ap, ◌∙◌, rules, refl}
 use Rattle.world.specs.calls.Stacking.{after_bottom_panel, without}
 use Rattle.stack.specs.Nodes.{from_bottom}

@@ -1,3 +1,4 @@
+-- The order is that of the others, and the panel has no window.
 use Rattle.std.proofs.Common.{ap, ◌∙◌, rules, refl}
 use Rattle.world.specs.calls.Stacking.{after_del_panel}
 use Rattle.stack.specs.Tables.{panels, PanelTable}

@@ -1,3 +1,4 @@
+-- A node that names itself is a hidden panel's.
 use Rattle.std.proofs.Common.{◌≡◌, ◌∙◌, ap, subst, nat_eq}
 use Rattle.stack.specs.Nodes.{node_at, from_bottom}
 use Rattle.world.specs.calls.Stacking.{is_hidden}

@@ -1,3 +1,4 @@
+-- One node alone is a table of no panels.
 use Rattle.std.proofs.Common.{sym, ap, subst, ◌∙◌, List}
 use Rattle.stack.specs.Tables.{panels, table_of, IsPanelTable}
 use Rattle.stack.specs.declared.nodes.Node.{Node}

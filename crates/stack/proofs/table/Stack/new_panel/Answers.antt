@@ -1,3 +1,4 @@
+-- The least free number is a panel's, with a window that no panel had, and on top.
 use Rattle.std.proofs.Common.{◌≡◌, ap, arith, rules, sym, ◌∙◌}
 use Rattle.std.specs.Prelude.{unwrap_or}
 use Rattle.world.specs.calls.Stacking.{new_panel_number, next_panel}

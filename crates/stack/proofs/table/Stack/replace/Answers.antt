@@ -1,3 +1,4 @@
+-- The panel has another window, which no panel had, and the order is as it was.
 use Rattle.std.proofs.Common.{ap, arith, ◌∙◌, rules, refl}
 use Rattle.world.specs.calls.Stacking.{after_replace_panel}
 use Rattle.stack.specs.Tables.{panels, PanelTable}

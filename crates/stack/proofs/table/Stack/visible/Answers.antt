@@ -1,3 +1,4 @@
+-- The order has no more panels than there are nodes.
 use Rattle.std.proofs.Common.{List, ℕ, ap, arith, length}
 use Rattle.stack.specs.Nodes.{from_bottom}
 use Rattle.stack.proofs.Threads.{few}

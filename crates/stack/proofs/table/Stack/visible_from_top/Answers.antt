@@ -1,3 +1,4 @@
+-- The way down is the way up turned round.
 use Rattle.std.proofs.Common.{List, ℕ, ap, arith, length, reverse, ◌∙◌}
 use Rattle.std.proofs.lemmas.List.{length-reverse}
 use Rattle.stack.specs.Nodes.{from_bottom}

@@ -1,3 +1,4 @@
+-- The way goes up from the node above the end.
 use Rattle.std.proofs.Common.{ℕ, length, ap, ◌∙◌}
 use Rattle.stack.specs.Nodes.{above_at, from_bottom, way}
 use Rattle.stack.specs.declared.nodes.Node.{Node}

@@ -1,3 +1,4 @@
+-- The way goes down from the node below the end.
 use Rattle.std.proofs.Common.{ℕ, length, ap, ◌∙◌}
 use Rattle.stack.specs.Nodes.{below_at, from_top, way}
 use Rattle.stack.specs.declared.nodes.Node.{Node}

@@ -1,3 +1,4 @@
+-- The settings have the attributes without these.
 use Rattle.std.proofs.Common.{rules, refl}
 use Rattle.cell.specs.Attributes.{bits_of}
 use Rattle.grids.specs.Tables.{windows}

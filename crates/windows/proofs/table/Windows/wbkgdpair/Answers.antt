@@ -1,3 +1,4 @@
+-- The background has the pair, and all else as it was.
 use Rattle.std.proofs.Common.{ap, sym, ◌∙◌, rules, refl}
 use Rattle.cell.specs.Glyphs.{Glyph}
 use Rattle.grids.specs.Tables.{windows}

@@ -1,3 +1,4 @@
+-- The background has the attributes and the character, and its pair as it was.
 use Rattle.std.proofs.Common.{sym, ◌∙◌, rules, refl}
 use Rattle.cell.specs.Attributes.{bits_of}
 use Rattle.grids.specs.Tables.{windows}

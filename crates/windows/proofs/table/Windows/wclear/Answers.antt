@@ -1,3 +1,4 @@
+-- The window is erased, and its settings have the flag.
 use Rattle.std.proofs.Common.{rules}
 use Rattle.grids.specs.Tables.{windows}
 use Rattle.windows.proofs.Calls.{cleared-is, erased_frame}

@@ -1,3 +1,4 @@
+-- The lines below are cleared, and with them the rest of the cursor's line.
 use Rattle.std.proofs.Common.{arith, rules}
 use Rattle.grids.specs.Tables.{windows}
 use Rattle.windows.proofs.Calls.{clrtobot_frame-last, clrtobot_frame-more}

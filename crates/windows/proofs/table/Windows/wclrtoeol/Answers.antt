@@ -1,3 +1,4 @@
+-- The rest of the cursor's line is cleared.
 use Rattle.std.proofs.Common.{rules}
 use Rattle.grids.specs.Tables.{windows}
 use Rattle.windows.proofs.Calls.{clrtoeol_frame-is}

@@ -1,3 +1,4 @@
+-- The settings have the pair, and all else as it was.
 use Rattle.std.proofs.Common.{sym, ◌∙◌, rules, refl}
 use Rattle.grids.specs.Tables.{windows}
 use Rattle.windows.proofs.OptionLemmas.{pair_set, made-pair}

@@ -1,3 +1,4 @@
+-- Every line is cleared, and the cursor is at home.
 use Rattle.std.proofs.Common.{rules}
 use Rattle.grids.specs.Tables.{windows}
 use Rattle.windows.proofs.Calls.{erased, erased_frame}

@@ -1,3 +1,4 @@
+-- The lines from the cursor's on move down by one.
 use Rattle.std.proofs.Common.{rules}
 use Rattle.grids.specs.Tables.{windows}
 use Rattle.windows.proofs.Calls.{line_inserted, line_inserted_frame}

@@ -1,3 +1,4 @@
+-- The settings have the region, and all else as it was.
 use Rattle.std.proofs.Common.{rules, refl}
 use Rattle.grids.specs.Tables.{windows}
 use Rattle.windows.proofs.OptionLemmas.{region_set}

@@ -1,3 +1,4 @@
+-- The region moves by its lines, one way or the other, or not at all.
 use Rattle.std.proofs.Common.{ap, sym, ◌∙◌}
 use Rattle.std.proofs.lemmas.Int.{to_z-of_z}
 use mir.Val.{of_z, to_z}
