@@ -17,12 +17,6 @@ int wattrset(WINDOW *win, int attrs) {
     return OK;
 }
 
-/* One set with another added, whose pair goes before where it has one. */
-attr_t curspan_with(attr_t attrs, attr_t more) {
-    if (more & A_COLOR) attrs &= ~A_COLOR;
-    return attrs | (more & A_ATTRIBUTES);
-}
-
 static attr_t without(attr_t attrs, attr_t less) {
     if (less & A_COLOR) attrs &= ~A_COLOR;
     return attrs & ~less;

@@ -48,7 +48,11 @@ int curspan_tell_other(WINDOW *win, attr_t attrs);
 static inline int curspan_tell(WINDOW *win, attr_t attrs) { return win->told == attrs ? OK : curspan_tell_other(win, attrs); }
 
 /* One set of attributes with another added, whose pair goes before where it has one. */
-attr_t curspan_with(attr_t attrs, attr_t more);
+static inline attr_t curspan_with(attr_t attrs, attr_t more) {
+    if (more & A_COLOR) attrs &= ~A_COLOR;
+    return attrs | (more & A_ATTRIBUTES);
+}
+
 /* Sets the background, that of the window in `win` or another. */
 int curspan_set_background(WINDOW *win, chtype ch);
 /* Sets the background and what the window's attributes have of it. */

@@ -26,12 +26,15 @@ static int spell(uint8_t ch, int x, uint8_t spelled[8]) {
     return 2;
 }
 
+static int add_spelled(WINDOW *win, uint8_t ch) {
+    uint8_t spelled[8];
+    return done(curspan_waddstr(SCREEN_AND(win), spelled, (size_t)spell(ch, getcurx(win), spelled)));
+}
+
 /* Writes a character with the attributes that were told. */
 static int add_character(WINDOW *win, uint8_t ch) {
-    uint8_t spelled[8];
     curspan_answer answer = curspan_waddch(SCREEN_AND(win), ch);
-    if (answer.status != CURSPAN_BAD_CHARACTER) return done(answer);
-    return done(curspan_waddstr(SCREEN_AND(win), spelled, (size_t)spell(ch, getcurx(win), spelled)));
+    return answer.status == CURSPAN_BAD_CHARACTER ? add_spelled(win, ch) : done(answer);
 }
 
 int waddch(WINDOW *win, const chtype ch) {
