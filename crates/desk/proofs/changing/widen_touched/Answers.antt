@@ -29,7 +29,7 @@ loop-y-preserved c =
                 (λ v u before slim none below small. h.none v u (omega (arith, before, sum)) below small slim none)
                 (λ _ u slim out below small.
                 let line : n ≡ top + y = omega (arith, sum, small) in
-                rw line (untouched window w top left y u c.in-Ok.ensures.place
+                rw line (untouched window w top left y u c.in-Ok.ensures.answer
                 (λ from. ap (λ o. among o (u - left)) (sym b.in-Some.ensures.columns) ∙ b.stretch.ensures u slim from out)))
                 v u (omega (arith, few, small, sum)) (omega (arith, below, long)) slim none (omega (arith, below, long)) small;
           })
@@ -38,7 +38,7 @@ loop-y-preserved c =
         keeps = h.keeps;
         none = λ v u few below small slim none. no-wider {Q = λ v u. v < length c.loop-y.changes → v < 65535 → touched_cells window w v u ≡ None} c.loop-y.changes (top + y) 65535
             (λ v u before slim none below small. h.none v u before below small slim none)
-            (λ u slim below small. untouched window w top left y u c.in-Ok.ensures.place (λ from. ap (λ o. among o (u - left)) (sym b.in_default-touched.ensures.columns)))
+            (λ u slim below small. untouched window w top left y u c.in-Ok.ensures.answer (λ from. ap (λ o. among o (u - left)) (sym b.in_default-touched.ensures.columns)))
             v u (omega (arith, few)) slim none below small;
       })
     ]
