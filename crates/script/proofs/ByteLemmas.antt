@@ -1,4 +1,9 @@
 -- A line is gathered a byte at a time.
+use Rattle.std.proofs.Common.{zero, suc, ◌+◌, ◌-◌, take, drop, get_or, position, add-one, drop-cons, length-take}
+use Rattle.std.specs.Prelude.{◌↔◌, IsOk, OnOk, Result, Ok, Err, is_err}
+use Rattle.std.proofs.lemmas.Bool.{eqb-true}
+use Rattle.std.proofs.lemmas.List.{drop-drop, drop-take, take-append-drop, take-take}
+use Rattle.std.proofs.lemmas.List.Quantifiers.{position-Some}
 use Rattle.std.proofs.Common.{◌≡◌, ℕ, ◌≤◌, ◌<◌, Bool, true, false, ◌||◌, ◌==◌, List, [], ◌∷◌, ◌++◌, length, refl, sym, ap, ◌∙◌, arith, append_assoc, append-nil, length-append, Some, None}
 use Rattle.std.specs.Io.KnownBytes.{Consumes}
 use Rattle.std.proofs.KnownBytes.{Consumes-nil, Consumes-trans}
@@ -8,7 +13,7 @@ use Rattle.script.specs.Characters.{is_newline, newline}
 use Rattle.script.specs.declared.limits.TheConstants.{LONGEST_LINE}
 use Rattle.streams.specs.Counts.{counted}
 use Rattle.streams.specs.Sources.{SourceSeen}
-use Rattle.script.specs.steps.Bytes.{EndsLine, HasNoNewline, ReadingEnds, ReadsByte, ReadsLine, ReadsToEnd, ReadsWhole, work_left}
+use Rattle.script.specs.steps.Bytes.{EndsLine, HasNoNewline, ReadingEnds, ReadsByte, ReadsLine, ReadsToEnd, ReadsWhole, TakesLine, work_left}
 use Rattle.script.specs.declared.bytes.LineEnd.{LineEnd}
 use Rattle.script.specs.declared.bytes.LineEnd.TheVariants.{Newline, ScriptEnd, ReadFailed}
 use Rattle.script.specs.declared.bytes.Next.TheVariants.{Byte, End, Failed}
@@ -132,6 +137,57 @@ gathered_failed old mid new unused left rest line g n h = record {
   no_newline = g.no_newline;
   at_end = λ e. cc;
 }
+
+-- ---- a line, taken at once
+
+pub taken_line : (seen : SourceSeen) (unused left line : List ℕ) → TakesLine unused left line → ReadsLine seen seen unused left line (Some Newline)
+taken_line seen unused left line t = record {
+  bytes = [];
+  read = Consumes-nil seen.left;
+  is_line = (append-nil unused ∙ t.all, t.short);
+  no_newline = t.no_newline;
+  at_end = λ e. cc;
+}
+
+pub taken_ends : (seen : SourceSeen) (unused left line : List ℕ) → TakesLine unused left line → ReadingEnds seen seen unused left false false true
+taken_ends seen unused left line t = record {
+  ended = refl;
+  past = λ unmet. refl;
+  failures = refl;
+  progress = λ more. omega (arith, simp length-append at (ap length t.all));
+}
+
+none_before : (xs : List ℕ) (i : ℕ) → ((k : ℕ) → k < i → is_newline (get_or xs k 0) ≡ false) → HasNoNewline (take i xs)
+none_before xs zero h = refl
+none_before [] (suc i) h = refl
+none_before (x ∷ xs) (suc i) h = let first = h 0 (omega arith) in rw first (none_before xs i (λ k below. h (suc k) (omega arith)))
+
+-- what a call that didn't fail says
+pub ok_parts : {T E : Type 0} (r : Result T E) (P Q : Type 0) → false ≡ is_err r → OnOk r P → IsOk r ↔ Q → P × Q
+ok_parts (Ok t) P Q h said alike = (said, alike.0 refl)
+ok_parts (Err e) P Q h said alike = cc
+
+-- the bytes of a piece, up to the first newline among those from one on
+pub newline_found : (piece line : List ℕ) (from to at : ℕ) → Some at ≡ position is_newline (take (to - from) (drop from piece)) → line ≡ take (from + at - from) (drop from piece)
+    → length line ≤ LONGEST_LINE → TakesLine (take (to - from) (drop from piece)) (take (to - (from + at + 1)) (drop (from + at + 1) piece)) line
+newline_found piece line from to at found is short =
+    let unused = take (to - from) (drop from piece) in
+    let found_at = position-Some is_newline unused at 0 (sym found) in
+    let within : at < to - from = omega (arith, found_at.0, length-take (to - from) (drop from piece)) in
+    let first : line ≡ take at unused =
+    is ∙ ap (λ n. take n (drop from piece)) (let e : from + at - from ≡ at = omega arith in e) ∙ sym (take-take at (to - from) (drop from piece) (omega arith)) in
+    let rest : to - from ≡ (at + 1) + (to - (from + at + 1)) = omega arith in
+    let next : drop (at + 1) unused ≡ take (to - (from + at + 1)) (drop (from + at + 1) piece) =
+    ap (λ n. drop (at + 1) (take n (drop from piece))) rest
+    ∙ drop-take (at + 1) (to - (from + at + 1)) (drop from piece)
+    ∙ ap (take (to - (from + at + 1))) (drop-drop (at + 1) from piece ∙ ap (λ n. drop n piece) (let e : from + (at + 1) ≡ from + at + 1 = omega arith in e)) in
+    record {
+      all = sym (take-append-drop at unused)
+          ∙ ap (λ l. take at unused ++ l) (drop-cons unused at 0 found_at.0 ∙ ap (λ b. b ∷ drop (suc at) unused) (eqb-true (get_or unused at 0) newline found_at.1))
+          ∙ (λ i. sym first i ++ newline ∷ (ap (λ n. drop n unused) (sym (add-one at)) ∙ next) i);
+      no_newline = rw first (none_before unused at found_at.2);
+      short = short;
+    }
 
 -- ---- a line of any length
 

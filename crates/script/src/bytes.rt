@@ -1,7 +1,9 @@
 //! The bytes of a script, one after another.
 
-ghost use Rattle.std.specs.Prelude.{◌≡◌, ◌<◌, ◌∷◌, [], length};
-ghost use Rattle.script.specs.steps.Bytes.{ReadingEnds, ReadsByte, ReadsLine, ReadsToEnd, ReadsWhole, byte_ended, byte_failed, end_failed, goes_on, has_newline, is_byte, line_ended, line_failed, met_end};
+ghost use Rattle.std.specs.Prelude.{◌≡◌, ◌<◌, ◌∷◌, [], length, position, false};
+ghost use Rattle.std.specs.Bool.{OnTrue};
+ghost use Rattle.script.specs.Characters.{is_newline};
+ghost use Rattle.script.specs.steps.Bytes.{ReadingEnds, ReadsByte, ReadsLine, ReadsToEnd, ReadsWhole, TakesLine, byte_ended, byte_failed, end_failed, goes_on, has_newline, is_byte, line_ended, line_failed, met_end};
 
 use crate::limits::LONGEST_LINE;
 use arrayvec::ArrayVec;
@@ -27,6 +29,13 @@ pub enum LineEnd {
     ScriptEnd,
     /// A read failed.
     ReadFailed,
+}
+
+/// Where the first newline is.
+fn first_newline(text: &[u8]) -> Option<usize>
+    ensures { result ≡ position is_newline text.now }
+{
+    text.iter().position(|b| *b == b'\n')
 }
 
 /// Bytes that were read and are not used.
@@ -89,6 +98,28 @@ impl Bytes {
         }
     }
 
+    /// Takes a line whose newline was read too, and answers whether there is one that is not too long. If not, no byte is taken.
+    fn take_line(&mut self, line: &mut ArrayVec<u8, LONGEST_LINE>) -> bool
+        requires { line.old.items ≡ [] }
+        ensures taken { OnTrue result (TakesLine self.old self.new line.new.items) }
+        ensures left { result ≡ false → (self.new ≡ self.old) × (line.new.items ≡ []) }
+    {
+        match first_newline(&self.piece[self.from..self.to]) {
+            Some(at) => {
+                let end = self.from + at;
+                if line
+                    .try_extend_from_slice(&self.piece[self.from..end])
+                    .is_err()
+                {
+                    return false;
+                }
+                self.from = end + 1;
+                true
+            }
+            None => false,
+        }
+    }
+
     /// The bytes up to the next newline, in place of what was in `line`, and what stands after them. Of a line that is
     /// too long it takes as many as a line may have, and one more, and answers none. Where the end is met, nothing is
     /// read after it.
@@ -101,6 +132,9 @@ impl Bytes {
         ensures ends { ReadingEnds (R.seen source.old) (R.seen source.new) self.old self.new (line_ended result) (line_failed result) (goes_on result) }
     {
         line.clear();
+        if self.take_line(line) {
+            return Some(LineEnd::Newline);
+        }
         loop {
             match self.next(source) {
                 Next::Byte(byte) => {

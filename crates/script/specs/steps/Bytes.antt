@@ -94,6 +94,12 @@ pub record ReadsLine (old new : SourceSeen) (unused left line : List ℕ) (resul
   pub no_newline : HasNoNewline line
   pub at_end : line_ended result ≡ true → IsAtEnd new.left
 
+-- A line and its newline stood among the bytes that were not used.
+pub record TakesLine (unused left line : List ℕ) : Type 0 where
+  pub all : unused ≡ line ++ newline ∷ left
+  pub no_newline : HasNoNewline line
+  pub short : length line ≤ LONGEST_LINE
+
 -- ---- a line of any length
 
 -- The source gave some bytes. With those that were not used before they are a line of any length.
