@@ -1,5 +1,16 @@
 //! What every layer of Curspan speaks of: characters with attributes, grids and pictures of them, windows by number, and
 //! refusals.
+//!
+//! - `attr`: sets of attributes
+//! - `cell`: a character with attributes and a pair, what a window holds
+//! - `colour`: colours, pairs and the table of pairs
+//! - `colour_bits`: a pair's colours as bits of a shown cell
+//! - `difference`: the first and the last column in which two lines differ
+//! - `grid`: lines of cells of one width
+//! - `limits`: the greatest sizes and numbers
+//! - `refusal`: why a call is refused
+//! - `shown`: renditions and shown cells
+//! - `window`: numbers of windows, and rectangles
 #![tactic(auto)]
 
 mod attr;

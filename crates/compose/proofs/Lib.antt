@@ -1,15 +1,32 @@
+-- What a desk keeps, and the world that it stands for, call by call; for `arrange`, `call`
 pub mod DeskLemmas
+-- The virtual screen stays sound where it takes the picture of windows and panels; for `compose`, `refresh_pad`, `refresh_window`
 pub mod Composed
+-- Panels stay sound: each has a window that is there, and is neither a pad nor the standard screen; for `arrange`, `new_panel`, `replace_panel`
 pub mod SoundPanels
+-- A drawing is laid over a picture line by line; for `show_rectangle`, `show_touched`
 pub mod Laying
+-- What noutrefresh and pnoutrefresh draw on each line of the screen; for `damage_touched`, `refresh_pad`, `show_rectangle` and others
 pub mod Pieces
+-- Windows are unmarked one after another; for `unmark_composed`, `unmark_lines`
 pub mod Unmarking
+-- Where damage covers what a call may change, the damage of a desk still covers all that differs after it; and few lines are damaged; for `arrange`, `call`,
+-- `new` and others
 mod Covering
+-- The damage of one window after another; for `damage_visible`
 mod Visible
+-- What a change damages, in terms of the windows before it; for `copy_damaging`, `make_damaging`, `write_damaging`
 mod AffectedDamages
+-- How many cells update_panels reads: as many as there are damaged columns; for `Updating`
 mod Reading
+-- The touched columns of a window are damaged line by line; for `damage_touched`
 mod Touching
+-- A call on panels, made on a desk: the world after it, and what it damaged; for `arrange`, `arrange_damaging`
 mod Arranging
+-- What a call on panels damages: the part of the panel that it names, as it was, and that of the panel that it changed or made, as it is; for
+-- `arrange_damaging`
 pub mod Parting
+-- The rectangle of the screen to which a pad's cells are copied is what the copy draws; for `refresh_pad`
 pub mod Padding
+-- What update_panels reads: no less than it changes, and no more than all of the damaged lines; for `compose`
 pub mod Updating

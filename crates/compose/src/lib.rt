@@ -1,4 +1,14 @@
 //! Windows, panels, colour pairs and the virtual screen together: the `Desk`, with each call and what it damages of the screen.
+//!
+//! - `answer`: what a call answers, as a type
+//! - `calls`: a call with what it damages
+//! - `damaging`: what a call damages
+//! - `desk`: the `Desk` and what it lends
+//! - `dispatch`: a call of each group, made
+//! - `marks`: marks and clear flags of what makes up the picture
+//! - `methods`: a method for each call: the trait `Calls`
+//! - `panels`: the calls that look at windows and panels together
+//! - `refresh`: what a window or a pad puts into the virtual screen
 #![tactic(auto)]
 
 mod answer;

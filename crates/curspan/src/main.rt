@@ -1,4 +1,14 @@
 //! Runs scripts of calls on a screen of windows, and prints the pictures that they leave.
+//!
+//! - `asked`: what the words ask for
+//! - `check`: `check`
+//! - `command`: the command line
+//! - `printing`: the printed picture
+//! - `put`: what is written, and flushed
+//! - `serve`: help, `run` and `paint`
+//! - `show`: `show`
+//! - `spelled`: a usage fault's text
+//! - `status`: the exit statuses
 #![tactic(auto)]
 
 mod asked;

@@ -1,11 +1,22 @@
+-- What calls do to the writer of a screen; for `call_desk`
 pub mod WriterLemmas
+-- States with more lines damaged: what may come of calls in one may come in the other; for `AnswerLemmas`, `MakesLemmas`, `RunLemmas` and others
 pub mod StateLemmas
+-- No call of a run sends more than its bound; for `MakesLemmas`
 pub mod Shortness
+-- How many cells a run reads; for `MakesLemmas`
 pub mod ReadLemmas
+-- Calls that were made, and what they leave: none, one, and one list behind another; for `LineEndLemmas`, `RunLemmas`, `ScriptLemmas` and others
 pub mod MakesLemmas
+-- A run goes on by one call; for `run_calls`
 pub mod RunLemmas
+-- What a terminal shows after a run of calls; for `call`, `doupdate`, `run`
 pub mod ShowingLemmas
+-- A call of a script is the call that its line says, wherever its text lies, and what it answered; for `answer`
 pub mod AnswerLemmas
+-- How a line of a script ends; for `run_line`
 pub mod LineEndLemmas
+-- A script is run a line at a time; for `run_lines`, `run_script`
 pub mod ScriptLemmas
+-- In which columns calls change the virtual screen; for `call_desk`, `widen_damaged`, `widen_for_refresh` and others
 pub mod Widening

@@ -1,4 +1,8 @@
 //! A screen over a writer: runs of calls and of script lines, with what they send and log.
+//!
+//! - `changing`: in which columns a call may change the virtual screen
+//! - `run_script`: the calls of a script, with their log
+//! - `screen`: the `Screen`: calls and runs
 #![tactic(auto)]
 
 mod changing;

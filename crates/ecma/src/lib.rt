@@ -1,4 +1,12 @@
 //! Control sequences of ECMA-48: how they are spelled, and what a terminal does with them.
+//!
+//! - `laws`: laws of streams
+//! - `page`: what functions do to the picture
+//! - `parameter`: parameters of a control sequence
+//! - `selection`: SGR
+//! - `spelling`: its bytes
+//! - `terminal`: the machine over bytes
+//! - `token`: what a painter means
 #![tactic(auto)]
 
 pub mod laws;

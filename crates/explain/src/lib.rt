@@ -1,4 +1,10 @@
 //! What a person is told of a script's faulty line.
+//!
+//! - `advice`: what to write for a name of curses
+//! - `arguments`: the arguments of the line, and the first that lacks its form
+//! - `column`: where the fault is
+//! - `reasons`: what an argument is to be, and why it isn't
+//! - `telling`: the line on a fault
 #![tactic(auto)]
 
 mod advice;

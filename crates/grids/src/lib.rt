@@ -1,5 +1,15 @@
 //! The table of windows: which windows and pads there are, which cells they share, and the two writes of which every write
 //! is made.
+//!
+//! - `frame`: rectangles joined
+//! - `making`: windows and pads are made, placed and deleted
+//! - `marks`: lines are touched and untouched
+//! - `queries`: what is asked of a window
+//! - `rectangle`: a copy of several lines
+//! - `rows`: a line is lent, filled or copied: the writes
+//! - `sharing`: which windows share cells
+//! - `sync`: what is touched, handed on to ancestors and from them
+//! - `table`: the table
 #![tactic(auto)]
 
 pub mod frame;

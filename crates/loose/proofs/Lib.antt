@@ -1,1 +1,2 @@
+-- The machine values of a `Loose`; for `into_box`, `of`
 pub mod Values

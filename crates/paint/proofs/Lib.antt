@@ -1,15 +1,31 @@
+-- A text that is gathered, put behind, and handed on; for `hand_on`
 pub mod Gathering
+-- The strokes of a pen, one after another, and what each shows; for `approach`, `change_length`, `end` and others
 pub mod Strokes
+-- A list whose first items are those of another one; for `paint_picture`
 pub mod Mixed
+-- The walk over the cells of a line, and over the lines of a picture; for `come_to`, `paint_cells`, `paint_last_line` and others
 pub mod Walks
+-- The blank end of a line; for `changed_tail`, `page_end`, `paint_last_line` and others
 pub mod Tails
+-- What a terminal shows behind the opening; for `open`
 pub mod Shows
+-- The blank end of a page is erased; for `paint_picture`
 pub mod Pages
+-- The strokes of a doupdate make a text of it; for `draw`
 pub mod Holding
+-- What a text that was sent means for a painter; for `send_text`
 pub mod Updating
+-- The text of a doupdate behind a stream that agrees with the painter: behind one that clears doesn't matter what was sent before; for `agrees_after_fault`,
+-- `agrees_after_update`, `shows_after_update` and others
 pub mod Repair
+-- Runs of cells: printed one after another, and drawn in a line; for `are_all`, `paint_cells`, `paint_run` and others
 pub mod Runs
+-- Columns in which a picture may differ from another; for `changed_lines`, `clear`, `copy_changes` and others
 pub mod Changed
+-- Lines that are the same before one column and from another one on; for `changed_tail`, `first_changed`, `last_changed`
 pub mod LineParts
+-- Pictures that differ in some columns only; for `changed_lines`, `paint_picture`
 pub mod Alike
+-- The columns in which two pictures may differ are copied from one to the other; for `copy_changes`
 pub mod Copying

@@ -1,4 +1,15 @@
 //! Sends pictures to a terminal.
+//!
+//! - `changes`: of each line the columns in which a picture may differ from the last one
+//! - `gap`: what is printed again between changed cells
+//! - `laws`: laws of agreement
+//! - `line`: the walk over cells
+//! - `outbox`: bytes on their way to the sink
+//! - `page`: the walk over lines
+//! - `painter`: the `Painter`
+//! - `pen`: strokes: move, select, print, erase
+//! - `room`: the room in which they are gathered
+//! - `tail`: what is erased at the end of a line
 #![tactic(auto)]
 
 mod changes;

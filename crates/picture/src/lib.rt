@@ -1,4 +1,14 @@
 //! What the picture of the screen is made of: spans of the lines of windows, lent and put into a line, and of each line the damaged columns.
+//!
+//! - `damage`: the damaged columns of each line
+//! - `line`: `compose_row`
+//! - `owners`: from run to run along a line
+//! - `parts`: which part of the screen shows something of a window
+//! - `piece`: a part of a window's line, put into a picture
+//! - `repair`: the damaged lines composed anew
+//! - `rows`: from where the cells come, counted
+//! - `search`: what the search finds at a place, and the topmost's cursor
+//! - `span`: the search from the top, along a line
 #![tactic(auto)]
 
 mod damage;

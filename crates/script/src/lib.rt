@@ -1,4 +1,15 @@
 //! Scripts: a call a line. The reading of a script's text, and the lines of its log.
+//!
+//! - `arguments`: its arguments
+//! - `bytes`: lines, however the reader cuts them
+//! - `fault`: faults of a text, and how a script ends
+//! - `laws`: no word is missing
+//! - `limits`: the greatest lengths and numbers
+//! - `line`: what a line says
+//! - `log`: the lines of the log
+//! - `numbers`: numbers, as digits
+//! - `text`: texts, with their escapes
+//! - `words`: the words, with a file for each group of calls
 #![tactic(auto)]
 
 mod arguments;

@@ -1,4 +1,10 @@
 //! What the table of windows keeps: a slot for each window, by number, and the spare line of a copy.
+//!
+//! - `line`: the spare line of a copy
+//! - `list`: the slots by number, and each change of one
+//! - `parents`: from a window to its parent and on, up to the grid
+//! - `place`: a place of a window or a grid
+//! - `slot`: what is kept of one window
 #![tactic(auto)]
 
 mod line;

@@ -1,5 +1,15 @@
 //! The order of panels: which are visible, one above another, which are hidden, and the window of each. It knows windows by
 //! their numbers alone.
+//!
+//! - `calls`: each call on panels
+//! - `entries`: which numbers are panels', and their windows
+//! - `holders`: the panel of each window
+//! - `links`: a panel leaves the order, or enters it
+//! - `nodes`: panels by number, with their neighbours
+//! - `numbers`: the least free number
+//! - `queries`: what is asked of panels
+//! - `table`: the `Stack`
+//! - `visible`: walks through the order
 #![tactic(auto)]
 
 mod calls;

@@ -1,1 +1,2 @@
+-- Texts that are sent one after another; for `send`
 pub mod Sends

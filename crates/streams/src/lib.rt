@@ -1,4 +1,10 @@
 //! Streams of bytes: what takes them and what gives them, with a count of their failures.
+//!
+//! - `discard`: a sink that keeps nothing
+//! - `gather`: a text in fixed room
+//! - `sending`: a piece, through short writes
+//! - `sink`: where bytes go
+//! - `source`: where bytes come from
 #![tactic(auto)]
 
 mod discard;

@@ -1,5 +1,13 @@
 //! The calls on windows that write, under their X/Open names, over the table of windows. Each writing call answers the
 //! smallest rectangle of the window that holds what it wrote.
+//!
+//! - `copying`: the copies
+//! - `drawing`: drawings, each some writes of a line
+//! - `frame`: rectangles of drawings
+//! - `queries`: `winch`
+//! - `state`: what a call reads of its window
+//! - `table`: the `Windows`
+//! - `writing`: the calls that write
 #![tactic(auto)]
 
 mod copying;

@@ -36,6 +36,9 @@ pub mod Sizes
 pub mod PlaceLaws
 -- small worlds worked out, for a reader of the definitions
 pub mod Examples
+-- What the calls on panels leave and answer, and which lines and places they affect, for a reader of the definitions
 pub mod PanelExamples
+-- What copies and marks leave of small windows, for a reader of the definitions; for `RefreshExamples`
 pub mod CopyExamples
+-- What noutrefresh and pnoutrefresh leave of small screens, for a reader of the definitions
 pub mod RefreshExamples

@@ -1,5 +1,10 @@
 //! The world that calls change: windows, panels and the virtual screen, and each call as data. Its definitions stand in
 //! `specs/`: when a call is refused, what it changes and what it answers.
+//!
+//! - `call`: calls and answers
+//! - `laws`: the laws, each the contract of a function
+//! - `panel`: numbers of panels
+//! - `settings`: what a window is set to, and columns of a line
 #![tactic(auto)]
 
 mod call;

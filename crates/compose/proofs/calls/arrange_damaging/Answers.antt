@@ -1,3 +1,5 @@
+-- `arrange_damaging`: a call on panels, made on a desk: the world after it, and what it damaged (`Arranging`); what a call on panels damages: the
+-- part of the panel that it names, as it was, and that of the panel that it changed or made, as it is (`Parting`).
 use Rattle.std.proofs.Common.{◌≡◌, ℕ, ◌||◌, ◌<◌, length, sym, subst, ◌∙◌, arith}
 use Rattle.std.specs.Prelude.{MatchOption, ⊤}
 use Rattle.cell.specs.declared.window.Rect.{Rect}

@@ -1,3 +1,4 @@
+-- `make_damaging`: what a change damages, in terms of the windows before it (`AffectedDamages`).
 use Rattle.std.proofs.Common.{◌∙◌, sym}
 use Rattle.grids.specs.Tables.{windows}
 use Rattle.stack.specs.Tables.{panels}

@@ -1,3 +1,4 @@
+-- `damage_change`: lemmas of std alone.
 use Rattle.std.proofs.Common.{sym, ◌∙◌}
 use Rattle.grids.specs.Tables.{windows}
 use Rattle.picture.specs.Parts.{part_holds}

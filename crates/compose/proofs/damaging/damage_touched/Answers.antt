@@ -1,3 +1,5 @@
+-- `damage_touched`: what noutrefresh and pnoutrefresh draw on each line of the screen (`Pieces`); the touched columns of a window are damaged line
+-- by line (`Touching`).
 use Rattle.std.proofs.Common.{◌≡◌, ◌+◌, ◌-◌, arith, refl, subst, sym, ◌∙◌}
 use Rattle.world.specs.Windows.{Drawing, cell_at}
 use Rattle.world.specs.calls.Refresh.{touched_cells}

@@ -1,3 +1,4 @@
+-- `damage_visible`: the damage of one window after another (`Visible`).
 use Rattle.std.proofs.Common.{rules, ◌≡◌, ◌∷◌, Some, refl, subst, sym, ◌∙◌}
 use Rattle.std.specs.Prelude.{reverse}
 use Rattle.std.specs.List.{filter_map}

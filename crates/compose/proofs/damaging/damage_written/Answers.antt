@@ -1,3 +1,4 @@
+-- `damage_written`: lemmas of std alone.
 use Rattle.std.specs.List.{list_any}
 use Rattle.world.specs.Panels.{windows_from_top}
 use Rattle.world.specs.calls.Affected.{shows_at}

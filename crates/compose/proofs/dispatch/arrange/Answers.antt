@@ -1,3 +1,4 @@
+-- `arrange`: panels stay sound: each has a window that is there, and is neither a pad nor the standard screen (`SoundPanels`).
 use Rattle.std.proofs.Common.{true, Some, refl, sym, ◌≡◌, subst}
 use Rattle.world.specs.Panels.{window_or_standard}
 use Rattle.world.specs.Windows.{Windows}

@@ -1,3 +1,4 @@
+-- `write`: lemmas of std alone.
 use Rattle.std.proofs.Common.{ap, rules, w16}
 use Rattle.std.specs.Option.{option_map}
 use Rattle.std.proofs.lemmas.Int.{to_z-of_z}

@@ -1,3 +1,4 @@
+-- `unmark_composed`: windows are unmarked one after another (`Unmarking`).
 use Rattle.std.proofs.Common.{rules, ◌≡◌, ℕ, List, ◌∷◌, Some, refl, ap, sym, ◌∙◌}
 use Rattle.std.specs.Prelude.{reverse}
 use Rattle.std.specs.List.{filter_map}

@@ -1,3 +1,4 @@
+-- `replace_panel`: panels stay sound: each has a window that is there, and is neither a pad nor the standard screen (`SoundPanels`).
 use Rattle.std.proofs.Common.{rules, ◌≡◌, None}
 use Rattle.cell.specs.Refusals.{first_of}
 use Rattle.world.specs.calls.Stacking.{window_tests}

@@ -1,3 +1,5 @@
+-- `show_touched`: a drawing is laid over a picture line by line (`Laying`); what noutrefresh and pnoutrefresh draw on each line of the screen
+-- (`Pieces`).
 use Rattle.std.proofs.Common.{◌≡◌, ◌+◌, ◌-◌, arith, subst, sym}
 use Rattle.world.specs.Windows.{Drawing, cell_at}
 use Rattle.world.specs.calls.Refresh.{touched_cells}

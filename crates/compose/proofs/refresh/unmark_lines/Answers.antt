@@ -1,3 +1,4 @@
+-- `unmark_lines`: windows are unmarked one after another (`Unmarking`).
 use Rattle.std.proofs.Common.{◌≡◌, ◌+◌, ◌<◌, ◌≤◌, Some, None, ap, false, ◌∙◌}
 use Rattle.world.specs.Windows.{Windows}
 use Rattle.world.specs.calls.Writing.{after_writing, writing_refusal}

@@ -1,3 +1,4 @@
+-- `tell_lines`: a script is told of a line at a time (`CheckLemmas`).
 use Rattle.std.proofs.Common.{refl, sym}
 use Rattle.curspan.proofs.CheckLemmas.{checked_all, checked_front, checking_next, checking_none}
 use Rattle.curspan.proofs.check.tell_lines.Goals as goal

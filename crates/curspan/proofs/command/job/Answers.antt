@@ -1,3 +1,5 @@
+-- `job`: what clap says of this program's command line, and of the number of an option (`JobLemmas`); where clap refuses nothing of the words, they
+-- name a subcommand and give both numbers (`TakenLemmas`).
 use Rattle.std.proofs.Common.{map, subst, sym}
 use Rattle.clap.proofs.FaultLemmas.{failed_up}
 use Rattle.clap.specs.Words.{fault_of}

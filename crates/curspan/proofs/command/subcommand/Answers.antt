@@ -1,3 +1,4 @@
+-- `subcommand`: lemmas of std alone.
 use Rattle.std.proofs.Common.{ap, ap₂, ◌∙◌, ◌||◌}
 use Rattle.std.proofs.lemmas.Result.{IfOk-weaker}
 use Rattle.clap.specs.Simple.{app_of_fields}

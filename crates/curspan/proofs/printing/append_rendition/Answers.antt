@@ -1,3 +1,4 @@
+-- `append_rendition`: the text of a rendition, put together piece by piece (`PrintLemmas`).
 use Rattle.std.proofs.Common.{[], ◌∷◌, codes}
 use Rattle.std.specs.Prelude.{if◌then◌else◌}
 use Rattle.cell.specs.Attributes.{hex_digits}

@@ -1,3 +1,4 @@
+-- `put_lines`: the text of a picture around one of its lines (`PictureTexts`); a text is written piece by piece (`PutLemmas`).
 use Rattle.std.proofs.Common.{◌<◌, length, refl, arith}
 use Rattle.cell.specs.Pictures.{line_of}
 use Rattle.curspan.specs.Printing.{line_text}

@@ -1,3 +1,4 @@
+-- `paint`: a picture that was written, or could not be (`PictureLemmas`).
 use Rattle.std.proofs.Common.{◌≡◌, false, true, Some, ap, inr, refl, subst, sym, ◌∙◌}
 use Rattle.std.specs.Prelude.{is_some}
 use Rattle.curspan.proofs.PictureLemmas.{Prints-failed, Prints-nothing, Prints-written}

@@ -1,3 +1,4 @@
+-- `run`: lemmas of std alone.
 use Rattle.std.proofs.Common.{inr, refl, rules}
 use Rattle.curspan.proofs.serve.run.Goals as goal
 

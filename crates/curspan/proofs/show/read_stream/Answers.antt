@@ -1,3 +1,4 @@
+-- `read_stream`: a stream is read into a terminal piece by piece (`FeedingLemmas`).
 use Rattle.std.proofs.Common.{◌∙◌}
 use Rattle.curspan.proofs.FeedingLemmas.{more_fed, not_ended, not_past}
 use Rattle.curspan.proofs.show.read_stream.Goals as goal

@@ -1,3 +1,4 @@
+-- `show`: lemmas of std alone.
 use Rattle.std.proofs.Common.{false, inr, refl}
 use Rattle.ecma.specs.Standing.{blank_terminal}
 use Rattle.curspan.proofs.show.show.Goals as goal

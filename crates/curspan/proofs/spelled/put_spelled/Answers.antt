@@ -1,3 +1,4 @@
+-- `put_spelled`: the spelling of a text is written piece by piece (`SpelledLemmas`).
 use Rattle.curspan.proofs.SpelledLemmas.{more_spelled, cut_spelled}
 use Rattle.curspan.proofs.spelled.put_spelled.Goals as goal
 

@@ -1,3 +1,4 @@
+-- `widen_damaged`: in which columns calls change the virtual screen (`Widening`).
 use Rattle.std.proofs.Common.{◌≡◌, ◌-◌, ◌∙◌, length-set, refl, arith}
 use Rattle.cell.specs.Pictures.{shown_at}
 use Rattle.world.specs.World.{picture}

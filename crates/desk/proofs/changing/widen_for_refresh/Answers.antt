@@ -1,3 +1,4 @@
+-- `widen_for_refresh`: in which columns calls change the virtual screen (`Widening`).
 use Rattle.std.proofs.Common.{◌≡◌, false, sym, ap, arith}
 use Rattle.std.specs.Option.{option_map_or}
 use Rattle.cell.specs.Shown.{shown}

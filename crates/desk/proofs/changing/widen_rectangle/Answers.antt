@@ -1,3 +1,4 @@
+-- `widen_rectangle`: in which columns calls change the virtual screen (`Widening`).
 use Rattle.std.proofs.Common.{◌≡◌, ◌+◌, min, ◌<◌, ◌≤◌, ◌∙◌, false, length, length-set, refl, ap, arith}
 use Rattle.paint.specs.Changes.{is_in, joined, stretch_of}
 use Rattle.paint.specs.declared.changes.Stretch.{Stretch}

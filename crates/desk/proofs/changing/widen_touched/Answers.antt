@@ -1,3 +1,4 @@
+-- `widen_touched`: in which columns calls change the virtual screen (`Widening`).
 use Rattle.std.proofs.Common.{◌≡◌, ◌+◌, ◌-◌, ◌<◌, ◌∙◌, min, None, length, length-set, sym, ap, arith}
 use Rattle.world.specs.calls.Refresh.{among, touched_cells}
 use Rattle.grids.specs.Tables.{windows}

@@ -1,3 +1,4 @@
+-- `one_failure`: what a stream reaches, and where it fails (`Failing`).
 use Rattle.ecma.proofs.Failing.{FailsAt-offset, FailsAt-outside, FailsAt-terminal}
 use Rattle.ecma.proofs.laws.one_failure.Goals as goal
 

@@ -1,3 +1,4 @@
+-- `erase_lines`: lines of a picture, erased (`Erasing`); no effect changes the size of the picture (`Sizes`).
 use Rattle.std.proofs.Common.{◌<◌, ◌≡◌, ◌∙◌, ap, arith, length, refl, subst, sym}
 use Rattle.cell.specs.Pictures.{HasSize}
 use Rattle.ecma.specs.declared.token.Erase.TheVariants.{All}

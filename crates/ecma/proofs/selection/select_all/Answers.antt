@@ -1,3 +1,4 @@
+-- `select_all`: renditions selected by the parameters of a control sequence (`Selecting`).
 use Rattle.std.proofs.Common.{◌∙◌, ap, sym, arith}
 use Rattle.std.proofs.lemmas.List.{take_all}
 use Rattle.ecma.specs.Terminals.{select}

@@ -1,3 +1,4 @@
+-- `append_colour`: how many bytes a token has (`Lengths`).
 use Rattle.std.proofs.Common.{arith, ◌∙◌}
 use Rattle.ecma.proofs.Lengths.{two_digits}
 use Rattle.ecma.proofs.spelling.append_colour.Goals as goal

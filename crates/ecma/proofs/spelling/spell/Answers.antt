@@ -1,3 +1,4 @@
+-- `spell`: how many bytes a token has (`Lengths`); the spelling of a token is one item, with the token's effect (`Tokens`).
 use Rattle.std.proofs.Common.{rules, arith, ◌∙◌}
 use Rattle.std.proofs.lemmas.Grind.{common_steps}
 use Rattle.ecma.specs.Spelling.{spelling}

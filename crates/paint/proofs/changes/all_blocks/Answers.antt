@@ -1,3 +1,4 @@
+-- `all_blocks`: lemmas of std alone.
 use Rattle.std.proofs.Common.{◌≡◌, ℕ, zero, suc, true, get_or, refl}
 use Rattle.std.specs.Prelude.{replicate}
 use Rattle.paint.proofs.changes.all_blocks.Goals as goal

@@ -1,3 +1,4 @@
+-- `approach`: the strokes of a pen, one after another, and what each shows (`Strokes`).
 use Rattle.std.proofs.Common.{◌+◌, length, arith}
 use Rattle.paint.proofs.Strokes.{approach-again, approach-move, is_at-known}
 use Rattle.paint.proofs.gap.approach.Goals as goal

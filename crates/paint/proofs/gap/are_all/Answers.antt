@@ -1,3 +1,4 @@
+-- `are_all`: runs of cells: printed one after another, and drawn in a line (`Runs`).
 use Rattle.std.proofs.Common.{◌≡◌, sym, ap, ◌∙◌}
 use Rattle.std.proofs.lemmas.List.{take_all}
 use Rattle.std.proofs.lemmas.List.Elements.{All-more}

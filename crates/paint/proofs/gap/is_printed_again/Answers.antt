@@ -1,3 +1,4 @@
+-- `is_printed_again`: the strokes of a pen, one after another, and what each shows (`Strokes`).
 use Rattle.std.proofs.Common.{length, sym, ◌∙◌, eqb-true}
 use Rattle.std.proofs.lemmas.List.{nil_from_length}
 use Rattle.cell.specs.Pictures.{Place}

@@ -1,3 +1,4 @@
+-- `moved_length`: the strokes of a pen, one after another, and what each shows (`Strokes`).
 use Rattle.std.proofs.Common.{length, sym, ap, ◌∙◌, arith}
 use Rattle.paint.specs.steps.Strokes.{change}
 use Rattle.paint.proofs.Strokes.{length-go, length-stay}

@@ -1,3 +1,4 @@
+-- `come_to`: the walk over the cells of a line, and over the lines of a picture (`Walks`).
 use Rattle.std.proofs.Common.{◌∙◌, ◌-◌, ◌≤◌, Some, drop, take, ap, subst, arith}
 use Rattle.cell.specs.Shown.{no_rendition}
 use Rattle.paint.specs.steps.Strokes.{approach_bytes, Strokes}

@@ -1,3 +1,5 @@
+-- `paint_cells`: runs of cells: printed one after another, and drawn in a line (`Runs`); the walk over the cells of a line, and over the lines of a
+-- picture (`Walks`).
 use Rattle.std.proofs.Common.{◌≡◌, ◌+◌, ◌-◌, ◌<◌, ◌≤◌, ◌∙◌, true, length, get_or, take, drop, refl, sym, subst, arith}
 use Rattle.std.proofs.lemmas.List.{get_or_default, length-drop, length-take-le}
 use Rattle.cell.specs.Shown.{shown_blank}

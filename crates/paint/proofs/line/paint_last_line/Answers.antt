@@ -1,3 +1,5 @@
+-- `paint_last_line`: the strokes of a pen, one after another, and what each shows (`Strokes`); the blank end of a line (`Tails`); the walk over the
+-- cells of a line, and over the lines of a picture (`Walks`).
 use Rattle.std.proofs.Common.{◌≡◌, ◌∙◌, length, drop, sym, arith}
 use Rattle.cell.specs.Shown.{shown_blank}
 use Rattle.paint.specs.steps.Walks.{AreBlank}

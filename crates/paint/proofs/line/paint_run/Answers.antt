@@ -1,3 +1,5 @@
+-- `paint_run`: runs of cells: printed one after another, and drawn in a line (`Runs`); the strokes of a pen, one after another, and what each shows
+-- (`Strokes`).
 use Rattle.std.proofs.Common.{◌≡◌, ◌+◌, ◌<◌, ◌≤◌, ◌∙◌, get_or, length, sym, ap, subst, arith}
 use Rattle.std.proofs.lemmas.List.{get_or_default}
 use Rattle.cell.specs.Shown.{IsRendition, Shown, shown_blank}

@@ -1,3 +1,4 @@
+-- `run_end`: runs of cells: printed one after another, and drawn in a line (`Runs`).
 use Rattle.std.proofs.Common.{◌≡◌, ◌<◌, ◌∙◌, false, get_or, inl, inr, length, sym, ap, arith}
 use Rattle.std.proofs.lemmas.Bool.{cases_lt}
 use Rattle.std.proofs.lemmas.List.{get_or_default}

@@ -1,3 +1,4 @@
+-- `changed_lines`: pictures that differ in some columns only (`Alike`); columns in which a picture may differ from another (`Changed`).
 use Rattle.std.proofs.Common.{◌≡◌, ◌-◌, ◌++◌, inl, inr, take, sym, ◌∙◌, arith}
 use Rattle.std.proofs.lemmas.List.{take-append-drop}
 use Rattle.paint.proofs.Alike.{line-back, line-front, lines-back, lines-front}

@@ -1,3 +1,4 @@
+-- `page_end`: the blank end of a line (`Tails`).
 use Rattle.std.proofs.Common.{[], ◌-◌, min, refl, arith}
 use Rattle.ecma.specs.Terminals.{blanked}
 use Rattle.paint.proofs.Tails.{kept-at}

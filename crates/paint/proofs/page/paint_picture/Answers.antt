@@ -1,3 +1,5 @@
+-- `paint_picture`: pictures that differ in some columns only (`Alike`); a list whose first items are those of another one (`Mixed`); the blank end
+-- of a page is erased (`Pages`); the walk over the cells of a line, and over the lines of a picture (`Walks`).
 use Rattle.std.proofs.Common.{◌≡◌, ◌+◌, ◌-◌, ◌<◌, ◌≤◌, ◌∙◌, length, refl, sym, ap, subst, arith}
 use Rattle.paint.specs.Changes.{stretch_of}
 use Rattle.paint.specs.declared.pen.Pen.{Pen}

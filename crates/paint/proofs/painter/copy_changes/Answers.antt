@@ -1,3 +1,5 @@
+-- `copy_changes`: columns in which a picture may differ from another (`Changed`); the columns in which two pictures may differ are copied from one
+-- to the other (`Copying`).
 use Rattle.std.proofs.Common.{◌≡◌, ◌+◌, ◌-◌, ◌<◌, take, drop, length, inl, inr, List, ap, ◌∙◌, arith}
 use Rattle.std.proofs.lemmas.Bool.{cases_lt}
 use Rattle.std.proofs.lemmas.List.{length-drop, length-take-le}

@@ -1,3 +1,4 @@
+-- `draw`: the strokes of a doupdate make a text of it (`Holding`).
 use Rattle.std.proofs.Common.{sym, subst}
 use Rattle.cell.specs.Pictures.{HasSize}
 use Rattle.paint.specs.Changes.{DifferOnly}

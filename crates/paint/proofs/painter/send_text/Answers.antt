@@ -1,3 +1,4 @@
+-- `send_text`: what a text that was sent means for a painter (`Updating`).
 use Rattle.std.proofs.lemmas.Result.{err_from_is_err_and}
 use Rattle.paint.proofs.Updating.{updated, broken_flush, broken_text}
 use Rattle.paint.proofs.painter.send_text.Goals as goal

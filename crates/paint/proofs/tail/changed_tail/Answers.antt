@@ -1,3 +1,4 @@
+-- `changed_tail`: lines that are the same before one column and from another one on (`LineParts`); the blank end of a line (`Tails`).
 use Rattle.std.proofs.Common.{arith, ◌-◌}
 use Rattle.paint.proofs.LineParts.{not-blank}
 use Rattle.paint.proofs.Tails.{differs-before}

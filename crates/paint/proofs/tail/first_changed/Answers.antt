@@ -1,3 +1,4 @@
+-- `first_changed`: lines that are the same before one column and from another one on (`LineParts`).
 use Rattle.std.proofs.Common.{arith, drop, ◌-◌}
 use Rattle.std.proofs.lemmas.List.{length-take}
 use Rattle.paint.proofs.LineParts.{differs-within, front-between, same-between}

@@ -1,3 +1,4 @@
+-- `send`: texts that are sent one after another (`Sends`).
 use Rattle.std.proofs.Common.{refl, ◌∙◌, ◌+◌}
 use Rattle.std.proofs.lemmas.List.{take_rest}
 use Rattle.streams.proofs.Sends.{IsPartlySent-more, failures-some}

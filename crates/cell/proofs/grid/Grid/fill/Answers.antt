@@ -1,3 +1,5 @@
+-- `fill`: a line of a picture that is filled column after column (`Fills`); pictures of a known size: what each line has, what a change of one cell
+-- keeps, and when two are equal (`PictureLemmas`).
 use Rattle.std.proofs.Common.{◌≡◌, ◌≤◌, ◌<◌, length, arith, ◌∙◌}
 use Rattle.std.proofs.lemmas.List.{length-set}
 use Rattle.cell.specs.Pictures.{line_of, with_cell}

@@ -1,3 +1,5 @@
+-- `compose`: the virtual screen stays sound where it takes the picture of windows and panels (`Composed`); what update_panels reads: no less than it
+-- changes, and no more than all of the damaged lines (`Updating`).
 use Rattle.std.proofs.Common.{rules, ◌≡◌, ◌<◌, ◌∷◌, ◌||◌, ℕ, false, refl, sym, ap, subst, ◌∙◌}
 use Rattle.cell.specs.Pictures.{HasSize, picture_of, shown_at}
 use Rattle.cell.specs.Shown.{shown}

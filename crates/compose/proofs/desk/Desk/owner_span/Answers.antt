@@ -1,3 +1,4 @@
+-- `owner_span`: lemmas of std alone.
 use Rattle.std.proofs.Common.{ℕ, refl, ap, sym, subst, arith}
 use Rattle.world.specs.Windows.{Windows}
 use Rattle.grids.specs.Tables.{windows as windows_of}

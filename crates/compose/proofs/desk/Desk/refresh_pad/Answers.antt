@@ -1,3 +1,6 @@
+-- `refresh_pad`: the virtual screen stays sound where it takes the picture of windows and panels (`Composed`); where damage covers what a call may
+-- change, the damage of a desk still covers all that differs after it; and few lines are damaged (`Covering`); the rectangle of the screen to which
+-- a pad's cells are copied is what the copy draws (`Padding`); what noutrefresh and pnoutrefresh draw on each line of the screen (`Pieces`).
 use Rattle.std.proofs.Common.{rules, ◌≡◌, ◌||◌, false, None, Some, is_some, refl, subst}
 use Rattle.cell.specs.declared.window.Rect.{Rect}
 use Rattle.world.specs.Windows.{Drawing}

@@ -1,3 +1,4 @@
+-- `answer`: a call of a script is the call that its line says, wherever its text lies, and what it answered (`AnswerLemmas`).
 use Rattle.std.proofs.Common.{Ok, Err}
 use Rattle.desk.proofs.AnswerLemmas.{placeless_ends}
 use Rattle.desk.specs.declared.screen.Fault.TheVariants.{Refused, Write}

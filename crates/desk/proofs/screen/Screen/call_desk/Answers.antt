@@ -1,3 +1,4 @@
+-- `call_desk`: in which columns calls change the virtual screen (`Widening`); what calls do to the writer of a screen (`WriterLemmas`).
 use Rattle.std.proofs.Common.{◌∙◌, sym}
 use Rattle.compose.proofs.DeskLemmas.{size-called}
 use Rattle.desk.proofs.Widening.{kept-called}

@@ -1,3 +1,4 @@
+-- `doupdate`: what a terminal shows after a run of calls (`ShowingLemmas`).
 use Rattle.world.specs.declared.call.Call.TheVariants.{Refresh}
 use Rattle.world.specs.declared.call.Refresh.TheVariants.{Doupdate}
 use Rattle.world.specs.declared.call.Reply.TheVariants.{Sent}

@@ -1,3 +1,4 @@
+-- `run_calls`: a run goes on by one call (`RunLemmas`).
 use Rattle.std.proofs.Common.{arith, ◌∙◌}
 use Rattle.desk.proofs.RunLemmas.{accepted_next, ends_cut, ends_whole, refused_next}
 use Rattle.desk.proofs.screen.Screen.run_calls.Goals as goal

@@ -1,3 +1,4 @@
+-- `run_line`: how a line of a script ends (`LineEndLemmas`).
 use Rattle.desk.proofs.LineEndLemmas.{line_has_fault, line_is_cut, line_is_not_logged, line_is_run, line_says_nothing}
 use Rattle.desk.proofs.screen.Screen.run_line.Goals as goal
 

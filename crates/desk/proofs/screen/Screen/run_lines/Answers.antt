@@ -1,3 +1,4 @@
+-- `run_lines`: a script is run a line at a time (`ScriptLemmas`).
 use Rattle.std.proofs.Common.{refl, ap, is_some, ◌∙◌}
 use Rattle.desk.specs.ScriptEnds.{write_fault}
 use Rattle.streams.specs.Counts.{counted}

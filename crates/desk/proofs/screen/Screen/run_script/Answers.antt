@@ -1,3 +1,4 @@
+-- `run_script`: a script is run a line at a time (`ScriptLemmas`).
 use Rattle.std.proofs.Common.{ap, refl, sym}
 use Rattle.desk.specs.ScriptEnds.{write_fault}
 use Rattle.desk.proofs.ScriptLemmas.{closes_after_fault, closes_failed, closes_flushed, closes_unflushed, lines_keep_size, none_is, script_ends}

@@ -1,3 +1,4 @@
+-- `call`: what a terminal shows after a run of calls (`ShowingLemmas`).
 use Rattle.desk.proofs.ShowingLemmas.{call-keeps_size, call-shows}
 use Rattle.desk.proofs.screen.ScreenCalls.call.Goals as goal
 

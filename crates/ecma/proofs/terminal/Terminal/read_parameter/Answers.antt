@@ -1,3 +1,4 @@
+-- `read_parameter`: what one more byte does to where a reader stands (`Standing`).
 use Rattle.std.proofs.Common.{◌∙◌, ap}
 use Rattle.ecma.specs.declared.terminal.State.TheVariants.{Parameters, Escape}
 use Rattle.ecma.proofs.Standing.{reader_of, broken-follows, Follows-from}

@@ -1,3 +1,4 @@
+-- `clear`: columns in which a picture may differ from another (`Changed`).
 use Rattle.std.proofs.Common.{rules, ◌≡◌, ℕ, length, length-set, refl, ◌∙◌, ap, arith}
 use Rattle.paint.specs.Changes.{no_stretch, stretch_of}
 use Rattle.paint.proofs.Changed.{behind, is_out, one-less}

@@ -1,3 +1,4 @@
+-- `whole`: columns in which a picture may differ from another (`Changed`).
 use Rattle.std.proofs.Common.{◌≡◌, ◌/◌, rules, inl, inr, length, sym, ◌∙◌, arith}
 use Rattle.std.proofs.lemmas.Bool.{false≢true}
 use Rattle.std.proofs.lemmas.List.{get_or_past}

@@ -1,3 +1,4 @@
+-- `go`: the strokes of a pen, one after another, and what each shows (`Strokes`).
 use Rattle.std.proofs.Common.{sym, ◌∙◌}
 use Rattle.paint.proofs.Strokes.{goes, goes-nowhere, is_at-known}
 use Rattle.paint.proofs.pen.Pen.go.Goals as goal

@@ -1,3 +1,4 @@
+-- `print_again`: the strokes of a pen, one after another, and what each shows (`Strokes`).
 use Rattle.std.proofs.Common.{◌<◌, ◌∙◌, length, refl, subst, arith}
 use Rattle.std.proofs.lemmas.List.{get_or_default}
 use Rattle.cell.specs.Pictures.{Picture}

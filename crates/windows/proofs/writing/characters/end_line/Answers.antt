@@ -1,3 +1,4 @@
+-- `end_line`: a character written at the cursor of a window of a known state (`Typing`).
 use Rattle.grids.specs.Tables.{windows}
 use Rattle.windows.proofs.Typing.{ended, ended_frame}
 use Rattle.windows.proofs.writing.characters.end_line.Goals as goal

@@ -1,3 +1,4 @@
+-- `print`: a character written at the cursor of a window of a known state (`Typing`).
 use Rattle.std.proofs.Common.{ap, ◌∙◌}
 use Rattle.world.specs.Windows.{put}
 use Rattle.world.specs.Drawings.{at_place}

@@ -1,3 +1,4 @@
+-- `to_next_line`: a character written at the cursor of a window of a known state (`Typing`).
 use Rattle.grids.specs.Tables.{windows}
 use Rattle.windows.proofs.Typing.{scrolled, scrolled_frame}
 use Rattle.windows.proofs.writing.characters.to_next_line.Goals as goal

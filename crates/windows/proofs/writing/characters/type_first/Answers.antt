@@ -1,3 +1,5 @@
+-- `type_first`: characters that are printed in one line, before its last column, are one write of that line (`Runs`); a character written at the
+-- cursor of a window of a known state (`Typing`).
 use Rattle.std.proofs.Common.{get_or, take}
 use Rattle.grids.specs.Tables.{windows}
 use Rattle.windows.proofs.Typing.{added, added_frame}

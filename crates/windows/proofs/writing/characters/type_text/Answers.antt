@@ -1,3 +1,4 @@
+-- `type_text`: characters that are printed in one line, before its last column, are one write of that line (`Runs`).
 use Rattle.grids.specs.Tables.{windows}
 use Rattle.windows.proofs.Runs.{text_goes_on, frame_goes_on, rest_accepted}
 use Rattle.windows.proofs.writing.characters.type_text.Goals as goal

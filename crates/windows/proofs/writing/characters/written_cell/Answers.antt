@@ -1,3 +1,4 @@
+-- `written_cell`: a character written at the cursor of a window of a known state (`Typing`).
 use Rattle.std.proofs.Common.{◌≡◌, ◌==◌, if◌then◌else◌, sym, ap, ◌∙◌}
 use Rattle.std.specs.Int.RustNames.{bit_or}
 use Rattle.std.proofs.lemmas.Bool.{eq-eqb, ne_eqb}
