@@ -1,12 +1,12 @@
 -- A piece of a line of a grid that is written at once.
-use Rattle.std.proofs.Common.{◌≡◌, ℕ, suc, ◌∷◌, ◌+◌, ◌-◌, ◌*◌, ◌<◌, ◌≤◌, ◌==◌, ◌&&◌, nat_le, nat_lt, if◌then◌else◌, true, false, List, [], ◌++◌, length, take, drop, get_or, ap, sym, ◌∙◌, refl}
+use Rattle.std.proofs.Common.{◌≡◌, ℕ, suc, ◌∷◌, ◌+◌, ◌-◌, ◌*◌, ◌<◌, ◌≤◌, ◌==◌, ◌&&◌, nat_le, nat_lt, if◌then◌else◌, true, false, List, [], ◌++◌, length, map, take, drop, get_or, ap, subst, sym, ◌∙◌, refl}
 use Rattle.std.proofs.Common.{arith, inl, inr, ◌⊎◌, length-append, eq-eqb, ne_eqb}
 use Rattle.std.specs.List.{AllByRecursion, splice}
 use Rattle.std.proofs.Math.ListN.{get_or-append}
 use Rattle.std.proofs.Math.Seq.{get_or-append_right}
 use Rattle.std.proofs.lemmas.Bool.{cases_lt, cases_eq, cases_order, cond-true, cond-false}
 use Rattle.std.proofs.lemmas.Bool.Decides.{nat_tests}
-use Rattle.std.proofs.lemmas.List.{get_or-take, get_or-drop, get_or_past, length-take-le, length-drop}
+use Rattle.std.proofs.lemmas.List.{get_or-map, get_or-take, get_or-drop, get_or_past, length-map, length-take-le, length-drop}
 use Rattle.std.proofs.lemmas.List.Elements.{All-from_recursion, recursion_from_All, All-take, All-drop, All-append}
 use Rattle.cell.specs.Pictures.{line_of, cell_or, HasSize}
 use Rattle.cell.specs.Grids.{rows, IsGrid}
@@ -74,7 +74,7 @@ outside v u y x n other = elim (cases_eq v y) [
   | inr line ↦ let off = ne_eqb v y line in rw off refl
 ]
 
-pub piece_end : {A : Type 0} {Is : A → Type 0} (lines columns : ℕ) (cells piece : List A) (y x : ℕ) → IsGrid Is lines columns cells → y < lines → x + length piece ≤ columns
+pub piece_end : {A B : Type 0} {Is : A → Type 0} (lines columns : ℕ) (cells : List A) (piece : List B) (y x : ℕ) → IsGrid Is lines columns cells → y < lines → x + length piece ≤ columns
     → y * columns + x + length piece ≤ length cells
 piece_end lines columns cells piece y x grid below fits = omega (arith, grid.whole, line_end lines columns y below, fits)
 
@@ -143,6 +143,40 @@ module _ {A : Type 0} (none : A) {Is : A → Type 0} (lines columns : ℕ) (cell
             ∙ sym (cond-false test inner (cell_or none (rows lines columns cells) (v, u)) (outside v u y x (length piece) (λ e from to. omega (arith, below))))
       ]
 
+-- a piece made of another one by a function
+
+module _ {A B : Type 0} (f : A → B) (none : A) (other : B) {Is : B → Type 0} (lines columns : ℕ) (cells : List B) (piece : List A) (y x : ℕ) (grid : IsGrid Is lines columns cells)
+    (below : y < lines) (fits : x + length piece ≤ columns) (sound : AllByRecursion Is (map f piece)) where
+  same_length : length (map f piece) ≡ length piece
+  same_length = length-map piece f
+
+  made_fits : x + length (map f piece) ≤ columns
+  made_fits = omega (arith, same_length, fits)
+
+  pub IsGrid-made : IsGrid Is lines columns (splice cells (y * columns + x) (y * columns + x + length piece) (map f piece))
+  IsGrid-made = subst (λ n. IsGrid Is lines columns (splice cells (y * columns + x) (y * columns + x + n) (map f piece))) same_length
+      (IsGrid-piece other lines columns cells (map f piece) y x grid below made_fits sound)
+
+  -- the made cells, also past their end
+  made : (v u : ℕ) → cell_or other (rows lines columns (splice cells (y * columns + x) (y * columns + x + length piece) (map f piece))) (v, u)
+      ≡ (if (v == y) && (nat_le x u && nat_lt u (x + length piece)) then get_or (map f piece) (u - x) other else cell_or other (rows lines columns cells) (v, u))
+  made v u = subst (λ n. cell_or other (rows lines columns (splice cells (y * columns + x) (y * columns + x + n) (map f piece))) (v, u)
+      ≡ (if (v == y) && (nat_le x u && nat_lt u (x + n)) then get_or (map f piece) (u - x) other else cell_or other (rows lines columns cells) (v, u))) same_length
+      (shown-piece other lines columns cells (map f piece) y x grid below made_fits sound v u)
+
+  pub shown-made : (v u : ℕ) → cell_or other (rows lines columns (splice cells (y * columns + x) (y * columns + x + length piece) (map f piece))) (v, u)
+      ≡ (if (v == y) && (nat_le x u && nat_lt u (x + length piece)) then f (get_or piece (u - x) none) else cell_or other (rows lines columns cells) (v, u))
+  shown-made v u =
+      let test = (v == y) && (nat_le x u && nat_lt u (x + length piece)) in
+      let outer = cell_or other (rows lines columns cells) (v, u) in
+      made v u
+      ∙ elim (cases_lt (u - x) (length piece)) [
+        | inl within ↦ ap (λ (g : B). if test then g else outer) (get_or-map f piece (u - x) none other within)
+        | inr past ↦
+            let off : test ≡ false = outside v u y x (length piece) (λ _ from to. omega arith) in
+            cond-false test (get_or (map f piece) (u - x) other) outer off ∙ sym (cond-false test (f (get_or piece (u - x) none)) outer off)
+      ]
+
 -- grids of one size
 
 widths : {A : Type 0} (width : ℕ) (one other : List (List A)) → length one ≡ length other → ((k : ℕ) → length (line_of one k) ≡ length (line_of other k))
@@ -152,7 +186,7 @@ widths width [] (line ∷ lines) e same h = absurd (omega arith)
 widths width (line ∷ lines) [] e same h = absurd (omega arith)
 widths width (line ∷ lines) (other ∷ others) e same h = (sym (same 0) ∙ h.0, widths width lines others (omega arith) (λ k. same (suc k)) h.1)
 
-line_width : {A : Type 0} {Is : A → Type 0} (lines columns : ℕ) (one other : List A) → IsGrid Is lines columns one → IsGrid Is lines columns other → (k : ℕ)
+pub line_width : {A : Type 0} {Is : A → Type 0} (lines columns : ℕ) (one other : List A) → IsGrid Is lines columns one → IsGrid Is lines columns other → (k : ℕ)
     → length (line_of (rows lines columns one) k) ≡ length (line_of (rows lines columns other) k)
 line_width {A = A} lines columns one other grid grid' k = elim (cases_lt k lines) [
   | inl below ↦ length-line_of-rows lines columns one k grid below ∙ sym (length-line_of-rows lines columns other k grid' below)
@@ -171,13 +205,13 @@ HasSize-same {height} {width} {lines} {columns} {one} {other} grid grid' size =
     }
 
 -- a piece that fits into a line of the picture fits into the line of the grid
-pub record PieceFits {A : Type 0} (lines columns : ℕ) (cells piece : List A) (y x : ℕ) : Type 0 where
+pub record PieceFits {A B : Type 0} (lines columns : ℕ) (cells : List A) (piece : List B) (y x : ℕ) : Type 0 where
   pub below : y < lines
   pub fits : x + length piece ≤ columns
   pub end : y * columns + x + length piece ≤ length cells
   pub few : length cells ≤ 1000000
 
-pub PieceFits-from : {A : Type 0} {Is : A → Type 0} {lines columns y x : ℕ} {cells piece : List A} {picture : List (List A)} → IsGrid Is lines columns cells → rows lines columns cells ≡ picture
+pub PieceFits-from : {A B : Type 0} {Is : A → Type 0} {lines columns y x : ℕ} {cells : List A} {piece : List B} {picture : List (List A)} → IsGrid Is lines columns cells → rows lines columns cells ≡ picture
     → y < length picture → x + length piece ≤ length (line_of picture y) → PieceFits lines columns cells piece y x
 PieceFits-from {lines} {columns} {y} {x} {cells} {piece} grid is within fits =
     let line = HasLine-from_length grid is within in

@@ -1,7 +1,8 @@
 //! Colours, and pairs of them.
 
-ghost use Rattle.std.specs.Prelude.{◌≡◌, ◌&&◌, is_none, ◌≤◌, nat_le, if◌then◌else◌, slice_set, true};
-ghost use Rattle.cell.specs.Shown.{ArePairs, IsColour, first_pairs, shown};
+ghost use Rattle.std.specs.Prelude.{◌≡◌, ◌&&◌, is_none, ◌≤◌, nat_le, if◌then◌else◌, length, map, slice_set, true};
+ghost use Rattle.std.specs.List.{AllByRecursion};
+ghost use Rattle.cell.specs.Shown.{ArePairs, IsColour, IsShown, first_pairs, shown};
 
 use crate::cell::Cell;
 use crate::colour_bits::ColourBits;
@@ -204,6 +205,19 @@ impl Pairs {
     {
         let pair = self.pairs[usize::from(cell.pair().number())];
         Shown::of_cell(cell, pair)
+    }
+
+    /// Puts how cells are shown into as many places.
+    pub(crate) fn show(&self, cells: &[Cell], places: &mut [Shown])
+        requires { length places.old ≡ length cells.now }
+        ensures shown { places.new ≡ map (shown self.now) cells.now }
+        ensures cells { AllByRecursion IsShown places.new }
+    {
+        for x in 0..cells.len() {
+            let shown = self.shown(cells[x]);
+            prove!(shown.ch() >= b' ');
+            places[x] = shown;
+        }
     }
 }
 

@@ -1,12 +1,13 @@
 //! A grid of cells: what a window holds, or what a screen or a terminal shows.
 
-ghost use Rattle.std.specs.Prelude.{◌≡◌, ◌≤◌, ◌<◌, ◌==◌, ◌&&◌, ℕ, ◌+◌, ◌-◌, nat_le, nat_lt, if◌then◌else◌, length, replicate, slice_index_or, IfOk, true};
+ghost use Rattle.std.specs.Prelude.{◌≡◌, ◌≤◌, ◌<◌, ◌==◌, ◌&&◌, ℕ, ◌+◌, ◌-◌, ◌*◌, nat_le, nat_lt, if◌then◌else◌, length, map, replicate, slice_index_or, IfOk, true};
 ghost use Rattle.std.specs.List.{AllByRecursion, splice};
 ghost use Rattle.cell.specs.Glyphs.{blank, IsCell};
-ghost use Rattle.cell.specs.Shown.{shown_blank, IsShown};
-ghost use Rattle.cell.specs.Pictures.{EachCell, HasSize, all_of, cell_or, line_of, size_of, with_cell};
+ghost use Rattle.cell.specs.Shown.{shown, shown_blank, IsShown};
+ghost use Rattle.cell.specs.Pictures.{EachCell, HasSize, all_of, cell_or, line_of, shown_at, size_of, with_cell};
 
 use crate::cell::Cell;
+use crate::colour::Pairs;
 use crate::limits::LARGEST_PAD;
 use crate::shown::Shown;
 use std::alloc::{AllocError, Global};
@@ -168,6 +169,29 @@ impl<T: Element> Grid<T> {
     {
         self.cells.copy_from_slice(&other.cells);
     }
+}
+
+/// Puts cells into line `y` of a picture from column `x` on, in the colours that their pairs have.
+pub fn show_cells(cells: &[Cell], pairs: &Pairs, y: u16, x: u16, picture: &mut Grid<Shown>)
+    requires line { y < length picture.old }
+    requires columns { x + length cells.now ≤ length (line_of picture.old y) }
+    ensures shown { (v u : ℕ) → shown_at picture.new (v, u) ≡ (if (v == y) && (nat_le x u && nat_lt u (x + length cells.now)) then shown pairs.now
+        (slice_index_or cells.now (u - x) blank) else shown_at picture.old (v, u)) }
+    ensures size { (lines columns : ℕ) → HasSize lines columns picture.old → HasSize lines columns picture.new }
+    ensures height { length picture.new ≡ length picture.old }
+    ensures width { (v : ℕ) → length (line_of picture.new v) ≡ length (line_of picture.old v) }
+{
+    let start = usize::from(y) * picture.columns + usize::from(x);
+    show_piece(cells, pairs, &mut picture.cells, start);
+}
+
+/// Puts how cells are shown among others, from a place on.
+fn show_piece(piece: &[Cell], pairs: &Pairs, cells: &mut Vec<Shown>, start: usize)
+    requires { start + length piece.now ≤ length cells.old.items }
+    ensures cells { cells.new.items ≡ splice cells.old.items start (start + length piece.now) (map (shown pairs.now) piece.now) }
+    ensures sound { AllByRecursion IsShown (map (shown pairs.now) piece.now) }
+{
+    pairs.show(piece, &mut cells[start..start + piece.len()]);
 }
 
 /// Puts one cell everywhere.

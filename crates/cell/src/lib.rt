@@ -28,7 +28,7 @@ pub use attr::Attr;
 pub use cell::{Cell, is_printable};
 pub use colour::{Colour, ColourPair, PairId, Pairs};
 pub use difference::{first_diff, last_diff};
-pub use grid::{Element, Grid};
+pub use grid::{Element, Grid, show_cells};
 pub use limits::{
     FIRST_CHARACTER, LARGEST_PAD, LARGEST_SCREEN, LAST_CHARACTER, LAST_COLOUR, LAST_PAIR,
     MOST_PANELS, MOST_WINDOWS, is_no_size, limits_in_numerals,
