@@ -9,7 +9,7 @@ ghost use Rattle.paint.specs.steps.Strokes.{Strokes, picture_bytes};
 use crate::changes::Changes;
 use crate::line::{paint_last_line, paint_line};
 use crate::pen::Pen;
-use crate::tail::{first_changed, tail_start};
+use crate::tail::{first_changed, is_written, tail_start};
 use cell::{Grid, LARGEST_SCREEN, Shown};
 use streams::Sink;
 
@@ -34,7 +34,7 @@ pub fn paint_picture<W: Sink>(
     ensures same { W.name sink.new ≡ W.name sink.old }
 {
     let changed = changed_lines(shown, wanted, pen.columns(), changes);
-    let blank = page_end(wanted, lines, changed);
+    let blank = page_end(wanted, lines, changed, changes);
     let mut line = next_line(pen, changes, blank, 0);
     while line < changed {
         let at = usize::from(line);
@@ -68,13 +68,18 @@ fn next_line(pen: &Pen, changes: &Changes, blank: u16, from: u16) -> u16
 }
 
 /// The line from which on all are blank, where the last changed one is blank. Else, and where none is changed, the number of lines.
-fn page_end(picture: &Grid<Shown>, lines: u16, changed: u16) -> u16
+fn page_end(picture: &Grid<Shown>, lines: u16, changed: u16, changes: &Changes) -> u16
     requires height { length picture.now ≡ lines }
     requires changed { changed ≤ lines }
+    requires same { length changes.now ≡ lines }
     ensures blank { map blanked (drop result picture.now) ≡ drop result picture.now }
     ensures first { let end = min result changed in 0 < end → map blanked (drop (end - 1) picture.now) ≢ drop (end - 1) picture.now }
 {
-    if changed == 0 || tail_start(picture.row(usize::from(changed - 1))) > 0 {
+    if changed == 0 {
+        return lines;
+    }
+    let column = usize::from(changes.line(changed - 1).start);
+    if is_written(picture.row(usize::from(changed - 1)), column) {
         return lines;
     }
     blank_lines(picture, lines)

@@ -4,6 +4,11 @@ use Rattle.ecma.specs.Terminals.{blanked}
 use Rattle.paint.proofs.Tails.{kept-at}
 use Rattle.paint.proofs.page.page_end.Goals as goal
 
+pub returns-then-is_written-clause-first : goal.returns-then-is_written-clause-first
+returns-then-is_written-clause-first c = λ some all.
+    let last = min c.args.lines c.args.changed - 1 in
+    c.is_written.ensures c.if-is_written.true (rw (c.row.ensures.row, c.from.ensures) (kept-at blanked [] refl last (c.args.changed - 1) c.args.picture.now (omega arith) all))
+
 pub returns : goal.returns
 returns c =
     let blank = c.blank_lines.result in
