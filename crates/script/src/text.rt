@@ -1,6 +1,8 @@
 //! Texts as a script has them.
 
-ghost use Rattle.std.specs.Prelude.{◌≡◌, ◌≤◌, ◌<◌, ◌∷◌, length, Some, None, IfSome, option_and_then, option_map, if◌then◌else◌};
+ghost use Rattle.std.specs.Prelude.{◌≡◌, ◌≤◌, ◌<◌, ◌∷◌, length, Some, None, IfSome, option_and_then, option_map, if◌then◌else◌, ◌==◌};
+ghost use Rattle.std.specs.List.{list_any};
+ghost use Rattle.script.specs.Characters.{backslash};
 ghost use Rattle.script.specs.Texts.{after_x, escaped_character, text_of};
 
 use crate::limits::LONGEST_LINE;
@@ -49,6 +51,13 @@ fn first_character(piece: &[u8]) -> Option<(u8, &[u8])>
     Some((character, rest))
 }
 
+/// Whether a text has a backslash.
+fn has_backslash(text: &[u8]) -> bool
+    ensures { result ≡ list_any (λ b. b == backslash) text.now }
+{
+    text.iter().any(|b| *b == b'\\')
+}
+
 /// Puts the characters of a text in place of what was there, and answers whether each backslash has after it what it
 /// needs.
 pub fn read_text(piece: &[u8], text: &mut ArrayVec<u8, LONGEST_LINE>) -> bool
@@ -56,6 +65,12 @@ pub fn read_text(piece: &[u8], text: &mut ArrayVec<u8, LONGEST_LINE>) -> bool
     ensures { text_of piece.now ≡ (if result then Some text.new.items else None) }
 {
     text.clear();
+    if !has_backslash(piece) {
+        if text.try_extend_from_slice(piece).is_err() {
+            unreachable!();
+        }
+        return true;
+    }
     let mut rest = piece;
     while !rest.is_empty() {
         match first_character(rest) {
