@@ -1,7 +1,8 @@
 -- What an argument of a form is, and why a byte or an argument is faulty. The words are Curspan's own.
-use Rattle.std.specs.Prelude.{◌==◌, ℕ, List, [], codes, length, nat_le, slice_index, if◌then◌else◌}
+use Rattle.std.specs.Prelude.{◌==◌, ℕ, List, [], codes, drop, length, nat_le, slice_index, if◌then◌else◌}
 use Rattle.std.specs.Char.{is_ascii_digit}
-use Rattle.std.specs.List.{list_all}
+use Rattle.std.specs.List.{list_all, take_while}
+use Rattle.std.specs.Str.Parse.{digits_value}
 use Rattle.script.specs.Characters.{carriage_return, digit_0}
 use Rattle.script.specs.declared.words.Form.{Form}
 use Rattle.script.specs.declared.words.Form.TheVariants.{Number, NumberOrNone, Signed, Attributes, Flag, Character, Text}
@@ -37,3 +38,7 @@ reason Attributes argument = []
 reason Flag argument = []
 reason Character argument = []
 reason Text argument = []
+
+-- the number that stands in a text behind so many bytes
+abbrev pub numeral_in : ℕ → List ℕ → ℕ
+numeral_in place text = digits_value 10 (take_while is_ascii_digit (drop place text))

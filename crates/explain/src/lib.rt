@@ -10,7 +10,9 @@
 mod advice;
 mod arguments;
 mod column;
+mod laws;
 mod reasons;
 mod telling;
 
+pub use laws::limits_are_told;
 pub use telling::{Finding, digits, finding};
