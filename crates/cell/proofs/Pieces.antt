@@ -1,5 +1,6 @@
 -- A piece of a line of a grid that is written at once.
-use Rattle.std.proofs.Common.{◌≡◌, ℕ, suc, ◌∷◌, ◌+◌, ◌-◌, ◌*◌, ◌<◌, ◌≤◌, ◌==◌, ◌&&◌, nat_le, nat_lt, if◌then◌else◌, true, false, List, [], ◌++◌, length, map, take, drop, get_or, ap, subst, sym, ◌∙◌, refl}
+use Rattle.std.proofs.Common.{◌≡◌, ℕ, suc, ◌∷◌, ◌+◌, ◌-◌, ◌*◌, ◌<◌, ◌≤◌, ◌==◌, ◌&&◌, nat_le, nat_lt, if◌then◌else◌, true, false, List, [], ◌++◌, length}
+use Rattle.std.proofs.Common.{map, take, drop, get_or, ap, subst, sym, ◌∙◌, refl}
 use Rattle.std.proofs.Common.{arith, inl, inr, ◌⊎◌, length-append, eq-eqb, ne_eqb}
 use Rattle.std.specs.List.{AllByRecursion, splice}
 use Rattle.std.proofs.Math.ListN.{get_or-append}
@@ -211,8 +212,8 @@ pub record PieceFits {A B : Type 0} (lines columns : ℕ) (cells : List A) (piec
   pub end : y * columns + x + length piece ≤ length cells
   pub few : length cells ≤ 1000000
 
-pub PieceFits-from : {A B : Type 0} {Is : A → Type 0} {lines columns y x : ℕ} {cells : List A} {piece : List B} {picture : List (List A)} → IsGrid Is lines columns cells → rows lines columns cells ≡ picture
-    → y < length picture → x + length piece ≤ length (line_of picture y) → PieceFits lines columns cells piece y x
+pub PieceFits-from : {A B : Type 0} {Is : A → Type 0} {lines columns y x : ℕ} {cells : List A} {piece : List B} {picture : List (List A)}
+    → IsGrid Is lines columns cells → rows lines columns cells ≡ picture → y < length picture → x + length piece ≤ length (line_of picture y) → PieceFits lines columns cells piece y x
 PieceFits-from {lines} {columns} {y} {x} {cells} {piece} grid is within fits =
     let line = HasLine-from_length grid is within in
     let width = length-line_of-rows lines columns cells y grid line.below in

@@ -3,6 +3,7 @@
 //! - `advice`: what to write for a name of curses
 //! - `arguments`: the arguments of the line, and the first that lacks its form
 //! - `column`: where the fault is
+//! - `laws`: the numerals that are told are the limits
 //! - `reasons`: what an argument is to be, and why it isn't
 //! - `telling`: the line on a fault
 #![tactic(auto)]
