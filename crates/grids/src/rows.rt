@@ -1,4 +1,4 @@
-//! Reading a line of a window, and the two writes of which every write is made.
+//! Reading a line of a window, and the writes of one line of which every write is made.
 
 ghost use Rattle.std.specs.Prelude.{◌≡◌, ℕ, ◌<◌, ◌≤◌, ◌+◌, ◌-◌, is_some, length, map, slice_index, EachIndex, true, false};
 ghost use Rattle.std.specs.List.{AllByRecursion};

@@ -9,7 +9,7 @@ use cell::{Cell, Element, LARGEST_PAD};
 use std::alloc::{AllocError, Global};
 use std::marker::Model;
 
-/// The cells of a line that were read and aren't written yet. It has room for those of the longest line.
+/// The cells of a line that were read, or are those of a text, and aren't written yet. It has room for those of the longest line.
 #[derive(Drop)]
 pub struct Line {
     cells: Vec<Cell>,
