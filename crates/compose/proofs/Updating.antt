@@ -41,7 +41,7 @@ module _ (t : DeskTable) (h : IsDesk t) (cells : ℕ) (read : cells ≡ cells_ab
         at_most = omega (arith, few, same);
       }
 
--- behind it no line is damaged
+-- after it no line is damaged
 pub none-damaged : (old new : DeskTable) → ((y : ℕ) → columns_of new.damage y ≡ None) → DamagesFew old (calls.Refresh UpdatePanels) new
 none-damaged old new none line is = let never : false ≡ true = sym (ap (λ (o : Option Columns). is_some o) (none line)) ∙ is in cc
 

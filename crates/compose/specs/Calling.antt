@@ -33,7 +33,7 @@ abbrev pub MayLeave : DeskTable → Call → DeskTable → Type 0
 MayLeave old (calls.Query query) new = new ≡ old
 MayLeave old call new = world new ≡ world_after (world old) call
 
--- Only lines are damaged that were so before, or that the call affects; behind update_panels none is.
+-- Only lines are damaged that were so before, or that the call affects; after update_panels none is.
 abbrev pub DamagesFew : DeskTable → Call → DeskTable → Type 0
 DamagesFew old call new = (line : ℕ) → is_damaged_line new line ≡ true → affected_after (world old) (is_damaged_line old) call line ≡ true
 

@@ -170,7 +170,7 @@ pub trait Calls {
         self.ask(&Call::Writing(Writing::Insch { win, ch }))
     }
 
-    /// Deletes the character at the cursor, which stays: the cells behind it go one column left.
+    /// Deletes the character at the cursor, which stays: the cells after it go one column left.
     ///
     /// # Errors
     /// `NoSuchWindow`.

@@ -6,7 +6,7 @@ pub mod StateLemmas
 pub mod Shortness
 -- How many cells a run reads; for `MakesLemmas`
 pub mod ReadLemmas
--- Calls that were made, and what they leave: none, one, and one list behind another; for `LineEndLemmas`, `RunLemmas`, `ScriptLemmas` and others
+-- Calls that were made, and what they leave: none, one, and one list after another; for `LineEndLemmas`, `RunLemmas`, `ScriptLemmas` and others
 pub mod MakesLemmas
 -- A run goes on by one call; for `run_calls`
 pub mod RunLemmas

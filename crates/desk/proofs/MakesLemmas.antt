@@ -1,4 +1,4 @@
--- Calls that were made, and what they leave: none, one, and one list behind another.
+-- Calls that were made, and what they leave: none, one, and one list after another.
 use Rattle.std.proofs.Common.{◌≡◌, ℕ, List, [], ◌∷◌, ◌++◌, Result, refl, sym, subst, append-nil}
 use Rattle.std.proofs.lemmas.Grind.{flat_map-append}
 use Rattle.cell.specs.declared.refusal.Refusal.{Refusal}

@@ -37,7 +37,7 @@ use Rattle.script.specs.declared.fault.TextFault.{TextFault}
 use Rattle.script.specs.declared.fault.ScriptEnd.{ScriptEnd}
 use Rattle.script.specs.declared.bytes.LineEnd.TheVariants.{Newline, ScriptEnd as Script_end, ReadFailed}
 
--- calls in front of a reading
+-- calls before a reading
 abbrev pub prepend : List (ℕ × Call) → Reading → Reading
 prepend calls r = record { calls = calls ++ r.calls; fault = r.fault }
 
@@ -153,7 +153,7 @@ module _ {W : Type 0} (seen : W → Seen) where
     says = λ failed more. rw e refl;
   }
 
-  -- A line was read, and nothing behind the end of the source.
+  -- A line was read, and nothing after the end of the source.
   abbrev pub ReadsOnce : SourceSeen → SourceSeen → Type 0
   ReadsOnce old new = old.met_end ≡ false → new.read_past_end ≡ old.read_past_end
 
@@ -199,7 +199,7 @@ module _ {W : Type 0} (seen : W → Seen) where
         says = λ failed more. line_says s r failed more ∙ says_call s.made n (said_by_line line) e.call _ stop.0;
       }
 
-  -- How the script ends at a line, where z is what the script says behind the line.
+  -- How the script ends at a line, where z is what the script says after the line.
   stops : (made : List (ℕ × Call)) (n : ℕ) (said : Result (Option Call) TextFault) (call : Option Call) (at_stop now : ScreenOver W) (ended : Bool) (text : List ℕ) (z : List ℕ → Reading)
       (fault : Option ScriptFault) → LineStops seen n said call at_stop fault now
       → ((more : List ℕ) → MayFollow ended more → reading false (text ++ more) ≡ prepend made (before_others n said (z more)))
@@ -418,7 +418,7 @@ closes_flushed (Some Reading_fault) logged written h f = (inl f, refl)
 closes_flushed (Some (Write line fault)) logged written h f = (inl f, refl)
 closes_flushed (Some Log) logged written h f = cc
 
--- The flush failed, behind another fault.
+-- The flush failed, after another fault.
 pub closes_after_fault : (fault : Option ScriptFault) (logged written : Seen) → false ≡ log_failed fault → is_some fault ≡ not false → FlushFails logged written → LogCloses fault logged written fault
 closes_after_fault None logged written h some f = cc
 closes_after_fault (Some (Text line fault)) logged written h some f = (inr f, refl)

@@ -173,7 +173,7 @@ virtual-known s (c ∷ cs) (o ∷ os) run = virtual-known (state_after s c o.ans
 
 -- ---- a run that ends in update_panels and doupdate
 
--- the state behind the two calls
+-- the state after the two calls
 pub record EndsShown (s : State) : Type 0 where
   pub before : World
   pub world_is : s.world ≡ after_doupdate (after_update_panels before)
@@ -198,7 +198,7 @@ ends-shown s [] (o ∷ p ∷ q ∷ os) run = absurd run.1.1
 ends-shown s (c ∷ cs) [] run = absurd run
 ends-shown s (c ∷ cs) (o ∷ os) run = ends-shown (state_after s c o.answer) cs os run.1
 
--- what the doupdate showed is the world behind it
+-- what the doupdate showed is the world after it
 pub shows-world : (w : World) → ShowsWorld (after_doupdate (after_update_panels w)) (showing (wanted (after_update_panels w)).picture (wanted (after_update_panels w)).cursor)
 shows-world w = record {
   size = HasSize-lines_from w.windows.lines w.windows.columns (picture w);

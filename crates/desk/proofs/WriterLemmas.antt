@@ -110,7 +110,7 @@ module _ {W : Type 0} (seen : W → Seen) where
     ),
   )
 
-  -- a doupdate sent a front of its text
+  -- a doupdate sent a prefix of its text
   pub cut-ends : (old : ScreenOver W) (writer : W) (fault : WriteFault)
       → BreaksOff old.painter old.desk.virtual.clear (seen old.writer) (seen writer) (wanted (world old.desk)) fault.sent
       → CallEnds seen old (calls.Refresh Doupdate) (Err (Write fault)) (record { desk = old.desk; painter = record old.painter { last = None }; writer = writer })

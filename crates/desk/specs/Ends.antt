@@ -32,13 +32,13 @@ module _ {W : Type 0} (seen : W → Seen) where
   abbrev pub Took : ScreenOver W → ScreenOver W → List ℕ → Type 0
   Took old new bytes = Appends (seen old.writer).taken (seen new.writer).taken bytes
 
-  -- The writer took these bytes in these calls. Each doupdate flushed it, once, behind its text, and no other call did.
+  -- The writer took these bytes in these calls. Each doupdate flushed it, once, after its text, and no other call did.
   pub record Writes (old new : ScreenOver W) (calls : List Call) (bytes : List ℕ) : Type 0 where
     pub taken : Took old new bytes
     pub flushes : (seen new.writer).flushes ≡ flushes_after (seen old.writer).flushes calls
     pub flushed : (seen new.writer).flushed ≡ (list_any is_doupdate calls || (seen old.writer).flushed)
 
-  -- A doupdate sent a front of its text, and where that is all of it, tried a flush. What was shown last is unknown now, and nothing else
+  -- A doupdate sent a prefix of its text, and where that is all of it, tried a flush. What was shown last is unknown now, and nothing else
   -- changed.
   pub record IsCut (old new : ScreenOver W) (fault : WriteFault) : Type 0 where
     pub state : state_of new ≡ record (state_of old) { painter = record old.painter { last = None } }

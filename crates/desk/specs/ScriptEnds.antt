@@ -37,7 +37,7 @@ log_failed _ = false
 abbrev pub MayFollow : Bool → List ℕ → Type 0
 MayFollow met_end more = met_end ≡ true → more ≡ []
 
--- However a script goes on behind these bytes, it says this.
+-- However a script goes on after these bytes, it says this.
 abbrev pub SaysHowever : Bool → List ℕ → (Reading → Type 0) → Type 0
 SaysHowever met_end text P = (more : List ℕ) → MayFollow met_end more → P (reading false (text ++ more))
 
@@ -55,7 +55,7 @@ log_lines _ _ = []
 abbrev pub log_text : List (List ℕ) → List ℕ
 log_text = flat_map (λ line. line)
 
--- The log took all lines but the last whole, and of that a front, not all.
+-- The log took all lines but the last whole, and of that a prefix, not all.
 pub record IsCutInLastLine (old new : Seen) (lines : List (List ℕ)) : Type 0 where
   pub whole : List (List ℕ)
   pub last : List ℕ
@@ -128,7 +128,7 @@ module _ {W : Type 0} (seen : W → Seen) where
   -- It says these calls and then has this fault.
   ScriptStops met_end text made at_stop (Some (Text line fault)) new =
       SaysHowever met_end text (λ r. r ≡ record { calls = made; fault = Some (Text line fault) }) × (new ≡ at_stop)
-  -- A read failed behind the bytes.
+  -- A read failed after the bytes.
   ScriptStops met_end text made at_stop (Some Reading_fault) new =
       (reading true text ≡ record { calls = made; fault = Some Reading_fault }) × (new ≡ at_stop)
   -- The next call is a doupdate, whose text was cut short.
@@ -138,7 +138,7 @@ module _ {W : Type 0} (seen : W → Seen) where
   ScriptStops met_end text made at_stop (Some Log) new = SaysHowever met_end text (BeginsWith made) × (new ≡ at_stop)
 
   -- The lines of a script, read from a source, were run on a screen and logged. The log was not flushed yet. Where the end of the source
-  -- was met, no read came behind it.
+  -- was met, no read came after it.
   pub record RunsLines (old new : ScreenOver W) (input rest : SourceSeen) (log written : Seen) (end : ScriptEnd) : Type 0 where
     pub text : List ℕ
     pub made : List (ℕ × Call)

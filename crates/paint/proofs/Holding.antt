@@ -72,7 +72,7 @@ moved cursor place = refl
 
 -- ---- the text
 
--- what leads from the start shows the same behind the opening, read from any terminal that may read it
+-- what leads from the start shows the same after the opening, read from any terminal that may read it
 shows-from : (painter : PainterState) (last : Option ShownPicture) (wanted : ShownPicture) (rest : List ℕ) → 0 < painter.lines → 0 < painter.columns
     → Shows rest (showing (start_from painter last).picture (start_from painter last).cursor) wanted.picture wanted.cursor
     → (t : Terminal) → MayRead painter last t → Shows (opening_from last ++ rest) t wanted.picture wanted.cursor

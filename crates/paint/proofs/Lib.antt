@@ -1,4 +1,4 @@
--- A text that is gathered, put behind, and handed on; for `hand_on`
+-- A text that is gathered, put after, and handed on; for `hand_on`
 pub mod Gathering
 -- The strokes of a pen, one after another, and what each shows; for `approach`, `change_length`, `end` and others
 pub mod Strokes
@@ -8,7 +8,7 @@ pub mod Mixed
 pub mod Walks
 -- The blank end of a line; for `changed_tail`, `page_end`, `paint_last_line` and others
 pub mod Tails
--- What a terminal shows behind the opening; for `open`
+-- What a terminal shows after the opening; for `open`
 pub mod Shows
 -- The blank end of a page is erased; for `paint_picture`
 pub mod Pages
@@ -16,7 +16,7 @@ pub mod Pages
 pub mod Holding
 -- What a text that was sent means for a painter; for `send_text`
 pub mod Updating
--- The text of a doupdate behind a stream that agrees with the painter: behind one that clears doesn't matter what was sent before; for `agrees_after_fault`,
+-- The text of a doupdate after a stream that agrees with the painter: after one that clears doesn't matter what was sent before; for `agrees_after_fault`,
 -- `agrees_after_update`, `shows_after_update` and others
 pub mod Repair
 -- Runs of cells: printed one after another, and drawn in a line; for `are_all`, `paint_cells`, `paint_run` and others

@@ -60,7 +60,7 @@ between start x one other h e =
     let split : start + (x - start) ≡ x = omega arith in
     sym (drop-take start (x - start) one) ∙ ap (λ n. drop start (take n one)) split ∙ ap (drop start) e ∙ ap (λ n. drop start (take n other)) (sym split) ∙ drop-take start (x - start) other
 
--- behind the next item are those of the old one
+-- after the next item are those of the old one
 drop-mixed-suc : {A : Type 0} (x : ℕ) (new old : List A) → x < length new → length old ≡ length new → drop (suc x) (mixed x new old) ≡ drop (suc x) old
 drop-mixed-suc zero new old h same = refl
 drop-mixed-suc (suc x) [] old h same = absurd (omega arith)

@@ -1,4 +1,4 @@
--- The text of a doupdate behind a stream that agrees with the painter: behind one that clears doesn't matter what was sent before.
+-- The text of a doupdate after a stream that agrees with the painter: after one that clears doesn't matter what was sent before.
 use Rattle.std.proofs.Common.{◌≡◌, Bool, true, false, ℕ, zero, suc, ◌<◌, ◌≤◌, List, [], ◌++◌, length, take, Option, Some, None, refl, arith}
 use Rattle.std.specs.Prelude.{⊤, MatchOption}
 use Rattle.std.proofs.lemmas.Option.{MatchOption-from_none}
@@ -41,7 +41,7 @@ pub reads-known : (painter : PainterState) (clear : Bool) (t : Terminal) → Has
 reads-known painter true t size is = size
 reads-known painter false t size is = may-read painter painter.last t size is
 
--- ---- behind a stream
+-- ---- after a stream
 
 module _ (painter : PainterState) (wanted : ShownPicture) (stream rest : List ℕ) (t u : Terminal) (size : HasSize painter.lines painter.columns t.picture) (profile : IsInProfile stream t u) where
   u-size : HasSize painter.lines painter.columns u.picture

@@ -23,7 +23,7 @@ use Rattle.paint.proofs.Mixed.{length-mixed, take-mixed}
 use Rattle.paint.proofs.Strokes.{Draws-then, Strokes-then, spelled-print}
 use Rattle.paint.proofs.Walks.{left, line_bytes-other, one-drawn}
 
--- ---- what a terminal shows behind a run
+-- ---- what a terminal shows after a run
 
 abbrev at : Picture → ℕ → ℕ → ℕ → Rendition → Terminal
 at picture columns line column rendition = record { picture = picture; cursor = within columns (line, column); rendition = rendition }
@@ -68,7 +68,7 @@ prints-run old new line column cells picture sound same some room known wide gat
     let leads = run-leads old.columns line column (column + length cells) picture old.rendition cells sound same wide refl room in
     record { gathers = gathers; leads = rw (start, cursor, rendition) leads }
 
--- ---- a run behind an approach
+-- ---- a run after an approach
 
 pub run-strokes : {a b c : Seen} {x y z : Pen} {picture drawn : Picture} {n : ℕ} (cells : List Shown) → IsRendition (get_or cells 0 shown_blank).rendition → 0 < length cells
     → n ≤ most_approach (get_or cells 0 shown_blank).rendition → Strokes n a b x y picture picture

@@ -219,7 +219,7 @@ erases-page old new place picture cursor plain gathers rest =
           (sym plain ∙ sym (ap (λ (p : Pen). p.rendition) rest)) i;
     })))
 
--- ---- the end: a move behind what left the cursor where it was
+-- ---- the end: a move after what left the cursor where it was
 
 pub ends : {a b c : Seen} {x y z : Pen} {one : List ℕ} {picture : Picture} (place : Place) → Draws one a b x y picture picture → y.cursor ≡ x.cursor
     → Draws (move_from y.cursor place) b c y z picture picture → Draws (one ++ move_from x.cursor place) a c x z picture picture
@@ -315,7 +315,7 @@ length-stay cursor place at = ap (length {A = ℕ}) (move-none cursor place at)
 pub length-go : (cursor : Option Place) (place : Place) → is_at cursor place ≡ false → length (move_from cursor place) ≡ length (spelling (Cup place.0 place.1))
 length-go cursor place far = ap (length {A = ℕ}) (move-some cursor place far)
 
--- a cell printed again takes a byte at least, and a selection behind it is no longer than one through it
+-- a cell printed again takes a byte at least, and a selection after it is no longer than one through it
 change-through : (a b c : Rendition) → length (change a c) ≤ length (change a b) + length (change b c)
 change-through a b c = elim (cases_Bool (same_rendition c b)) [
   | inl same ↦ let is : c ≡ b = same_rendition-equal c b same in omega (arith, ap (λ r. length (change a r)) is)
@@ -331,7 +331,7 @@ pub moved-long : (cursor : Option Place) (rendition : Rendition) (start : Place)
 moved-long cursor rendition start gap wanted few_lines few_columns long =
     omega (arith, again-least rendition gap wanted, length-move cursor (start.0, start.1 + length gap) few_lines few_columns)
 
--- ---- an erasure behind it
+-- ---- an erasure after it
 
 four : length (spelling (Sgr no_rendition)) ≡ 4
 unfolding spelling codes_of_attributes digits

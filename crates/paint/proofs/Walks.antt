@@ -207,7 +207,7 @@ ready-more h few = record {
   columns = h.columns;
 }
 
--- the line, its end erased behind what was drawn
+-- the line, its end erased after what was drawn
 pub erased-mixed : (picture : Picture) (line e x : ℕ) (shown wanted : List Shown) → length shown ≡ length wanted → line < length picture → e ≤ x → x ≤ length wanted → AreBlank (drop e wanted)
     → erased_at ToEnd (line, e) (set picture line (mixed x wanted shown)) ≡ set picture line wanted
 erased-mixed picture line e x shown wanted same high before inside blank =

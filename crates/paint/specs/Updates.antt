@@ -35,12 +35,12 @@ blank_shown lines columns = record { picture = blank_picture lines columns; curs
 abbrev pub known : PainterState → Bool → Option ShownPicture
 known painter clear = if clear then None else painter.last
 
--- what the terminals show then, or behind the opening
+-- what the terminals show then, or after the opening
 abbrev pub start_from : PainterState → Option ShownPicture → ShownPicture
 start_from painter None = blank_shown painter.lines painter.columns
 start_from painter (Some shown) = shown
 
--- What the terminal shows where the text, or its part behind the opening, begins. A doupdate that clears begins at a blank picture.
+-- What the terminal shows where the text, or its part after the opening, begins. A doupdate that clears begins at a blank picture.
 abbrev pub start_of_update : PainterState → Bool → ShownPicture
 start_of_update painter clear = start_from painter (known painter clear)
 
@@ -84,7 +84,7 @@ pub record IsUpdateText (painter : PainterState) (clear : Bool) (wanted : ShownP
 
 -- ---- what a doupdate did
 
--- The sink took one text, all of it, and the one flush that was tried succeeded behind its last byte. No failure was counted.
+-- The sink took one text, all of it, and the one flush that was tried succeeded after its last byte. No failure was counted.
 pub record Updates (painter : PainterState) (clear : Bool) (old new : Seen) (wanted : ShownPicture) (bytes : ℕ) : Type 0 where
   pub text : List ℕ
   pub is_text : IsUpdateText painter clear wanted text
@@ -94,7 +94,7 @@ pub record Updates (painter : PainterState) (clear : Bool) (old new : Seen) (wan
   pub flushes : new.flushes ≡ next_count old.flushes
   pub flushed : new.flushed ≡ true
 
--- The sink took the first bytes of such a text, and then a write failed, or, behind all of it, the one flush.
+-- The sink took the first bytes of such a text, and then a write failed, or, after all of it, the one flush.
 pub record BreaksOff (painter : PainterState) (clear : Bool) (old new : Seen) (wanted : ShownPicture) (sent : ℕ) : Type 0 where
   pub text : List ℕ
   pub is_text : IsUpdateText painter clear wanted text

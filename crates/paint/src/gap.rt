@@ -93,7 +93,7 @@ fn is_printed_again(pen: &Pen, line: u16, start: u16, gap: &[Shown], rendition: 
     again < moved
 }
 
-/// How many bytes it takes to print cells again, each in its rendition, and to select one behind them.
+/// How many bytes it takes to print cells again, each in its rendition, and to select one after them.
 fn again_length(gap: &[Shown], from: Rendition, wanted: Rendition) -> usize
     requires { length gap.now ≤ 10 }
     ensures exact { result ≡ again_bytes from gap.now wanted }

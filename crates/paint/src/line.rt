@@ -97,7 +97,7 @@ pub fn paint_last_line<W: Sink>(
     }
 }
 
-/// Brings the pen to a column of a line's blank end, over the gap behind what was drawn, for an erasure.
+/// Brings the pen to a column of a line's blank end, over the gap after what was drawn, for an erasure.
 fn come_to<W: Sink>(
     pen: &mut Pen,
     sink: &mut W,
@@ -128,8 +128,8 @@ fn come_to<W: Sink>(
     );
 }
 
-/// Draws the changed cells of a line from a column on, up to an end, behind a gap of cells that are shown already. It answers the
-/// column behind the last that it drew, or that of the gap.
+/// Draws the changed cells of a line from a column on, up to an end, after a gap of cells that are shown already. It answers the
+/// column after the last that it drew, or that of the gap.
 fn paint_cells<W: Sink>(
     pen: &mut Pen,
     sink: &mut W,
@@ -200,7 +200,7 @@ fn run_end(shown: &[Shown], wanted: &[Shown], start: usize, end: usize) -> usize
     end
 }
 
-/// Draws a run of cells of one rendition behind a gap of cells that are shown already.
+/// Draws a run of cells of one rendition after a gap of cells that are shown already.
 fn paint_run<W: Sink>(
     pen: &mut Pen,
     sink: &mut W,

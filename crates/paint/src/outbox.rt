@@ -39,7 +39,7 @@ impl Outbox {
         self.failed = false;
     }
 
-    /// Puts a piece behind what was gathered.
+    /// Puts a piece after what was gathered.
     pub fn put<W: Sink>(&mut self, sink: &mut W, piece: &[u8])
         requires { length piece.now ≤ ROOM }
         ensures gathers { Gathers (W.seen sink.old) (W.seen sink.new) self.old self.new piece.now }
@@ -49,7 +49,7 @@ impl Outbox {
         self.room.append(piece);
     }
 
-    /// Puts the characters of cells behind what was gathered.
+    /// Puts the characters of cells after what was gathered.
     pub fn put_characters<W: Sink>(&mut self, sink: &mut W, cells: &[Shown])
         requires { length cells.now ≤ ROOM }
         ensures gathers { Gathers (W.seen sink.old) (W.seen sink.new) self.old self.new (characters cells.now) }

@@ -159,7 +159,7 @@ impl Painter {
     }
 }
 
-/// Draws what differs from what is known to be shown, or from a blank picture behind the opening. It may differ in some columns only.
+/// Draws what differs from what is known to be shown, or from a blank picture after the opening. It may differ in some columns only.
 fn draw<W: Sink>(
     pen: &mut Pen,
     sink: &mut W,

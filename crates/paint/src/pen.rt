@@ -55,7 +55,7 @@ impl Pen {
         self.rendition = Rendition::NONE;
     }
 
-    /// Puts a token behind what was gathered.
+    /// Puts a token after what was gathered.
     fn put<W: Sink>(&mut self, sink: &mut W, token: Token)
         requires { IsToken token }
         ensures gathers { Gathers (W.seen sink.old) (W.seen sink.new) self.old.outbox self.new.outbox (spelling token) }
@@ -220,7 +220,7 @@ impl Pen {
     }
 
     /// Prints cells that the terminal shows already, each in its rendition. The cursor is at the first of them, and there is a place
-    /// behind the last.
+    /// after the last.
     pub fn print_again<W: Sink>(&mut self, sink: &mut W, line: u16, column: u16, cells: &[Shown])
         requires cursor { self.old.cursor ≡ Some (line, column) }
         requires inside { column + length cells.now < self.old.columns }

@@ -80,7 +80,7 @@ pub fn is_erased(
     erased + first < reach_length(pen, line, wanted, gap, first) + last + 1
 }
 
-/// How many bytes it takes to come to a column of the blank end with the empty rendition, over the gap of cells behind what was drawn.
+/// How many bytes it takes to come to a column of the blank end with the empty rendition, over the gap of cells after what was drawn.
 fn reach_length(pen: &Pen, line: u16, wanted: &[Shown], gap: usize, column: usize) -> usize
     requires line { line < LARGEST_SCREEN }
     requires column { column < length wanted.now }

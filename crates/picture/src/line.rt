@@ -9,9 +9,8 @@ ghost use Rattle.picture.specs.Counts.{GrewBy};
 ghost use Rattle.picture.specs.Spans.{HasPanelWindows};
 
 use crate::owners::Owners;
-use crate::piece::show_cells;
 use crate::rows::Rows;
-use cell::{Grid, Pairs, Shown};
+use cell::{Grid, Pairs, Shown, show_cells};
 use stack::Stack;
 
 /// Sets the columns of line `y` of a picture of the screen, from `left` to `right`, both inclusive, to what a search from the top visible

@@ -1,14 +1,13 @@
 //! A part of a window's line, put into a picture.
 
-ghost use Rattle.std.specs.Prelude.{◌≡◌, ◌<◌, ◌≤◌, ◌+◌, ◌-◌, ◌==◌, ◌&&◌, ℕ, if◌then◌else◌, length, nat_le, nat_lt, slice_index_or};
-ghost use Rattle.cell.specs.Glyphs.{blank};
-ghost use Rattle.cell.specs.Pictures.{HasSize, line_of, shown_at};
+ghost use Rattle.std.specs.Prelude.{◌≡◌, ◌<◌, ◌≤◌, ◌+◌, ◌-◌, ◌==◌, ◌&&◌, ℕ, if◌then◌else◌, nat_le, nat_lt};
+ghost use Rattle.cell.specs.Pictures.{HasSize, shown_at};
 ghost use Rattle.cell.specs.Shown.{shown};
 ghost use Rattle.world.specs.Windows.{HasPlace, cell_at};
 ghost use Rattle.grids.specs.Tables.{windows as windows_of};
 ghost use Rattle.picture.specs.Parts.{IsPiece};
 
-use cell::{Cell, Grid, Pairs, Shown, WinId};
+use cell::{Cell, Grid, Pairs, Shown, WinId, show_cells};
 use grids::{Grids, Place};
 
 /// So many cells of line `y` of a window from column `left` on. There must be as many, and at least one.
@@ -50,19 +49,4 @@ pub fn show_piece(
         usize::from(n),
     );
     show_cells(cells, pairs, y, x, picture);
-}
-
-/// Puts cells into line `y` of a picture from column `x` on.
-pub fn show_cells(cells: &[Cell], pairs: &Pairs, y: u16, x: u16, picture: &mut Grid<Shown>)
-    requires line { y < length picture.old }
-    requires columns { x + length cells.now ≤ length (line_of picture.old y) }
-    ensures shown { (v u : ℕ) → shown_at picture.new (v, u) ≡ (if (v == y) && (nat_le x u && nat_lt u (x + length cells.now)) then shown pairs.now
-        (slice_index_or cells.now (u - x) blank) else shown_at picture.old (v, u)) }
-    ensures size { (lines columns : ℕ) → HasSize lines columns picture.old → HasSize lines columns picture.new }
-    ensures height { length picture.new ≡ length picture.old }
-    ensures width { (v : ℕ) → length (line_of picture.new v) ≡ length (line_of picture.old v) }
-{
-    for k in 0..cells.len() {
-        picture.set(usize::from(y), usize::from(x) + k, pairs.shown(cells[k]));
-    }
 }

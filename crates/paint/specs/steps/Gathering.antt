@@ -8,7 +8,7 @@ use Rattle.paint.specs.declared.outbox.Outbox.{Outbox}
 abbrev pub counted_bytes : ℕ → ℕ
 counted_bytes n = min n (2 ^ 32 - 1)
 
--- A front of the text went out, and the rest is in the room; or a write failed somewhere in it.
+-- A prefix of the text went out, and the rest is in the room; or a write failed somewhere in it.
 abbrev pub GoesOut : Bool → Seen → Seen → List ℕ → ℕ → List ℕ → Type 0
 GoesOut false start now room sent text =
     (front : List ℕ) × (text ≡ front ++ room) × (sent ≡ counted_bytes (length front)) × Sends start now 0 front (Ok (length front))
@@ -18,6 +18,6 @@ GoesOut true start now room sent text = (taken : ℕ) × (sent ≡ counted_bytes
 pub record IsGathered (start now : Seen) (outbox : Outbox) (text : List ℕ) : Type 0 where
   pub goes_out : GoesOut outbox.failed start now outbox.room outbox.sent text
 
--- the piece was put behind what was gathered
+-- the piece was put after what was gathered
 abbrev pub Gathers : Seen → Seen → Outbox → Outbox → List ℕ → Type 0
 Gathers before after old new piece = (start : Seen) (text : List ℕ) → IsGathered start before old text → IsGathered start after new (text ++ piece)

@@ -1,4 +1,4 @@
--- What the strokes of a pen send, what a terminal shows behind them, and how many bytes they have.
+-- What the strokes of a pen send, what a terminal shows after them, and how many bytes they have.
 use Rattle.std.specs.Prelude.{◌≡◌, ℕ, ◌+◌, ◌-◌, ◌*◌, ◌≤◌, min, if◌then◌else◌, List, [], ◌∷◌, length, map, take, drop, Option, Some, None, Bool, false, nat_lt, slice_index_or}
 use Rattle.cell.specs.Shown.{Rendition, Shown, has_colour, no_rendition, shown_blank}
 use Rattle.cell.specs.Pictures.{Picture, Place, line_of, with_shown}
@@ -28,7 +28,7 @@ is_at (Some cursor) place = same_place cursor place
 unfoldable pub move_from : Option Place → Place → List ℕ
 move_from cursor place = if is_at cursor place then [] else spelling (Cup place.0 place.1)
 
--- one column to the right; behind the last column the cursor is unknown
+-- one column to the right; after the last column the cursor is unknown
 abbrev pub behind : ℕ → Place → Option Place
 behind columns place = if nat_lt (place.1 + 1) columns then Some (place.0, place.1 + 1) else None
 
@@ -51,7 +51,7 @@ characters cells = map (λ cell. cell.character) cells
 abbrev pub under : Pen → Picture → Terminal
 under pen picture = record { picture = picture; cursor = pen.cursor; rendition = pen.rendition }
 
--- The piece was put behind what was gathered, and leads from the one picture to the other.
+-- The piece was put after what was gathered, and leads from the one picture to the other.
 pub record Draws (piece : List ℕ) (before after : Seen) (old new : Pen) (picture drawn : Picture) : Type 0 where
   pub gathers : Gathers before after old.outbox new.outbox piece
   pub leads : Leads piece (under old picture) (under new drawn)
@@ -68,12 +68,12 @@ pub record Strokes (most : ℕ) (before after : Seen) (old new : Pen) (picture d
 abbrev pub moved_bytes : Option Place → Rendition → Place → Rendition → ℕ
 moved_bytes cursor rendition place wanted = length (move_from cursor place) + length (change rendition wanted)
 
--- to print cells again, each in its rendition, and to select one behind them
+-- to print cells again, each in its rendition, and to select one after them
 abbrev pub again_bytes : Rendition → List Shown → Rendition → ℕ
 again_bytes rendition [] wanted = length (change rendition wanted)
 again_bytes rendition (cell ∷ gap) wanted = length (change rendition cell.rendition) + 1 + again_bytes cell.rendition gap wanted
 
--- To come to the place behind a gap, which begins at a place, with a rendition. Where the cursor is there, the gap may be printed again.
+-- To come to the place after a gap, which begins at a place, with a rendition. Where the cursor is there, the gap may be printed again.
 abbrev pub approach_bytes : Option Place → Rendition → Place → List Shown → Rendition → ℕ
 approach_bytes cursor rendition start gap wanted =
     let moved = moved_bytes cursor rendition (start.0, start.1 + length gap) wanted in
@@ -85,7 +85,7 @@ reach_bytes cursor rendition line cells gap column =
     let start = min gap column in
     approach_bytes cursor rendition (line, start) (take (column - start) (drop start cells)) no_rendition
 
--- Cells that are shown already were printed again, the first of them. What the others and a selection behind them take is left.
+-- Cells that are shown already were printed again, the first of them. What the others and a selection after them take is left.
 pub record ArePrinted (before now : Seen) (old pen : Pen) (line column i : ℕ) (cells : List Shown) : Type 0 where
   pub spent : ℕ
   pub left : (wanted : Rendition) → spent + again_bytes pen.rendition (drop i cells) wanted ≡ again_bytes old.rendition cells wanted
