@@ -1,3 +1,4 @@
+-- `show_cells`: a piece of a line of a grid that is written at once (`Pieces`).
 use Rattle.cell.specs.Glyphs.{Glyph, blank}
 use Rattle.cell.specs.Shown.{Shown, shown, shown_blank}
 use Rattle.cell.proofs.Pieces.{PieceFits-from, IsGrid-made, shown-made, HasSize-same, line_width}

@@ -1,3 +1,4 @@
+-- `take_line`: a line is gathered a byte at a time (`ByteLemmas`).
 use Rattle.std.proofs.Common.{◌≡◌, ◌+◌, ◌-◌, ◌++◌, ◌≤◌, length, take, drop, ap, arith, ◌∙◌}
 use Rattle.script.proofs.ByteLemmas.{newline_found, ok_parts}
 use Rattle.script.proofs.bytes.Bytes.take_line.Goals as goal
