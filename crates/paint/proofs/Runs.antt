@@ -1,5 +1,6 @@
 -- Runs of cells: printed one after another, and drawn in a line.
-use Rattle.std.proofs.Common.{◌≡◌, Bool, ℕ, zero, suc, ◌+◌, ◌-◌, ◌<◌, ◌≤◌, true, false, List, [], ◌∷◌, ◌++◌, length, get_or, set, take, drop, inl, inr, Some, refl, sym, ap, ◌∙◌, subst, arith, length-append, length-set}
+use Rattle.std.proofs.Common.{◌≡◌, Bool, ℕ, zero, suc, ◌+◌, ◌-◌, ◌<◌, ◌≤◌, true, false, List, [], ◌∷◌, ◌++◌}
+use Rattle.std.proofs.Common.{length, get_or, set, take, drop, inl, inr, Some, refl, sym, ap, ◌∙◌, subst, arith, length-append, length-set}
 use Rattle.std.specs.Prelude.{not}
 use Rattle.std.proofs.lemmas.Bool.{cases_lt, lt-ltb}
 use Rattle.std.proofs.lemmas.List.{get_or_past, get_or-drop, get_or-set_same, get_or-take, length-map}
@@ -27,7 +28,8 @@ use Rattle.paint.proofs.Walks.{left, line_bytes-other, one-drawn}
 abbrev at : Picture → ℕ → ℕ → ℕ → Rendition → Terminal
 at picture columns line column rendition = record { picture = picture; cursor = within columns (line, column); rendition = rendition }
 
-character-leads : (columns line column : ℕ) (picture : Picture) (rendition : Rendition) (cell : Shown) → IsShown cell → cell.rendition ≡ rendition → length (line_of picture line) ≡ columns → column < columns
+character-leads : (columns line column : ℕ) (picture : Picture) (rendition : Rendition) (cell : Shown) → IsShown cell → cell.rendition ≡ rendition
+    → length (line_of picture line) ≡ columns → column < columns
     → Leads (cell.character ∷ []) (at picture columns line column rendition) (at (with_shown picture (line, column) cell) columns line (column + 1) rendition)
 character-leads columns line column picture rendition cell is same wide inside = rw (← spelled-print cell.character)
     (Leads-token (Print cell.character) (at picture columns line column rendition) (at (with_shown picture (line, column) cell) columns line (column + 1) rendition)
@@ -108,7 +110,8 @@ run-cost x (suc n) shown wanted same room differs =
       ap (λ k. line_bytes (drop k shown) (drop k wanted)) next,
     )
 
-pub line-run : {before mid now : Seen} {old pen next : Pen} {line x : ℕ} {shown wanted : List Shown} (cells : List Shown) → length shown ≡ length wanted → 0 < length cells → x + length cells ≤ length shown
+pub line-run : {before mid now : Seen} {old pen next : Pen} {line x : ℕ} {shown wanted : List Shown} (cells : List Shown) → length shown ≡ length wanted
+    → 0 < length cells → x + length cells ≤ length shown
     → IsLinePainted before mid old pen line x shown wanted → length shown ≡ old.columns
     → ((k : ℕ) → k < length cells → get_or cells k shown_blank ≡ get_or wanted (x + k) shown_blank)
     → ((v : ℕ) → x ≤ v → v < x + length cells → same_shown (get_or shown v shown_blank) (get_or wanted v shown_blank) ≡ false)

@@ -21,7 +21,8 @@ loop-y-preserved c =
 pub invariant_of-self : goal.invariant_of-self
 invariant_of-self c =
     let h = c.loop-y.invariant in
-    let none : (y : ℕ) → stretch_of c.loop-y.self-inside.stretches.items y ≡ no_stretch = λ y. h.others y (is_out (record { start = c.loop-y.y; end = c.self.inside.lines.end }) y (behind c.loop-y.y c.self.inside.lines.end y c.loop-y-test.false)) in
+    let none : (y : ℕ) → stretch_of c.loop-y.self-inside.stretches.items y ≡ no_stretch = λ y.
+    h.others y (is_out (record { start = c.loop-y.y; end = c.self.inside.lines.end }) y (behind c.loop-y.y c.self.inside.lines.end y c.loop-y-test.false)) in
     record {
       few = h.few;
       inside = omega arith;
