@@ -118,6 +118,9 @@ class Arguments:
     def for_delwin(self):
         if self.chance.random() < 0.3:
             return self.one_window()
+        hidden = [w for p, w in self.world.panels.items() if p not in self.world.visible]
+        if hidden and self.chance.random() < 0.3:
+            return [self.chance.choice(hidden)]
         parents = {window.parent for window in self.world.windows.values()}
         return [self.a_window(lambda w, window: w and w not in parents and not self.world.is_in_panel(w))]
 
@@ -149,7 +152,7 @@ class Arguments:
             return self.chance.choice((b'\x07', b'\x7f', b'\xff', b'\x1b', b'\x00'))
         if kind > 0.9 and others:
             return self.chance.choice((others[0:1], others[0:1], others[1:2], others[2:3]))
-        return bytes([self.chance.choice(LETTERS if kind < 0.85 else range(32, 127))])
+        return bytes([self.chance.choice(LETTERS + b'\\' if kind < 0.85 else range(32, 127))])
 
     def for_addch(self):
         return [self.a_window(), self.character()]
@@ -214,7 +217,19 @@ class Arguments:
         return src, self.chance.choice(family) if family and kind < 0.75 else self.a_window(is_wanted)
 
     def for_overlay(self):
-        return self.two_windows(lambda w, window: not window.is_pad())
+        """Often two windows that lie over each other, and share no cell."""
+        src, dst = self.two_windows(lambda w, window: not window.is_pad())
+        others = [w for w, window in self.world.windows.items() if not window.is_pad() and self.meets(src, w)]
+        return src, self.chance.choice(others) if others and self.chance.random() < 0.6 else dst
+
+    def meets(self, src, dst):
+        """Whether two windows have a place of the screen in common, and lead to different grids."""
+        if src not in self.world.windows or self.world.own(src, 0, 0)[0] == self.world.own(dst, 0, 0)[0]:
+            return False
+        source, window = self.world.windows[src], self.world.windows[dst]
+        return not source.is_pad() and any(source.holds(y, x) for y in window.screen_lines()
+                                           for x in (window.place[1], window.place[1] + window.columns - 1, source.place[1])
+                                           if window.holds(y, x))
 
     for_overwrite = for_overlay
 
@@ -306,4 +321,5 @@ class Arguments:
         return [w, self.near(pad.lines - lines + 1), self.near(pad.columns - columns + 1), top, left, top + lines - 1, left + columns - 1]
 
     def for_init_pair(self):
-        return [self.chance.choice((1, 2, 3, 63, self.chance.randrange(66))), self.chance.choice((0, 1, 2, 7, 8)), self.chance.randrange(8)]
+        used = [window.pair or window.background.pair for window in self.world.windows.values()]
+        return [self.chance.choice((1, 2, 3, 63, self.chance.randrange(66), max(used), self.chance.choice(used))), self.chance.choice((0, 1, 2, 7, 8)), self.chance.randrange(8)]

@@ -10,6 +10,8 @@ from .of_scripts import sent_before
 from .streams import rubbish
 
 OUTPUT_FAILED = b'writing failed\n'
+HANDED_ON = 4096    # the most bytes of an update that are handed on at once
+BUFFERED = 1024     # the most bytes that the buffer before standard output keeps
 
 
 def failed_line(script, log):
@@ -26,12 +28,19 @@ def failed_line(script, log):
 
 
 def is_failed_run(program, script, came, limit):
-    """Of a run of which so many bytes went out: they are the first ones, and the failure is told of the doupdate that has the next."""
+    """Of a run of which so many bytes went out: they are the first ones, and the failure is told of the doupdate that has the next. It
+    counts these bytes, or the whole text where the buffer before standard output had taken its end."""
     want('the status where a write failed', 3, came.status)
     number, taken = failed_line(script, came.log)
     start, end = len(sent_before(program, script, number)), len(sent_before(program, script, number + 1))
     want_that(f'the write that fails is that of byte {limit}', start <= limit < end, (number, start, end))
-    want_that(f'from {limit - start} to {end - start} bytes of the doupdate were taken', limit - start <= taken <= end - start, taken)
+    all_taken = [end - start] if end - limit <= BUFFERED else []
+    want_that(f'{limit - start} bytes of the doupdate were taken, or {all_taken}', taken in (limit - start, *all_taken), taken)
+
+
+def place_in(chance, text):
+    """Where a text breaks off: often past the bytes that are handed on in one piece."""
+    return chance.randrange(HANDED_ON if len(text) > HANDED_ON and chance.random() < 0.5 else 0, len(text))
 
 
 def breaks_off(program, script):
@@ -40,7 +49,7 @@ def breaks_off(program, script):
     whole = program.run(words, script.text).out
     if not whole:
         return
-    limit = script.chance.randrange(len(whole))
+    limit = place_in(script.chance, whole)
     came = program.run_limited(words, script.text, limit)
     want('the bytes that went out before a write failed', whole[:limit], came.out)
     is_failed_run(program, script, came, limit)

@@ -11,7 +11,7 @@ GROUPS = {
     'texts': 'move addch addstr addstr addstr',
     'editing': 'insch delch insertln deleteln erase clear clrtoeol clrtobot scrl setscrreg scrollok',
     'settings': 'attrset attron attroff bkgdset color_set bkgdpair init_pair clearok',
-    'copies': 'overlay overwrite copywin copywin copywin',
+    'copies': 'overlay overlay overwrite copywin copywin copywin',
     'marks': 'touchwin untouchwin touchline touchln syncup syncdown is_linetouched is_wintouched',
     'queries': 'getyx getbegyx getmaxyx getparyx inch',
     'panels': 'new_panel del_panel show_panel hide_panel top_panel bottom_panel move_panel replace_panel',
@@ -19,13 +19,18 @@ GROUPS = {
     'refresh': 'noutrefresh pnoutrefresh doupdate update_panels',
 }
 PLACED = ('addch', 'addstr', 'insch', 'delch', 'insertln', 'deleteln', 'clrtoeol', 'clrtobot', 'inch')   # at the cursor
+WITH_EFFECTS = f'{GROUPS["copies"]} {GROUPS["settings"]}'.split()   # of which a window then shows what they did
 UP = (b'update_panels', b'doupdate')
 ESCAPED = {10: b'\\n', 13: b'\\r', 8: b'\\b', 92: b'\\\\'}
 
 
-def size(chance):
+def size(chance, beginning):
     """Lines and columns of a screen: small ones, in which much meets much, and some at the limits."""
+    if beginning == Walk.fill_screen:
+        return chance.choice(((12, 500), (75, 90)))
     kind = chance.random()
+    if beginning == Walk.crowd and kind < 0.5:
+        return chance.randint(1, 3), chance.choice((257, 300, 513))
     if kind < 0.6:
         return chance.randint(1, 6), chance.randint(1, 12)
     if kind < 0.9:
@@ -54,7 +59,8 @@ class Walk:
 
     def __init__(self, chance):
         self.chance = chance
-        self.lines, self.columns = size(chance)
+        self.beginning = beginning_of(chance)
+        self.lines, self.columns = size(chance, self.beginning)
         self.run = Run(self.lines, self.columns)
         self.arguments = Arguments(chance, self.run.world, chance.choice((0.0, 0.02, 0.02, 0.15)))
         self.written = []
@@ -94,6 +100,9 @@ class Walk:
         if kind < 0.02:
             self.write(quiet_line(self.chance))
             return
+        if kind < 0.03:
+            self.chance.choice((self.draw_anew, self.colour_anew))()
+            return
         word = self.next_word()
         for _ in range(self.chance.choice((1,) * 9 + (4,))):
             self.call(word)
@@ -107,20 +116,23 @@ class Walk:
         for w in self.run.world.windows:
             if w not in before and self.chance.random() < self.filling:
                 self.fill(w)
-        if word in GROUPS['copies'] and self.chance.random() < 0.6 and self.arguments.last in self.run.world.windows:
-            self.ask(self.arguments.last)
+        if word in WITH_EFFECTS and self.chance.random() < 0.6 and self.arguments.last in self.run.world.windows:
+            self.show_effect(word)
         if word in ('clear', 'clearok') and self.chance.random() < 0.5:
             self.write(b'noutrefresh %d' % self.arguments.last)
             self.write(self.line_of('noutrefresh'))
             self.write(b'doupdate')
+        if word.endswith('noutrefresh') and self.chance.random() < 0.5:
+            self.write(b'doupdate')
+        if word in ('syncup', 'syncdown', 'mvderwin'):
+            self.ask_marks(list(self.run.world.windows))
         if self.chance.random() < self.updating * (3 if word.endswith('_panel') else 1):
-            for line in UP:
-                self.write(line)
+            self.update()
 
     def fill(self, w):
         """Writes in all of a new window, and perhaps lets it scroll."""
         window = self.run.world.windows[w]
-        letters = bytes(self.chance.choice(LETTERS) for _ in range(min(window.lines * window.columns, 400)))
+        letters = self.letters(min(window.lines * window.columns, 400))
         self.write(b'addstr %d %b' % (w, spelled(self.chance, letters)))
         if self.chance.random() < 0.4:
             first, last = self.arguments.run(window.lines)
@@ -131,6 +143,39 @@ class Walk:
         else:
             self.write(self.line_of('move'))
             self.write(self.line_of(self.chance.choice(PLACED)))
+
+    def show_effect(self, word):
+        """Asks of the window what it holds, or lets a setting have an effect first."""
+        if word not in GROUPS['copies'].split():
+            self.write(b'%b %d' % (self.chance.choice((b'erase', b'clrtoeol', b'clrtobot', b'addstr', b'delch')), self.arguments.last)
+                       + (b' a  b' if self.chance.random() < 0.3 else b''))
+        self.ask(self.arguments.last)
+
+    def ask_marks(self, windows):
+        """Asks of lines of some windows whether they are touched."""
+        for w in self.chance.choices(windows, k=6):
+            self.write(b'is_linetouched %d %d' % (w, self.arguments.near(self.run.world.windows[w].lines)))
+
+    def update(self):
+        for line in UP:
+            self.write(line)
+
+    def draw_anew(self):
+        """Writes over a screen that is shown: a line, whole, and all below it is cleared."""
+        self.update()
+        self.write(b'move 0 %d 0' % self.arguments.near(self.lines))
+        self.write(b'addstr 0 ' + self.letters(min(self.columns, 500)))
+        self.write(b'clrtobot 0')
+        self.update()
+
+    def colour_anew(self):
+        """Gives a pair other colours, in which a text is shown."""
+        w, pair = self.arguments.for_color_set()
+        self.write(b'color_set %d %d' % (w, pair))
+        self.write(b'addstr %d abc' % w)
+        self.update()
+        self.write(b'init_pair %d %d %d' % (pair, self.chance.randrange(8), self.chance.randrange(8)))
+        self.update()
 
     def ask_all(self):
         """Asks of windows, seen or not, what they hold at some places, what is touched, and where their cursor is."""
@@ -146,10 +191,15 @@ class Walk:
             self.write(b'move %d %d %d' % (w, self.arguments.near(window.lines), self.arguments.near(window.columns)))
             self.write(b'inch %d' % w)
 
-    def begin_at_length(self):
-        """Many lines of one kind, so that numbers and tables get long."""
+    def letters(self, count):
+        return bytes(self.chance.choice(LETTERS) for _ in range(count))
+
+    # How a script may begin.
+
+    def write_at_length(self):
+        """Many lines of one kind, so that numbers and tables get long, and full."""
         kind = self.chance.randrange(4)
-        for _ in range(self.chance.choice((130, 260, 1002 if kind else 300))):
+        for _ in range(self.chance.choice((130, 1002, 1002)) if kind else 300):
             if kind == 0:
                 self.write(b'')
             elif kind == 1:
@@ -159,14 +209,58 @@ class Walk:
             else:
                 self.write(b'newpad 1 1' if self.chance.random() < 0.5 else b'new_panel %d' % self.run.number)
 
+    def crowd(self):
+        """More panels than a search goes through one by one, and numbers past 64."""
+        for w in range(1, self.chance.choice((18, 26, 70)) + 1):
+            self.write(self.line_of('newwin'))
+            if w in self.run.world.windows:
+                self.write(b'addstr %d %b' % (w, spelled(self.chance, self.letters(20))))
+                self.write(b'new_panel %d' % w)
+
+    def family(self):
+        """Windows of which each derives from the one before, and some are in panels: what one of them writes, others show."""
+        self.write(self.line_of('newwin'))
+        family = [max(self.run.world.windows)]
+        for _ in range(self.chance.randint(2, 4)):
+            window = self.run.world.windows[family[-1]]
+            self.write(b'derwin %d %d %d %d %d' % (family[-1], *self.arguments.part(window.lines, window.columns)))
+            family.append(max(self.run.world.windows))
+        for w in self.chance.sample(family, 2):
+            self.write(b'new_panel %d' % w)
+        for _ in range(10):
+            self.write(b'addstr %d %b' % (self.chance.choice(family), self.letters(self.chance.randint(1, 9))))
+            word = self.chance.choice((b'syncup', b'syncdown', b'syncdown', b'untouchwin', b'touchwin'))
+            self.write(b'%b %d' % (word, self.chance.choice(family)))
+            self.ask_marks(family)
+            if self.chance.random() < 0.4:
+                self.update()
+
+    def fill_screen(self):
+        """A text in each cell, so that one update is longer than the rooms through which it goes."""
+        for y in range(self.lines):
+            self.write(b'move 0 %d 0' % y)
+            self.write(b'addstr 0 ' + self.letters(self.columns))
+
+
+def beginning_of(chance):
+    """How a script begins, mostly with nothing of its own."""
+    kind = chance.random()
+    if kind < 0.012:
+        return Walk.write_at_length
+    if kind < 0.022:
+        return Walk.fill_screen
+    if kind < 0.07:
+        return Walk.crowd
+    return Walk.family if kind < 0.12 else None
+
 
 def script_of(chance):
     """A size and a script. Most have no fault and end with an update of the terminal."""
     walk = Walk(chance)
-    if chance.random() < walk.filling:
+    if walk.beginning:
+        walk.beginning(walk)
+    elif chance.random() < walk.filling:
         walk.fill(0)
-    if chance.random() < 0.01:
-        walk.begin_at_length()
     for _ in range(chance.choice((3, 10, 25, 50, 80))):
         walk.step()
         if chance.random() < 0.02:
