@@ -93,14 +93,14 @@ want_rt() {
     fi
 }
 
-# Puts out the folders of a crate and of those below it: of each that in which its work is kept, if it is there.
+# Puts out the folders of a crate and of those below it, each ended by a zero byte: of each that in which its work is kept, if it is there.
 folders_of_work() {
     local crate folder root
     root=$(readlink -f "$(dirname "${BASH_SOURCE[0]}")/..")
     for crate in $(crates_up_to "$1"); do
         folder=$root/crates/$crate
         [ ! -d "$folder/out" ] || folder+=/out
-        printf '%s\n' "$folder"
+        printf '%s\0' "$folder"
     done
 }
 
