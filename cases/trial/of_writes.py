@@ -29,13 +29,19 @@ def failed_line(script, log):
 
 def is_failed_run(program, script, came, limit):
     """Of a run of which so many bytes went out: they are the first ones, and the failure is told of the doupdate that has the next. It
-    counts these bytes, or the whole text where the buffer before standard output had taken its end."""
+    counts these bytes, or the whole text where the buffer before standard output had taken its end; of a text that is handed on in several
+    pieces the buffer may have taken the end of one."""
     want('the status where a write failed', 3, came.status)
     number, taken = failed_line(script, came.log)
     start, end = len(sent_before(program, script, number)), len(sent_before(program, script, number + 1))
     want_that(f'the write that fails is that of byte {limit}', start <= limit < end, (number, start, end))
-    all_taken = [end - start] if end - limit <= BUFFERED else []
-    want_that(f'{limit - start} bytes of the doupdate were taken, or {all_taken}', taken in (limit - start, *all_taken), taken)
+    gone, whole = limit - start, end - start
+    if whole > HANDED_ON:
+        most = min(gone + BUFFERED, whole)
+        want_that(f'from {gone} to {most} bytes of the doupdate were taken', gone <= taken <= most, taken)
+    else:
+        all_taken = [whole] if whole - gone <= BUFFERED else []
+        want_that(f'{gone} bytes of the doupdate were taken, or {all_taken}', taken in (gone, *all_taken), taken)
 
 
 def place_in(chance, text):
