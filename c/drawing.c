@@ -1,4 +1,4 @@
-/* Borders and drawn lines, and cells whose rendition is changed where they stand. Nothing here is proved. */
+/* Borders and drawn lines, and cells whose rendition is changed where they are. Nothing here is proved. */
 #include "inside.h"
 
 /* What a character is in a window: with the window's attributes and those of its background, which a blank one takes whole. */

@@ -15,7 +15,7 @@ enum {
 struct curspan_window {
     bool is_there, is_pad, scrolls;
     attr_t attrs; /* the attributes and the pair that the window has */
-    attr_t told;  /* those that Curspan was told last */
+    attr_t told;  /* those that Curspan got last */
     chtype background;
     int top, bottom; /* the scroll region */
     WINDOW *parent;
@@ -41,10 +41,10 @@ void curspan_forget_all(void);
 /* The screen, and a window of it, as arguments. */
 #define SCREEN_AND(win) &curspan_the_screen, curspan_number(win)
 
-/* Tells Curspan that a window writes with other attributes than before. */
+/* Says to Curspan that a window writes with other attributes than before. */
 int curspan_tell_other(WINDOW *win, attr_t attrs);
 
-/* Tells Curspan with which attributes a window writes next. */
+/* Says to Curspan with which attributes a window writes next. */
 static inline int curspan_tell(WINDOW *win, attr_t attrs) { return win->told == attrs ? OK : curspan_tell_other(win, attrs); }
 
 /* One set of attributes with another added, whose pair goes before where it has one. */

@@ -31,7 +31,7 @@ static int add_spelled(WINDOW *win, uint8_t ch) {
     return done(curspan_waddstr(SCREEN_AND(win), spelled, (size_t)spell(ch, getcurx(win), spelled)));
 }
 
-/* Writes a character with the attributes that were told. */
+/* Writes a character with the attributes that Curspan got last. */
 static int add_character(WINDOW *win, uint8_t ch) {
     curspan_answer answer = curspan_waddch(SCREEN_AND(win), ch);
     return answer.status == CURSPAN_BAD_CHARACTER ? add_spelled(win, ch) : done(answer);

@@ -6,9 +6,9 @@
 #   call WORD..                a call, as in `call move 0 2 3`
 #   write_text WINDOW TEXT     addstr of any text, of any length: what can't be shown becomes a question mark
 #   ask WORD..                 a call that answers: the answer is in `answer`; status 1 where it was refused
-#   show                       what was drawn stands on the terminal
+#   show                       what was drawn is on the terminal
 #   read_key [SECONDS]         a key, or its name, is in `key`; status 1 where none came in that time
-#   close_screen               the terminal is given back, and standard error is told which calls were refused
+#   close_screen               the terminal is given back, and standard error has the calls that were refused
 #
 # CURSPAN is the program, or else the `curspan` of this repository, or else the one on the path.
 curspan=${CURSPAN:-$(readlink -f "${BASH_SOURCE[0]}" | sed 's|/examples/[^/]*$|/curspan|')}

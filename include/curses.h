@@ -2,7 +2,7 @@
 
    A program that draws by these names compiles unchanged. What isn't here is absent: input (getch and its modes), wide
    and complex characters, soft labels, terminfo, several screens. A program that needs it doesn't compile.
-   curspan(3) has a table of all of X/Open's windowing names, with what stands for each.
+   curspan(3) has a table of all of X/Open's windowing names, with what takes the place of each.
 
    One screen. It is proved what the functions of curspan.h do. What is C here is not proved: it turns these names and types
    into calls of curspan.h, and writes their bytes to the terminal. It is tested against ncurses. */

@@ -1,4 +1,4 @@
-// Makes the calls of a Curspan script through ncurses and its panels, so that what both send can stand side by side.
+// Makes the calls of a Curspan script through ncurses and its panels, so that what both send can be compared.
 //     ncurses_run LINES COLUMNS OUT [FRAMES] < SCRIPT
 // What the terminal gets goes to the file OUT. FRAMES takes a line for the start and for each doupdate: how many bytes had been sent then. The type of
 // the terminal is that of TERM. A line that isn't known, or that ncurses refuses, ends it with status 1; only a text that ends in a

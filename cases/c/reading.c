@@ -1,4 +1,4 @@
-/* What stands in windows, read back. */
+/* What is in windows, read back. */
 #include "shot.h"
 
 static void tell(int y, const char *what, const chtype *row) {

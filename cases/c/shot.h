@@ -1,5 +1,5 @@
 /* A program of this folder draws, and wherever it calls shot() its screen is looked at: cases/library runs it over ncurses and over
-   Curspan, and compares what stands on both terminals. */
+   Curspan, and compares what is on both terminals. */
 #ifndef SHOT_H
 #define SHOT_H
 

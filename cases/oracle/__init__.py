@@ -10,7 +10,7 @@ stacking     the calls on panels
 refreshing   what the virtual screen takes, and what each doupdate may send
 calls        the table of all calls
 script       reading a script
-findings     what check tells of a script
+findings     what check says of a script
 running      the run of a script: log, status and picture
 terminal     what a stream of bytes leaves on a terminal
 economy      which bytes of an update aren't needed

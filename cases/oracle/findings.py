@@ -1,4 +1,4 @@
-"""What check tells of a script. Of a line that explains itself at length only its beginning is said here."""
+"""What check says of a script. Of a line that explains itself at length only its beginning is said here."""
 from .calls import CALLS
 from .script import BAD_ARGUMENT, BAD_BYTE, LONGEST_LINE, TOO_LONG, UNKNOWN_CALL, faults_of, lines_of, pieces_of
 

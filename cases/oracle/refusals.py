@@ -1,4 +1,4 @@
-"""Refusals. A call's tests stand at its beginning, in their order, and the first that holds refuses it."""
+"""Refusals. A call's tests are at its beginning, in their order, and the first that holds refuses it."""
 
 E1 = 'E1 NoSuchWindow'
 E2 = 'E2 NoSuchPanel'

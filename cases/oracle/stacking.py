@@ -1,4 +1,4 @@
-"""The calls on panels: their order of depth, which of them are visible, and where their windows stand."""
+"""The calls on panels: their order of depth, which of them are visible, and where their windows are."""
 from .cells import MOST_PANELS
 from .making import is_off_screen, least_free, there
 from .refusals import E2, E3, E7, E8, E14, E15, E17, refuse

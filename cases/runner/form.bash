@@ -1,9 +1,9 @@
-# Reads a case, and writes what came in the same form, which ../README.md tells. A case is kept in
+# Reads a case, and writes what came in the same form, which ../README.md has. A case is kept in
 #   steps      how many scripts or streams it has, or 1
 #   order      its sections, each as the number of its step and its name
-#   head       what stands after the name of each
+#   head       what follows the name of each
 #   body       the lines of each, without marks
-#   preface    what is told before the first
+#   preface    what is said before the first
 #   case_fault what is wrong with its text, if something is
 #   used       the sections that were asked for while it ran
 #   came       what came in place of what a section wants
@@ -26,7 +26,7 @@ may_have() {
     esac
 }
 
-# Begins the section that a line after its dashes tells.
+# Begins the section that a line names after its dashes.
 begin_section() {
     local name=${1%% *} rest=
     [[ $1 != *' '* ]] || rest=${1#* }

@@ -1,11 +1,11 @@
 """The product's own trial: scripts and streams by chance, and what must hold whatever they are. cases/random starts it.
 
 scripts      writes scripts: a walk that looks at the oracle's world, so that most calls are accepted
-arguments    what stands after each word of a script
+arguments    what follows each word of a script
 spoiling     faulty lines, long lines and bytes of every kind
 streams      writes streams of terminal bytes: valid, mutated, cut
 program      runs the program: whole, in pieces, and with a write that fails
-differing    how it is told that something doesn't hold
+differing    how it is said that something doesn't hold
 of_scripts   what must hold of a script
 of_streams   what must hold of a stream
 of_writes    what must hold where a write fails

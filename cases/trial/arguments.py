@@ -1,4 +1,4 @@
-"""What stands after each word of a script: arguments that the world accepts, mostly, and some that it doesn't."""
+"""What follows each word of a script: arguments that the world accepts, mostly, and some that it doesn't."""
 from oracle.world import STANDARD_SCREEN
 
 WILD_NUMBERS = (0, 1, 2, 63, 64, 255, 256, 998, 999, 1000, 1001, 32767, 32768, 65535)

@@ -1,4 +1,4 @@
-"""How a check tells that something doesn't hold."""
+"""How a check says that something doesn't hold."""
 
 
 class Differs(Exception):

@@ -29,24 +29,22 @@ def failed_line(script, log):
 
 def is_failed_run(program, script, came, limit):
     """Of a run of which so many bytes went out: they are the first ones, and the failure is told of the doupdate that has the next. It
-    counts these bytes, or the whole text where the buffer before standard output had taken its end; of a text that is handed on in several
-    pieces the buffer may have taken the end of one."""
+    counts these bytes, or as far as the piece goes that has the next, where the buffer before standard output had taken its end."""
     want('the status where a write failed', 3, came.status)
     number, taken = failed_line(script, came.log)
     start, end = len(sent_before(program, script, number)), len(sent_before(program, script, number + 1))
     want_that(f'the write that fails is that of byte {limit}', start <= limit < end, (number, start, end))
-    gone, whole = limit - start, end - start
-    if whole > HANDED_ON:
-        most = min(gone + BUFFERED, whole)
-        want_that(f'from {gone} to {most} bytes of the doupdate were taken', gone <= taken <= most, taken)
-    else:
-        all_taken = [whole] if whole - gone <= BUFFERED else []
-        want_that(f'{gone} bytes of the doupdate were taken, or {all_taken}', taken in (gone, *all_taken), taken)
+    gone = limit - start
+    piece_end = next(at for at in program.ends_of_writes(script.words('run'), script.text) if at > limit)
+    counts = [gone, *([piece_end - start] if piece_end - limit <= BUFFERED else [])]
+    want_that(f'as many bytes of the doupdate were taken as one of {counts}', taken in counts, taken)
 
 
-def place_in(chance, text):
-    """Where a text breaks off: often past the bytes that are handed on in one piece."""
-    return chance.randrange(HANDED_ON if len(text) > HANDED_ON and chance.random() < 0.5 else 0, len(text))
+def places_in(chance, text):
+    """Where a text breaks off: at a place by chance, and of one that goes out in several pieces at its last byte too."""
+    yield chance.randrange(HANDED_ON if len(text) > HANDED_ON and chance.random() < 0.5 else 0, len(text))
+    if len(text) > HANDED_ON:
+        yield len(text) - 1
 
 
 def breaks_off(program, script):
@@ -55,14 +53,14 @@ def breaks_off(program, script):
     whole = program.run(words, script.text).out
     if not whole:
         return
-    limit = place_in(script.chance, whole)
-    came = program.run_limited(words, script.text, limit)
-    want('the bytes that went out before a write failed', whole[:limit], came.out)
-    is_failed_run(program, script, came, limit)
-    before = rubbish(script.chance, script.lines, script.columns)
-    wanted = script.wanted.shown().encode()
-    shown = program.run(script.words('show'), before + came.out + whole)
-    want('what show prints of rubbish, a text that broke off, and a whole run', (wanted, b'', 0), tuple(shown))
+    for limit in places_in(script.chance, whole):
+        came = program.run_limited(words, script.text, limit)
+        want('the bytes that went out before a write failed', whole[:limit], came.out)
+        is_failed_run(program, script, came, limit)
+        before = rubbish(script.chance, script.lines, script.columns)
+        wanted = script.wanted.shown().encode()
+        shown = program.run(script.words('show'), before + came.out + whole)
+        want('what show prints of rubbish, a text that broke off, and a whole run', (wanted, b'', 0), tuple(shown))
 
 
 def fails_at_once(program, script):

@@ -8,6 +8,7 @@ from typing import NamedTuple
 
 SECONDS = 30
 LARGEST_PIECE = 256
+LARGEST_WRITE = 65536
 MOST_KEPT = 100
 
 
@@ -78,6 +79,19 @@ class Program:
             other.seek(0)
             came = other.read()
         return Came(came, b'', status) if log else Came(b'', came, status)
+
+    def ends_of_writes(self, words, text):
+        """After how many bytes of output each write of a run ends."""
+        ours, theirs = socket.socketpair(socket.AF_UNIX, socket.SOCK_SEQPACKET)
+        ends, at = [], 0
+        with self.reading(text) as given, ours, open(self.file('log'), 'w+b') as log:
+            with theirs:
+                child = self.start(words, given, theirs, log)
+            while came := ours.recv(LARGEST_WRITE):
+                at += len(came)
+                ends.append(at)
+            wait(child)
+        return ends
 
     def finish(self, words, given, while_running=lambda: None):
         with open(self.file('out'), 'w+b') as out, open(self.file('log'), 'w+b') as log:

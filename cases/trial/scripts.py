@@ -27,7 +27,7 @@ ESCAPED = {10: b'\\n', 13: b'\\r', 8: b'\\b', 92: b'\\\\'}
 def size(chance, beginning):
     """Lines and columns of a screen: small ones, in which much meets much, and some at the limits."""
     if beginning == Walk.fill_screen:
-        return chance.choice(((12, 500), (75, 90)))
+        return chance.choice(((24, 500), (100, 120)))
     kind = chance.random()
     if beginning == Walk.crowd and kind < 0.5:
         return chance.randint(1, 3), chance.choice((257, 300, 513))
@@ -236,7 +236,7 @@ class Walk:
                 self.update()
 
     def fill_screen(self):
-        """A text in each cell, so that one update is longer than the rooms through which it goes."""
+        """A text in each cell, so that one update goes out in three pieces."""
         for y in range(self.lines):
             self.write(b'move 0 %d 0' % y)
             self.write(b'addstr 0 ' + self.letters(self.columns))

@@ -1,4 +1,4 @@
-/* A monitor of the machine's load and memory, as /proc tells them. It looks again every second; q ends. */
+/* A monitor of the machine's load and memory, as /proc has them. It looks again every second; q ends. */
 #include <curses.h>
 #include <stdio.h>
 #include <string.h>
