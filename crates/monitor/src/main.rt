@@ -10,8 +10,6 @@ const LINES: u16 = 8;
 
 const COLUMNS: u16 = 40;
 
-/// The standard screen, which is always there.
-
 /// How often the monitor updates what it shows.
 const UPDATES: u64 = 9;
 
