@@ -37,7 +37,7 @@ impl Surface {
         self.screen.call(call)
     }
 
-    /// Makes a call, and tells C of it.
+    /// Makes a call, and answers C how it ended.
     pub fn call(&mut self, call: &Call<'_>) -> Answer
         ensures { Makes ⟦<Outlet as Sink>⟧ self.old call.now result self.new }
     {

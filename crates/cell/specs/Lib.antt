@@ -9,3 +9,4 @@ pub mod Differences
 pub mod EqualityLaws
 pub mod Grids
 pub mod Refusals
+pub mod VirtualScreens

@@ -56,12 +56,20 @@ impl Attr {
         Attr(self.0 & 0x3f)
     }
 
-    /// The bits as two hexadecimal digits in lower case.
+    /// The six attributes as two hexadecimal digits in lower case, with other bits dropped.
     pub fn hex_digits(self) -> [u8; 2]
-        ensures { result ≡ hex_digits (bits_of self) }
+        ensures digits { result ≡ hex_digits (known (bits_of self)) }
+        ensures all { bits_of self < 64 → result ≡ hex_digits (bits_of self) }
     {
-        [hex_digit(self.0 / 16), hex_digit(self.0 % 16)]
+        hex_digits(self.0 & 0x3f)
     }
+}
+
+/// A byte as two hexadecimal digits in lower case.
+pub fn hex_digits(byte: u8) -> [u8; 2]
+    ensures { result ≡ hex_digits byte }
+{
+    [hex_digit(byte / 16), hex_digit(byte % 16)]
 }
 
 /// The hexadecimal digit of a number below 16.

@@ -10,6 +10,7 @@
 //! - `limits`: the greatest sizes and numbers
 //! - `refusal`: why a call is refused
 //! - `shown`: renditions and shown cells
+//! - `virtual_screen`: what a virtual screen lends
 //! - `window`: numbers of windows, and rectangles
 #![tactic(auto)]
 
@@ -22,9 +23,10 @@ mod grid;
 mod limits;
 mod refusal;
 mod shown;
+mod virtual_screen;
 mod window;
 
-pub use attr::Attr;
+pub use attr::{Attr, hex_digits};
 pub use cell::{Cell, is_printable};
 pub use colour::{Colour, ColourPair, PairId, Pairs};
 pub use difference::{first_diff, last_diff};
@@ -35,4 +37,5 @@ pub use limits::{
 };
 pub use refusal::Refusal;
 pub use shown::{Rendition, Shown};
+pub use virtual_screen::VirtualScreen;
 pub use window::{Rect, WinId};

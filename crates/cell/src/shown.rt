@@ -1,6 +1,6 @@
 //! A shown cell: a character with a rendition.
 
-ghost use Rattle.std.specs.Prelude.{◌≡◌, if◌then◌else◌, true};
+ghost use Rattle.std.specs.Prelude.{◌≡◌, ◌<◌, if◌then◌else◌, true};
 ghost use Rattle.cell.specs.Attributes.{bits_of, known};
 ghost use Rattle.cell.specs.Glyphs.{is_printable};
 ghost use Rattle.cell.specs.Shown.{IsRendition, IsShown, rendition_with};
@@ -73,7 +73,8 @@ impl Rendition {
 
     /// The attributes.
     pub fn attrs(self) -> Attr
-        ensures { bits_of result ≡ self.attributes }
+        ensures value { bits_of result ≡ self.attributes }
+        ensures of_the_six { bits_of result < 64 }
     {
         Attr::from_bits_retain((self.bits / 256 % 256) as u8)
     }

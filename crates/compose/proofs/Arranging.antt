@@ -6,7 +6,7 @@ use Rattle.cell.specs.declared.refusal.Refusal.{Refusal}
 use Rattle.world.specs.Panels.{Panels}
 use Rattle.world.specs.Sound.{AreSoundPanels, AreSoundWindows, IsSound}
 use Rattle.world.specs.Windows.{Windows}
-use Rattle.world.specs.World.{VirtualScreen}
+use Rattle.cell.specs.VirtualScreens.{VirtualScreen}
 use Rattle.world.specs.Effects.{windows_after}
 use Rattle.world.specs.calls.Dispatch.{world_after}
 use Rattle.world.specs.calls.Stacking.{after_stacking, stacking_order}

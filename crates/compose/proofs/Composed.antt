@@ -8,7 +8,7 @@ use Rattle.cell.specs.Shown.{Pairs, Shown}
 use Rattle.cell.proofs.PictureLemmas.{HasSize-lines_from}
 use Rattle.world.specs.Windows.{Window, Windows, changed}
 use Rattle.world.specs.Panels.{Panels, cursor_from, cursor_of_topmost, cursor_on_screen, screen_place, standard_screen, topmost, window_or_standard}
-use Rattle.world.specs.World.{VirtualScreen}
+use Rattle.cell.specs.VirtualScreens.{VirtualScreen}
 use Rattle.world.specs.Sound.{AreSoundPanels, AreSoundWindows, IsSound, IsSoundPanel, IsSoundWindow, IsStandardScreen}
 use Rattle.world.specs.calls.Queries.{place_on_screen}
 use Rattle.world.specs.Effects.{unmarked_lines, unmarked, with_unmarked}

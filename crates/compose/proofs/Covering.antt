@@ -9,7 +9,8 @@ use Rattle.grids.specs.Tables.{WindowTable, windows}
 use Rattle.stack.specs.Tables.{PanelTable, panels}
 use Rattle.world.specs.Panels.{first_panels}
 use Rattle.world.specs.Windows.{window_limit}
-use Rattle.world.specs.World.{VirtualScreen, first_world, picture}
+use Rattle.cell.specs.VirtualScreens.{VirtualScreen}
+use Rattle.world.specs.World.{first_world, picture}
 use Rattle.world.specs.Sound.{AreColumnsWithin, AreSoundWindows}
 use Rattle.world.specs.calls.Dispatch.{is_update_panels, refusal, world_after}
 use Rattle.world.specs.calls.Affected.{affects_place}

@@ -8,7 +8,8 @@ use Rattle.cell.specs.Pictures.{Picture, blank_picture}
 use Rattle.cell.proofs.PictureLemmas.{ArePairs-first, EachCell-all_of, HasSize-all_of, IsShown-blank}
 use Rattle.world.specs.Windows.{Windows}
 use Rattle.world.specs.Panels.{Panels, is_in_panel, first_panels, standard_screen}
-use Rattle.world.specs.World.{VirtualScreen, World, first_world}
+use Rattle.cell.specs.VirtualScreens.{VirtualScreen}
+use Rattle.world.specs.World.{World, first_world}
 use Rattle.world.specs.Sound.{AreSoundPanels, AreSoundWindows, IsSound}
 use Rattle.world.specs.calls.Making.{after_making, making_change, making_refusal}
 use Rattle.world.specs.calls.Dispatch.{refusal, takes_memory, world_after}

@@ -10,7 +10,7 @@ use Rattle.world.specs.Effects.{panels_after, windows_after}
 use Rattle.world.specs.calls.Affected.{order_shows_at, panel_shows_at}
 use Rattle.world.specs.calls.Stacking.{new_panel_number, next_panel, stacking_order}
 use Rattle.world.specs.declared.call.Stacking.{Stacking}
-use Rattle.world.specs.declared.call.Stacking.TheVariants.{NewPanel, DelPanel, ShowPanel, HidePanel, TopPanel, BottomPanel, MovePanel, ReplacePanel, PanelAbove, PanelBelow, PanelWindow, PanelHidden}
+use Rattle.world.specs.declared.call.Stacking.TheVariants.{NewPanel}
 use Rattle.picture.specs.Parts.{IsFrameWithin}
 use Rattle.picture.proofs.VisiblePanels.{absent-hidden}
 use Rattle.compose.specs.steps.Changes.{named_panel, order_panel}
@@ -54,17 +54,7 @@ both-parts : (ws : Windows) (ps : Panels) (stacking : Stacking) (y x : ℕ) → 
     ≡ (part_shows ws ps y x (named_panel stacking) || part_shows (windows_after ws ps order) (panels_after ps order) y x (order_panel order)))
 both-parts ws ps (NewPanel win) y x sound = let order = stacking_order ps (NewPanel win) in
     ap (λ b. b || part_shows (windows_after ws ps order) (panels_after ps order) y x (order_panel order)) (next-hidden ws.window ps y x sound)
-both-parts ws ps (DelPanel panel) y x sound = refl
-both-parts ws ps (ShowPanel panel) y x sound = refl
-both-parts ws ps (HidePanel panel) y x sound = refl
-both-parts ws ps (TopPanel panel) y x sound = refl
-both-parts ws ps (BottomPanel panel) y x sound = refl
-both-parts ws ps (MovePanel panel line column) y x sound = refl
-both-parts ws ps (ReplacePanel panel win) y x sound = refl
-both-parts ws ps (PanelAbove panel) y x sound = refl
-both-parts ws ps (PanelBelow panel) y x sound = refl
-both-parts ws ps (PanelWindow panel) y x sound = refl
-both-parts ws ps (PanelHidden panel) y x sound = refl
+both-parts ws ps stacking y x sound = refl
 
 -- The part before the call and the part after it make up what the call changes, where they hold what the panel had that it names, and
 -- what the panel has that it changed.

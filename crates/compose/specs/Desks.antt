@@ -1,7 +1,8 @@
 -- What a desk keeps, and the world that it stands for.
 use Rattle.std.specs.Prelude.{ℕ, Bool, Option, List}
 use Rattle.cell.specs.Shown.{Pairs}
-use Rattle.world.specs.World.{VirtualScreen, World}
+use Rattle.cell.specs.VirtualScreens.{VirtualScreen}
+use Rattle.world.specs.World.{World}
 use Rattle.world.specs.declared.settings.Columns.{Columns}
 use Rattle.grids.specs.Tables.{WindowTable, windows}
 use Rattle.stack.specs.Tables.{PanelTable, panels}

@@ -1,6 +1,6 @@
 //! The windows and panels under a virtual screen.
 
-ghost use Rattle.std.specs.Prelude.{◌≡◌, ◌<◌, ◌≤◌, ◌-◌, ◌==◌, ◌&&◌, ℕ, Ok, Some, IfOk, OnErr, OnOk, false, if◌then◌else◌, length, nat_le, nat_lt, slice_index_or};
+ghost use Rattle.std.specs.Prelude.{◌≡◌, ◌<◌, ◌≤◌, ◌-◌, ◌==◌, ◌&&◌, ℕ, None, Ok, Some, IfOk, OnErr, OnOk, false, true, if◌then◌else◌, length, nat_le, nat_lt, slice_index_or};
 ghost use Rattle.std.specs.Result.{result_err};
 ghost use Rattle.cell.specs.Pictures.{AreShown, HasSize, line_of, picture_of, shown_at};
 ghost use Rattle.cell.specs.Glyphs.{blank};
@@ -29,7 +29,7 @@ use crate::damaging::damage_part;
 use crate::dispatch::{query, refresh};
 use crate::marks::{clear_asked, unmark_composed};
 use crate::methods::Calls;
-use cell::{Cell, Colour, Grid, PairId, Pairs, Refusal, Shown, WinId};
+use cell::{Cell, Colour, Grid, PairId, Pairs, Refusal, Shown, VirtualScreen, WinId};
 use grids::Grids;
 use picture::{
     Damage, Lent, Span, cell_found, owner_span, show_damaged, wanted_cursor, window_part,
@@ -108,7 +108,7 @@ impl Desk {
     }
 
     /// Takes the picture of windows and panels, and the topmost's cursor, into the virtual screen. It reads windows where the screen is
-    /// damaged, tells how many cells that were, and leaves no damage.
+    /// damaged, answers how many cells that were, and leaves no damage.
     pub(crate) fn compose(&mut self) -> Composed
         ensures { Called self.old (Call.Refresh Refresh.UpdatePanels) (Ok (Reply.Composed result)) self.new }
     {
@@ -154,6 +154,18 @@ impl Desk {
             → shown_at self.now.virtual.picture (y, x) ≡ picture (world self.now) y x }
     {
         self.damage.line(y)
+    }
+
+    /// The first line from one on that has damaged columns, and where there is none, a line that isn't there.
+    pub fn next_damaged(&self, from: u16) -> u16
+        ensures from { from ≤ result }
+        ensures inside { from ≤ self.now.windows.lines → result ≤ self.now.windows.lines }
+        ensures none { (y : ℕ) → from ≤ y → y < result → damaged_columns self.now y ≡ None }
+        ensures found { result < self.now.windows.lines → is_damaged_line self.now result ≡ true }
+        ensures shown { (y x : ℕ) → from ≤ y → y < result → y < self.now.windows.lines → x < self.now.windows.columns
+            → shown_at self.now.virtual.picture (y, x) ≡ picture (world self.now) y x }
+    {
+        self.damage.next(from)
     }
 
     /// Gives a colour pair a foreground and a background. What is shown already stays.
@@ -229,34 +241,27 @@ impl Desk {
         self.picture.row(usize::from(y))
     }
 
-    /// Where the cursor is wanted: its line and its column.
-    pub fn wanted_cursor(&self) -> (u16, u16)
-        ensures place { result ≡ self.now.virtual.cursor }
-        ensures sound { IsSound (world self.now) }
-    {
-        self.cursor
-    }
-
-    /// Whether the terminal is to be cleared first.
-    pub fn clear_wanted(&self) -> bool
-        ensures { result ≡ self.now.virtual.clear }
-    {
-        self.clear
-    }
-
-    /// All of the virtual screen.
-    pub fn virtual_screen(&self) -> &Grid<Shown>
-        ensures picture { result.now ≡ self.now.virtual.picture }
-        ensures sound { IsSound (world self.now) }
-    {
-        &self.picture
-    }
-
     /// The terminal needn't be cleared any more.
     pub fn clear_done(&mut self)
         ensures { self.new ≡ record self.old { virtual = record self.old.virtual { clear = false } } }
     {
         self.clear = false;
+    }
+}
+
+impl VirtualScreen for Desk {
+    ghost shown = { λ desk. desk.virtual };
+
+    fn virtual_screen(&self) -> &Grid<Shown> {
+        &self.picture
+    }
+
+    fn wanted_cursor(&self) -> (u16, u16) {
+        self.cursor
+    }
+
+    fn clear_wanted(&self) -> bool {
+        self.clear
     }
 }
 

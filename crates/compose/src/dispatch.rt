@@ -1,4 +1,4 @@
-//! The calls on windows, by the table that they stand in.
+//! The calls on windows, by the group that they are in.
 
 ghost use Rattle.std.specs.Prelude.{◌≡◌, IfOk, OnErr, OnOk, None, Some, false, option_map};
 ghost use Rattle.std.specs.Result.{result_err};

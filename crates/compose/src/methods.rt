@@ -686,7 +686,7 @@ pub trait Calls {
         }))
     }
 
-    /// Takes the picture of windows and panels, and the topmost's cursor, into the virtual screen. It tells how many
+    /// Takes the picture of windows and panels, and the topmost's cursor, into the virtual screen. It answers how many
     /// cells it read.
     final fn update_panels(&mut self) -> Result<Composed, Self::Error>
         ensures { made self.old (Call.Refresh Refresh.UpdatePanels) (told Reply.Composed result) self.new }

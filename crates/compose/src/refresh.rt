@@ -141,7 +141,7 @@ fn show_touched(
             );
         }
     }
-    // Reading a line tells the proof that each cell can be printed.
+    // Reading a line shows the proof that each cell can be printed.
     prove!(!picture.row(0).is_empty());
 }
 

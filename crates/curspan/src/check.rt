@@ -1,4 +1,4 @@
-//! Tells of each faulty line of a script what is wrong with it. No call is made.
+//! Says of each faulty line of a script what is wrong with it. No call is made.
 
 ghost use Rattle.std.specs.Prelude.{◌≡◌, ◌≤◌, ◌<◌, ◌∷◌, [], length};
 ghost use Rattle.std.specs.Option.{option_map_or};
@@ -18,16 +18,16 @@ use streams::{append, append_decimal};
 /// Room for the line on how many lines are faulty: a number, and 14 bytes more.
 const COUNT_ROOM: usize = 64;
 
-/// What was told of a script's lines.
+/// What was said of a script's lines.
 #[derive(Clone, Copy)]
 struct Report {
     /// How many are faulty.
     faulty: u64,
-    /// Whether all that was told went out.
+    /// Whether all that was said went out.
     is_written: bool,
 }
 
-/// How a script was read, and what was told of it.
+/// How a script was read, and what was said of it.
 #[derive(Clone, Copy)]
 struct Checked {
     /// Whether it was read to its end.
@@ -35,7 +35,7 @@ struct Checked {
     report: Report,
 }
 
-/// The line that tells of a line's fault, if it has one.
+/// The line about a line's fault, if it has one.
 fn finding_of(number: u64, line: &[u8], taken: &mut Arguments) -> Option<Finding>
     requires { length line.now ≤ LONGEST_LINE }
     ensures { finding_of number line.now (said_by_line line.now) ≡ option_map_or (λ text. text.items ∷ []) result [] }
@@ -78,7 +78,7 @@ fn tell<O: Sink>(out: &mut O, report: Report, text: &[u8]) -> Report
     }
 }
 
-/// Writes the line that tells of a fault, if there is one.
+/// Writes the line about a fault, if there is one.
 fn tell_finding<O: Sink>(out: &mut O, report: Report, finding: Option<Finding>) -> Report
     ensures { ReportsMore (O.seen out.old) (O.seen out.new) report result (option_map_or (λ text. text.items ∷ []) finding []) }
 {
@@ -88,7 +88,7 @@ fn tell_finding<O: Sink>(out: &mut O, report: Report, finding: Option<Finding>) 
     }
 }
 
-/// Reads a script to its end or until a read fails, and tells of each faulty line. Nothing is flushed.
+/// Reads a script to its end or until a read fails, and reports each faulty line. Nothing is flushed.
 fn tell_lines<R: Source, O: Sink>(input: &mut R, out: &mut O) -> Checked
     ensures { ReportsScript (R.seen input.old) (R.seen input.new) (O.seen out.old) (O.seen out.new) result.is_whole result.report }
 {
@@ -143,7 +143,7 @@ fn count_line(n: u64) -> ArrayVec<u8, COUNT_ROOM>
     text
 }
 
-/// Writes what stands after the lines of a report and flushes, and answers whether all of it went out.
+/// Writes what follows the lines of a report and flushes, and answers whether all of it went out.
 fn end_report<O: Sink>(out: &mut O, checked: Checked) -> bool
     ensures { EndsReport (O.seen out.old) (O.seen out.new) checked.is_whole checked.report result }
 {
@@ -157,7 +157,7 @@ fn end_report<O: Sink>(out: &mut O, checked: Checked) -> bool
     }
 }
 
-/// Reads a script to its end, tells on the output of each faulty line where it is and what is wrong, and after them how
+/// Reads a script to its end, says on the output of each faulty line where it is and what is wrong, and after them how
 /// many they are, and answers the status.
 pub fn check<R: Source, O: Sink, L: Sink>(input: &mut R, out: &mut O, log: &mut L) -> u8
     ensures checked { Checks (R.seen input.old) (R.seen input.new) (outputs (O.seen out.old) (L.seen log.old))

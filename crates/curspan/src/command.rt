@@ -17,7 +17,7 @@ use std::convert::AsStr;
 /// The version of the program.
 const VERSION: &str = "0.1.0";
 
-/// What stands below the help of the program.
+/// What follows the help of the program.
 const EXAMPLE: &str = "\
 A script has a call a line, and stands on standard input, as the terminal bytes do for show.
 `man curspan` tells the calls.

@@ -16,13 +16,13 @@ use streams::{MOST_DECIMAL_DIGITS, Sink, append, append_decimal};
 /// Room for a line of a picture, with its attributes and colours: 5 bytes for each cell, and 7 more.
 const ROOM: usize = 5120;
 
-/// The most bytes that say where the cursor stands: two numbers, and 9 bytes more.
+/// The most bytes that say where the cursor is: two numbers, and 9 bytes more.
 const LONGEST_CURSOR: usize = 2 * MOST_DECIMAL_DIGITS + 9;
 
 /// The most bytes that say a rendition.
 const LONGEST_RENDITION: usize = 16;
 
-/// Room for what stands after the lines.
+/// Room for what follows the lines.
 const ENDING_ROOM: usize = 128;
 
 /// The text of a line of a picture.
@@ -119,7 +119,7 @@ fn line_text(row: &[Shown]) -> LineText
     text
 }
 
-/// Puts where the cursor stands at the end.
+/// Puts where the cursor is at the end.
 fn append_cursor(text: &mut EndingText, cursor: Option<(u16, u16)>)
     requires { length text.old.items + LONGEST_CURSOR ≤ ENDING_ROOM }
     ensures text { text.new.items ≡ text.old.items ++ cursor_text cursor }

@@ -27,7 +27,10 @@ use crate::status::{ACCEPTED, BAD_TEXT, no_memory, status_of, tell_failure};
 use cell::Rendition;
 use clap::Error;
 use clap::error::ErrorKind;
-use desk::{Call, Calls, Desk, Refresh, Refusal, Screen, ScriptEnd, ScriptFault, Sink, Source};
+use desk::{
+    Call, Calls, Desk, Refresh, Refusal, Screen, ScriptEnd, ScriptFault, Sink, Source,
+    VirtualScreen,
+};
 use script::last_line;
 use std::alloc::Global;
 use std::convert::AsStr;
@@ -74,7 +77,7 @@ fn blank_screen(alloc: Global, job: Job) -> Result<Screen<Discard>, Refusal>
     Screen::new(alloc, job.lines, job.cols, Discard::new())
 }
 
-/// Runs a script on a screen, and tells on the log of the fault that ended it.
+/// Runs a script on a screen, and writes to the log the fault that ended it.
 fn run_told<W: Sink, R: Source, L: Sink>(
     screen: &mut Screen<W>,
     input: &mut R,
@@ -110,7 +113,7 @@ fn run<'a, R: Source, O: Sink, L: Sink>(
         Err(_) => return no_memory(log),
     };
     let end = run_told(&mut screen, input, log);
-    // The output is told to be what the screen sent.
+    // This shows the proof that the output is what the screen sent.
     screen.into_writer();
     status_of(end)
 }
@@ -164,10 +167,10 @@ fn paint<R: Source, O: Sink, L: Sink>(
     }
 }
 
-/// Does what the words ask for, and answers the status. Where clap refuses the words, nothing is read, and help stands on the
+/// Does what the words ask for, and answers the status. Where clap refuses the words, nothing is read, and help is on the
 /// output, with status 0, or a usage fault on the log, with status 2. Else the status is that of how the script ended, 3
 /// where its picture can't be written, or 4 where there is no memory. The first word is the program's name. A status
-/// below 2 tells that no write or flush of the log failed.
+/// below 2 says that no write or flush of the log failed.
 pub fn serve<'a, S: AsStr, R: Source, O: Sink, L: Sink>(
     alloc: Global,
     words: &[S],

@@ -64,7 +64,7 @@ fn offset_line(fault: NotInProfile) -> ArrayVec<u8, ROOM>
     line
 }
 
-/// Tells on the log at which offset a stream fails, if it does, and answers the status.
+/// Writes to the log at which offset a stream fails, if it does, and answers the status.
 fn judge<L: Sink>(log: &mut L, fault: Option<NotInProfile>) -> u8
     ensures { TellsFault fault (L.seen log.old) (L.seen log.new) result }
 {

@@ -7,8 +7,7 @@ ghost use Rattle.curspan.specs.steps.Putting.{PuttingEnds};
 
 use crate::put::put;
 use arrayvec::ArrayVec;
-use cell::is_printable;
-use explain::digits;
+use cell::{hex_digits, is_printable};
 use streams::{Sink, append};
 
 /// How many bytes are spelled at once.
@@ -30,7 +29,7 @@ fn append_spelled(text: &mut Spelling, byte: u8)
         append(text, &[byte]);
     } else {
         append(text, b"\\x");
-        append(text, &digits(byte));
+        append(text, &hex_digits(byte));
     }
 }
 

@@ -1,4 +1,4 @@
-//! The exit statuses, and what is told on the log with them.
+//! The exit statuses, and what is written to the log with them.
 
 ghost use Rattle.std.specs.Prelude.{◌≡◌, ◌<◌, None};
 ghost use Rattle.curspan.specs.Serving.{no_memory_line};

@@ -8,9 +8,8 @@ use Rattle.desk.proofs.StateLemmas.{is-kept}
 use Rattle.desk.specs.States.{IsWithin, state_of}
 use Rattle.script.specs.Words.{placeless}
 use Rattle.world.specs.declared.call.Call.{Call}
-use Rattle.world.specs.declared.call.Call.TheVariants.{Making, Writing, Copying, Query, Stacking, Refresh}
-use Rattle.world.specs.declared.call.Writing.TheVariants.{Move, Addch, Addstr, Insch, Delch, Insertln, Deleteln, Erase, Clear, Clrtoeol, Clrtobot, Scrl, Setscrreg, Scrollok, Clearok, Attrset}
-use Rattle.world.specs.declared.call.Writing.TheVariants.{Attron, Attroff, Bkgdset, ColorSet, Bkgdpair}
+use Rattle.world.specs.declared.call.Call.TheVariants.{Writing}
+use Rattle.world.specs.declared.call.Writing.TheVariants.{Addstr}
 use Rattle.world.specs.declared.call.Reply.{Reply}
 use Rattle.desk.specs.declared.screen.Fault.TheVariants.{Refused, Write}
 use Rattle.desk.specs.States.{ScreenOver}
@@ -20,35 +19,11 @@ use Rattle.desk.specs.steps.Answers.{joined}
 
 module _ {W : Type 0} (seen : W → Seen) where
   pub placeless_ends : (old : ScreenOver W) (call : Call) (r : Result Reply Fault) (new : ScreenOver W) → CallEnds seen old call r new → CallEnds seen old (placeless call) r new
-  placeless_ends old (Making m) r new h = h
-  placeless_ends old (Copying k) r new h = h
-  placeless_ends old (Query q) r new h = h
-  placeless_ends old (Stacking s) r new h = h
-  placeless_ends old (Refresh q) r new h = h
-  placeless_ends old (Writing (Move win y x)) r new h = h
-  placeless_ends old (Writing (Addch win ch)) r new h = h
-  placeless_ends old (Writing (Insch win ch)) r new h = h
-  placeless_ends old (Writing (Delch win)) r new h = h
-  placeless_ends old (Writing (Insertln win)) r new h = h
-  placeless_ends old (Writing (Deleteln win)) r new h = h
-  placeless_ends old (Writing (Erase win)) r new h = h
-  placeless_ends old (Writing (Clear win)) r new h = h
-  placeless_ends old (Writing (Clrtoeol win)) r new h = h
-  placeless_ends old (Writing (Clrtobot win)) r new h = h
-  placeless_ends old (Writing (Scrl win n)) r new h = h
-  placeless_ends old (Writing (Setscrreg win top bottom)) r new h = h
-  placeless_ends old (Writing (Scrollok win flag)) r new h = h
-  placeless_ends old (Writing (Clearok win flag)) r new h = h
-  placeless_ends old (Writing (Attrset win attrs)) r new h = h
-  placeless_ends old (Writing (Attron win attrs)) r new h = h
-  placeless_ends old (Writing (Attroff win attrs)) r new h = h
-  placeless_ends old (Writing (Bkgdset win attrs ch)) r new h = h
-  placeless_ends old (Writing (ColorSet win pair)) r new h = h
-  placeless_ends old (Writing (Bkgdpair win pair)) r new h = h
   placeless_ends old (Writing (Addstr win text)) (Ok reply) new h =
       (h.0, (h.1.0, h.1.1, record { taken = h.1.2.taken; flushes = h.1.2.flushes; flushed = h.1.2.flushed }))
   placeless_ends old (Writing (Addstr win text)) (Err (Refused refusal)) new h = h
   placeless_ends old (Writing (Addstr win text)) (Err (Write fault)) new h = h
+  placeless_ends old call r new h = h
 
   -- the state and the bytes after a call that wasn't cut short, whether it was accepted or refused
   abbrev pub Answered : ScreenOver W → Call → Result Reply Refusal → ScreenOver W → Type 0

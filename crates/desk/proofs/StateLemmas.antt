@@ -13,7 +13,7 @@ use Rattle.desk.specs.States.{IsWithin, ScreenOver, State, after, state_of, want
 use Rattle.desk.specs.Runs.{MayAnswer, Outcome, Run, state_after, state_at_end}
 use Rattle.world.specs.declared.call.Call.{Call}
 use Rattle.world.specs.declared.call.Call.TheVariants as calls
-use Rattle.world.specs.declared.call.Refresh.TheVariants.{Noutrefresh, Pnoutrefresh, UpdatePanels, Doupdate, InitPair}
+use Rattle.world.specs.declared.call.Refresh.TheVariants.{UpdatePanels}
 use Rattle.world.specs.declared.call.Reply.{Reply}
 
 -- ---- lines
@@ -71,16 +71,8 @@ grows P step s t h p =
 answer-among : (w : World) (painter : PainterState) (few more : ℕ → Bool) (call : Call) (answer : Result Reply Refusal) (sent : List ℕ) → AreAmong few more
     → MayAnswer (record { world = w; painter = painter; damaged = few }) call answer sent → MayAnswer (record { world = w; painter = painter; damaged = more }) call answer sent
 answer-among w painter few more call (Err e) sent h may = may
-answer-among w painter few more (calls.Making making) (Ok r) sent h may = may
-answer-among w painter few more (calls.Writing writing) (Ok r) sent h may = may
-answer-among w painter few more (calls.Copying copying) (Ok r) sent h may = may
-answer-among w painter few more (calls.Query query) (Ok r) sent h may = may
-answer-among w painter few more (calls.Stacking stacking) (Ok r) sent h may = may
-answer-among w painter few more (calls.Refresh (Noutrefresh win)) (Ok r) sent h may = may
-answer-among w painter few more (calls.Refresh (Pnoutrefresh pad pminrow pmincol sminrow smincol smaxrow smaxcol)) (Ok r) sent h may = may
 answer-among w painter few more (calls.Refresh UpdatePanels) (Ok r) sent h may = (may.0, (may.1.0, (may.1.1.0, read-among w few more may.1.1.0 h may.1.1.1, may.1.1.2)))
-answer-among w painter few more (calls.Refresh Doupdate) (Ok r) sent h may = may
-answer-among w painter few more (calls.Refresh (InitPair pair foreground background)) (Ok r) sent h may = may
+answer-among w painter few more call (Ok r) sent h may = may
 
 pub MayAnswer-within : {s t : State} (call : Call) (answer : Result Reply Refusal) (sent : List ℕ) → IsWithin s t → MayAnswer s call answer sent → MayAnswer t call answer sent
 MayAnswer-within {s} {t} call answer sent h may = grows (λ s. MayAnswer s call answer sent) (λ w painter few more. answer-among w painter few more call answer sent) s t h may

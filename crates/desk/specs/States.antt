@@ -6,7 +6,7 @@ use Rattle.world.specs.calls.Affected.{affected_after}
 use Rattle.world.specs.calls.Dispatch.{is_doupdate, world_after}
 use Rattle.world.specs.declared.call.Call.{Call}
 use Rattle.paint.specs.Changes.{DifferOnly}
-use Rattle.paint.specs.Updates.{PainterState, ShownPicture}
+use Rattle.paint.specs.Updates.{PainterState, ShownPicture, wanted_of}
 use Rattle.paint.specs.declared.changes.Stretch.{Stretch}
 use Rattle.compose.specs.Desks.{DeskTable, is_damaged_line, world}
 
@@ -18,7 +18,7 @@ pub record State : Type 0 where
 
 -- the picture and the cursor that a doupdate shows
 abbrev pub wanted : World → ShownPicture
-wanted world = record { picture = world.virtual.picture; cursor = world.virtual.cursor }
+wanted world = wanted_of world.virtual
 
 -- The state after a call that was accepted. After a doupdate the painter knows what it showed. No line is damaged after update_panels, and
 -- after another call no more than before and those that it affects.

@@ -73,10 +73,12 @@ fn widen_damaged(changes: &mut Changes, desk: &Desk, lines: u16)
     ensures shown { (y x : ℕ) → y < lines → x < desk.now.windows.columns → may_change changes.new y x ≡ false
         → shown_at desk.now.virtual.picture (y, x) ≡ picture (world desk.now) y x }
 {
-    for y in 0..lines {
+    let mut y = desk.next_damaged(0);
+    while y < lines {
         if let Some(columns) = desk.damaged(y) {
             changes.widen(y, stretch(0, columns));
         }
+        y = desk.next_damaged(y + 1);
     }
 }
 

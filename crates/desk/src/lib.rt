@@ -9,7 +9,7 @@ mod changing;
 mod run_script;
 mod screen;
 
-pub use cell::{Attr, Cell, Refusal, WinId};
+pub use cell::{Attr, Cell, Refusal, VirtualScreen, WinId};
 pub use compose::{Answer, Calls, Desk};
 pub use screen::{Fault, RunEnd, Screen};
 pub use script::{ScriptEnd, ScriptFault, TextFault};

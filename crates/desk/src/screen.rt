@@ -148,7 +148,7 @@ impl<W: Sink> Screen<W> {
         &self.writer
     }
 
-    /// Shows the virtual screen on the terminal. It tells how many bytes it sent.
+    /// Shows the virtual screen on the terminal. It answers how many bytes it sent.
     ///
     /// # Errors
     /// A `WriteFault`, with how many bytes were taken: what is on the terminal is unknown then, and the next one clears
@@ -199,12 +199,11 @@ impl<W: Sink> Screen<W> {
         ensures failures { (W.seen self.new.writer).failures ≡ counted (is_some (cut_of (told Reply.Sent result))) (W.seen self.old.writer).failures }
         ensures same { W.name self.new.writer ≡ W.name self.old.writer }
     {
-        let cursor = self.desk.wanted_cursor();
-        let clear = self.desk.clear_wanted();
-        let picture = self.desk.virtual_screen();
+        prove!(self.is_sound());
+        let screen = &self.desk;
         match self
             .painter
-            .doupdate_changes(picture, cursor, clear, &self.changes, &mut self.writer)
+            .doupdate_changes(screen, &self.changes, &mut self.writer)
         {
             Ok(sent) => {
                 self.desk.clear_done();

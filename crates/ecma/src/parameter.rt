@@ -66,7 +66,7 @@ impl Parameter {
     }
 }
 
-/// The line and the column from 0 that CUP names by its parameters, the last of which stands after the others.
+/// The line and the column from 0 that CUP names by its parameters, the last of which comes after the others.
 pub fn position(ended: &[Parameter], last: Parameter) -> Option<(u16, u16)>
     ensures { (digits : List (List ℕ)) → map parameter_of digits ≡ ended.now ++ last ∷ [] → result ≡ position digits }
 {

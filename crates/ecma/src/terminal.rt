@@ -14,7 +14,7 @@ use cell::{Grid, LARGEST_SCREEN, Refusal, Rendition, Shown, is_no_size};
 use std::alloc::Global;
 use std::marker::Model;
 
-/// A stream isn't in the profile: at this offset stands no item that has an effect. Offsets past the greatest are kept
+/// A stream isn't in the profile: at this offset is no item that has an effect. Offsets past the greatest are kept
 /// there.
 #[derive(Clone, Copy, PartialEq, Eq, Debug)]
 pub struct NotInProfile {
@@ -37,10 +37,10 @@ pub enum State {
 /// The escape, which begins control sequences.
 const ESCAPE: u8 = 27;
 
-/// What stands after the escape of a control sequence.
+/// What follows the escape of a control sequence.
 const BRACKET: u8 = b'[';
 
-/// What stands between two parameters.
+/// What is between two parameters.
 const SEPARATOR: u8 = b';';
 
 /// The most parameters that a separator ends.

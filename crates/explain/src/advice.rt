@@ -1,4 +1,4 @@
-//! What stands for a name of curses that is no script's word.
+//! What takes the place of a name of curses that is no script's word.
 
 ghost use Rattle.std.specs.Prelude.{◌≡◌, ◌≤◌, IfSome, length, map, option_map};
 ghost use Rattle.explain.specs.Advice.{advice_on, advice_text, call_behind, look_up};

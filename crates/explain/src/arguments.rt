@@ -26,7 +26,7 @@ pub fn forms_of(word: &[u8]) -> &'static [Form]
     }
 }
 
-/// How many arguments stand in a text.
+/// How many arguments are in a text.
 pub fn count(forms: &[Form], text: Option<&[u8]>) -> usize
     requires { room_of text ≤ LONGEST_LINE + 1 }
     ensures count { result ≡ length (arguments forms.now (pieces_of text.entry)) }

@@ -8,7 +8,7 @@ ghost use Rattle.script.specs.declared.words.Form.TheVariants.{Attributes, Numbe
 ghost use Rattle.explain.specs.Explanations.{explanation};
 ghost use Rattle.explain.specs.Reasons.{numeral_in, requirement};
 
-/// The numerals that a person is told are the limits of a script's text.
+/// The numerals that a person reads are the limits of a script's text.
 pub fn limits_are_told()
     ensures number { numeral_in 19 (requirement Number) ≡ GREATEST_NUMBER }
     ensures none { numeral_in 19 (requirement NumberOrNone) ≡ GREATEST_NUMBER }

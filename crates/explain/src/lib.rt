@@ -1,9 +1,9 @@
-//! What a person is told of a script's faulty line.
+//! What a person reads about a script's faulty line.
 //!
 //! - `advice`: what to write for a name of curses
 //! - `arguments`: the arguments of the line, and the first that lacks its form
 //! - `column`: where the fault is
-//! - `laws`: the numerals that are told are the limits
+//! - `laws`: the numerals that are printed are the limits
 //! - `reasons`: what an argument is to be, and why it isn't
 //! - `telling`: the line on a fault
 #![tactic(auto)]
@@ -16,4 +16,4 @@ mod reasons;
 mod telling;
 
 pub use laws::limits_are_told;
-pub use telling::{Finding, digits, finding};
+pub use telling::{Finding, finding};

@@ -1,7 +1,6 @@
-//! What a person is told of a faulty line: where its fault is, what stands there, and what is wanted.
+//! What a person reads about a faulty line: where its fault is, what is there, and what is wanted.
 
 ghost use Rattle.std.specs.Prelude.{◌≡◌, ◌≤◌, ◌+◌, ◌++◌, ◌<◌, codes, decimal, length};
-ghost use Rattle.cell.specs.Attributes.{hex_digits};
 ghost use Rattle.explain.specs.Advice.{call_advice};
 ghost use Rattle.explain.specs.Faults.{IllFormed as Ill};
 ghost use Rattle.explain.specs.Explanations.{bad_byte_text, count_text, explanation, finding, ill_formed_text, number_text, quotation, unknown_text};
@@ -11,15 +10,14 @@ use crate::arguments::{IllFormed, count, find_ill_formed, forms_of};
 use crate::column::{bad_byte, column_of};
 use crate::reasons::{byte_advice, reason, requirement};
 use arrayvec::ArrayVec;
-use bitflags::Flags;
-use cell::Attr;
+use cell::hex_digits;
 use script::{LONGEST_LINE, TextFault, split_at_space};
 use streams::{append, append_decimal};
 
-/// Room for a line that tells of a fault: two words of a line, and 512 bytes more.
+/// Room for a line about a fault: two words of a line, and 512 bytes more.
 const FINDING_ROOM: usize = 1536;
 
-/// The line that tells of a fault.
+/// The line about a fault.
 pub type Finding = ArrayVec<u8, FINDING_ROOM>;
 
 /// Puts a text in quotation marks at the end.
@@ -66,26 +64,19 @@ fn append_ill_formed(text: &mut Finding, word: &[u8], ill: IllFormed<'_>)
     append(text, reason(ill.form, ill.argument));
 }
 
-/// The two hexadecimal digits of a byte.
-pub fn digits(byte: u8) -> [u8; 2]
-    ensures { result ≡ hex_digits byte }
-{
-    Attr::from_bits_retain(byte).hex_digits()
-}
-
-/// Puts at the end what is told of a bad byte.
+/// Puts at the end what is said of a bad byte.
 fn append_bad_byte(text: &mut Finding, byte: u8)
     requires { length text.old.items ≤ 64 }
     ensures text { text.new.items ≡ text.old.items ++ bad_byte_text byte }
     ensures short { length text.new.items < FINDING_ROOM }
 {
     append(text, b"bad byte ");
-    append(text, &digits(byte));
+    append(text, &hex_digits(byte));
     append(text, b": ");
     append(text, byte_advice(byte));
 }
 
-/// Puts at the end a call that stands for a word, after what is said of it.
+/// Puts at the end a call that takes the place of a word, after what is said of it.
 fn append_call(text: &mut Finding, said: &[u8], call: &[u8])
     requires { length text.old.items + length said.now + length call.now ≤ FINDING_ROOM }
     ensures { text.new.items ≡ text.old.items ++ (said.now ++ call.now) }
@@ -94,7 +85,7 @@ fn append_call(text: &mut Finding, said: &[u8], call: &[u8])
     append(text, call);
 }
 
-/// Puts at the end what stands for a word of curses that is no call.
+/// Puts at the end what takes the place of a word of curses that is no call.
 fn append_advice(text: &mut Finding, word: &[u8])
     requires room { length text.old.items ≤ 600 }
     requires word { length word.now ≤ LONGEST_LINE }
@@ -112,7 +103,7 @@ fn append_advice(text: &mut Finding, word: &[u8])
     }
 }
 
-/// Puts at the end what is told of a word that is no call.
+/// Puts at the end what is said of a word that is no call.
 fn append_unknown(text: &mut Finding, word: &[u8])
     requires room { length text.old.items ≤ 64 }
     requires word { length word.now ≤ LONGEST_LINE }
@@ -124,7 +115,7 @@ fn append_unknown(text: &mut Finding, word: &[u8])
     append_advice(text, word);
 }
 
-/// Puts at the end what is told of the number of a word's arguments.
+/// Puts at the end what is said of the number of a word's arguments.
 fn append_number(text: &mut Finding, word: &[u8], wanted: usize, given: usize)
     requires room { length text.old.items ≤ 64 }
     requires word { length word.now ≤ LONGEST_LINE }
@@ -139,7 +130,7 @@ fn append_number(text: &mut Finding, word: &[u8], wanted: usize, given: usize)
     append(text, b" given");
 }
 
-/// Puts at the end what is told of a fault.
+/// Puts at the end what is said of a fault.
 fn append_explanation(text: &mut Finding, fault: TextFault, line: &[u8])
     requires room { length text.old.items ≤ 64 }
     requires short { length line.now ≤ LONGEST_LINE }
@@ -163,7 +154,7 @@ fn append_explanation(text: &mut Finding, fault: TextFault, line: &[u8])
     }
 }
 
-/// How the line begins that tells of a fault in a line with its number.
+/// How the line begins about a fault in a line with its number.
 fn beginning(number: u64, column: usize) -> Finding
     ensures text { result.items ≡ codes "line " ++ decimal number ++ codes ", column " ++ decimal column ++ codes ": " }
     ensures short { length result.items ≤ 64 }
@@ -177,7 +168,7 @@ fn beginning(number: u64, column: usize) -> Finding
     text
 }
 
-/// The line that tells of a fault in a script's line with its number: where it is, what stands there, and what is wanted.
+/// The line about a fault in a script's line with its number: where it is, what is there, and what is wanted.
 pub fn finding(number: u64, fault: TextFault, line: &[u8]) -> Finding
     requires { length line.now ≤ LONGEST_LINE }
     ensures { result.items ≡ finding number fault line.now }

@@ -8,7 +8,7 @@
 //! - `rectangle`: a copy of several lines
 //! - `rows`: a line is lent, filled or copied: the writes
 //! - `sharing`: which windows share cells
-//! - `sync`: what is touched, handed on to ancestors and from them
+//! - `sync`: what is touched goes to ancestors and comes from them
 //! - `table`: the table
 #![tactic(auto)]
 

@@ -28,7 +28,7 @@ six false = refl
 pub line_bytes-other : (a b : Shown) (old new : List Shown) → same_shown a b ≡ false → line_bytes (a ∷ old) (b ∷ new) ≡ cell_bytes b + line_bytes old new
 line_bytes-other a b old new h = rw h (omega (arith, six (has_colour b.rendition)))
 
-line_bytes-same : (a b : Shown) (old new : List Shown) → same_shown a b ≡ true → line_bytes (a ∷ old) (b ∷ new) ≡ line_bytes old new
+pub line_bytes-same : (a b : Shown) (old new : List Shown) → same_shown a b ≡ true → line_bytes (a ∷ old) (b ∷ new) ≡ line_bytes old new
 line_bytes-same a b old new h = rw h (omega arith)
 
 line_bytes-drop : (x : ℕ) (old new : List Shown) → line_bytes (drop x old) (drop x new) ≤ line_bytes old new

@@ -5,6 +5,7 @@ use Rattle.std.specs.Io.KnownBytes.{Appends}
 use Rattle.cell.specs.Pictures.{Picture, Place, HasSize, blank_picture, origin}
 use Rattle.ecma.specs.declared.token.Token.TheVariants.{Cup}
 use Rattle.cell.specs.Differences.{difference}
+use Rattle.cell.specs.VirtualScreens.{VirtualScreen}
 use Rattle.ecma.specs.Difference.{colour_difference}
 use Rattle.ecma.specs.Items.{escape}
 use Rattle.ecma.specs.Spelling.{spelling}
@@ -17,6 +18,10 @@ use Rattle.streams.specs.Sinks.{Seen}
 pub record ShownPicture : Type 0 where
   pub picture : Picture
   pub cursor : Place
+
+-- what a virtual screen wants to be shown
+abbrev pub wanted_of : VirtualScreen → ShownPicture
+wanted_of virtual = record { picture = virtual.picture; cursor = virtual.cursor }
 
 -- A painter: the size of its terminals, and what it showed there last, where that is known.
 pub record PainterState : Type 0 where

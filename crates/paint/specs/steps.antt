@@ -2,3 +2,4 @@ pub mod Gathering
 pub mod Strokes
 pub mod Walks
 pub mod Holding
+pub mod Passes

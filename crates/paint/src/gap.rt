@@ -14,7 +14,7 @@ use streams::Sink;
 /// The most bytes of a move.
 const LONGEST_MOVE: usize = 10;
 
-/// Brings the pen to a place, in a rendition. The cells of the gap stand right before the place, and are shown already: where
+/// Brings the pen to a place, in a rendition. The cells of the gap are right before the place, and are shown already: where
 /// that takes no more bytes than a move in their place, they are printed again.
 pub fn approach<W: Sink>(
     pen: &mut Pen,
@@ -64,7 +64,7 @@ pub fn approach_length(
     }
 }
 
-/// Whether the cells of a gap, which the pen stands before, are printed again: where that takes fewer bytes than a move, or as many
+/// Whether the cells of a gap, which begins at the pen, are printed again: where that takes fewer bytes than a move, or as many
 /// and all of them have the rendition in force, or all the wanted one.
 fn is_printed_again(pen: &Pen, line: u16, start: u16, gap: &[Shown], rendition: Rendition) -> bool
     requires line { line < LARGEST_SCREEN }

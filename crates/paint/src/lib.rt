@@ -7,6 +7,7 @@
 //! - `outbox`: bytes on their way to the sink
 //! - `page`: the walk over lines
 //! - `painter`: the `Painter`
+//! - `passes`: drawing rendition by rendition
 //! - `pen`: strokes: move, select, print, erase
 //! - `room`: the room in which they are gathered
 //! - `tail`: what is erased at the end of a line
@@ -19,6 +20,7 @@ mod line;
 mod outbox;
 mod page;
 mod painter;
+mod passes;
 mod pen;
 mod room;
 mod tail;

@@ -61,7 +61,7 @@ pub fn paint_line<W: Sink>(
 }
 
 /// Draws a wanted line, below which all is blank, over the one that is shown, and brings the pen to its blank end, to erase the page from
-/// there: where that end is changed, or where the pen stands in it anyway. It answers the column.
+/// there: where that end is changed, or where the pen is in it anyway. It answers the column.
 pub fn paint_last_line<W: Sink>(
     pen: &mut Pen,
     sink: &mut W,
@@ -201,7 +201,7 @@ fn run_end(shown: &[Shown], wanted: &[Shown], start: usize, end: usize) -> usize
 }
 
 /// Draws a run of cells of one rendition after a gap of cells that are shown already.
-fn paint_run<W: Sink>(
+pub fn paint_run<W: Sink>(
     pen: &mut Pen,
     sink: &mut W,
     line: u16,

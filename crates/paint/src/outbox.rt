@@ -39,6 +39,11 @@ impl Outbox {
         self.failed = false;
     }
 
+    /// How many bytes were gathered, of a text whose bytes all go out.
+    pub fn bytes(&self) -> u32 {
+        self.sent.saturating_add(self.room.bytes().len() as u32)
+    }
+
     /// Puts a piece after what was gathered.
     pub fn put<W: Sink>(&mut self, sink: &mut W, piece: &[u8])
         requires { length piece.now ≤ ROOM }

@@ -14,7 +14,7 @@ use cell::{Grid, LARGEST_SCREEN, Shown};
 use streams::Sink;
 
 /// Draws the wanted picture over the one that is shown, of which there are so many lines, and which may differ from it in some columns
-/// only. Where the page's end is blank and more than one line of it is changed, or the pen stands in it, it is erased.
+/// only. Where the page's end is blank and more than one line of it is changed, or the pen is in it, it is erased.
 pub fn paint_picture<W: Sink>(
     pen: &mut Pen,
     sink: &mut W,

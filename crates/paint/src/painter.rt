@@ -7,14 +7,14 @@ ghost use Rattle.cell.specs.declared.limits.TheConstants.{LARGEST_SCREEN};
 ghost use Rattle.cell.specs.Shown.{no_rendition};
 ghost use Rattle.streams.specs.Sinks.{Seen};
 ghost use Rattle.paint.specs.Changes.{DifferOnly};
-ghost use Rattle.paint.specs.Updates.{PainterState, ShownPicture, first_painter, known as known_to, opening_from, start_from, Updates, BreaksOff};
+ghost use Rattle.paint.specs.Updates.{PainterState, ShownPicture, first_painter, known as known_to, opening_from, start_from, wanted_of, Updates, BreaksOff};
 ghost use Rattle.paint.specs.steps.Gathering.{IsGathered};
 ghost use Rattle.paint.specs.steps.Holding.{HoldsUpdate, last_shown};
 
 use crate::changes::Changes;
-use crate::page::paint_picture;
+use crate::passes::{best_order, paint};
 use crate::pen::Pen;
-use cell::{Grid, LARGEST_SCREEN, Refusal, Shown, is_no_size};
+use cell::{Grid, LARGEST_SCREEN, Refusal, Shown, VirtualScreen, is_no_size};
 use std::alloc::Global;
 use std::marker::Model;
 use streams::{Sent, Sink, WriteFault};
@@ -78,27 +78,26 @@ impl Painter {
         self.cursor = None;
     }
 
-    /// Shows a picture of the painter's size, with the cursor at a line and a column: it sends one text and flushes once. Where
-    /// nothing is known of the terminals, or `clear` asks for it, the text clears the terminal first, and may be read by any one
-    /// of the size. Else it is for those that show the last picture, and draws only what differs from that. After an error what
-    /// was shown last is unknown.
-    pub fn doupdate<W: Sink>(
+    /// Shows a virtual screen of the painter's size: it sends one text and flushes once. Where nothing is known of the terminals, or
+    /// they are to be cleared, the text clears the terminal first, and may be read by any one of the size. Else it is for those that
+    /// show the last picture, and draws only what differs from that. After an error what was shown last is unknown.
+    pub fn doupdate<V: VirtualScreen, W: Sink>(
         &mut self,
-        picture: &Grid<Shown>,
-        cursor: (u16, u16),
-        clear: bool,
+        screen: &V,
         sink: &mut W,
     ) -> Result<Sent, WriteFault>
-        requires size { HasSize self.old.lines self.old.columns picture.now }
-        requires line { cursor.0 < self.old.lines }
-        requires column { cursor.1 < self.old.columns }
+        requires size { HasSize self.old.lines self.old.columns (V.shown screen.now).picture }
+        requires line { (V.shown screen.now).cursor.0 < self.old.lines }
+        requires column { (V.shown screen.now).cursor.1 < self.old.columns }
         ensures text { MatchResult result
-            (λ sent. Updates self.old clear (W.seen sink.old) (W.seen sink.new) (record { picture = picture.now; cursor = cursor }) sent.bytes)
-            (λ fault. BreaksOff self.old clear (W.seen sink.old) (W.seen sink.new) (record { picture = picture.now; cursor = cursor }) fault.sent) }
-        ensures painter { self.new ≡ record self.old { last = (if is_ok result then Some (record { picture = picture.now; cursor = cursor }) else None) } }
+            (λ sent. Updates self.old (V.shown screen.now).clear (W.seen sink.old) (W.seen sink.new) (wanted_of (V.shown screen.now)) sent.bytes)
+            (λ fault. BreaksOff self.old (V.shown screen.now).clear (W.seen sink.old) (W.seen sink.new) (wanted_of (V.shown screen.now)) fault.sent) }
+        ensures painter { self.new ≡ record self.old { last = (if is_ok result then Some (wanted_of (V.shown screen.now)) else None) } }
         ensures same { W.name sink.new ≡ W.name sink.old }
     {
-        let known = known_cursor(self.cursor, clear);
+        let picture = screen.virtual_screen();
+        let cursor = screen.wanted_cursor();
+        let known = known_cursor(self.cursor, screen.clear_wanted());
         self.cursor = None;
         draw(
             &mut self.pen,
@@ -116,30 +115,30 @@ impl Painter {
         Ok(sent)
     }
 
-    /// The same, of a picture that differs from the one that was shown last in some columns only, where that is known. It looks at these
+    /// The same, of a virtual screen that differs from what was shown last in some columns only, where that is known. It looks at these
     /// columns alone, unless it clears.
-    pub fn doupdate_changes<W: Sink>(
+    pub fn doupdate_changes<V: VirtualScreen, W: Sink>(
         &mut self,
-        picture: &Grid<Shown>,
-        cursor: (u16, u16),
-        clear: bool,
+        screen: &V,
         changes: &Changes,
         sink: &mut W,
     ) -> Result<Sent, WriteFault>
-        requires size { HasSize self.old.lines self.old.columns picture.now }
-        requires line { cursor.0 < self.old.lines }
-        requires column { cursor.1 < self.old.columns }
+        requires size { HasSize self.old.lines self.old.columns (V.shown screen.now).picture }
+        requires line { (V.shown screen.now).cursor.0 < self.old.lines }
+        requires column { (V.shown screen.now).cursor.1 < self.old.columns }
         requires height { length changes.now ≡ self.old.lines }
-        requires changes { MatchOption self.old.last ⊤ (λ shown. DifferOnly changes.now shown.picture picture.now) }
+        requires changes { MatchOption self.old.last ⊤ (λ shown. DifferOnly changes.now shown.picture (V.shown screen.now).picture) }
         ensures text { MatchResult result
-            (λ sent. Updates self.old clear (W.seen sink.old) (W.seen sink.new) (record { picture = picture.now; cursor = cursor }) sent.bytes)
-            (λ fault. BreaksOff self.old clear (W.seen sink.old) (W.seen sink.new) (record { picture = picture.now; cursor = cursor }) fault.sent) }
-        ensures painter { self.new ≡ record self.old { last = (if is_ok result then Some (record { picture = picture.now; cursor = cursor }) else None) } }
+            (λ sent. Updates self.old (V.shown screen.now).clear (W.seen sink.old) (W.seen sink.new) (wanted_of (V.shown screen.now)) sent.bytes)
+            (λ fault. BreaksOff self.old (V.shown screen.now).clear (W.seen sink.old) (W.seen sink.new) (wanted_of (V.shown screen.now)) fault.sent) }
+        ensures painter { self.new ≡ record self.old { last = (if is_ok result then Some (wanted_of (V.shown screen.now)) else None) } }
         ensures same { W.name sink.new ≡ W.name sink.old }
     {
-        if clear || self.cursor.is_none() {
-            return self.doupdate(picture, cursor, clear, sink);
+        if screen.clear_wanted() || self.cursor.is_none() {
+            return self.doupdate(screen, sink);
         }
+        let picture = screen.virtual_screen();
+        let cursor = screen.wanted_cursor();
         let known = self.cursor;
         self.cursor = None;
         draw(
@@ -188,8 +187,9 @@ fn draw<W: Sink>(
     ensures same { W.name sink.new ≡ W.name sink.old }
 {
     let (lines, _) = size;
+    let order = best_order(pen, lines, shown, picture, changes, known, cursor);
     begin(pen, sink, known, shown);
-    paint_picture(pen, sink, lines, shown, picture, changes);
+    paint(pen, sink, lines, shown, picture, changes, &order);
     pen.end(sink, cursor);
 }
 

@@ -55,6 +55,11 @@ impl Pen {
         self.rendition = Rendition::NONE;
     }
 
+    /// How many bytes its text has, where no write failed.
+    pub fn bytes(&self) -> u32 {
+        self.outbox.bytes()
+    }
+
     /// Puts a token after what was gathered.
     fn put<W: Sink>(&mut self, sink: &mut W, token: Token)
         requires { IsToken token }

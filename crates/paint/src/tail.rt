@@ -14,7 +14,7 @@ use cell::{LARGEST_SCREEN, Rendition, Shown, first_diff, last_diff};
 const ERASURE: usize = 3;
 
 /// The column from which a line's blank end is erased: its first changed one, or, where that takes fewer bytes, the one where it
-/// begins, or where the cursor stands in it.
+/// begins, or where the cursor is in it.
 pub fn erased_from(
     pen: &Pen,
     line: u16,

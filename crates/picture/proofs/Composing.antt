@@ -40,6 +40,21 @@ fits-more lines columns d h few_lines few_columns y r below is =
     let all : y * LARGEST_SCREEN ≤ LARGEST_SCREEN * LARGEST_SCREEN = mul-le-mul_right {m = y} {n = LARGEST_SCREEN} LARGEST_SCREEN (omega (arith, below, few_lines)) in
     omega (arith, above, last, one, all, few_columns)
 
+-- lines that aren't damaged have none
+pub no-more : (d : List (Option Columns)) (from : ℕ) (n : ℕ) → ((v : ℕ) → from ≤ v → v < from + n → columns_of d v ≡ None) → cells_above d (from + n) ≡ cells_above d from
+no-more d from zero none = ap (cells_above d) (omega arith)
+no-more d from (suc n) none =
+    let next : from + suc n ≡ suc (from + n) = omega arith in
+    let before = no-more d from n (λ v a b. none v a (let c = b in omega (arith, c))) in
+    let line : cells_of_line (columns_of d (from + n)) ≡ 0 = ap cells_of_line (none (from + n) (omega arith) (omega arith)) in
+    let sum : cells_above d (suc (from + n)) ≡ cells_above d (from + n) + cells_of_line (columns_of d (from + n)) = refl in
+    ap (cells_above d) next ∙ omega (arith, before, line, sum)
+
+pub no-more-to : (d : List (Option Columns)) (from to : ℕ) → from ≤ to → ((v : ℕ) → from ≤ v → v < to → columns_of d v ≡ None) → cells_above d to ≡ cells_above d from
+no-more-to d from to upto none =
+    let is : from + (to - from) ≡ to = omega (arith, upto) in
+    sym (ap (cells_above d) is) ∙ no-more d from (to - from) (λ v a b. none v a (let c = b in omega (arith, c, is)))
+
 -- ---- lines
 
 -- The damaged places of the lines before y are composed, and these lines are not damaged any more. The others are as they were.
@@ -124,3 +139,22 @@ module _ (f : ℕ → ℕ → Shown) (lines columns : ℕ) (before : List (Optio
       | inr other ↦ get_or-set_other damage y v None None other ∙ h.done v (let a = upto in let b = other in omega (arith, a, b))
     ];
   }
+
+  -- lines that aren't damaged
+  composed-steps : (y n : ℕ) (damage : List (Option Columns)) (now : Picture) → ComposedAbove f lines columns before old y damage now → y + n ≤ lines
+      → ((v : ℕ) → y ≤ v → v < y + n → columns_of damage v ≡ None) → ComposedAbove f lines columns before old (y + n) damage now
+  composed-steps y zero damage now h inside none =
+      let is : y ≡ y + zero = omega arith in
+      subst (λ k. ComposedAbove f lines columns before old k damage now) is h
+  composed-steps y (suc n) damage now h inside none =
+      let is : y + n + 1 ≡ y + suc n = omega arith in
+      let first = composed-steps y n damage now h (omega (arith, inside)) (λ v a b. none v a (let c = b in omega (arith, c))) in
+      subst (λ k. ComposedAbove f lines columns before old k damage now) is
+      (composed-bare (y + n) damage now first (omega (arith, inside)) (none (y + n) (omega arith) (omega arith)))
+
+  pub composed-to : (y to : ℕ) (damage : List (Option Columns)) (now : Picture) → ComposedAbove f lines columns before old y damage now → y ≤ to → to ≤ lines
+      → ((v : ℕ) → y ≤ v → v < to → columns_of damage v ≡ None) → ComposedAbove f lines columns before old to damage now
+  composed-to y to damage now h upto inside none =
+      let is : y + (to - y) ≡ to = omega (arith, upto) in
+      subst (λ k. ComposedAbove f lines columns before old k damage now) is
+      (composed-steps y (to - y) damage now h (omega (arith, is, inside)) (λ v a b. none v a (let c = b in omega (arith, c, is))))

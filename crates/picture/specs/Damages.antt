@@ -1,6 +1,7 @@
 -- The damaged columns of each line of the screen, from a first to a last, or none; and what a step does to them.
-use Rattle.std.specs.Prelude.{◌≡◌, ◌⊎◌, ℕ, zero, suc, ◌+◌, ◌-◌, ◌<◌, Bool, true, MatchOption, Option, Some, None, List, length, is_some, slice_index_or, ⊤}
+use Rattle.std.specs.Prelude.{◌≡◌, ◌⊎◌, ℕ, zero, suc, ◌+◌, ◌-◌, ◌/◌, ◌<◌, Bool, true, false, MatchOption, Option, Some, None, List, length, is_some, slice_index_or, ⊤}
 use Rattle.std.specs.Option.{option_map, option_map_or}
+use Rattle.picture.specs.declared.damage.TheConstants.{BLOCK, BLOCKS}
 use Rattle.world.specs.Sound.{AreColumnsWithin}
 use Rattle.world.specs.calls.Refresh.{among}
 use Rattle.world.specs.declared.settings.Columns.{Columns}
@@ -16,6 +17,11 @@ has_damage damage y = is_some (columns_of damage y)
 -- the place is among them
 abbrev pub has_damage_at : List (Option Columns) → ℕ → ℕ → Bool
 has_damage_at damage y x = among (columns_of damage y) x
+
+-- only the lines of some blocks have any
+pub record AreMarked (blocks : List Bool) (damage : List (Option Columns)) : Type 0 where
+  pub marked : length blocks ≡ BLOCKS
+  pub others : (y : ℕ) → slice_index_or blocks (y / BLOCK) true ≡ false → columns_of damage y ≡ None
 
 -- ---- a step
 

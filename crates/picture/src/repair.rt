@@ -43,14 +43,17 @@ pub fn show_damaged<'a, R: Rows<'a>>(
     ensures counted { GrewBy result (R.lent rows.old) (R.lent rows.new) }
 {
     let mut cells = 0;
-    for y in 0..lines {
+    let mut y = damage.next(0);
+    while y < lines {
         if let Some(Columns { first, last }) = damage.line(y) {
             compose_row(rows, stack, pairs, y, first, last, picture);
             cells += u32::from(last - first) + 1;
             damage.clear(y);
         }
+        y = damage.next(y + 1);
     }
-    // Reading a line tells the proof that each cell can be printed.
+    damage.unmark();
+    // Reading a line shows the proof that each cell can be printed.
     prove!(!picture.row(0).is_empty());
     cells
 }

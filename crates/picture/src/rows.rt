@@ -14,7 +14,7 @@ use crate::piece::piece;
 use cell::{Cell, Rect, WinId};
 use grids::Grids;
 
-/// Lends pieces of the lines of windows, and counts their cells. The pieces stand where the count doesn't: they may be read on while more are
+/// Lends pieces of the lines of windows, and counts their cells. The pieces don't borrow the counter: they may be read on while more are
 /// lent.
 pub trait Rows<'a> {
     // The windows that it lends of, and how many cells were lent.

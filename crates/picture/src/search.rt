@@ -30,14 +30,14 @@ pub fn cell_found(table: &Grids, stack: &Stack, y: u16, x: u16, columns: u16) ->
     table.cell(win, y - top, x - left)
 }
 
-/// Where the cursor of the top visible panel's window stands on the screen, or the standard screen's if no panel is visible.
+/// Where the cursor of the top visible panel's window is on the screen, or the standard screen's if no panel is visible.
 pub fn wanted_cursor(table: &Grids, stack: &Stack) -> (u16, u16)
     ensures { result ≡ cursor_of_topmost (windows_of table.now).window (panels stack.now) }
 {
     cursor_on_screen(table, window_on_top(stack))
 }
 
-/// Where a window's cursor stands on the screen.
+/// Where a window's cursor is on the screen.
 pub fn cursor_on_screen(table: &Grids, win: WinId) -> (u16, u16)
     ensures { result ≡ cursor_on_screen (windows_of table.now).window win.0 }
 {

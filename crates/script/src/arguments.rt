@@ -15,7 +15,7 @@ use cell::Attr;
 use std::marker::Model;
 use world::PanelId;
 
-/// What the arguments of a call say. Its numbers stand in their order.
+/// What the arguments of a call say. Its numbers are in their order.
 #[derive(Drop)]
 pub struct Arguments {
     numbers: ArrayVec<u16, MOST_ARGUMENTS>,

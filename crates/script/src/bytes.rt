@@ -21,7 +21,7 @@ enum Next {
     Failed,
 }
 
-/// What stands after a line.
+/// What follows a line.
 #[derive(Clone, Copy, Debug, PartialEq, Eq)]
 pub enum LineEnd {
     Newline,
@@ -120,7 +120,7 @@ impl Bytes {
         }
     }
 
-    /// The bytes up to the next newline, in place of what was in `line`, and what stands after them. Of a line that is
+    /// The bytes up to the next newline, in place of what was in `line`, and what follows them. Of a line that is
     /// too long it takes as many as a line may have, and one more, and answers none. Where the end is met, nothing is
     /// read after it.
     pub fn next_line<R: Source>(
@@ -171,7 +171,7 @@ impl Bytes {
     }
 
     /// The bytes up to the next newline, in place of what was in `line`, where they are no more than a line may have;
-    /// else they are left out. It answers what stands after them, and whether they were kept. Where the end is met,
+    /// else they are left out. It answers what follows them, and whether they were kept. Where the end is met,
     /// nothing is read after it.
     pub fn next_whole_line<R: Source>(
         &mut self,

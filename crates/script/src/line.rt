@@ -48,7 +48,7 @@ fn first_space(text: &[u8]) -> Option<usize>
     text.iter().position(|b| *b == b' ')
 }
 
-/// What stands before the first space, and what stands behind it if there is one.
+/// What is before the first space, and what is after it if there is one.
 pub fn split_at_space(text: &[u8]) -> (&[u8], Option<&[u8]>)
     ensures pieces { slice_split is_space text.now ≡ result.0.now ∷ pieces_of result.1 }
     ensures short { length result.0.now ≤ length text.now }
@@ -61,7 +61,7 @@ pub fn split_at_space(text: &[u8]) -> (&[u8], Option<&[u8]>)
     }
 }
 
-/// An argument of a form as it stands at the front of a text, and what stands behind it.
+/// An argument of a form at the beginning of a text, and what follows it.
 pub fn next_argument(form: Form, text: &[u8]) -> (&[u8], Option<&[u8]>)
     ensures argument { (forms : List Form) → arguments (form ∷ forms) (slice_split is_space text.now)
         ≡ result.0.now ∷ arguments forms (pieces_of result.1) }
@@ -76,7 +76,7 @@ pub fn next_argument(form: Form, text: &[u8]) -> (&[u8], Option<&[u8]>)
     }
 }
 
-/// Whether as many arguments stand behind a call's word as it has forms.
+/// Whether as many arguments follow a call's word as it has forms.
 #[tactic(auto, using(crate::proofs::ArgumentLemmas::too_few, crate::proofs::ArgumentLemmas::too_many, crate::proofs::ArgumentLemmas::as_many))]
 fn has_count(forms: &[Form], text: Option<&[u8]>) -> bool
     ensures right { OnTrue result (length (arguments forms.now (pieces_of text.entry)) ≡ length forms.now) }

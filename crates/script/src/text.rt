@@ -22,7 +22,7 @@ fn escaped_character(letter: u8) -> Option<u8>
     }
 }
 
-/// The character of two hexadecimal digits, and what stands after them.
+/// The character of two hexadecimal digits, and what follows them.
 fn hex_character(digits: &[u8]) -> Option<(u8, &[u8])>
     ensures text { after_x digits.now ≡ option_and_then (λ p. option_map (λ text. p.0 ∷ text) (text_of p.1.now)) result }
     ensures shorter { IfSome result (λ p. length p.1.now < length digits.now) }
@@ -33,7 +33,7 @@ fn hex_character(digits: &[u8]) -> Option<(u8, &[u8])>
     Some((character, rest))
 }
 
-/// The first character of a text that is not empty, and what stands after it.
+/// The first character of a text that is not empty, and what follows it.
 fn first_character(piece: &[u8]) -> Option<(u8, &[u8])>
     requires { 0 < length piece.now }
     ensures text { text_of piece.now ≡ option_and_then (λ p. option_map (λ text. p.0 ∷ text) (text_of p.1.now)) result }

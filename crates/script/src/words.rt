@@ -38,11 +38,11 @@ pub enum Form {
     Flag,
     /// A text of one character.
     Character,
-    /// Characters, some behind a backslash, to the end of the line.
+    /// Characters, some after a backslash, to the end of the line.
     Text,
 }
 
-/// A call by its script word, in the group that it stands in.
+/// A call by its script word, in the group that it is in.
 #[derive(Clone, Copy, Debug, PartialEq, Eq)]
 pub enum Word {
     Making(MakingWord),

@@ -19,7 +19,7 @@ use cell::{Cell, LARGEST_PAD, MOST_WINDOWS};
 use std::alloc::AllocError;
 use world::Settings;
 
-/// Where the first place of a window stands.
+/// Where the first place of a window is.
 pub fn origin_of(slots: &[Option<Slot>], win: u16) -> Origin
     requires chained { IsChained slots.now }
     requires origins { AreOrigins slots.now }

@@ -1,4 +1,4 @@
-//! The chain from a window through its parents to the grid in which its cells stand.
+//! The chain from a window through its parents to the grid in which its cells are.
 
 ghost use Rattle.std.specs.Prelude.{◌≡◌, ◌<◌, ◌≤◌, ◌+◌, Some, IsSome, IsSomeAnd, MatchOption, ⊤, length, option_map};
 ghost use Rattle.world.specs.Windows.{HasPlace, own};
@@ -29,7 +29,7 @@ pub fn place_in_parent(slots: &[Option<Slot>], at: Place) -> Option<Place>
     })
 }
 
-/// Where the first place of a window stands, found from parent to parent.
+/// Where the first place of a window is, found from parent to parent.
 fn first_place(slots: &[Option<Slot>], win: u16) -> Origin
     requires chained { IsChained slots.now }
     requires few { length slots.now ≤ MOST_WINDOWS + 1 }

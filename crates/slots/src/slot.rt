@@ -27,7 +27,7 @@ pub struct Part {
     pub column: u16,
 }
 
-/// Where the first place of a window stands in a grid: the number of the window that has the grid, and the line and column there.
+/// Where the first place of a window is in a grid: the number of the window that has the grid, and the line and column there.
 #[derive(Clone, Copy, Debug, PartialEq, Eq)]
 pub struct Origin {
     pub grid: u16,
@@ -193,7 +193,7 @@ impl Slot {
         self.depth
     }
 
-    /// Where the window's first place stands in a grid.
+    /// Where the window's first place is in a grid.
     pub fn origin(&self) -> Origin
         ensures { result ≡ self.now.origin }
     {
@@ -276,7 +276,7 @@ impl Slot {
         }
     }
 
-    /// Sets where the window's first place stands in a grid.
+    /// Sets where the window's first place is in a grid.
     pub fn set_origin(&mut self, origin: Origin)
         ensures { self.new ≡ record (self.old) { origin = origin } }
     {

@@ -9,7 +9,7 @@ use crate::nodes::Nodes;
 use std::alloc::Global;
 use std::marker::Model;
 
-/// Panels by number, each with its window. The visible ones stand in one order of depth, the hidden ones outside it.
+/// Panels by number, each with its window. The visible ones are in one order of depth, the hidden ones outside it.
 #[derive(Drop)]
 pub struct Stack {
     pub(crate) nodes: Nodes,

@@ -27,7 +27,7 @@ pub trait Sink {
         ensures flushed { (seen self.new).flushed ≡ flushed_after_write (seen self.old).flushed result }
         ensures same { name self.new ≡ name self.old };
 
-    /// Hands on all that was taken.
+    /// Passes on all that was taken.
     fn flush(&mut self) -> io::Result<()>
         ensures bytes { Keeps (seen self.old).taken (seen self.new).taken }
         ensures failures { (seen self.new).failures ≡ counted (is_err result) (seen self.old).failures }

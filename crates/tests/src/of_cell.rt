@@ -3,7 +3,7 @@ ghost use Rattle.std.specs.Prelude.{length, ◌≡◌};
 use bitflags::Flags;
 use cell::{
     Attr, Cell, Colour, ColourPair, Grid, LARGEST_PAD, LARGEST_SCREEN, PairId, Pairs, Refusal,
-    Rendition, Shown, is_no_size, is_printable,
+    Rendition, Shown, hex_digits, is_no_size, is_printable,
 };
 use std::alloc::{AllocError, Global};
 use std::test::Fail;
@@ -132,6 +132,13 @@ fn bits_beyond_the_six_are_dropped(rt: HostRuntime) -> Result<(), Fail> {
     let cell = Cell::new(b'x', all, 0).ok_or("no cell")?;
     assert_eq!(rt; cell.attr().bits(), 0x3f);
     Ok(())
+}
+
+#[test]
+fn bytes_are_spelled_in_hexadecimal(rt: HostRuntime) {
+    assert_eq!(rt; hex_digits(0xab), [b'a', b'b']);
+    assert_eq!(rt; (Attr::BOLD | Attr::REVERSE).hex_digits(), [b'1', b'1']);
+    assert_eq!(rt; Attr::from_bits_retain(0xff).hex_digits(), [b'3', b'f']);
 }
 
 #[test]

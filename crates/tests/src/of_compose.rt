@@ -1,7 +1,7 @@
 //! Tests of a desk. The proof of a test carries along what is known of each call that it makes, and none of it is needed here: so most
 //! calls are made by helpers without a contract.
 
-use cell::{Refusal, WinId};
+use cell::{Cell, Refusal, VirtualScreen, WinId};
 use compose::{Calls, Desk, Span};
 use std::alloc::Global;
 use std::test::Fail;
@@ -283,5 +283,12 @@ fn spans_of_two_panels_at_one_place(
 fn a_span_is_of_the_upper_panel(rt: HostRuntime) -> Result<(), Fail> {
     let spans = [Some((None, 1)), Some((Some(2), 4)), Some((None, 9))];
     assert_eq!(rt; spans_of_two_panels_at_one_place(rt.alloc())?, spans);
+    Ok(())
+}
+
+#[test]
+fn a_desk_lends_a_line_of_a_window(rt: HostRuntime) -> Result<(), Fail> {
+    let desk = Desk::new(rt.alloc(), 4, 10)?;
+    assert_eq!(rt; desk.row(WinId::STANDARD, 3), [Cell::BLANK; 10].as_slice());
     Ok(())
 }

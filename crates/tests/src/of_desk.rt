@@ -1,7 +1,7 @@
 use crate::faulty::Halting;
 use desk::{
     Call, Calls, Counted, CountedReader, Fault, PanelId, Refresh, Refusal, RunEnd, Screen,
-    ScriptEnd, ScriptFault, Sink, Source, WinId, WriteFault, Writing,
+    ScriptEnd, ScriptFault, Sink, Source, VirtualScreen, WinId, WriteFault, Writing,
 };
 use std::alloc::Global;
 use std::io;

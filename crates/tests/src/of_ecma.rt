@@ -103,3 +103,11 @@ fn counts_the_bytes(rt: HostRuntime) {
     assert_eq!(rt; spell(&Token::El(Erase::All), &mut out), 4);
     assert_eq!(rt; spell(&Token::Ed(Erase::ToEnd), &mut out), 3);
 }
+
+#[test]
+fn longest_spelling_fills_its_room(rt: HostRuntime) {
+    let bytes = b"\x1b[0;1;2;4;5;7;8;37;47m";
+    let all = selection(Attr::all(), Some(Colour::WHITE), Some(Colour::WHITE));
+    assert!(rt; is_spelled(all, bytes));
+    assert_eq!(rt; LONGEST_SPELLING, bytes.len());
+}

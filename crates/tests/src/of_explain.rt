@@ -2,7 +2,7 @@ use explain::finding;
 use script::{LONGEST_LINE, TextFault};
 use std::test::Fail;
 
-/// Faulty lines, and what is told of each.
+/// Faulty lines, and what is said of each.
 #[rattlefmt::skip]
 const FINDINGS: [(TextFault, &[u8], &str); 8] = [
     (TextFault::LineTooLong, b"", "line 12, column 513: the line is longer than 512 bytes\n"),

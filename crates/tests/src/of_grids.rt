@@ -55,6 +55,19 @@ fn settings_are_kept(rt: HostRuntime) -> Result<(), Fail> {
     Ok(())
 }
 
+#[test]
+fn characters_are_printed_in_a_line(rt: HostRuntime) -> Result<(), Fail> {
+    let mut grids = Grids::new(rt.alloc(), 4, 10)?;
+    let pen = Cell::new(b'.', Attr::BOLD, 7).ok_or("no cell")?;
+    grids.print(SCREEN, 1, 3, b"a b", pen);
+    let letter = Cell::new(b'a', Attr::BOLD, 7).ok_or("no cell")?;
+    assert_eq!(rt; grids.cell(SCREEN, 1, 3), letter);
+    assert_eq!(rt; grids.cell(SCREEN, 1, 4), pen);
+    assert_eq!(rt; grids.cell(SCREEN, 1, 6), Cell::BLANK);
+    assert_eq!(rt; touched(&grids, SCREEN, 1)?, Some((3, 5)));
+    Ok(())
+}
+
 /// A window, a part of it, and a part of that.
 fn nested(grids: &mut Grids) -> Result<[WinId; 3], Fail> {
     let window = grids.newwin(3, 6, 0, 2)?;

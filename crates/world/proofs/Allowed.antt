@@ -1,19 +1,15 @@
 -- What each effect wants of windows and panels, and that the tests of its call give it.
-use Rattle.std.proofs.Common.{◌≡◌, ◌⊎◌, ℕ, zero, suc, ◌+◌, ◌-◌, Bool, true, false, if◌then◌else◌, ◌==◌, ◌&&◌, ◌||◌, Option, Some, None, inl, inr, subst, ap, refl, sym, ◌∙◌}
-use Rattle.std.specs.Prelude.{MatchOption, is_none, not, unwrap_or, ⊤}
-use Rattle.cell.specs.Limits.{is_no_size}
-use Rattle.cell.specs.Refusals.{first_of}
-use Rattle.cell.specs.declared.limits.TheConstants.{LARGEST_PAD}
+use Rattle.std.proofs.Common.{◌≡◌, ◌⊎◌, ℕ, zero, suc, ◌+◌, ◌-◌, Bool, true, false, if◌then◌else◌, ◌==◌, Option, Some, None, inl, inr, subst, ap, refl, sym, ◌∙◌, arith}
+use Rattle.std.specs.Prelude.{MatchOption, is_none, unwrap_or, ⊤}
 use Rattle.cell.specs.declared.refusal.Refusal.{Refusal}
-use Rattle.world.specs.Windows.{Window, WindowMap, Windows, is_missing, window_limit}
+use Rattle.world.specs.Windows.{Window, WindowMap, Windows, window_limit}
 use Rattle.world.specs.Panels.{Panels, is_in_panel, standard_screen}
 use Rattle.world.specs.Sound.{AreSoundPanels, IsSoundPanel}
 use Rattle.world.specs.Effects.{Change, asks, deletes, edits, makes, marks, moves, shifts}
-use Rattle.world.specs.calls.Making.{columns_from, free_among, has_derived, has_no_parent, is_before, is_full, is_inside, is_no_pad, is_outside, is_pad, lines_from, making_change, making_refusal}
-use Rattle.world.specs.calls.Making.{new_number, part_tests}
+use Rattle.world.specs.calls.Making.{free_among, has_derived, has_no_parent, is_full, making_change, making_refusal, new_number, next_window}
 use Rattle.world.proofs.PanelLaws.{in_panel-some}
 use Rattle.world.specs.declared.call.Making.{Making}
-use Rattle.world.specs.declared.call.Making.TheVariants.{Newwin, Subwin, Derwin, Newpad, Subpad, Delwin, Mvwin, Mvderwin}
+use Rattle.world.specs.declared.call.Making.TheVariants.{Delwin}
 
 -- a new window has a free number; one that is deleted or moved is in no panel, and is not the standard screen
 abbrev pub IsAllowed : Windows → Panels → Change → Type 0
@@ -68,49 +64,11 @@ not-in-panel window panels w sound none p u is same =
 
 -- ---- the calls that make, move and delete
 
--- a call that derives, and isn't refused, finds a free number
-part-full : (windows : Windows) (w nlines ncols y x : ℕ) → first_of (part_tests windows w nlines ncols y x) ≡ None → is_full windows.window ≡ false
-part-full windows w nlines ncols y x allowed =
-    let inside = passed (is_outside windows.window w nlines ncols y x) _ _ allowed in
-    (passed (is_full windows.window) _ _ inside.1).0
+-- a call that makes a window, and isn't refused, finds a free number
+makes-free : (windows : Windows) → is_full windows.window ≡ false → windows.window (next_window windows) ≡ None
+makes-free windows full = next-free windows.window (new_number windows.window) refl full
 
 pub allowed-making : (windows : Windows) (panels : Panels) (making : Making) → making_refusal windows (is_in_panel panels) making ≡ None
     → IsAllowed windows panels (making_change windows making)
-allowed-making windows panels (Newwin nlines ncols line column) accepted =
-    let inside = passed (not (is_inside nlines windows.lines line && is_inside ncols windows.columns column)) _ _ accepted in
-    let full = passed (is_full windows.window) _ _ inside.1 in
-    next-free windows.window (new_number windows.window) refl full.0
-allowed-making windows panels (Subwin win nlines ncols line column) accepted =
-    let there = passed (is_missing windows.window win.0) _ _ accepted in
-    let pad = passed (is_pad windows.window win.0) _ _ there.1 in
-    let before = passed (is_before windows.window win.0 line column) _ _ pad.1 in
-    let full = part-full windows win.0 nlines ncols (lines_from windows.window win.0 line) (columns_from windows.window win.0 column) before.1 in
-    next-free windows.window (new_number windows.window) refl full
-allowed-making windows panels (Derwin win nlines ncols line column) accepted =
-    let there = passed (is_missing windows.window win.0) _ _ accepted in
-    let pad = passed (is_pad windows.window win.0) _ _ there.1 in
-    next-free windows.window (new_number windows.window) refl (part-full windows win.0 nlines ncols line column pad.1)
-allowed-making windows panels (Newpad nlines ncols) accepted =
-    let size = passed (is_no_size LARGEST_PAD nlines || is_no_size LARGEST_PAD ncols) _ _ accepted in
-    let full = passed (is_full windows.window) _ _ size.1 in
-    next-free windows.window (new_number windows.window) refl full.0
-allowed-making windows panels (Subpad pad nlines ncols line column) accepted =
-    let there = passed (is_missing windows.window pad.0) _ _ accepted in
-    let kind = passed (is_no_pad windows.window pad.0) _ _ there.1 in
-    next-free windows.window (new_number windows.window) refl (part-full windows pad.0 nlines ncols line column kind.1)
-allowed-making windows panels (Delwin win) accepted =
-    let there = passed _ _ _ accepted in
-    let other = passed (win.0 == standard_screen) _ _ there.1 in
-    let free = passed (is_in_panel panels win.0) _ _ other.1 in
-    let alone = passed (has_derived windows.window win.0) _ _ free.1 in
-    (other.0, free.0, alone.0)
-allowed-making windows panels (Mvwin win line column) accepted =
-    let there = passed _ _ _ accepted in
-    let other = passed (win.0 == standard_screen) _ _ there.1 in
-    let pad = passed _ _ _ other.1 in
-    let free = passed (is_in_panel panels win.0) _ _ pad.1 in
-    (other.0, free.0)
-allowed-making windows panels (Mvderwin win line column) accepted =
-    let there = passed _ _ _ accepted in
-    let derived = passed (has_no_parent windows.window win.0) _ _ there.1 in
-    derived.0
+allowed-making windows panels (Delwin win) accepted = grind (arith, passed)
+allowed-making windows panels making accepted = grind (arith, makes-free, passed)

@@ -1,6 +1,6 @@
 -- A call on a panel leaves the picture as it is at every place of the screen where the panel isn't seen, before or
 -- after.
-use Rattle.std.proofs.Common.{◌≡◌, ◌≢◌, ℕ, ◌<◌, Bool, true, false, not, ◌==◌, ◌&&◌, ◌||◌, Option, Some, None, List, [], ◌∷◌, ◌++◌, inl, inr, ap, refl, sym, ◌∙◌}
+use Rattle.std.proofs.Common.{◌≡◌, ◌≢◌, ℕ, ◌<◌, Bool, true, false, not, ◌==◌, ◌&&◌, ◌||◌, Option, Some, None, List, [], ◌∷◌, ◌++◌, inl, inr, ap, refl, sym, ◌∙◌, arith}
 use Rattle.std.specs.Prelude.{cond, find, is_none, reverse, unwrap_or, ⊤}
 use Rattle.std.specs.List.{list_any}
 use Rattle.std.specs.Option.{option_map_or}
@@ -18,7 +18,7 @@ use Rattle.world.specs.calls.Stacking.{stacking_order, stacking_refusal, without
 use Rattle.world.proofs.Allowed.{IsAllowed, passed, sound-panel}
 use Rattle.world.proofs.MoveLaws.{cell-placed, found-change, holds-placed}
 use Rattle.world.specs.declared.call.Stacking.{Stacking}
-use Rattle.world.specs.declared.call.Stacking.TheVariants.{NewPanel, DelPanel, ShowPanel, HidePanel, TopPanel, BottomPanel, MovePanel, ReplacePanel}
+use Rattle.world.specs.declared.call.Stacking.TheVariants.{MovePanel}
 
 -- ---- a search that passes the panel p by
 
@@ -175,16 +175,8 @@ IsOrdered windows panels (orders p order) = (without p order.visible ≡ without
 IsOrdered windows panels (carries p place) = is_none (panels.window p) ≡ false
 
 pub ordered-stacking : (windows : Windows) (panels : Panels) (stacking : Stacking) → stacking_refusal windows panels stacking ≡ None → IsOrdered windows panels (stacking_order panels stacking)
-ordered-stacking windows panels (NewPanel win) accepted = tt
-ordered-stacking windows panels (DelPanel panel) accepted = (without-twice panel.0 panels.visible, given-other panel.0 panels.window None)
-ordered-stacking windows panels (ShowPanel panel) accepted = (shown-order panel.0 panels.visible, λ q other. refl)
-ordered-stacking windows panels (HidePanel panel) accepted = (without-twice panel.0 panels.visible, λ q other. refl)
-ordered-stacking windows panels (TopPanel panel) accepted = (shown-order panel.0 panels.visible, λ q other. refl)
-ordered-stacking windows panels (BottomPanel panel) accepted =
-    (without-itself panel.0 (without panel.0 panels.visible) ∙ without-twice panel.0 panels.visible, λ q other. refl)
 ordered-stacking windows panels (MovePanel panel line column) accepted = (passed (is_none (panels.window panel.0)) _ _ accepted).0
-ordered-stacking windows panels (ReplacePanel panel win) accepted = (refl, given-other panel.0 panels.window (Some win.0))
-ordered-stacking windows panels _ accepted = tt
+ordered-stacking windows panels stacking accepted = grind (arith, without-itself, without-twice, shown-order, given-other)
 
 -- ---- each effect
 

@@ -10,7 +10,8 @@ use Rattle.world.specs.Settings.{set}
 use Rattle.world.specs.Panels.{Panels, window_or_standard, windows_of_picture}
 use Rattle.world.specs.Frames.{frame_of}
 use Rattle.world.specs.Typing.{after_text, frame_if_there, text_frame}
-use Rattle.world.specs.World.{VirtualScreen, World, picture, topmost_cursor}
+use Rattle.cell.specs.VirtualScreens.{VirtualScreen}
+use Rattle.world.specs.World.{World, picture, topmost_cursor}
 use Rattle.cell.specs.declared.window.Rect.{Rect}
 use Rattle.world.specs.declared.call.Reply.{Reply}
 use Rattle.world.specs.declared.call.Reply.TheVariants.{Nothing, Number, Panel}

@@ -7,7 +7,8 @@ use Rattle.cell.specs.Shown.{ArePairs}
 use Rattle.cell.specs.declared.limits.TheConstants.{LARGEST_PAD, LARGEST_SCREEN, LAST_PAIR, MOST_PANELS, MOST_WINDOWS}
 use Rattle.world.specs.Windows.{Backing, own_grid, part_of, Window, WindowMap, Windows, own}
 use Rattle.world.specs.Panels.{Panels, standard_screen}
-use Rattle.world.specs.World.{VirtualScreen, World}
+use Rattle.cell.specs.VirtualScreens.{VirtualScreen}
+use Rattle.world.specs.World.{World}
 use Rattle.world.specs.declared.settings.Columns.{Columns}
 use Rattle.world.specs.declared.settings.Settings.{Settings}
 

@@ -4,15 +4,10 @@ use Rattle.std.specs.Prelude.{ℕ, ◌-◌, Bool, false, Option, Some, None}
 use Rattle.cell.specs.Glyphs.{blank}
 use Rattle.cell.specs.Pictures.{Picture, Place, origin, blank_picture}
 use Rattle.cell.specs.Shown.{Shown, Pairs, shown, first_pairs}
+use Rattle.cell.specs.VirtualScreens.{VirtualScreen}
 use Rattle.world.specs.Windows.{Backing, own_grid, Window, Windows, no_windows, replaced}
 use Rattle.world.specs.Panels.{Panels, first_panels, standard_screen, found_from_top, cursor_of_topmost}
 use Rattle.world.specs.declared.settings.Settings.{Settings}
-
--- a picture, where the cursor is wanted, and whether the terminal is to be cleared first
-pub record VirtualScreen : Type 0 where
-  pub picture : Picture
-  pub cursor : Place
-  pub clear : Bool
 
 pub record World : Type 0 where
   pub windows : Windows

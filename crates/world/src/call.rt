@@ -4,7 +4,7 @@ use crate::panel::PanelId;
 use cell::{Attr, Cell, WinId};
 use streams::Sent;
 
-/// A call, by the table that it stands in. Lines and columns count from 0.
+/// A call, by the group that it is in. Lines and columns count from 0.
 #[derive(Clone, Copy, Debug)]
 pub enum Call<'a> {
     Making(Making),

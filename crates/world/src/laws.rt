@@ -116,7 +116,7 @@ pub fn frames_are_inside()
         → (r.top ≤ r.bottom) × (r.left ≤ r.right) × HasPlace windows.window (edit_window edit) r.bottom r.right }
 {}
 
-/// An edit leaves windows where they stand, with the cells that they share: a frame is shown after it where it was before. A shift leaves
+/// An edit leaves windows where they are, with the cells that they share: a frame is shown after it where it was before. A shift leaves
 /// which windows derive from which: it affects the same after it as before.
 pub fn shapes_are_kept()
     ensures edited { (windows : Windows) (panels : Panels) (edit : Edit) (w : ℕ) (frame : Option Rect) (y x : ℕ)

@@ -1,4 +1,4 @@
-//! The world that calls change: windows, panels and the virtual screen, and each call as data. Its definitions stand in
+//! The world that calls change: windows, panels and the virtual screen, and each call as data. Its definitions are in
 //! `specs/`: when a call is refused, what it changes and what it answers.
 //!
 //! - `call`: calls and answers

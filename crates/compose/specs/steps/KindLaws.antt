@@ -1,5 +1,5 @@
 -- The answer of each call is of the kind that Kinds has for it.
-use Rattle.std.proofs.Common.{◌≡◌, ℕ, Bool, false, Option, Some, None, [], ◌∷◌, Ok, refl, subst, sym}
+use Rattle.std.proofs.Common.{◌≡◌, ℕ, Bool, true, false, Option, Some, None, [], ◌∷◌, Ok, refl, subst, sym}
 use Rattle.std.specs.Prelude.{is_none, option_and_then}
 use Rattle.std.specs.Option.{option_map, option_map_or}
 use Rattle.cell.specs.Glyphs.{Glyph}
@@ -8,22 +8,21 @@ use Rattle.cell.specs.Refusals.{first_of}
 use Rattle.cell.specs.declared.refusal.Refusal.TheVariants.{IsPad, NoSuchWindow, NotDerived}
 use Rattle.world.specs.World.{World}
 use Rattle.world.specs.Windows.{Backing, own_grid, part_of, Window, Windows}
-use Rattle.world.specs.Effects.{Change, asks, edits, marks, makes, deletes, moves, shifts, Order, changes, adds, orders, carries, change_reply, order_reply}
-use Rattle.world.specs.calls.Copying.{copying_change}
-use Rattle.world.specs.calls.Dispatch.{is_doupdate, refusal}
+use Rattle.world.specs.Effects.{Change, asks, edits, marks, makes, deletes, moves, shifts, Order, changes, adds, orders, carries, Effect, arranges, refreshes, composes, shows, colours}
+use Rattle.world.specs.Effects.{change_reply, effect_reply, order_reply}
+use Rattle.world.specs.calls.Dispatch.{effect_of, is_doupdate, refusal}
 use Rattle.world.specs.calls.Queries.{query_refusal, query_reply, offset_of}
-use Rattle.world.specs.calls.Stacking.{stacking_order}
-use Rattle.world.specs.calls.Making.{is_own, making_change}
+use Rattle.world.specs.calls.Making.{is_own}
 use Rattle.world.specs.declared.call.Call.{Call}
 use Rattle.world.specs.declared.call.Call.TheVariants as calls
 use Rattle.world.specs.declared.call.Query.{Query}
-use Rattle.world.specs.declared.call.Query.TheVariants.{Getyx, Getbegyx, Getmaxyx, Getparyx, Inch}
-use Rattle.world.specs.declared.call.Refresh.TheVariants.{Noutrefresh, Pnoutrefresh, UpdatePanels, Doupdate, InitPair}
+use Rattle.world.specs.declared.call.Query.TheVariants.{Getbegyx, Getparyx, Inch}
+use Rattle.world.specs.declared.call.Refresh.TheVariants.{UpdatePanels, Doupdate}
 use Rattle.world.specs.declared.call.Reply.{Reply}
 use Rattle.world.specs.declared.call.Reply.TheVariants.{Nothing, Number, Pair, Cell, Flag, Panel, Composed, Sent}
 use Rattle.compose.specs.Calling.{Called, MayTell}
 use Rattle.compose.specs.Desks.{DeskTable, is_damaged_line, world}
-use Rattle.compose.specs.Kinds.{IsAnswerTo, IsOfKind, kind_of, kind_of_change, kind_of_order, kind_of_query, kind_of_reply, pair, cell}
+use Rattle.compose.specs.Kinds.{IsAnswerTo, IsOfKind, kind_of, kind_of_change, kind_of_effect, kind_of_order, kind_of_query, kind_of_reply, pair, cell}
 
 -- ---- what a call asks for is there where it isn't refused
 
@@ -55,20 +54,19 @@ derived (Some a) h = has_offset a.backing h
 
 -- ---- the kinds of answers
 
-two_numbers : (o : Option Place) (reply : Reply) → is_none o ≡ false → reply ≡ option_map_or (λ p. Pair p.0 p.1) o Nothing → IsOfKind pair reply
-two_numbers None reply some is = cc
-two_numbers (Some p) reply some is = (p.0, p.1, is)
+two_numbers : (o : Option Place) → is_none o ≡ false → IsOfKind pair (option_map_or (λ p. Pair p.0 p.1) o Nothing)
+two_numbers None some = cc
+two_numbers (Some p) some = (p.0, p.1, refl)
 
-one_cell : (o : Option Glyph) (reply : Reply) → is_none o ≡ false → reply ≡ option_map_or (λ shown. Cell shown) o Nothing → IsOfKind cell reply
-one_cell None reply some is = cc
-one_cell (Some g) reply some is = (g, is)
+one_cell : (o : Option Glyph) → is_none o ≡ false → IsOfKind cell (option_map_or (λ shown. Cell shown) o Nothing)
+one_cell None some = cc
+one_cell (Some g) some = (g, refl)
 
-of_query : (ws : Windows) (q : Query) (reply : Reply) → query_refusal ws q ≡ None → reply ≡ query_reply ws q → IsOfKind (kind_of_query q) reply
-of_query ws (Getyx win) reply h is = two_numbers _ reply (mapped _ (ws.window win.0) (there (ws.window win.0) h)) is
-of_query ws (Getbegyx win) reply h is = two_numbers _ reply (on_screen (ws.window win.0) h) is
-of_query ws (Getmaxyx win) reply h is = two_numbers _ reply (mapped _ (ws.window win.0) (there (ws.window win.0) h)) is
-of_query ws (Getparyx win) reply h is = two_numbers _ reply (derived (ws.window win.0) h) is
-of_query ws (Inch win) reply h is = one_cell _ reply (mapped _ (ws.window win.0) (there (ws.window win.0) h)) is
+of_query : (ws : Windows) (q : Query) → query_refusal ws q ≡ None → IsOfKind (kind_of_query q) (query_reply ws q)
+of_query ws (Getbegyx win) h = two_numbers _ (on_screen (ws.window win.0) h)
+of_query ws (Getparyx win) h = two_numbers _ (derived (ws.window win.0) h)
+of_query ws (Inch win) h = one_cell _ (mapped _ (ws.window win.0) (there (ws.window win.0) h))
+of_query ws q h = two_numbers _ (mapped _ _ (there _ h))
 
 -- ---- by effect
 
@@ -97,22 +95,26 @@ of_order (adds p w) = (record { 0 = p }, refl)
 of_order (orders p order) = refl
 of_order (carries p place) = refl
 
-ordered : (order : Order) (reply : Reply) → reply ≡ order_reply order → IsOfKind (kind_of_order order) reply
-ordered order reply is = subst (IsOfKind (kind_of_order order)) (sym is) (of_order order)
+-- its answer is the one that effect_reply has
+abbrev is_answered : Effect → Bool
+is_answered composes = false
+is_answered shows = false
+is_answered effect = true
+
+of_effect : (effect : Effect) → is_answered effect ≡ true → IsOfKind (kind_of_effect effect) (effect_reply effect)
+of_effect (arranges order) h = of_order order
+of_effect (refreshes w test drawing cursor) h = refl
+of_effect composes h = cc
+of_effect shows h = cc
+of_effect (colours p foreground background) h = refl
 
 -- what an accepted call tells that sends nothing
 pub kind-told : (w : World) (damaged : ℕ → Bool) (call : Call) (reply : Reply) → is_doupdate call ≡ false → refusal w call ≡ None → MayTell w damaged call reply
     → IsOfKind (kind_of w call) reply
-kind-told w damaged (calls.Making making) reply other h is = ordered (changes (making_change w.windows making)) reply is
-kind-told w damaged (calls.Writing writing) reply other h is = is
-kind-told w damaged (calls.Copying copying) reply other h is = ordered (changes (copying_change w.windows copying)) reply is
-kind-told w damaged (calls.Query query) reply other h is = of_query w.windows query reply h is
-kind-told w damaged (calls.Stacking stacking) reply other h is = ordered (stacking_order w.panels stacking) reply is
-kind-told w damaged (calls.Refresh (Noutrefresh win)) reply other h is = is
-kind-told w damaged (calls.Refresh (Pnoutrefresh pad pminrow pmincol sminrow smincol smaxrow smaxcol)) reply other h is = is
+kind-told w damaged (calls.Query query) reply other h is = subst (IsOfKind (kind_of_query query)) (sym is) (of_query w.windows query h)
 kind-told w damaged (calls.Refresh UpdatePanels) reply other h is = (record { cells = is.0 }, is.2)
 kind-told w damaged (calls.Refresh Doupdate) reply other h is = cc
-kind-told w damaged (calls.Refresh (InitPair p foreground background)) reply other h is = is
+kind-told w damaged call reply other h is = subst (IsOfKind (kind_of w call)) (sym is) (of_effect (effect_of w call) refl)
 
 pub answers-called : (old : DeskTable) (call : Call) (reply : Reply) (new : DeskTable) → is_doupdate call ≡ false → Called old call (Ok reply) new → IsAnswerTo call reply
 answers-called old call reply new other h = (world old, kind-told (world old) (is_damaged_line old) call reply other h.0 h.1)

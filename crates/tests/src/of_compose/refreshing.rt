@@ -1,5 +1,5 @@
 use crate::of_compose::{make, new_desk, shows, wanted_cursor, write};
-use cell::{Refusal, WinId};
+use cell::{Refusal, VirtualScreen, WinId};
 use compose::{Calls, Desk};
 use std::alloc::Global;
 use std::test::Fail;

@@ -5,7 +5,7 @@ use crate::of_desk::{HI, UPDATE, addstr, breaking_after, run, run_script, screen
 use cell::{Attr, Rendition};
 use desk::{
     Call, Calls, Counted, CountedReader, Fault, Refusal, Reply, Screen, ScriptEnd, ScriptFault,
-    Sent, Sink, TextFault, WinId, WriteFault, Writing,
+    Sent, Sink, TextFault, VirtualScreen, WinId, WriteFault, Writing,
 };
 use ecma::Terminal;
 use std::alloc::Global;

@@ -76,7 +76,7 @@ impl Windows {
         Ok(Some(lines_from(&state, y, y, x)))
     }
 
-    /// Deletes the character at the cursor, which stays: the cells behind it go one column left, and the last is set to the
+    /// Deletes the character at the cursor, which stays: the cells after it go one column left, and the last is set to the
     /// background.
     ///
     /// # Errors

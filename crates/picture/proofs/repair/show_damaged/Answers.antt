@@ -1,5 +1,5 @@
 -- Each round composes the damaged columns of one line more; the others were those of the picture before.
-use Rattle.std.proofs.Common.{◌≡◌, ℕ, suc, ◌+◌, ◌-◌, ◌<◌, ◌≤◌, ◌==◌, ◌&&◌, true, nat_le, nat_lt, if◌then◌else◌, None, Some, refl, ap, subst, sym, ◌∙◌, arith}
+use Rattle.std.proofs.Common.{rules, ◌≡◌, ℕ, suc, ◌+◌, ◌-◌, ◌<◌, ◌≤◌, ◌==◌, ◌&&◌, true, nat_le, nat_lt, if◌then◌else◌, None, Some, refl, ap, subst, sym, ◌∙◌, arith}
 use Rattle.cell.specs.Pictures.{shown_at}
 use Rattle.cell.specs.Shown.{Shown, shown}
 use Rattle.cell.proofs.PictureLemmas.{length-line}
@@ -10,7 +10,7 @@ use Rattle.stack.specs.Tables.{panels}
 use Rattle.picture.specs.Counts.{GrewBy}
 use Rattle.picture.specs.Damages.{cells_above, cells_of_line, columns_of}
 use Rattle.picture.specs.Spans.{HasPanelWindows}
-use Rattle.picture.proofs.Composing.{composed-bare, composed-more, fits-more}
+use Rattle.picture.proofs.Composing.{ComposedAbove, composed-bare, composed-more, composed-none, composed-to, fits-more, no-more-to}
 use Rattle.picture.proofs.Counting.{grew-more}
 use Rattle.picture.proofs.Lines.{shown-all}
 use Rattle.picture.proofs.Standard.{sound-windows, standard-holds}
@@ -61,6 +61,24 @@ overflow_add-cells-in-Some g c =
     let fits = fits-more old.lines old.columns c.args.damage.now c.requires.within c.requires.windows.few_lines c.requires.windows.few_columns y r (omega (arith, test, all)) is in
     omega (arith, fits, read, number)
 
+pub loop-y-init : goal.loop-y-init
+loop-y-init g c =
+    let old = g.R.Rows.windows c.args.rows.now in
+    let before = c.args.damage.now in
+    let f : ℕ → ℕ → Shown = λ v u. shown c.args.pairs.now (found_from_top old.window (panels c.args.stack.now) v u) in
+    let none : (v : ℕ) → 0 ≤ v → v < c.next-y.result → columns_of before v ≡ None = λ v from upto. c.next-y.ensures.none v from upto in
+    let height = c.requires.height in
+    let inside = c.next-y.ensures.inside (omega arith) in
+    record {
+      windows = refl;
+      read = sym (no-more-to before 0 c.next-y.result (omega arith) none);
+      counted = search rules;
+      composed = composed-to f old.lines old.columns before c.args.picture.now c.requires.covered 0 c.next-y.result before c.args.picture.now
+          (composed-none f old.lines old.columns before c.args.picture.now c.requires.covered c.requires.height c.requires.size)
+          (omega arith) (omega (arith, inside, height)) none;
+      inside = omega (arith, inside, height);
+    }
+
 pub loop-y-preserved : goal.loop-y-preserved
 loop-y-preserved g c =
     let old = g.R.Rows.windows c.args.rows.now in
@@ -74,6 +92,25 @@ loop-y-preserved g c =
     let before = c.args.damage.now in
     let lent = g.R.Rows.lent c.args.rows.now in
     let more : cells_above before (y + 1) ≡ cells_above before y + cells_of_line (columns_of before y) = let e : y + 1 ≡ suc y = omega arith in ap (cells_above before) e in
+    let composed : ComposedAbove f old.lines old.columns before c.args.picture.now (y + 1) c.match-line.damage c.match-line.picture = elim c.match-line.branch [
+      | in-Some s ↦
+          let r = s.in-Some.field-0 in
+          rw (s.damage-is, s.picture-is, s.clear.ensures)
+          (composed-more f old.lines old.columns before c.args.picture.now c.requires.covered y r c.loop-y.damage c.loop-y.picture s.compose_row.new.picture h.composed below
+          (sym c.line.ensures ∙ s.in-Some.is)
+          (λ v u. s.compose_row.ensures.shown v u
+          ∙ ap (λ (ws : Windows). if (v == y) && (nat_le r.first u && nat_lt u (r.last + 1)) then shown c.args.pairs.now (found_from_top ws.window ps y u) else shown_at c.loop-y.picture (v, u))
+          h.windows)
+          (s.compose_row.ensures.size old.lines old.columns h.composed.above.size))
+      | in_default s ↦ rw (s.damage-is, s.picture-is)
+          (composed-bare f old.lines old.columns before c.args.picture.now c.requires.covered y c.loop-y.damage c.loop-y.picture h.composed below (sym c.line.ensures ∙ s.in_default.is))
+    ] in
+    let next = c.next-y-in-loop-y.result in
+    let from : y + 1 ≤ next = c.next-y-in-loop-y.ensures.from in
+    let none : (v : ℕ) → y + 1 ≤ v → v < next → columns_of c.match-line.damage v ≡ None = λ v a b. c.next-y-in-loop-y.ensures.none v a b in
+    let height = composed.height in
+    let inside = c.next-y-in-loop-y.ensures.inside (omega (arith, below, height)) in
+    let skipped : cells_above before next ≡ cells_above before (y + 1) = no-more-to before (y + 1) next from (λ v a b. sym (composed.left v a) ∙ none v a b) in
     record {
       windows = elim c.match-line.branch [
         | in-Some s ↦ rw s.rows-is (s.compose_row.ensures.same ∙ h.windows)
@@ -89,13 +126,13 @@ loop-y-preserved g c =
             let number = s.from.ensures in
             let read = h.read in
             let cells = s.cells-is in
-            omega (arith, cells, number, read, more, line, ordered)
+            omega (arith, cells, number, read, more, line, ordered, skipped)
         | in_default s ↦
-            let none : columns_of before y ≡ None = sym (h.composed.left y (omega arith)) ∙ sym c.line.ensures ∙ s.in_default.is in
-            let line : cells_of_line (columns_of before y) ≡ 0 = ap cells_of_line none in
+            let bare : columns_of before y ≡ None = sym (h.composed.left y (omega arith)) ∙ sym c.line.ensures ∙ s.in_default.is in
+            let line : cells_of_line (columns_of before y) ≡ 0 = ap cells_of_line bare in
             let read = h.read in
             let cells = s.cells-is in
-            omega (arith, cells, read, more, line)
+            omega (arith, cells, read, more, line, skipped)
       ];
       counted = elim c.match-line.branch [
         | in-Some s ↦
@@ -107,20 +144,18 @@ loop-y-preserved g c =
             (grew-more c.loop-y.cells (r.last - r.first + 1) lent (g.R.Rows.lent c.loop-y.rows) (g.R.Rows.lent s.compose_row.new.rows) h.counted s.compose_row.ensures.counted))
         | in_default s ↦ rw (s.rows-is, s.cells-is) h.counted
       ];
-      composed = elim c.match-line.branch [
-        | in-Some s ↦
-            let r = s.in-Some.field-0 in
-            rw (s.damage-is, s.picture-is, s.clear.ensures)
-            (composed-more f old.lines old.columns before c.args.picture.now c.requires.covered y r c.loop-y.damage c.loop-y.picture s.compose_row.new.picture h.composed below
-            (sym c.line.ensures ∙ s.in-Some.is)
-            (λ v u. s.compose_row.ensures.shown v u
-            ∙ ap (λ (ws : Windows). if (v == y) && (nat_le r.first u && nat_lt u (r.last + 1)) then shown c.args.pairs.now (found_from_top ws.window ps y u) else shown_at c.loop-y.picture (v, u))
-            h.windows)
-            (s.compose_row.ensures.size old.lines old.columns h.composed.above.size))
-        | in_default s ↦ rw (s.damage-is, s.picture-is)
-            (composed-bare f old.lines old.columns before c.args.picture.now c.requires.covered y c.loop-y.damage c.loop-y.picture h.composed below (sym c.line.ensures ∙ s.in_default.is))
-      ];
+      composed = composed-to f old.lines old.columns before c.args.picture.now c.requires.covered (y + 1) next c.match-line.damage c.match-line.picture composed from
+          (omega (arith, inside, height)) none;
+      inside = omega (arith, inside, height);
     }
+
+pub returns-clause-read : goal.returns-clause-read
+returns-clause-read g c =
+    let end = c.loop-y-test.false in
+    let all = c.requires.lines in
+    let inside = c.loop-y.invariant.inside in
+    let last : c.loop-y.y ≡ (g.R.Rows.windows c.args.rows.now).lines = omega (arith, end, all, inside) in
+    c.loop-y.invariant.read ∙ ap (cells_above c.args.damage.now) last
 
 pub returns-clause-shown : goal.returns-clause-shown
 returns-clause-shown g c =

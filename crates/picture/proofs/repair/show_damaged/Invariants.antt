@@ -1,4 +1,4 @@
-use Rattle.std.proofs.Common.{◌≡◌}
+use Rattle.std.proofs.Common.{◌≡◌, ◌-◌, ◌≤◌}
 use Rattle.cell.specs.Shown.{shown}
 use Rattle.world.specs.Panels.{found_from_top}
 use Rattle.stack.specs.Tables.{panels}
@@ -11,8 +11,12 @@ use Rattle.picture.proofs.repair.show_damaged.Given as goal
 abbrev pub invariant-loop-y : goal.invariant-loop-y
 invariant-loop-y g l = record {
   windows : g.R.Rows.windows l.rows ≡ g.R.Rows.windows l.fn.rows;
+  inside : l.y ≤ (g.R.Rows.windows l.fn.rows).lines;
   read : l.cells ≡ cells_above l.fn.damage l.y;
   counted : GrewBy l.cells (g.R.Rows.lent l.fn.rows) (g.R.Rows.lent l.rows);
   composed : ComposedAbove (λ v u. shown l.fn.pairs (found_from_top (g.R.Rows.windows l.fn.rows).window (panels l.fn.stack) v u)) (g.R.Rows.windows l.fn.rows).lines
       (g.R.Rows.windows l.fn.rows).columns l.fn.damage l.fn.picture l.y l.damage l.picture;
 }
+
+abbrev pub decreases-loop-y : goal.decreases-loop-y
+decreases-loop-y g l = l.lines - l.y

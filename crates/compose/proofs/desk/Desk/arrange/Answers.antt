@@ -3,7 +3,7 @@
 -- stands for, call by call (`DeskLemmas`).
 use Rattle.std.proofs.Common.{refl, subst}
 use Rattle.std.specs.Prelude.{OnOk}
-use Rattle.world.specs.World.{VirtualScreen}
+use Rattle.cell.specs.VirtualScreens.{VirtualScreen}
 use Rattle.world.specs.calls.Stacking.{stacking_refusal}
 use Rattle.world.specs.declared.call.Call.TheVariants as calls
 use Rattle.grids.specs.Tables.{windows}

@@ -1,7 +1,7 @@
 -- `refresh_window`: the virtual screen stays sound where it takes the picture of windows and panels (`Composed`); where damage covers what a call
 -- may change, the damage of a desk still covers all that differs after it; and few lines are damaged (`Covering`).
 use Rattle.std.proofs.Common.{rules, ◌≡◌, ◌||◌, None, refl, subst}
-use Rattle.world.specs.World.{VirtualScreen}
+use Rattle.cell.specs.VirtualScreens.{VirtualScreen}
 use Rattle.world.specs.calls.Dispatch.{world_after}
 use Rattle.world.specs.calls.Refresh.{refresh_refusal, touched_cells}
 use Rattle.world.specs.Effects.{shown_over}

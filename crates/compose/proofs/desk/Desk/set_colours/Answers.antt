@@ -1,7 +1,7 @@
 -- `set_colours`: where damage covers what a call may change, the damage of a desk still covers all that differs after it; and few lines are damaged
 -- (`Covering`).
 use Rattle.std.proofs.Common.{rules, ◌≡◌, ◌<◌, true, None, refl, subst, ◌∙◌}
-use Rattle.world.specs.World.{VirtualScreen}
+use Rattle.cell.specs.VirtualScreens.{VirtualScreen}
 use Rattle.cell.specs.Refusals.{first_of}
 use Rattle.world.specs.calls.Dispatch.{world_after}
 use Rattle.world.specs.calls.Refresh.{colour_tests}

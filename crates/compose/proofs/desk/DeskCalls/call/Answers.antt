@@ -1,7 +1,7 @@
 -- `call`: where damage covers what a call may change, the damage of a desk still covers all that differs after it; and few lines are damaged
 -- (`Covering`); what a desk keeps, and the world that it stands for, call by call (`DeskLemmas`).
 use Rattle.std.proofs.Common.{refl, ◌∙◌}
-use Rattle.world.specs.World.{VirtualScreen}
+use Rattle.cell.specs.VirtualScreens.{VirtualScreen}
 use Rattle.world.specs.calls.Making.{after_making, making_change, making_refusal}
 use Rattle.world.specs.calls.Writing.{after_writing, writing_edit, writing_refusal}
 use Rattle.world.specs.calls.Copying.{after_copying, copying_change, copying_refusal}

@@ -1,0 +1,144 @@
+-- `paint_part`: a cell is left where it is shown already, or another pass draws it, and else drawn as a run of one (`Choices`, `Runs`, `Walks`).
+use Rattle.std.proofs.Common.{◌≡◌, ◌+◌, ◌-◌, ◌<◌, ◌∙◌, true, false, length, get_or, take, drop, inl, inr, refl, sym, ap, subst, arith}
+use Rattle.std.proofs.lemmas.Bool.{cases_lt}
+use Rattle.std.proofs.lemmas.List.{get_or_default, length-drop, length-take-le}
+use Rattle.cell.specs.Shown.{Shown, shown_blank}
+use Rattle.cell.specs.EqualityLaws.{same_shown-equal}
+use Rattle.cell.specs.Pictures.{Picture, line_of}
+use Rattle.cell.specs.Differences.{same_shown}
+use Rattle.paint.specs.steps.Passes.{is_drawn, line_after, pass_of as pass_in}
+use Rattle.paint.specs.steps.Strokes.{Strokes, run_bytes, with_cells}
+use Rattle.paint.specs.steps.Walks.{IsLinePainted}
+use Rattle.paint.proofs.Choices.{choices-alike, choices-back, choices-front, get-alike, get-in, get-kept, get-out, length-chosen, not-yet, now-drawn, other-pass, part-kept, same-cells}
+use Rattle.paint.proofs.Mixed.{drop-later}
+use Rattle.paint.proofs.Runs.{line-run, part-of}
+use Rattle.paint.proofs.Walks.{gap-before, gap-ends, line-begun, line-kept, line-painted}
+use Rattle.paint.proofs.passes.paint_part.Goals as goal
+
+pub loop-x-init : goal.loop-x-init
+loop-x-init g c =
+    let p = is_drawn c.args.order.now c.args.pass in
+    let q = is_drawn c.args.order.now (c.args.pass + 1) in
+    record {
+      painted = line-begun _ _ c.args.line c.in-Some.first (line_after c.args.order.now c.args.pass c.args.shown.now c.args.wanted.now)
+          (line_after c.args.order.now (c.args.pass + 1) c.args.shown.now c.args.wanted.now)
+          (choices-front p q c.in-Some.first c.args.shown.now c.args.wanted.now c.in-Some.ensures.1);
+      gap = omega arith;
+      kept = λ v from to. absurd (omega arith);
+      same = refl;
+    }
+
+pub returns-in_default-clause-strokes : goal.returns-in_default-clause-strokes
+returns-in_default-clause-strokes g c =
+    let p = is_drawn c.args.order.now c.args.pass in
+    let q = is_drawn c.args.order.now (c.args.pass + 1) in
+    let same = rw c.in_default.is at c.first_changed.ensures in
+    line-painted (line-begun _ _ c.args.line 0 (line_after c.args.order.now c.args.pass c.args.shown.now c.args.wanted.now)
+    (line_after c.args.order.now (c.args.pass + 1) c.args.shown.now c.args.wanted.now) refl) (choices-alike p q c.args.shown.now c.args.wanted.now same)
+
+pub loop-x-preserved-then-eq : goal.loop-x-preserved-then-eq
+loop-x-preserved-then-eq g c =
+    let x = c.loop-x.x in
+    let shown = c.args.shown.now in
+    let wanted = c.args.wanted.now in
+    let p = is_drawn c.args.order.now c.args.pass in
+    let q = is_drawn c.args.order.now (c.args.pass + 1) in
+    let same : length shown ≡ length wanted = c.requires.shown ∙ sym c.requires.wanted in
+    let inside : x < length shown = omega (arith, c.loop-x-test.true, c.requires.inside) in
+    let old = c.index-shown-x.is ∙ get_or_default shown x c.index-shown-x.result shown_blank inside in
+    let new = c.index-wanted-x.is ∙ get_or_default wanted x c.index-wanted-x.result shown_blank (omega arith) in
+    let alike : same_shown (get_or shown x shown_blank) (get_or wanted x shown_blank) ≡ true = (λ i. same_shown (sym old i) (sym new i)) ∙ sym c.if-eq.ensures in
+    let equal = same_shown-equal (get_or shown x shown_blank) (get_or wanted x shown_blank) alike in
+    let long = length-chosen p shown wanted same in
+    record {
+      painted = line-kept (long ∙ sym (length-chosen q shown wanted same)) (omega (arith, long, inside)) c.loop-x.invariant.painted
+          (same-cells _ _ (get-kept p x shown wanted same inside equal ∙ sym (get-kept q x shown wanted same inside equal)));
+      gap = omega (arith, c.loop-x.invariant.gap);
+      kept = λ v from to. elim (cases_lt v x) [
+        | inl h ↦ c.loop-x.invariant.kept v from h
+        | inr h ↦ let here : x ≡ v = omega arith in subst (λ n. get_or shown n shown_blank ≡ get_or wanted n shown_blank) here equal
+      ];
+      same = c.loop-x.invariant.same;
+    }
+
+pub loop-x-preserved-then-pass_of-pass : goal.loop-x-preserved-then-pass_of-pass
+loop-x-preserved-then-pass_of-pass g c =
+    let x = c.loop-x.x in
+    let order = c.args.order.now in
+    let pass = c.args.pass in
+    let shown = c.args.shown.now in
+    let wanted = c.args.wanted.now in
+    let p = is_drawn order pass in
+    let q = is_drawn order (pass + 1) in
+    let same : length shown ≡ length wanted = c.requires.shown ∙ sym c.requires.wanted in
+    let inside : x < length shown = omega (arith, c.loop-x-test.true, c.requires.inside) in
+    let new = c.index-wanted-x-in-loop-x.is ∙ get_or_default wanted x c.index-wanted-x-in-loop-x.result shown_blank (omega arith) in
+    let drawn_in : c.pass_of.result ≡ pass_in order (get_or wanted x shown_blank).rendition =
+    c.pass_of.ensures ∙ ap (pass_in order) (c.rendition.ensures.value ∙ ap (λ (cell : Shown). cell.rendition) new) in
+    let alike : p (get_or wanted x shown_blank).rendition ≡ q (get_or wanted x shown_blank).rendition =
+    other-pass (pass_in order (get_or wanted x shown_blank).rendition) pass (λ e. c.if-pass_of-pass.true (drawn_in ∙ e)) in
+    let long = length-chosen p shown wanted same in
+    record {
+      painted = line-kept (long ∙ sym (length-chosen q shown wanted same)) (omega (arith, long, inside)) c.loop-x.invariant.painted
+          (same-cells _ _ (get-alike p q x shown wanted same inside alike));
+      gap = omega arith;
+      kept = λ v from to. absurd (omega arith);
+      same = c.loop-x.invariant.same;
+    }
+
+pub loop-x-preserved : goal.loop-x-preserved
+loop-x-preserved g c =
+    let x = c.loop-x.x in
+    let gap = c.loop-x.gap in
+    let order = c.args.order.now in
+    let pass = c.args.pass in
+    let shown = c.args.shown.now in
+    let wanted = c.args.wanted.now in
+    let p = is_drawn order pass in
+    let q = is_drawn order (pass + 1) in
+    let same : length shown ≡ length wanted = c.requires.shown ∙ sym c.requires.wanted in
+    let inside : x < length shown = omega (arith, c.loop-x-test.true, c.requires.inside) in
+    let cells = take (x + 1 - x) (drop x wanted) in
+    let one : length cells ≡ 1 = length-take-le (x + 1 - x) (drop x wanted) (omega (arith, length-drop x wanted)) ∙ omega arith in
+    let new = c.index-wanted-x-in-loop-x.is ∙ get_or_default wanted x c.index-wanted-x-in-loop-x.result shown_blank (omega arith) in
+    let drawn_in : c.pass_of.result ≡ pass_in order (get_or wanted x shown_blank).rendition =
+    c.pass_of.ensures ∙ ap (pass_in order) (c.rendition.ensures.value ∙ ap (λ (cell : Shown). cell.rendition) new) in
+    let now : pass_in order (get_or wanted x shown_blank).rendition ≡ pass = sym drawn_in ∙ c.if-pass_of-pass.false in
+    let before = get-out p x shown wanted same inside (not-yet _ pass now) in
+    let after = get-in q x shown wanted same inside (now-drawn _ pass now) in
+    let old = c.index-shown-x.is ∙ get_or_default shown x c.index-shown-x.result shown_blank inside in
+    let first = c.index-wanted-x.is ∙ get_or_default wanted x c.index-wanted-x.result shown_blank (omega arith) in
+    let other : same_shown (get_or shown x shown_blank) (get_or wanted x shown_blank) ≡ false = (λ i. same_shown (sym old i) (sym first i)) ∙ sym c.if-eq.ensures in
+    let long = length-chosen p shown wanted same in
+    let wide = length-chosen q shown wanted same in
+    let before_line = line_after order pass shown wanted in
+    let after_line = line_after order (pass + 1) shown wanted in
+    let slice : take (x - gap) (drop gap after_line) ≡ take (x - gap) (drop gap wanted) =
+    part-kept q gap x shown wanted same c.loop-x.invariant.gap (omega arith) c.loop-x.invariant.kept in
+    let strokes = λ (picture : Picture) (columns : length (line_of picture c.args.line) ≡ c.loop-x.pen.columns)
+    (front : take x (line_of picture c.args.line) ≡ take x after_line).
+    let there = gap-before gap x after_line (line_of picture c.args.line) c.loop-x.invariant.gap (omega (arith, wide)) front in
+    subst (λ at. Strokes (run_bytes cells) (g.W.Sink.seen c.loop-x.sink) (g.W.Sink.seen c.paint_run.new.sink) c.loop-x.pen c.paint_run.new.pen picture
+    (with_cells picture (c.args.line, at) cells)) (gap-ends gap x wanted c.loop-x.invariant.gap (omega arith))
+    (c.paint_run.ensures.strokes picture columns (subst (λ part. take (length part) (drop gap (line_of picture c.args.line)) ≡ part) slice there.shown)) in
+    let end : x + length cells ≡ x + 1 = omega (arith, one) in
+    record {
+      painted = subst (λ n. IsLinePainted (g.W.Sink.seen c.args.sink.now) (g.W.Sink.seen c.paint_run.new.sink) c.args.pen.now c.paint_run.new.pen c.args.line n
+          (line_after order pass shown wanted) after_line) end
+          (line-run cells (long ∙ sym wide) (omega (arith, one)) (omega (arith, one, long)) c.loop-x.invariant.painted (long ∙ c.requires.shown)
+          (λ k few. let at : x ≡ x + k = omega (arith, one) in
+          part-of x (x + 1) k wanted (omega (arith, one)) ∙ subst (λ n. get_or wanted n shown_blank ≡ get_or after_line n shown_blank) at (sym after))
+          (λ v from to. let at : x ≡ v = omega (arith, one) in
+          subst (λ n. same_shown (get_or before_line n shown_blank) (get_or after_line n shown_blank) ≡ false) at ((λ i. same_shown (before i) (after i)) ∙ other))
+          strokes c.paint_run.ensures.columns);
+      gap = omega arith;
+      kept = λ v from to. absurd (omega arith);
+      same = c.paint_run.ensures.same ∙ c.loop-x.invariant.same;
+    }
+
+pub returns-clause-strokes : goal.returns-clause-strokes
+returns-clause-strokes g c =
+    let p = is_drawn c.args.order.now c.args.pass in
+    let q = is_drawn c.args.order.now (c.args.pass + 1) in
+    line-painted c.loop-x.invariant.painted (choices-back p q c.loop-x.x c.args.shown.now c.args.wanted.now
+    (drop-later c.args.end c.loop-x.x c.args.shown.now c.args.wanted.now c.loop-x-test.false c.requires.after))

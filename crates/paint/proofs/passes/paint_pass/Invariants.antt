@@ -1,0 +1,15 @@
+use Rattle.std.proofs.Common.{◌≡◌, ◌-◌, ◌+◌, ◌≤◌, length}
+use Rattle.paint.specs.steps.Passes.{picture_after}
+use Rattle.paint.specs.steps.Walks.{IsPicturePainted}
+use Rattle.paint.proofs.passes.paint_pass.Given as goal
+
+abbrev pub invariant-loop-line : goal.invariant-loop-line
+invariant-loop-line g l = record {
+  painted : IsPicturePainted (g.W.Sink.seen l.fn.sink) (g.W.Sink.seen l.sink) l.fn.pen l.pen l.line
+      (picture_after l.order l.pass l.shown l.wanted) (picture_after l.order (l.pass + 1) l.shown l.wanted);
+  inside : l.line ≤ length l.changes;
+  same : g.W.Sink.name l.sink ≡ g.W.Sink.name l.fn.sink;
+}
+
+abbrev pub decreases-loop-line : goal.decreases-loop-line
+decreases-loop-line g l = l.end - l.line

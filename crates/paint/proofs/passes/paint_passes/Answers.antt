@@ -1,0 +1,50 @@
+-- `paint_passes`: each pass takes from what is left, and the last leaves nothing (`Choices`).
+use Rattle.std.proofs.Common.{◌≡◌, ◌+◌, ◌∙◌, length, refl, sym, subst, arith}
+use Rattle.paint.specs.steps.Passes.{is_drawn, picture_after}
+use Rattle.paint.specs.steps.Strokes.{Strokes, picture_bytes}
+use Rattle.paint.proofs.Choices.{all-after, lines-all, lines-left, lines-none, none-before, once-drawn}
+use Rattle.paint.proofs.Strokes.{Strokes-more, Strokes-nothing, Strokes-then}
+use Rattle.paint.proofs.passes.paint_passes.Goals as goal
+
+pub loop-pass-init : goal.loop-pass-init
+loop-pass-init g c =
+    let start : picture_after c.args.order.now 0 c.args.shown.now c.args.wanted.now ≡ c.args.shown.now =
+    lines-none (is_drawn c.args.order.now 0) c.requires.shown c.requires.wanted (none-before c.args.order.now) in
+    record {
+      passed = record {
+        spent = 0;
+        within = rw start (omega arith);
+        strokes = subst (Strokes 0 _ _ c.args.pen.now c.args.pen.now c.args.shown.now) (sym start) (Strokes-nothing _ c.args.pen.now c.args.shown.now);
+        columns = refl;
+      };
+      few = omega arith;
+      same = refl;
+    }
+
+pub loop-pass-preserved : goal.loop-pass-preserved
+loop-pass-preserved g c =
+    let order = c.args.order.now in
+    let passed = c.loop-pass.invariant.passed in
+    let left = lines-left (is_drawn order c.loop-pass.pass) (is_drawn order (c.loop-pass.pass + 1))
+    (once-drawn order c.loop-pass.pass) c.args.shown.now c.args.wanted.now in
+    record {
+      passed = record {
+        spent = passed.spent + picture_bytes (picture_after order c.loop-pass.pass c.args.shown.now c.args.wanted.now)
+            (picture_after order (c.loop-pass.pass + 1) c.args.shown.now c.args.wanted.now);
+        within = omega (arith, passed.within, left);
+        strokes = Strokes-then passed.strokes c.paint_pass.ensures.strokes;
+        columns = c.paint_pass.ensures.columns ∙ passed.columns;
+      };
+      few = omega (arith, c.loop-pass-test.true);
+      same = c.paint_pass.ensures.same ∙ c.loop-pass.invariant.same;
+    }
+
+pub returns-clause-strokes : goal.returns-clause-strokes
+returns-clause-strokes g c =
+    let order = c.args.order.now in
+    let passed = c.loop-pass.invariant.passed in
+    let last : c.loop-pass.pass ≡ length order + 1 = omega (arith, c.loop-pass.invariant.few, c.loop-pass-test.false) in
+    let end : picture_after order c.loop-pass.pass c.args.shown.now c.args.wanted.now ≡ c.args.wanted.now =
+    (λ i. picture_after order (last i) c.args.shown.now c.args.wanted.now) ∙ lines-all (is_drawn order (length order + 1)) c.requires.shown c.requires.wanted (all-after order) in
+    subst (Strokes (picture_bytes c.args.shown.now c.args.wanted.now) _ _ c.args.pen.now c.loop-pass.pen c.args.shown.now) end
+    (Strokes-more passed.strokes (omega (arith, passed.within)))

@@ -1,0 +1,317 @@
+//! Drawing in passes: of a picture what has one rendition first, and then what has another, where that takes fewer bytes.
+
+ghost use Rattle.std.specs.Prelude.{◌≡◌, ◌+◌, ◌<◌, ◌≤◌, ⊤, MatchOption, drop, length, slice_set, take};
+ghost use Rattle.cell.specs.Pictures.{HasSize, Picture, line_of};
+ghost use Rattle.cell.specs.declared.limits.TheConstants.{LARGEST_SCREEN};
+ghost use Rattle.paint.specs.Changes.{DifferOnly};
+ghost use Rattle.paint.specs.steps.Passes.{line_after, pass_of, picture_after};
+ghost use Rattle.paint.specs.steps.Strokes.{Strokes, line_bytes, picture_bytes};
+
+use crate::changes::Changes;
+use crate::line::paint_run;
+use crate::page::paint_picture;
+use crate::pen::Pen;
+use crate::tail::first_changed;
+use cell::{Grid, Rendition, Shown, first_diff};
+use streams::{Discard, Sink};
+
+/// The most renditions that have a pass of their own.
+const MOST: usize = 8;
+
+/// The renditions that have a pass of their own, in the order of the passes. What has another is drawn in the last one.
+#[derive(Drop)]
+pub struct Order {
+    renditions: [Rendition; MOST],
+    count: usize,
+}
+
+impl Order {
+    /// That of a single pass.
+    pub fn new() -> Order {
+        Order {
+            renditions: [Rendition::NONE; MOST],
+            count: 0,
+        }
+    }
+
+    /// The renditions.
+    pub fn renditions(&self) -> &[Rendition] {
+        match self.renditions.get(..self.count) {
+            Some(renditions) => renditions,
+            None => &[],
+        }
+    }
+
+    /// Gives one more a pass of its own, unless as many have one as can.
+    fn push(&mut self, rendition: Rendition) {
+        if let Some(next) = self.renditions.get_mut(self.count) {
+            *next = rendition;
+            self.count += 1;
+        }
+    }
+}
+
+/// The pass in which a rendition is drawn.
+fn pass_of(order: &[Rendition], rendition: Rendition) -> usize
+    ensures { result ≡ pass_of order.now rendition }
+{
+    let mut pass = 0;
+    while pass < order.len() {
+        if order[pass] == rendition {
+            return pass;
+        }
+        pass += 1;
+    }
+    pass
+}
+
+/// Draws what a pass draws of a wanted line, which may differ from the one that is shown from a column on, up to another, only.
+fn paint_part<W: Sink>(
+    pen: &mut Pen,
+    sink: &mut W,
+    line: u16,
+    shown: &[Shown],
+    wanted: &[Shown],
+    start: usize,
+    end: usize,
+    order: &[Rendition],
+    pass: usize,
+)
+    requires line { line < LARGEST_SCREEN }
+    requires columns { pen.old.columns ≤ LARGEST_SCREEN }
+    requires shown { length shown.now ≡ pen.old.columns }
+    requires wanted { length wanted.now ≡ pen.old.columns }
+    requires ordered { start ≤ end }
+    requires inside { end ≤ length wanted.now }
+    requires before { take start shown.now ≡ take start wanted.now }
+    requires after { drop end shown.now ≡ drop end wanted.now }
+    ensures strokes { (picture : Picture) → line < length picture → line_of picture line ≡ line_after order.now pass shown.now wanted.now
+        → Strokes (line_bytes (line_after order.now pass shown.now wanted.now) (line_after order.now (pass + 1) shown.now wanted.now))
+        (W.seen sink.old) (W.seen sink.new) pen.old pen.new picture (slice_set picture line (line_after order.now (pass + 1) shown.now wanted.now)) }
+    ensures columns { pen.new.columns ≡ pen.old.columns }
+    ensures same { W.name sink.new ≡ W.name sink.old }
+{
+    let Some(first) = first_changed(shown, wanted, start, end) else {
+        return;
+    };
+    let mut gap = first;
+    let mut x = first;
+    while x < end {
+        if shown[x] == wanted[x] {
+            x += 1;
+            continue;
+        }
+        if pass_of(order, wanted[x].rendition()) != pass {
+            x += 1;
+            gap = x;
+            continue;
+        }
+        paint_run(
+            pen,
+            sink,
+            line,
+            gap as u16,
+            &wanted[gap..x],
+            &wanted[x..x + 1],
+        );
+        x += 1;
+        gap = x;
+    }
+}
+
+/// Draws what a pass draws of the wanted picture, over what the passes before it left.
+fn paint_pass<W: Sink>(
+    pen: &mut Pen,
+    sink: &mut W,
+    shown: &Grid<Shown>,
+    wanted: &Grid<Shown>,
+    changes: &Changes,
+    order: &[Rendition],
+    pass: usize,
+)
+    requires few_lines { length changes.now ≤ LARGEST_SCREEN }
+    requires few_columns { pen.old.columns ≤ LARGEST_SCREEN }
+    requires shown { HasSize (length changes.now) pen.old.columns shown.now }
+    requires wanted { HasSize (length changes.now) pen.old.columns wanted.now }
+    requires changes { DifferOnly changes.now shown.now wanted.now }
+    ensures strokes { Strokes (picture_bytes (picture_after order.now pass shown.now wanted.now) (picture_after order.now (pass + 1) shown.now wanted.now))
+        (W.seen sink.old) (W.seen sink.new) pen.old pen.new (picture_after order.now pass shown.now wanted.now) (picture_after order.now (pass + 1) shown.now wanted.now) }
+    ensures columns { pen.new.columns ≡ pen.old.columns }
+    ensures same { W.name sink.new ≡ W.name sink.old }
+{
+    let end = changes.lines().end;
+    let mut line = changes.next(0);
+    while line < end {
+        let at = usize::from(line);
+        let (start, stop) = changes.within(line, pen.columns());
+        paint_part(
+            pen,
+            sink,
+            line,
+            shown.row(at),
+            wanted.row(at),
+            start,
+            stop,
+            order,
+            pass,
+        );
+        line = changes.next(line + 1);
+    }
+}
+
+/// Draws the wanted picture over the one that is shown, from which it may differ in some columns only, in passes.
+fn paint_passes<W: Sink>(
+    pen: &mut Pen,
+    sink: &mut W,
+    shown: &Grid<Shown>,
+    wanted: &Grid<Shown>,
+    changes: &Changes,
+    order: &[Rendition],
+)
+    requires few_lines { length changes.now ≤ LARGEST_SCREEN }
+    requires few_columns { pen.old.columns ≤ LARGEST_SCREEN }
+    requires shown { HasSize (length changes.now) pen.old.columns shown.now }
+    requires wanted { HasSize (length changes.now) pen.old.columns wanted.now }
+    requires changes { DifferOnly changes.now shown.now wanted.now }
+    ensures strokes { Strokes (picture_bytes shown.now wanted.now) (W.seen sink.old) (W.seen sink.new) pen.old pen.new shown.now wanted.now }
+    ensures columns { pen.new.columns ≡ pen.old.columns }
+    ensures same { W.name sink.new ≡ W.name sink.old }
+{
+    let mut pass = 0;
+    while pass <= order.len() {
+        paint_pass(pen, sink, shown, wanted, changes, order, pass);
+        pass += 1;
+    }
+}
+
+/// Draws the wanted picture over the one that is shown, from which it may differ in some columns only, in the passes of an order.
+pub fn paint<W: Sink>(
+    pen: &mut Pen,
+    sink: &mut W,
+    lines: u16,
+    shown: &Grid<Shown>,
+    wanted: &Grid<Shown>,
+    changes: &Changes,
+    order: &Order,
+)
+    requires few_lines { lines ≤ LARGEST_SCREEN }
+    requires few_columns { pen.old.columns ≤ LARGEST_SCREEN }
+    requires shown { HasSize lines pen.old.columns shown.now }
+    requires wanted { HasSize lines pen.old.columns wanted.now }
+    requires height { length changes.now ≡ lines }
+    requires changes { DifferOnly changes.now shown.now wanted.now }
+    ensures strokes { Strokes (picture_bytes shown.now wanted.now) (W.seen sink.old) (W.seen sink.new) pen.old pen.new shown.now wanted.now }
+    ensures columns { pen.new.columns ≡ pen.old.columns }
+    ensures same { W.name sink.new ≡ W.name sink.old }
+{
+    if order.renditions().is_empty() {
+        paint_picture(pen, sink, lines, shown, wanted, changes);
+    } else {
+        paint_passes(pen, sink, shown, wanted, changes, order.renditions());
+    }
+}
+
+/// The renditions of changed cells, as they come one after another.
+#[derive(Drop)]
+struct Renditions {
+    order: Order,
+    last: Rendition,
+    // Whether one came again after another.
+    returned: bool,
+}
+
+impl Renditions {
+    /// Takes note of the next one.
+    fn note(&mut self, rendition: Rendition) {
+        let order = self.order.renditions();
+        if pass_of(order, rendition) == order.len() {
+            self.order.push(rendition);
+        } else if rendition != self.last {
+            self.returned = true;
+        }
+        self.last = rendition;
+    }
+
+    /// Takes note of those of the changed cells of a part of a line.
+    fn note_part(&mut self, shown: &[Shown], wanted: &[Shown])
+        requires { length shown.now ≡ length wanted.now }
+    {
+        let Some(first) = first_diff(shown, wanted) else {
+            return;
+        };
+        self.note(wanted[first].rendition());
+        for x in first + 1..wanted.len() {
+            if wanted[x].rendition() != self.last && shown[x] != wanted[x] {
+                self.note(wanted[x].rendition());
+            }
+        }
+    }
+}
+
+/// An order of passes, where some rendition of changed cells comes again after another, and else none.
+fn order_of(shown: &Grid<Shown>, wanted: &Grid<Shown>, columns: usize, changes: &Changes) -> Order
+    requires shown { HasSize (length changes.now) columns shown.now }
+    requires wanted { HasSize (length changes.now) columns wanted.now }
+{
+    let mut renditions = Renditions {
+        order: Order::new(),
+        last: Rendition::NONE,
+        returned: false,
+    };
+    let end = changes.lines().end;
+    let mut line = changes.next(0);
+    while line < end {
+        let at = usize::from(line);
+        let (start, stop) = changes.within(line, columns);
+        renditions.note_part(&shown.row(at)[start..stop], &wanted.row(at)[start..stop]);
+        line = changes.next(line + 1);
+    }
+    if renditions.returned {
+        renditions.order
+    } else {
+        Order::new()
+    }
+}
+
+/// The order of passes in which drawing from where the cursor is, and then going to a place, takes the fewest bytes. It is empty where one walk over all
+/// lines takes as few, or it isn't known where the cursor is.
+pub fn best_order(
+    pen: &mut Pen,
+    lines: u16,
+    shown: &Grid<Shown>,
+    wanted: &Grid<Shown>,
+    changes: &Changes,
+    from: Option<(u16, u16)>,
+    to: (u16, u16),
+) -> Order
+    requires few_lines { lines ≤ LARGEST_SCREEN }
+    requires few_columns { pen.old.columns ≤ LARGEST_SCREEN }
+    requires shown { HasSize lines pen.old.columns shown.now }
+    requires wanted { HasSize lines pen.old.columns wanted.now }
+    requires height { length changes.now ≡ lines }
+    requires changes { MatchOption from ⊤ (λ _. DifferOnly changes.now shown.now wanted.now) }
+    requires line { to.0 < lines }
+    requires column { to.1 < pen.old.columns }
+    ensures columns { pen.new.columns ≡ pen.old.columns }
+{
+    let Some(from) = from else {
+        return Order::new();
+    };
+    let order = order_of(shown, wanted, pen.columns(), changes);
+    if order.renditions().is_empty() {
+        return order;
+    }
+    let mut sink = Discard::new();
+    pen.begin(from);
+    paint_picture(pen, &mut sink, lines, shown, wanted, changes);
+    pen.end(&mut sink, to);
+    let at_once = pen.bytes();
+    pen.begin(from);
+    paint_passes(pen, &mut sink, shown, wanted, changes, order.renditions());
+    pen.end(&mut sink, to);
+    if pen.bytes() < at_once {
+        order
+    } else {
+        Order::new()
+    }
+}
