@@ -26,20 +26,22 @@ fn shown_twice<W: Sink>(screen: &mut Screen<W>) -> [Result<Reply, Fault>; 2] {
     [doupdate(screen), doupdate(screen)]
 }
 
-/// Whether a terminal that reads a stream shows hi in its corner, nothing else, and the cursor after it.
-fn shows_hi(alloc: Global, stream: &[u8]) -> Result<bool, Fail> {
+/// Whether a terminal that reads a stream shows a text in its corner, nothing else, and the cursor after it.
+fn shows(alloc: Global, stream: &[u8], text: &[u8]) -> Result<bool, Fail> {
     let mut terminal = Terminal::new(alloc, 4, 10)?;
     terminal.feed(stream);
-    let mut text = Vec::new(alloc);
+    let mut characters = Vec::new(alloc);
     for y in 0..terminal.lines() {
         for cell in terminal.row(y) {
-            text.push(cell.ch())?;
+            characters.push(cell.ch())?;
         }
     }
+    let rest = characters.get(text.len()..).ok_or("too long a text")?;
     Ok(
         terminal.fault().is_none()
-            && text.as_slice() == b"hi                                      ".as_slice()
-            && terminal.cursor() == Some((0, 2))
+            && characters.get(..text.len()) == Some(text)
+            && rest.iter().all(|ch| *ch == b' ')
+            && terminal.cursor() == Some((0, text.len() as u16))
             && terminal.rendition() == Rendition::NONE,
     )
 }
@@ -62,7 +64,28 @@ fn a_writer_that_fails_anywhere_is_shown_all_again(rt: HostRuntime) -> Result<()
             Some(HI),
             "after {stop} bytes"
         );
-        assert!(rt; shows_hi(rt.alloc(), stream)?, "after {stop} bytes");
+        assert!(rt; shows(rt.alloc(), stream, b"hi")?, "after {stop} bytes");
+    }
+    Ok(())
+}
+
+#[test]
+fn a_later_update_that_fails_is_shown_all_again(rt: HostRuntime) -> Result<(), Fail> {
+    for stop in 17..=21u8 {
+        let sent = u32::from(stop).saturating_sub(16);
+        let mut screen = breaking_screen(rt.alloc(), stop)?;
+        run(&mut screen, &[addstr(0, b"hi"), UPDATE[0], UPDATE[1]]);
+        run(&mut screen, &[addstr(0, b"there"), UPDATE[0]]);
+        assert_eq!(rt;
+            [doupdate(&mut screen), doupdate(&mut screen)],
+            [
+                Err(Fault::Write(WriteFault { sent })),
+                Ok(Reply::Sent(Sent { bytes: 21 })),
+            ],
+            "after {stop} bytes"
+        );
+        let stream = screen.writer().get_ref().taken.as_slice();
+        assert!(rt; shows(rt.alloc(), stream, b"hithere")?, "after {stop} bytes");
     }
     Ok(())
 }
