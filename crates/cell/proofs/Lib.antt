@@ -7,6 +7,6 @@ pub mod PictureLemmas
 -- A line of a picture that is filled column after column; for `fill`
 pub mod Fills
 -- A piece of a line of a grid that is written at once; for `put_cells`
-pub mod Pieces
+pub mod PieceWrites
 -- A grid with one cell everywhere; for `clear`, `fill_cells`
 pub mod Clearing

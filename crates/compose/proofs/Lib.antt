@@ -7,12 +7,12 @@ pub mod SoundPanels
 -- A drawing is laid over a picture line by line; for `show_rectangle`, `show_touched`
 pub mod Laying
 -- What noutrefresh and pnoutrefresh draw on each line of the screen; for `damage_touched`, `refresh_pad`, `show_rectangle` and others
-pub mod Pieces
+pub mod RefreshedLines
 -- Windows are unmarked one after another; for `unmark_composed`, `unmark_lines`
 pub mod Unmarking
 -- Where damage covers what a call may change, the damage of a desk still covers all that differs after it; and few lines are damaged; for `arrange`, `call`,
 -- `new` and others
-mod Covering
+mod DamageCovers
 -- The damage of one window after another; for `damage_visible`
 mod Visible
 -- What a change damages, in terms of the windows before it; for `copy_damaging`, `make_damaging`, `write_damaging`

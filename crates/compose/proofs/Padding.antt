@@ -6,7 +6,7 @@ use Rattle.world.specs.Windows.{Windows, cell_at}
 use Rattle.world.specs.calls.Copying.{copywin_drawing}
 use Rattle.picture.specs.Parts.{frame_has_line, frame_holds}
 use Rattle.picture.proofs.Held.{held-between}
-use Rattle.compose.proofs.Pieces.{IsOfPad, pad-above, pad-below, pad-piece}
+use Rattle.compose.proofs.RefreshedLines.{IsOfPad, pad-above, pad-below, pad-piece}
 use Rattle.compose.proofs.Touching.{in-piece, of-piece}
 
 module _ (windows : Windows) (w py px top left bottom right : ℕ) (h : IsOfPad windows w py px top left bottom right) where

@@ -12,11 +12,14 @@ use crate::line::paint_run;
 use crate::page::paint_picture;
 use crate::pen::Pen;
 use crate::tail::first_changed;
-use cell::{Grid, Rendition, Shown, first_diff};
+use cell::{Grid, Rendition, Shown};
 use streams::{Discard, Sink};
 
 /// The most renditions that have a pass of their own.
 const MOST: usize = 8;
+
+/// How many cells are looked at together.
+const LANES: usize = 16;
 
 /// The renditions that have a pass of their own, in the order of the passes. What has another is drawn in the last one.
 #[derive(Drop)]
@@ -211,53 +214,88 @@ pub fn paint<W: Sink>(
     }
 }
 
-/// The renditions of changed cells, as they come one after another.
+/// The renditions of changed cells, as they come one after another, from none on.
 #[derive(Drop)]
 struct Renditions {
     order: Order,
     last: Rendition,
-    // Whether one came again after another.
-    returned: bool,
+    // How often another came.
+    switches: usize,
 }
 
 impl Renditions {
-    /// Takes note of the next one.
+    /// None at first, which is drawn first too.
+    fn new() -> Renditions {
+        let mut order = Order::new();
+        order.push(Rendition::NONE);
+        Renditions {
+            order,
+            last: Rendition::NONE,
+            switches: 0,
+        }
+    }
+
+    /// Takes note of the next one, which is another.
     fn note(&mut self, rendition: Rendition) {
         let order = self.order.renditions();
         if pass_of(order, rendition) == order.len() {
             self.order.push(rendition);
-        } else if rendition != self.last {
-            self.returned = true;
         }
+        self.switches = self.switches.saturating_add(1);
         self.last = rendition;
     }
 
-    /// Takes note of those of the changed cells of a part of a line.
-    fn note_part(&mut self, shown: &[Shown], wanted: &[Shown])
+    /// Takes note of those of the changed ones among some cells.
+    fn note_cells(&mut self, shown: &[Shown], wanted: &[Shown])
         requires { length shown.now ≡ length wanted.now }
     {
-        let Some(first) = first_diff(shown, wanted) else {
-            return;
-        };
-        self.note(wanted[first].rendition());
-        for x in first + 1..wanted.len() {
+        for x in 0..wanted.len() {
             if wanted[x].rendition() != self.last && shown[x] != wanted[x] {
                 self.note(wanted[x].rendition());
             }
         }
     }
+
+    /// The same of a part of a line. Cells that have the last rendition all are looked at together.
+    fn note_part(&mut self, shown: &[Shown], wanted: &[Shown])
+        requires { length shown.now ≡ length wanted.now }
+    {
+        let mut start = 0;
+        while start < wanted.len() {
+            let end = wanted.len().min(start + LANES);
+            if !all_have(self.last, &wanted[start..end]) {
+                self.note_cells(&shown[start..end], &wanted[start..end]);
+            }
+            start = end;
+        }
+    }
+
+    /// Whether passes select renditions less often than one walk over all lines does. Both end with none.
+    fn are_saved(&self) -> bool {
+        let selected = if self.last == Rendition::NONE {
+            self.switches
+        } else {
+            self.switches.saturating_add(1)
+        };
+        selected > self.order.renditions().len()
+    }
 }
 
-/// An order of passes, where some rendition of changed cells comes again after another, and else none.
+/// Whether some cells all have a rendition, by a loop that has one end and so is done in lanes.
+fn all_have(rendition: Rendition, cells: &[Shown]) -> bool {
+    let mut all = true;
+    for x in 0..cells.len() {
+        all &= cells[x].rendition() == rendition;
+    }
+    all
+}
+
+/// An order of passes, where they select renditions of changed cells less often than one walk over all lines, and else none.
 fn order_of(shown: &Grid<Shown>, wanted: &Grid<Shown>, columns: usize, changes: &Changes) -> Order
     requires shown { HasSize (length changes.now) columns shown.now }
     requires wanted { HasSize (length changes.now) columns wanted.now }
 {
-    let mut renditions = Renditions {
-        order: Order::new(),
-        last: Rendition::NONE,
-        returned: false,
-    };
+    let mut renditions = Renditions::new();
     let end = changes.lines().end;
     let mut line = changes.next(0);
     while line < end {
@@ -266,7 +304,7 @@ fn order_of(shown: &Grid<Shown>, wanted: &Grid<Shown>, columns: usize, changes: 
         renditions.note_part(&shown.row(at)[start..stop], &wanted.row(at)[start..stop]);
         line = changes.next(line + 1);
     }
-    if renditions.returned {
+    if renditions.are_saved() {
         renditions.order
     } else {
         Order::new()

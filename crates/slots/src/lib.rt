@@ -5,6 +5,7 @@
 //! - `parents`: from a window to its parent and on, up to the grid
 //! - `place`: a place of a window or a grid
 //! - `slot`: what is kept of one window
+//! - `touched`: the touched columns of a line
 #![tactic(auto)]
 
 mod line;
@@ -12,6 +13,7 @@ pub mod list;
 pub mod parents;
 mod place;
 mod slot;
+mod touched;
 
 pub use line::Line;
 pub use place::Place;

@@ -14,6 +14,7 @@ ghost use Rattle.slots.specs.Kept.{window_of, backing_of, IsGridOf, IsKept, Kept
 ghost use Rattle.slots.specs.Slots.{part_in, names_parent};
 ghost use Rattle.slots.specs.Changes.{with_touched, with_drawing, SameShape, shifted, StaysInPlace};
 
+use crate::touched::Touched;
 use cell::{Attr, Cell, Grid, LARGEST_PAD, PairId};
 use std::alloc::{AllocError, Global};
 use std::marker::Model;
@@ -64,7 +65,7 @@ pub struct Slot {
     columns: u16,
     place: Option<(u16, u16)>,
     settings: Settings,
-    touched: Vec<Option<Columns>>,
+    touched: Vec<Touched>,
     depth: u16,
     origin: Origin,
     cells: Cells,
@@ -183,7 +184,7 @@ impl Slot {
         requires { line < self.now.lines }
         ensures { result ≡ (window_of self.now).touched line }
     {
-        self.touched[usize::from(line)]
+        self.touched[usize::from(line)].columns()
     }
 
     /// How many ancestors the window has.
@@ -306,7 +307,7 @@ impl Slot {
         ensures window { window_of self.new ≡ unmarked (window_of self.old) }
         ensures place { StaysInPlace self.old self.new }
     {
-        self.touched.fill(None);
+        self.touched.fill(Touched::none());
         self.settings.clear = false;
     }
 
@@ -325,7 +326,12 @@ impl Slot {
             None
         };
         let start = usize::from(first);
-        mark_lines(&mut self.touched, start, start + usize::from(n), columns);
+        mark_lines(
+            &mut self.touched,
+            start,
+            start + usize::from(n),
+            Touched::new(columns),
+        );
     }
 
     /// Whether some line is touched.
@@ -358,23 +364,23 @@ impl Slot {
         ensures place { StaysInPlace self.old self.new }
     {
         let at = usize::from(line);
-        self.touched[at] = Some(Columns::join(self.touched[at], left, right));
+        self.touched[at] = self.touched[at].join(left, right);
     }
 }
 
 /// The touched columns of lines that nothing touched.
-fn none_touched(alloc: Global, lines: u16) -> Result<Vec<Option<Columns>>, AllocError>
+fn none_touched(alloc: Global, lines: u16) -> Result<Vec<Touched>, AllocError>
     ensures { IfOk result (λ lines_touched. lines_touched.items ≡ replicate lines None) }
 {
-    vec![in alloc; None; usize::from(lines)]
+    vec![in alloc; Touched::none(); usize::from(lines)]
 }
 
 /// Sets the touched columns of the lines from `start` on, up to `end`, which it leaves out.
 fn mark_lines(
-    touched: &mut Vec<Option<Columns>>,
+    touched: &mut Vec<Touched>,
     start: usize,
     end: usize,
-    columns: Option<Columns>,
+    columns: Touched,
 )
     requires ordered { start ≤ end }
     requires there { end ≤ length touched.old.items }
@@ -388,10 +394,10 @@ fn mark_lines(
 }
 
 /// Whether some line has touched columns.
-fn has_columns(touched: &[Option<Columns>]) -> bool
+fn has_columns(touched: &[Touched]) -> bool
     ensures { result ≡ list_any is_some touched.now }
 {
-    touched.iter().any(|columns| columns.is_some())
+    touched.iter().any(|it| it.columns().is_some())
 }
 
 /// What a new window is set to.

@@ -1,7 +1,7 @@
--- `show_cells`: a piece of a line of a grid that is written at once (`Pieces`).
+-- `show_cells`: a piece of a line of a grid that is written at once (`PieceWrites`).
 use Rattle.cell.specs.Glyphs.{Glyph, blank}
 use Rattle.cell.specs.Shown.{Shown, shown, shown_blank}
-use Rattle.cell.proofs.Pieces.{PieceFits-from, IsGrid-made, shown-made, HasSize-same, line_width}
+use Rattle.cell.proofs.PieceWrites.{PieceFits-from, IsGrid-made, shown-made, HasSize-same, line_width}
 use Rattle.cell.proofs.grid.show_cells.Goals as goal
 
 pub show_piece-requires : goal.show_piece-requires

@@ -1,11 +1,11 @@
--- `damage_touched`: what noutrefresh and pnoutrefresh draw on each line of the screen (`Pieces`); the touched columns of a window are damaged line
+-- `damage_touched`: what noutrefresh and pnoutrefresh draw on each line of the screen (`RefreshedLines`); the touched columns of a window are damaged line
 -- by line (`Touching`).
 use Rattle.std.proofs.Common.{◌≡◌, ◌+◌, ◌-◌, arith, refl, subst, sym, ◌∙◌}
 use Rattle.world.specs.Windows.{Drawing, cell_at}
 use Rattle.world.specs.calls.Refresh.{touched_cells}
 use Rattle.grids.specs.Tables.{windows}
 use Rattle.picture.proofs.Standing.{stands-at}
-use Rattle.compose.proofs.Pieces.{bare-above, bare-below, bare-untouched, piece-touched, touched-inside}
+use Rattle.compose.proofs.RefreshedLines.{bare-above, bare-below, bare-untouched, piece-touched, touched-inside}
 use Rattle.compose.proofs.Touching.{DamagedAbove, above-all, above-bare, above-more, above-none}
 use Rattle.compose.proofs.damaging.damage_touched.Goals.{in-Some, in_default-touched}
 use Rattle.compose.proofs.damaging.damage_touched.Goals as goal

@@ -1,11 +1,11 @@
 -- `show_rectangle`: a drawing is laid over a picture line by line (`Laying`); what noutrefresh and pnoutrefresh draw on each line of the screen
--- (`Pieces`).
+-- (`RefreshedLines`).
 use Rattle.std.proofs.Common.{◌≡◌, ◌+◌, ◌-◌, false, arith, subst}
 use Rattle.world.specs.Windows.{Drawing, cell_at}
 use Rattle.world.specs.calls.Copying.{copywin_drawing}
 use Rattle.grids.specs.Tables.{windows}
 use Rattle.compose.proofs.Laying.{LaidAbove, laid-all, laid-more}
-use Rattle.compose.proofs.Pieces.{of-pad, pad-below, pad-piece}
+use Rattle.compose.proofs.RefreshedLines.{of-pad, pad-below, pad-piece}
 use Rattle.compose.proofs.refresh.show_rectangle.Goals as goal
 
 pub overflow_add-columns : goal.overflow_add-columns

@@ -1,12 +1,12 @@
 -- `show_touched`: a drawing is laid over a picture line by line (`Laying`); what noutrefresh and pnoutrefresh draw on each line of the screen
--- (`Pieces`).
+-- (`RefreshedLines`).
 use Rattle.std.proofs.Common.{◌≡◌, ◌+◌, ◌-◌, arith, subst, sym}
 use Rattle.world.specs.Windows.{Drawing, cell_at}
 use Rattle.world.specs.calls.Refresh.{touched_cells}
 use Rattle.grids.specs.Tables.{windows}
 use Rattle.picture.proofs.Standing.{stands-at}
 use Rattle.compose.proofs.Laying.{LaidAbove, laid-all, laid-bare, laid-more}
-use Rattle.compose.proofs.Pieces.{bare-below, bare-untouched, piece-touched}
+use Rattle.compose.proofs.RefreshedLines.{bare-below, bare-untouched, piece-touched}
 use Rattle.compose.proofs.refresh.show_touched.Goals.{in-Some, in_default-touched}
 use Rattle.compose.proofs.refresh.show_touched.Goals as goal
 

@@ -1,9 +1,9 @@
 -- `put_cells`: the lines of a grid whose cells stand one after another: each line, a change of one cell, and equal sizes (`GridLemmas`); a piece of
--- a line of a grid that is written at once (`Pieces`).
+-- a line of a grid that is written at once (`PieceWrites`).
 use Rattle.std.proofs.Common.{◌+◌, ◌*◌, length, arith, sym, ◌∙◌}
 use Rattle.std.specs.List.{splice}
 use Rattle.cell.proofs.GridLemmas.{EachCell-rows, length-rows}
-use Rattle.cell.proofs.Pieces.{PieceFits-from, IsGrid-piece, shown-piece, HasSize-same}
+use Rattle.cell.proofs.PieceWrites.{PieceFits-from, IsGrid-piece, shown-piece, HasSize-same}
 use Rattle.cell.proofs.grid.Grid.put_cells.Goals as goal
 
 pub overflow_mul-y : goal.overflow_mul-y

@@ -1,5 +1,5 @@
 -- `arrange`: a call on panels, made on a desk: the world after it, and what it damaged (`Arranging`); where damage covers what a call may change,
--- the damage of a desk still covers all that differs after it; and few lines are damaged (`Covering`); what a desk keeps, and the world that it
+-- the damage of a desk still covers all that differs after it; and few lines are damaged (`DamageCovers`); what a desk keeps, and the world that it
 -- stands for, call by call (`DeskLemmas`).
 use Rattle.std.proofs.Common.{refl, subst}
 use Rattle.std.specs.Prelude.{OnOk}
@@ -11,7 +11,7 @@ use Rattle.stack.specs.Tables.{panels}
 use Rattle.compose.specs.Calling.{DamagesFew}
 use Rattle.compose.specs.Desks.{DeskTable}
 use Rattle.compose.proofs.Arranging.{arranged-size, arranged-sound, arranged-world}
-use Rattle.compose.proofs.Covering.{covered-result, few-result}
+use Rattle.compose.proofs.DamageCovers.{covered-result, few-result}
 use Rattle.compose.proofs.DeskLemmas.{accepted-by, err-three}
 use Rattle.compose.proofs.desk.Desk.arrange.Goals as goal
 

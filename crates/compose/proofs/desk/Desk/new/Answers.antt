@@ -1,4 +1,4 @@
-use Rattle.compose.proofs.Covering.{IsDesk-new}
+use Rattle.compose.proofs.DamageCovers.{IsDesk-new}
 use Rattle.compose.proofs.desk.Desk.new.Goals as goal
 
 pub invariant_of-result : goal.invariant_of-result

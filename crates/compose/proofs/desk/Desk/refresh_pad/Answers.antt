@@ -1,6 +1,6 @@
 -- `refresh_pad`: the virtual screen stays sound where it takes the picture of windows and panels (`Composed`); where damage covers what a call may
--- change, the damage of a desk still covers all that differs after it; and few lines are damaged (`Covering`); the rectangle of the screen to which
--- a pad's cells are copied is what the copy draws (`Padding`); what noutrefresh and pnoutrefresh draw on each line of the screen (`Pieces`).
+-- change, the damage of a desk still covers all that differs after it; and few lines are damaged (`DamageCovers`); the rectangle of the screen to which
+-- a pad's cells are copied is what the copy draws (`Padding`); what noutrefresh and pnoutrefresh draw on each line of the screen (`RefreshedLines`).
 use Rattle.std.proofs.Common.{rules, ◌≡◌, ◌||◌, false, None, Some, is_some, refl, subst}
 use Rattle.cell.specs.declared.window.Rect.{Rect}
 use Rattle.world.specs.Windows.{Drawing}
@@ -17,9 +17,9 @@ use Rattle.picture.proofs.DamageLaws.{damages-as}
 use Rattle.compose.specs.Desks.{DeskTable, world}
 use Rattle.compose.proofs.Composed.{IsSound-pad}
 use Rattle.compose.specs.Calling.{DamagesFew}
-use Rattle.compose.proofs.Covering.{covered-after, few-after}
+use Rattle.compose.proofs.DamageCovers.{covered-after, few-after}
 use Rattle.compose.proofs.Padding.{pad-covers, pad-draws}
-use Rattle.compose.proofs.Pieces.{IsOfPad, of-pad}
+use Rattle.compose.proofs.RefreshedLines.{IsOfPad, of-pad}
 use Rattle.compose.proofs.desk.Desk.refresh_pad.Goals as goal
 
 abbrev old_desk : goal.After-unmark_lines → DeskTable

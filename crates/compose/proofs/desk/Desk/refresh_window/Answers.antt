@@ -1,5 +1,5 @@
 -- `refresh_window`: the virtual screen stays sound where it takes the picture of windows and panels (`Composed`); where damage covers what a call
--- may change, the damage of a desk still covers all that differs after it; and few lines are damaged (`Covering`).
+-- may change, the damage of a desk still covers all that differs after it; and few lines are damaged (`DamageCovers`).
 use Rattle.std.proofs.Common.{rules, ◌≡◌, ◌||◌, None, refl, subst}
 use Rattle.cell.specs.VirtualScreens.{VirtualScreen}
 use Rattle.world.specs.calls.Dispatch.{world_after}
@@ -12,7 +12,7 @@ use Rattle.grids.specs.Tables.{windows}
 use Rattle.compose.specs.Calling.{DamagesFew}
 use Rattle.compose.specs.Desks.{DeskTable, world}
 use Rattle.compose.proofs.Composed.{IsSound-refreshed}
-use Rattle.compose.proofs.Covering.{covered-after, few-after}
+use Rattle.compose.proofs.DamageCovers.{covered-after, few-after}
 use Rattle.compose.proofs.desk.Desk.refresh_window.Goals as goal
 
 abbrev old_desk : goal.After-unmark → DeskTable

@@ -1,5 +1,5 @@
 -- `set_colours`: where damage covers what a call may change, the damage of a desk still covers all that differs after it; and few lines are damaged
--- (`Covering`).
+-- (`DamageCovers`).
 use Rattle.std.proofs.Common.{rules, ◌≡◌, ◌<◌, true, None, refl, subst, ◌∙◌}
 use Rattle.cell.specs.VirtualScreens.{VirtualScreen}
 use Rattle.cell.specs.Refusals.{first_of}
@@ -12,7 +12,7 @@ use Rattle.picture.specs.Parts.{part_holds}
 use Rattle.picture.proofs.DamageLaws.{damages-as, part-right}
 use Rattle.picture.proofs.Standard.{standard-holds}
 use Rattle.compose.specs.Desks.{DeskTable, world}
-use Rattle.compose.proofs.Covering.{covered-after}
+use Rattle.compose.proofs.DamageCovers.{covered-after}
 use Rattle.compose.proofs.desk.Desk.set_colours.Goals as goal
 
 pub invariant_of-self : goal.invariant_of-self

@@ -1,5 +1,5 @@
 -- `call`: where damage covers what a call may change, the damage of a desk still covers all that differs after it; and few lines are damaged
--- (`Covering`); what a desk keeps, and the world that it stands for, call by call (`DeskLemmas`).
+-- (`DamageCovers`); what a desk keeps, and the world that it stands for, call by call (`DeskLemmas`).
 use Rattle.std.proofs.Common.{refl, ◌∙◌}
 use Rattle.cell.specs.VirtualScreens.{VirtualScreen}
 use Rattle.world.specs.calls.Making.{after_making, making_change, making_refusal}
@@ -14,7 +14,7 @@ use Rattle.world.proofs.Sizes.{size-change, size-edit}
 use Rattle.grids.specs.Tables.{windows}
 use Rattle.stack.specs.Tables.{panels}
 use Rattle.compose.specs.Desks.{world}
-use Rattle.compose.proofs.Covering.{covered-result, few-result}
+use Rattle.compose.proofs.DamageCovers.{covered-result, few-result}
 use Rattle.compose.proofs.DeskLemmas.{IsSound-after, accepted-by, before, behind, called, keeps-made, refused-by, windows-left, windows-unchanged}
 use Rattle.compose.proofs.desk.DeskCalls.call.Goals as goal
 
