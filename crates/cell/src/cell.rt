@@ -4,6 +4,7 @@ ghost use Rattle.std.specs.Prelude.{◌≡◌, ◌+◌, ◌*◌, ◌&&◌, ◌<�
 ghost use Rattle.cell.specs.Attributes.{bits_of, known};
 ghost use Rattle.cell.specs.Glyphs.{IsCell, is_printable, same_glyph};
 ghost use Rattle.std.specs.Cmp.{partial_equiv_from_equiv};
+ghost use Rattle.std.specs.List.{list_all};
 ghost use Rattle.cell.specs.declared.limits.TheConstants.{LAST_PAIR};
 
 use crate::attr::Attr;
@@ -123,4 +124,15 @@ pub fn is_printable(ch: u8) -> bool
     ensures { result ≡ is_printable ch }
 {
     (FIRST_CHARACTER..=LAST_CHARACTER).contains(&ch)
+}
+
+/// Whether a cell can hold each character of a text, by a loop that has one end and so is done in lanes.
+pub fn are_printable(text: &[u8]) -> bool
+    ensures { result ≡ list_all is_printable text.now }
+{
+    let mut all = true;
+    for ch in text {
+        all &= is_printable(*ch);
+    }
+    all
 }

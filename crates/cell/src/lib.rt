@@ -27,7 +27,7 @@ mod virtual_screen;
 mod window;
 
 pub use attr::{Attr, hex_digits};
-pub use cell::{Cell, is_printable};
+pub use cell::{Cell, are_printable, is_printable};
 pub use colour::{Colour, ColourPair, PairId, Pairs};
 pub use difference::{first_diff, last_diff};
 pub use grid::{Element, Grid, show_cells};

@@ -12,3 +12,5 @@ pub mod LineLemmas
 pub mod ArgumentLemmas
 -- a line gathered a byte at a time, for next_line and skip_line
 pub mod ByteLemmas
+-- that some byte of a text is bad where not all are printable, for has_bad
+pub mod BadBytes

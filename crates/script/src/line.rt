@@ -15,13 +15,14 @@ use crate::arguments::Arguments;
 use crate::fault::TextFault;
 use crate::limits::{LONGEST_LINE, MOST_ARGUMENTS};
 use crate::words::{Form, Word};
-use cell::is_printable;
+use cell::are_printable;
 
 /// Whether a piece has a byte that no line may have.
+#[tactic(auto, using(crate::proofs::BadBytes::some_bad))]
 fn has_bad(piece: &[u8]) -> bool
     ensures { result ≡ list_any is_bad_byte piece.now }
 {
-    piece.iter().any(|b| !is_printable(*b))
+    !are_printable(piece)
 }
 
 /// Whether a line has no byte or is a comment.

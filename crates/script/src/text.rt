@@ -51,11 +51,15 @@ fn first_character(piece: &[u8]) -> Option<(u8, &[u8])>
     Some((character, rest))
 }
 
-/// Whether a text has a backslash.
+/// Whether a text has a backslash, by a loop that has one end and so is done in lanes.
 fn has_backslash(text: &[u8]) -> bool
     ensures { result ≡ list_any (λ b. b == backslash) text.now }
 {
-    text.iter().any(|b| *b == b'\\')
+    let mut found = false;
+    for b in text {
+        found |= *b == b'\\';
+    }
+    found
 }
 
 /// Puts the characters of a text in place of what was there, and answers whether each backslash has after it what it

@@ -376,12 +376,7 @@ fn none_touched(alloc: Global, lines: u16) -> Result<Vec<Touched>, AllocError>
 }
 
 /// Sets the touched columns of the lines from `start` on, up to `end`, which it leaves out.
-fn mark_lines(
-    touched: &mut Vec<Touched>,
-    start: usize,
-    end: usize,
-    columns: Touched,
-)
+fn mark_lines(touched: &mut Vec<Touched>, start: usize, end: usize, columns: Touched)
     requires ordered { start ≤ end }
     requires there { end ≤ length touched.old.items }
     ensures length { length touched.new.items ≡ length touched.old.items }

@@ -10,7 +10,7 @@ pub mod NextWrites
 pub mod Calls
 -- one character, for waddch and type_next
 pub mod Typing
--- one character after another, for type_text
+-- one character after another, and that printed ones are accepted, for type_text and has_bad_character
 pub mod Texts
 -- a run of characters that stay inside a line is one drawing, for type_text
 pub mod Runs

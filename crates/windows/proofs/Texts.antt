@@ -1,7 +1,10 @@
 -- A character is written: the windows stay. And the rectangles of several.
-use Rattle.std.proofs.Common.{◌≡◌, ℕ, ◌+◌, ◌-◌, min, max, Bool, true, false, if◌then◌else◌, ◌==◌, nat_lt, Option, Some, None, is_some}
+use Rattle.std.proofs.Common.{◌≡◌, ℕ, ◌+◌, ◌-◌, min, max, Bool, true, false, if◌then◌else◌, ◌==◌, ◌||◌, not, nat_lt, Option, Some, None, is_some, List, [], ◌∷◌}
 use Rattle.std.proofs.Common.{arith, refl, ◌∙◌}
 use Rattle.std.specs.Option.{option_map}
+use Rattle.std.specs.List.{list_all, list_any}
+use Rattle.std.proofs.lemmas.Bool.{and_parts}
+use Rattle.cell.specs.Glyphs.{is_printable}
 use Rattle.cell.specs.Pictures.{Place}
 use Rattle.world.specs.Windows.{Window, WindowMap, Windows, GridPlace, Drawing, own, drawn, put_from, put}
 use Rattle.world.specs.Settings.{set_in, set, with_cursor}
@@ -9,6 +12,7 @@ use Rattle.world.specs.Drawings.{written_glyph, at_place, to_end_of_line}
 use Rattle.world.specs.Frames.{joined}
 use Rattle.world.specs.Typing.{newline, carriage_return, backspace, drawn_to, region_up, scrolls, is_last_line, to_next_line, character_printed, line_ended, typed_in}
 use Rattle.cell.specs.declared.window.Rect.{Rect}
+use Rattle.world.specs.calls.Writing.{is_bad_character}
 use Rattle.world.specs.declared.settings.Settings.{Settings}
 
 -- ---- no window comes or goes
@@ -81,3 +85,15 @@ joined-joined (Some a) (Some b) (Some c) =
     let bottom : max (max a.bottom b.bottom) c.bottom ≡ max a.bottom (max b.bottom c.bottom) = omega arith in
     let right : max (max a.right b.right) c.right ≡ max a.right (max b.right c.right) = omega arith in
     λ i. Some (record { top = top i; left = left i; bottom = bottom i; right = right i })
+
+-- ---- a printed character is accepted
+
+accepted : (printable other bad : Bool) → printable ≡ true → bad ≡ false → (not (printable || other) || bad) ≡ false
+accepted true other bad h none = none
+accepted false other bad h none = let never : false ≡ true = h in cc
+
+pub none_bad : (text : List ℕ) → list_all is_printable text ≡ true → list_any is_bad_character text ≡ false
+none_bad [] all = refl
+none_bad (first ∷ text) all =
+    let both = and_parts (is_printable first) (list_all is_printable text) all in
+    accepted (is_printable first) _ (list_any is_bad_character text) both.0 (none_bad text both.1)

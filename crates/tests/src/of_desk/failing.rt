@@ -85,7 +85,10 @@ fn a_later_update_that_fails_is_shown_all_again(rt: HostRuntime) -> Result<(), F
             "after {stop} bytes"
         );
         let stream = screen.writer().get_ref().taken.as_slice();
-        assert!(rt; shows(rt.alloc(), stream, b"hithere")?, "after {stop} bytes");
+        assert!(rt;
+            shows(rt.alloc(), stream, b"hithere")?,
+            "after {stop} bytes"
+        );
     }
     Ok(())
 }

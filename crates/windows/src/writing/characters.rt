@@ -19,7 +19,7 @@ use crate::frame::lines_from;
 use crate::state::{WindowState, set_cursor, state_of};
 use crate::table::Windows;
 use bitflags::Flags;
-use cell::{Cell, PairId, Rect, Refusal, WinId, is_printable};
+use cell::{Cell, PairId, Rect, Refusal, WinId, are_printable, is_printable};
 use grids::Grids;
 use grids::frame::{joined, place};
 use world::Settings;
@@ -92,10 +92,11 @@ impl Windows {
 }
 
 /// Whether a text has a character that isn't accepted.
+#[tactic(auto, using(crate::proofs::Texts::none_bad))]
 fn has_bad_character(text: &[u8]) -> bool
     ensures { result ≡ list_any is_bad_character text.now }
 {
-    text.iter().any(|ch| is_bad_character(*ch))
+    !are_printable(text) && text.iter().any(|ch| is_bad_character(*ch))
 }
 
 /// Writes an accepted text in a window that is there.
@@ -150,12 +151,16 @@ fn run_length(state: &WindowState, text: &[u8]) -> usize
     ensures printable { (k : ℕ) → k < result → is_printable (slice_index text.now k) ≡ true }
 {
     let room = usize::from(state.columns - 1 - state.settings.cursor.1);
-    for (count, ch) in text.iter().enumerate() {
-        if count == room || !is_printable(*ch) {
+    let first = &text[..room.min(text.len())];
+    if are_printable(first) {
+        return first.len();
+    }
+    for (count, ch) in first.iter().enumerate() {
+        if !is_printable(*ch) {
             return count;
         }
     }
-    text.len()
+    first.len()
 }
 
 /// Prints characters at the cursor that end before the last column.

@@ -1,10 +1,7 @@
-use Rattle.std.proofs.Common.{◌≡◌, ℕ, ◌<◌, ◌≤◌, get_or, true}
+use Rattle.std.proofs.Common.{◌≡◌, ℕ, ◌<◌, get_or, true}
 use Rattle.cell.specs.Glyphs.{is_printable}
 use Rattle.windows.proofs.writing.characters.run_length.Given as goal
 
--- the characters so far are printed, and have room
+-- the characters so far are printed
 abbrev pub invariant-loop-count : goal.invariant-loop-count
-invariant-loop-count l = record {
-  room : l.count ≤ l.room;
-  printable : (k : ℕ) → k < l.count → is_printable (get_or l.text k 0) ≡ true;
-}
+invariant-loop-count l = (k : ℕ) → k < l.count → is_printable (get_or l.text k 0) ≡ true

@@ -1,0 +1,7 @@
+use Rattle.std.proofs.Common.{◌≡◌, take}
+use Rattle.std.specs.List.{list_all}
+use Rattle.cell.specs.Glyphs.{is_printable}
+use Rattle.cell.proofs.cell.are_printable.Given as goal
+
+abbrev pub invariant-loop-ch : goal.invariant-loop-ch
+invariant-loop-ch l = l.all ≡ list_all is_printable (take l.ch-index l.text)
