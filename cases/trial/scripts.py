@@ -28,6 +28,8 @@ def size(chance, beginning):
     """Lines and columns of a screen: small ones, in which much meets much, and some at the limits."""
     if beginning == Walk.fill_screen:
         return chance.choice(((24, 500), (100, 120)))
+    if beginning == Walk.family:
+        return chance.randint(3, 9), chance.randint(3, 20)
     kind = chance.random()
     if beginning == Walk.crowd and kind < 0.5:
         return chance.randint(1, 3), chance.choice((257, 300, 513))
@@ -218,13 +220,17 @@ class Walk:
                 self.write(b'new_panel %d' % w)
 
     def family(self):
-        """Windows of which each derives from the one before, and some are in panels: what one of them writes, others show."""
-        self.write(self.line_of('newwin'))
-        family = [max(self.run.world.windows)]
-        for _ in range(self.chance.randint(2, 4)):
-            window = self.run.world.windows[family[-1]]
-            self.write(b'derwin %d %d %d %d %d' % (family[-1], *self.arguments.part(window.lines, window.columns)))
-            family.append(max(self.run.world.windows))
+        """Windows of which each derives from one before, mostly the last, and some are in panels: what one of them writes, others show. One
+        has a smaller number than its parent. They move in their parents, and cells are copied among them."""
+        self.write(b'newwin 1 1 0 0')
+        family = [self.made(b'newwin 0 0 0 0')]
+        generations = self.chance.randint(2, 4)
+        freeing = self.chance.randint(1, generations - 1)
+        for generation in range(generations):
+            if generation == freeing:
+                self.write(b'delwin 1')
+            parent = self.chance.choice([family[-1], family[-1], *family])
+            family.append(self.made(b'derwin %d %d %d %d %d' % (parent, *self.arguments.most_of(parent))))
         for w in self.chance.sample(family, 2):
             self.write(b'new_panel %d' % w)
         for _ in range(10):
@@ -232,8 +238,14 @@ class Walk:
             word = self.chance.choice((b'syncup', b'syncdown', b'syncdown', b'untouchwin', b'touchwin'))
             self.write(b'%b %d' % (word, self.chance.choice(family)))
             self.ask_marks(family)
+            self.call(self.chance.choice(('mvderwin', 'mvderwin', 'copywin', 'copywin', 'overlay')))
             if self.chance.random() < 0.4:
                 self.update()
+
+    def made(self, line):
+        """Writes a call that makes a window, and answers its number."""
+        self.write(line)
+        return list(self.run.world.windows)[-1]
 
     def fill_screen(self):
         """A text in each cell, so that one update goes out in three pieces."""
@@ -251,7 +263,7 @@ def beginning_of(chance):
         return Walk.fill_screen
     if kind < 0.07:
         return Walk.crowd
-    return Walk.family if kind < 0.12 else None
+    return Walk.family if kind < 0.15 else None
 
 
 def script_of(chance):
