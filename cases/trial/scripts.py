@@ -30,6 +30,8 @@ def size(chance, beginning):
         return chance.choice(((24, 500), (100, 120)))
     if beginning == Walk.family:
         return chance.randint(3, 9), chance.randint(3, 20)
+    if beginning == Walk.spread:
+        return chance.choice(((1, 40), (12, 40), (2, 120), (101, 104)))
     kind = chance.random()
     if beginning == Walk.crowd and kind < 0.5:
         return chance.randint(1, 3), chance.choice((257, 300, 513))
@@ -247,6 +249,22 @@ class Walk:
         self.write(line)
         return list(self.run.world.windows)[-1]
 
+    def spread(self):
+        """Lines that are shown, and some of their cells, not far from one another, are written over: so numbers in moves have one to three
+        digits, and gaps are as long as a move and longer."""
+        for _ in range(4):
+            y, x = self.arguments.near(self.lines), self.chance.randrange(self.columns)
+            self.write(b'move 0 %d %d' % (y, x))
+            self.write(b'addstr 0 ' + self.letters(self.columns - x))
+            self.update()
+            while x < self.columns and self.chance.random() < 0.9:
+                if self.chance.random() < 0.2:
+                    self.write(b'attrset 0 ' + self.arguments.attributes())
+                self.write(b'move 0 %d %d' % (y, x))
+                self.write(b'addstr 0 ' + self.letters(self.chance.choice((1, 1, 2))))
+                x += self.chance.randint(2, 12)
+            self.update()
+
     def fill_screen(self):
         """A text in each cell, so that one update goes out in three pieces."""
         for y in range(self.lines):
@@ -263,7 +281,9 @@ def beginning_of(chance):
         return Walk.fill_screen
     if kind < 0.07:
         return Walk.crowd
-    return Walk.family if kind < 0.15 else None
+    if kind < 0.15:
+        return Walk.family
+    return Walk.spread if kind < 0.17 else None
 
 
 def script_of(chance):
