@@ -1,10 +1,16 @@
 """Which bytes of an update's text aren't needed: what docs/DECISIONS.md says of moves, selections, gaps and erasures."""
 from .cells import BLANK_SHOWN
-from .terminal import ITEM, Terminal
+from .terminal import ATTRIBUTES_ON, ITEM, Terminal
 
 
 def position(place):
     return b'\x1b[%d;%dH' % (place[0] + 1, place[1] + 1)
+
+
+def selection_length(old, new):
+    """How many bytes select a rendition where another one may be in force."""
+    colours = [colour for colour in (new.foreground, new.background) if colour is not None]
+    return 0 if new == old else 4 + 2 * sum(1 for bit in ATTRIBUTES_ON.values() if new.attributes & bit) + 3 * len(colours)
 
 
 class Reading:
@@ -17,6 +23,7 @@ class Reading:
         self.terminal.cursor = update.cursor_before
         self.before = None      # the final byte of the item before
         self.gap = None         # how many unchanged cells were printed after a changed one; None where no gap may begin
+        self.left_out = None    # a gap that a move left out: its cells, the rendition before it, and the bytes of the move and of what followed
 
     def is_changed(self, place):
         y, x = place
@@ -28,19 +35,39 @@ class Reading:
         cursor, rendition, picture = self.terminal.cursor, self.terminal.rendition, [line[:] for line in self.terminal.picture]
         self.terminal.apply(item)
         waste = None
+        left_out, self.left_out = self.left_out, None
         if final and final == self.before:
             waste = 'two in a row'
         elif final == b'':
             waste = self.waste_of_print(cursor)
         elif final == b'H':
             waste = 'a move to where the cursor is' if self.terminal.cursor == cursor else self.waste_of_end()
+            self.left_out = self.gap_before(cursor, len(item.group()))
             self.gap = None
         elif final == b'm':
             waste = 'a selection of what is selected' if self.terminal.rendition == rendition else None
+            self.left_out = left_out and (*left_out[:2], left_out[2] + len(item.group()))
         else:
             waste = self.waste_of_erasure(cursor, picture)
         self.before = final
-        return waste
+        return waste or (left_out and final not in (b'H', b'm') and self.waste_of_move(*left_out)) or None
+
+    def gap_before(self, start, length):
+        """The gap that a move of so many bytes left out, if it went on from a changed cell in its line, over unchanged ones."""
+        end = self.terminal.cursor
+        if self.gap != 0 or start is None or start[0] != end[0] or start[1] >= end[1]:
+            return None
+        gap = range(start[1], end[1])
+        if any(self.is_changed((start[0], x)) for x in gap):
+            return None
+        return [self.update.after[start[0]][x].rendition for x in gap], self.terminal.rendition, length
+
+    def waste_of_move(self, gap, rendition, length):
+        """A gap is printed again where that takes fewer bytes than a move, or as many and all of it has one of the two renditions."""
+        wanted = self.terminal.rendition
+        again = len(gap) + sum(selection_length(old, new) for old, new in zip([rendition, *gap], [*gap, wanted]))
+        is_plain = set(gap) in ({rendition}, {wanted})
+        return 'a move over a gap that is as short' if again < length or (again == length and is_plain) else None
 
     def waste_of_print(self, cursor):
         if not self.is_changed(cursor):

@@ -88,12 +88,18 @@ class Arguments:
             ncols = 0
         return nlines, ncols, y, x
 
+    def most_of(self, w):
+        """A rectangle within a window which lacks few of its lines and columns: size and place."""
+        size = size_of(self.window_of(w))
+        place = [min(self.chance.choice((0, 1, 1, 2)), count - 1) for count in size]
+        return [*(max(count - first - self.chance.choice((0, 0, 1)), 1) for count, first in zip(size, place)), *place]
+
     def for_newwin(self):
         return self.part(self.world.lines, self.world.columns)
 
     def for_derwin(self):
         w = self.a_window(lambda w, window: not window.is_pad())
-        return [w, *self.part(*size_of(self.window_of(w)))]
+        return [w, *(self.most_of(w) if self.chance.random() < 0.3 else self.part(*size_of(self.window_of(w))))]
 
     def for_subwin(self):
         w, nlines, ncols, y, x = self.for_derwin()
@@ -208,13 +214,18 @@ class Arguments:
     # Copies and marks.
 
     def two_windows(self, is_wanted=lambda w, window: True):
-        """Often a window and itself, or one that shares its cells."""
+        """Often a window and itself, or another that shares its cells."""
         src = self.a_window(is_wanted)
         kind = self.chance.random()
-        if kind < 0.45:
+        if kind < 0.35:
             return src, src
-        family = [w for w in self.world.windows if src in self.world.windows and self.world.own(w, 0, 0)[0] == self.world.own(src, 0, 0)[0]]
+        family = [w for w in self.world.windows if w != src and self.are_of_one_grid(src, w)]
         return src, self.chance.choice(family) if family and kind < 0.75 else self.a_window(is_wanted)
+
+    def are_of_one_grid(self, src, dst):
+        """Whether two windows are there, and lead to one grid."""
+        world = self.world
+        return src in world.windows and dst in world.windows and world.own(src, 0, 0)[0] == world.own(dst, 0, 0)[0]
 
     def for_overlay(self):
         """Often two windows that lie over each other, and share no cell."""
@@ -233,24 +244,39 @@ class Arguments:
 
     for_overwrite = for_overlay
 
-    def copied(self, source, target):
-        """How many lines or columns are copied, from where and to where. Often it is not far."""
-        count = 1 + self.near(min(source, target))
-        if min(source, target) > 1 and self.chance.random() < 0.6:
-            count = self.chance.randint(2, max(min(source, target) - 1, 2))
-        start = self.near(source - count + 1)
-        end = start + self.chance.choice((-1, -1, 0, 1, 1))
-        if 0 <= end <= target - count and self.chance.random() < 0.7:
-            return count, start, end
+    def copied(self, source, target, apart):
+        """How many lines or columns are copied, from where and to where. Often it is not far, counted from where the windows begin in the
+        grid that they share."""
+        shift = apart + self.chance.choice((-1, -1, 0, 1, 1))
+        first, end = max(0, -shift), min(source, target - shift)
+        if first < end and self.chance.random() < 0.7:
+            count = self.some_of(end - first)
+            start = first + self.near(end - first - count + 1)
+            return count, start, start + shift
         if source == target > 2 and self.chance.random() < 0.5:
             return (source - 1, *self.chance.choice(((0, 1), (1, 0))))
-        return count, start, self.near(target - count + 1)
+        count = self.some_of(min(source, target))
+        return count, self.near(source - count + 1), self.near(target - count + 1)
+
+    def some_of(self, count):
+        """How many of so many, mostly more than one and not all."""
+        if count > 1 and self.chance.random() < 0.6:
+            return self.chance.randint(2, max(count - 1, 2))
+        return 1 + self.near(count)
+
+    def apart(self, src, dst):
+        """How many lines and columns a window begins after another in a grid that both share."""
+        if not self.are_of_one_grid(src, dst):
+            return 0, 0
+        (_, line, column), (_, to_line, to_column) = self.world.own(src, 0, 0), self.world.own(dst, 0, 0)
+        return line - to_line, column - to_column
 
     def for_copywin(self):
         src, dst = self.two_windows()
         source, window = self.window_of(src), self.window_of(dst)
-        lines, sy, dy = self.copied(source.lines, window.lines)
-        columns, sx, dx = self.copied(source.columns, window.columns)
+        down, right = self.apart(src, dst)
+        lines, sy, dy = self.copied(source.lines, window.lines, down)
+        columns, sx, dx = self.copied(source.columns, window.columns, right)
         return [src, dst, sy, sx, dy, dx, dy + lines - 1, dx + columns - 1, self.a_flag()]
 
     def for_touchline(self):

@@ -28,6 +28,10 @@ def size(chance, beginning):
     """Lines and columns of a screen: small ones, in which much meets much, and some at the limits."""
     if beginning == Walk.fill_screen:
         return chance.choice(((24, 500), (100, 120)))
+    if beginning == Walk.family:
+        return chance.randint(3, 9), chance.randint(3, 20)
+    if beginning == Walk.spread:
+        return chance.choice(((1, 40), (12, 40), (2, 120), (101, 104)))
     kind = chance.random()
     if beginning == Walk.crowd and kind < 0.5:
         return chance.randint(1, 3), chance.choice((257, 300, 513))
@@ -218,13 +222,17 @@ class Walk:
                 self.write(b'new_panel %d' % w)
 
     def family(self):
-        """Windows of which each derives from the one before, and some are in panels: what one of them writes, others show."""
-        self.write(self.line_of('newwin'))
-        family = [max(self.run.world.windows)]
-        for _ in range(self.chance.randint(2, 4)):
-            window = self.run.world.windows[family[-1]]
-            self.write(b'derwin %d %d %d %d %d' % (family[-1], *self.arguments.part(window.lines, window.columns)))
-            family.append(max(self.run.world.windows))
+        """Windows of which each derives from one before, mostly the last, and some are in panels: what one of them writes, others show. One
+        has a smaller number than its parent. They move in their parents, and cells are copied among them."""
+        self.write(b'newwin 1 1 0 0')
+        family = [self.made(b'newwin 0 0 0 0')]
+        generations = self.chance.randint(2, 4)
+        freeing = self.chance.randint(1, generations - 1)
+        for generation in range(generations):
+            if generation == freeing:
+                self.write(b'delwin 1')
+            parent = self.chance.choice([family[-1], family[-1], *family])
+            family.append(self.made(b'derwin %d %d %d %d %d' % (parent, *self.arguments.most_of(parent))))
         for w in self.chance.sample(family, 2):
             self.write(b'new_panel %d' % w)
         for _ in range(10):
@@ -232,8 +240,30 @@ class Walk:
             word = self.chance.choice((b'syncup', b'syncdown', b'syncdown', b'untouchwin', b'touchwin'))
             self.write(b'%b %d' % (word, self.chance.choice(family)))
             self.ask_marks(family)
+            self.call(self.chance.choice(('mvderwin', 'mvderwin', 'copywin', 'copywin', 'overlay')))
             if self.chance.random() < 0.4:
                 self.update()
+
+    def made(self, line):
+        """Writes a call that makes a window, and answers its number."""
+        self.write(line)
+        return list(self.run.world.windows)[-1]
+
+    def spread(self):
+        """Lines that are shown, and some of their cells, not far from one another, are written over: so numbers in moves have one to three
+        digits, and gaps are as long as a move and longer."""
+        for _ in range(4):
+            y, x = self.arguments.near(self.lines), self.chance.randrange(self.columns)
+            self.write(b'move 0 %d %d' % (y, x))
+            self.write(b'addstr 0 ' + self.letters(self.columns - x))
+            self.update()
+            while x < self.columns and self.chance.random() < 0.9:
+                if self.chance.random() < 0.2:
+                    self.write(b'attrset 0 ' + self.arguments.attributes())
+                self.write(b'move 0 %d %d' % (y, x))
+                self.write(b'addstr 0 ' + self.letters(self.chance.choice((1, 1, 2))))
+                x += self.chance.randint(2, 12)
+            self.update()
 
     def fill_screen(self):
         """A text in each cell, so that one update goes out in three pieces."""
@@ -251,7 +281,9 @@ def beginning_of(chance):
         return Walk.fill_screen
     if kind < 0.07:
         return Walk.crowd
-    return Walk.family if kind < 0.12 else None
+    if kind < 0.15:
+        return Walk.family
+    return Walk.spread if kind < 0.17 else None
 
 
 def script_of(chance):

@@ -55,19 +55,24 @@ def smaller_lines(line):
                 yield line[:found.start()] + b'%d' % less + line[found.end():]
 
 
+def script_text(lines, ending):
+    return b'\n'.join(lines) + ending if lines else b''
+
+
 def smallest_script(text, fails):
-    """The smallest script that still fails. Its last newline stays where it is needed alone."""
-    search = Search(lambda lines: fails(b''.join(line + b'\n' for line in lines)))
+    """The smallest script that still fails, with a newline at its end where it fails with one."""
     lines = text.split(b'\n')
     if lines[-1] == b'':
         lines.pop()
-    if not search.still_fails(lines):
-        return text
-    before = None
-    while before != lines:
-        before = lines
-        lines = search.with_smaller(search.without_pieces(lines))
-    return b''.join(line + b'\n' for line in lines)
+    for ending in (b'\n', b''):
+        search = Search(lambda lines, ending=ending: fails(script_text(lines, ending)))
+        if search.still_fails(lines):
+            before = None
+            while before != lines:
+                before = lines
+                lines = search.with_smaller(search.without_pieces(lines))
+            return script_text(lines, ending)
+    return text
 
 
 def smallest_stream(text, fails):
