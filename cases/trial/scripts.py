@@ -161,6 +161,13 @@ class Walk:
             self.write(b'is_linetouched %d %d' % (w, self.arguments.near(self.run.world.windows[w].lines)))
 
     def update(self):
+        """Updates the terminal, sometimes after more than one refresh, between which something was written."""
+        for _ in range(self.chance.choice((0, 0, 0, 0, 0, 1, 2))):
+            w, y, x = self.arguments.for_move()
+            if w in self.run.world.windows:
+                self.write(b'update_panels')
+                self.write(b'move %d %d %d' % (w, y, x))
+                self.write(b'addstr %d %b' % (w, self.letters(self.chance.randint(1, 3))))
         for line in UP:
             self.write(line)
 
@@ -220,6 +227,8 @@ class Walk:
             if w in self.run.world.windows:
                 self.write(b'addstr %d %b' % (w, spelled(self.chance, self.letters(20))))
                 self.write(b'new_panel %d' % w)
+                if 16 < w < 24 and self.chance.random() < 0.3:
+                    self.update()
 
     def family(self):
         """Windows of which each derives from one before, mostly the last, and some are in panels: what one of them writes, others show. One

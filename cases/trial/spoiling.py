@@ -29,10 +29,12 @@ def too_long(chance):
 
 
 def bad_byte(chance, line):
-    """A line, or a comment, with a byte that no line has."""
+    """A line, or a comment, with a byte that no line has, or with two."""
     line = chance.choice((line, b'# a comment', b''))
-    at = chance.choice((0, len(line), chance.randint(0, len(line))))
-    return line[:at] + chance.choice(BAD_BYTES) + line[at:]
+    for _ in range(chance.choice((1, 1, 2))):
+        at = chance.choice((0, len(line), chance.randint(0, len(line))))
+        line = line[:at] + chance.choice(BAD_BYTES) + line[at:]
+    return line
 
 
 def unknown_call(chance, line):
