@@ -227,7 +227,7 @@ class Walk:
             if w in self.run.world.windows:
                 self.write(b'addstr %d %b' % (w, spelled(self.chance, self.letters(20))))
                 self.write(b'new_panel %d' % w)
-                if w > 16 and self.chance.random() < 0.2:
+                if 16 < w < 24 and self.chance.random() < 0.3:
                     self.update()
 
     def family(self):
