@@ -41,9 +41,17 @@ fn shows(alloc: Global, stream: &[u8], text: &[u8]) -> Result<bool, Fail> {
         terminal.fault().is_none()
             && characters.get(..text.len()) == Some(text)
             && rest.iter().all(|ch| *ch == b' ')
-            && terminal.cursor() == Some((0, text.len() as u16))
+            && is_after(text, terminal.cursor())
             && terminal.rendition() == Rendition::NONE,
     )
+}
+
+/// Whether the cursor is known to be after a text in the first line.
+fn is_after(text: &[u8], cursor: Option<(u16, u16)>) -> bool {
+    match cursor {
+        Some((y, x)) => y == 0 && usize::from(x) == text.len(),
+        None => false,
+    }
 }
 
 #[test]
