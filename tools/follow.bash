@@ -19,13 +19,13 @@ tell() {
     if [ -t 2 ]; then printf '\r%s\033[K' "$1" >&2; else printf '%s\n' "$1" >&2; fi
 }
 
-# Ends the line in which `tell` told how far something is, which is done.
+# Ends the line in which `tell` says how far something is, which is done.
 end_telling() {
     if [ -t 2 ]; then printf '\r\033[K' >&2; fi
 }
 
 # Tells, of what `rt` says, which crate is being proved, its place among some crates, and how many of its functions have been looked at,
-# as `proving grids (6 of 12): 40 of 83`. Where `rt` was told how many provers to take it names a crate only with the first item that is
+# as `proving grids (6 of 12): 40 of 83`. Where `rt` was given how many provers to take it names a crate only with the first item that is
 # proved.
 tell_progress() {
     local name=$1 among crate='' line
@@ -59,7 +59,7 @@ placed() {
     printf '%s\n' "$crate"
 }
 
-# Puts out in a line a crate and before it those of the repository that it stands on, in the order in which `rt` proves them.
+# Puts out in a line a crate and before it those of the repository that it uses, in the order in which `rt` proves them.
 crates_up_to() {
     awk -v last="$1" '
         function add(name,   low, n, i) {

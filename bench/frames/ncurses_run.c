@@ -82,7 +82,7 @@ static void keep_panel(WINDOW *handle) {
 
 static int digit(char c) { return c >= 'a' ? c - 'a' + 10 : c - '0'; }
 
-// Leaves in `text` what a text stands for.
+// Leaves in `text` what a text means.
 static void read_text(const char *from) {
     char *to = text;
     for (; *from; from++) {
@@ -202,7 +202,7 @@ static int refresh_screen(void) {
     return 1;
 }
 
-// How many words stand before the text that ends a call's line, or 0 if none does.
+// How many words are before the text that ends a call's line, or 0 if there is none.
 static int words_before_text(const char *line) {
     if (strncmp(line, "bkgdset ", 8) == 0) return 3;
     return strncmp(line, "addstr ", 7) == 0 || strncmp(line, "addch ", 6) == 0 || strncmp(line, "insch ", 6) == 0 ? 2 : 0;

@@ -19,7 +19,7 @@ ESCAPES = {b'n': 10, b'r': 13, b'b': 8, b'\\': 92}
 
 
 class Fault(NamedTuple):
-    """A fault of a line, and the column from 1 where it stands."""
+    """A fault of a line, and the column from 1 where it is."""
     kind: str
     column: int
 
@@ -124,7 +124,7 @@ def read_line(line):
 
 
 def lines_of(script):
-    """The lines of a script. What stands after the last newline is a line where it isn't empty."""
+    """The lines of a script. What comes after the last newline is a line where it isn't empty."""
     lines = script.split(b'\n')
     return lines[:-1] if lines[-1] == b'' else lines
 

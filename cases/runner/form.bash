@@ -39,7 +39,7 @@ begin_section() {
     body[$key]=
 }
 
-# Adds a line to the section that began last. Before the first one anything may be told.
+# Adds a line to the section that began last. Before the first one it may be anything.
 add_line() {
     case $key in
         '') preface+=$1$'\n' ;;
@@ -89,7 +89,7 @@ read_example() {
     body['1 log']=
 }
 
-# Puts out the bytes that a section of the case stands for.
+# Puts out the bytes that a section of the case means.
 put_section() {
     used[$1]=1
     case $1,${head[$1]-} in

@@ -61,7 +61,7 @@ compare() {
     came["$step $1"]=$2
 }
 
-# Leaves in `text` the lines of a text that stand nowhere in another.
+# Leaves in `text` the lines of a text that are nowhere in another.
 take_missing() {
     local line lines
     mapfile -t lines <<< "${1%$'\n'}"

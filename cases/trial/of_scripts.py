@@ -59,7 +59,7 @@ def is_painted(program, script):
 
 
 def is_checked(program, script):
-    """Each faulty line is told with its column and its kind of fault, and run ends with the first of them."""
+    """Each faulty line is reported with its column and its kind of fault, and run ends with the first of them."""
     came = program.run(script.words('check'), script.text)
     wanted = findings(script.text)
     told = came.out.decode().splitlines(keepends=True)

@@ -28,7 +28,7 @@ def failed_line(script, log):
 
 
 def is_failed_run(program, script, came, limit):
-    """Of a run of which so many bytes went out: they are the first ones, and the failure is told of the doupdate that has the next. It
+    """Of a run of which so many bytes went out: they are the first ones, and the failure is reported of the doupdate that has the next. It
     counts these bytes, or as far as the last piece goes of which the buffer before standard output had taken the end, with all before it."""
     want('the status where a write failed', 3, came.status)
     number, taken = failed_line(script, came.log)
@@ -93,7 +93,7 @@ def has_picture_broken_off(program, script):
 
 
 def has_log_broken_off(program, script):
-    """Where the log can't be written, its first bytes stand, and the calls after that were not made."""
+    """Where the log can't be written, its first bytes are there, and the calls after that were not made."""
     whole = program.run(script.words('run'), script.text)
     if not whole.log:
         return
