@@ -1,9 +1,9 @@
 -- In which columns of each line a picture may differ from the one that was shown last.
-use Rattle.std.specs.Prelude.{◌≡◌, ℕ, ◌/◌, ◌<◌, ◌≤◌, ◌&&◌, Bool, true, false, min, max, nat_le, nat_lt, List, length, slice_index_or}
+use Rattle.std.specs.Prelude.{◌≡◌, ℕ, ◌<◌, ◌≤◌, ◌&&◌, Bool, true, false, min, max, nat_le, nat_lt, List, length, slice_index_or}
 use Rattle.cell.specs.Pictures.{Picture, shown_at}
 use Rattle.cell.specs.declared.limits.TheConstants.{LARGEST_SCREEN}
-use Rattle.paint.specs.declared.changes.TheConstants.{BLOCK, BLOCKS}
 use Rattle.paint.specs.declared.changes.Stretch.{Stretch}
+use Rattle.small_set.specs.Sets.{contains}
 
 -- no columns, as it is kept
 abbrev pub no_stretch : Stretch
@@ -34,10 +34,10 @@ pub record IsWhole (lines columns : ℕ) (changes : List Stretch) : Type 0 where
   pub height : length changes ≡ lines
   pub all : (y x : ℕ) → y < lines → x < columns → may_change changes y x ≡ true
 
--- only some lines have any, of some blocks of lines, and there are no more lines than a screen has
-pub record AreChanges (lines : Stretch) (blocks : List Bool) (changes : List Stretch) : Type 0 where
+-- only some lines have any, which are in a set of lines too, and there are no more lines than a screen has
+pub record AreChanges (lines : Stretch) (changed : List ℕ) (changes : List Stretch) : Type 0 where
   pub few : length changes ≤ LARGEST_SCREEN
   pub inside : lines.end ≤ length changes
   pub others : (y : ℕ) → is_in lines y ≡ false → stretch_of changes y ≡ no_stretch
-  pub marked : length blocks ≡ BLOCKS
-  pub others_in_blocks : (y : ℕ) → slice_index_or blocks (y / BLOCK) true ≡ false → stretch_of changes y ≡ no_stretch
+  pub there : (y : ℕ) → contains changed y ≡ true → y < length changes
+  pub others_in_set : (y : ℕ) → contains changed y ≡ false → stretch_of changes y ≡ no_stretch

@@ -1,18 +1,14 @@
 //! The columns of each line in which a picture may differ from the one that was shown last.
 
-ghost use Rattle.std.specs.Prelude.{◌≡◌, ℕ, ◌<◌, ◌≤◌, IfOk, false, length, replicate, slice_index_or, slice_set, true};
+ghost use Rattle.std.specs.Prelude.{◌≡◌, ℕ, ◌<◌, ◌≤◌, IfOk, false, length, nat_lt, replicate, slice_set};
 ghost use Rattle.cell.specs.declared.limits.TheConstants.{LARGEST_SCREEN};
 ghost use Rattle.paint.specs.Changes.{is_in, joined, may_change, no_stretch, stretch_of};
 ghost use Rattle.paint.specs.steps.Walks.{IsWithin};
+ghost use Rattle.small_set.specs.Sets.{contains};
 
+use small_set::SmallSet;
 use std::alloc::{AllocError, Global};
 use std::marker::Model;
-
-/// How many lines a block has.
-const BLOCK: usize = 16;
-
-/// The blocks of the largest screen.
-const BLOCKS: usize = 64;
 
 /// Columns of a line, or lines of a screen, from `start` up to `end`, which isn't one of them. Where `end` isn't past `start` there are none.
 #[derive(Clone, Copy, PartialEq, Eq, Debug)]
@@ -45,8 +41,8 @@ pub struct Changes {
     stretches: Vec<Stretch>,
     // No other line has any.
     lines: Stretch,
-    // Of each block of lines in turn whether one of them may have any.
-    blocks: [bool; BLOCKS],
+    // Nor has any that isn't one of these.
+    changed: SmallSet,
 }
 
 impl Model for Changes {
@@ -58,7 +54,7 @@ impl Model for Changes {
 
     ghost view = { λ changes. changes.stretches.items };
 
-    ghost invariant = { λ changes. AreChanges changes.lines changes.blocks changes.stretches.items };
+    ghost invariant = { λ changes. AreChanges changes.lines changes.changed changes.stretches.items };
 }
 
 impl Changes {
@@ -70,7 +66,7 @@ impl Changes {
         Ok(Changes {
             stretches: vec![in alloc; Stretch::NONE; usize::from(lines)]?,
             lines: Stretch::NONE,
-            blocks: [false; BLOCKS],
+            changed: SmallSet::new(),
         })
     }
 
@@ -89,7 +85,7 @@ impl Changes {
                 start: 0,
                 end: lines,
             },
-            blocks: all_blocks(),
+            changed: all_lines(lines),
         })
     }
 
@@ -115,21 +111,10 @@ impl Changes {
         ensures inside { from ≤ length self.now → result ≤ length self.now }
         ensures none { (y x : ℕ) → from ≤ y → y < result → may_change self.now y x ≡ false }
     {
-        let mut y = from;
-        while y < self.lines.end {
-            let at = usize::from(y);
-            if !self.blocks[at / BLOCK] {
-                let end = (at / BLOCK + 1) * BLOCK;
-                y = self.lines.end.min(end as u16);
-                continue;
-            }
-            let stretch = self.stretches[at];
-            if stretch.start < stretch.end {
-                return y;
-            }
-            y += 1;
+        match self.changed.next(from) {
+            Some(y) => y,
+            None => from.max(self.lines.end),
         }
-        y
     }
 
     /// Those of a line of so many columns, from one up to another, which isn't one of them.
@@ -151,7 +136,7 @@ impl Changes {
             return;
         }
         self.stretches[at] = self.stretches[at].join(stretch);
-        self.blocks[at / BLOCK] = true;
+        self.changed.insert(y);
         self.lines = self.lines.join(Stretch {
             start: y,
             end: y + 1,
@@ -163,18 +148,24 @@ impl Changes {
         ensures height { length self.new ≡ length self.old }
         ensures none { (y : ℕ) → stretch_of self.new y ≡ no_stretch }
     {
-        for y in self.lines.start..self.lines.end {
+        let mut next = self.changed.next(0);
+        while let Some(y) = next {
             self.stretches[usize::from(y)] = Stretch::NONE;
+            next = self.changed.next(y + 1);
         }
         self.lines = Stretch::NONE;
-        self.blocks = [false; BLOCKS];
+        self.changed.clear();
     }
 }
 
-/// Each block is one of which a line may have any.
-fn all_blocks() -> [bool; BLOCKS]
-    ensures all { length result ≡ BLOCKS }
-    ensures marked { (k : ℕ) → slice_index_or result k true ≡ true }
+/// The first lines, so many.
+fn all_lines(lines: u16) -> SmallSet
+    requires { lines ≤ LARGEST_SCREEN }
+    ensures { (y : ℕ) → contains result y ≡ nat_lt y lines }
 {
-    [true; BLOCKS]
+    let mut set = SmallSet::new();
+    for y in 0..lines {
+        set.insert(y);
+    }
+    set
 }

@@ -1,7 +1,8 @@
 -- The damaged columns of each line of the screen, from a first to a last, or none; and what a step does to them.
-use Rattle.std.specs.Prelude.{◌≡◌, ◌⊎◌, ℕ, zero, suc, ◌+◌, ◌-◌, ◌/◌, ◌<◌, Bool, true, false, MatchOption, Option, Some, None, List, length, is_some, slice_index_or, ⊤}
+use Rattle.std.specs.Prelude.{◌≡◌, ◌⊎◌, ℕ, zero, suc, ◌+◌, ◌-◌, ◌<◌, ◌≤◌, Bool, true, false, MatchOption, Option, Some, None, List, length, is_some, slice_index_or, ⊤}
 use Rattle.std.specs.Option.{option_map, option_map_or}
-use Rattle.picture.specs.declared.damage.TheConstants.{BLOCK, BLOCKS}
+use Rattle.cell.specs.declared.limits.TheConstants.{LARGEST_SCREEN}
+use Rattle.small_set.specs.Sets.{contains}
 use Rattle.world.specs.Sound.{AreColumnsWithin}
 use Rattle.world.specs.calls.Refresh.{among}
 use Rattle.world.specs.declared.settings.Columns.{Columns}
@@ -18,10 +19,10 @@ has_damage damage y = is_some (columns_of damage y)
 abbrev pub has_damage_at : List (Option Columns) → ℕ → ℕ → Bool
 has_damage_at damage y x = among (columns_of damage y) x
 
--- only the lines of some blocks have any
-pub record AreMarked (blocks : List Bool) (damage : List (Option Columns)) : Type 0 where
-  pub marked : length blocks ≡ BLOCKS
-  pub others : (y : ℕ) → slice_index_or blocks (y / BLOCK) true ≡ false → columns_of damage y ≡ None
+-- a set of lines is that of the damaged ones, and there are no more lines than a screen has
+pub record IsDamage (damaged : List ℕ) (damage : List (Option Columns)) : Type 0 where
+  pub few : length damage ≤ LARGEST_SCREEN
+  pub lines : (y : ℕ) → contains damaged y ≡ has_damage damage y
 
 -- ---- a step
 

@@ -7,45 +7,41 @@ ghost use Rattle.picture.specs.Damages.{Damages, columns_of, has_damage};
 ghost use Rattle.picture.specs.Parts.{frame_holds};
 
 use cell::Rect;
+use small_set::SmallSet;
 use std::alloc::{AllocError, Global};
 use std::marker::Model;
 use world::Columns;
-
-/// How many lines a block has.
-const BLOCK: usize = 16;
-
-/// The blocks of the largest screen.
-const BLOCKS: usize = 64;
 
 /// Of each line of the screen the columns, from a first to a last, at which the virtual screen may show something else than the search
 /// from the top finds.
 #[derive(Drop)]
 pub struct Damage {
     lines: Vec<Option<Columns>>,
-    // Of each block of lines in turn whether one of them may be damaged.
-    blocks: [bool; BLOCKS],
+    // Which lines are damaged.
+    damaged: SmallSet,
 }
 
 impl Model for Damage {
     ghost use Rattle.std.specs.Prelude.{List, Option};
     ghost use Rattle.world.specs.declared.settings.Columns.{Columns};
-    ghost use Rattle.picture.specs.Damages.{AreMarked};
+    ghost use Rattle.picture.specs.Damages.{IsDamage};
 
     ghost Value = { List (Option Columns) };
 
     ghost view = { λ damage. damage.lines.items };
 
-    ghost invariant = { λ damage. AreMarked damage.blocks damage.lines.items };
+    ghost invariant = { λ damage. IsDamage damage.damaged damage.lines.items };
 }
 
 impl Damage {
     /// So many lines, of which none is damaged.
     pub fn new(alloc: Global, lines: u16) -> Result<Damage, AllocError>
+        requires { lines ≤ LARGEST_SCREEN }
         ensures { IfOk result (λ damage. damage ≡ replicate lines None) }
     {
         Ok(Damage {
             lines: vec![in alloc; None; usize::from(lines)]?,
-            blocks: [false; BLOCKS],
+            damaged: SmallSet::new(),
         })
     }
 
@@ -59,26 +55,15 @@ impl Damage {
 
     /// The first damaged line from one on, and where there is none, a line that isn't there.
     pub fn next(&self, from: u16) -> u16
-        requires few { length self.now ≤ LARGEST_SCREEN }
         ensures from { from ≤ result }
         ensures inside { from ≤ length self.now → result ≤ length self.now }
         ensures none { (y : ℕ) → from ≤ y → y < result → columns_of self.now y ≡ None }
         ensures found { result < length self.now → has_damage self.now result ≡ true }
     {
-        let end = self.lines.len();
-        let mut y = usize::from(from);
-        while y < end {
-            let block = y / BLOCK;
-            if !self.blocks[block] {
-                y = end.min((block + 1) * BLOCK);
-                continue;
-            }
-            if self.lines[y].is_some() {
-                break;
-            }
-            y += 1;
+        match self.damaged.next(from) {
+            Some(y) => y,
+            None => from.max(self.lines.len() as u16),
         }
-        y as u16
     }
 
     /// A line isn't damaged any more.
@@ -87,14 +72,7 @@ impl Damage {
         ensures { self.new ≡ slice_set self.old y None }
     {
         self.lines[usize::from(y)] = None;
-    }
-
-    /// No line of any block is looked at any more, since none is damaged.
-    pub fn unmark(&mut self)
-        requires { (y : ℕ) → columns_of self.old y ≡ None }
-        ensures { self.new ≡ self.old }
-    {
-        self.blocks = [false; BLOCKS];
+        self.damaged.remove(y);
     }
 
     /// Damages a rectangle.
@@ -111,12 +89,11 @@ impl Damage {
 
     /// Damages some columns of a line, from a first to a last, and those between them and the ones that were damaged.
     fn widen(&mut self, y: u16, first: u16, last: u16)
-        requires few { length self.old ≤ LARGEST_SCREEN }
-        requires inside { y < length self.old }
+        requires { y < length self.old }
         ensures { self.new ≡ slice_set self.old y (joined_columns (columns_of self.old y) first last) }
     {
         let at = usize::from(y);
         self.lines[at] = Some(Columns::join(self.lines[at], first, last));
-        self.blocks[at / BLOCK] = true;
+        self.damaged.insert(y);
     }
 }

@@ -52,7 +52,6 @@ pub fn show_damaged<'a, R: Rows<'a>>(
         }
         y = damage.next(y + 1);
     }
-    damage.unmark();
     // Reading a line shows the proof that each cell can be printed.
     prove!(!picture.row(0).is_empty());
     cells

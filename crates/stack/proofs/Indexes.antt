@@ -1,5 +1,5 @@
--- How the bits of the numbers and the panels of windows follow the nodes.
-use Rattle.std.proofs.Common.{◌≡◌, ℕ, zero, suc, ◌+◌, ◌-◌, ◌<◌, ◌≤◌, ◌==◌, if◌then◌else◌, ◌⊎◌, Option, None, Some, is_some, MatchOption, List, [], ◌∷◌, ◌++◌, length, set, take, replicate}
+-- How the numbers that are taken and the panels of windows follow the nodes.
+use Rattle.std.proofs.Common.{◌≡◌, ℕ, zero, suc, ◌+◌, ◌-◌, ◌<◌, ◌≤◌, ◌==◌, if◌then◌else◌, ◌⊎◌, Option, None, Some, is_some, MatchOption, List, [], ◌∷◌, ◌++◌, length, set, take, replicate, slice_index_or, Bool}
 use Rattle.std.proofs.Common.{length-set, get_or-set_same, get_or-set_other, sym, ap, ◌∙◌, refl, inl, inr, arith}
 use Rattle.std.proofs.lemmas.Bool.{cases_eq, eq-eqb, ne_eqb}
 use Rattle.std.proofs.lemmas.List.{length_push, take_all}
@@ -7,11 +7,11 @@ use Rattle.cell.specs.declared.limits.TheConstants.{MOST_PANELS}
 use Rattle.cell.specs.declared.window.WinId.{WinId}
 use Rattle.std.specs.Option.{option_map}
 use Rattle.world.specs.Effects.{given}
-use Rattle.stack.specs.Indexes.{held_by, holder_at, number_bit, number_limit, taken_bit, window_limit, IsIndexed}
+use Rattle.stack.specs.Indexes.{held_by, holder_at, is_taken, window_limit, IsIndexed}
 use Rattle.stack.specs.Nodes.{no_node, node_at, above_at, below_at, window_at, window_in}
 use Rattle.stack.specs.steps.Entries.{Windowed}
 use Rattle.stack.specs.declared.nodes.Node.{Node}
-use Rattle.stack.proofs.Bits.{zeros}
+use Rattle.small_set.specs.Sets.{contains}
 use Rattle.stack.proofs.Windows.{given-other, given-same, window-free}
 
 -- nothing that they say changed
@@ -20,7 +20,7 @@ pub indexed-same : (old new : List Node) (numbers holders holders' : List ℕ) �
 indexed-same old new numbers holders holders' h few room windows same = record {
   few = few;
   room = room;
-  number = λ p lt. h.number p lt ∙ ap (taken_bit p) (sym (windows p));
+  number = λ p. h.number p ∙ ap (is_taken p) (sym (windows p));
   panel = λ p w is. same w ∙ h.panel p w (sym (windows p) ∙ is);
   window = λ w some. windows (holder_at holders' w) ∙ ap (window_at old) (same w) ∙ h.window w (let e = same w in omega arith);
 }
@@ -67,6 +67,11 @@ indexed-pushed nodes node numbers holders holders' h few none room same =
     indexed-same nodes (nodes ++ node ∷ []) numbers holders holders' h (let more = length_push nodes node in omega arith) (λ some. room)
     (window-free nodes node none) same
 
+zeros : (n k : ℕ) → ◌≡◌ {A = ℕ} (slice_index_or (replicate n 0) k 0) 0
+zeros zero k = refl
+zeros (suc n) zero = refl
+zeros (suc n) (suc k) = zeros n k
+
 -- room for more windows
 appended-zeros : (holders : List ℕ) (n w : ℕ) → holder_at (holders ++ replicate n 0) w ≡ holder_at holders w
 appended-zeros [] n w = zeros n w
@@ -94,7 +99,7 @@ held-other : (o : Option ℕ) (p : ℕ) (holder : ℕ → ℕ) (w : ℕ) → (o 
 held-other None p holder w other = refl
 held-other (Some u) p holder w other = rw (ne_eqb w u (λ e. other (ap Some (sym e)))) refl
 
-taken-given : (window : ℕ → Option ℕ) (p : ℕ) (o : Option ℕ) (q : ℕ) → 0 < p → taken_bit q (given window p o q) ≡ (if q == p then (if is_some o then 1 else 0) else taken_bit q (window q))
+taken-given : (window : ℕ → Option ℕ) (p : ℕ) (o : Option ℕ) (q : ℕ) → 0 < p → is_taken q (given window p o q) ≡ (if q == p then is_some o else is_taken q (window q))
 taken-given window p o q positive = elim (cases_eq q p) [
   | inl same ↦ rw (eq-eqb q p same) (rw (ne_eqb q 0 (λ e. omega arith)) refl)
   | inr other ↦ rw (ne_eqb q p other) refl
@@ -134,13 +139,12 @@ module _ (old new : List Node) (numbers numbers' holders middle holders' : List 
         ]
       ]
 
-      pub indexed-windowed : length middle ≡ length holders → length holders' ≡ length middle → ((q : ℕ) → q < number_limit
-          → number_bit numbers' q ≡ (if q == p then (if is_some o then 1 else 0) else number_bit numbers q)) → IsIndexed new numbers' holders'
-      indexed-windowed first second bits = record {
+      pub indexed-windowed : length middle ≡ length holders → length holders' ≡ length middle → ((q : ℕ) → contains numbers' q ≡ (if q == p then is_some o else contains numbers q)) → IsIndexed new numbers' holders'
+      indexed-windowed first second taken = record {
         few = let few = h.few in omega arith;
         room = λ some. let room = h.room (omega arith) in omega arith;
-        number = λ q below. bits q below ∙ ap (λ (n : ℕ). if q == p then (if is_some o then 1 else 0) else n) (h.number q below)
-            ∙ sym (taken-given (window_at old) p o q positive) ∙ ap (taken_bit q) (sym (windows q));
+        number = λ q. taken q ∙ ap (λ (b : Bool). if q == p then is_some o else b) (h.number q)
+            ∙ sym (taken-given (window_at old) p o q positive) ∙ ap (is_taken q) (sym (windows q));
         panel = panel-windowed;
         window = window-windowed;
       }

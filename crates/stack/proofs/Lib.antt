@@ -10,8 +10,6 @@ pub mod Neighbours
 pub mod Windows
 -- the table after each call, for the calls
 pub mod Tables
--- one bit set or cleared, for Numbers
-pub mod Bits
 -- that the indexes follow the nodes, for Nodes::set_window and push
 pub mod Indexes
 -- the search for a number or a panel, for free_number and holder

@@ -1,8 +1,8 @@
 -- The search for the number of the next panel, and for the panel of a window, step by step.
-use Rattle.std.proofs.Common.{◌≡◌, ℕ, zero, suc, ◌+◌, ◌-◌, ◌<◌, ◌≤◌, ◌==◌, if◌then◌else◌, true, false, Option, None, Some, IfSome, is_none, is_some, List, length, find, sym, ap, ◌∙◌, refl, inl}
+use Rattle.std.proofs.Common.{◌≡◌, ℕ, zero, suc, ◌+◌, ◌-◌, ◌<◌, ◌≤◌, ◌==◌, ◌||◌, Bool, if◌then◌else◌, true, false, Option, None, Some, IfSome, is_none, is_some, List, length, find, sym, ap, ◌∙◌, refl, inl}
 use Rattle.std.proofs.Common.{inr, arith}
 use Rattle.std.specs.List.{range_with_len}
-use Rattle.std.proofs.lemmas.Bool.{cases_eq, cases_lt, eq-eqb, ne_eqb, false_from_ne_true}
+use Rattle.std.proofs.lemmas.Bool.{cases_eq, cases_lt, eq-eqb, false≢true, ne_eqb, false_from_ne_true}
 use Rattle.std.proofs.lemmas.List.{get_or_past}
 use Rattle.std.proofs.lemmas.Option.{same_Some}
 use Rattle.cell.specs.declared.limits.TheConstants.{MOST_PANELS}
@@ -10,7 +10,7 @@ use Rattle.world.specs.Panels.{is_in_panel, panel_limit}
 use Rattle.world.specs.calls.Stacking.{new_panel_number, panel_number}
 use Rattle.world.specs.declared.panel.PanelId.{PanelId}
 use Rattle.world.proofs.PanelLaws.{in_panel-some, in_panel-true}
-use Rattle.stack.specs.Indexes.{number_limit, taken_bit}
+use Rattle.stack.specs.Indexes.{is_taken}
 use Rattle.stack.specs.Nodes.{no_node, window_at, window_in}
 use Rattle.stack.specs.Tables.{panels, table_of, IsPanelTable}
 use Rattle.stack.specs.steps.Entries.{IsFree}
@@ -23,13 +23,17 @@ limit-is : panel_limit ≡ MOST_PANELS + 1
 unfolding panel_limit
 limit-is = refl
 
--- what the bit of a number says of its node
-taken-none : (p : ℕ) (o : Option ℕ) → 0 < p → taken_bit p o ≡ 0 → o ≡ None
-taken-none p None positive h = refl
-taken-none p (Some w) positive h = let e : taken_bit p (Some w) ≡ 1 = rw (ne_eqb p 0 (λ z. omega arith)) refl in absurd (omega arith)
+or-true : (b : Bool) → (b || true) ≡ true
+or-true true = refl
+or-true false = refl
 
-taken-some : (p : ℕ) (o : Option ℕ) → 0 < p → taken_bit p o ≡ 1 → is_none o ≡ false
-taken-some p None positive h = let e : taken_bit p None ≡ 0 = rw (ne_eqb p 0 (λ z. omega arith)) refl in absurd (omega arith)
+-- what it says of a node that its number is taken
+taken-none : (p : ℕ) (o : Option ℕ) → is_taken p o ≡ false → o ≡ None
+taken-none p None h = refl
+taken-none p (Some w) h = absurd (false≢true (sym h ∙ or-true (p == 0)))
+
+taken-some : (p : ℕ) (o : Option ℕ) → 0 < p → is_taken p o ≡ true → is_none o ≡ false
+taken-some p None positive h = absurd (false≢true (sym (rw (ne_eqb p 0 (λ z. omega (arith, positive, z))) refl) ∙ h))
 taken-some p (Some w) positive h = refl
 
 module _ (nodes : List Node) where
@@ -61,31 +65,31 @@ module _ (nodes : List Node) where
       ∙ search-skip d (k + 1) (λ p from to. taken p (omega arith) (omega arith)) (omega arith)
       ∙ ap search_from e
 
--- the least number whose bit is clear
-module _ (nodes : List Node) (table : IsPanelTable nodes) (n : ℕ) (free : n < number_limit → taken_bit n (window_at nodes n) ≡ 0)
-    (taken : (p : ℕ) → p < n → p < number_limit → taken_bit p (window_at nodes p) ≡ 1) where
+-- the least number that isn't taken
+module _ (nodes : List Node) (table : IsPanelTable nodes) (n : ℕ) (free : is_taken n (window_at nodes n) ≡ false)
+    (taken : (p : ℕ) → p < n → is_taken p (window_at nodes p) ≡ true) where
   least-positive : 0 < n
   least-positive = elim (cases_eq n 0) [
-    | inl zero_is ↦ absurd (let e : taken_bit n (window_at nodes n) ≡ 1 = rw zero_is refl in let f = free (omega arith) in omega arith)
+    | inl zero_is ↦ absurd (false≢true (sym free ∙ rw zero_is refl))
     | inr other ↦ omega arith
   ]
 
-  below-taken : (p : ℕ) → 1 ≤ p → p < n → p < number_limit → is_none (window_at nodes p) ≡ false
-  below-taken p from lt within = taken-some p (window_at nodes p) (omega arith) (taken p lt within)
+  below-taken : (p : ℕ) → 1 ≤ p → p < n → is_none (window_at nodes p) ≡ false
+  below-taken p from lt = taken-some p (window_at nodes p) (omega arith) (taken p lt)
 
-  least-free : n ≤ MOST_PANELS → window_at nodes n ≡ None
-  least-free few = taken-none n (window_at nodes n) least-positive (free (omega arith))
+  least-free : window_at nodes n ≡ None
+  least-free = taken-none n (window_at nodes n) free
 
   pub least-found : n ≤ MOST_PANELS → Some n ≡ new_panel_number (panels (table_of nodes))
   least-found few =
       let positive = least-positive in
       let e : 1 + (n - 1) ≡ n = omega arith in
-      sym (search-skip nodes (n - 1) 1 (λ p from to. below-taken p from (omega arith) (omega arith)) (omega arith)
-      ∙ ap (search_from nodes) e ∙ search-here nodes n (omega arith) (ap (λ (o : Option ℕ). is_none o) (least-free few)))
+      sym (search-skip nodes (n - 1) 1 (λ p from to. below-taken p from (omega arith)) (omega arith)
+      ∙ ap (search_from nodes) e ∙ search-here nodes n (omega arith) (ap (λ (o : Option ℕ). is_none o) least-free))
 
   pub none-found : (n ≤ MOST_PANELS → ⊥) → None ≡ new_panel_number (panels (table_of nodes))
   none-found many =
-      sym (search-skip nodes MOST_PANELS 1 (λ p from to. below-taken p from (omega arith) (omega arith)) (omega arith)
+      sym (search-skip nodes MOST_PANELS 1 (λ p from to. below-taken p from (omega arith)) (omega arith)
       ∙ search-end nodes (1 + MOST_PANELS) (omega arith))
 
   pub least-is : n ≤ MOST_PANELS → IsFree nodes n
@@ -93,12 +97,12 @@ module _ (nodes : List Node) (table : IsPanelTable nodes) (n : ℕ) (free : n < 
       let positive = least-positive in
       let some = table.some_node in
       record {
-        free = least-free few;
+        free = least-free;
         from_one = positive;
         few = few;
         next = elim (cases_lt (length nodes) n) [
           | inl past ↦ absurd (
-              let full = below-taken (length nodes) (omega arith) past (omega arith) in
+              let full = below-taken (length nodes) (omega arith) past in
               let none = ap (λ (o : Option ℕ). is_none o) (window-past nodes (length nodes) (omega arith)) in
               let t : true ≡ false = sym none ∙ full in cc)
           | inr le ↦ le

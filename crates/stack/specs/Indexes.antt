@@ -1,24 +1,17 @@
--- By which the least free number and the panel of a window are found: a bit for each number, and a panel for each window.
-use Rattle.std.specs.Prelude.{◌≡◌, ℕ, ◌+◌, ◌/◌, ◌%◌, ◌<◌, ◌≤◌, ◌==◌, if◌then◌else◌, Option, None, Some, is_some, List, length, slice_index, slice_index_or}
-use Rattle.std.specs.Int.{bit_at}
+-- By which the least free number and the panel of a window are found: the set of the numbers that are taken, and a panel for each window.
+use Rattle.std.specs.Prelude.{◌≡◌, ℕ, ◌+◌, ◌<◌, ◌≤◌, ◌==◌, ◌||◌, Bool, if◌then◌else◌, Option, None, Some, is_some, List, length, slice_index_or}
 use Rattle.cell.specs.declared.limits.TheConstants.{MOST_PANELS}
 use Rattle.stack.specs.Nodes.{window_at}
 use Rattle.stack.specs.declared.nodes.Node.{Node}
+use Rattle.small_set.specs.Sets.{contains}
 
--- how many numbers have a bit, and how many numbers a window can have
-abbrev pub number_limit : ℕ
-number_limit = 1024
-
+-- how many numbers a window can have
 abbrev pub window_limit : ℕ
 window_limit = 65536
 
--- the bit of the number p, in words of 64
-abbrev pub number_bit : List ℕ → ℕ → ℕ
-number_bit words p = bit_at (slice_index words (p / 64)) (p % 64)
-
--- 1 for the end, and for the number of a panel, which has a window
-abbrev pub taken_bit : ℕ → Option ℕ → ℕ
-taken_bit p window = if p == 0 then 1 else (if is_some window then 1 else 0)
+-- whether a number is taken: that of the end, or of a panel, which has a window
+abbrev pub is_taken : ℕ → Option ℕ → Bool
+is_taken p window = p == 0 || is_some window
 
 -- the panel of window w, or 0
 abbrev pub holder_at : List ℕ → ℕ → ℕ
@@ -33,6 +26,6 @@ held_by (Some u) p holder w = if w == u then p else holder w
 pub record IsIndexed (nodes : List Node) (numbers holders : List ℕ) : Type 0 where
   pub few : length nodes ≤ MOST_PANELS + 1
   pub room : 1 < length nodes → window_limit ≤ length holders
-  pub number : (p : ℕ) → p < number_limit → number_bit numbers p ≡ taken_bit p (window_at nodes p)
+  pub number : (p : ℕ) → contains numbers p ≡ is_taken p (window_at nodes p)
   pub panel : (p w : ℕ) → window_at nodes p ≡ Some w → holder_at holders w ≡ p
   pub window : (w : ℕ) → 0 < holder_at holders w → window_at nodes (holder_at holders w) ≡ Some w

@@ -6,7 +6,6 @@
 //! - `holders`: the panel of each window
 //! - `links`: a panel leaves the order, or enters it
 //! - `nodes`: panels by number, with their neighbours
-//! - `numbers`: the least free number
 //! - `queries`: what is asked of panels
 //! - `table`: the `Stack`
 //! - `visible`: walks through the order
@@ -17,7 +16,6 @@ mod entries;
 mod holders;
 mod links;
 mod nodes;
-mod numbers;
 mod queries;
 mod table;
 mod visible;

@@ -1,15 +1,16 @@
 //! The nodes through which the order of the visible panels is threaded.
 
-ghost use Rattle.std.specs.Prelude.{◌≡◌, ◌<◌, ◌≤◌, ◌++◌, ◌∷◌, [], ℕ, None, Some, MatchOption, length, slice_set, is_ok, if◌then◌else◌, ⊤};
+ghost use Rattle.std.specs.Prelude.{◌≡◌, ◌<◌, ◌≤◌, ◌++◌, ◌∷◌, ◌==◌, [], ℕ, false, true, None, Some, MatchOption, length, slice_set, is_ok, if◌then◌else◌, ⊤};
 ghost use Rattle.std.specs.Option.{option_map};
 ghost use Rattle.cell.specs.declared.limits.TheConstants.{MOST_PANELS};
-ghost use Rattle.stack.specs.Indexes.{number_limit, taken_bit};
+ghost use Rattle.small_set.specs.Sets.{contains};
+ghost use Rattle.stack.specs.Indexes.{is_taken};
 ghost use Rattle.stack.specs.Nodes.{no_node, node_at, window_at, window_in};
 ghost use Rattle.stack.specs.steps.Entries.{Windowed};
 
 use crate::holders::Holders;
-use crate::numbers::Numbers;
-use cell::WinId;
+use cell::{MOST_PANELS, WinId};
+use small_set::SmallSet;
 use std::alloc::{AllocError, Global};
 use std::marker::Model;
 
@@ -36,13 +37,14 @@ impl Node {
 pub struct Nodes {
     end: Node,
     panels: Vec<Node>,
-    // Both follow the nodes, so that nothing is looked for among these.
-    numbers: Numbers,
+    // Both follow the nodes, so that nothing is looked for among these. The numbers are those of panels, and 0.
+    numbers: SmallSet,
     holders: Holders,
 }
 
 impl Model for Nodes {
     ghost use Rattle.std.specs.Prelude.{List, ◌∷◌};
+    ghost use Rattle.small_set.specs.Sets.{contains};
     ghost use Rattle.stack.specs.Indexes.{IsIndexed};
     ghost use Rattle.stack.specs.declared.nodes.Node.{Node};
 
@@ -60,7 +62,7 @@ impl Nodes {
         Nodes {
             end: Node::NONE,
             panels: Vec::new(alloc),
-            numbers: Numbers::new(),
+            numbers: no_panel(),
             holders: Holders::new(alloc),
         }
     }
@@ -94,10 +96,10 @@ impl Nodes {
 
     /// The least number from 1 on that no panel has.
     pub fn least_free(&self) -> u16
-        ensures free { result < number_limit → taken_bit result (window_at self.now result) ≡ 0 }
-        ensures taken { (p : ℕ) → p < result → p < number_limit → taken_bit p (window_at self.now p) ≡ 1 }
+        ensures free { is_taken result (window_at self.now result) ≡ false }
+        ensures taken { (p : ℕ) → p < result → is_taken p (window_at self.now p) ≡ true }
     {
-        self.numbers.least_free()
+        self.numbers.least_absent()
     }
 
     /// Gives a node other neighbours.
@@ -123,7 +125,7 @@ impl Nodes {
         let mut node = self.get(at);
         self.holders.set(node.window, 0);
         self.holders.set(win, at);
-        self.numbers.set(at, win.is_some());
+        set_taken(&mut self.numbers, at, win.is_some());
         node.window = win;
         self.panels[usize::from(at) - 1] = node;
     }
@@ -137,5 +139,26 @@ impl Nodes {
         self.holders.grow()?;
         self.panels.push(node)?;
         Ok(())
+    }
+}
+
+/// The numbers where there is no panel: 0 alone, which no panel has.
+fn no_panel() -> SmallSet
+    ensures { (p : ℕ) → contains result p ≡ (p == 0) }
+{
+    let mut numbers = SmallSet::new();
+    numbers.insert(0);
+    numbers
+}
+
+/// Says whether a panel has a number.
+fn set_taken(numbers: &mut SmallSet, number: u16, taken: bool)
+    requires { number ≤ MOST_PANELS }
+    ensures { (p : ℕ) → contains numbers.new p ≡ (if p == number then taken else contains numbers.old p) }
+{
+    if taken {
+        numbers.insert(number);
+    } else {
+        numbers.remove(number);
     }
 }

@@ -1,41 +1,46 @@
--- `clear`: columns in which a picture may differ from another (`Changed`).
-use Rattle.std.proofs.Common.{rules, ◌≡◌, ℕ, length, length-set, refl, ◌∙◌, ap, arith}
+-- `clear`: line by line of the set.
+use Rattle.std.proofs.Common.{rules, ◌≡◌, ◌+◌, ◌<◌, ◌≤◌, ℕ, List, length, length-set, sym, subst, ◌∙◌, ap, arith}
+use Rattle.std.specs.Prelude.{Option}
+use Rattle.cell.specs.declared.limits.TheConstants.{LARGEST_SCREEN}
 use Rattle.paint.specs.Changes.{no_stretch, stretch_of}
-use Rattle.paint.proofs.Changed.{behind, is_out, one-less}
+use Rattle.paint.proofs.Changed.{cleared-first, cleared-more, fewer-left, lines-left, looked-at}
+use Rattle.small_set.specs.Sets.{IsNext}
 use Rattle.paint.proofs.changes.Changes.clear.Goals as goal
 
-pub loop-y-init : goal.loop-y-init
-loop-y-init c = record { height = refl; few = c.self.invariant.few; inside = c.self.invariant.inside; others = c.self.invariant.others }
+pub index_mut-requires : goal.index_mut-requires
+index_mut-requires c =
+    let h = c.loop-next.invariant in
+    let here = looked-at c.self.inside.changed c.loop-next.self-inside.stretches.items c.loop-next.next c.in-Some.y c.in-Some.is h.cleared in
+    omega (arith, c.from.ensures, h.height, c.self.invariant.there c.in-Some.y here.rest.0)
 
-pub loop-y-preserved : goal.loop-y-preserved
-loop-y-preserved c =
-    let h = c.loop-y.invariant in
-    let items = c.loop-y.self-inside.stretches.items in
-    let long = length-set items c.from.result no_stretch in
-    record {
-      height = long ∙ h.height;
-      few = omega (arith, long, h.few);
-      inside = omega (arith, long, h.inside);
-      others = rw c.from.ensures (one-less items c.loop-y.y c.self.inside.lines.end (omega (arith, c.loop-y-test.true, h.inside)) h.others);
-    }
+pub overflow_add-y : goal.overflow_add-y
+overflow_add-y c =
+    let h = c.loop-next.invariant in
+    let here = looked-at c.self.inside.changed c.loop-next.self-inside.stretches.items c.loop-next.next c.in-Some.y c.in-Some.is h.cleared in
+    omega (arith, c.self.invariant.there c.in-Some.y here.rest.0, c.self.invariant.few)
 
-pub invariant_of-self : goal.invariant_of-self
-invariant_of-self c =
-    let h = c.loop-y.invariant in
-    let none : (y : ℕ) → stretch_of c.loop-y.self-inside.stretches.items y ≡ no_stretch =
-    λ y. h.others y (is_out (record { start = c.loop-y.y; end = c.self.inside.lines.end }) y (behind c.loop-y.y c.self.inside.lines.end y c.loop-y-test.false)) in
-    record {
-      few = h.few;
-      inside = omega arith;
-      others = λ y out. none y;
-      marked = search rules;
-      others_in_blocks = λ y out. none y;
-    }
+pub loop-next-smaller : goal.loop-next-smaller
+loop-next-smaller c =
+    let h = c.loop-next.invariant in
+    let lines = c.self.inside.changed in
+    let items = c.loop-next.self-inside.stretches.items in
+    let y = c.in-Some.y in
+    let here = looked-at lines items c.loop-next.next y c.in-Some.is h.cleared in
+    let there = c.self.invariant.there y here.rest.0 in
+    let found = subst (λ (s : List ℕ). IsNext s (y + 1) c.next-next-in-Some.result) h.same c.next-next-in-Some.ensures in
+    rw c.in-Some.is (fewer-left lines items y (omega (arith, h.height, there)) here (omega (arith, there, c.self.invariant.few)) c.next-next-in-Some.result found)
 
-pub returns : goal.returns
-returns c =
-    let h = c.loop-y.invariant in
+pub loop-next-preserved : goal.loop-next-preserved
+loop-next-preserved c =
+    let h = c.loop-next.invariant in
+    let lines = c.self.inside.changed in
+    let items = c.loop-next.self-inside.stretches.items in
+    let y = c.in-Some.y in
+    let here = looked-at lines items c.loop-next.next y c.in-Some.is h.cleared in
+    let there = c.self.invariant.there y here.rest.0 in
+    let found = subst (λ (s : List ℕ). IsNext s (y + 1) c.next-next-in-Some.result) h.same c.next-next-in-Some.ensures in
     record {
-      height = h.height ∙ ap length c.self.view_is;
-      none = λ y. h.others y (is_out (record { start = c.loop-y.y; end = c.self.inside.lines.end }) y (behind c.loop-y.y c.self.inside.lines.end y c.loop-y-test.false));
+      height = length-set items c.from.result no_stretch ∙ h.height;
+      same = h.same;
+      cleared = rw c.from.ensures (cleared-more lines items y (omega (arith, h.height, there)) here c.next-next-in-Some.result found);
     }

@@ -1,12 +1,13 @@
-use Rattle.std.proofs.Common.{◌≡◌, ℕ, ◌≤◌, false, length}
-use Rattle.cell.specs.declared.limits.TheConstants.{LARGEST_SCREEN}
-use Rattle.paint.specs.Changes.{is_in, no_stretch, stretch_of}
+use Rattle.std.proofs.Common.{◌≡◌, length}
+use Rattle.paint.proofs.Changed.{ClearedBefore, lines-left}
 use Rattle.paint.proofs.changes.Changes.clear.Given as goal
 
-abbrev pub invariant-loop-y : goal.invariant-loop-y
-invariant-loop-y l = record {
+abbrev pub invariant-loop-next : goal.invariant-loop-next
+invariant-loop-next l = record {
   height : length l.self-inside.stretches.items ≡ length l.initial.self-inside.stretches.items;
-  few : length l.self-inside.stretches.items ≤ LARGEST_SCREEN;
-  inside : l.y-end ≤ length l.self-inside.stretches.items;
-  others : (v : ℕ) → is_in (record { start = l.y; end = l.y-end }) v ≡ false → stretch_of l.self-inside.stretches.items v ≡ no_stretch;
+  same : l.self-inside.changed ≡ l.initial.self-inside.changed;
+  cleared : ClearedBefore l.initial.self-inside.changed l.next l.self-inside.stretches.items;
 }
+
+abbrev pub decreases-loop-next : goal.decreases-loop-next
+decreases-loop-next l = lines-left l.next

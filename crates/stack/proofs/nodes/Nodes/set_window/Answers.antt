@@ -2,10 +2,11 @@
 use Rattle.std.proofs.Common.{◌≡◌, ◌∷◌, ◌<◌, ◌==◌, if◌then◌else◌, Bool, List, sym, ap, subst, ◌∙◌, set, length}
 use Rattle.std.specs.Option.{option_map}
 use Rattle.cell.specs.declared.window.WinId.{WinId}
-use Rattle.stack.specs.Indexes.{held_by, holder_at, number_bit, IsIndexed}
+use Rattle.stack.specs.Indexes.{held_by, holder_at, IsIndexed}
 use Rattle.stack.specs.Nodes.{node_at, window_in}
 use Rattle.stack.specs.steps.Entries.{Windowed}
 use Rattle.stack.specs.declared.nodes.Node.{Node}
+use Rattle.small_set.specs.Sets.{contains}
 use Rattle.stack.proofs.Indexes.{free-window, indexed-windowed, set-behind, some-window, windowed-set}
 use Rattle.stack.proofs.nodes.Nodes.set_window.Goals as goal
 
@@ -21,12 +22,12 @@ invariant_of-self c =
     let win = option_map (λ (w : WinId). w.0) c.args.win in
     let free = rw (← c.self.view_is) at c.requires.free in
     rw c.from.ensures
-    (subst (λ (l : List Node). IsIndexed l c.set-3.new.self c.set-2.new.self) (set-behind a.end a.panels.items p node c.requires.panel)
-    (indexed-windowed nodes (set nodes p node) a.numbers c.set-3.new.self a.holders c.set.new.self c.set-2.new.self p win
+    (subst (λ (l : List Node). IsIndexed l c.set_taken.new.numbers c.set-2.new.self) (set-behind a.end a.panels.items p node c.requires.panel)
+    (indexed-windowed nodes (set nodes p node) a.numbers c.set_taken.new.numbers a.holders c.set.new.self c.set-2.new.self p win
     c.self.invariant c.requires.panel within windowed.length windowed.window (free-window nodes c.args.win free)
     (λ w. c.set.ensures.panel w ∙ ap (λ (n : Node). held_by (window_in n) 0 (holder_at a.holders) w) got)
     c.set-2.ensures.panel c.set.ensures.len c.set-2.ensures.len
-    (λ q lt. c.set-3.ensures q lt ∙ ap (λ (b : Bool). if q == p then (if b then 1 else 0) else number_bit a.numbers q) (c.is_some.ensures ∙ some-window c.args.win))))
+    (λ q. c.set_taken.ensures q ∙ ap (λ (b : Bool). if q == p then b else contains a.numbers q) (c.is_some.ensures ∙ some-window c.args.win))))
 
 pub returns : goal.returns
 returns c =

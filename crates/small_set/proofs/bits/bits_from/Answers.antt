@@ -1,0 +1,20 @@
+use Rattle.std.proofs.Common.{◌≡◌, ◌<◌, ◌≤◌, ℕ, ◌-◌, ◌^◌, inl, inr, arith, ap, ◌∙◌, bit_and, min}
+use Rattle.std.specs.Int.{bit_at}
+use Rattle.std.proofs.lemmas.Nat.Bits.{bit_at_and, bit_at-lt, bit_at_above, bit_at_mask_above, bit_at_mask_below, bit_at_mask_inside, ones_shl}
+use Rattle.std.proofs.lemmas.Bool.{cases_lt}
+use Rattle.small_set.proofs.bits.bits_from.Goals as goal
+
+pub returns-clause-below : goal.returns-clause-below
+returns-clause-below c i low =
+    let a = c.args in
+    let mask = ones_shl 64 a.from (omega (arith, c.requires)) in
+    rw (mask, bit_at_and a.word (2 ^ 64 - 2 ^ a.from) i, bit_at_mask_below a.from 64 i low) (omega arith)
+
+pub returns-clause-others : goal.returns-clause-others
+returns-clause-others c i from =
+    let a = c.args in
+    let mask = ones_shl 64 a.from (omega (arith, c.requires)) in
+    rw (mask, bit_at_and a.word (2 ^ 64 - 2 ^ a.from) i) (elim (cases_lt i 64) [
+      | inl inside ↦ rw (bit_at_mask_inside a.from 64 i from inside) (omega (arith, bit_at-lt a.word i))
+      | inr past ↦ rw (bit_at_mask_above a.from 64 i past, bit_at_above a.word 64 i c.ranges.word.fits past) (omega arith)
+    ])

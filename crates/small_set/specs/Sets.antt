@@ -1,0 +1,12 @@
+-- Sets of numbers, as words of 64 bits.
+use Rattle.std.specs.Prelude.{◌≡◌, ℕ, ◌/◌, ◌%◌, ◌<◌, ◌≤◌, ◌==◌, Bool, true, false, MatchOption, Option, List, slice_index}
+use Rattle.std.specs.Int.{bit_at}
+
+-- the number is one of the set: its bit is set
+abbrev pub contains : List ℕ → ℕ → Bool
+contains words n = bit_at (slice_index words (n / 64)) (n % 64) == 1
+
+-- what the least number of the set from one on is, if there is one
+abbrev pub IsNext : List ℕ → ℕ → Option ℕ → Type 0
+IsNext words from next = MatchOption next ((n : ℕ) → from ≤ n → contains words n ≡ false)
+    (λ found. (from ≤ found) × (contains words found ≡ true) × ((n : ℕ) → from ≤ n → n < found → contains words n ≡ false))

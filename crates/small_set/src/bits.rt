@@ -1,0 +1,26 @@
+//! The bits of a word.
+
+ghost use Rattle.std.specs.Prelude.{◌≡◌, ◌<◌, ◌≤◌, ℕ};
+ghost use Rattle.std.specs.Int.{bit_at};
+
+/// How many bits a word has.
+pub(crate) const WIDTH: u16 = 64;
+
+/// The bits of a word from one on; those below it are clear.
+pub(crate) fn bits_from(word: u64, from: u16) -> u64
+    requires { from < WIDTH }
+    ensures below { (i : ℕ) → i < from → bit_at result i ≡ 0 }
+    ensures others { (i : ℕ) → from ≤ i → bit_at result i ≡ bit_at word i }
+{
+    word & (u64::MAX << from)
+}
+
+/// The lowest bit that is set.
+pub(crate) fn lowest_bit(word: u64) -> u16
+    requires { 0 < word }
+    ensures inside { result < WIDTH }
+    ensures set { bit_at word result ≡ 1 }
+    ensures below { (i : ℕ) → i < result → bit_at word i ≡ 0 }
+{
+    word.trailing_zeros() as u16
+}

@@ -1,0 +1,93 @@
+//! A set of numbers below 1,024.
+
+ghost use Rattle.std.specs.Prelude.{◌≡◌, ◌<◌, ◌==◌, ◌||◌, ℕ, true, false, if◌then◌else◌};
+ghost use Rattle.small_set.specs.Sets.{IsNext, contains};
+
+use crate::bits::{WIDTH, bits_from, lowest_bit};
+use std::marker::Model;
+
+const WORDS: u16 = 16;
+
+/// Each number of a set is below it.
+pub const CAPACITY: u16 = WORDS * WIDTH;
+
+/// A set of numbers below 1,024.
+#[derive(Drop)]
+pub struct SmallSet {
+    words: [u64; 16],
+}
+
+impl Model for SmallSet {
+    ghost use Rattle.std.specs.Prelude.{List, ℕ, ◌≡◌, length};
+
+    ghost Value = { List ℕ };
+
+    ghost view = { λ set. set.words };
+
+    ghost invariant = { λ set. length set.words ≡ 16 };
+}
+
+impl SmallSet {
+    /// No number.
+    pub fn new() -> SmallSet
+        ensures { (n : ℕ) → contains result n ≡ false }
+    {
+        SmallSet { words: [0; 16] }
+    }
+
+    /// Takes a number in.
+    pub fn insert(&mut self, number: u16)
+        requires { number < CAPACITY }
+        ensures { (n : ℕ) → contains self.new n ≡ (n == number || contains self.old n) }
+    {
+        self.words[usize::from(number / WIDTH)] |= 1 << (number % WIDTH);
+    }
+
+    /// Takes a number out.
+    pub fn remove(&mut self, number: u16)
+        requires { number < CAPACITY }
+        ensures { (n : ℕ) → contains self.new n ≡ (if n == number then false else contains self.old n) }
+    {
+        self.words[usize::from(number / WIDTH)] &= !(1 << (number % WIDTH));
+    }
+
+    /// The least number that isn't in it.
+    pub fn least_absent(&self) -> u16
+        ensures absent { contains self.now result ≡ false }
+        ensures below { (n : ℕ) → n < result → contains self.now n ≡ true }
+    {
+        for at in 0..WORDS {
+            let word = self.words[usize::from(at)];
+            if word != u64::MAX {
+                return at * WIDTH + word.trailing_ones() as u16;
+            }
+        }
+        CAPACITY
+    }
+
+    /// The least number from one on.
+    pub fn next(&self, from: u16) -> Option<u16>
+        ensures { IsNext self.now from result }
+    {
+        let mut at = from / WIDTH;
+        let mut word = match self.words.as_slice().get(usize::from(at)) {
+            Some(word) => bits_from(*word, from % WIDTH),
+            None => return None,
+        };
+        while word == 0 {
+            at += 1;
+            if at == WORDS {
+                return None;
+            }
+            word = self.words[usize::from(at)];
+        }
+        Some(at * WIDTH + lowest_bit(word))
+    }
+
+    /// Takes all numbers out.
+    pub fn clear(&mut self)
+        ensures { (n : ℕ) → contains self.new n ≡ false }
+    {
+        self.words = [0; 16];
+    }
+}
