@@ -1,15 +1,9 @@
-//! The tests of the libraries, a module for each. They make public calls alone; a library whose tests look at what it keeps to itself has its
+//! The tests of the libraries below `compose`, a module for each; those of `compose` and `desk` are in `screen_tests`. They make public calls alone; a library whose tests look at what it keeps to itself has its
 //! own. They are proved once, over the proved libraries: a library with tests in its sources would be proved once more for them.
 #![tactic(auto)]
 
 #[cfg(test)]
-mod faulty;
-#[cfg(test)]
 mod of_cell;
-#[cfg(test)]
-mod of_compose;
-#[cfg(test)]
-mod of_desk;
 #[cfg(test)]
 mod of_ecma;
 #[cfg(test)]
@@ -20,6 +14,8 @@ mod of_grids;
 mod of_paint;
 #[cfg(test)]
 mod of_script;
+#[cfg(test)]
+mod of_small_set;
 #[cfg(test)]
 mod of_stack;
 #[cfg(test)]

@@ -1,8 +1,8 @@
 ghost use Rattle.std.specs.Prelude.{◌≡◌, IfOk, false};
 ghost use Rattle.cell.specs.Pictures.{HasSize};
 
-use crate::faulty::Halting;
 use cell::{Attr, Colour, ColourPair, Grid, Refusal, Rendition, Shown, VirtualScreen};
+use faulty::Halting;
 use paint::{Counted, Painter, Sent, WriteFault};
 use std::alloc::Global;
 use std::test::Fail;

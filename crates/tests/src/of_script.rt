@@ -1,6 +1,6 @@
-use crate::faulty::{Halting, Pieces};
 use arrayvec::ArrayVec;
 use cell::{Attr, Cell, Refusal, WinId};
+use faulty::{Halting, Pieces};
 use script::{
     Arguments, Bytes, LONGEST_LINE, LineEnd, ScriptFault, TextFault, last_line, log_answer,
     read_line,

@@ -1,4 +1,4 @@
-use crate::faulty::{Halting, Pieces};
+use faulty::{Halting, Pieces};
 use std::io::{Read, Write};
 use std::test::Fail;
 use streams::{Counted, CountedReader, Sink, Source, WriteFault, send};

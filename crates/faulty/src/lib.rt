@@ -1,4 +1,5 @@
-//! Readers and writers that give or take pieces, that fail, and that count.
+//! Readers and writers for tests, faulty ones: they give or take pieces, fail, and count.
+#![tactic(auto)]
 
 use std::alloc::Global;
 use std::io;
@@ -6,10 +7,10 @@ use std::io::{ErrorKind, Read, Write};
 
 /// A reader that gives some bytes, at most `step` at a time, and then fails or ends.
 #[derive(Drop)]
-pub(crate) struct Pieces<'a> {
-    pub(crate) bytes: &'a [u8],
-    pub(crate) step: usize,
-    pub(crate) fails: bool,
+pub struct Pieces<'a> {
+    pub bytes: &'a [u8],
+    pub step: usize,
+    pub fails: bool,
 }
 
 impl Read for Pieces<'_> {
@@ -28,8 +29,8 @@ impl Read for Pieces<'_> {
 /// A writer that takes at most `step` bytes a call. Once, where it has taken `stop` bytes, its next write fails or takes none, or its
 /// next flush fails. One that is stuck can't be flushed.
 #[derive(Drop)]
-pub(crate) struct Halting {
-    pub(crate) taken: Vec<u8>,
+pub struct Halting {
+    pub taken: Vec<u8>,
     step: usize,
     stop: Option<usize>,
     fails: bool,
@@ -38,7 +39,7 @@ pub(crate) struct Halting {
 
 impl Halting {
     /// One that takes all, at most so many bytes a call.
-    pub(crate) fn taking(alloc: Global, step: usize, is_stuck: bool) -> Halting {
+    pub fn taking(alloc: Global, step: usize, is_stuck: bool) -> Halting {
         Halting {
             taken: Vec::new(alloc),
             step,
@@ -49,7 +50,7 @@ impl Halting {
     }
 
     /// One that stops once, where it has taken so many bytes.
-    pub(crate) fn stopping(alloc: Global, stop: usize, fails: bool) -> Halting {
+    pub fn stopping(alloc: Global, stop: usize, fails: bool) -> Halting {
         Halting {
             taken: Vec::new(alloc),
             step: usize::MAX,
@@ -89,8 +90,8 @@ impl Write for Halting {
 
 /// A writer that takes everything, and counts its calls.
 #[derive(Drop)]
-pub(crate) struct Counting {
-    pub(crate) writes: u32,
+pub struct Counting {
+    pub writes: u32,
 }
 
 impl Write for Counting {

@@ -1,8 +1,8 @@
-use crate::faulty::Halting;
 use desk::{
     Call, Calls, Counted, CountedReader, Fault, PanelId, Refresh, Refusal, RunEnd, Screen,
     ScriptEnd, ScriptFault, Sink, Source, VirtualScreen, WinId, WriteFault, Writing,
 };
+use faulty::Halting;
 use std::alloc::Global;
 use std::io;
 use std::io::{ErrorKind, Read};

@@ -1,6 +1,5 @@
 //! Screens over writers that fail or count, scripts whose reader fails, and what a run counts.
 
-use crate::faulty::{Counting, Halting, Pieces};
 use crate::of_desk::{HI, UPDATE, addstr, breaking_after, run, run_script, screen};
 use cell::{Attr, Rendition};
 use desk::{
@@ -8,6 +7,7 @@ use desk::{
     Sent, Sink, TextFault, VirtualScreen, WinId, WriteFault, Writing,
 };
 use ecma::Terminal;
+use faulty::{Counting, Halting, Pieces};
 use std::alloc::Global;
 use std::test::Fail;
 
