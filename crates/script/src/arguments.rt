@@ -1,6 +1,6 @@
 //! The arguments of a call, as a script has them.
 
-ghost use Rattle.std.specs.Prelude.{◌≡◌, ◌≤◌, ◌<◌, ◌+◌, length, is_some, IfSome, Some, None, false};
+ghost use Rattle.std.specs.Prelude.{◌≡◌, ◌≤◌, ◌<◌, ◌+◌, ◌∷◌, ◌++◌, [], length, is_some, IfSome, Some, None, false};
 ghost use Rattle.std.specs.Bool.{OnTrue};
 ghost use Rattle.script.specs.Words.{attributes, character, nothing_said, number, panel_or_none};
 ghost use Rattle.script.specs.Texts.{said};
@@ -18,7 +18,9 @@ use world::PanelId;
 /// What the arguments of a call say. Its numbers are in their order.
 #[derive(Drop)]
 pub struct Arguments {
-    numbers: ArrayVec<u16, MOST_ARGUMENTS>,
+    numbers: [u16; MOST_ARGUMENTS],
+    /// How many numbers were said.
+    count: usize,
     number_or_none: Option<u16>,
     signed: i16,
     attributes: u8,
@@ -27,18 +29,22 @@ pub struct Arguments {
 }
 
 impl Model for Arguments {
+    ghost use Rattle.std.specs.Prelude.{◌≤◌, take};
     ghost use Rattle.script.specs.Words.{Arguments as Said};
+    ghost use Rattle.script.specs.declared.limits.TheConstants.{MOST_ARGUMENTS};
 
     ghost Value = { Said };
 
     ghost view = { λ a. record {
-      numbers = a.numbers.items;
+      numbers = take a.count a.numbers;
       number_or_none = a.number_or_none;
       signed = a.signed;
       attributes = a.attributes;
       flag = a.flag;
       text = a.text.items;
     } };
+
+    ghost invariant = { λ a. a.count ≤ MOST_ARGUMENTS };
 }
 
 /// Puts what was said in its place, and answers whether something was.
@@ -61,7 +67,8 @@ impl Arguments {
         ensures { result ≡ nothing_said }
     {
         Arguments {
-            numbers: ArrayVec::new(),
+            numbers: [0; MOST_ARGUMENTS],
+            count: 0,
             number_or_none: None,
             signed: 0,
             attributes: 0,
@@ -74,7 +81,7 @@ impl Arguments {
     pub fn clear(&mut self)
         ensures { self.new ≡ nothing_said }
     {
-        self.numbers.clear();
+        self.count = 0;
         self.number_or_none = None;
         self.signed = 0;
         self.attributes = 0;
@@ -86,9 +93,10 @@ impl Arguments {
     pub(crate) fn number(&self, place: usize) -> u16
         ensures { result ≡ number self.now place }
     {
-        match self.numbers.as_slice().get(place) {
-            Some(number) => *number,
-            None => 0,
+        if place < self.count {
+            self.numbers[place]
+        } else {
+            0
         }
     }
 
@@ -133,6 +141,15 @@ impl Arguments {
         }
     }
 
+    /// Takes one number more.
+    fn push(&mut self, number: u16)
+        requires { length self.old.numbers < MOST_ARGUMENTS }
+        ensures { self.new ≡ record self.old { numbers = self.old.numbers ++ number ∷ [] } }
+    {
+        self.numbers[self.count] = number;
+        self.count += 1;
+    }
+
     /// Takes what an argument of a form says, and answers whether it has its form.
     pub fn take(&mut self, form: Form, piece: &[u8]) -> bool
         requires room { length self.old.numbers < MOST_ARGUMENTS }
@@ -144,7 +161,7 @@ impl Arguments {
         match form {
             Form::Number => match number_up_to(GREATEST_NUMBER, piece) {
                 Some(number) => {
-                    self.numbers.push(number);
+                    self.push(number);
                     true
                 }
                 None => false,
