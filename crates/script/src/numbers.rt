@@ -1,10 +1,10 @@
 //! Numbers, attributes and flags as a script has them.
 
-ghost use Rattle.std.specs.Prelude.{◌≡◌, ◌≤◌, length, true};
+ghost use Rattle.std.specs.Prelude.{◌≡◌, ◌≤◌, length, Some, None, if◌then◌else◌};
 ghost use Rattle.std.specs.Char.{is_ascii_digit};
 ghost use Rattle.std.specs.List.{list_all};
 ghost use Rattle.std.specs.Str.Parse.{digits_value};
-ghost use Rattle.script.specs.Texts.{attributes_of, flag_of, hex_byte, hex_value, is_plain_number, negative, number_or_none, number_up_to, signed_number};
+ghost use Rattle.script.specs.Texts.{attributes_of, flag_of, hex_byte, hex_value, negative, number_or_none, number_up_to, signed_number};
 
 use crate::limits::{ALL_ATTRIBUTES, GREATEST_NUMBER, GREATEST_SIGNED, MOST_DIGITS};
 
@@ -15,44 +15,35 @@ pub fn has_digits_alone(piece: &[u8]) -> bool
     piece.iter().all(|b| b.is_ascii_digit())
 }
 
-/// Whether a piece is digits, not too many, with no leading zero but `0` itself.
-fn is_plain_number(piece: &[u8]) -> bool
-    ensures { result ≡ is_plain_number piece.now }
-{
-    if piece.is_empty() || piece.len() > MOST_DIGITS {
-        return false;
-    }
-    if !has_digits_alone(piece) {
-        return false;
-    }
-    piece.len() == 1 || piece[0] != b'0'
-}
-
-/// The number that some digits write.
-fn digits_value(digits: &[u8]) -> u32
-    requires short { length digits.now ≤ MOST_DIGITS }
-    requires digits { list_all is_ascii_digit digits.now ≡ true }
-    ensures { result ≡ digits_value 10 digits.now }
+/// The number that some digits write, if they are digits alone.
+fn digits_value(piece: &[u8]) -> Option<u32>
+    requires { length piece.now ≤ MOST_DIGITS }
+    ensures { result ≡ (if list_all is_ascii_digit piece.now then Some (digits_value 10 piece.now) else None) }
 {
     let mut value = 0;
-    for digit in digits {
-        value = value * 10 + u32::from(*digit - b'0');
+    for b in piece {
+        if !b.is_ascii_digit() {
+            return None;
+        }
+        value = value * 10 + u32::from(*b - b'0');
     }
-    value
+    Some(value)
 }
 
-/// A number from 0 to `most`.
+/// A number from 0 to `most`: digits, not too many, with no leading zero but `0` itself.
 pub fn number_up_to(most: u16, piece: &[u8]) -> Option<u16>
     ensures { result ≡ number_up_to most piece.now }
 {
-    if !is_plain_number(piece) {
+    if piece.is_empty() || piece.len() > MOST_DIGITS {
         return None;
     }
-    let value = digits_value(piece);
-    if value > u32::from(most) {
+    if piece.len() > 1 && piece[0] == b'0' {
         return None;
     }
-    Some(value as u16)
+    match digits_value(piece) {
+        Some(value) if value <= u32::from(most) => Some(value as u16),
+        _ => None,
+    }
 }
 
 /// A number, or `none` for none.

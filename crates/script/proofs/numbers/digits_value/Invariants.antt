@@ -1,6 +1,5 @@
-use Rattle.std.proofs.Common.{◌≡◌, ◌<◌, ◌^◌, take}
-use Rattle.std.specs.Str.Parse.{digits_value}
+use Rattle.script.proofs.NumberLemmas.{DigitsSoFar}
 use Rattle.script.proofs.numbers.digits_value.Given as goal
 
-abbrev pub invariant-loop-digit : goal.invariant-loop-digit
-invariant-loop-digit l = (l.value ≡ digits_value 10 (take l.digit-index l.digits)) × (l.value < 10 ^ l.digit-index)
+abbrev pub invariant-loop-b : goal.invariant-loop-b
+invariant-loop-b l = DigitsSoFar l.piece l.b-index l.value
