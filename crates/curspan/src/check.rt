@@ -12,7 +12,7 @@ use crate::status::{ACCEPTED, BAD_TEXT, tell_failure};
 use arrayvec::ArrayVec;
 use desk::{ScriptFault, Sink, Source};
 use explain::{Finding, finding};
-use script::{Arguments, Bytes, LONGEST_LINE, LineEnd, TextFault, read_line};
+use script::{Arguments, LONGEST_LINE, LineEnd, Lines, TextFault, read_line};
 use streams::{append, append_decimal};
 
 /// Room for the line on how many lines are faulty: a number, and 14 bytes more.
@@ -92,8 +92,7 @@ fn tell_finding<O: Sink>(out: &mut O, report: Report, finding: Option<Finding>) 
 fn tell_lines<R: Source, O: Sink>(input: &mut R, out: &mut O) -> Checked
     ensures { ReportsScript (R.seen input.old) (R.seen input.new) (O.seen out.old) (O.seen out.new) result.is_whole result.report }
 {
-    let mut bytes = Bytes::new();
-    let mut line = ArrayVec::<u8, LONGEST_LINE>::new();
+    let mut lines = Lines::new();
     let mut taken = Arguments::new();
     let mut number = 1u64;
     let mut report = Report {
@@ -101,8 +100,8 @@ fn tell_lines<R: Source, O: Sink>(input: &mut R, out: &mut O) -> Checked
         is_written: true,
     };
     loop {
-        let (end, is_kept) = bytes.next_whole_line(input, &mut line);
-        let finding = finding_of_read(number, end, is_kept, line.as_slice(), &mut taken);
+        let (end, is_kept) = lines.next_whole_line(input);
+        let finding = finding_of_read(number, end, is_kept, lines.line(), &mut taken);
         report = tell_finding(out, report, finding);
         match end {
             LineEnd::Newline => number = number.saturating_add(1),

@@ -11,10 +11,9 @@ ghost use Rattle.desk.specs.ScriptEnds.{LineEnds, RunsLines, ScriptEnds, log_fai
 ghost use Rattle.desk.specs.States.{KeepsSize};
 
 use crate::screen::{Fault, Screen};
-use arrayvec::ArrayVec;
 use cell::Refusal;
 use script::{
-    Arguments, Bytes, LONGEST_LINE, LineEnd, ScriptEnd, ScriptFault, TextFault, log_answer,
+    Arguments, LONGEST_LINE, LineEnd, Lines, ScriptEnd, ScriptFault, TextFault, log_answer,
     read_line,
 };
 use streams::{Sink, Source, WriteFault};
@@ -78,15 +77,14 @@ impl<W: Sink> Screen<W> {
         ensures writer { (W.seen self.new.writer).failures ≡ counted (is_some (write_fault result.fault)) (W.seen self.old.writer).failures }
         ensures same { W.name self.new.writer ≡ W.name self.old.writer }
     {
-        let mut bytes = Bytes::new();
-        let mut line = ArrayVec::<u8, LONGEST_LINE>::new();
+        let mut lines = Lines::new();
         let mut taken = Arguments::new();
         let mut number = 1u64;
         let mut refused = false;
         loop {
-            match bytes.next_line(input, &mut line) {
+            match lines.next_line(input) {
                 Some(LineEnd::Newline) => {
-                    let end = self.run_line(number, line.as_slice(), &mut taken, log);
+                    let end = self.run_line(number, lines.line(), &mut taken, log);
                     refused = either(refused, end.refused);
                     if end.fault.is_some() {
                         return script_end(refused, end.fault);
@@ -94,7 +92,7 @@ impl<W: Sink> Screen<W> {
                     number = number.saturating_add(1);
                 }
                 Some(LineEnd::ScriptEnd) => {
-                    let end = self.run_line(number, line.as_slice(), &mut taken, log);
+                    let end = self.run_line(number, lines.line(), &mut taken, log);
                     return script_end(either(refused, end.refused), end.fault);
                 }
                 Some(LineEnd::ReadFailed) => {

@@ -4,16 +4,17 @@ use Rattle.std.specs.Prelude.{◌↔◌, IsOk, OnOk, Result, Ok, Err, is_err}
 use Rattle.std.proofs.lemmas.Bool.{eqb-true}
 use Rattle.std.proofs.lemmas.List.{drop-drop, drop-take, take-append-drop, take-take}
 use Rattle.std.proofs.lemmas.List.Quantifiers.{position-Some}
-use Rattle.std.proofs.Common.{◌≡◌, ℕ, ◌≤◌, ◌<◌, Bool, true, false, ◌||◌, ◌==◌, List, [], ◌∷◌, ◌++◌, length, refl, sym, ap, ◌∙◌, arith, append_assoc, append-nil, length-append, Some, None}
+use Rattle.std.proofs.Common.{◌≡◌, ℕ, ◌≤◌, ◌<◌, Bool, true, false, ◌||◌, ◌==◌, List, [], ◌∷◌, ◌++◌, length, refl, sym, ap, ◌∙◌, arith, append_assoc, append-nil, length-append, Some, None, if◌then◌else◌}
 use Rattle.std.specs.Io.KnownBytes.{Consumes}
 use Rattle.std.proofs.KnownBytes.{Consumes-nil, Consumes-trans}
 use Rattle.std.proofs.lemmas.List.Folds.{list_any-append}
 use Rattle.std.proofs.lemmas.Bool.Decides.{nat_tests}
 use Rattle.script.specs.Characters.{is_newline, newline}
+use Rattle.script.specs.declared.bytes.TheConstants.{LONGEST_PIECE}
 use Rattle.script.specs.declared.limits.TheConstants.{LONGEST_LINE}
 use Rattle.streams.specs.Counts.{counted}
 use Rattle.streams.specs.Sources.{SourceSeen}
-use Rattle.script.specs.steps.Bytes.{EndsLine, HasNoNewline, ReadingEnds, ReadsByte, ReadsLine, ReadsToEnd, ReadsWhole, TakesLine, work_left}
+use Rattle.script.specs.steps.Bytes.{EndsLine, HasNoNewline, ReadingEnds, ReadsByte, ReadsLine, ReadsToEnd, ReadsWhole, work_left}
 use Rattle.script.specs.declared.bytes.LineEnd.{LineEnd}
 use Rattle.script.specs.declared.bytes.LineEnd.TheVariants.{Newline, ScriptEnd, ReadFailed}
 use Rattle.script.specs.declared.bytes.Next.TheVariants.{Byte, End, Failed}
@@ -140,6 +141,12 @@ gathered_failed old mid new unused left rest line g n h = record {
 
 -- ---- a line, taken at once
 
+-- A line and its newline stood among the bytes that were not used.
+pub record TakesLine (unused left line : List ℕ) : Type 0 where
+  pub all : unused ≡ line ++ newline ∷ left
+  pub no_newline : HasNoNewline line
+  pub short : length line ≤ LONGEST_LINE
+
 pub taken_line : (seen : SourceSeen) (unused left line : List ℕ) → TakesLine unused left line → ReadsLine seen seen unused left line (Some Newline)
 taken_line seen unused left line t = record {
   bytes = [];
@@ -167,27 +174,34 @@ pub ok_parts : {T E : Type 0} (r : Result T E) (P Q : Type 0) → false ≡ is_e
 ok_parts (Ok t) P Q h said alike = (said, alike.0 refl)
 ok_parts (Err e) P Q h said alike = cc
 
--- the bytes of a piece, up to the first newline among those from one on
-pub newline_found : (piece line : List ℕ) (from to at : ℕ) → Some at ≡ position is_newline (take (to - from) (drop from piece)) → line ≡ take (from + at - from) (drop from piece)
-    → length line ≤ LONGEST_LINE → TakesLine (take (to - from) (drop from piece)) (take (to - (from + at + 1)) (drop (from + at + 1) piece)) line
-newline_found piece line from to at found is short =
-    let unused = take (to - from) (drop from piece) in
+-- the bytes up to the first newline, which stands early enough
+pub newline_found : (unused : List ℕ) (at : ℕ) → Some at ≡ position is_newline unused → at < LONGEST_PIECE → TakesLine unused (drop (at + 1) unused) (take at unused)
+newline_found unused at found early =
     let found_at = position-Some is_newline unused at 0 (sym found) in
-    let within : at < to - from = omega (arith, found_at.0, length-take (to - from) (drop from piece)) in
-    let first : line ≡ take at unused =
-    is ∙ ap (λ n. take n (drop from piece)) (let e : from + at - from ≡ at = omega arith in e) ∙ sym (take-take at (to - from) (drop from piece) (omega arith)) in
-    let rest : to - from ≡ (at + 1) + (to - (from + at + 1)) = omega arith in
-    let next : drop (at + 1) unused ≡ take (to - (from + at + 1)) (drop (from + at + 1) piece) =
-    ap (λ n. drop (at + 1) (take n (drop from piece))) rest
-    ∙ drop-take (at + 1) (to - (from + at + 1)) (drop from piece)
-    ∙ ap (take (to - (from + at + 1))) (drop-drop (at + 1) from piece ∙ ap (λ n. drop n piece) (let e : from + (at + 1) ≡ from + at + 1 = omega arith in e)) in
     record {
       all = sym (take-append-drop at unused)
-          ∙ ap (λ l. take at unused ++ l) (drop-cons unused at 0 found_at.0 ∙ ap (λ b. b ∷ drop (suc at) unused) (eqb-true (get_or unused at 0) newline found_at.1))
-          ∙ (λ i. sym first i ++ newline ∷ (ap (λ n. drop n unused) (sym (add-one at)) ∙ next) i);
-      no_newline = rw first (none_before unused at found_at.2);
-      short = short;
+          ∙ ap (λ l. take at unused ++ l) (drop-cons unused at 0 found_at.0 ∙ ap (λ b. b ∷ drop (suc at) unused) (eqb-true (get_or unused at 0) newline found_at.1)
+          ∙ ap (λ n. newline ∷ drop n unused) (sym (add-one at)));
+      no_newline = none_before unused at found_at.2;
+      short = omega (arith, length-take at unused);
     }
+
+-- a line that is lent from where it stands
+pub lent_line : (seen : SourceSeen) (unused bytes gathered : List ℕ) (at : ℕ) → bytes ≡ unused → Some at ≡ position is_newline bytes → at < LONGEST_PIECE
+    → ReadsLine seen seen unused (drop (at + 1) bytes) (if at + 1 == 0 then gathered else take (at + 1 - 1) bytes) (Some Newline)
+lent_line seen unused bytes gathered at same found early =
+    let some : (at + 1 == 0) ≡ false = grind (arith, nat_tests) in
+    let count : at + 1 - 1 ≡ at = omega arith in
+    rw (some, count, ← same) (taken_line seen bytes (drop (at + 1) bytes) (take at bytes) (newline_found bytes at found early))
+
+-- the bytes of a piece from one on, without the first
+pub first_left_out : (piece : List ℕ) (from to count : ℕ) → count ≤ length (take (to - from) (drop from piece)) → from ≤ to
+    → take (to - (from + count)) (drop (from + count) piece) ≡ drop count (take (to - from) (drop from piece))
+first_left_out piece from to count within order =
+    let rest : to - from ≡ count + (to - (from + count)) = omega (arith, length-take (to - from) (drop from piece)) in
+    sym (ap (λ n. drop count (take n (drop from piece))) rest
+    ∙ drop-take count (to - (from + count)) (drop from piece)
+    ∙ ap (take (to - (from + count))) (drop-drop count from piece))
 
 -- ---- a line of any length
 
@@ -260,9 +274,9 @@ joined_ends Newline unused bytes more front left rest line b e h = more_bytes un
 joined_ends ScriptEnd unused bytes more front left rest line b e h = (more_bytes unused bytes more front left b e ∙ ap (λ l. front ++ b ∷ l) h.0, h.1)
 joined_ends ReadFailed unused bytes more front left rest line b e h = (more_bytes unused bytes more front left b e ∙ ap (λ l. front ++ b ∷ l) h.0, h.1)
 
-pub left_out : (old mid new : SourceSeen) (unused left rest line : List ℕ) (end : LineEnd) → ReadsLine old mid unused left line None → ReadsToEnd mid new left rest end
-    → ReadsWhole old new unused rest line end false
-left_out old mid new unused left rest line end r s =
+pub left_out : (old mid new : SourceSeen) (unused left rest line kept : List ℕ) (end : LineEnd) → ReadsLine old mid unused left line None
+    → ReadsToEnd mid new left rest end → ReadsWhole old new unused rest kept end false
+left_out old mid new unused left rest line kept end r s =
     let b = r.is_line.0 in
     record {
       reads = record {

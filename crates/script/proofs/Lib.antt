@@ -10,7 +10,7 @@ pub mod NumberLemmas
 pub mod LineLemmas
 -- arguments one after another, for take_all and next_argument
 pub mod ArgumentLemmas
--- a line gathered a byte at a time, for next_line and skip_line
+-- a line gathered a byte at a time, for gather_line and skip_line
 pub mod ByteLemmas
 -- that some byte of a text is bad where not all are printable, for has_bad
 pub mod BadBytes

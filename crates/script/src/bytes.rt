@@ -1,16 +1,15 @@
-//! The bytes of a script, one after another.
+//! The bytes of a script, one after another, and its lines.
 
-ghost use Rattle.std.specs.Prelude.{◌≡◌, ◌<◌, ◌∷◌, [], length, position, false};
-ghost use Rattle.std.specs.Bool.{OnTrue};
+ghost use Rattle.std.specs.Prelude.{◌≡◌, ◌≤◌, ◌<◌, ◌∷◌, [], length, take, drop, position, IfSome};
 ghost use Rattle.script.specs.Characters.{is_newline};
-ghost use Rattle.script.specs.steps.Bytes.{ReadingEnds, ReadsByte, ReadsLine, ReadsToEnd, ReadsWhole, TakesLine, byte_ended, byte_failed, end_failed, goes_on, has_newline, is_byte, line_ended, line_failed, met_end};
+ghost use Rattle.script.specs.steps.Bytes.{ReadingEnds, ReadsByte, ReadsLine, ReadsToEnd, ReadsWhole, byte_ended, byte_failed, end_failed, goes_on, has_newline, is_byte, line_ended, line_failed, met_end};
 
 use crate::limits::LONGEST_LINE;
 use arrayvec::ArrayVec;
 use std::marker::Model;
 use streams::Source;
 
-/// How many bytes are read at once, at most.
+/// How many bytes are read at once, at most. No line among them is too long.
 const LONGEST_PIECE: usize = 512;
 
 /// What comes next of a script.
@@ -40,7 +39,7 @@ fn first_newline(text: &[u8]) -> Option<usize>
 
 /// Bytes that were read and are not used.
 #[derive(Drop)]
-pub struct Bytes {
+struct Bytes {
     piece: [u8; LONGEST_PIECE],
     from: usize,
     to: usize,
@@ -59,7 +58,7 @@ impl Model for Bytes {
 
 impl Bytes {
     /// No byte yet.
-    pub fn new() -> Bytes
+    fn new() -> Bytes
         ensures { result ≡ [] }
     {
         Bytes {
@@ -67,6 +66,30 @@ impl Bytes {
             from: 0,
             to: 0,
         }
+    }
+
+    /// Where the first newline is.
+    fn first_newline(&self) -> Option<usize>
+        ensures newline { result ≡ position is_newline self.now }
+        ensures short { IfSome result (λ at. at < LONGEST_PIECE) }
+    {
+        first_newline(&self.piece[self.from..self.to])
+    }
+
+    /// The first bytes.
+    fn first(&self, count: usize) -> &[u8]
+        requires { count ≤ length self.now }
+        ensures { result.now ≡ take count self.now }
+    {
+        &self.piece[self.from..self.from + count]
+    }
+
+    /// Leaves out the first bytes.
+    fn leave_out(&mut self, count: usize)
+        requires { count ≤ length self.old }
+        ensures { self.new ≡ drop count self.old }
+    {
+        self.from += count;
     }
 
     /// The first byte that is not used.
@@ -98,32 +121,10 @@ impl Bytes {
         }
     }
 
-    /// Takes a line whose newline was read too, and answers whether there is one that is not too long. If not, no byte is taken.
-    fn take_line(&mut self, line: &mut ArrayVec<u8, LONGEST_LINE>) -> bool
-        requires { line.old.items ≡ [] }
-        ensures taken { OnTrue result (TakesLine self.old self.new line.new.items) }
-        ensures left { result ≡ false → (self.new ≡ self.old) × (line.new.items ≡ []) }
-    {
-        match first_newline(&self.piece[self.from..self.to]) {
-            Some(at) => {
-                let end = self.from + at;
-                if line
-                    .try_extend_from_slice(&self.piece[self.from..end])
-                    .is_err()
-                {
-                    return false;
-                }
-                self.from = end + 1;
-                true
-            }
-            None => false,
-        }
-    }
-
     /// The bytes up to the next newline, in place of what was in `line`, and what follows them. Of a line that is
     /// too long it takes as many as a line may have, and one more, and answers none. Where the end is met, nothing is
     /// read after it.
-    pub fn next_line<R: Source>(
+    fn gather_line<R: Source>(
         &mut self,
         source: &mut R,
         line: &mut ArrayVec<u8, LONGEST_LINE>,
@@ -132,9 +133,6 @@ impl Bytes {
         ensures ends { ReadingEnds (R.seen source.old) (R.seen source.new) self.old self.new (line_ended result) (line_failed result) (goes_on result) }
     {
         line.clear();
-        if self.take_line(line) {
-            return Some(LineEnd::Newline);
-        }
         loop {
             match self.next(source) {
                 Next::Byte(byte) => {
@@ -169,19 +167,92 @@ impl Bytes {
             }
         }
     }
+}
 
-    /// The bytes up to the next newline, in place of what was in `line`, where they are no more than a line may have;
-    /// else they are left out. It answers what follows them, and whether they were kept. Where the end is met,
-    /// nothing is read after it.
-    pub fn next_whole_line<R: Source>(
-        &mut self,
-        source: &mut R,
-        line: &mut ArrayVec<u8, LONGEST_LINE>,
-    ) -> (LineEnd, bool)
-        ensures line { ReadsWhole (R.seen source.old) (R.seen source.new) self.old self.new line.new.items result.0 result.1 }
-        ensures ends { ReadingEnds (R.seen source.old) (R.seen source.new) self.old self.new (met_end result.0) (end_failed result.0) (has_newline result.0) }
+/// The lines of a script, one after another. A line that lies in one piece, its newline too, is lent from there.
+#[derive(Drop)]
+pub struct Lines {
+    bytes: Bytes,
+    /// How many of the bytes are the line that was read last and its newline. It is 0 where that was gathered.
+    used: usize,
+    gathered: ArrayVec<u8, LONGEST_LINE>,
+}
+
+impl Model for Lines {
+    ghost use Rattle.std.specs.Prelude.{◌≤◌, ◌-◌, ◌==◌, length, take, drop, if◌then◌else◌};
+    ghost use Rattle.script.specs.steps.Bytes.{Held};
+    ghost use Rattle.script.specs.declared.bytes.TheConstants.{LONGEST_PIECE};
+
+    ghost Value = { Held };
+
+    ghost view = { λ l. record {
+      line = if l.used == 0 then l.gathered.items else take (l.used - 1) l.bytes;
+      unused = drop l.used l.bytes;
+    } };
+
+    ghost invariant = { λ l. (l.used ≤ length l.bytes) × (l.used ≤ LONGEST_PIECE) };
+}
+
+impl Lines {
+    /// No line yet.
+    pub fn new() -> Lines
+        ensures { result ≡ record { line = []; unused = [] } }
     {
-        match self.next_line(source, line) {
+        Lines {
+            bytes: Bytes::new(),
+            used: 0,
+            gathered: ArrayVec::new(),
+        }
+    }
+
+    /// The line that was read last.
+    pub fn line(&self) -> &[u8]
+        ensures line { result.now ≡ self.now.line }
+        ensures short { length result.now ≤ LONGEST_LINE }
+    {
+        if self.used == 0 {
+            self.gathered.as_slice()
+        } else {
+            self.bytes.first(self.used - 1)
+        }
+    }
+
+    /// Reads the bytes up to the next newline, and answers what follows them. Of a line that is too long it takes as
+    /// many as a line may have, and one more, and answers none. Where the end is met, nothing is read after it.
+    pub fn next_line<R: Source>(&mut self, source: &mut R) -> Option<LineEnd>
+        ensures line { ReadsLine (R.seen source.old) (R.seen source.new) self.old.unused self.new.unused self.new.line result }
+        ensures ends { ReadingEnds (R.seen source.old) (R.seen source.new) self.old.unused self.new.unused (line_ended result) (line_failed result) (goes_on result) }
+    {
+        self.bytes.leave_out(self.used);
+        match self.bytes.first_newline() {
+            Some(at) => {
+                self.used = at + 1;
+                Some(LineEnd::Newline)
+            }
+            None => {
+                self.used = 0;
+                self.bytes.gather_line(source, &mut self.gathered)
+            }
+        }
+    }
+
+    /// Leaves out the bytes up to the next newline.
+    fn skip_line<R: Source>(&mut self, source: &mut R) -> LineEnd
+        ensures line { ReadsToEnd (R.seen source.old) (R.seen source.new) self.old.unused self.new.unused result }
+        ensures ends { ReadingEnds (R.seen source.old) (R.seen source.new) self.old.unused self.new.unused (met_end result) (end_failed result) (has_newline result) }
+    {
+        self.bytes.leave_out(self.used);
+        self.used = 0;
+        self.bytes.skip_line(source)
+    }
+
+    /// Reads the bytes up to the next newline, where they are no more than a line may have; else they are left out. It
+    /// answers what follows them, and whether they were kept. Where the end is met, nothing is read after it.
+    pub fn next_whole_line<R: Source>(&mut self, source: &mut R) -> (LineEnd, bool)
+        ensures line { ReadsWhole (R.seen source.old) (R.seen source.new) self.old.unused self.new.unused self.new.line result.0 result.1 }
+        ensures ends { ReadingEnds (R.seen source.old) (R.seen source.new) self.old.unused self.new.unused (met_end result.0) (end_failed result.0) (has_newline result.0) }
+    {
+        match self.next_line(source) {
             Some(end) => (end, true),
             None => (self.skip_line(source), false),
         }

@@ -24,7 +24,7 @@ mod text;
 mod words;
 
 pub use arguments::Arguments;
-pub use bytes::{Bytes, LineEnd};
+pub use bytes::{LineEnd, Lines};
 pub use fault::{ScriptEnd, ScriptFault, TextFault};
 pub use limits::{LONGEST_LINE, MOST_ARGUMENTS};
 pub use line::{next_argument, read_line, split_at_space};

@@ -1,8 +1,7 @@
-use arrayvec::ArrayVec;
 use cell::{Attr, Cell, Refusal, WinId};
 use faulty::{Halting, Pieces};
 use script::{
-    Arguments, Bytes, LONGEST_LINE, LineEnd, ScriptFault, TextFault, last_line, log_answer,
+    Arguments, LONGEST_LINE, LineEnd, Lines, ScriptFault, TextFault, last_line, log_answer,
     read_line,
 };
 use std::alloc::Global;
@@ -168,10 +167,9 @@ fn faults_are_told_in_their_order(rt: HostRuntime) -> Result<(), Fail> {
 /// Whether a reader gives these lines one after another, each with its end, and none where it is too long.
 fn gives(pieces: Pieces<'_>, lines: &[(&[u8], Option<LineEnd>)]) -> bool {
     let mut source = CountedReader::new(pieces);
-    let mut bytes = Bytes::new();
-    let mut line = ArrayVec::new();
+    let mut reader = Lines::new();
     for (text, end) in lines {
-        if bytes.next_line(&mut source, &mut line) != *end || line.as_slice() != *text {
+        if reader.next_line(&mut source) != *end || reader.line() != *text {
             return false;
         }
     }

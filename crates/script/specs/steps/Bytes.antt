@@ -42,6 +42,11 @@ pub record ReadingEnds (old new : SourceSeen) (unused left : List ℕ) (meets_en
   pub failures : new.failures ≡ counted fails old.failures
   pub progress : continues ≡ true → work_left new left < work_left old unused
 
+-- the line that was read last, and the bytes after it that were read
+pub record Held : Type 0 where
+  pub line : List ℕ
+  pub unused : List ℕ
+
 -- No byte of a piece ends a line.
 abbrev pub HasNoNewline : List ℕ → Type 0
 HasNoNewline piece = list_any is_newline piece ≡ false
@@ -93,12 +98,6 @@ pub record ReadsLine (old new : SourceSeen) (unused left line : List ℕ) (resul
   pub is_line : IsLine result (unused ++ bytes) line left
   pub no_newline : HasNoNewline line
   pub at_end : line_ended result ≡ true → IsAtEnd new.left
-
--- A line and its newline stood among the bytes that were not used.
-pub record TakesLine (unused left line : List ℕ) : Type 0 where
-  pub all : unused ≡ line ++ newline ∷ left
-  pub no_newline : HasNoNewline line
-  pub short : length line ≤ LONGEST_LINE
 
 -- ---- a line of any length
 

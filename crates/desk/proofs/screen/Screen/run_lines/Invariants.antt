@@ -8,11 +8,11 @@ invariant-loop-self g l =
     let writer = g.W.Sink.seen in
     let logged = g.L.Sink.seen in
     record {
-      so_far : SoFar writer l.fn.self l.self (source l.fn.input) (source l.input) (logged l.fn.log) (logged l.log) l.bytes l.number l.refused;
+      so_far : SoFar writer l.fn.self l.self (source l.fn.input) (source l.input) (logged l.fn.log) (logged l.log) l.lines.unused l.number l.refused;
       reading : (source l.input).failures ≡ (source l.fn.input).failures;
       writing : (writer l.self.writer).failures ≡ (writer l.fn.self.writer).failures;
       same : g.W.Sink.name l.self.writer ≡ g.W.Sink.name l.fn.self.writer;
     }
 
 abbrev pub decreases-loop-self : goal.decreases-loop-self
-decreases-loop-self g l = 513 * (g.R.Source.seen l.input).reads_left + length l.bytes
+decreases-loop-self g l = 513 * (g.R.Source.seen l.input).reads_left + length l.lines.unused

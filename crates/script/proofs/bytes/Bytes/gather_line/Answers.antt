@@ -1,24 +1,16 @@
 -- The bytes before the newline are the line, up to the greatest length.
-use Rattle.std.proofs.Common.{◌<◌, length, arith, refl}
+use Rattle.std.proofs.Common.{◌<◌, length, arith}
 use Rattle.script.proofs.ByteLemmas.{ends_behind, gathered_failed, gathered_last, gathered_line, gathered_more, gathered_none, gathered_too_long, more_read, none_read, not_newline, full_line}
-use Rattle.script.proofs.ByteLemmas.{room_left, taken_ends, taken_line}
+use Rattle.script.proofs.ByteLemmas.{room_left}
 use Rattle.script.specs.declared.limits.TheConstants.{LONGEST_LINE}
-use Rattle.script.proofs.bytes.Bytes.next_line.Goals as goal
-
-pub returns-then-take_line-clause-line : goal.returns-then-take_line-clause-line
-returns-then-take_line-clause-line g c = taken_line _ _ _ _ c.if-take_line.ensures.taken
-
-pub returns-then-take_line-clause-ends : goal.returns-then-take_line-clause-ends
-returns-then-take_line-clause-ends g c = taken_ends _ _ _ _ c.if-take_line.ensures.taken
+use Rattle.script.proofs.bytes.Bytes.gather_line.Goals as goal
 
 pub loop-byte-init : goal.loop-byte-init
-loop-byte-init g c =
-    let none = c.if-take_line.ensures.left refl in
-    rw none.0 (record {
-      gathered = gathered_none _ _ _ none.1;
-      short = rw none.1 (omega arith);
-      reads_on = none_read _ _;
-    })
+loop-byte-init g c = record {
+  gathered = gathered_none _ _ _ c.clear.ensures;
+  short = rw c.clear.ensures (omega arith);
+  reads_on = none_read _ _;
+}
 
 pub returns-then-byte-eq10-clause-line : goal.returns-then-byte-eq10-clause-line
 returns-then-byte-eq10-clause-line g c =

@@ -2,7 +2,7 @@ use Rattle.std.proofs.Common.{◌≤◌, length}
 use Rattle.script.specs.declared.limits.TheConstants.{LONGEST_LINE}
 use Rattle.script.specs.steps.Bytes.{work_left}
 use Rattle.script.proofs.ByteLemmas.{Gathered, ReadsOn}
-use Rattle.script.proofs.bytes.Bytes.next_line.Given as goal
+use Rattle.script.proofs.bytes.Bytes.gather_line.Given as goal
 
 abbrev pub invariant-loop-byte : goal.invariant-loop-byte
 invariant-loop-byte g l =
