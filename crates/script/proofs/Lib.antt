@@ -12,5 +12,7 @@ pub mod LineLemmas
 pub mod ArgumentLemmas
 -- a line gathered a byte at a time, for gather_line and skip_line
 pub mod ByteLemmas
+-- the first newline, for first_newline
+pub mod NewlineLemmas
 -- that some byte of a text is bad where not all are printable, for has_bad
 pub mod BadBytes

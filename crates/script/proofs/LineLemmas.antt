@@ -8,7 +8,8 @@ use Rattle.std.proofs.lemmas.Bool.Decides.{nat_tests}
 use Rattle.std.proofs.lemmas.List.Quantifiers.{position-Some}
 use Rattle.script.specs.Characters.{is_space}
 
-rest_of : (xs : List ℕ) (i : ℕ) → take (length xs - i) (drop i xs) ≡ drop i xs
+-- the text from a place on
+pub rest_of : (xs : List ℕ) (i : ℕ) → take (length xs - i) (drop i xs) ≡ drop i xs
 rest_of xs i = take_all _ (drop i xs) (simp length-drop (omega arith))
 
 pub split_found : (xs : List ℕ) (i : ℕ) → position is_space xs ≡ Some i

@@ -1,5 +1,5 @@
 -- Each round reads one character more.
-use Rattle.std.proofs.Common.{◌≡◌, List, ◌++◌, Some, arith, ◌∙◌, ap, sym, option_map}
+use Rattle.std.proofs.Common.{◌≡◌, ◌++◌, Some, arith, ◌∙◌, ap, sym, option_map}
 use Rattle.std.proofs.lemmas.Grind.{common_steps}
 use Rattle.script.proofs.TextLemmas.{nothing_in_front, one_in_front, plain_text}
 use Rattle.script.proofs.ByteLemmas.{ok_parts}

@@ -1,0 +1,15 @@
+-- No newline stands before the bytes that are looked through.
+use Rattle.std.proofs.Common.{arith}
+use Rattle.script.proofs.NewlineLemmas.{found_after, newline_at, none_after, none_further}
+use Rattle.script.proofs.bytes.first_newline.Goals as goal
+
+pub returns-then-before-lt-LANES : goal.returns-then-before-lt-LANES
+returns-then-before-lt-LANES c =
+    let e = c.before_newline-before.ensures in
+    newline_at c.args.text.now _ (omega arith) (e.found c.if-before-lt-LANES.true) (none_further _ _ _ c.loop-from.invariant.before e.none)
+
+pub returns-in-Some : goal.returns-in-Some
+returns-in-Some c = found_after _ _ _ c.loop-from.invariant.before c.in-Some.ensures
+
+pub returns-in-None : goal.returns-in-None
+returns-in-None c = none_after _ _ c.loop-from.invariant.before c.in-None.ensures
