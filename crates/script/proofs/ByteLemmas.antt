@@ -1,10 +1,10 @@
 -- A line is gathered a byte at a time.
-use Rattle.std.proofs.Common.{zero, suc, ◌+◌, ◌-◌, take, drop, get_or, position, add-one, drop-cons, length-take}
+use Rattle.std.proofs.Common.{zero, suc, ◌+◌, ◌-◌, take, drop, get_or, position, add-one, drop-cons, length-take, Some, None, if◌then◌else◌}
 use Rattle.std.specs.Prelude.{◌↔◌, IsOk, OnOk, Result, Ok, Err, is_err}
 use Rattle.std.proofs.lemmas.Bool.{eqb-true}
 use Rattle.std.proofs.lemmas.List.{drop-drop, drop-take, take-append-drop}
 use Rattle.std.proofs.lemmas.List.Quantifiers.{position-Some}
-use Rattle.std.proofs.Common.{◌≡◌, ℕ, ◌≤◌, ◌<◌, Bool, true, false, ◌||◌, ◌==◌, List, [], ◌∷◌, ◌++◌, length, refl, sym, ap, ◌∙◌, arith, append_assoc, append-nil, length-append, Some, None, if◌then◌else◌}
+use Rattle.std.proofs.Common.{◌≡◌, ℕ, ◌≤◌, ◌<◌, Bool, true, false, ◌||◌, ◌==◌, List, [], ◌∷◌, ◌++◌, length, refl, sym, ap, ◌∙◌, arith, append_assoc, append-nil, length-append}
 use Rattle.std.specs.Io.KnownBytes.{Consumes}
 use Rattle.std.proofs.KnownBytes.{Consumes-nil, Consumes-trans}
 use Rattle.std.proofs.lemmas.List.Folds.{list_any-append}

@@ -1,3 +1,4 @@
 pub mod Reads
 pub mod Bytes
 pub mod Rows
+pub mod Numbers

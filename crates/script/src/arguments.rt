@@ -142,7 +142,7 @@ impl Arguments {
     }
 
     /// Takes one number more.
-    fn push(&mut self, number: u16)
+    pub(crate) fn push(&mut self, number: u16)
         requires { length self.old.numbers < MOST_ARGUMENTS }
         ensures { self.new ≡ record self.old { numbers = self.old.numbers ++ number ∷ [] } }
     {

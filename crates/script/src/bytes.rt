@@ -260,7 +260,8 @@ impl Lines {
     /// many as a line may have, and one more, and answers none. Where the end is met, nothing is read after it.
     pub fn next_line<R: Source>(&mut self, source: &mut R) -> Option<LineEnd>
         ensures line { ReadsLine (R.seen source.old) (R.seen source.new) self.old.unused self.new.unused self.new.line result }
-        ensures ends { ReadingEnds (R.seen source.old) (R.seen source.new) self.old.unused self.new.unused (line_ended result) (line_failed result) (goes_on result) }
+        ensures ends { ReadingEnds (R.seen source.old) (R.seen source.new) self.old.unused self.new.unused
+            (line_ended result) (line_failed result) (goes_on result) }
     {
         self.bytes.leave_out(self.used);
         match self.bytes.first_newline() {
@@ -278,7 +279,8 @@ impl Lines {
     /// Leaves out the bytes up to the next newline.
     fn skip_line<R: Source>(&mut self, source: &mut R) -> LineEnd
         ensures line { ReadsToEnd (R.seen source.old) (R.seen source.new) self.old.unused self.new.unused result }
-        ensures ends { ReadingEnds (R.seen source.old) (R.seen source.new) self.old.unused self.new.unused (met_end result) (end_failed result) (has_newline result) }
+        ensures ends { ReadingEnds (R.seen source.old) (R.seen source.new) self.old.unused self.new.unused
+            (met_end result) (end_failed result) (has_newline result) }
     {
         self.bytes.leave_out(self.used);
         self.used = 0;
@@ -289,7 +291,8 @@ impl Lines {
     /// answers what follows them, and whether they were kept. Where the end is met, nothing is read after it.
     pub fn next_whole_line<R: Source>(&mut self, source: &mut R) -> (LineEnd, bool)
         ensures line { ReadsWhole (R.seen source.old) (R.seen source.new) self.old.unused self.new.unused self.new.line result.0 result.1 }
-        ensures ends { ReadingEnds (R.seen source.old) (R.seen source.new) self.old.unused self.new.unused (met_end result.0) (end_failed result.0) (has_newline result.0) }
+        ensures ends { ReadingEnds (R.seen source.old) (R.seen source.new) self.old.unused self.new.unused
+            (met_end result.0) (end_failed result.0) (has_newline result.0) }
     {
         match self.next_line(source) {
             Some(end) => (end, true),

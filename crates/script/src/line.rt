@@ -1,6 +1,6 @@
 //! What a line of a script says.
 
-ghost use Rattle.std.specs.Prelude.{◌≡◌, ◌≤◌, ◌+◌, ◌∷◌, ◌≢◌, List, length, position, IfSome, Some, None, false};
+ghost use Rattle.std.specs.Prelude.{◌≡◌, ◌≤◌, ◌+◌, ◌<◌, ◌∷◌, ◌≢◌, List, length, position, IfSome, Some, None, false};
 ghost use Rattle.std.specs.List.{list_any, slice_split};
 ghost use Rattle.std.specs.Bool.{OnTrue};
 ghost use Rattle.script.specs.declared.words.Form.{Form};
@@ -9,11 +9,12 @@ ghost use Rattle.script.specs.Texts.{all_said};
 ghost use Rattle.script.specs.Characters.{is_bad_byte, is_space};
 ghost use Rattle.script.specs.Readings.{arguments, is_skipped, is_text, said_by_line};
 ghost use Rattle.script.specs.Pieces.{pieces_of, room_of};
-ghost use Rattle.script.specs.steps.Reads.{Reads};
+ghost use Rattle.script.specs.steps.Reads.{Reads, TakesFirst};
 
 use crate::arguments::Arguments;
 use crate::fault::TextFault;
 use crate::limits::{LONGEST_LINE, MOST_ARGUMENTS};
+use crate::numbers::next_number;
 use crate::words::{Form, Word};
 use cell::are_printable;
 
@@ -96,7 +97,35 @@ fn has_count(forms: &[Form], text: Option<&[u8]>) -> bool
     }
 }
 
-/// Takes what the arguments say, and answers whether they are as many as the forms and each has its own.
+/// Takes what the first argument of a text says, and answers what follows it, if it has its form. A number is read and
+/// split off in one pass.
+fn take_first<'a>(form: Form, text: &'a [u8], taken: &mut Arguments) -> Option<Option<&'a [u8]>>
+    requires room { length taken.old.numbers < MOST_ARGUMENTS }
+    requires short { length text.now ≤ LONGEST_LINE }
+    ensures takes { TakesFirst form text.now taken.old taken.new result }
+    ensures count { length taken.new.numbers ≤ length taken.old.numbers + 1 }
+    ensures short { IfSome result (λ after. IfSome after (λ rest. length rest.now ≤ length text.now)) }
+{
+    match form {
+        Form::Number => {
+            let (number, after) = next_number(text)?;
+            taken.push(number);
+            Some(after)
+        }
+        _ => {
+            let (piece, after) = next_argument(form, text);
+            if taken.take(form, piece) {
+                Some(after)
+            } else {
+                None
+            }
+        }
+    }
+}
+
+/// Takes what the arguments say, and answers whether they are as many as the forms and each has its own. It is not
+/// inlined, so that its loop has registers enough.
+#[inline(never)]
 #[tactic(auto, using(crate::proofs::ArgumentLemmas::too_few, crate::proofs::ArgumentLemmas::too_many, crate::proofs::ArgumentLemmas::as_many))]
 fn take_all(forms: &[Form], text: Option<&[u8]>, taken: &mut Arguments) -> bool
     requires forms { length forms.now ≤ MOST_ARGUMENTS }
@@ -110,10 +139,9 @@ fn take_all(forms: &[Form], text: Option<&[u8]>, taken: &mut Arguments) -> bool
     let mut rest = text;
     for form in forms {
         let Some(text) = rest else { return false };
-        let (piece, after) = next_argument(*form, text);
-        if !taken.take(*form, piece) {
+        let Some(after) = take_first(*form, text, taken) else {
             return false;
-        }
+        };
         rest = after;
     }
     match rest {

@@ -1,9 +1,11 @@
 //! Numbers, attributes and flags as a script has them.
 
-ghost use Rattle.std.specs.Prelude.{◌≡◌, ◌≤◌, length, Some, None, if◌then◌else◌};
+ghost use Rattle.std.specs.Prelude.{◌≡◌, ◌≤◌, ◌<◌, ◌∷◌, length, take, slice_index, IfSome, None, true, false};
 ghost use Rattle.std.specs.Char.{is_ascii_digit};
-ghost use Rattle.std.specs.List.{list_all};
-ghost use Rattle.std.specs.Str.Parse.{digits_value};
+ghost use Rattle.std.specs.List.{list_all, slice_split};
+ghost use Rattle.script.specs.Characters.{is_space};
+ghost use Rattle.script.specs.Pieces.{pieces_of};
+ghost use Rattle.script.specs.steps.Numbers.{DigitsSoFar, NextNumber};
 ghost use Rattle.script.specs.Texts.{attributes_of, flag_of, hex_byte, hex_value, negative, number_or_none, number_up_to, signed_number};
 
 use crate::limits::{ALL_ATTRIBUTES, GREATEST_NUMBER, GREATEST_SIGNED, MOST_DIGITS};
@@ -15,35 +17,79 @@ pub fn has_digits_alone(piece: &[u8]) -> bool
     piece.iter().all(|b| b.is_ascii_digit())
 }
 
-/// The number that some digits write, if they are digits alone.
-fn digits_value(piece: &[u8]) -> Option<u32>
-    requires { length piece.now ≤ MOST_DIGITS }
-    ensures { result ≡ (if list_all is_ascii_digit piece.now then Some (digits_value 10 piece.now) else None) }
+/// The number that the first digits of a text write, no more of them than a number may have, and how many they are.
+fn first_digits(text: &[u8]) -> (u32, usize)
+    ensures digits { DigitsSoFar text.now result.1 result.0 }
+    ensures within { result.1 ≤ length text.now }
+    ensures few { result.1 ≤ MOST_DIGITS }
+    ensures stops { result.1 < length text.now → result.1 < MOST_DIGITS → is_ascii_digit (slice_index text.now result.1) ≡ false }
 {
     let mut value = 0;
-    for b in piece {
-        if !b.is_ascii_digit() {
-            return None;
+    for (count, b) in text.iter().enumerate() {
+        if count == MOST_DIGITS || !b.is_ascii_digit() {
+            return (value, count);
         }
         value = value * 10 + u32::from(*b - b'0');
     }
-    Some(value)
+    (value, text.len())
+}
+
+/// The number of the first digits of a text, if there is a digit, no leading zero but `0` itself, and the number is not
+/// past `most`.
+fn plain_number(most: u16, text: &[u8], value: u32, count: usize) -> Option<u16>
+    requires digits { DigitsSoFar text.now count value }
+    requires within { count ≤ length text.now }
+    requires few { count ≤ MOST_DIGITS }
+    ensures { result ≡ number_up_to most (take count text.now) }
+{
+    if count == 0 || value > u32::from(most) {
+        return None;
+    }
+    if count > 1 && text[0] == b'0' {
+        return None;
+    }
+    Some(value as u16)
 }
 
 /// A number from 0 to `most`: digits, not too many, with no leading zero but `0` itself.
 pub fn number_up_to(most: u16, piece: &[u8]) -> Option<u16>
     ensures { result ≡ number_up_to most piece.now }
 {
-    if piece.is_empty() || piece.len() > MOST_DIGITS {
+    let (value, count) = first_digits(piece);
+    if count < piece.len() {
         return None;
     }
-    if piece.len() > 1 && piece[0] == b'0' {
+    plain_number(most, piece, value, count)
+}
+
+/// What is after the digits at the beginning of a text: a space and more of it, or nothing.
+fn after_digits(text: &[u8], count: usize) -> Option<Option<&[u8]>>
+    requires digits { list_all is_ascii_digit (take count text.now) ≡ true }
+    requires within { count ≤ length text.now }
+    ensures split { IfSome result (λ after. slice_split is_space text.now ≡ take count text.now ∷ pieces_of after) }
+    ensures short { IfSome result (λ after. IfSome after (λ rest. length rest.now ≤ length text.now)) }
+    ensures other { result ≡ None → (count < length text.now) × (is_space (slice_index text.now count) ≡ false) }
+{
+    if count == text.len() {
+        Some(None)
+    } else if text[count] == b' ' {
+        Some(Some(&text[count + 1..]))
+    } else {
+        None
+    }
+}
+
+/// The number before the first space of a text, and what is after the space if there is one.
+pub fn next_number(text: &[u8]) -> Option<(u16, Option<&[u8]>)>
+    ensures number { NextNumber text.now result }
+    ensures short { IfSome result (λ r. IfSome r.1 (λ rest. length rest.now ≤ length text.now)) }
+{
+    let (value, count) = first_digits(text);
+    let Some(after) = after_digits(text, count) else {
         return None;
-    }
-    match digits_value(piece) {
-        Some(value) if value <= u32::from(most) => Some(value as u16),
-        _ => None,
-    }
+    };
+    let number = plain_number(GREATEST_NUMBER, text, value, count)?;
+    Some((number, after))
 }
 
 /// A number, or `none` for none.

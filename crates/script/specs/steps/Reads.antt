@@ -1,6 +1,13 @@
 -- What the functions that read a line tell of what they read.
-use Rattle.std.specs.Prelude.{◌≡◌, Option, Some, None, Result, Ok, Err}
+use Rattle.std.specs.Prelude.{◌≡◌, ℕ, List, ◌∷◌, Option, Some, None, Result, Ok, Err}
+use Rattle.std.specs.List.{slice_split}
+use Rattle.std.specs.Borrow.{Bor}
+use Rattle.script.specs.Characters.{is_space}
+use Rattle.script.specs.Pieces.{pieces_of}
+use Rattle.script.specs.Readings.{arguments}
+use Rattle.script.specs.Texts.{said}
 use Rattle.script.specs.Words.{Arguments, entry_of}
+use Rattle.script.specs.declared.words.Form.{Form}
 use Rattle.world.specs.declared.call.Call.{Call}
 use Rattle.script.specs.declared.words.Word.{Word}
 use Rattle.script.specs.declared.fault.TextFault.{TextFault}
@@ -10,3 +17,12 @@ abbrev pub Reads : Result (Option Word) TextFault → Arguments → Result (Opti
 Reads (Ok (Some word)) a said = said ≡ Ok (Some ((entry_of word).call a))
 Reads (Ok None) a said = said ≡ Ok None
 Reads (Err fault) a said = said ≡ Err fault
+
+-- The first argument of a text, where one of this form must stand, and what is left after it.
+pub record IsFirst (form : Form) (text piece : List ℕ) (left : List (List ℕ)) : Type 0 where
+  pub first : (forms : List Form) → arguments (form ∷ forms) (slice_split is_space text) ≡ piece ∷ arguments forms left
+
+-- The first argument was taken and what follows it is left, or it has not its form.
+abbrev pub TakesFirst : Form → List ℕ → Arguments → Arguments → Option (Option (Bor (List ℕ))) → Type 0
+TakesFirst form text old new None = (piece : List ℕ) × (left : List (List ℕ)) × IsFirst form text piece left × (said form piece old ≡ None)
+TakesFirst form text old new (Some after) = (piece : List ℕ) × IsFirst form text piece (pieces_of after) × (said form piece old ≡ Some new)
