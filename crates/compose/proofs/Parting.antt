@@ -1,19 +1,21 @@
 -- What a call on panels damages: the part of the panel that it names, as it was, and that of the panel that it changed or made, as it is.
 use Rattle.std.proofs.Common.{◌≡◌, ℕ, ◌+◌, Bool, true, false, ◌&&◌, ◌||◌, Option, Some, None, List, [], ◌∷◌, refl, sym, ap, subst, ◌∙◌, arith}
-use Rattle.std.specs.Prelude.{MatchOption, ⊤, find, if◌then◌else◌, is_none, unwrap_or}
-use Rattle.std.specs.Option.{option_map_or}
+use Rattle.std.specs.Prelude.{MatchOption, ⊤, find, if◌then◌else◌, is_none, not, ◌==◌, unwrap_or}
+use Rattle.std.specs.Option.{option_map, option_map_or}
+use Rattle.std.proofs.lemmas.Bool.{true≢false}
 use Rattle.cell.specs.declared.window.Rect.{Rect}
+use Rattle.cell.specs.declared.window.WinId.{WinId}
 use Rattle.world.specs.Panels.{Panels, panel_holds}
 use Rattle.world.specs.Windows.{WindowMap, Windows}
 use Rattle.world.specs.Sound.{AreSoundPanels, IsSoundPanel}
-use Rattle.world.specs.Effects.{panels_after, windows_after}
-use Rattle.world.specs.calls.Affected.{order_shows_at, panel_shows_at}
+use Rattle.world.specs.Effects.{Order, adds, carries, changes, orders, panels_after, windows_after}
+use Rattle.world.specs.calls.Affected.{order_shows_at, panel_shows_at, stays_on_top}
 use Rattle.world.specs.calls.Stacking.{new_panel_number, next_panel, stacking_order}
 use Rattle.world.specs.declared.call.Stacking.{Stacking}
 use Rattle.world.specs.declared.call.Stacking.TheVariants.{NewPanel}
 use Rattle.picture.specs.Parts.{IsFrameWithin}
 use Rattle.picture.proofs.VisiblePanels.{absent-hidden}
-use Rattle.compose.specs.steps.Changes.{named_panel, order_panel}
+use Rattle.compose.specs.steps.Changes.{named_panel, order_panel, ordered_panel, top_window}
 
 none-is : (o : Option ℕ) → is_none o ≡ true → o ≡ None
 none-is None h = refl
@@ -48,26 +50,54 @@ next-hidden window ps y x sound =
 abbrev pub part_shows : Windows → Panels → ℕ → ℕ → Option ℕ → Bool
 part_shows ws ps y x o = option_map_or (λ p. panel_shows_at ws.window ps p y x) o false
 
--- of the changed panel, before or after, it is that of the named one before, or that of the changed one after
+-- a panel that is put elsewhere in the order stays on top
+abbrev pub order_stays : Panels → Order → Bool
+order_stays ps (orders p order) = stays_on_top ps order p
+order_stays ps _ = false
+
+same-window : (one other : Option WinId) → option_map_or (λ w. option_map_or (λ u. u.0 == w.0) other false) one false
+    ≡ option_map_or (λ w. option_map_or (λ u. u == w) (option_map (λ (u : WinId). u.0) other) false) (option_map (λ (u : WinId). u.0) one) false
+same-window None other = refl
+same-window (Some w) None = refl
+same-window (Some w) (Some u) = refl
+
+-- it does so where the window on top is the same one before and after
+pub stays-where-same : (ps : Panels) (order : Order) (one other : Option WinId) → option_map (λ (u : WinId). u.0) one ≡ top_window ps (ordered_panel order)
+    → option_map (λ (u : WinId). u.0) other ≡ top_window (panels_after ps order) (ordered_panel order)
+    → option_map_or (λ w. option_map_or (λ u. u.0 == w.0) other false) one false ≡ order_stays ps order
+stays-where-same ps (orders p order) one other was is = same-window one other ∙ rw (was, is) refl
+stays-where-same ps (changes change) one other was is = same-window one other ∙ rw was refl
+stays-where-same ps (adds p w) one other was is = same-window one other ∙ rw was refl
+stays-where-same ps (carries p place) one other was is = same-window one other ∙ rw was refl
+
+-- where a panel stays on top, no place is affected
+pub unseen-where-same : (ws : Windows) (ps : Panels) (order : Order) (y x : ℕ) → order_stays ps order ≡ true → order_shows_at ws ps order y x ≡ false
+unseen-where-same ws ps (orders p order) y x stays = rw stays refl
+unseen-where-same ws ps (changes change) y x stays = absurd (true≢false (sym stays))
+unseen-where-same ws ps (adds p w) y x stays = absurd (true≢false (sym stays))
+unseen-where-same ws ps (carries p place) y x stays = absurd (true≢false (sym stays))
+
+-- Of the changed panel, before or after, it is that of the named one before, or that of the changed one after, but where the panel stays on
+-- top.
 both-parts : (ws : Windows) (ps : Panels) (stacking : Stacking) (y x : ℕ) → AreSoundPanels ws.window ps
     → (let order = stacking_order ps stacking in order_shows_at ws ps order y x
-    ≡ (part_shows ws ps y x (named_panel stacking) || part_shows (windows_after ws ps order) (panels_after ps order) y x (order_panel order)))
+    ≡ (not (order_stays ps order) && (part_shows ws ps y x (named_panel stacking) || part_shows (windows_after ws ps order) (panels_after ps order) y x (order_panel order))))
 both-parts ws ps (NewPanel win) y x sound = let order = stacking_order ps (NewPanel win) in
     ap (λ b. b || part_shows (windows_after ws ps order) (panels_after ps order) y x (order_panel order)) (next-hidden ws.window ps y x sound)
 both-parts ws ps stacking y x sound = refl
 
 -- The part before the call and the part after it make up what the call changes, where they hold what the panel had that it names, and
--- what the panel has that it changed.
+-- what the panel has that it changed, and the panel doesn't stay on top.
 pub stacking-parts : (ws new : Windows) (ps rest : Panels) (stacking : Stacking) (named changed : Option ℕ) (before after : Bool) (y x : ℕ) → AreSoundPanels ws.window ps
-    → new ≡ windows_after ws ps (stacking_order ps stacking) → rest ≡ panels_after ps (stacking_order ps stacking)
+    → new ≡ windows_after ws ps (stacking_order ps stacking) → rest ≡ panels_after ps (stacking_order ps stacking) → order_stays ps (stacking_order ps stacking) ≡ false
     → named ≡ named_panel stacking → changed ≡ order_panel (stacking_order ps stacking) → before ≡ part_shows ws ps y x named → after ≡ part_shows new rest y x changed
     → order_shows_at ws ps (stacking_order ps stacking) y x ≡ (before || after)
-stacking-parts ws new ps rest stacking named changed before after y x sound is are name change was will =
+stacking-parts ws new ps rest stacking named changed before after y x sound is are moves name change was will =
     let order = stacking_order ps stacking in
     let named_is : before ≡ part_shows ws ps y x (named_panel stacking) = was ∙ ap (part_shows ws ps y x) name in
     let changed_is : after ≡ part_shows (windows_after ws ps order) (panels_after ps order) y x (order_panel order) =
     will ∙ (λ i. part_shows (is i) (are i) y x (change i)) in
-    both-parts ws ps stacking y x sound ∙ sym (λ i. named_is i || changed_is i)
+    both-parts ws ps stacking y x sound ∙ (λ i. not (moves i) && (sym named_is i || sym changed_is i))
 
 pub part-within : (lines columns height : ℕ) (part : Option Rect) → MatchOption part ⊤ (IsFrameWithin lines columns) → lines ≡ height → MatchOption part ⊤ (λ r. IsFrameWithin height (r.right + 1) r)
 part-within lines columns height None h same = tt

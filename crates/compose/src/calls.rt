@@ -1,7 +1,7 @@
 //! Calls on windows and panels, each with what it damages of the screen.
 
-ghost use Rattle.std.specs.Prelude.{◌≡◌, ℕ, IfOk, MatchOption, OnErr, OnOk, ⊤, false, length};
-ghost use Rattle.std.specs.Option.{option_map_or};
+ghost use Rattle.std.specs.Prelude.{◌≡◌, ◌==◌, ℕ, IfOk, MatchOption, OnErr, OnOk, ⊤, false, length};
+ghost use Rattle.std.specs.Option.{option_map, option_map_or};
 ghost use Rattle.std.specs.Result.{result_err};
 ghost use Rattle.cell.specs.Refusals.{RefusedBy};
 ghost use Rattle.world.specs.Panels.{is_in_panel};
@@ -18,10 +18,11 @@ ghost use Rattle.stack.specs.Tables.{panels};
 ghost use Rattle.world.specs.declared.call.Reply.{Reply};
 ghost use Rattle.picture.specs.Parts.{IsFrameWithin, part_holds};
 ghost use Rattle.picture.specs.Damages.{Damages};
+ghost use Rattle.compose.specs.steps.Changes.{top_window};
 
 use crate::damaging::{damage_affected, damage_part};
-use crate::dispatch::{arrange, changed_panel, copy, make, named_panel, write};
-use cell::{Rect, Refusal};
+use crate::dispatch::{arrange, changed_panel, copy, make, named_panel, ordered_panel, write};
+use cell::{Rect, Refusal, WinId};
 use grids::Grids;
 use picture::{Damage, panel_part};
 use stack::Stack;
@@ -121,12 +122,38 @@ pub(crate) fn arrange_damaging(
     ensures sound { AreSoundWindows (windows_of table.new) }
     ensures sound_panels { AreSoundPanels (windows_of table.new).window (panels stack.new) }
 {
+    let ordered = ordered_panel(stacking);
+    let top = window_on_top(stack, ordered);
     let before = part_of(table, stack, named_panel(stacking));
     let reply = arrange(table, stack, stacking)?;
+    if is_same_window(top, window_on_top(stack, ordered)) {
+        return Ok(reply);
+    }
     let after = part_of(table, stack, changed_panel(stacking, &reply));
     damage_part(damage, before);
     damage_part(damage, after);
     Ok(reply)
+}
+
+/// The window of a panel, if that is the topmost.
+fn window_on_top(stack: &Stack, panel: Option<PanelId>) -> Option<WinId>
+    ensures { option_map (λ w. w.0) result ≡ top_window (panels stack.now) (panel_number panel) }
+{
+    let panel = panel?;
+    match stack.below(None) {
+        Ok(Some(top)) if top == panel => stack.window(panel).ok(),
+        _ => None,
+    }
+}
+
+/// Whether both are a window, and the same.
+fn is_same_window(one: Option<WinId>, other: Option<WinId>) -> bool
+    ensures { result ≡ option_map_or (λ w. option_map_or (λ u. u.0 == w.0) other false) one false }
+{
+    match (one, other) {
+        (Some(one), Some(other)) => one == other,
+        _ => false,
+    }
 }
 
 /// The rectangle of a panel's window on the screen, if there is the panel, and it is visible.

@@ -16,7 +16,7 @@ ghost use Rattle.world.specs.Windows.{changed};
 ghost use Rattle.grids.specs.Tables.{windows as windows_of};
 ghost use Rattle.stack.specs.Tables.{panels};
 ghost use Rattle.world.specs.declared.call.Call.{Call};
-ghost use Rattle.compose.specs.steps.Changes.{affected_by, named_panel, order_panel};
+ghost use Rattle.compose.specs.steps.Changes.{affected_by, named_panel, order_panel, ordered_panel};
 ghost use Rattle.compose.specs.Calling.{Called};
 ghost use Rattle.compose.specs.Desks.{world};
 
@@ -183,6 +183,16 @@ pub(crate) fn named_panel(stacking: Stacking) -> Option<PanelId>
         Stacking::MovePanel { panel, .. } => Some(panel),
         Stacking::ReplacePanel { panel, .. } => Some(panel),
         _ => None,
+    }
+}
+
+/// The panel whose place in the order a call changes, or its window, if it does so.
+pub(crate) fn ordered_panel(stacking: Stacking) -> Option<PanelId>
+    ensures { (ps : Panels) → panel_number result ≡ ordered_panel (stacking_order ps stacking) }
+{
+    match stacking {
+        Stacking::MovePanel { .. } => None,
+        _ => named_panel(stacking),
     }
 }
 

@@ -126,6 +126,11 @@ lines_of_order : (lines (ShowPanel (panel 3)) ≡ 3 ∷ []) × (lines (BottomPan
 unfolding lines screen windows three panel screen_after win window_limit
 lines_of_order = (refl, refl, refl, refl)
 
+-- none of a panel that is on top already, and those of another
+lines_of_raised : (lines (TopPanel (panel 2)) ≡ []) × (lines (ShowPanel (panel 2)) ≡ []) × (lines (TopPanel (panel 1)) ≡ 0 ∷ 1 ∷ [])
+unfolding lines screen windows three panel screen_after win window_limit
+lines_of_raised = (refl, refl, refl)
+
 -- windows 1 and 5, which is on lines 2 and 3
 lines_of_windows : (lines (NewPanel (win 5)) ≡ 2 ∷ 3 ∷ []) × (lines (ReplacePanel (panel 1) (win 5)) ≡ 0 ∷ 1 ∷ 2 ∷ 3 ∷ []) × (lines (PanelWindow (panel 1)) ≡ [])
 unfolding lines screen windows three panel screen_after win window_limit panel_limit

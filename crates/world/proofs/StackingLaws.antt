@@ -1,19 +1,20 @@
 -- A call on a panel leaves the picture as it is at every place of the screen where the panel isn't seen, before or
 -- after.
 use Rattle.std.proofs.Common.{◌≡◌, ◌≢◌, ℕ, ◌<◌, Bool, true, false, not, ◌==◌, ◌&&◌, ◌||◌, Option, Some, None, List, [], ◌∷◌, ◌++◌, inl, inr, ap, refl, sym, ◌∙◌, arith}
-use Rattle.std.specs.Prelude.{cond, find, is_none, reverse, unwrap_or, ⊤}
-use Rattle.std.specs.List.{list_any}
+use Rattle.std.specs.Prelude.{cond, find, if◌then◌else◌, is_none, reverse, unwrap_or, ⊤}
+use Rattle.std.specs.List.{last_or, list_any}
 use Rattle.std.specs.Option.{option_map_or}
 use mathlib.Core.List.{reverse_aux}
 use mathlib.Core.Path.{fun_ext}
 use Rattle.std.proofs.lemmas.Bool.{and_parts, and_right, cases_eq, eq-eqb, eqb-true, ne_eqb, or_parts, true≢false}
+use Rattle.std.proofs.Math.Bool.{and-false}
 use Rattle.std.proofs.lemmas.List.{append-nil}
 use Rattle.std.proofs.lemmas.List.Elements.{filter-append}
 use Rattle.world.specs.Windows.{WindowMap, Windows}
-use Rattle.world.specs.Panels.{Panels, cell_on_screen, found_from_top, holds, owner, panel_holds, standard_screen, window_or_standard}
+use Rattle.world.specs.Panels.{Panels, cell_on_screen, found_from_top, holds, owner, panel_holds, standard_screen, topmost, window_or_standard}
 use Rattle.world.specs.Sound.{AreSoundPanels, AreSoundWindows}
 use Rattle.world.specs.Effects.{Order, adds, carries, changes, given, moved_to, orders, panels_after, windows_after, with_panel}
-use Rattle.world.specs.calls.Affected.{order_shows_at, panel_shows_at}
+use Rattle.world.specs.calls.Affected.{order_shows_at, panel_shows_at, stays_on_top, window_on_top}
 use Rattle.world.specs.calls.Stacking.{stacking_order, stacking_refusal, without}
 use Rattle.world.proofs.Allowed.{IsAllowed, passed, sound-panel}
 use Rattle.world.proofs.MoveLaws.{cell-placed, found-change, holds-placed}
@@ -104,6 +105,63 @@ reordered window after before p y x order others =
       standard = refl;
     })
 
+-- ---- where the panel p is on top and stays there
+
+-- the topmost panel, if it holds the place, is found first
+last-found : (test : ℕ → Bool) (p x : ℕ) (qs acc : List ℕ) → last_or (Some x) qs ≡ Some p → test p ≡ true → find test (reverse_aux qs (x ∷ acc)) ≡ Some p
+last-found test p x [] acc is holds = let same : x ≡ p = cc in ap (λ k. find test (k ∷ acc)) same ∙ ap (λ b. cond b (Some p) (find test acc)) holds
+last-found test p x (q ∷ qs) acc is holds = last-found test p q qs (x ∷ acc) is holds
+
+top-found : (test : ℕ → Bool) (p : ℕ) (qs : List ℕ) → last_or None qs ≡ Some p → test p ≡ true → find test (reverse qs) ≡ Some p
+top-found test p [] is holds = cc
+top-found test p (q ∷ qs) is holds = last-found test p q qs [] is holds
+
+-- what it says that the panel p is on top with a window
+module _ (p : ℕ) where
+  top-by : (top : Option ℕ) (own : Option ℕ) (w : ℕ) → (if option_map_or (λ q. q == p) top false then own else None) ≡ Some w → (top ≡ Some p) × (own ≡ Some w)
+  top-by None own w is = cc
+  top-by (Some q) own w is = by-test (q == p) refl is where
+    by-test : (b : Bool) → (q == p) ≡ b → (if b then own else None) ≡ Some w → (Some q ≡ Some p) × (own ≡ Some w)
+    by-test true same is = (ap Some (eqb-true q p same), is)
+    by-test false other is = cc
+
+  pub on-top : (panels : Panels) (w : ℕ) → window_on_top panels p ≡ Some w → (topmost panels ≡ Some p) × (panels.window p ≡ Some w)
+  on-top panels w is = top-by (topmost panels) (panels.window p) w is
+
+  same-by : (o n : Option ℕ) → option_map_or (λ w. option_map_or (λ u. u == w) n false) o false ≡ true → (w : ℕ) × (o ≡ Some w) × (n ≡ Some w)
+  same-by None n is = absurd (true≢false (sym is))
+  same-by (Some w) None is = absurd (true≢false (sym is))
+  same-by (Some w) (Some u) is = (w, refl, ap Some (eqb-true u w is))
+
+  module _ (window : WindowMap) (after before : Panels) (y x : ℕ) (stays : stays_on_top before after p ≡ true) where
+    both-on-top : (w : ℕ) × (topmost before ≡ Some p) × (before.window p ≡ Some w) × (topmost after ≡ Some p) × (after.window p ≡ Some w)
+    both-on-top =
+        let same = same-by (window_on_top before p) (window_on_top after p) stays in
+        let was = on-top before same.0 same.1 in
+        let is = on-top after same.0 same.2 in
+        (same.0, was.0, was.1, is.0, is.1)
+
+    held : (panels : Panels) (w : ℕ) → panels.window p ≡ Some w → panel_holds window panels y x p ≡ holds window w y x
+    held panels w is = ap (λ o. option_map_or (λ u. holds window u y x) o false) is
+
+    stays-by : (w : ℕ) → before.window p ≡ Some w → after.window p ≡ Some w → topmost before ≡ Some p → topmost after ≡ Some p
+        → without p after.visible ≡ without p before.visible → ((q : ℕ) → q ≢ p → after.window q ≡ before.window q)
+        → (b : Bool) → holds window w y x ≡ b → found_from_top window after y x ≡ found_from_top window before y x
+    stays-by w was is top tops order others true there =
+        ap (λ o. cell_on_screen window (window_or_standard after o) y x) (top-found (panel_holds window after y x) p after.visible tops (held after w is ∙ there))
+        ∙ ap (λ o. cell_on_screen window (unwrap_or o standard_screen) y x) (is ∙ sym was)
+        ∙ ap (λ o. cell_on_screen window (window_or_standard before o) y x) (sym (top-found (panel_holds window before y x) p before.visible top (held before w was ∙ there)))
+    stays-by w was is top tops order others false there =
+        let old : panel_shows_at window before p y x ≡ false = rw (held before w was ∙ there) (and-false (list_any (λ q. q == p) before.visible)) in
+        let new : panel_shows_at window after p y x ≡ false = rw (held after w is ∙ there) (and-false (list_any (λ q. q == p) after.visible)) in
+        reordered window after before p y x order others (rw (old, new) refl)
+
+    pub stays-found : without p after.visible ≡ without p before.visible → ((q : ℕ) → q ≢ p → after.window q ≡ before.window q)
+        → found_from_top window after y x ≡ found_from_top window before y x
+    stays-found order others =
+        let both = both-on-top in
+        stays-by both.0 both.2 both.4 both.1 both.3 order others (holds window both.0 y x) refl
+
 -- ---- the order without the panel p
 
 module _ (p : ℕ) where
@@ -186,6 +244,10 @@ pub found-order : (windows : Windows) (panels : Panels) (order : Order) (y x : �
 found-order windows panels (changes change) y x sound panels_sound below left ordered unseen = found-change windows panels change y x sound panels_sound below left ordered unseen
 found-order windows panels (adds p w) y x sound panels_sound below left ordered unseen =
     reordered windows.window (with_panel panels p w) panels p y x (without-last p panels.visible) (given-other p panels.window (Some w)) unseen
-found-order windows panels (orders p order) y x sound panels_sound below left ordered unseen = reordered windows.window order panels p y x ordered.0 ordered.1 unseen
+found-order windows panels (orders p order) y x sound panels_sound below left ordered unseen = by-test (stays_on_top panels order p) refl unseen where
+  by-test : (b : Bool) → stays_on_top panels order p ≡ b → (not b && (panel_shows_at windows.window panels p y x || panel_shows_at windows.window order p y x)) ≡ false
+      → found_from_top windows.window order y x ≡ found_from_top windows.window panels y x
+  by-test true stays unseen = stays-found p windows.window order panels y x stays ordered.0 ordered.1
+  by-test false moves unseen = reordered windows.window order panels p y x ordered.0 ordered.1 unseen
 found-order windows panels (carries p place) y x sound panels_sound below left ordered unseen =
     found-move_panel windows panels p place.0 place.1 y x panels_sound ordered unseen

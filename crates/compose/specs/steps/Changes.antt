@@ -5,7 +5,7 @@ use Rattle.cell.specs.declared.window.WinId.{WinId}
 use Rattle.world.specs.Panels.{Panels}
 use Rattle.world.specs.Windows.{Windows, HasPlace, WindowMap}
 use Rattle.world.specs.Effects.{Change, asks, edits, marks, makes, deletes, moves, shifts, edit_frame, edit_window, Order, changes, adds, orders, carries}
-use Rattle.world.specs.calls.Affected.{frame_shows_at, move_shows_at, follows_at, shows_at}
+use Rattle.world.specs.calls.Affected.{frame_shows_at, move_shows_at, follows_at, shows_at, window_on_top}
 use Rattle.world.specs.declared.call.Stacking.{Stacking}
 use Rattle.world.specs.declared.call.Stacking.TheVariants.{DelPanel, ShowPanel, HidePanel, TopPanel, BottomPanel, MovePanel, ReplacePanel}
 use Rattle.compose.specs.declared.damaging.Affected.{Affected}
@@ -59,3 +59,13 @@ order_panel (changes change) = None
 order_panel (adds p w) = Some p
 order_panel (orders p order) = Some p
 order_panel (carries p place) = Some p
+
+-- the panel that it puts elsewhere in the order, hides, takes out or gives a window
+abbrev pub ordered_panel : Order → Option ℕ
+ordered_panel (orders p order) = Some p
+ordered_panel _ = None
+
+-- its window, if it is the topmost
+abbrev pub top_window : Panels → Option ℕ → Option ℕ
+top_window panels None = None
+top_window panels (Some p) = window_on_top panels p

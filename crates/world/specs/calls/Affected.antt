@@ -1,11 +1,11 @@
 -- The places and the lines of the screen at which a call can change the picture, or lays cells over the virtual screen, and how many cells
 -- of windows an update_panels may read for them.
 -- X/Open Curses Issue 7 and NetBSD panel(3) say nothing of what a refresh reads: these bounds are Curspan's own.
-use Rattle.std.specs.Prelude.{ℕ, ◌+◌, ◌-◌, ◌*◌, Bool, true, false, if◌then◌else◌, ◌==◌, ◌&&◌, ◌||◌, Option, is_none, is_some, List, [], ◌∷◌}
+use Rattle.std.specs.Prelude.{ℕ, ◌+◌, ◌-◌, ◌*◌, Bool, true, false, not, if◌then◌else◌, ◌==◌, ◌&&◌, ◌||◌, Option, None, is_none, is_some, List, [], ◌∷◌}
 use Rattle.std.specs.List.{count_by, list_any, range_with_len}
 use Rattle.std.specs.Option.{option_map_or}
 use Rattle.world.specs.Windows.{WindowMap, Windows, any_below, derives}
-use Rattle.world.specs.Panels.{Panels, holds, panel_holds, place_of, windows_from_top, windows_of_picture}
+use Rattle.world.specs.Panels.{Panels, holds, panel_holds, place_of, topmost, windows_from_top, windows_of_picture}
 use Rattle.world.specs.World.{World}
 use Rattle.world.specs.Sharing.{shows_part_of}
 use Rattle.world.specs.Effects.{Edit, edit_frame, edit_window, Change, asks, edits, marks, makes, deletes, moves, shifts, Order, changes, adds, orders, carries, Effect, arranges, refreshes}
@@ -46,6 +46,14 @@ abbrev pub ordered_shows_at : Windows → Panels → Order → ℕ → ℕ → �
 ordered_shows_at windows panels order p y x =
     panel_shows_at windows.window panels p y x || panel_shows_at (windows_after windows panels order).window (panels_after panels order) p y x
 
+-- the window of the panel p, if it is the topmost
+abbrev pub window_on_top : Panels → ℕ → Option ℕ
+window_on_top panels p = if option_map_or (λ q. q == p) (topmost panels) false then panels.window p else None
+
+-- The panel p is the topmost before a change of order and after it, with the same window: so no panel is elsewhere.
+abbrev pub stays_on_top : Panels → Panels → ℕ → Bool
+stays_on_top panels order p = option_map_or (λ w. option_map_or (λ u. u == w) (window_on_top order p) false) (window_on_top panels p) false
+
 -- ---- effects
 
 -- a write, where its frame is shown
@@ -64,7 +72,7 @@ change_shows_at windows panels (shifts w place) y x = move_shows_at windows.wind
 abbrev pub order_shows_at : Windows → Panels → Order → ℕ → ℕ → Bool
 order_shows_at windows panels (changes change) y x = change_shows_at windows panels change y x
 order_shows_at windows panels (adds p w) y x = ordered_shows_at windows panels (adds p w) p y x
-order_shows_at windows panels (orders p order) y x = ordered_shows_at windows panels (orders p order) p y x
+order_shows_at windows panels (orders p order) y x = not (stays_on_top panels order p) && ordered_shows_at windows panels (orders p order) p y x
 order_shows_at windows panels (carries p place) y x = ordered_shows_at windows panels (carries p place) p y x
 
 -- a refresh where it has a cell for the virtual screen; and other colours of a pair show everywhere

@@ -1,6 +1,6 @@
 -- `arrange_damaging`: a call on panels, made on a desk: the world after it, and what it damaged (`Arranging`); what a call on panels damages: the
 -- part of the panel that it names, as it was, and that of the panel that it changed or made, as it is (`Parting`).
-use Rattle.std.proofs.Common.{◌≡◌, ℕ, ◌||◌, ◌<◌, length, sym, subst, ◌∙◌, arith}
+use Rattle.std.proofs.Common.{◌≡◌, ℕ, ◌||◌, ◌<◌, true, false, ap, length, sym, subst, ◌∙◌, arith}
 use Rattle.std.specs.Prelude.{MatchOption, ⊤}
 use Rattle.cell.specs.declared.window.Rect.{Rect}
 use Rattle.world.specs.Effects.{panels_after, windows_after}
@@ -9,9 +9,10 @@ use Rattle.world.specs.calls.Stacking.{stacking_order}
 use Rattle.grids.specs.Tables.{windows}
 use Rattle.stack.specs.Tables.{panels}
 use Rattle.picture.specs.Parts.{part_holds}
-use Rattle.picture.proofs.DamageLaws.{damages-as, damages-then, part-right}
+use Rattle.picture.proofs.DamageLaws.{damages-as, damages-none, damages-then, part-right}
+use Rattle.compose.specs.steps.Changes.{top_window}
 use Rattle.compose.proofs.Arranging.{arranged-size}
-use Rattle.compose.proofs.Parting.{part-within, stacking-parts}
+use Rattle.compose.proofs.Parting.{order_stays, part-within, stacking-parts, stays-where-same, unseen-where-same}
 use Rattle.compose.proofs.calls.arrange_damaging.Goals as goal
 
 pub damage_part-requires-2-clause-few : goal.damage_part-requires-2-clause-few
@@ -47,11 +48,26 @@ returns-clause-damaged c =
     let are : panels c.arrange.new.stack ≡ panels_after ps order = c.in_ok-reply.ensures.panels in
     let changed = c.changed_panel.ensures ps c.in_ok-reply.ensures.reply in
     let named = c.named_panel.ensures in
+    let moves : order_stays ps order ≡ false =
+    sym (stays-where-same ps order c.window_on_top-top.result c.window_on_top.result (c.window_on_top-top.ensures ∙ ap (top_window ps) (c.ordered_panel-ordered.ensures ps))
+    (c.window_on_top.ensures ∙ (λ i. top_window (are i) (c.ordered_panel-ordered.ensures ps i)))) ∙ sym c.is_same_window.ensures ∙ c.if-is_same_window.false in
     let shows : (y x : ℕ) → order_shows_at ws ps order y x ≡ (part_holds before y x || part_holds after y x) = λ y x.
-    stacking-parts ws (windows new) ps (panels c.arrange.new.stack) s _ _ (part_holds before y x) (part_holds after y x) y x c.requires.panels is are named changed
+    stacking-parts ws (windows new) ps (panels c.arrange.new.stack) s _ _ (part_holds before y x) (part_holds after y x) y x c.requires.panels is are moves named changed
     (c.part_of-before.ensures.holds y x) (c.part_of-after.ensures.holds y x) in
     damages-as t.columns (λ y x. part_holds before y x || part_holds after y x) (order_shows_at ws ps order) a.damage.now c.damage_part-2.new.damage
     (damages-then t.columns (part_holds before) (part_holds after) a.damage.now c.damage_part.new.damage c.damage_part-2.new.damage
     (c.damage_part.ensures.damaged t.columns (part-right t.lines t.columns before c.part_of-before.ensures.within))
     (c.damage_part-2.ensures.damaged t.columns (subst (λ n. MatchOption after ⊤ (λ (r : Rect). r.right < n)) size.columns (part-right new.lines new.columns after c.part_of-after.ensures.within))))
     (λ y x below left shown. sym (shows y x) ∙ shown) (λ y x left held. shows y x ∙ held)
+
+-- where the panel stays on top, no place is affected
+pub returns-then-is_same_window-clause-damaged : goal.returns-then-is_same_window-clause-damaged
+returns-then-is_same_window-clause-damaged c =
+    let ws = windows c.args.table.now in
+    let ps = panels c.args.stack.now in
+    let order = stacking_order ps c.args.stacking in
+    let are : panels c.arrange.new.stack ≡ panels_after ps order = c.in_ok-reply.ensures.panels in
+    let stays : order_stays ps order ≡ true =
+    sym (stays-where-same ps order c.window_on_top-top.result c.window_on_top.result (c.window_on_top-top.ensures ∙ ap (top_window ps) (c.ordered_panel-ordered.ensures ps))
+    (c.window_on_top.ensures ∙ (λ i. top_window (are i) (c.ordered_panel-ordered.ensures ps i)))) ∙ sym c.is_same_window.ensures ∙ c.if-is_same_window.true in
+    damages-none c.args.table.now.columns (order_shows_at ws ps order) c.args.damage.now (λ y x below left. unseen-where-same ws ps order y x stays)
