@@ -38,9 +38,23 @@ def new_panel(world, w):
     return p
 
 
+def reorder(world, p, order):
+    """Gives the visible panels another order, of which only panel p may be elsewhere or missing. One that is on top and stays there affects
+    nothing."""
+    stays = world.visible[-1:] == [p] == order[-1:]
+    if not stays:
+        affect(world, p)
+    world.visible = order
+    if not stays:
+        affect(world, p)
+
+
+def others(world, p):
+    return [q for q in world.visible if q != p]
+
+
 def take_out(world, p):
-    affect(world, p)
-    world.visible = [q for q in world.visible if q != p]
+    reorder(world, p, others(world, p))
 
 
 def del_panel(world, p):
@@ -50,9 +64,7 @@ def del_panel(world, p):
 
 
 def put_on_top(world, p):
-    take_out(world, p)
-    world.visible.append(p)
-    affect(world, p)
+    reorder(world, p, others(world, p) + [p])
 
 
 def show_panel(world, p):
@@ -72,9 +84,7 @@ def top_panel(world, p):
 
 def bottom_panel(world, p):
     visible_there(world, p)
-    take_out(world, p)
-    world.visible.insert(0, p)
-    affect(world, p)
+    reorder(world, p, [p] + others(world, p))
 
 
 def move_panel(world, p, y, x):
