@@ -4,7 +4,7 @@ pub mod TextLemmas
 pub mod WordLemmas
 -- that each word is found, for Word::of and each_word_is_read
 pub mod WordLaws
--- digits and their number, for digits_value
+-- digits and their number, for first_digits and next_number
 pub mod NumberLemmas
 -- the pieces of a line, for split_at_space
 pub mod LineLemmas

@@ -1,5 +1,6 @@
 -- Lemmas on numbers in digits.
-use Rattle.std.proofs.Common.{Bool, false, None, [], ◌∷◌, drop, nat_lt, nat_le, length-take, below_more, ◌≡◌, ℕ, ◌+◌, ◌-◌, ◌*◌, ◌^◌, ◌<◌, ◌≤◌, true, List, length, get_or, take, refl, sym, ap, ◌∙◌, add-one, pow-suc, arith}
+use Rattle.std.proofs.Common.{Bool, false, None, [], ◌∷◌, ◌≡◌, ℕ, ◌+◌, ◌-◌, ◌*◌, ◌^◌, ◌<◌, ◌≤◌, true, List, ◌∙◌}
+use Rattle.std.proofs.Common.{drop, nat_lt, nat_le, length-take, below_more, length, get_or, take, refl, sym, ap, add-one, pow-suc, arith}
 use Rattle.std.specs.List.{after_first, before_first, list_all, position_or_len, slice_split}
 use Rattle.std.specs.Char.{is_ascii_digit, digit_value}
 use Rattle.std.specs.Str.Parse.{digits_value}
