@@ -1,5 +1,5 @@
 -- The damaged columns of each line of the screen, from a first to a last, or none; and what a step does to them.
-use Rattle.std.specs.Prelude.{◌≡◌, ◌⊎◌, ℕ, zero, suc, ◌+◌, ◌-◌, ◌<◌, ◌≤◌, Bool, true, false, MatchOption, Option, Some, None, List, length, is_some, slice_index_or, ⊤}
+use Rattle.std.specs.Prelude.{◌≡◌, ◌⊎◌, ℕ, zero, suc, ◌+◌, ◌-◌, ◌<◌, ◌≤◌, Bool, true, MatchOption, Option, Some, None, List, length, is_some, slice_index_or, ⊤}
 use Rattle.std.specs.Option.{option_map, option_map_or}
 use Rattle.cell.specs.declared.limits.TheConstants.{LARGEST_SCREEN}
 use Rattle.small_set.specs.Sets.{contains}

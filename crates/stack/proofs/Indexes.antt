@@ -1,5 +1,6 @@
 -- How the numbers that are taken and the panels of windows follow the nodes.
-use Rattle.std.proofs.Common.{◌≡◌, ℕ, zero, suc, ◌+◌, ◌-◌, ◌<◌, ◌≤◌, ◌==◌, if◌then◌else◌, ◌⊎◌, Option, None, Some, is_some, MatchOption, List, [], ◌∷◌, ◌++◌, length, set, take, replicate, slice_index_or, Bool}
+use Rattle.std.proofs.Common.{◌≡◌, ℕ, zero, suc, ◌+◌, ◌-◌, ◌<◌, ◌≤◌, ◌==◌, if◌then◌else◌, ◌⊎◌, Option, None}
+use Rattle.std.proofs.Common.{Some, is_some, MatchOption, List, [], ◌∷◌, ◌++◌, length, set, take, replicate, slice_index_or, Bool}
 use Rattle.std.proofs.Common.{length-set, get_or-set_same, get_or-set_other, sym, ap, ◌∙◌, refl, inl, inr, arith}
 use Rattle.std.proofs.lemmas.Bool.{cases_eq, eq-eqb, ne_eqb}
 use Rattle.std.proofs.lemmas.List.{length_push, take_all}
@@ -139,7 +140,8 @@ module _ (old new : List Node) (numbers numbers' holders middle holders' : List 
         ]
       ]
 
-      pub indexed-windowed : length middle ≡ length holders → length holders' ≡ length middle → ((q : ℕ) → contains numbers' q ≡ (if q == p then is_some o else contains numbers q)) → IsIndexed new numbers' holders'
+      pub indexed-windowed : length middle ≡ length holders → length holders' ≡ length middle
+          → ((q : ℕ) → contains numbers' q ≡ (if q == p then is_some o else contains numbers q)) → IsIndexed new numbers' holders'
       indexed-windowed first second taken = record {
         few = let few = h.few in omega arith;
         room = λ some. let room = h.room (omega arith) in omega arith;

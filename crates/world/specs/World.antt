@@ -1,8 +1,8 @@
 -- The world that calls change: the windows, the panels, the colour pairs, and the virtual screen, which is what the next doupdate shows.
 -- X/Open Curses Issue 7: wnoutrefresh and doupdate ("virtual screen"), init_pair; NetBSD panel(3): update_panels.
-use Rattle.std.specs.Prelude.{ℕ, ◌-◌, Bool, false, Option, Some, None}
+use Rattle.std.specs.Prelude.{ℕ, ◌-◌, false, Option, Some, None}
 use Rattle.cell.specs.Glyphs.{blank}
-use Rattle.cell.specs.Pictures.{Picture, Place, origin, blank_picture}
+use Rattle.cell.specs.Pictures.{Place, origin, blank_picture}
 use Rattle.cell.specs.Shown.{Shown, Pairs, shown, first_pairs}
 use Rattle.cell.specs.VirtualScreens.{VirtualScreen}
 use Rattle.world.specs.Windows.{Backing, own_grid, Window, Windows, no_windows, replaced}

@@ -1,4 +1,4 @@
-use Rattle.std.proofs.Common.{arith, ◌∙◌, ap, ◌||◌, Bool, ◌==◌}
+use Rattle.std.proofs.Common.{◌∙◌, ap, ◌||◌, Bool, ◌==◌}
 use Rattle.paint.proofs.Changed.{below-or-here}
 use Rattle.paint.proofs.changes.all_lines.Goals as goal
 

@@ -1,5 +1,4 @@
-use Rattle.std.proofs.Common.{◌≡◌, ◌<◌, ◌≤◌, ℕ, ◌-◌, ◌^◌, inl, inr, arith, ap, ◌∙◌, bit_and, min}
-use Rattle.std.specs.Int.{bit_at}
+use Rattle.std.proofs.Common.{◌-◌, ◌^◌, inl, inr, arith}
 use Rattle.std.proofs.lemmas.Nat.Bits.{bit_at_and, bit_at-lt, bit_at_above, bit_at_mask_above, bit_at_mask_below, bit_at_mask_inside, ones_shl}
 use Rattle.std.proofs.lemmas.Bool.{cases_lt}
 use Rattle.small_set.proofs.bits.bits_from.Goals as goal

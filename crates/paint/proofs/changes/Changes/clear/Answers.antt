@@ -1,9 +1,7 @@
 -- `clear`: line by line of the set.
-use Rattle.std.proofs.Common.{rules, ◌≡◌, ◌+◌, ◌<◌, ◌≤◌, ℕ, List, length, length-set, sym, subst, ◌∙◌, ap, arith}
-use Rattle.std.specs.Prelude.{Option}
-use Rattle.cell.specs.declared.limits.TheConstants.{LARGEST_SCREEN}
-use Rattle.paint.specs.Changes.{no_stretch, stretch_of}
-use Rattle.paint.proofs.Changed.{cleared-first, cleared-more, fewer-left, lines-left, looked-at}
+use Rattle.std.proofs.Common.{◌+◌, ℕ, List, length-set, subst, ◌∙◌, arith}
+use Rattle.paint.specs.Changes.{no_stretch}
+use Rattle.paint.proofs.Changed.{cleared-more, fewer-left, looked-at}
 use Rattle.small_set.specs.Sets.{IsNext}
 use Rattle.paint.proofs.changes.Changes.clear.Goals as goal
 

@@ -1,5 +1,5 @@
 -- The words before are full, and the first clear bit of the next is the least.
-use Rattle.std.proofs.Common.{◌≡◌, ◌+◌, ◌*◌, ◌/◌, ◌<◌, ◌^◌, ap, ◌∙◌, sym, subst, get_or, w64, ℕ, inl, inr, arith, rules}
+use Rattle.std.proofs.Common.{◌+◌, ◌*◌, ◌<◌, ◌^◌, ap, ◌∙◌, sym, subst, get_or, w64, ℕ, inl, inr, arith, rules}
 use Rattle.std.specs.Int.{trailing_ones}
 use Rattle.std.proofs.lemmas.Bool.{cases_lt}
 use Rattle.small_set.proofs.Words.{absent-here, contains-full, present-below}
@@ -32,5 +32,8 @@ pub loop-at-preserved : goal.loop-at-preserved
 loop-at-preserved c p before =
     elim (cases_lt p (c.loop-at.at * 64)) [
       | inl lower ↦ c.loop-at.invariant p lower
-      | inr here ↦ rw (← c.self.view_is) (contains-full c.self.inside.words c.loop-at.at (ap (λ k. get_or c.self.inside.words k 0) (sym c.from.ensures) ∙ c.if-word.false) p (omega (arith, here, before)))
+      | inr here ↦
+          let words = c.self.inside.words in
+          let full = ap (λ k. get_or words k 0) (sym c.from.ensures) ∙ c.if-word.false in
+          rw (← c.self.view_is) (contains-full words c.loop-at.at full p (omega (arith, here, before)))
     ]

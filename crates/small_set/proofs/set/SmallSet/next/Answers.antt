@@ -1,5 +1,5 @@
 -- Word by word, to the first that has a number from the given one on.
-use Rattle.std.proofs.Common.{◌+◌, ◌*◌, ◌<◌, ◌≤◌, ℕ, length, arith, inl, inr, ◌∙◌}
+use Rattle.std.proofs.Common.{arith}
 use Rattle.small_set.proofs.Words.{looked-at-next}
 use Rattle.small_set.proofs.set.SmallSet.next.Goals as goal
 

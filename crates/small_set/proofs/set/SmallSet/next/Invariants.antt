@@ -1,4 +1,4 @@
-use Rattle.std.proofs.Common.{◌≡◌, ◌<◌, ℕ, ◌+◌, ◌-◌, ◌*◌, ◌≤◌, ◌^◌, false}
+use Rattle.std.proofs.Common.{◌<◌, ◌-◌}
 use Rattle.small_set.proofs.Words.{IsLookedAt}
 use Rattle.small_set.proofs.set.SmallSet.next.Given as goal
 
