@@ -1,4 +1,4 @@
--- What C is told of a call.
+-- What C gets for an answer to a call.
 use Rattle.std.specs.Prelude.{if◌then◌else◌, ◌==◌, ◌+◌, ◌*◌, ℕ, true, false, Option, Some, None, Result, Ok, Err}
 use Rattle.cell.specs.declared.refusal.Refusal.{Refusal}
 use Rattle.cell.specs.declared.refusal.Refusal.TheVariants as refusals

@@ -1,4 +1,4 @@
--- What a call from C leaves of a handle. The relation of a call stands here alone, for all calls.
+-- What a call from C does to a handle. This file has the one relation of a call, for all calls.
 use Rattle.std.specs.Prelude.{◌≡◌, Option, Some, None, Result}
 use Rattle.world.specs.declared.call.Call.{Call}
 use Rattle.world.specs.declared.call.Reply.{Reply}
@@ -11,7 +11,7 @@ use Rattle.capi.specs.declared.surface.Surface.{Surface}
 use Rattle.capi.specs.Answers.{closed, of_end}
 
 module _ (sink : Ghosts Outlet) where
-  -- The call was made on the screen, ended so, and C is told that.
+  -- The call was made on the screen, ended so, and C gets that answer.
   pub record Makes (old : Surface) (call : Call) (answer : Answer) (new : Surface) : Type 0 where
     pub end : Result Reply Fault
     pub made : CallMade sink.seen sink.name old.screen call end new.screen

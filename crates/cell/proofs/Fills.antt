@@ -21,7 +21,7 @@ if-true : {A : Type 0} (t : Bool) (a b : A) → t ≡ true → a ≡ (if t then 
 if-true true a b h = refl
 if-true false a b h = cc
 
--- one column more, where a function says what stands in each
+-- one column more, where a function says what is in each
 pub filled-more : {A : Type 0} (none : A) (picture old : List (List A)) (y start x : ℕ) (f : ℕ → A) → y < length picture → x < length (line_of picture y) → start ≤ x
     → ((v u : ℕ) → cell_or none picture (v, u) ≡ (if (v == y) && (nat_le start u && nat_lt u x) then f u else cell_or none old (v, u)))
     → (v u : ℕ) → cell_or none (with_cell picture (y, x) (f x)) (v, u) ≡ (if (v == y) && (nat_le start u && nat_lt u (x + 1)) then f u else cell_or none old (v, u))

@@ -1,4 +1,4 @@
--- The lines of a grid whose cells stand one after another: each line, a change of one cell, and equal sizes.
+-- The lines of a grid whose cells are one after another: each line, a change of one cell, and equal sizes.
 use Rattle.std.proofs.Common.{◌≡◌, ℕ, ◌<◌, ◌≤◌, ◌+◌, ◌*◌, ◌∙◌, List, [], length, take, drop, replicate, set, sym, ap, inl, inr, ◌-◌, arith, zero-add}
 use Rattle.std.specs.List.{AllByRecursion, range_with_len}
 use Rattle.std.proofs.Math.Seq.{take-set-lt}

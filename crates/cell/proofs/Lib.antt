@@ -1,6 +1,7 @@
 -- Two lines that are the same up to a column, or from one on, and in the range beside it; for `first_diff`, `last_diff`
 pub mod Ranges
--- The lines of a grid whose cells stand one after another: each line, a change of one cell, and equal sizes; for `copy_from`, `new`, `put_cells` and others
+-- The lines of a grid whose cells are one after another: each line, a change of one cell, and equal sizes; for `copy_from`, `new`,
+-- `put_cells` and others
 pub mod GridLemmas
 -- Pictures of a known size: what each line has, what a change of one cell keeps, and when two are equal; for `fill`
 pub mod PictureLemmas

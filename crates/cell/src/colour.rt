@@ -129,7 +129,7 @@ impl PairId {
     }
 }
 
-/// The colours of characters and of what is behind them, where none is the terminal's default.
+/// The foreground and the background of a pair. `None` is the terminal's default.
 #[derive(Clone, Copy, PartialEq, Eq, Debug)]
 pub struct ColourPair {
     pub foreground: Option<Colour>,

@@ -15,12 +15,12 @@ use std::marker::Model;
 
 /// What a grid has at each place. One of them is blank.
 pub trait Element: Copy {
-    // What stands in a new grid, and what is known of each that there is.
+    // What a new grid has at each place, and what is known of each element.
     ghost blank: { Self };
 
     ghost Is: { Self → Type 0 };
 
-    /// What stands in a new grid.
+    /// What a new grid has at each place.
     fn blank() -> Self
         ensures { result ≡ blank };
 
@@ -64,7 +64,7 @@ impl Element for Shown {
     }
 }
 
-/// Lines of cells, all of one width, that stand one after another in memory. Lines and columns count from 0.
+/// Lines of cells, all of one width, one after another in memory. Lines and columns count from 0.
 #[derive(Drop)]
 pub struct Grid<T: Element> {
     lines: usize,

@@ -10,7 +10,7 @@
 //! - `limits`: the greatest sizes and numbers
 //! - `refusal`: why a call is refused
 //! - `shown`: renditions and shown cells
-//! - `virtual_screen`: what a virtual screen lends
+//! - `virtual_screen`: what a painter reads of a virtual screen
 //! - `window`: numbers of windows, and rectangles
 #![tactic(auto)]
 

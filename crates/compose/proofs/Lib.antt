@@ -1,4 +1,4 @@
--- What a desk keeps, and the world that it stands for, call by call; for `arrange`, `call`
+-- What a desk keeps, and the world that it represents, call by call; for `arrange`, `call`
 pub mod DeskLemmas
 -- The virtual screen stays sound where it takes the picture of windows and panels; for `compose`, `refresh_pad`, `refresh_window`
 pub mod Composed

@@ -1,4 +1,4 @@
--- What a desk keeps, and the world that it stands for.
+-- What a desk keeps, and the world that it represents.
 use Rattle.std.specs.Prelude.{ℕ, Bool, Option, List}
 use Rattle.cell.specs.Shown.{Pairs}
 use Rattle.cell.specs.VirtualScreens.{VirtualScreen}

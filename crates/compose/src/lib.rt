@@ -3,7 +3,7 @@
 //! - `answer`: what a call answers, as a type
 //! - `calls`: a call with what it damages
 //! - `damaging`: what a call damages
-//! - `desk`: the `Desk` and what it lends
+//! - `desk`: the `Desk` and what can be read of it
 //! - `dispatch`: a call of each group, made
 //! - `marks`: marks and clear flags of what makes up the picture
 //! - `methods`: a method for each call: the trait `Calls`

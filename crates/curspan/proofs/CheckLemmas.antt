@@ -1,4 +1,4 @@
--- A script is told of a line at a time.
+-- The findings of a script, a line at a time.
 use Rattle.std.proofs.Common.{◌≡◌, ℕ, ◌+◌, ◌≤◌, ◌<◌, List, [], ◌∷◌, ◌++◌, length, Bool, true, false, ◌||◌, not, Err, refl, ap, subst, sym, ◌∙◌, append-nil, append_assoc, length-append, arith}
 use Rattle.std.proofs.Common.{nat_lt, min, ◌==◌}
 use Rattle.std.proofs.lemmas.Bool.{both_ways, false_from_ne_true}
@@ -27,7 +27,7 @@ use Rattle.curspan.specs.steps.Checking.{IsReported, ReportsMore, ReportsScript,
 use Rattle.curspan.specs.steps.Putting.{PuttingEnds}
 use Rattle.curspan.proofs.PutLemmas.{cut_before, not_put, nothing_put, put_behind}
 
--- ---- lines that are told
+-- ---- lines with a finding
 
 abbrev flat : List (List ℕ) → List ℕ
 flat lines = flat_map (λ line. line) lines
@@ -88,7 +88,7 @@ short_test line h = grind (arith, nat_tests)
 long_line : (line : List ℕ) → LONGEST_LINE < length line → said_by_line line ≡ Err LineTooLong
 long_line line h = rw (long_test line h) refl
 
--- what is told of a line, kept or not, is what it says
+-- the finding of a line, kept or not, is by what it says
 told_is : (n : ℕ) (line kept : List ℕ) (is_kept : Bool) (end : LineEnd) → IsKept is_kept line kept → end_failed end ≡ false
     → finding_of_read n kept is_kept end ≡ finding_of n line (said_by_line line)
 told_is n line kept true Newline k e = ap (λ l. finding_of n l (said_by_line l)) k.0
@@ -100,7 +100,7 @@ told_is_rest : (n : ℕ) (line kept : List ℕ) (is_kept : Bool) → IsKept is_k
 told_is_rest n line kept true k = rw (short_test line k.1) refl
 told_is_rest n line kept false k = rw (long_test line k) refl
 
--- What was told of the lines of a script that were read, and what is left of it.
+-- The findings of the lines of a script that were read, and what is left of it.
 pub record Checking (input rest : SourceSeen) (out after : Seen) (unused : List ℕ) (number : ℕ) (report : Report) : Type 0 where
   pub text : List ℕ
   pub lines : List (List ℕ)

@@ -20,5 +20,5 @@ pub mod PictureLemmas
 pub mod PictureTexts
 -- A stream is read into a terminal piece by piece; for `read_stream`
 pub mod FeedingLemmas
--- A script is told of a line at a time; for `end_report`, `tell`, `tell_lines`
+-- The findings of a script, a line at a time; for `end_report`, `tell`, `tell_lines`
 pub mod CheckLemmas

@@ -14,7 +14,7 @@ without : {X : Type 0} {A : Type 0} (B : X → Type 0) (o : Option X) → is_som
 without B None none a = a
 without B (Some x) none a = cc
 
--- After a script without a fault writing the picture failed, and the log is told.
+-- After a script without a fault writing the picture failed, and the log gets a line.
 pub Prints-failed : (end : ScriptEnd) (world : World) (told : Seen) (old new : Outputs) (status : ℕ) → is_some end.fault ≡ false → status ≡ 3
     → IsNotWritten old.output new.output (picture_text world) → IsTold told new.log (last_line Log) → Prints end world told old new status
 Prints-failed end world told old new status none failed output log = without _ end.fault none (inr (failed, output, log))

@@ -118,7 +118,7 @@ front_before old new text behind h = record {
 pub nothing_put : (old : Seen) → PuttingEnds true old old []
 nothing_put old = record { taken = λ e. Appends-nil old.taken; cut = λ e. cc; flushes = refl; failures = refl }
 
--- what was put out after another text, all of it
+-- what was written after another text, all of it
 pub put_behind : (old mid new : Seen) (front text : List ℕ) (is_put written : Bool) → PuttingEnds is_put old mid front → is_put ≡ true → PuttingEnds written mid new text
     → PuttingEnds written old new (front ++ text)
 put_behind old mid new front text is_put written before is p = record {

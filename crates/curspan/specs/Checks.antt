@@ -15,9 +15,9 @@ use Rattle.world.specs.declared.call.Call.{Call}
 use Rattle.curspan.specs.Shows.{ReadsStream}
 use Rattle.curspan.specs.Written.{IsNotWritten, IsTold, IsWritten, Outputs}
 
--- ---- which lines are told
+-- ---- the findings
 
--- the line that tells of what a line says, if that is a fault
+-- the finding of a line by what it says: none, if that is no fault
 abbrev pub finding_of : ℕ → List ℕ → Result (Option Call) TextFault → List (List ℕ)
 finding_of number line (Ok call) = []
 finding_of number line (Err fault) = finding number fault line ∷ []
@@ -26,7 +26,7 @@ finding_of number line (Err fault) = finding number fault line ∷ []
 abbrev pub finding_of_rest : ℕ → List ℕ → List (List ℕ)
 finding_of_rest number rest = if nat_lt LONGEST_LINE (length rest) then finding number LineTooLong rest ∷ [] else []
 
--- what is told of lines from a number on
+-- the findings of lines from a number on
 abbrev pub findings_from : Bool → ℕ → List (List ℕ) → List (List ℕ)
 findings_from failed n [] = []
 findings_from true n (rest ∷ []) = finding_of_rest n rest
@@ -49,18 +49,18 @@ count_line n = if n == 0 then [] else decimal n ++ (if n == 1 then codes " fault
 abbrev pub report : Bool → List (List ℕ) → List ℕ
 report is_whole lines = flat_map (λ line. line) lines ++ (if is_whole then count_line (count_of lines) else [])
 
--- A script that was read to its end is judged by whether a line was told. Of another the log is told.
+-- A script that was read to its end is judged by whether it has a finding. Of another the log gets a line.
 abbrev pub Judges : Bool → List (List ℕ) → Seen → Seen → ℕ → Type 0
 Judges true lines log after status = (status ≡ (if length lines == 0 then 0 else 2)) × (after ≡ log)
 Judges false lines log after status = (status ≡ 3) × IsTold log after (last_line Reading)
 
--- The output took the report; or that failed, and the log is told.
+-- The output took the report; or that failed, and the log gets a line.
 abbrev pub Reports : Bool → List (List ℕ) → Outputs → Outputs → ℕ → Type 0
 Reports is_whole lines old new status =
     (IsWritten old.output new.output (report is_whole lines) × Judges is_whole lines old.log new.log status)
     ⊎ ((status ≡ 3) × IsNotWritten old.output new.output (report is_whole lines) × IsTold old.log new.log (last_line Log))
 
--- The script was read, and its faulty lines are told.
+-- The script was read, and its findings are reported.
 pub record Checks (input rest : SourceSeen) (old new : Outputs) (status : ℕ) : Type 0 where
   pub text : List ℕ
   pub is_whole : Bool

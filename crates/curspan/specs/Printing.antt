@@ -32,7 +32,7 @@ colours_text cells = if list_any (λ cell. has_colour cell.rendition) cells then
 abbrev pub line_text : List Shown → List ℕ
 line_text cells = characters_text cells ++ attributes_text cells ++ colours_text cells
 
--- where the cursor stands, if that is known
+-- where the cursor is, if that is known
 abbrev pub cursor_text : Option Place → List ℕ
 cursor_text None = codes "cursor unknown" ++ 10 ∷ []
 cursor_text (Some place) = codes "cursor " ++ decimal place.0 ++ 32 ∷ decimal place.1 ++ 10 ∷ []

@@ -33,7 +33,7 @@ use Rattle.curspan.specs.declared.asked.Kind.TheVariants.{Run, Paint, Show}
 abbrev pub no_memory_line : List ℕ
 no_memory_line = codes "no memory for the screen" ++ newline ∷ []
 
--- The log is told, and nothing went to the output.
+-- The log gets the line, and nothing went to the output.
 pub record LacksMemory (old new : Outputs) (status : ℕ) : Type 0 where
   pub status_is : status ≡ 4
   pub output : new.output ≡ old.output
@@ -41,7 +41,7 @@ pub record LacksMemory (old new : Outputs) (status : ℕ) : Type 0 where
 
 -- ---- words that are refused
 
--- A text was shown: it went to the output; or writing it failed, and the log is told.
+-- A text was shown: it went to the output; or writing it failed, and the log gets a line.
 abbrev pub ShowsText : List ℕ → Outputs → Outputs → ℕ → Type 0
 ShowsText text old new status =
     ((status ≡ 0) × IsWritten old.output new.output text × (new.log ≡ old.log))
@@ -51,7 +51,7 @@ ShowsText text old new status =
 abbrev pub ShowsHelp : Outputs → Outputs → ℕ → Type 0
 ShowsHelp old new status = (text : List ℕ) × ShowsText text old new status
 
--- A usage fault is told on the log, by the spelling of a text of clap's, and nothing went to the output.
+-- A usage fault goes to the log, as a text of clap's with its bytes escaped, and nothing went to the output.
 abbrev pub TellsUsage : Outputs → Outputs → ℕ → Type 0
 TellsUsage old new status = (text : List ℕ) × (status ≡ 2) × (new.output ≡ old.output) × IsTold old.log new.log (spelled text)
 
@@ -69,7 +69,7 @@ Refuses words old new status = (kind : ErrorKind) × ((kind ≡ OutOfMemory) ⊎
 -- ---- a script
 
 -- The script that was read ran on a screen, and ended so. A failure was counted exactly where its end has such a fault. After the lines of
--- the calls the log is told of a fault, and of nothing else.
+-- the calls the log gets a line of the fault, if there is one, and nothing else.
 pub record Tells {W : Type 0} (seen : W → Seen) (first last : ScreenOver W) (input rest : SourceSeen) (log told : Seen) (end : ScriptEnd) : Type 0 where
   pub logged : Seen
   pub script : ScriptEnds seen first last input rest log logged end
@@ -102,8 +102,8 @@ module _ {W : Type 0} (seen : W → Seen) where
 abbrev pub picture_text : World → List ℕ
 picture_text world = printed_picture (picture_of world.windows.lines world.windows.columns (picture world)) (Some (topmost_cursor world)) no_rendition
 
--- A script that ends with a fault prints nothing. After another the picture is printed; or writing it failed, and the log, on which the
--- script had told this, is told of it.
+-- A script that ends with a fault prints nothing. After another the picture is printed; or writing it failed, and the log gets a line after
+-- those of the script.
 abbrev pub Prints : ScriptEnd → World → Seen → Outputs → Outputs → ℕ → Type 0
 Prints end world told old new status = MatchOption end.fault
     (((status ≡ status_of end) × IsWritten old.output new.output (picture_text world) × (new.log ≡ told))
@@ -135,7 +135,8 @@ module _ {W V : Type 0} (seen : W → Seen) (discarded : V → Seen) where
   abbrev pub ServesJob : Job → SourceSeen → SourceSeen → Outputs → Outputs → ℕ → Type 0
   ServesJob job input rest old new status = (LacksMemory old new status × (rest ≡ input)) ⊎ Does job.kind job input rest old new status
 
-  -- The words are refused, and nothing is read, or they ask for a job, and it was done, or for what is wrong with a script, and that is told.
+  -- The words are refused, and nothing is read; or they ask for a job, and it was done; or for what is wrong with a script, and that is
+  -- reported.
   abbrev pub Serves : List Text → SourceSeen → SourceSeen → Outputs → Outputs → ℕ → Type 0
   Serves words input rest old new status =
       (Refuses words old new status × (rest ≡ input)) ⊎ ((job : Job) × Asks words job × ServesJob job input rest old new status)

@@ -36,7 +36,7 @@ terminal_text t = printed_picture t.picture t.cursor t.rendition
 abbrev pub offset_line : ℕ → List ℕ
 offset_line at = codes "offset " ++ decimal at ++ codes ": not in the profile" ++ newline ∷ []
 
--- The stream is in the profile, from the first terminal to the last. Or it fails, and the log tells at which offset; where that can't be
+-- The stream is in the profile, from the first terminal to the last. Or it fails, and the log says at which offset; where that can't be
 -- written, the status says so.
 abbrev pub Judges : List ℕ → Terminal → Terminal → Seen → Seen → ℕ → Type 0
 Judges stream first last log told status =
@@ -44,8 +44,8 @@ Judges stream first last log told status =
     ⊎ ((at : ℕ) × HasFailed stream first last at
     × (((status ≡ 1) × IsWritten log told (offset_line at)) ⊎ ((status ≡ 3) × IsNotWritten log told (offset_line at))))
 
--- Of a stream that isn't whole nothing is printed, and the log is told. Else the picture of the last terminal is printed; or writing it
--- failed, and the log is told.
+-- Of a stream that isn't whole nothing is printed, and the log gets a line. Else the picture of the last terminal is printed; or writing it
+-- failed, and the log gets a line.
 abbrev pub ShowsStream : Bool → List ℕ → Terminal → Terminal → Outputs → Outputs → ℕ → Type 0
 ShowsStream false stream first last old new status = (status ≡ 3) × (new.output ≡ old.output) × IsTold old.log new.log (last_line Reading)
 ShowsStream true stream first last old new status =

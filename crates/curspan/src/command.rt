@@ -153,7 +153,7 @@ pub fn job<S: AsStr>(alloc: Global, words: &[S]) -> Result<Asked, Error>
     }
     match job_of(&matches) {
         Some(job) => Ok(Asked::Job(job)),
-        // What clap takes always asks for a job, so this is never met.
+        // What clap accepts always asks for a job, so this is never reached.
         None => Err(command.error(ErrorKind::MissingSubcommand, "no subcommand")?),
     }
 }

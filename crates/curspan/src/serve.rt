@@ -48,7 +48,7 @@ fn show_text<O: Sink, L: Sink>(text: &[u8], out: &mut O, log: &mut L) -> u8
     }
 }
 
-/// Prints help on the output and a usage fault, spelled, on the log, and answers the status.
+/// Prints help on the output, or a usage fault, escaped, on the log, and answers the status.
 fn usage<O: Sink, L: Sink>(alloc: Global, error: &Error, out: &mut O, log: &mut L) -> u8
     ensures explained { Explains (kind_of error.now) (outputs (O.seen out.old) (L.seen log.old)) (outputs (O.seen out.new) (L.seen log.new)) result }
     ensures log { result < 2 → log.new ≡ log.old }

@@ -10,7 +10,7 @@ use arrayvec::ArrayVec;
 use cell::{hex_digits, is_printable};
 use streams::{Sink, append};
 
-/// How many bytes are spelled at once.
+/// How many bytes are escaped at once.
 const PIECE: usize = 256;
 
 /// Room for the spelling of a piece: four bytes for each of its own.

@@ -1,6 +1,7 @@
 -- What calls do to the writer of a screen; for `call_desk`
 pub mod WriterLemmas
--- States with more lines damaged: what may come of calls in one may come in the other; for `AnswerLemmas`, `MakesLemmas`, `RunLemmas` and others
+-- States with more lines damaged: the outcomes that calls may have in one, they may have in the other; for `AnswerLemmas`, `MakesLemmas`,
+-- `RunLemmas` and others
 pub mod StateLemmas
 -- No call of a run sends more than its bound; for `MakesLemmas`
 pub mod Shortness

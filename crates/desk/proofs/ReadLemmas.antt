@@ -23,7 +23,7 @@ use Rattle.world.specs.declared.call.Reply.{Reply}
 use Rattle.world.specs.declared.call.Reply.TheVariants.{Nothing, Cell}
 use Rattle.world.specs.declared.call.Stacking.TheVariants.{DelPanel}
 
--- ---- only update_panels tells of cells
+-- ---- only update_panels answers a number of cells
 
 pair-tells : (place : Option Place) → cells_of_reply (pair place) ≡ 0
 pair-tells None = refl

@@ -98,7 +98,7 @@ pub untouched : (window : WindowMap) (w top left y u : ℕ) → place_on_screen 
     → touched_cells window w (top + y) u ≡ None
 untouched window w top left y u is none = ap (λ b. if b then Some (cell_on_screen window w (top + y) u) else None) (not-touched (window w) top left y u is none)
 
--- ---- what the painter must be told of
+-- ---- what the painter has to look at
 
 -- a call leaves what it doesn't change, so that only what is added may be changed now
 pub kept-called : (old new : DeskTable) (call : Call) (r : Result Reply Refusal) (painter : PainterState) (changes wide : List Stretch) → Called old call r new

@@ -23,7 +23,7 @@ redrawn_in_run world [] = 0
 redrawn_in_run world (call ∷ calls) =
     if call.1 then redrawn world call.0 + redrawn_in_run (world_after world call.0) calls else redrawn_in_run world calls
 
--- The update_panels of a run read at least as many cells as they changed places, and at most as many as they owe.
+-- The update_panels of a run read at least as many cells as they changed places, and at most as many as `bound_on_reads` says.
 pub record ReadsFew (s : State) (calls : List (Call × Bool)) (cells : ℕ) : Type 0 where
   pub at_least : redrawn_in_run s.world calls ≤ cells
   pub at_most : cells ≤ bound_on_reads s.world s.damaged calls

@@ -56,7 +56,7 @@ pub record HasOneSize (desk : DeskTable) (painter : PainterState) : Type 0 where
   pub lines : painter.lines ≡ desk.windows.lines
   pub columns : painter.columns ≡ desk.windows.columns
 
--- The places of which the painter must be told: where it knows what it showed last, the virtual screen shows the same at all others. There
+-- The places at which the painter has to look: where it knows what it showed last, the virtual screen shows the same at all others. There
 -- are as many lines of them as the screen has.
 pub record IsKept (desk : DeskTable) (painter : PainterState) (changes : List Stretch) : Type 0 where
   pub height : length changes ≡ desk.windows.lines

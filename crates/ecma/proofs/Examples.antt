@@ -20,7 +20,7 @@ new : Terminal
 unfolding blank_with
 new = blank_with (Some origin) no_rendition
 
--- ---- sequences that were never finished; E stands for the escape
+-- ---- sequences that were never finished; E is the escape
 
 five-is-parameter : AreParameters (codes "5" ∷ [])
 five-is-parameter = record { one = omega arith; most = omega arith; digits = (((omega arith, omega arith), tt), tt); short = (omega arith, tt) }

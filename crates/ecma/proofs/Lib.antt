@@ -6,13 +6,14 @@ pub mod Numbers
 pub mod Printing
 -- The spelling of a token is one item, with the token's effect; for `spell`, `spelled_item`
 pub mod Tokens
--- Streams one after another, and what a stream that was cut off leaves; for `cut_stream`, `joined_after_breaks`, `joined_streams` and others
+-- Streams one after another, and what a stream that was cut off leads to; for `cut_stream`, `joined_after_breaks`, `joined_streams` and
+-- others
 pub mod Joining
 -- The loop over the attributes; for `append_codes`
 pub mod Codes
 -- Where tokens lead
 pub mod Leading
--- A stream has one row of items at most, and so has each beginning of it; for `one_row_of_items`
+-- A stream is one sequence of items at most, and so is each prefix of it; for `one_row_of_items`
 pub mod Unique
 -- What a stream reaches, and where it fails; for `one_failure`, `one_terminal_reached`
 pub mod Failing
@@ -22,13 +23,13 @@ pub mod Sizes
 pub mod Lengths
 -- Pictures that differ in no place are one; for `no_difference`
 pub mod Difference
--- Where no item stands that has an effect, the stream fails, whatever follows; for `failure_stays`
+-- Where no item with an effect begins, the stream fails, whatever follows; for `failure_stays`
 pub mod Stopping
--- What goes on with a control sequence, and what doesn't; for `Standing`
+-- What continues a control sequence, and what doesn't; for `Standing`
 pub mod Beginnings
 -- Renditions selected by the parameters of a control sequence; for `select_all`, `with_off`, `with_on`
 pub mod Selecting
 -- Lines of a picture, erased; for `erase_in_line`, `erase_lines`
 pub mod Erasing
--- What one more byte does to where a reader stands; for `fault`, `one_standing`, `read_digit` and others
+-- What a reader has after one more byte; for `fault`, `one_standing`, `read_digit` and others
 pub mod Standing

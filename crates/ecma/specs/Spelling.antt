@@ -67,7 +67,7 @@ token_effect (Sgr rendition) t = Some (record t { rendition = rendition })
 token_effect (El how) t = erase_line how t
 token_effect (Ed how) t = erase_page how t
 
--- what can be spelled: a byte that a cell can hold, a line and a column of the largest screen, attributes of the six with colours of
+-- what has a spelling: a byte that a cell can hold, a line and a column of the largest screen, attributes of the six with colours of
 -- the eight, any erasure
 abbrev pub IsToken : Token → Type 0
 IsToken (Print byte) = IsTrue (is_printable byte)

@@ -1,4 +1,4 @@
--- Where a reader stands after a stream of bytes, however it was cut.
+-- What a reader keeps after a stream of bytes, however that was cut.
 use Rattle.std.specs.Prelude.{◌≡◌, ℕ, ◌-◌, ◌^◌, min, List, [], ◌∷◌, ◌++◌, length, map}
 use Rattle.std.specs.List.{join_with_byte}
 use Rattle.cell.specs.Pictures.{blank_picture, origin}
@@ -58,11 +58,11 @@ StandsIn Escape stream first reader = Unended stream first reader (escape ∷ []
 StandsIn Parameters stream first reader = InParameters stream first reader
 StandsIn Failed stream first reader = HasFailed stream first reader.terminal reader.start
 
--- The reader stands after the stream, which it read from the first terminal on.
+-- The reader has read the stream, from the first terminal on.
 abbrev pub StandsAfter : List ℕ → Terminal → Reader → Type 0
 StandsAfter stream first reader = StandsIn reader.state stream first reader
 
--- whatever the one stands after, the other stands after it and these bytes
+-- whatever stream the first has read, the second has read that stream and then these bytes
 abbrev pub Follows : List ℕ → Reader → Reader → Type 0
 Follows bytes old new = (stream : List ℕ) (first : Terminal) → StandsAfter stream first old → StandsAfter (stream ++ bytes) first new
 

@@ -32,7 +32,7 @@ pub fn one_failure()
     ensures outside { (stream : List ℕ) (offset : ℕ) (t u v : Terminal) → FailsAt stream t offset u → IsInProfile stream t v → ⊥ }
 {}
 
-/// What a reader shows is that of the stream that it read, however it was cut: two that stand after one stream show one terminal.
+/// What a reader shows is that of the stream that it read, however it was cut: two readers of one stream show one terminal.
 pub fn one_standing()
     ensures { (stream : List ℕ) (first : Terminal) (one other : Reader) → StandsAfter stream first one → StandsAfter stream first other
         → one.terminal ≡ other.terminal }

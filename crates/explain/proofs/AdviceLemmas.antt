@@ -1,4 +1,4 @@
--- What stands for a word of curses, by the first of its rules that holds.
+-- What to write for a word of curses, by the first of its rules that holds.
 use Rattle.std.proofs.Common.{◌≡◌, ℕ, List, ◌++◌, None, Some, codes, refl}
 use Rattle.explain.specs.Advice.{advice_on, call_advice, call_behind}
 

@@ -1,4 +1,4 @@
--- What stands for a name of curses that no script's word is. The words are Curspan's own.
+-- What to write for a name of curses that is no word of scripts. The texts are Curspan's own.
 use Rattle.std.specs.Prelude.{◌&&◌, ℕ, List, [], ◌∷◌, ◌++◌, codes, drop, is_some, length, map, Option, Some, None, take, if◌then◌else◌}
 use Rattle.std.specs.Option.{option_map_or}
 use Rattle.std.specs.Str.{bytes_eq}
@@ -7,7 +7,7 @@ use Rattle.explain.specs.declared.advice.TheConstants.{ADVICE}
 use Rattle.explain.specs.declared.advice.Advice.{Advice}
 use Rattle.explain.specs.declared.advice.Advice.TheVariants as advice
 
--- what is said of a name of curses that no script's word is
+-- what is said of a name of curses that is no word of scripts
 abbrev pub advice_text : Advice → List ℕ
 advice_text advice.Refresh = codes "see noutrefresh, doupdate"
 advice_text advice.PadRefresh = codes "see pnoutrefresh, doupdate"
@@ -44,7 +44,8 @@ abbrev pub call_behind : List ℕ → List ℕ → Option (List ℕ)
 call_behind front word = if bytes_eq (take (length front) word) front && is_some (word_of (drop (length front) word)) then Some (drop (length front) word)
     else None
 
--- what stands for a word of curses that is no call: as the table has it; after `mv` and `w` a call
+-- what to write for a word of curses that is no call: what the table has; else, where the word is a call with the prefix `mvw`, `mv` or
+-- `w`, that call
 abbrev pub call_advice : List ℕ → List ℕ
 call_advice word = option_map_or (λ advice. codes ": " ++ advice_text advice) (advice_on word)
     (option_map_or (λ rest. codes ": see move, " ++ rest) (call_behind (codes "mvw") word)

@@ -1,4 +1,4 @@
--- What a person is told of a faulty line. The words are Curspan's own.
+-- What a person reads about a faulty line. The texts are Curspan's own.
 use Rattle.std.specs.Prelude.{◌==◌, ℕ, List, [], ◌∷◌, ◌++◌, codes, decimal, length, slice_index, if◌then◌else◌}
 use Rattle.std.specs.List.{slice_split}
 use Rattle.std.specs.Option.{option_map_or}
@@ -24,7 +24,7 @@ count_text n = decimal n ++ (if n == 1 then codes " argument" else codes " argum
 abbrev pub ill_formed_text : List ℕ → IllFormed → List ℕ
 ill_formed_text word ill = word ++ codes " wants " ++ requirement ill.form ++ codes ", not " ++ quotation ill.argument ++ reason ill.form ill.argument
 
--- what is told of a bad byte, of a word that is no call, and of a number of arguments
+-- what is said of a bad byte, of a word that is no call, and of a wrong number of arguments
 abbrev pub bad_byte_text : ℕ → List ℕ
 bad_byte_text byte = codes "bad byte " ++ hex_digits byte ++ codes ": " ++ byte_advice byte
 
@@ -34,7 +34,7 @@ unknown_text word = codes "unknown call " ++ quotation word ++ call_advice word
 abbrev pub number_text : List ℕ → ℕ → ℕ → List ℕ
 number_text word taken given = word ++ codes " takes " ++ count_text taken ++ codes ", " ++ decimal given ++ codes " given"
 
--- what is told of a fault
+-- what is said of a fault
 abbrev pub explanation : TextFault → List ℕ → List ℕ
 explanation LineTooLong line = codes "the line is longer than 512 bytes"
 explanation BadByte line = bad_byte_text (slice_index line (bad_place line))
@@ -46,7 +46,7 @@ explanation BadArgument line =
     let pieces = slice_split is_space line in
     option_map_or (ill_formed_text (word_in pieces)) (find_ill_formed_in pieces) []
 
--- the line that tells of a fault in a script's line with its number
+-- the line about a fault in a script's line, with the number of that line
 abbrev pub finding : ℕ → TextFault → List ℕ → List ℕ
 finding number fault line =
     codes "line " ++ decimal number ++ codes ", column " ++ decimal (column_of fault line) ++ codes ": " ++ explanation fault line ++ newline ∷ []

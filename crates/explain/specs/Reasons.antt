@@ -39,6 +39,6 @@ reason Flag argument = []
 reason Character argument = []
 reason Text argument = []
 
--- the number that stands in a text behind so many bytes
+-- the number that a text has after so many bytes
 abbrev pub numeral_in : ℕ → List ℕ → ℕ
 numeral_in place text = digits_value 10 (take_while is_ascii_digit (drop place text))

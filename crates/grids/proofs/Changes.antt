@@ -1,4 +1,4 @@
--- What a change of one slot leaves of the table, and what it does to the windows.
+-- What a change of one slot does to the table and to the windows.
 use Rattle.std.proofs.Common.{◌≡◌, ℕ, ◌<◌, ◌≢◌, ◌==◌, Option, Some, None, IsSomeAnd, List, ap, arith, sym, ◌∙◌, subst, inl, inr, eq-eqb, ne_eqb}
 use Rattle.std.specs.Option.{option_map}
 use mathlib.Core.Path.{fun_ext}

@@ -1,4 +1,4 @@
--- A window from which none derives is given up.
+-- A window from which none derives is deleted.
 use Rattle.std.proofs.Common.{◌≡◌, ℕ, zero, suc, ◌+◌, ◌<◌, ◌≤◌, ◌≢◌, Bool, true, false, Option, Some, None, IsSomeAnd, MatchOption, List, length, ap, arith, refl, sym, ◌∙◌, subst, inl, inr, eq-eqb}
 use Rattle.std.specs.Prelude.{⊤}
 use Rattle.std.proofs.lemmas.Bool.{cases_eq, or_parts, false≢true}

@@ -6,7 +6,7 @@ pub mod Sounds
 pub mod Writes
 -- a window shifted in its parent, for mvderwin
 pub mod Shifts
--- a window given up, for delwin
+-- a window deleted, for delwin
 pub mod Deletion
 -- a window added, for newwin, newpad and derive
 pub mod NewWindows
@@ -22,7 +22,7 @@ pub mod LineCopies
 pub mod Touches
 -- the ancestors of a window, for derives, hand_up and take_down
 pub mod Ancestors
--- what is handed on from parent to parent, for hand_up and take_down
+-- what is passed on from parent to parent, for hand_up and take_down
 pub mod Syncs
 -- the places that two windows share, for seen_in
 pub mod Shared

@@ -1,4 +1,4 @@
--- What is known of a new window: its size, and where it stands.
+-- What is known of a new window: its size, and where it is.
 use Rattle.std.proofs.Common.{◌≡◌, ℕ, ◌+◌, ◌<◌, ◌≤◌, Bool, true, false, if◌then◌else◌, nat_lt, nat_le, Option, Some, None, is_some, MatchOption, List, ap, arith, refl, sym, ◌∙◌, subst}
 use Rattle.std.specs.Option.{option_map}
 use Rattle.std.specs.Prelude.{⊤}
@@ -59,7 +59,7 @@ module _ (t : WindowTable) (new : List (Option Kept)) (m : ℕ) (k : Kept) (set 
   pub windows-added : (a : Window) → window_of k ≡ a → windows (record t { slots = new }) ≡ numbered (windows t) m (Some a)
   windows-added a e = windows-set t new m (Some k) set ∙ ap (λ (b : Window). numbered (windows t) m (Some b)) e
 
--- a new derived window stands in its parent
+-- a new derived window lies in its parent
 
 kind_from : (o : Option Place) (y x : ℕ) → is_some (place_from o y x) ≡ is_some o
 kind_from None y x = refl

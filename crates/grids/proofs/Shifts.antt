@@ -16,7 +16,7 @@ use Rattle.slots.proofs.Chain.{parent_at, some_and, shared_of, own_alone}
 use Rattle.slots.proofs.OneSlot.{SetAt-set, slot_below, each_set, chained_set, KeepsShape}
 use Rattle.grids.proofs.Changes.{windows-set, IsStandardOf, standard-still, replaced-changed}
 
--- how a window stands in its parent
+-- where a window lies in its parent
 fits_at : (slots : List (Option Kept)) → IsChained slots → (w : ℕ) (k p : Kept) (part : Part) → slot_at slots w ≡ Some k → part_in k.cells ≡ Some part → slot_at slots part.parent ≡ Some p
     → FitsIn k part p
 fits_at slots s w k p part e in_part parent =

@@ -1,4 +1,4 @@
--- What is touched of a window, handed on from window to window.
+-- What is touched of a window, passed on from window to window.
 use Rattle.std.proofs.Common.{◌≡◌, ◌≢◌, ℕ, ◌+◌, ◌-◌, ◌≤◌, Bool, true, false, if◌then◌else◌, ◌==◌, ◌&&◌, ◌||◌, nat_lt, nat_le, Option, Some, None, IsSome, IsSomeAnd, List, ◌∷◌, ap, arith, refl}
 use Rattle.std.proofs.Common.{sym, ◌∙◌, subst, inl, inr, eq-eqb, ne_eqb, zero-add}
 use Rattle.std.specs.List.{list_any}
@@ -175,7 +175,7 @@ ends-within : (o p : Option Window) (b : Window) (line column : ℕ) → SameBut
     → EndsWithin window w (line, column)
 ends-within o p b line column h lines columns window w is = rw (is, h.there) (omega (arith, lines, h.lines), omega (arith, columns, h.columns))
 
--- ---- handed up: window u has been reached, and what is touched was handed to it and to all on the way
+-- ---- upwards: window u has been reached, and what is touched was passed on to it and to all on the way
 
 pub record IsHandedTo (old cur : Windows) (w u line column : ℕ) : Type 0 where
   pub walk : Walk old.window w u line column

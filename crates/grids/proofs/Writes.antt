@@ -158,7 +158,7 @@ windows-put_row t a1 a2 win place y left right c there l leads h1 h2 =
     (put-any t.slots a1 a2 win place k.0 (filled y left right c) (filled (place.line + y) (place.column + left) (place.column + right) c) y left right k.1 leads
     (moved-row place a y left right c k.2 k.3) (touched-row a y left right c k.2 l k.3) h1 h2)
 
--- cells of a line, in columns that stand side by side
+-- cells of a line, in columns side by side
 
 abbrev side_by_side : ℕ → ℕ → ℕ → (ℕ → Glyph) → Drawing
 side_by_side dy dx n shown y x = if (y == dy) && (nat_le dx x && nat_lt x (dx + n)) then Some (shown (x - dx)) else None

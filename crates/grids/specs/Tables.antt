@@ -1,4 +1,4 @@
--- The table of windows, and the windows that it stands for.
+-- The table of windows, and the windows that it represents.
 use Rattle.std.specs.Prelude.{ℕ, ◌+◌, ◌<◌, ◌≤◌, List, length, Option, MatchOption, IsSomeAnd, ⊤}
 use Rattle.cell.specs.declared.limits.TheConstants.{LARGEST_SCREEN, MOST_WINDOWS}
 use Rattle.world.specs.Windows.{Windows}

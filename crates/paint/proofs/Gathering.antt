@@ -1,4 +1,4 @@
--- A text that is gathered, put after, and handed on.
+-- A text that is gathered, appended to, and passed on.
 use Rattle.std.proofs.Common.{◌≡◌, ℕ, ◌+◌, ◌-◌, ◌^◌, ◌<◌, Bool, true, false, List, [], ◌++◌, length, Ok, Err, refl, sym, ap, ◌∙◌, subst, arith, append_assoc, append-nil, length-append}
 use Rattle.std.specs.Prelude.{min}
 use Rattle.streams.specs.Sinks.{Seen}

@@ -1,4 +1,4 @@
--- A text that is gathered, put after, and handed on; for `hand_on`
+-- A text that is gathered, appended to, and passed on; for `hand_on`
 pub mod Gathering
 -- The strokes of a pen, one after another, and what each shows; for `approach`, `change_length`, `end` and others
 pub mod Strokes
@@ -16,8 +16,8 @@ pub mod Pages
 pub mod Holding
 -- What a text that was sent means for a painter; for `send_text`
 pub mod Updating
--- The text of a doupdate after a stream that agrees with the painter: after one that clears doesn't matter what was sent before; for `agrees_after_fault`,
--- `agrees_after_update`, `shows_after_update` and others
+-- The text of a doupdate after a stream that agrees with the painter: where it clears, it doesn't matter what was sent before; for
+-- `agrees_after_fault`, `agrees_after_update`, `shows_after_update` and others
 pub mod Repair
 -- Runs of cells: printed one after another, and drawn in a line; for `are_all`, `paint_cells`, `paint_run` and others
 pub mod Runs

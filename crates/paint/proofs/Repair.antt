@@ -1,4 +1,4 @@
--- The text of a doupdate after a stream that agrees with the painter: after one that clears doesn't matter what was sent before.
+-- The text of a doupdate after a stream that agrees with the painter: where it clears, it doesn't matter what was sent before.
 use Rattle.std.proofs.Common.{◌≡◌, Bool, true, false, ℕ, zero, suc, ◌<◌, ◌≤◌, List, [], ◌++◌, length, take, Option, Some, None, refl, arith}
 use Rattle.std.specs.Prelude.{⊤, MatchOption}
 use Rattle.std.proofs.lemmas.Option.{MatchOption-from_none}

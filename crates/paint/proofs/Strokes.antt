@@ -146,7 +146,7 @@ printed-none seen pen line column cells cursor = record {
   columns = refl;
 }
 
--- a cell of them stands where it is printed
+-- one of the cells is shown where it is printed
 stands : (picture : Picture) (line column i : ℕ) (cells : List Shown) (cell : Shown) → take (length cells) (drop column (line_of picture line)) ≡ cells → i < length cells
     → cell ≡ get_or cells i shown_blank → with_shown picture (line, column + i) cell ≡ picture
 stands picture line column i cells cell are inside is =

@@ -43,7 +43,7 @@ changed-from shown wanted start skipped differs = (omega arith, differs-later st
 pub kept-from : (shown wanted : List Shown) (start : ℕ) → take (length shown - start) (drop start shown) ≡ take (length wanted - start) (drop start wanted) → drop start shown ≡ drop start wanted
 kept-from shown wanted start same = sym (take_rest shown start) ∙ same ∙ take_rest wanted start
 
--- what differs stands before the end of what is changed
+-- what differs is before the end of what is changed
 pub differs-before : (n x : ℕ) (shown wanted : List Shown) → length shown ≡ length wanted → drop n shown ≡ drop n wanted → DiffersAt shown wanted x → x < n
 differs-before zero x shown wanted same kept h = absurd (h.differs (ap (λ l. get_or l x shown_blank) kept))
 differs-before (suc n) x [] wanted same kept h = absurd (omega (arith, h.inside))

@@ -163,7 +163,7 @@ line-ready {line} {from} {x} {n} {shown} {wanted} same wide h ordered blank chan
   columns = columns ∙ h.columns;
 }
 
--- the pen stands in the blank end of a line that is painted, and ends its rendition
+-- the pen is in the blank end of a line that is painted, and ends its rendition
 pub line-stands : {before mid now : Seen} {old pen next : Pen} {line from : ℕ} {shown wanted : List Shown} → length shown ≡ length wanted
     → ((picture : Picture) → line < length picture → line_of picture line ≡ shown → Strokes (line_bytes shown wanted) before mid old pen picture (set picture line wanted)) → pen.columns ≡ old.columns
     → AreBlank (drop from wanted) → from ≤ length wanted

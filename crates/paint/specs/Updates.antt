@@ -111,7 +111,7 @@ pub record BreaksOff (painter : PainterState) (clear : Bool) (old new : Seen) (w
 -- ---- streams that agree with a painter
 
 -- All that was sent to a terminal so far agrees with the painter, read from t: it is in the profile, and where the painter knows what it
--- showed last, it leads from t to that. Sequences that were never finished may stand in it, each before an escape.
+-- showed last, it leads from t to that. Sequences that were never finished may be in it, each before an escape.
 pub record Agrees (painter : PainterState) (stream : List ℕ) (t : Terminal) : Type 0 where
   pub in_profile : (u : Terminal) × IsInProfile stream t u
   pub leads : MatchOption painter.last ⊤ (λ shown. LeadsWithBreaks stream t (showing shown.picture shown.cursor))

@@ -80,7 +80,7 @@ impl Painter {
 
     /// Shows a virtual screen of the painter's size: it sends one text and flushes once. Where nothing is known of the terminals, or
     /// they are to be cleared, the text clears the terminal first, and may be read by any one of the size. Else it is for those that
-    /// show the last picture, and draws only what differs from that. After an error what was shown last is unknown.
+    /// show the last picture, and draws what differs from that. After an error what was shown last is unknown.
     pub fn doupdate<V: VirtualScreen, W: Sink>(
         &mut self,
         screen: &V,

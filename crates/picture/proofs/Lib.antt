@@ -1,6 +1,6 @@
 -- places that a window's rectangle holds, for cell_found and compose_row
 pub mod Held
--- where a window stands, for shared_part
+-- where a window is, for shared_part
 pub mod Standing
 -- the part of the screen that shows cells of another window, for shared_part
 pub mod PartLaws

@@ -43,7 +43,7 @@ run-held window panels y x edge w last h standard u from upto =
     let within = h.within in
     ap (λ v. holds window v y u) (sym (h.same u from upto)) ∙ owner-held window panels y u (owner window panels y u) refl (standard u from (omega (arith, upto, within)))
 
--- What is lent of a window, and where it stands on the screen. The windows are those before.
+-- What is read of a window, and where it is on the screen. The windows are those before.
 pub record IsLent (old now : Windows) (panels : Panels) (y x edge w last : ℕ) (r : Rect) (cells : List Glyph) : Type 0 where
   pub kept : now ≡ old
   pub run : IsRun old.window panels y x edge w last
@@ -89,7 +89,7 @@ module _ (old now : Windows) (panels : Panels) (y x edge w last : ℕ) (r : Rect
       (omega arith)
       (λ u from upto. ap (shown pairs) (run-cells u from upto)) put size height width)
 
-  -- and as many were lent
+  -- and as many were read
   pub run-grew : (start a b c : ℕ) → start ≤ x → GrewBy (x - start) a b → GrewBy (last - r.left - (x - r.left) + 1) b c → GrewBy (last + 1 - start) a c
   run-grew start a b c begun before more =
       let s = h.run in

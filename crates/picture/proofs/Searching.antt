@@ -12,7 +12,7 @@ use Rattle.picture.specs.Parts.{frame_holds}
 use Rattle.world.specs.Panels.{Panels, holds, owner, panel_holds, standard_screen, window_or_standard}
 use Rattle.world.specs.Windows.{WindowMap}
 
--- ---- no number stands twice in a list read backwards
+-- ---- a list without duplicates has none when it is read backwards
 
 pairs-back : (xs : List ℕ) → AllPairs (λ p q. p ≢ q) xs → AllPairs (λ p q. p ≢ q) (reverse xs)
 pairs-back xs h i j d before below =

@@ -1,4 +1,4 @@
--- A window stands at a place of the screen.
+-- A window is at a place of the screen.
 use Rattle.std.proofs.Common.{◌≡◌, ℕ, ◌+◌, ◌<◌, ◌≤◌, Option, Some, None, refl, ap, subst, ◌∙◌}
 use Rattle.std.specs.Prelude.{MatchOption, ⊤, option_and_then}
 use Rattle.std.specs.Option.{option_map}
@@ -49,7 +49,7 @@ pub stands-at : (windows : Windows) (w : ℕ) (place : Place) (lines columns : �
     → StandsAt windows w place lines
 stands-at windows w place lines columns sound place_is size_is = stands windows w place lines (windows.window w) refl sound place_is (window_size windows.window w) refl columns size_is
 
--- a window that has a place on the screen stands there
+-- a window that has a place on the screen is there
 placed-from : (windows : Windows) (w : ℕ) (place : Place) (o : Option Window) → windows.window w ≡ o → AreSoundWindows windows → option_and_then (λ (a : Window). a.place) o ≡ Some place
     → (lines : ℕ) × StandsAt windows w place lines
 placed-from windows w place None e sound is = cc

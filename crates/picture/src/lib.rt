@@ -1,4 +1,4 @@
-//! What the picture of the screen is made of: spans of the lines of windows, lent and put into a line, and of each line the damaged columns.
+//! What the picture of the screen is made of: spans of the lines of windows, put into a line, and of each line the damaged columns.
 //!
 //! - `damage`: the damaged columns of each line
 //! - `line`: `compose_row`

@@ -17,7 +17,7 @@ use stack::Stack;
 use world::Columns;
 
 /// Puts what a search from the top finds at each damaged place of so many lines into a picture, and takes the damage away. It answers how
-/// many cells of windows it was lent.
+/// many cells of windows it read.
 pub fn show_damaged<'a, R: Rows<'a>>(
     rows: &mut R,
     stack: &Stack,

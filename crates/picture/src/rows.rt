@@ -1,4 +1,4 @@
-//! Where the lines of windows come from that a picture is composed of, and how many of their cells were lent.
+//! Where the lines of windows come from that a picture is composed of, and how many of their cells were read.
 
 ghost use Rattle.std.specs.Prelude.{◌≡◌, ◌≤◌, ◌+◌, ◌-◌, ℕ, true};
 ghost use Rattle.world.specs.Panels.{holds, place_of};
@@ -14,10 +14,10 @@ use crate::piece::piece;
 use cell::{Cell, Rect, WinId};
 use grids::Grids;
 
-/// Lends pieces of the lines of windows, and counts their cells. The pieces don't borrow the counter: they may be read on while more are
-/// lent.
+/// Gives pieces of the lines of windows to read, and counts their cells. The pieces don't borrow the counter: they may still be read while
+/// it gives more.
 pub trait Rows<'a> {
-    // The windows that it lends of, and how many cells were lent.
+    // The windows that are read, and how many of their cells were given to read.
     ghost windows: { Self → Windows };
 
     ghost lent: { Self → ℕ };
@@ -39,7 +39,7 @@ pub trait Rows<'a> {
         ensures same { windows self.new ≡ windows self.old };
 }
 
-/// Lends of a table of windows.
+/// The lines of a table of windows.
 #[derive(Drop)]
 pub struct Lent<'a> {
     table: &'a Grids,
@@ -47,7 +47,7 @@ pub struct Lent<'a> {
 }
 
 impl<'a> Lent<'a> {
-    /// Nothing of a table was lent yet.
+    /// Nothing of the table was read yet.
     pub fn of(table: &'a Grids) -> Lent<'a>
         ensures windows { ⟦<Lent<'a> as Rows<'a>>⟧.windows result ≡ windows_of table.now }
         ensures none { ⟦<Lent<'a> as Rows<'a>>⟧.lent result ≡ 0 }

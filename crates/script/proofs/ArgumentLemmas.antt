@@ -26,7 +26,7 @@ pub text_argument : (form : Form) (forms : List Form) (text : List ℕ) → is_t
 text_argument form forms text h =
     text_of_pieces form forms (slice_split is_space text) text (omega (arith, length-slice_split is_space text)) (join_with_byte-slice_split 32 text) h
 
--- Of the arguments that stand in all pieces the first i are taken, and those of the other forms stand in the rest.
+-- Of the arguments in all pieces the first i were taken, and those of the other forms are in the rest.
 pub record Counted (forms : List Form) (pieces : List (List ℕ)) (i : ℕ) (rest : List (List ℕ)) : Type 0 where
   pub count : length (arguments forms pieces) ≡ i + length (arguments (drop i forms) rest)
 

@@ -141,7 +141,7 @@ gathered_failed old mid new unused left rest line g n h = record {
 
 -- ---- a line, taken at once
 
--- A line and its newline stood among the bytes that were not used.
+-- A line and its newline were among the bytes that were not used.
 pub record TakesLine (unused left line : List ℕ) : Type 0 where
   pub all : unused ≡ line ++ newline ∷ left
   pub no_newline : HasNoNewline line
@@ -174,7 +174,7 @@ pub ok_parts : {T E : Type 0} (r : Result T E) (P Q : Type 0) → false ≡ is_e
 ok_parts (Ok t) P Q h said alike = (said, alike.0 refl)
 ok_parts (Err e) P Q h said alike = cc
 
--- the bytes up to the first newline, which stands early enough
+-- the bytes up to the first newline, which comes early enough
 pub newline_found : (unused : List ℕ) (at : ℕ) → Some at ≡ position is_newline unused → at < LONGEST_PIECE → TakesLine unused (drop (at + 1) unused) (take at unused)
 newline_found unused at found early =
     let found_at = position-Some is_newline unused at 0 (sym found) in
@@ -186,7 +186,7 @@ newline_found unused at found early =
       short = omega (arith, length-take at unused);
     }
 
--- a line that is lent from where it stands
+-- a line that is read where it is
 pub lent_line : (seen : SourceSeen) (unused bytes gathered : List ℕ) (at : ℕ) → bytes ≡ unused → Some at ≡ position is_newline bytes → at < LONGEST_PIECE
     → ReadsLine seen seen unused (drop (at + 1) bytes) (if at + 1 == 0 then gathered else take (at + 1 - 1) bytes) (Some Newline)
 lent_line seen unused bytes gathered at same found early =

@@ -12,7 +12,7 @@ use Rattle.script.proofs.LineLemmas.{rest_of}
 use Rattle.script.specs.Characters.{is_newline}
 use Rattle.script.specs.declared.bytes.TheConstants.{LANES}
 
--- No newline stands before a place.
+-- There is no newline before a place.
 pub record NoneBefore (text : List ℕ) (place : ℕ) : Type 0 where
   pub none : (k : ℕ) → k < place → is_newline (get_or text k 0) ≡ false
 

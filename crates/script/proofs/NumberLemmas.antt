@@ -68,7 +68,7 @@ first_piece_by text false none =
     let past : length text ≤ position_or_len is_space text = grind (arith, nat_tests) in
     ([], split_none text (rw none refl) ∙ ap (λ piece. piece ∷ []) (sym (take_all (position_or_len is_space text) text past)))
 
--- the space comes later than a place where none stands
+-- the space comes later than a place where there is none
 later_by : (text : List ℕ) (count : ℕ) (b : Bool) → nat_lt count (position_or_len is_space text) ≡ b → list_all is_ascii_digit (take count text) ≡ true → count < length text
     → is_space (get_or text count 0) ≡ false → count < position_or_len is_space text
 later_by text count true later digits below here = grind (arith, nat_tests)

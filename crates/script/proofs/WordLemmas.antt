@@ -1,4 +1,4 @@
--- A word is looked for in the row of its first letter, one after another.
+-- A word is searched for among those of its first letter, one after another.
 use Rattle.std.proofs.Common.{◌≡◌, ℕ, suc, ◌+◌, ◌<◌, Bool, true, false, Option, Some, List, [], ◌∷◌, length, drop, get_or, find, refl, sym, subst, ap, ◌∙◌, add-one, drop-cons, map, ◌%◌}
 use Rattle.std.proofs.Common.{slice_get, slice_index_or}
 use Rattle.std.specs.Option.{unwrap_or}

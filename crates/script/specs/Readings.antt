@@ -25,15 +25,15 @@ is_text Flag = false
 is_text Character = true
 is_text Text = true
 
--- The arguments as they stand after the word. A text takes all pieces that are left, joined again.
+-- The arguments as they come after the word. A text takes all pieces that are left, joined again.
 abbrev pub arguments : List Form → List (List ℕ) → List (List ℕ)
 arguments [] pieces = pieces
 arguments (form ∷ forms) [] = []
 arguments (form ∷ forms) (piece ∷ pieces) =
     if is_text form then join_with_byte space (piece ∷ pieces) ∷ [] else piece ∷ arguments forms pieces
 
--- The call that an entry's arguments make, if they are as many as its forms and each has its own. Else their first fault: the number is told
--- before the form.
+-- The call that an entry's arguments make, if they are as many as its forms and each has its own. Else their fault: a wrong number of them
+-- goes before a bad form.
 abbrev pub said_by_entry : Entry → List (List ℕ) → Result Call TextFault
 said_by_entry entry pieces =
     if length (arguments entry.forms pieces) == length entry.forms

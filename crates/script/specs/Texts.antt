@@ -53,7 +53,7 @@ abbrev pub flag_of : List ℕ → Option Bool
 flag_of piece = if bytes_eq piece (codes "on") then Some true
     else (if bytes_eq piece (codes "off") then Some false else None)
 
--- the character that a letter after a backslash stands for
+-- the character that a letter after a backslash means
 abbrev pub escaped_character : ℕ → Option ℕ
 escaped_character letter = if letter == letter_n then Some newline
     else (if letter == letter_r then Some carriage_return
@@ -61,7 +61,7 @@ escaped_character letter = if letter == letter_n then Some newline
     else (if letter == backslash then Some backslash
     else None)))
 
--- The characters of a text. A backslash and what follows it stand for one.
+-- The characters of a text. A backslash and what follows it are one.
 abbrev mutual
   pub text_of : List ℕ → Option (List ℕ)
   text_of [] = Some []

@@ -34,7 +34,7 @@ pub enum LineEnd {
 /// How many bytes are looked through at once.
 const LANES: usize = 16;
 
-/// How many of the bytes that are looked through at once stand before a newline: all, where none is one.
+/// How many of the bytes that are looked through at once come before a newline: all, where none is one.
 fn before_newline(text: &[u8], from: usize) -> usize
     requires { from + LANES ≤ length text.now }
     ensures within { result ≤ LANES }
@@ -208,7 +208,7 @@ impl Bytes {
     }
 }
 
-/// The lines of a script, one after another. A line that lies in one piece, its newline too, is lent from there.
+/// The lines of a script, one after another. A line that lies in one piece, its newline too, is read there, and not copied.
 #[derive(Drop)]
 pub struct Lines {
     bytes: Bytes,

@@ -9,7 +9,7 @@ use crate::limits::LONGEST_LINE;
 use crate::numbers::hex_byte;
 use arrayvec::ArrayVec;
 
-/// The character that a letter after a backslash stands for.
+/// The character that a letter after a backslash means.
 fn escaped_character(letter: u8) -> Option<u8>
     ensures { result ≡ escaped_character letter }
 {

@@ -95,7 +95,7 @@ fits_too k j part s (Some p) h = record {
   };
 }
 
--- a window of the same shape and offset stands where the other stood
+-- a window of the same shape and offset is where the other was
 pub stands_too : (slots : List (Option Kept)) (k j : Kept) → SameShape k j → (before after : Cells) → part_in after ≡ part_in before → StandsIn slots k before → StandsIn slots j after
 stands_too slots k j s (Own a) (Own b) e h = s.depth ∙ h
 stands_too slots k j s (Shared p) (Shared q) e h =

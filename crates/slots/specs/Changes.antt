@@ -21,7 +21,7 @@ pub record SamePart (old new : Kept) : Type 0 where
   pub part : part_in new.cells ≡ part_in old.cells
   pub origin : new.origin ≡ old.origin
 
--- the slot stands and leads where it did
+-- the slot keeps its shape, is the same part of its parent, and leads to the same place
 pub record StaysInPlace (old new : Kept) : Type 0 where
   pub shape : SameShape old new
   pub part : SamePart old new

@@ -1,4 +1,4 @@
--- What a slot keeps of a window, and the window that it stands for.
+-- What a slot keeps of a window, and the window that it represents.
 use Rattle.std.specs.Prelude.{◌≡◌, ℕ, ◌<◌, ◌≤◌, Option, None, List, length, slice_index_or, ⊤}
 use Rattle.cell.specs.Pictures.{Place, HasSize, AreCells, glyph_at}
 use Rattle.cell.specs.declared.limits.TheConstants.{LARGEST_PAD}

@@ -1,4 +1,4 @@
--- The list of slots, and the windows that they stand for.
+-- The list of slots, and the windows that they represent.
 use Rattle.std.specs.Prelude.{◌≡◌, ℕ, ◌+◌, Bool, false, List, Option, Some, None, MatchOption, slice_index_or, ⊤}
 use Rattle.std.specs.Option.{option_map, option_map_or}
 use Rattle.world.specs.Windows.{GridPlace, WindowMap, own}

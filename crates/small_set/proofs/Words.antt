@@ -1,4 +1,4 @@
--- The numbers of a set by its words: where one is taken in, and where the least one from another on is looked for.
+-- The numbers of a set by its words: where one is added, and where the least one from another on is searched for.
 use Rattle.std.proofs.Common.{◌≡◌, ◌≢◌, ℕ, ◌+◌, ◌-◌, ◌*◌, ◌/◌, ◌%◌, ◌^◌, ◌<◌, ◌≤◌, ◌==◌, ◌||◌, List, length, Bool}
 use Rattle.std.proofs.Common.{get_or, set, bit_and, bit_or, w64, if◌then◌else◌, true, false, refl, sym, subst, ap, ◌∙◌, inl, inr, arith}
 use Rattle.std.proofs.Common.{get_or-set_same, get_or-set_other}

@@ -114,7 +114,7 @@ module _ (above below above' below' : ℕ → ℕ) where
         chain-removed p r x xs ys z h.1 once.1 once.0 oz.1,
       )
 
-  -- p stands between lower and upper now
+  -- p is between lower and upper now
   pub record Inserted (lower p upper : ℕ) : Type 0 where
     pub lower_above : above' lower ≡ p
     pub lower_below : below' p ≡ lower

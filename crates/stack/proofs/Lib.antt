@@ -1,6 +1,6 @@
 -- nodes that name one another, for take_out, put_on_top and put_at_bottom
 pub mod Chains
--- lists in which none stands twice, for take_out
+-- lists without duplicates, for take_out
 pub mod Orders
 -- the order through the nodes, for take_out, put_on_top, put_at_bottom and visible
 pub mod Threads

@@ -43,7 +43,7 @@ reverse-split p xs ys =
 -- ---- neighbours
 
 module _ (nodes : List Node) (order : List ℕ) (h : IsThreaded nodes order) where
-  -- a visible panel stands in the order
+  -- a visible panel is in the order
   visible-split : (p : ℕ) → not (list_any (λ q. q == p) order) ≡ false → Split p order
   visible-split p shown = elim (out_or_in p order) [
     | inl out ↦ let any = any_is-out p order out in let t : true ≡ false = sym (ap not any) ∙ shown in cc

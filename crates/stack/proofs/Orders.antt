@@ -1,4 +1,4 @@
--- Lists of numbers of which none stands twice.
+-- Lists of numbers without duplicates.
 use Rattle.std.proofs.Common.{◌≡◌, ℕ, ◌<◌, ◌≤◌, Bool, true, false, ◌==◌, ◌||◌, List, [], ◌∷◌, ◌++◌, length, reverse, sym, ap, subst, ◌⊎◌, inl, inr, refl, eqb}
 use mathlib.Core.List.{reverse_aux}
 use Rattle.std.specs.List.{AllByRecursion, IsDistinct, list_any}
@@ -21,7 +21,7 @@ pub out-back : (p : ℕ) (xs ys : List ℕ) → IsOut p (xs ++ ys) → IsOut p y
 out-back p [] ys h = h
 out-back p (x ∷ xs) ys h = out-back p xs ys h.1
 
--- p stands between these
+-- p is between these
 pub record Split (p : ℕ) (xs : List ℕ) : Type 0 where
   pub before : List ℕ
   pub after : List ℕ

@@ -137,7 +137,7 @@ module _ (above below above' below' : ℕ → ℕ) where
     belows = λ q np na. twice-other-below (below p) (above p) p p q t np na;
   }
 
-  -- p stands between lower and upper
+  -- p is between lower and upper
   inserted : (lower p upper : ℕ) → Twice above below above' below' lower p p upper → (p ≡ lower → ⊥) → (p ≡ upper → ⊥) → Inserted above below above' below' lower p upper
   inserted lower p upper t nl nu = record {
     lower_above = t.aboves lower ∙ if-other lower p upper (if lower == lower then p else above lower) (λ e. nl (sym e)) ∙ if-same lower lower p (above lower) refl;

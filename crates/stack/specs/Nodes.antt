@@ -1,11 +1,11 @@
 -- The nodes through which the order is threaded, by the numbers of their panels. Each names the panels right above and below. The
--- node 0 is the end of both ways, where the standard screen stands: above it is the bottom panel, below it the top one.
+-- node 0 is the end of both ways, in the place of the standard screen: above it is the bottom panel, below it the top one.
 use Rattle.std.specs.Prelude.{◌≡◌, ℕ, zero, suc, ◌<◌, Bool, if◌then◌else◌, ◌==◌, Option, None, IsSome, List, [], ◌∷◌, length, slice_index_or, ⊤}
 use Rattle.std.specs.Option.{option_map}
 use Rattle.std.specs.List.{AllByRecursion}
 use Rattle.stack.specs.declared.nodes.Node.{Node}
 
--- a node that stands for nothing
+-- a node of no panel
 abbrev pub no_node : Node
 no_node = record { window = None; above = 0; below = 0 }
 
@@ -48,7 +48,7 @@ abbrev pub IsOut : ℕ → List ℕ → Type 0
 IsOut p [] = ⊤
 IsOut p (q ∷ order) = (p ≡ q → ⊥) × IsOut p order
 
--- none stands twice
+-- no duplicates
 abbrev pub AreOnce : List ℕ → Type 0
 AreOnce [] = ⊤
 AreOnce (p ∷ order) = IsOut p order × AreOnce order

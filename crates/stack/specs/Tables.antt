@@ -1,4 +1,4 @@
--- The panels as the stack shows them, and the panels of the world that they stand for.
+-- The panels as the stack shows them, and the panels of the world that they represent.
 use Rattle.std.specs.Prelude.{◌≡◌, ℕ, ◌+◌, ◌<◌, ◌≤◌, Option, Some, None, List, length, map, slice_index_or}
 use Rattle.cell.specs.declared.limits.TheConstants.{MOST_PANELS}
 use Rattle.world.specs.Panels.{Panels}

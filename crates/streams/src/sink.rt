@@ -15,7 +15,7 @@ pub trait Sink {
     // What it took, how often it failed, how often a flush was tried, and whether it was flushed.
     ghost seen: { Self → Seen };
 
-    // Which sink it is: of two lent ones with one name, both are the same borrow. What isn't lent has none.
+    // Which sink it is: two borrowed ones with one name are the same borrow. The name of one that isn't borrowed is 0.
     ghost name: { Self → ℕ } = { λ s. 0 };
 
     /// Takes a prefix of the piece, and says how long it is.

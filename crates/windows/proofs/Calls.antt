@@ -1,4 +1,4 @@
--- What a call makes of a window of a known state, and the rectangle that it answers.
+-- What a call does to a window of a known state, and the rectangle that it answers.
 use Rattle.std.proofs.Common.{◌≡◌, ℕ, ◌+◌, ◌-◌, ◌<◌, Option, Some, None, ap, arith, refl, sym, ◌∙◌}
 use Rattle.std.specs.Prelude.{option_and_then}
 use Rattle.std.specs.Option.{option_map_or}

@@ -1,5 +1,5 @@
--- What drawings make of two small windows, for a reader of the definitions. Each has three lines of three letters, window 0
--- small ones and window 1 great ones. After each drawing stand its like with one argument changed, which are other drawings.
+-- What drawings do to two small windows, for a reader of the definitions. Each has three lines of three letters, window 0 lower-case ones
+-- and window 1 capitals. After each drawing come drawings with one argument changed, which are others.
 use Rattle.std.proofs.Common.{◌≡◌, ◌++◌, ◌+◌, ◌*◌, ℕ, List, Some, None, true, false, refl, codes, map}
 use Rattle.std.specs.Prelude.{is_some, negsuc, pos}
 use Rattle.cell.specs.Glyphs.{Glyph}

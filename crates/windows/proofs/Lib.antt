@@ -6,7 +6,7 @@ pub mod Rectangles
 pub mod States
 -- one more write of a line, for clear_below, clear_rest, insert_cell, delete_cell, move_up and move_down
 pub mod NextWrites
--- what calls make of a window of a known state, for the calls that edit and the copies
+-- what calls do to a window of a known state, for the calls that edit and the copies
 pub mod Calls
 -- one character, for waddch and type_next
 pub mod Typing

@@ -1,4 +1,4 @@
--- What one more write of a line makes of a drawing, for a window of a known state.
+-- What one more write of a line adds to a drawing, for a window of a known state.
 use Rattle.std.proofs.Common.{◌≡◌, ℕ, ◌+◌, ◌-◌, ◌<◌, ◌≤◌, false, Some, None, ap, arith, sym, ◌∙◌, inl, inr}
 use Rattle.std.proofs.lemmas.Bool.{cases_lt}
 use Rattle.std.proofs.lemmas.Bool.Decides.{nat_tests}

@@ -1,4 +1,4 @@
--- A window keeps its size and its settings where something is written, and another settings are one change of it.
+-- A window keeps its size and its settings where something is written; and other settings are one change of it.
 use Rattle.std.proofs.Common.{◌≡◌, ℕ, ◌<◌, Bool, true, false, if◌then◌else◌, ◌==◌, Option, Some, None, IsSome, IsSomeAnd, ap, arith, refl, sym, subst, ◌∙◌}
 use Rattle.std.specs.Option.{option_map}
 use mathlib.Core.Path.{fun_ext}

@@ -184,7 +184,7 @@ module _ (window : WindowMap) (w : ℕ) (a : Window) (spot : GridPlace) (there :
       put-line window w a there f (copied now w sy 0 y 0 a.columns false) y
       (copied-line window now w a f sy y (λ x on. unchanged f y sy x ordered below on) is)
 
-  -- and upwards: a line that stands above those written so far
+  -- and upwards: a line that is above those written so far
 
   unwritten : (f : Drawing) (k y x : ℕ) → y < k → y < a.lines → x < a.columns → cell_at (put_windows window w (from k f)) w y x ≡ cell_at window w y x
   unwritten f k y x ordered below on =

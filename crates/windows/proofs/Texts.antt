@@ -1,4 +1,4 @@
--- A character is written: the windows stay. And the rectangles of several.
+-- Writing a character makes and deletes no window; and the rectangle of several characters.
 use Rattle.std.proofs.Common.{◌≡◌, ℕ, ◌+◌, ◌-◌, min, max, Bool, true, false, if◌then◌else◌, ◌==◌, ◌||◌, not, nat_lt, Option, Some, None, is_some, List, [], ◌∷◌}
 use Rattle.std.proofs.Common.{arith, refl, ◌∙◌}
 use Rattle.std.specs.Option.{option_map}

@@ -1,4 +1,4 @@
--- What each effect wants of windows and panels, and that the tests of its call give it.
+-- What each effect requires of windows and panels, and that the tests of its call ensure it.
 use Rattle.std.proofs.Common.{◌≡◌, ◌⊎◌, ℕ, zero, suc, ◌+◌, ◌-◌, Bool, true, false, if◌then◌else◌, ◌==◌, Option, Some, None, inl, inr, subst, ap, refl, sym, ◌∙◌, arith}
 use Rattle.std.specs.Prelude.{MatchOption, is_none, unwrap_or, ⊤}
 use Rattle.cell.specs.declared.refusal.Refusal.{Refusal}

@@ -1,4 +1,4 @@
--- Where windows are as they were but for one: what each window shows that neither is that one nor derives from it.
+-- Where all windows but one are as they were: what each window shows that neither is that one nor derives from it.
 use Rattle.std.proofs.Common.{◌≡◌, ℕ, zero, suc, ◌+◌, false, ◌==◌, Option, Some, None, [], ◌∷◌, ap, refl, ◌∙◌}
 use Rattle.std.specs.Prelude.{option_and_then}
 use Rattle.std.specs.Option.{option_map_or}

@@ -1,4 +1,4 @@
--- What copies and marks leave of small windows, for a reader of the definitions.
+-- What copying and touching do to small windows, for a reader of the definitions.
 use Rattle.std.proofs.Common.{◌≡◌, ℕ, Bool, true, false, List, ◌∷◌, Some, refl}
 use Rattle.std.specs.Prelude.{codes, map, ◌++◌}
 use Rattle.std.specs.List.{range_with_len}

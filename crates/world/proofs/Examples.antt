@@ -168,7 +168,7 @@ top_panel : (topmost both.panels ≡ Some 2) × (topmost blank.panels ≡ None)
 unfolding both blank screen_after with_panels
 top_panel = (refl, refl)
 
--- a window in a panel is neither deleted nor moved by itself, and that is told before what derives from it
+-- a window in a panel is neither deleted nor moved by itself, and that refusal goes before the one for windows that derive from it
 in_panel : (refusal both (Making (Delwin (win 1))) ≡ Some InPanel) × (refusal both (Making (Mvwin (win 2) 9 9)) ≡ Some InPanel)
 unfolding both shared screen_after with_panels win panel_limit window_limit
 in_panel = (refl, refl)

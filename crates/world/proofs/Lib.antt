@@ -22,7 +22,7 @@ pub mod PictureLaws
 pub mod LineLaws
 -- that an edit keeps the picture outside its frame, for kept_by_edits and frames_are_inside
 pub mod WritingLaws
--- that the tests of a call give what its effect wants, for all laws of calls
+-- that the tests of a call ensure what its effect requires, for all laws of calls
 pub mod Allowed
 -- that a call on a panel keeps the picture where the panel isn't seen, for kept_by_stacking
 pub mod StackingLaws
@@ -36,9 +36,9 @@ pub mod Sizes
 pub mod PlaceLaws
 -- small worlds worked out, for a reader of the definitions
 pub mod Examples
--- What the calls on panels leave and answer, and which lines and places they affect, for a reader of the definitions
+-- What the calls on panels do and answer, and which lines and places they affect, for a reader of the definitions
 pub mod PanelExamples
--- What copies and marks leave of small windows, for a reader of the definitions; for `RefreshExamples`
+-- What copying and touching do to small windows, for a reader of the definitions; for `RefreshExamples`
 pub mod CopyExamples
--- What noutrefresh and pnoutrefresh leave of small screens, for a reader of the definitions
+-- What noutrefresh and pnoutrefresh do to small screens, for a reader of the definitions
 pub mod RefreshExamples

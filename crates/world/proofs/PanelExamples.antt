@@ -1,4 +1,4 @@
--- What the calls on panels leave and answer, and which lines and places they affect, for a reader of the definitions.
+-- What the calls on panels do and answer, and which lines and places they affect, for a reader of the definitions.
 use Rattle.std.proofs.Common.{◌≡◌, ℕ, true, List, [], ◌∷◌, Option, Some, None, if◌then◌else◌, ◌==◌, ◌||◌, refl}
 use Rattle.std.specs.Prelude.{filter}
 use Rattle.std.specs.List.{range_with_len}

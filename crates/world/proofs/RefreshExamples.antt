@@ -1,4 +1,4 @@
--- What noutrefresh and pnoutrefresh leave of small screens, for a reader of the definitions.
+-- What noutrefresh and pnoutrefresh do to small screens, for a reader of the definitions.
 use Rattle.std.proofs.Common.{◌≡◌, ℕ, true, false, List, [], ◌∷◌, Some, None, refl}
 use Rattle.std.specs.Prelude.{codes, filter, map}
 use Rattle.std.specs.List.{range_with_len}
@@ -37,7 +37,7 @@ copied_to_its_place : (line_of_virtual one 0 ≡ codes "          ") × (line_of
 unfolding noutrefreshed line_of_virtual one screen_after win typed window_limit
 copied_to_its_place = (refl, refl, refl)
 
--- the window's cursor stands on its last column
+-- the window's cursor is in its last column
 cursor_wanted : one.virtual.cursor ≡ (1, 3)
 unfolding noutrefreshed one screen_after win typed window_limit
 cursor_wanted = refl
@@ -124,7 +124,7 @@ of_rectangles : (refusal pad (Refresh (Pnoutrefresh (win 1) 5 18 0 0 0 2)) ≡ S
 unfolding pad screen_after win typed window_limit
 of_rectangles = (refl, refl, refl, refl, refl)
 
--- ---- a clear screen: clear asks for it, and a refresh of the window hands that on
+-- ---- a clear screen: clear asks for it, and a refresh of the window passes that on
 
 cleared : World
 unfolding noutrefreshed one screen_after win typed
@@ -134,7 +134,7 @@ clear_handed_on : (cleared.virtual.clear ≡ false) × ((noutrefreshed cleared 1
 unfolding noutrefreshed cleared one screen_after win typed window_limit
 clear_handed_on = (refl, refl, refl)
 
--- another window asks for nothing, and hands nothing on
+-- another window asks for nothing, and passes nothing on
 clear_of_one_window : (noutrefreshed cleared 0).virtual.clear ≡ false
 unfolding noutrefreshed cleared one screen_after win typed window_limit
 clear_of_one_window = refl

@@ -1,4 +1,4 @@
--- On what it depends which windows hold a place of the screen, and which cells they show; and where the search from the
+-- What determines which windows hold a place of the screen, and which cells they show; and where the search from the
 -- top finds the same.
 use Rattle.std.proofs.Common.{◌≡◌, ℕ, zero, suc, ◌-◌, ◌==◌, Bool, true, false, if◌then◌else◌, ◌&&◌, nat_lt, nat_le, ◌+◌, Option, Some, None, unwrap_or, List, [], ◌∷◌, ap, refl, sym, ◌∙◌}
 use Rattle.std.specs.Prelude.{cond, find, option_and_then, reverse}

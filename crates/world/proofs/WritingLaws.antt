@@ -258,7 +258,7 @@ inside-edit windows edit r is =
     let written = write first_panels 0 0 windows edit in
     framed windows.window (edit_window edit) (edit_frame windows edit) r is written.inside
 
--- ---- what is shown where, and where windows stand, is as it was
+-- ---- what is shown where, and where windows are, is as it was
 
 pub view-edit : (windows : Windows) (edit : Edit) → SameView (after_edit windows edit).window windows.window
 view-edit windows edit = (write first_panels 0 0 windows edit).view

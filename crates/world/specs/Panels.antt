@@ -1,5 +1,5 @@
 -- The panels, and the picture that they make of the windows.
--- NetBSD panel(3): panels are windows with an order of depth, above the standard screen; hidden ones stand outside it.
+-- NetBSD panel(3): panels are windows with an order of depth, above the standard screen; hidden ones are not in it.
 use Rattle.std.specs.Prelude.{unwrap_or, ℕ, ◌+◌, ◌-◌, Bool, false, ◌==◌, ◌&&◌, nat_lt, nat_le, Option, Some, None, List, [], ◌∷◌, reverse, find}
 use Rattle.std.specs.List.{filter_map, last_or}
 use Rattle.std.specs.Option.{option_map_or}
@@ -81,7 +81,7 @@ found_from_top window panels y x = cell_on_screen window (window_or_standard pan
 abbrev pub topmost : Panels → Option ℕ
 topmost panels = last_or None panels.visible
 
--- where the window's cursor stands on the screen
+-- where the window's cursor is on the screen
 abbrev pub cursor_from : Place → Window → Place
 cursor_from place a = (place.0 + a.settings.cursor.0, place.1 + a.settings.cursor.1)
 

@@ -14,7 +14,7 @@ use Rattle.curspan.specs.Written.{WritingEnds}
 use Rattle.curspan.specs.declared.check.Report.{Report}
 use Rattle.curspan.specs.steps.Putting.{PuttingEnds}
 
--- what is told of a line as it was read
+-- the finding of a line as it was read
 abbrev pub finding_of_read : ℕ → List ℕ → Bool → LineEnd → List (List ℕ)
 finding_of_read number line false end = finding number LineTooLong [] ∷ []
 finding_of_read number line true ReadFailed = []

@@ -7,7 +7,7 @@ use Rattle.streams.specs.Sources.{SourceSeen}
 use Rattle.curspan.specs.Shows.{ReadsStream, offset_line}
 use Rattle.curspan.specs.Written.{IsNotWritten, IsWritten}
 
--- A stream was read, and the terminal stands after it.
+-- A stream was read, and the terminal has read it.
 pub record Feeds (old new : SourceSeen) (before after : Reader) (is_whole : Bool) : Type 0 where
   pub stream : List ℕ
   pub reads : ReadsStream old new is_whole stream

@@ -51,7 +51,7 @@ pub record Held : Type 0 where
 abbrev pub HasNoNewline : List ℕ → Type 0
 HasNoNewline piece = list_any is_newline piece ≡ false
 
--- ---- what stands after a line
+-- ---- what comes after a line
 
 abbrev pub has_newline : LineEnd → Bool
 has_newline Newline = true

@@ -18,7 +18,7 @@ Reads (Ok (Some word)) a said = said ≡ Ok (Some ((entry_of word).call a))
 Reads (Ok None) a said = said ≡ Ok None
 Reads (Err fault) a said = said ≡ Err fault
 
--- The first argument of a text, where one of this form must stand, and what is left after it.
+-- The first argument of a text, where one of this form must be, and what is left after it.
 pub record IsFirst (form : Form) (text piece : List ℕ) (left : List (List ℕ)) : Type 0 where
   pub first : (forms : List Form) → arguments (form ∷ forms) (slice_split is_space text) ≡ piece ∷ arguments forms left
 

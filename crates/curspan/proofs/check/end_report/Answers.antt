@@ -1,4 +1,4 @@
--- `end_report`: a script is told of a line at a time (`CheckLemmas`).
+-- `end_report`: the findings of a script, a line at a time (`CheckLemmas`).
 use Rattle.std.proofs.Common.{[]}
 use Rattle.std.proofs.lemmas.Bool.{not-false, not-true}
 use Rattle.curspan.proofs.CheckLemmas.{counted_ends, reported_ends, reported_fails}

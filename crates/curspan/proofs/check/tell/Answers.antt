@@ -1,4 +1,4 @@
--- `tell`: a script is told of a line at a time (`CheckLemmas`).
+-- `tell`: the findings of a script, a line at a time (`CheckLemmas`).
 use Rattle.curspan.proofs.CheckLemmas.{line_dropped, line_reported}
 use Rattle.curspan.proofs.check.tell.Goals as goal
 use Rattle.curspan.proofs.check.tell.Goals.{else-report, then-report}

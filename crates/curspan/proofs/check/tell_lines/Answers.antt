@@ -1,4 +1,4 @@
--- `tell_lines`: a script is told of a line at a time (`CheckLemmas`).
+-- `tell_lines`: the findings of a script, a line at a time (`CheckLemmas`).
 use Rattle.std.proofs.Common.{ap, refl, sym}
 use Rattle.script.specs.steps.Bytes.{Held}
 use Rattle.curspan.proofs.CheckLemmas.{checked_all, checked_front, checking_next, checking_none}

@@ -1,4 +1,4 @@
--- `append_advice`: what stands for a word of curses, by the first of its rules that holds (`AdviceLemmas`).
+-- `append_advice`: what to write for a word of curses, by the first of its rules that holds (`AdviceLemmas`).
 use Rattle.std.proofs.Common.{ap, option_map, sym, ◌++◌, ◌∙◌}
 use Rattle.explain.proofs.AdviceLemmas.{behind_mv, behind_mvw}
 use Rattle.explain.proofs.telling.append_advice.Goals as goal

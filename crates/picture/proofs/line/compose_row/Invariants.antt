@@ -10,7 +10,7 @@ use Rattle.picture.proofs.line.compose_row.Given as goal
 abbrev pub decreases-loop-owners : goal.decreases-loop-owners
 decreases-loop-owners g l = l.right - l.x
 
--- the columns before x are composed, and as many cells were lent
+-- the columns before x are composed, and as many cells were read
 abbrev pub invariant-loop-owners : goal.invariant-loop-owners
 invariant-loop-owners g l = record {
   from : l.left ≤ l.x;

@@ -7,7 +7,7 @@ use Rattle.picture.specs.Damages.{cells_above}
 use Rattle.picture.proofs.Composing.{ComposedAbove}
 use Rattle.picture.proofs.repair.show_damaged.Given as goal
 
--- the lines before y are composed, and their cells were lent
+-- the lines before y are composed, and their cells were read
 abbrev pub invariant-loop-y : goal.invariant-loop-y
 invariant-loop-y g l = record {
   windows : g.R.Rows.windows l.rows ≡ g.R.Rows.windows l.fn.rows;

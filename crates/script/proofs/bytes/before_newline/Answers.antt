@@ -1,4 +1,4 @@
--- A bit of the mask tells of each byte whether it is a newline.
+-- A bit of the mask says of each byte whether it is a newline.
 use Rattle.std.proofs.Common.{sym, ◌∙◌, arith, eqb, w8}
 use Rattle.std.specs.Simd.Lanes.{chunk}
 use Rattle.std.proofs.lemmas.Simd.{bitmask_splat, length-chunk, none_from_empty_mask, run_in_chunk_fails, run_in_chunk_le, run_in_chunk_stops}

@@ -1,4 +1,4 @@
--- No newline stands before the bytes that are looked through.
+-- There is no newline before the bytes that are looked through.
 use Rattle.std.proofs.Common.{arith}
 use Rattle.script.proofs.NewlineLemmas.{found_after, newline_at, none_after, none_further}
 use Rattle.script.proofs.bytes.first_newline.Goals as goal

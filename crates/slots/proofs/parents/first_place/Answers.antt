@@ -1,4 +1,4 @@
--- The walk goes from parent to parent, and ends since each is nearer to the grid.
+-- The walk goes from parent to parent, and ends because each is nearer to the grid.
 use Rattle.std.proofs.Common.{◌≡◌, Some, None}
 use Rattle.std.specs.Option.{option_map}
 use Rattle.slots.specs.Slots.{slot_at, part_in, in_parent}

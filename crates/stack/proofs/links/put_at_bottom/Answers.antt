@@ -1,4 +1,4 @@
--- The panel stands between the end and the bottom one now.
+-- The panel is between the end and the bottom one now.
 use Rattle.std.proofs.Common.{◌<◌, length, sym, subst, arith}
 use Rattle.stack.specs.Nodes.{from_bottom}
 use Rattle.stack.specs.declared.nodes.Node.{Node}

@@ -1,4 +1,4 @@
--- The panel stands between the top one and the end now.
+-- The panel is between the top one and the end now.
 use Rattle.std.proofs.Common.{◌<◌, length, sym, subst, arith}
 use Rattle.stack.specs.Nodes.{from_bottom}
 use Rattle.stack.specs.declared.nodes.Node.{Node}

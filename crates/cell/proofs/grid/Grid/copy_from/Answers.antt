@@ -1,4 +1,4 @@
--- `copy_from`: the lines of a grid whose cells stand one after another: each line, a change of one cell, and equal sizes (`GridLemmas`).
+-- `copy_from`: the lines of a grid whose cells are one after another: each line, a change of one cell, and equal sizes (`GridLemmas`).
 use Rattle.std.proofs.Common.{arith}
 use Rattle.cell.proofs.GridLemmas.{same_grid_size}
 use Rattle.cell.proofs.grid.Grid.copy_from.Goals as goal

@@ -1,4 +1,4 @@
--- `new`: the lines of a grid whose cells stand one after another: each line, a change of one cell, and equal sizes (`GridLemmas`).
+-- `new`: the lines of a grid whose cells are one after another: each line, a change of one cell, and equal sizes (`GridLemmas`).
 use Rattle.std.proofs.Common.{◌∙◌, ap}
 use Rattle.cell.specs.Grids.{rows}
 use Rattle.cell.specs.Pictures.{all_of}

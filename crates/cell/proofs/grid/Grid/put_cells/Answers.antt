@@ -1,5 +1,5 @@
--- `put_cells`: the lines of a grid whose cells stand one after another: each line, a change of one cell, and equal sizes (`GridLemmas`); a piece of
--- a line of a grid that is written at once (`PieceWrites`).
+-- `put_cells`: the lines of a grid whose cells are one after another: each line, a change of one cell, and equal sizes (`GridLemmas`); a
+-- piece of a line of a grid that is written at once (`PieceWrites`).
 use Rattle.std.proofs.Common.{◌+◌, ◌*◌, length, arith, sym, ◌∙◌}
 use Rattle.std.specs.List.{splice}
 use Rattle.cell.proofs.GridLemmas.{EachCell-rows, length-rows}

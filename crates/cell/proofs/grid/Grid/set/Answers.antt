@@ -1,4 +1,4 @@
--- `set`: the lines of a grid whose cells stand one after another: each line, a change of one cell, and equal sizes (`GridLemmas`).
+-- `set`: the lines of a grid whose cells are one after another: each line, a change of one cell, and equal sizes (`GridLemmas`).
 use Rattle.std.proofs.Common.{◌+◌, ◌*◌, arith}
 use Rattle.cell.proofs.GridLemmas.{HasLine-from_length, column_below, rows-set, IsGrid-set}
 use Rattle.cell.proofs.grid.Grid.set.Goals as goal

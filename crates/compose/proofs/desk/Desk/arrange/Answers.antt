@@ -1,6 +1,6 @@
 -- `arrange`: a call on panels, made on a desk: the world after it, and what it damaged (`Arranging`); where damage covers what a call may change,
 -- the damage of a desk still covers all that differs after it; and few lines are damaged (`DamageCovers`); what a desk keeps, and the world that it
--- stands for, call by call (`DeskLemmas`).
+-- represents, call by call (`DeskLemmas`).
 use Rattle.std.proofs.Common.{refl, subst}
 use Rattle.std.specs.Prelude.{OnOk}
 use Rattle.cell.specs.VirtualScreens.{VirtualScreen}

@@ -1,5 +1,5 @@
 -- `call`: where damage covers what a call may change, the damage of a desk still covers all that differs after it; and few lines are damaged
--- (`DamageCovers`); what a desk keeps, and the world that it stands for, call by call (`DeskLemmas`).
+-- (`DamageCovers`); what a desk keeps, and the world that it represents, call by call (`DeskLemmas`).
 use Rattle.std.proofs.Common.{refl, ◌∙◌}
 use Rattle.cell.specs.VirtualScreens.{VirtualScreen}
 use Rattle.world.specs.calls.Making.{after_making, making_change, making_refusal}

@@ -1,4 +1,4 @@
--- `read_digit`: what one more byte does to where a reader stands (`Standing`).
+-- `read_digit`: what a reader has after one more byte (`Standing`).
 use Rattle.std.proofs.Common.{◌≡◌, ◌∙◌, ap, refl, arith, take}
 use Rattle.std.specs.Prelude.{nat_lt}
 use Rattle.std.proofs.lemmas.Bool.{ltb-true, ltb-false}

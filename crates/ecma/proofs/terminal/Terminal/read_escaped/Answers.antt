@@ -1,4 +1,4 @@
--- `read_escaped`: what one more byte does to where a reader stands (`Standing`).
+-- `read_escaped`: what a reader has after one more byte (`Standing`).
 use Rattle.std.proofs.Common.{◌∙◌, [], ap, refl}
 use Rattle.ecma.specs.declared.terminal.State.TheVariants.{Escape, Parameters, Failed}
 use Rattle.ecma.specs.steps.Parameters.{no_digits}

@@ -1,4 +1,4 @@
--- `read_final`: what one more byte does to where a reader stands (`Standing`).
+-- `read_final`: what a reader has after one more byte (`Standing`).
 use Rattle.std.proofs.Common.{◌∙◌, Some, None, ap, cond, refl, sym, take}
 use Rattle.ecma.specs.declared.terminal.State.TheVariants.{Text, Parameters, Failed}
 use Rattle.ecma.proofs.Standing.{reader_of, Ends-along, ending-follows, no_end-follows, Follows-from}

@@ -1,4 +1,4 @@
--- `read_parameter`: what one more byte does to where a reader stands (`Standing`).
+-- `read_parameter`: what a reader has after one more byte (`Standing`).
 use Rattle.std.proofs.Common.{◌∙◌, ap}
 use Rattle.ecma.specs.declared.terminal.State.TheVariants.{Parameters, Escape}
 use Rattle.ecma.proofs.Standing.{reader_of, broken-follows, Follows-from}

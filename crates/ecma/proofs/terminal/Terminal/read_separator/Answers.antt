@@ -1,4 +1,4 @@
--- `read_separator`: what one more byte does to where a reader stands (`Standing`).
+-- `read_separator`: what a reader has after one more byte (`Standing`).
 use Rattle.std.proofs.Common.{◌<◌, ◌≡◌, ◌≤◌, ◌∙◌, ◌++◌, [], ◌∷◌, ap, refl, arith, length, rules}
 use Rattle.std.proofs.lemmas.List.{take_more_set, length-take}
 use Rattle.ecma.specs.steps.Parameters.{no_digits}

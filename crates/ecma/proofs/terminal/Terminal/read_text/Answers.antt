@@ -1,4 +1,4 @@
--- `read_text`: what one more byte does to where a reader stands (`Standing`).
+-- `read_text`: what a reader has after one more byte (`Standing`).
 use Rattle.std.proofs.Common.{◌∙◌, None, ap, refl, take}
 use Rattle.std.specs.Prelude.{if◌then◌else◌}
 use Rattle.cell.specs.Glyphs.{is_printable}

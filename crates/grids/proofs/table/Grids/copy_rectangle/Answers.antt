@@ -1,4 +1,4 @@
--- A copy of no line or column is a drawing of nothing; another is that of its lines.
+-- A copy of no line or column is an empty drawing; another is that of its lines.
 use Rattle.std.proofs.Common.{arith, ap, sym, ◌∙◌}
 use Rattle.world.specs.calls.Copying.{rectangle_copied}
 use Rattle.grids.specs.declared.table.Grids.{Grids}

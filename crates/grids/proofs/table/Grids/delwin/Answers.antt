@@ -1,4 +1,4 @@
--- No window derives from the one that goes, so the table without it is sound.
+-- No window derives from the one that is deleted, so the table without it is sound.
 use Rattle.std.proofs.Common.{◌≡◌, false, sym, ◌∙◌}
 use Rattle.world.specs.calls.Making.{has_derived}
 use Rattle.grids.specs.contracts.table.Grids.{the_view}

@@ -1,4 +1,4 @@
--- One slot has other marks, and its window no other cell.
+-- One slot has other touched columns, and its window no other cell.
 use Rattle.std.proofs.Common.{refl}
 use Rattle.world.specs.calls.Copying.{lines_marked}
 use Rattle.grids.specs.contracts.table.Grids.{the_view}

@@ -1,4 +1,4 @@
--- The window shows another part of its parent, and the origins are settled anew.
+-- The window shows another part of its parent, and the origins are set again.
 use Rattle.std.proofs.Common.{arith, rules, refl}
 use Rattle.std.proofs.lemmas.Grind.{common_steps}
 use Rattle.grids.specs.contracts.table.Grids.{the_view}

@@ -1,4 +1,4 @@
--- `print`: what a change of one slot leaves of the table, and what it does to the windows (`Changes`); a row written through a window is one put
+-- `print`: what a change of one slot does to the table and to the windows (`Changes`); a row written through a window is one put
 -- (`Writes`).
 use Rattle.std.proofs.Common.{◌≡◌, ◌+◌, ◌-◌, ◌<◌, List, length, map, arith, refl, ap, sym, subst, ◌∙◌}
 use Rattle.std.proofs.lemmas.List.{length-map}

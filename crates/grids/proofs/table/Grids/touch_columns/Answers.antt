@@ -1,4 +1,4 @@
--- One slot has other marks on one line.
+-- One slot has other touched columns on one line.
 use Rattle.std.proofs.Common.{refl}
 use Rattle.slots.specs.Changes.{with_touched}
 use Rattle.grids.specs.contracts.table.Grids.{the_view}

@@ -1,4 +1,4 @@
--- One slot has no marks any more, and asks for no clear screen.
+-- One slot has no touched columns any more, and asks for no clear screen.
 use Rattle.std.proofs.Common.{refl}
 use Rattle.world.specs.Effects.{unmarked}
 use Rattle.grids.specs.contracts.table.Grids.{the_view}

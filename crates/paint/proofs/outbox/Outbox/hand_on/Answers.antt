@@ -1,4 +1,4 @@
--- `hand_on`: a text that is gathered, put after, and handed on (`Gathering`).
+-- `hand_on`: a text that is gathered, appended to, and passed on (`Gathering`).
 use Rattle.paint.proofs.Gathering.{goes_out-sent, goes_out-faulted, goes_out-failed}
 use Rattle.paint.proofs.outbox.Outbox.hand_on.Goals as goal
 use Rattle.paint.proofs.outbox.Outbox.hand_on.Goals.{then-not-self+in-Ok, then-not-self+in-Err, else-not-self}

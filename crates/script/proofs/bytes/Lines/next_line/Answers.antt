@@ -1,4 +1,4 @@
--- A line among the bytes that were read is lent from there.
+-- A line among the bytes that were read is read there, and not copied.
 use Rattle.std.proofs.Common.{◌∙◌, ap}
 use Rattle.script.specs.steps.Bytes.{Held}
 use Rattle.script.proofs.ByteLemmas.{lent_line}

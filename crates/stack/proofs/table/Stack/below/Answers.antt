@@ -1,4 +1,4 @@
--- The node below is the next panel of the order turned round.
+-- The node below is the next panel of the reversed order.
 use Rattle.std.proofs.Common.{◌∙◌, ap, sym, Option, Some, None}
 use Rattle.stack.specs.Nodes.{from_bottom}
 use Rattle.world.specs.calls.Stacking.{panel_below, panel_number}

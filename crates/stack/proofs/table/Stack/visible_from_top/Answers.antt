@@ -1,4 +1,4 @@
--- The way down is the way up turned round.
+-- The way down is the way up, reversed.
 use Rattle.std.proofs.Common.{List, ℕ, ap, arith, length, reverse, ◌∙◌}
 use Rattle.std.proofs.lemmas.List.{length-reverse}
 use Rattle.stack.specs.Nodes.{from_bottom}

@@ -1,4 +1,5 @@
--- `waddch`: a character is written: the windows stay (`Texts`); a character written at the cursor of a window of a known state (`Typing`).
+-- `waddch`: writing a character makes and deletes no window (`Texts`); a character written at the cursor of a window of a known state
+-- (`Typing`).
 use Rattle.std.proofs.Common.{◌∙◌, sym, rules}
 use Rattle.world.specs.Typing.{frame_of_character}
 use Rattle.grids.specs.Tables.{windows}

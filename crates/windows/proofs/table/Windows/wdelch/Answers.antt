@@ -1,4 +1,4 @@
--- `wdelch`: what a call makes of a window of a known state, and the rectangle that it answers (`Calls`).
+-- `wdelch`: what a call does to a window of a known state, and the rectangle that it answers (`Calls`).
 use Rattle.std.proofs.Common.{refl, sym, ◌∙◌, rules}
 use Rattle.world.specs.Windows.{put}
 use Rattle.world.specs.calls.Writing.{delch_drawing}

@@ -1,4 +1,4 @@
--- `winsch`: what a call makes of a window of a known state, and the rectangle that it answers (`Calls`).
+-- `winsch`: what a call does to a window of a known state, and the rectangle that it answers (`Calls`).
 use Rattle.std.proofs.Common.{ap, refl, sym, ◌∙◌, rules}
 use Rattle.world.specs.Drawings.{character_inserted}
 use Rattle.world.specs.Windows.{put}

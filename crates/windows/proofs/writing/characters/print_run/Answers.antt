@@ -1,5 +1,5 @@
--- `print_run`: characters that are printed in one line, before its last column, are one write of that line (`Runs`); a window keeps its size and its
--- settings where something is written, and another settings are one change of it (`States`).
+-- `print_run`: characters that are printed in one line, before its last column, are one write of that line (`Runs`); a window keeps its
+-- size and its settings where something is written; and other settings are one change of it (`States`).
 use Rattle.std.proofs.Common.{◌+◌, ◌-◌, length, map, refl}
 use Rattle.world.specs.Rows.{listed}
 use Rattle.grids.specs.Inks.{inked}
