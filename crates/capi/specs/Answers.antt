@@ -16,7 +16,7 @@ write_failed = 21
 abbrev pub closed : Answer
 closed = record { status = 22; first = 0; second = 0 }
 
--- the number of a refusal, as the log has it
+-- the number of a refusal, as in the log
 abbrev pub number_of : Refusal → ℕ
 number_of refusals.NoSuchWindow = 1
 number_of refusals.NoSuchPanel = 2

@@ -5,7 +5,7 @@ use Rattle.world.specs.World.{first_world}
 use Rattle.paint.specs.Updates.{first_painter}
 use Rattle.capi.specs.declared.surface.Surface.{Surface}
 
--- the bytes that were sent and not taken yet
+-- the bytes that the screen sent and C has not taken yet
 abbrev pub pending : Surface → List ℕ
 pending s = s.screen.writer.writer.items
 

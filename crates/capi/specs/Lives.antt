@@ -17,7 +17,7 @@ pub record OpenedBlank (lines columns : ℕ) (answer : Answer) (new : Option Sur
   pub blank : IsBlank lines columns screen
   pub now : new ≡ Some screen
 
--- The size is none, or there is no memory; and the handle is as before.
+-- No screen has that size, or there is no memory; and the handle is as before.
 pub record NotOpened (lines columns : ℕ) (old : Option Surface) (answer : Answer) (new : Option Surface) : Type 0 where
   pub refusal : Refusal
   pub why : (new_refusal lines columns ≡ Some refusal) ⊎ ((new_refusal lines columns ≡ None) × (refusal ≡ NoMemory))
@@ -36,7 +36,7 @@ pub record TakenFrom (old : Surface) (out : List ℕ) (count : ℕ) (out' : List
   pub moved : count ≤ length out → (out' ≡ pending old ++ drop count out) × (pending new ≡ [])
   pub kept : length out < count → (out' ≡ out) × (pending new ≡ pending old)
 
--- of a closed handle nothing
+-- nothing, where the handle is closed
 abbrev pub Taken : Option Surface → List ℕ → ℕ → List ℕ → Option Surface → Type 0
 Taken None out count out' new = (count ≡ 0) × (out' ≡ out) × (new ≡ None)
 Taken (Some old) out count out' new = (after : Surface) × TakenFrom old out count out' after × (new ≡ Some after)

@@ -18,7 +18,7 @@ use std::marker::Model;
 use std::mem::replace;
 use std::ptr::null_mut;
 
-/// What C holds. One of zeros is closed.
+/// What C holds. A handle of zeros is closed.
 #[repr(C)]
 pub struct Handle {
     at: *mut u8,
@@ -32,14 +32,14 @@ impl Model for Handle {
 }
 
 impl Handle {
-    /// A closed one.
+    /// A closed handle.
     pub fn empty() -> Handle
         ensures { result.value ≡ None }
     {
         Handle { at: null_mut() }
     }
 
-    /// One that owns a box.
+    /// A handle that owns a box.
     pub fn of(loose: Loose<Surface, Global>) -> Handle
         ensures { result.value ≡ Some loose.value }
     {
@@ -47,7 +47,7 @@ impl Handle {
         Handle { at: at as *mut u8 }
     }
 
-    /// The box again, where it is open.
+    /// Gives the box back, where the handle is open.
     pub fn into_loose(self, alloc: Global) -> Option<Loose<Surface, Global>>
         ensures { MatchOption result (self.value ≡ None) (λ l. self.value ≡ Some l.value) }
     {
@@ -70,7 +70,7 @@ impl Handle {
         }
     }
 
-    /// Takes the surface out, where it is open. The handle is closed then.
+    /// Takes the surface out, where the handle is open, and closes it.
     fn lift(&mut self, alloc: Global) -> Option<Box<Surface>>
         ensures lifted { MatchOption result (self.old.value ≡ None) (λ surface. self.old.value ≡ Some surface.value) }
         ensures closed { self.new.value ≡ None }
@@ -88,14 +88,14 @@ impl Handle {
         replace(self, Handle::of(Loose::of(surface))).free(alloc);
     }
 
-    /// Frees what it owns. It is closed then.
+    /// Frees what the handle owns, and closes it.
     pub fn close(&mut self, alloc: Global)
         ensures { self.new.value ≡ None }
     {
         replace(self, Handle::empty()).free(alloc);
     }
 
-    /// Puts a blank screen in, in the place of one that was there.
+    /// Puts a blank screen into the handle, in place of one that was there.
     pub fn open(&mut self, alloc: Global, lines: u16, columns: u16) -> Answer
         ensures { Opened lines columns self.old.value result self.new.value }
     {

@@ -7,7 +7,7 @@ use Rattle.cell.specs.declared.limits.TheConstants.{LARGEST_PAD}
 abbrev pub rows : {A : Type 0} → ℕ → ℕ → List A → List (List A)
 rows lines columns cells = map (λ y. take columns (drop (y * columns) cells)) (range_with_len 0 lines)
 
--- each line has its cells, and each cell is such a one
+-- each line has its cells, and each cell passes the test
 pub record IsGrid {A : Type 0} (Is : A → Type 0) (lines columns : ℕ) (cells : List A) : Type 0 where
   pub few_lines : lines ≤ LARGEST_PAD
   pub few_columns : columns ≤ LARGEST_PAD

@@ -1,4 +1,4 @@
--- A number and what it holds give each other back.
+-- Unpacking a number and packing it again gives that number, so numbers that hold the same are equal.
 use Rattle.std.specs.Prelude.{◌≡◌, ℕ, zero, suc, ◌%◌, ◌/◌}
 use Rattle.std.specs.Prelude.{◌==◌, Bool, true}
 use Rattle.std.specs.Cmp.{IsEquivalence}

@@ -46,7 +46,7 @@ pub record HasSize {A : Type 0} (lines columns : ℕ) (cells : List (List A)) : 
 abbrev pub size_of : {A : Type 0} → List (List A) → ℕ × ℕ
 size_of lines = (length lines, length (line_of lines 0))
 
--- each cell is such a one
+-- each cell passes the test
 abbrev pub EachCell : {A : Type 0} → (A → Type 0) → List (List A) → Type 0
 EachCell Is lines = AllByRecursion (AllByRecursion Is) lines
 

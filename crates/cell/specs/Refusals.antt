@@ -9,7 +9,7 @@ abbrev pub first_of : List (Bool × Refusal) → Option Refusal
 first_of [] = None
 first_of (row ∷ rows) = if row.0 then Some row.1 else first_of rows
 
--- a call that takes memory is refused by that refusal; where there is none, only for want of memory
+-- a call that takes memory is refused by that refusal; where there is none, only for lack of memory
 abbrev pub RefusedBy : {T : Type 0} → Option Refusal → Result T Refusal → Type 0
 RefusedBy refusal result = MatchResult result (λ _. refusal ≡ None) (λ e. (refusal ≡ Some e) ⊎ ((refusal ≡ None) × (e ≡ NoMemory)))
 

@@ -6,7 +6,7 @@ ghost use Rattle.cell.specs.Attributes.{bits_of, hex_digit, hex_digits, known};
 use bitflags::{Flag, Flags, bitflag_items};
 
 /// A set of the attributes of X/Open Curses that a terminal of ECMA-48 shows. Bits beyond the six can only come in
-/// by `from_bits_retain`, and every call that is handed an `Attr` drops them.
+/// by `from_bits_retain`, and every call that gets an `Attr` drops them.
 #[derive(Clone, Copy, PartialEq, Eq, Debug)]
 pub struct Attr(u8);
 

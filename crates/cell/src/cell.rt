@@ -126,7 +126,7 @@ pub fn is_printable(ch: u8) -> bool
     (FIRST_CHARACTER..=LAST_CHARACTER).contains(&ch)
 }
 
-/// Whether a cell can hold each character of a text, by a loop that has one end and so is done in lanes.
+/// Whether a cell can hold each character of a text, by a loop with one exit, which the compiler vectorizes.
 pub fn are_printable(text: &[u8]) -> bool
     ensures { result ≡ list_all is_printable text.now }
 {

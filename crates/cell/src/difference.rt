@@ -35,7 +35,7 @@ pub fn last_diff(old: &[Shown], new: &[Shown]) -> Option<usize>
     last_diff_before(old, new, end)
 }
 
-/// Whether so many cells are the same, by a loop that has one end and so is done in lanes.
+/// Whether so many cells are the same, by a loop with one exit, which the compiler vectorizes.
 fn same_lanes(old: &[Shown], new: &[Shown]) -> bool
     requires old { length old.now ≡ LANES }
     requires new { length new.now ≡ LANES }

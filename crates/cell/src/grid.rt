@@ -84,8 +84,8 @@ impl<T: Element> Model for Grid<T> {
 }
 
 impl<T: Element> Grid<T> {
-    /// A grid of blanks, in one allocation. It has at most `LARGEST_PAD` lines and columns, and fails only for want
-    /// of memory.
+    /// A grid of blanks, in one allocation. It has at most `LARGEST_PAD` lines and columns, and fails only for lack of
+    /// memory.
     pub fn new(alloc: Global, lines: u16, columns: u16) -> Result<Grid<T>, AllocError>
         requires lines { lines ≤ LARGEST_PAD }
         requires columns { columns ≤ LARGEST_PAD }

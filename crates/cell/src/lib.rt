@@ -1,4 +1,4 @@
-//! What every layer of Curspan speaks of: characters with attributes, grids and pictures of them, windows by number, and
+//! What every layer of Curspan uses: characters with attributes, grids and pictures of them, windows by number, and
 //! refusals.
 //!
 //! - `attr`: sets of attributes

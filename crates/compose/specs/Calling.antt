@@ -24,7 +24,7 @@ abbrev pub MayTell : World → (ℕ → Bool) → Call → Reply → Type 0
 MayTell world damaged (calls.Refresh UpdatePanels) reply = (cells : ℕ) × MayRead world damaged cells × (reply ≡ Composed (record { cells = cells }))
 MayTell world damaged call reply = reply ≡ reply_of world call
 
--- The call may be refused so: as its tests have it, or, where none of them holds, for want of the memory that it takes.
+-- The call may be refused so: by its tests, or, where none of them holds, for lack of the memory that it takes.
 abbrev pub MayRefuse : World → Call → Refusal → Type 0
 MayRefuse world call e = (refusal world call ≡ Some e) ⊎ ((refusal world call ≡ None) × (takes_memory world call ≡ true) × (e ≡ NoMemory))
 

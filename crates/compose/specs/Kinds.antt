@@ -1,4 +1,4 @@
--- Of which kind the answers of a call are, by its effect.
+-- The kind of the answers of a call, by its effect.
 use Rattle.std.specs.Prelude.{◌≡◌, ℕ, Bool, Option, Some}
 use Rattle.cell.specs.Glyphs.{Glyph}
 use Rattle.cell.specs.declared.window.WinId.{WinId}
@@ -70,7 +70,7 @@ kind_of_effect composes = composed
 kind_of_effect shows = sent
 kind_of_effect (colours p foreground background) = nothing
 
--- a query that isn't refused tells of a place or a size, or of a cell
+-- a query that isn't refused answers a place or a size, or a cell
 abbrev pub kind_of_query : Query → Kind
 kind_of_query (Inch win) = cell
 kind_of_query _ = pair

@@ -27,7 +27,7 @@ pub enum Affected {
     Moved { win: WinId },
 }
 
-/// Damages what the standard screen and the windows of visible panels show of what a call affected, if it did so.
+/// Damages what the standard screen and the windows of visible panels show of what a call affected, if it affected something.
 pub(crate) fn damage_affected(
     damage: &mut Damage,
     table: &Grids,

@@ -156,7 +156,7 @@ impl Desk {
         self.damage.line(y)
     }
 
-    /// The first line from one on that has damaged columns, and where there is none, a line that isn't there.
+    /// The first line from one on that has damaged columns, and where there is none, a line past the last.
     pub fn next_damaged(&self, from: u16) -> u16
         ensures from { from ≤ result }
         ensures inside { from ≤ self.now.windows.lines → result ≤ self.now.windows.lines }
@@ -217,7 +217,7 @@ impl Desk {
         owner_span(&rows, &self.stack, y, x, columns - 1)
     }
 
-    /// The cells of line `y` of a window or pad, from left to right. The line must be there.
+    /// The cells of line `y` of a window or pad, from left to right. The line must exist.
     pub fn row(&self, win: WinId, y: u16) -> &[Cell]
         requires { HasPlace (world self.now).windows.window win.0 y 0 }
         ensures { result.now ≡ line_shown (world self.now).windows.window win.0 y }

@@ -29,7 +29,7 @@ use stack::Stack;
 use windows::Windows;
 use world::{Copying, Making, PanelId, Query, Refresh, Reply, Stacking, Writing};
 
-/// What came of a call on windows: its answer, and what it affected of what they show.
+/// The outcome of a call on windows: its answer, and what it affected of what they show.
 #[derive(Clone, Copy)]
 pub struct Changed {
     pub reply: Reply,
@@ -229,7 +229,7 @@ fn nothing<T: Copy>(_answer: T) -> Result<Reply, Refusal>
     Ok(Reply::Nothing)
 }
 
-/// What came of a call that drew in a window.
+/// The outcome of a call that drew in a window.
 fn drew(win: WinId, frame: Option<Rect>) -> Result<Changed, Refusal>
     ensures { result ≡ Ok (record { reply = Reply.Nothing; affected = option_map (λ r. Affected.Written win r) frame }) }
 {
@@ -243,7 +243,7 @@ fn drew(win: WinId, frame: Option<Rect>) -> Result<Changed, Refusal>
     })
 }
 
-/// What came of a call that set something, and affected nothing that windows show.
+/// The outcome of a call that set something, and affected nothing that windows show.
 fn set<T: Copy>(_answer: T) -> Result<Changed, Refusal>
     ensures { result ≡ Ok (record { reply = Reply.Nothing; affected = None }) }
 {
@@ -253,7 +253,7 @@ fn set<T: Copy>(_answer: T) -> Result<Changed, Refusal>
     })
 }
 
-/// What came of a call that moved a window in its parent.
+/// The outcome of a call that moved a window in its parent.
 fn moved<T: Copy>(win: WinId, _answer: T) -> Result<Changed, Refusal>
     ensures { result ≡ Ok (record { reply = Reply.Nothing; affected = Some (Affected.Moved win) }) }
 {
@@ -263,7 +263,7 @@ fn moved<T: Copy>(win: WinId, _answer: T) -> Result<Changed, Refusal>
     })
 }
 
-/// What came of a call that made a window.
+/// The outcome of a call that made a window.
 fn made(win: WinId) -> Result<Changed, Refusal>
     ensures { result ≡ Ok (record { reply = Reply.Number win; affected = None }) }
 {
@@ -273,7 +273,7 @@ fn made(win: WinId) -> Result<Changed, Refusal>
     })
 }
 
-/// What came of a call that asked something of a window.
+/// The outcome of a query on a window.
 fn told(flag: bool) -> Result<Changed, Refusal>
     ensures { result ≡ Ok (record { reply = Reply.Flag flag; affected = None }) }
 {

@@ -5,7 +5,7 @@
 //! - `damaging`: what a call damages
 //! - `desk`: the `Desk` and what can be read of it
 //! - `dispatch`: a call of each group, made
-//! - `marks`: marks and clear flags of what makes up the picture
+//! - `marks`: touched columns and clear flags of what makes up the picture
 //! - `methods`: a method for each call: the trait `Calls`
 //! - `panels`: the calls that look at windows and panels together
 //! - `refresh`: what a window or a pad puts into the virtual screen

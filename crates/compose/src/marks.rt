@@ -1,4 +1,4 @@
-//! The marks and clear flags of the windows that make up the picture.
+//! The touched columns and clear flags of the windows that make up the picture.
 
 ghost use Rattle.std.specs.Prelude.{◌≡◌, ◌∷◌, []};
 ghost use Rattle.std.specs.List.{list_any};
@@ -26,7 +26,7 @@ pub(crate) fn clear_asked(table: &Grids, stack: &Stack) -> bool
     asks(table, WinId::STANDARD)
 }
 
-/// Takes the marks and clear flags of the standard screen and of the windows of visible panels away.
+/// Clears the touched columns and clear flags of the standard screen and of the windows of visible panels.
 pub(crate) fn unmark_composed(table: &mut Grids, stack: &Stack)
     ensures unmarked { windows_of table.new ≡ record (windows_of table.old) {
       window = with_unmarked (windows_of table.old).window
@@ -42,14 +42,14 @@ pub(crate) fn unmark_composed(table: &mut Grids, stack: &Stack)
     }
 }
 
-/// Whether a window is there and asks for a clear screen.
+/// Whether there is such a window, and it asks for a clear screen.
 pub(crate) fn asks(table: &Grids, win: WinId) -> bool
     ensures { result ≡ asks_for_clear (windows_of table.now).window win.0 }
 {
     table.has_window(win) && table.settings(win).clear
 }
 
-/// Takes the marks and the clear flag of a window away, if it is there.
+/// Clears the touched columns and the clear flag of a window, if there is one.
 fn unmark(table: &mut Grids, win: WinId)
     ensures unmarked { windows_of table.new ≡ record (windows_of table.old) { window = with_unmarked (windows_of table.old).window (win.0 ∷ []) } }
     ensures sound { AreSoundWindows (windows_of table.new) }

@@ -12,8 +12,8 @@ use crate::answer::Answer;
 use cell::{Attr, Cell, WinId};
 use world::{Call, Composed, Copying, Making, PanelId, Query, Refresh, Reply, Stacking, Writing};
 
-/// What makes calls: a method for each that sends nothing, which is any but `doupdate`. Why one may be refused is said
-/// with it.
+/// What makes calls: a method for each that sends nothing, which is any but `doupdate`. Each method lists why it may be
+/// refused.
 pub trait Calls {
     /// Why a call did nothing.
     type Error;
@@ -404,7 +404,7 @@ pub trait Calls {
         self.ask(&Call::Copying(Copying::Touchwin { win }))
     }
 
-    /// Takes all touches of a window away.
+    /// Untouches all of a window.
     ///
     /// # Errors
     /// `NoSuchWindow`.
@@ -424,7 +424,7 @@ pub trait Calls {
         self.ask(&Call::Copying(Copying::Touchline { win, y, n }))
     }
 
-    /// Touches all of `n` lines from line `y` on, or without the flag takes their touches away.
+    /// Touches all of `n` lines from line `y` on, or without the flag untouches them.
     ///
     /// # Errors
     /// `NoSuchWindow`; `OutsideWindow` if the window hasn't line `y`, or not `n` lines from it on.
@@ -645,7 +645,7 @@ pub trait Calls {
     }
 
     /// Takes what is touched of a window into the virtual screen, at the window's place, with its cursor. Then no place
-    /// of it is touched; and if it asked for a clear screen, the virtual screen does so in its stead.
+    /// of it is touched; and if it asked for a clear screen, the virtual screen asks for it instead.
     ///
     /// # Errors
     /// `NoSuchWindow`, `IsPad`.

@@ -1,4 +1,4 @@
-//! The calls that lay what is touched of a window, or a rectangle of a pad, over the virtual screen.
+//! The calls that copy what is touched of a window, or a rectangle of a pad, to the virtual screen.
 
 ghost use Rattle.std.specs.Prelude.{◌≡◌, ◌<◌, ◌≤◌, ◌+◌, ◌-◌, ◌==◌, ◌&&◌, ◌^◌, ℕ, None, Some, IsSomeAnd, OnErr, OnOk, false, if◌then◌else◌, nat_le, nat_lt};
 ghost use Rattle.std.specs.Result.{result_err};
@@ -27,7 +27,7 @@ use windows::Windows;
 
 impl Desk {
     /// Takes what is touched of a window into the virtual screen, at the window's place, with its cursor. Then no place of it is touched;
-    /// and if it asked for a clear screen, the virtual screen does so in its stead.
+    /// and if it asked for a clear screen, the virtual screen asks for it instead.
     ///
     /// # Errors
     /// `NoSuchWindow`, `IsPad`.
@@ -55,8 +55,8 @@ impl Desk {
 
     /// Takes the cells of a pad from line `pminrow` and column `pmincol` on into the lines from `sminrow` to `smaxrow` and the columns
     /// from `smincol` to `smaxcol` of the virtual screen, all inclusive, whether they are touched or not. The wanted cursor stays. Then
-    /// the lines of the pad that were copied from are untouched; and if it asked for a clear screen, the virtual screen does so in its
-    /// stead.
+    /// the lines of the pad that were copied from are untouched; and if it asked for a clear screen, the virtual screen asks for it
+    /// instead.
     ///
     /// # Errors
     /// `NoSuchWindow`, `NotPad`; `BadRectangle` if a last line or column comes before its first; `OutsideWindow` if the rectangle isn't
@@ -104,7 +104,7 @@ impl Desk {
     }
 }
 
-/// Lays the touched cells of a window, which begins at this place of the screen, over a picture of the screen's size.
+/// Copies the touched cells of a window, which begins at this place of the screen, to a picture of the screen's size.
 fn show_touched(
     table: &Grids,
     pairs: &Pairs,
@@ -145,7 +145,7 @@ fn show_touched(
     prove!(!picture.row(0).is_empty());
 }
 
-/// Lays a rectangle of a pad over the same lines and columns of a picture of the screen's size.
+/// Copies a rectangle of a pad to lines and columns of a picture of the screen's size.
 fn show_rectangle(
     table: &Grids,
     pairs: &Pairs,
@@ -180,7 +180,7 @@ fn show_rectangle(
     prove!(!picture.row(0).is_empty());
 }
 
-/// Tests that a rectangle of a pad may be laid over these lines and columns of the screen.
+/// Tests that a rectangle of a pad may be copied to these lines and columns of the screen.
 fn require_rectangle(table: &Grids, source: Place, frame: Rect) -> Result<(), Refusal>
     requires { AreSoundWindows (windows_of table.now) }
     ensures { result_err result ≡ refresh_refusal (windows_of table.now) (Refresh.Pnoutrefresh source.win source.line source.column frame.top frame.left
@@ -205,7 +205,7 @@ fn require_rectangle(table: &Grids, source: Place, frame: Rect) -> Result<(), Re
     Ok(())
 }
 
-/// Takes the touches of some lines of a window away, and its clear flag. They must be there.
+/// Untouches some lines of a window, which must exist, and clears its clear flag.
 fn unmark_lines(windows: &mut Windows, win: WinId, first: u16, n: u16)
     requires { IsSomeAnd ((windows_of windows.old.table).window win.0) (λ a. (first < a.lines) × (first + n ≤ a.lines)) }
     ensures unmarked { windows_of windows.new.table ≡ record (windows_of windows.old.table)

@@ -1,4 +1,4 @@
--- What `check` does with the script that it reads.
+-- What `check` reports of the script that it reads.
 use Rattle.std.specs.Prelude.{◌≡◌, ◌⊎◌, ◌==◌, ◌++◌, ◌∷◌, ◌-◌, ◌^◌, [], ℕ, Bool, true, false, not, List, Option, Result, Ok, Err, codes, decimal, length, min, nat_lt, if◌then◌else◌}
 use Rattle.std.specs.List.{flat_map, slice_split}
 use Rattle.streams.specs.Sinks.{Seen}

@@ -1,4 +1,4 @@
--- What the program does for its words, by the status that it answers.
+-- What the program does, by the words of its command line and the status that it answers.
 use Rattle.std.specs.Prelude.{◌≡◌, ◌⊎◌, ◌∷◌, ◌++◌, [], ℕ, List, Some, None, false, is_some, codes, MatchOption}
 use Rattle.clap.specs.Words.{IsAmong, Text, fault_of}
 use Rattle.clap.specs.declared.error.kind.ErrorKind.{ErrorKind}
@@ -28,7 +28,7 @@ use Rattle.curspan.specs.declared.asked.Job.{Job}
 use Rattle.curspan.specs.declared.asked.Kind.{Kind}
 use Rattle.curspan.specs.declared.asked.Kind.TheVariants.{Run, Paint, Show}
 
--- ---- want of memory
+-- ---- lack of memory
 
 abbrev pub no_memory_line : List ℕ
 no_memory_line = codes "no memory for the screen" ++ newline ∷ []
@@ -69,7 +69,7 @@ Refuses words old new status = (kind : ErrorKind) × ((kind ≡ OutOfMemory) ⊎
 -- ---- a script
 
 -- The script that was read ran on a screen, and ended so. A failure was counted exactly where its end has such a fault. After the lines of
--- the calls the log gets a line of the fault, if there is one, and nothing else.
+-- the calls the log gets a line about the fault, if there is one, and nothing else.
 pub record Tells {W : Type 0} (seen : W → Seen) (first last : ScreenOver W) (input rest : SourceSeen) (log told : Seen) (end : ScriptEnd) : Type 0 where
   pub logged : Seen
   pub script : ScriptEnds seen first last input rest log logged end

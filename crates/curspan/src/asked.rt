@@ -14,7 +14,7 @@ pub enum Kind {
 /// What is asked for.
 #[derive(Clone, Copy, PartialEq, Eq, Debug)]
 pub enum Asked {
-    /// Something on a screen.
+    /// A job on a screen.
     Job(Job),
     /// What is wrong with a script.
     Check,

@@ -139,9 +139,8 @@ fn asks_check(matches: &ArgMatches<'_>) -> bool
     }
 }
 
-/// What the words ask for. The first word is the program's name. An error is want of memory, or has one of the kinds that
-/// clap's definition gives for the words, a usage fault or a demand for help; where it gives none, want of memory is the
-/// only error.
+/// What the words ask for. The first word is the program's name. An error is lack of memory, or has one of the kinds that clap's definition
+/// gives for the words, a usage fault or a request for help; where it gives none, lack of memory is the only error.
 pub fn job<S: AsStr>(alloc: Global, words: &[S]) -> Result<Asked, Error>
     ensures job { IfOk result (λ asked. AsksFor (map S.text words.now) asked) }
     ensures faults { FailsBy (fault_of curspan (map S.text words.now)) result }

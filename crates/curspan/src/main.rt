@@ -48,7 +48,7 @@ fn main(rt: HostRuntime) -> ExitCode {
     ExitCode::from(status)
 }
 
-/// Does what the command line asks for, on the standard streams. An error says that its words can't be had, or that
+/// Does what the command line asks for, on the standard streams. An error says that its words can't be read, or that
 /// there is no memory for the streams.
 fn run<L: Sink>(rt: &HostRuntime, log: &mut L) -> io::Result<u8> {
     let alloc = rt.alloc();

@@ -38,7 +38,7 @@ fn has_attributes(row: &[Shown]) -> bool
     row.iter().any(|cell| cell.rendition().attrs().bits() != 0)
 }
 
-/// Puts the characters of a line, between bars, at the end.
+/// Appends the characters of a line, between bars.
 fn append_characters(text: &mut LineText, row: &[Shown])
     requires { length text.old.items + length row.now + 3 ≤ ROOM }
     ensures { text.new.items ≡ text.old.items ++ characters_text row.now }
@@ -50,7 +50,7 @@ fn append_characters(text: &mut LineText, row: &[Shown])
     append(text, b"|\n");
 }
 
-/// Puts the attributes of a line's cells at the end, if some cell has one.
+/// Appends the attributes of a line's cells, if some cell has one.
 fn append_attributes(text: &mut LineText, row: &[Shown])
     requires { length text.old.items + 2 * length row.now + 2 ≤ ROOM }
     ensures text { text.new.items ≡ text.old.items ++ attributes_text row.now }
@@ -92,7 +92,7 @@ fn signs(rendition: Rendition) -> [u8; 2]
     [sign(pair.foreground), sign(pair.background)]
 }
 
-/// Puts the colours of a line's cells at the end, if some cell has one.
+/// Appends the colours of a line's cells, if some cell has one.
 fn append_colours(text: &mut LineText, row: &[Shown])
     requires { length text.old.items + 2 * length row.now + 2 ≤ ROOM }
     ensures { text.new.items ≡ text.old.items ++ colours_text row.now }
@@ -119,7 +119,7 @@ fn line_text(row: &[Shown]) -> LineText
     text
 }
 
-/// Puts where the cursor is at the end.
+/// Appends where the cursor is.
 fn append_cursor(text: &mut EndingText, cursor: Option<(u16, u16)>)
     requires { length text.old.items + LONGEST_CURSOR ≤ ENDING_ROOM }
     ensures text { text.new.items ≡ text.old.items ++ cursor_text cursor }
@@ -136,7 +136,7 @@ fn append_cursor(text: &mut EndingText, cursor: Option<(u16, u16)>)
     append(text, b"\n");
 }
 
-/// Puts the signs of a rendition's colours at the end, after a space, if it has one.
+/// Appends the signs of a rendition's colours, after a space, if it has one.
 fn append_signs(text: &mut EndingText, rendition: Rendition)
     requires { length text.old.items + 3 ≤ ENDING_ROOM }
     ensures text { text.new.items ≡ text.old.items ++ (if has_colour rendition then 32 ∷ signs rendition else []) }
@@ -149,7 +149,7 @@ fn append_signs(text: &mut EndingText, rendition: Rendition)
     append(text, &signs(rendition));
 }
 
-/// Puts a rendition at the end.
+/// Appends a rendition.
 fn append_rendition(text: &mut EndingText, rendition: Rendition)
     requires { length text.old.items + LONGEST_RENDITION ≤ ENDING_ROOM }
     ensures { text.new.items ≡ text.old.items ++ rendition_text rendition }

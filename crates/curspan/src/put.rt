@@ -33,7 +33,7 @@ pub fn write_out<W: Sink>(sink: &mut W, text: &[u8]) -> bool
     sink.flush().is_ok()
 }
 
-/// Writes a line on the log and flushes it. Where that fails, there is nothing left to tell it to.
+/// Writes a line on the log and flushes it. Where that fails, there is no further place to report it.
 pub fn tell<L: Sink>(log: &mut L, line: &[u8])
     ensures { IsTold (L.seen log.old) (L.seen log.new) line.now }
 {

@@ -169,8 +169,8 @@ fn paint<R: Source, O: Sink, L: Sink>(
 
 /// Does what the words ask for, and answers the status. Where clap refuses the words, nothing is read, and help is on the
 /// output, with status 0, or a usage fault on the log, with status 2. Else the status is that of how the script ended, 3
-/// where its picture can't be written, or 4 where there is no memory. The first word is the program's name. A status
-/// below 2 says that no write or flush of the log failed.
+/// where its picture can't be written, or 4 where there is no memory. The first word is the program's name. A status below 2 means that no
+/// write or flush of the log failed.
 pub fn serve<'a, S: AsStr, R: Source, O: Sink, L: Sink>(
     alloc: Global,
     words: &[S],

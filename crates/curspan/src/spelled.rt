@@ -1,4 +1,4 @@
-//! Writing a text that may hold any byte, as the words of a command line do, to where a terminal may be.
+//! Escapes a text that may hold any byte, as the words of a command line do, since a terminal may show it.
 
 ghost use Rattle.std.specs.Prelude.{◌≡◌, ◌≤◌, ◌+◌, ◌++◌, length};
 ghost use Rattle.curspan.specs.Spelled.{spelled, spelled_byte};
@@ -19,7 +19,7 @@ const ROOM: usize = 1024;
 /// The spelling of a piece.
 type Spelling = ArrayVec<u8, ROOM>;
 
-/// Puts a byte at the end, as it is if it is printed or a newline, and else as `\x1b`.
+/// Appends a byte, as it is if it is printable or a newline, and else as `\x1b`.
 fn append_spelled(text: &mut Spelling, byte: u8)
     requires { length text.old.items + 4 ≤ ROOM }
     ensures text { text.new.items ≡ text.old.items ++ spelled_byte byte }

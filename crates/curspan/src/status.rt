@@ -31,7 +31,7 @@ pub fn no_memory<L: Sink>(log: &mut L) -> u8
     NO_MEMORY
 }
 
-/// Says on the log by the line of a fault that reading or writing failed, and answers that status.
+/// Writes to the log the line of a fault, which is a failed read or write, and answers the status for it.
 pub fn tell_failure<L: Sink>(log: &mut L, fault: ScriptFault) -> u8
     ensures status { result ≡ 3 }
     ensures told { IsTold (L.seen log.old) (L.seen log.new) (last_line fault) }
@@ -40,7 +40,7 @@ pub fn tell_failure<L: Sink>(log: &mut L, fault: ScriptFault) -> u8
     FAILED
 }
 
-/// The status of a script that ended so.
+/// The status for how a script ended.
 pub fn status_of(end: ScriptEnd) -> u8
     ensures status { result ≡ status_of end }
     ensures well { result < 2 → end.fault ≡ None }

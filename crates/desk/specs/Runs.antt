@@ -13,7 +13,7 @@ use Rattle.world.specs.declared.call.Refresh.TheVariants.{Doupdate}
 use Rattle.world.specs.declared.call.Reply.{Reply}
 use Rattle.world.specs.declared.call.Reply.TheVariants.{Composed, Sent}
 
--- what came of a call: its answer, and the bytes that were sent
+-- the outcome of a call: its answer, and the bytes that were sent
 pub record Outcome : Type 0 where
   pub answer : Result Reply Refusal
   pub sent : List ℕ

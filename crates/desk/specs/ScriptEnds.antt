@@ -33,7 +33,7 @@ abbrev pub log_failed : Option ScriptFault → Bool
 log_failed (Some Log) = true
 log_failed _ = false
 
--- More bytes may come, unless the end was met.
+-- More bytes may come, unless the end was reached.
 abbrev pub MayFollow : Bool → List ℕ → Type 0
 MayFollow met_end more = met_end ≡ true → more ≡ []
 

@@ -43,7 +43,7 @@ impl<W> Model for Screen<W> {
     ghost invariant = { λ s. IsScreen s.desk s.painter s.changes };
 }
 
-/// Why a call did nothing, or not all.
+/// Why a call did nothing, or not all of it.
 #[derive(Clone, Copy, PartialEq, Eq, Debug)]
 pub enum Fault {
     Refused(Refusal),
@@ -113,7 +113,7 @@ impl<W: Sink + Drop> Screen<W> {
 }
 
 impl<W> Screen<W> {
-    /// The writer again.
+    /// Gives the writer back.
     pub fn into_writer(self) -> W
         ensures { result ≡ self.writer }
     {

@@ -10,8 +10,8 @@ ghost use Rattle.ecma.specs.Spelling.{spelling, IsToken, IsItemOf};
 ghost use Rattle.ecma.specs.declared.token.Token.{Token};
 ghost use Rattle.ecma.specs.Streams.{FailsAt, Leads, LeadsWithBreaks, IsInProfile, Reaches};
 
-/// A stream has one row of items at most. Of two rows of items at its start, the one that leaves no more bytes than the other goes on
-/// from the other, also where items were never finished.
+/// A stream is one sequence of items at most. Of two sequences of items at its start, the one that leaves no more bytes begins with the
+/// other, also where items were never finished.
 pub fn one_row_of_items()
     ensures whole { (stream : List ℕ) (items others : List Item) → Splits stream items [] → Splits stream others [] → items ≡ others }
     ensures front { (stream : List ℕ) (items others : List Item) (rest left : List ℕ) → Splits stream items rest → Splits stream others left
@@ -54,7 +54,7 @@ pub fn joined_after_breaks()
         → LeadsWithBreaks (stream ++ more) t v }
 {}
 
-/// What begins with an escape goes on from any stream in the profile, also from one that ends within a control sequence.
+/// What begins with an escape may follow any stream in the profile, also one that ends within a control sequence.
 pub fn repaired_stream()
     ensures { (stream more : List ℕ) (t u v : Terminal) → IsInProfile stream t u → Leads more u v → 0 < length more → EndsOrEscapes more
         → LeadsWithBreaks (stream ++ more) t v }

@@ -4,9 +4,9 @@
 //! - `page`: what functions do to the picture
 //! - `parameter`: parameters of a control sequence
 //! - `selection`: SGR
-//! - `spelling`: its bytes
-//! - `terminal`: the machine over bytes
-//! - `token`: what a painter means
+//! - `spelling`: the bytes of a token
+//! - `terminal`: a terminal that reads bytes
+//! - `token`: what is sent to a terminal
 #![tactic(auto)]
 
 pub mod laws;

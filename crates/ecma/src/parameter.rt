@@ -33,7 +33,7 @@ impl Model for Parameter {
 }
 
 impl Parameter {
-    /// Without digits.
+    /// The parameter without digits.
     pub const EMPTY: Parameter = Parameter {
         value: 0,
         digits: 0,

@@ -14,8 +14,8 @@ use cell::{Grid, LARGEST_SCREEN, Refusal, Rendition, Shown, is_no_size};
 use std::alloc::Global;
 use std::marker::Model;
 
-/// A stream isn't in the profile: at this offset is no item that has an effect. Offsets past the greatest are kept
-/// there.
+/// A stream isn't in the profile: no item with an effect begins at this offset. An offset past the greatest u64 is
+/// given as that.
 #[derive(Clone, Copy, PartialEq, Eq, Debug)]
 pub struct NotInProfile {
     pub at: u64,

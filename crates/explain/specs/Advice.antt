@@ -39,7 +39,7 @@ look_up (entry ∷ entries) name = if bytes_eq name entry.0 then Some entry.1 el
 unfoldable pub advice_on : List ℕ → Option Advice
 advice_on = look_up (map (λ entry. (entry.0.now, entry.1)) ADVICE)
 
--- the rest of a word after these bytes, if it is a call
+-- the rest of a word after a prefix, if the word has the prefix and the rest is a call
 abbrev pub call_behind : List ℕ → List ℕ → Option (List ℕ)
 call_behind front word = if bytes_eq (take (length front) word) front && is_some (word_of (drop (length front) word)) then Some (drop (length front) word)
     else None

@@ -53,13 +53,13 @@ first_column word = length word + 2
 abbrev pub find_ill_formed_in : List (List ℕ) → Option IllFormed
 find_ill_formed_in pieces = find_ill_formed (first_column (word_in pieces)) (forms_of (word_in pieces)) (arguments_in pieces)
 
--- where the first byte is that no line may have
+-- the place of the first byte that no line may have
 abbrev pub bad_place : List ℕ → ℕ
 bad_place line = unwrap_or (position is_bad_byte line) 0
 
 -- ---- the column of a fault, from 1
 
--- that of the byte after the greatest line, of the bad byte, of the word, of the first argument too many or of the one that is missing, and
+-- that of the byte after the longest line, of the bad byte, of the word, of the first argument too many or of the one that is missing, and
 -- of the argument without its form
 abbrev pub column_of : TextFault → List ℕ → ℕ
 column_of LineTooLong line = LONGEST_LINE + 1

@@ -1,4 +1,4 @@
--- What an argument of a form is, and why a byte or an argument is faulty. The words are Curspan's own.
+-- What an argument of a form has to be, and why a byte or an argument is faulty. The texts are Curspan's own.
 use Rattle.std.specs.Prelude.{◌==◌, ℕ, List, [], codes, drop, length, nat_le, slice_index, if◌then◌else◌}
 use Rattle.std.specs.Char.{is_ascii_digit}
 use Rattle.std.specs.List.{list_all, take_while}
@@ -14,7 +14,7 @@ byte_advice b = if b == carriage_return then codes "a line ends with a newline a
     else (if nat_le 128 b then codes "characters are those of ASCII, from the space to the tilde"
     else codes "a text has it as a backslash, x and these two digits"))
 
--- what an argument of a form is
+-- what an argument of a form has to be
 abbrev pub requirement : Form → List ℕ
 requirement Number = codes "a number from 0 to 65535"
 requirement NumberOrNone = codes "a number from 0 to 65535, or none"

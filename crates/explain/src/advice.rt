@@ -1,4 +1,4 @@
-//! What takes the place of a name of curses that is no script's word.
+//! What to write for a name of curses that is no word of scripts.
 
 ghost use Rattle.std.specs.Prelude.{◌≡◌, ◌≤◌, IfSome, length, map, option_map};
 ghost use Rattle.explain.specs.Advice.{advice_on, advice_text, call_behind, look_up};
@@ -129,7 +129,7 @@ pub fn advice_on(name: &[u8]) -> Option<Advice>
     look_up(&ADVICE, name)
 }
 
-/// The rest of a word after these bytes, if it is a call.
+/// The rest of a word after a prefix, if the word has the prefix and the rest is a call.
 pub fn call_behind<'a>(front: &[u8], word: &'a [u8]) -> Option<&'a [u8]>
     ensures rest { option_map (λ rest. rest.now) result ≡ call_behind front.now word.now }
     ensures short { IfSome result (λ rest. length rest.now ≤ length word.now) }

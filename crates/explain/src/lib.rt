@@ -4,7 +4,7 @@
 //! - `arguments`: the arguments of the line, and the first that lacks its form
 //! - `column`: where the fault is
 //! - `laws`: the numerals that are printed are the limits
-//! - `reasons`: what an argument is to be, and why it isn't
+//! - `reasons`: what an argument has to be, and why it is not
 //! - `telling`: the line on a fault
 #![tactic(auto)]
 

@@ -1,4 +1,4 @@
-//! What an argument of a form is, and why a byte or an argument is faulty.
+//! What an argument of a form has to be, and why a byte or an argument is faulty.
 
 ghost use Rattle.std.specs.Prelude.{◌≡◌, ◌≤◌, length};
 ghost use Rattle.explain.specs.Reasons.{byte_advice, digits_reason, reason, requirement};
@@ -18,7 +18,7 @@ pub fn byte_advice(byte: u8) -> &'static [u8]
     }
 }
 
-/// What an argument of a form is.
+/// What an argument of a form has to be.
 pub fn requirement(form: Form) -> &'static [u8]
     ensures text { result.now ≡ requirement form }
     ensures short { length result.now ≤ 80 }

@@ -20,7 +20,7 @@ const FINDING_ROOM: usize = 1536;
 /// The line about a fault.
 pub type Finding = ArrayVec<u8, FINDING_ROOM>;
 
-/// Puts a text in quotation marks at the end.
+/// Appends a text in quotation marks.
 fn append_quoted(text: &mut Finding, piece: &[u8])
     requires { length text.old.items + length piece.now + 2 ≤ FINDING_ROOM }
     ensures { text.new.items ≡ text.old.items ++ quotation piece.now }
@@ -30,7 +30,7 @@ fn append_quoted(text: &mut Finding, piece: &[u8])
     append(text, b"\"");
 }
 
-/// Puts a number of arguments at the end.
+/// Appends a number of arguments.
 fn append_count(text: &mut Finding, n: usize)
     requires { length text.old.items + 30 ≤ FINDING_ROOM }
     ensures text { text.new.items ≡ text.old.items ++ count_text n }
@@ -47,7 +47,7 @@ fn append_count(text: &mut Finding, n: usize)
     );
 }
 
-/// Puts at the end what a word wants in place of an argument.
+/// Appends what a word wants in place of an argument.
 fn append_ill_formed(text: &mut Finding, word: &[u8], ill: IllFormed<'_>)
     requires room { length text.old.items ≤ 64 }
     requires word { length word.now ≤ LONGEST_LINE }
@@ -64,7 +64,7 @@ fn append_ill_formed(text: &mut Finding, word: &[u8], ill: IllFormed<'_>)
     append(text, reason(ill.form, ill.argument));
 }
 
-/// Puts at the end what is said of a bad byte.
+/// Appends what is said of a bad byte.
 fn append_bad_byte(text: &mut Finding, byte: u8)
     requires { length text.old.items ≤ 64 }
     ensures text { text.new.items ≡ text.old.items ++ bad_byte_text byte }
@@ -76,7 +76,7 @@ fn append_bad_byte(text: &mut Finding, byte: u8)
     append(text, byte_advice(byte));
 }
 
-/// Puts at the end a call that takes the place of a word, after what is said of it.
+/// Appends a call to write for a word, after what is said of it.
 fn append_call(text: &mut Finding, said: &[u8], call: &[u8])
     requires { length text.old.items + length said.now + length call.now ≤ FINDING_ROOM }
     ensures { text.new.items ≡ text.old.items ++ (said.now ++ call.now) }
@@ -85,7 +85,7 @@ fn append_call(text: &mut Finding, said: &[u8], call: &[u8])
     append(text, call);
 }
 
-/// Puts at the end what takes the place of a word of curses that is no call.
+/// Appends what to write for a word of curses that is no call.
 fn append_advice(text: &mut Finding, word: &[u8])
     requires room { length text.old.items ≤ 600 }
     requires word { length word.now ≤ LONGEST_LINE }
@@ -103,7 +103,7 @@ fn append_advice(text: &mut Finding, word: &[u8])
     }
 }
 
-/// Puts at the end what is said of a word that is no call.
+/// Appends what is said of a word that is no call.
 fn append_unknown(text: &mut Finding, word: &[u8])
     requires room { length text.old.items ≤ 64 }
     requires word { length word.now ≤ LONGEST_LINE }
@@ -115,7 +115,7 @@ fn append_unknown(text: &mut Finding, word: &[u8])
     append_advice(text, word);
 }
 
-/// Puts at the end what is said of the number of a word's arguments.
+/// Appends what is said of the number of a word's arguments.
 fn append_number(text: &mut Finding, word: &[u8], wanted: usize, given: usize)
     requires room { length text.old.items ≤ 64 }
     requires word { length word.now ≤ LONGEST_LINE }
@@ -130,7 +130,7 @@ fn append_number(text: &mut Finding, word: &[u8], wanted: usize, given: usize)
     append(text, b" given");
 }
 
-/// Puts at the end what is said of a fault.
+/// Appends what is said of a fault.
 fn append_explanation(text: &mut Finding, fault: TextFault, line: &[u8])
     requires room { length text.old.items ≤ 64 }
     requires short { length line.now ≤ LONGEST_LINE }

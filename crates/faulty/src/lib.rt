@@ -1,4 +1,4 @@
-//! Readers and writers for tests, faulty ones: they give or take pieces, fail, and count.
+//! Faulty readers and writers for tests: they give or take pieces, fail, and count.
 #![tactic(auto)]
 
 use std::alloc::Global;
@@ -38,7 +38,7 @@ pub struct Halting {
 }
 
 impl Halting {
-    /// One that takes all, at most so many bytes a call.
+    /// A writer that takes all, at most so many bytes a call.
     pub fn taking(alloc: Global, step: usize, is_stuck: bool) -> Halting {
         Halting {
             taken: Vec::new(alloc),
@@ -49,7 +49,7 @@ impl Halting {
         }
     }
 
-    /// One that stops once, where it has taken so many bytes.
+    /// A writer that stops once, where it has taken so many bytes.
     pub fn stopping(alloc: Global, stop: usize, fails: bool) -> Halting {
         Halting {
             taken: Vec::new(alloc),

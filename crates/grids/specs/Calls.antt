@@ -16,7 +16,7 @@ use Rattle.world.specs.declared.call.Reply.{Reply}
 use Rattle.world.specs.declared.call.Reply.TheVariants.{Flag, Nothing, Number}
 use Rattle.grids.specs.Tables.{WindowTable, windows}
 
--- it was refused as its tests have it, and then nothing changed; else the answer and the windows are those of its effect
+-- it was refused by its tests, and then nothing changed; else the answer and the windows are those of its effect
 pub record Changed {T : Type 0} (reply_of : T → Reply) (old : WindowTable) (refusal : Option Refusal) (change : Change) (r : Result T Refusal) (new : WindowTable)
     : Type 0 where
   pub refused : Refused (change_takes_memory change) refusal r
@@ -25,7 +25,7 @@ pub record Changed {T : Type 0} (reply_of : T → Reply) (old : WindowTable) (re
   pub unchanged : OnErr r (new ≡ old)
   pub sound : AreSoundWindows (windows new)
 
--- of making and placing, as where no window is in a panel
+-- of making and placing, as if no window were in a panel
 abbrev pub Made : {T : Type 0} → (T → Reply) → WindowTable → Making → Result T Refusal → WindowTable → Type 0
 Made reply_of old making r new = Changed reply_of old (making_refusal (windows old) in_no_panel making) (making_change (windows old) making) r new
 
@@ -43,7 +43,7 @@ its_number win = Number win
 abbrev pub its_flag : Bool → Reply
 its_flag flag = Flag flag
 
--- a query was refused exactly as its tests have it; else this is its answer
+-- a query was refused exactly by its tests; else this is its answer
 pub record Asked {T : Type 0} (table : WindowTable) (query : Query) (told : Option T) (r : Result T Refusal) : Type 0 where
   pub refused : result_err r ≡ query_refusal (windows table) query
   pub answer : IfOk r (λ t. told ≡ Some t)

@@ -4,7 +4,7 @@
 //! - `frame`: rectangles joined
 //! - `making`: windows and pads are made, placed and deleted
 //! - `marks`: lines are touched and untouched
-//! - `queries`: what is asked of a window
+//! - `queries`: queries about a window
 //! - `rectangle`: a copy of several lines
 //! - `rows`: a line is read, filled or copied
 //! - `sharing`: which windows share cells

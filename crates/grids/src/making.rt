@@ -1,4 +1,4 @@
-//! Making, moving and deleting windows and pads. The table knows no panels: it moves and deletes as where no window is in one.
+//! Making, moving and deleting windows and pads. The table knows no panels: it moves and deletes as if no window were in one.
 
 ghost use Rattle.std.specs.Prelude.{◌≡◌, ◌<◌, ◌+◌, ◌^◌, Some, None, IsSome, MatchOption, ⊤, nat_le, if◌then◌else◌};
 ghost use Rattle.cell.specs.Refusals.{first_of};
@@ -122,7 +122,7 @@ impl Grids {
         self.derive(pad, nlines, ncols, begin_y, begin_x)
     }
 
-    /// Makes a window or pad that shows the part of another from a line and a column of it on. The other must be there.
+    /// Makes a window or pad that shows the part of another from a line and a column of it on. The other must exist.
     fn derive(
         &mut self,
         win: WinId,
@@ -200,7 +200,7 @@ impl Grids {
         Ok(())
     }
 
-    /// Deletes a window or pad from which none derives. Its number is free, and its memory given back.
+    /// Deletes a window or pad from which none derives. Its number and its memory are free then.
     ///
     /// # Errors
     /// `NoSuchWindow`, `StandardScreen`, `HasDerived`.

@@ -16,7 +16,7 @@ use slots::list::{mark_slot, unmark_slot};
 use world::Columns;
 
 impl Grids {
-    /// The touched columns of line `y` of a window. The line must be there.
+    /// The touched columns of line `y` of a window. The line must exist.
     pub fn touched(&self, win: WinId, y: u16) -> Option<Columns>
         requires { HasPlace (windows self.now).window win.0 y 0 }
         ensures columns { result ≡ touched_columns (windows self.now).window win.0 y }
@@ -29,7 +29,7 @@ impl Grids {
         }
     }
 
-    /// Takes all touches of a window away, which asks for a clear screen no more. The window must be there.
+    /// Untouches all of a window, which asks for a clear screen no more. The window must exist.
     pub fn unmark(&mut self, win: WinId)
         requires { IsSome ((windows self.old).window win.0) }
         ensures unmarked { windows self.new ≡ record (windows self.old) { window = changed (windows self.old).window win.0 unmarked } }
@@ -52,7 +52,7 @@ impl Grids {
         Ok(())
     }
 
-    /// Takes all touches of a window away.
+    /// Untouches all of a window.
     ///
     /// # Errors
     /// `NoSuchWindow`.
@@ -75,7 +75,7 @@ impl Grids {
         self.wtouchln(win, y, n, true)
     }
 
-    /// Touches all of `n` lines from line `y` on, or takes their touches away.
+    /// Touches all of `n` lines from line `y` on, or untouches them.
     ///
     /// # Errors
     /// `NoSuchWindow`; `OutsideWindow` if the window hasn't line `y`, or not `n` lines from it on.
@@ -91,7 +91,7 @@ impl Grids {
         Ok(())
     }
 
-    /// Touches lines, or takes their touches away. They must be there.
+    /// Touches lines, or untouches them. They must exist.
     fn mark(&mut self, win: WinId, first: u16, n: u16, flag: bool)
         requires { IsSomeAnd ((windows self.old).window win.0) (λ a. first + n ≤ a.lines) }
         ensures touched { windows self.new ≡ record (windows self.old) { window = changed (windows self.old).window win.0 (lines_marked first n flag) } }

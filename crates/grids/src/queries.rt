@@ -1,4 +1,4 @@
-//! What a window or pad is asked.
+//! Queries about a window or pad.
 
 ghost use Rattle.std.specs.Prelude.{◌≡◌, is_some};
 ghost use Rattle.world.specs.Sound.{AreSoundWindows};

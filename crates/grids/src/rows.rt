@@ -17,7 +17,7 @@ use slots::Place;
 use slots::list::{columns_of, fill_row, origin_of, put_row, row_in, touch_row};
 
 impl Grids {
-    /// The cells of line `y` of a window, from left to right, without copying them. The line must be there.
+    /// The cells of line `y` of a window, from left to right, without copying them. The line must exist.
     pub fn row(&self, win: WinId, y: u16) -> &[Cell]
         requires { HasPlace (windows self.now).window win.0 y 0 }
         ensures row { result.now ≡ line_shown (windows self.now).window win.0 y }
@@ -36,7 +36,7 @@ impl Grids {
         )
     }
 
-    /// The cell that a window shows at line `y` and column `x`. The place must be there.
+    /// The cell that a window shows at line `y` and column `x`. The place must exist.
     pub fn cell(&self, win: WinId, y: u16, x: u16) -> Cell
         requires { HasPlace (windows self.now).window win.0 y x }
         ensures cell { result ≡ cell_at (windows self.now).window win.0 y x }
@@ -45,8 +45,8 @@ impl Grids {
         self.row(win, y)[usize::from(x)]
     }
 
-    /// Sets the cells of line `y` of a window in the columns from `left` to `right`, both inclusive, to one cell. The places
-    /// must be there, and `left` not after `right`.
+    /// Sets the cells of line `y` of a window in the columns from `left` to `right`, both inclusive, to one cell. The places must exist,
+    /// and `left` must not be after `right`.
     pub fn fill(&mut self, win: WinId, y: u16, left: u16, right: u16, cell: Cell)
         requires ordered { left ≤ right }
         requires there { HasPlace (windows self.old).window win.0 y right }
@@ -67,7 +67,7 @@ impl Grids {
     }
 
     /// Prints characters from 32 to 126 in line `y` of a window, from column `left` on, each with the attributes and the pair of a
-    /// pen; a space becomes the pen itself. The places must be there.
+    /// pen; a space becomes the pen itself. The places must exist.
     pub fn print(&mut self, win: WinId, y: u16, left: u16, text: &[u8], pen: Cell)
         requires some { 0 < length text.now }
         requires there { HasPlace (windows self.old).window win.0 y (left + length text.now - 1) }
@@ -90,7 +90,7 @@ impl Grids {
     }
 
     /// Sets `n` cells of line `dy` of `dst` from column `dx` on to those that line `sy` of `src` has from column `sx` on, as if all
-    /// were read before any is written; with `overlay`, all but the spaces. The places must be there.
+    /// were read before any is written; with `overlay`, all but the spaces. The places must exist.
     pub fn copy_row(
         &mut self,
         src: WinId,

@@ -19,7 +19,7 @@ use world::Columns;
 
 impl Grids {
     /// The rectangle of window `to` at whose places it shows a cell that `from` shows in a rectangle of it, ends inclusive; none if
-    /// there is no such place. Both windows must be there, and `from` hold the rectangle.
+    /// there is no such place. Both windows must exist, and `from` must hold the rectangle.
     pub fn seen_in(&self, from: WinId, frame: Rect, to: WinId) -> Option<Rect>
         requires ordered_lines { frame.top ≤ frame.bottom }
         requires ordered_columns { frame.left ≤ frame.right }
@@ -53,7 +53,7 @@ impl Grids {
         })
     }
 
-    /// Whether window `u` derives from window `w` at any depth. Window `u` must be there.
+    /// Whether window `u` derives from window `w` at any depth. Window `u` must exist.
     pub fn derives(&self, w: WinId, u: WinId) -> bool
         requires { IsSome ((windows self.now).window u.0) }
         ensures value { result ≡ derives (windows self.now).window w.0 u.0 }
@@ -70,7 +70,7 @@ impl Grids {
         false
     }
 
-    /// The place of the parent that a derived window shows at a place of it. The place must be there.
+    /// The place of the parent that a derived window shows at a place of it. The place must exist.
     pub(crate) fn place_above(&self, at: Place) -> Option<Place>
         requires { HasPlace (windows self.now).window at.win.0 at.line at.column }
         ensures next { IsSomeAnd ((windows self.now).window at.win.0) (λ a. result ≡ option_map (in_parent at) (part_behind a.backing)) }

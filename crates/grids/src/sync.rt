@@ -1,4 +1,4 @@
-//! What is touched of a window, handed to its ancestors or taken from them.
+//! What is touched of a window, passed on to its ancestors or taken from them.
 
 ghost use Rattle.std.specs.Prelude.{◌≡◌, ◌≢◌, ℕ, ◌<◌, ◌≤◌, ◌+◌, ◌-◌, ◌&&◌, nat_le, ⊤, IsSome, IsSomeAnd, MatchOption};
 ghost use Rattle.cell.specs.declared.limits.TheConstants.{LARGEST_PAD};
@@ -47,7 +47,7 @@ impl Grids {
         Ok(())
     }
 
-    /// Hands what is touched of a window to its ancestors, from parent to parent.
+    /// Passes what is touched of a window on to its ancestors, from parent to parent.
     fn hand_up(&mut self, win: u16)
         requires { IsSome ((windows self.old).window win) }
         ensures { windows self.new ≡ after_copying (windows self.old) (Copying.Syncup (record { 0 = win })) }
@@ -119,7 +119,7 @@ impl Grids {
         clip(touched, source_at.1, at.1, columns)
     }
 
-    /// The touched columns of a line of a window. The line must be there.
+    /// The touched columns of a line of a window. The line must exist.
     fn touched_columns(&self, win: u16, y: u16) -> Option<Columns>
         requires { IsSomeAnd ((windows self.now).window win) (λ a. y < a.lines) }
         ensures columns { IsSomeAnd ((windows self.now).window win) (λ a. result ≡ a.touched y) }
@@ -131,7 +131,7 @@ impl Grids {
         }
     }
 
-    /// The number of lines and of columns of a window, which must be there.
+    /// The number of lines and of columns of a window, which must exist.
     pub(crate) fn size(&self, win: u16) -> (u16, u16)
         requires { IsSome ((windows self.now).window win) }
         ensures { IsSomeAnd ((windows self.now).window win) (λ a. (result.0 ≡ a.lines) × (result.1 ≡ a.columns)) }
@@ -156,7 +156,8 @@ impl Grids {
     }
 }
 
-/// Which of a line's columns, where it begins at one place, columns of another line are that begins at another.
+/// The columns of a line, of so many, that are given columns of another line. The other begins at column `from` of a third, and the line at
+/// column `to` of it.
 pub fn clip(touched: Option<Columns>, from: u16, to: u16, columns: u16) -> Option<Columns>
     requires some { 0 < columns }
     requires source { MatchOption touched ⊤ (λ r. (r.first ≤ r.last) × (from + r.last < LARGEST_PAD)) }

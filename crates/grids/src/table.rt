@@ -85,7 +85,7 @@ impl Grids {
         }
     }
 
-    /// What a window is set to. The window must be there.
+    /// The settings of a window, which must exist.
     pub fn settings(&self, win: WinId) -> Settings
         requires { IsSome ((windows self.now).window win.0) }
         ensures value { option_map (λ a. a.settings) ((windows self.now).window win.0) ≡ Some result }
@@ -98,8 +98,8 @@ impl Grids {
         }
     }
 
-    /// Sets what a window is set to. The window must be there and hold the cursor and the region, whose first line isn't after
-    /// its last. Bits beyond the six attributes are dropped.
+    /// Gives a window other settings. The window must exist and hold the cursor and the region, whose first line isn't after its last. Bits
+    /// beyond the six attributes are dropped.
     pub fn set_settings(&mut self, win: WinId, settings: Settings)
         requires cursor { HasPlace (windows self.old).window win.0 settings.cursor.0 settings.cursor.1 }
         requires region_order { settings.region.0 ≤ settings.region.1 }

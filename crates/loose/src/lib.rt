@@ -1,4 +1,4 @@
-//! A box as its pointer, and the box again.
+//! Takes a box apart into its pointer, and makes the box from it again.
 #![tactic(auto)]
 
 ghost use Rattle.std.specs.Prelude.{◌≡◌};
@@ -19,7 +19,7 @@ impl<T, A: Allocator> Model for Loose<T, A> {
 }
 
 impl<T: Drop, A: Allocator> Loose<T, A> {
-    /// Takes a box apart.
+    /// Takes a box apart into its pointer and its allocator.
     pub fn of(value: Box<T, A>) -> Loose<T, A>
         ensures { result.value ≡ value.value }
     {

@@ -1,4 +1,4 @@
-//! Makes what each word names, and puts out in a line how each ended: for tests that refuse allocations.
+//! Makes what each word of its command line names, and prints a line on how each ended: for tests that refuse allocations.
 #![tactic(auto)]
 
 use cell::Refusal;

@@ -18,13 +18,13 @@ pub struct Stretch {
 }
 
 impl Stretch {
-    /// None at all.
+    /// No columns or lines.
     pub const NONE: Stretch = Stretch {
         start: u16::MAX,
         end: 0,
     };
 
-    /// Those of both, and those between them.
+    /// The columns or lines of both, and those between them.
     fn join(self, other: Stretch) -> Stretch
         ensures { result ≡ joined self other }
     {
@@ -39,9 +39,9 @@ impl Stretch {
 #[derive(Drop)]
 pub struct Changes {
     stretches: Vec<Stretch>,
-    // No other line has any.
+    // No other line may differ.
     lines: Stretch,
-    // Nor has any that isn't one of these.
+    // Nor may a line that isn't one of these.
     changed: SmallSet,
 }
 
@@ -58,7 +58,7 @@ impl Model for Changes {
 }
 
 impl Changes {
-    /// So many lines, of which none has such columns.
+    /// So many lines, in none of which a column may differ.
     pub fn new(alloc: Global, lines: u16) -> Result<Changes, AllocError>
         requires { lines ≤ LARGEST_SCREEN }
         ensures { IfOk result (λ changes. changes ≡ replicate lines no_stretch) }
@@ -70,7 +70,7 @@ impl Changes {
         })
     }
 
-    /// So many lines, of which each has so many such columns.
+    /// So many lines, in each of which so many columns may differ.
     pub fn whole(alloc: Global, lines: u16, columns: u16) -> Result<Changes, AllocError>
         requires { lines ≤ LARGEST_SCREEN }
         ensures { IfOk result (λ changes. changes ≡ replicate lines (record { start = 0; end = columns })) }
@@ -89,7 +89,7 @@ impl Changes {
         })
     }
 
-    /// Those of a line.
+    /// The columns of a line.
     pub fn line(&self, y: u16) -> Stretch
         requires { y < length self.now }
         ensures { result ≡ stretch_of self.now y }
@@ -97,7 +97,7 @@ impl Changes {
         self.stretches[usize::from(y)]
     }
 
-    /// Lines among which are all that have any.
+    /// Lines among which are all that may differ.
     pub fn lines(&self) -> Stretch
         ensures inside { result.end ≤ length self.now }
         ensures others { (y : ℕ) → is_in result y ≡ false → stretch_of self.now y ≡ no_stretch }
@@ -105,7 +105,7 @@ impl Changes {
         self.lines
     }
 
-    /// The first line from one on that has any, and where there is none, a line that isn't before the end of `lines`.
+    /// The next line to look at, from one on: no line before it may differ. Where there is none, it isn't before the end of `lines`.
     pub fn next(&self, from: u16) -> u16
         ensures from { from ≤ result }
         ensures inside { from ≤ length self.now → result ≤ length self.now }
@@ -117,7 +117,7 @@ impl Changes {
         }
     }
 
-    /// Those of a line of so many columns, from one up to another, which isn't one of them.
+    /// The columns of a line of so many columns, from one up to another, which isn't one of them.
     pub fn within(&self, y: u16, columns: usize) -> (usize, usize)
         requires { y < length self.now }
         ensures { IsWithin columns (stretch_of self.now y) result }
@@ -127,7 +127,7 @@ impl Changes {
         (end.min(usize::from(stretch.start)), end)
     }
 
-    /// Adds columns of a line, and those between them and the ones that it has. A line that isn't there gets none.
+    /// Adds columns of a line, and those between them and the ones that it has. A line past the last gets none.
     pub fn widen(&mut self, y: u16, stretch: Stretch)
         ensures { self.new ≡ slice_set self.old y (joined (stretch_of self.old y) stretch) }
     {
@@ -143,7 +143,7 @@ impl Changes {
         });
     }
 
-    /// No line has any from now on.
+    /// No line may differ from now on.
     pub fn clear(&mut self)
         ensures height { length self.new ≡ length self.old }
         ensures none { (y : ℕ) → stretch_of self.new y ≡ no_stretch }

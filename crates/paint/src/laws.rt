@@ -1,4 +1,5 @@
-//! What a painter's texts make of all that was sent to a terminal. Each function does nothing, and its contract is
+//! What a painter's texts show after all that was sent to a terminal before. Each function does nothing, and its
+//! contract is
 //! the law.
 
 ghost use Rattle.std.specs.Prelude.{◌≡◌, ◌≤◌, ℕ, Bool, List, [], ◌++◌, length, take, Some, None};
@@ -21,7 +22,7 @@ pub fn agrees_after_update()
         → Agrees (record painter { last = Some wanted }) (stream ++ text) t }
 {}
 
-/// After a doupdate that was broken off all that was sent agrees with the painter, which knows nothing then.
+/// After a doupdate that failed all that was sent agrees with the painter, which knows nothing then.
 pub fn agrees_after_fault()
     ensures { (painter : PainterState) (clear : Bool) (wanted : ShownPicture) (stream text : List ℕ) (sent : ℕ) (t : Terminal)
         → HasSize painter.lines painter.columns t.picture

@@ -9,7 +9,7 @@
 //! - `painter`: the `Painter`
 //! - `passes`: drawing rendition by rendition
 //! - `pen`: strokes: move, select, print, erase
-//! - `room`: the room in which they are gathered
+//! - `room`: the buffer in which they are gathered
 //! - `tail`: what is erased at the end of a line
 #![tactic(auto)]
 

@@ -1,4 +1,4 @@
-//! Gathers a text in fixed room, from which it goes out in pieces.
+//! Gathers a text in a buffer of fixed size, from which it goes out in pieces.
 
 ghost use Rattle.std.specs.Prelude.{◌≡◌, ◌≤◌, ◌+◌, ◌<◌, ◌^◌, ℕ, List, [], ◌∷◌, length, slice_index_or};
 ghost use Rattle.cell.specs.Shown.{IsShown, shown_blank};
@@ -21,7 +21,7 @@ pub struct Outbox {
 }
 
 impl Outbox {
-    /// Nothing was gathered, and nothing was sent.
+    /// An outbox in which nothing was gathered, and from which nothing was sent.
     pub fn new(alloc: Global) -> Result<Outbox, AllocError> {
         Ok(Outbox {
             room: Room::new(alloc)?,

@@ -71,7 +71,7 @@ impl Painter {
         })
     }
 
-    /// What it showed last is unknown from now on, as where its terminals are others.
+    /// What it showed last is unknown from now on, as after a change of terminals.
     pub fn invalidate(&mut self)
         ensures { self.new ≡ record self.old { last = None } }
     {

@@ -29,7 +29,7 @@ pub struct Order {
 }
 
 impl Order {
-    /// That of a single pass.
+    /// The order of a single pass.
     pub fn new() -> Order {
         Order {
             renditions: [Rendition::NONE; MOST],
@@ -281,7 +281,7 @@ impl Renditions {
     }
 }
 
-/// Whether some cells all have a rendition, by a loop that has one end and so is done in lanes.
+/// Whether some cells all have a rendition, by a loop with one exit, which the compiler vectorizes.
 fn all_have(rendition: Rendition, cells: &[Shown]) -> bool {
     let mut all = true;
     for x in 0..cells.len() {
@@ -311,8 +311,8 @@ fn order_of(shown: &Grid<Shown>, wanted: &Grid<Shown>, columns: usize, changes: 
     }
 }
 
-/// The order of passes in which drawing from where the cursor is, and then going to a place, takes the fewest bytes. It is empty where one walk over all
-/// lines takes as few, or it isn't known where the cursor is.
+/// The order of passes in which drawing from where the cursor is, and then going to a place, takes the fewest bytes. It is empty where one
+/// walk over all lines takes as few, or where the cursor is unknown.
 pub fn best_order(
     pen: &mut Pen,
     lines: u16,

@@ -1,4 +1,4 @@
-//! The room in which a text is gathered.
+//! The buffer in which a text is gathered.
 
 ghost use Rattle.std.specs.Prelude.{◌≡◌, ◌+◌, ◌≤◌, ◌++◌, ◌<◌, ℕ, [], IfOk, length, slice_index_or, true, vec_capacity, vec_len};
 ghost use Rattle.cell.specs.Shown.{IsShown, shown_blank};
@@ -29,7 +29,7 @@ impl Model for Room {
 }
 
 impl Room {
-    /// Room in which nothing is.
+    /// An empty buffer.
     pub fn new(alloc: Global) -> Result<Room, AllocError>
         ensures { IfOk result (λ room. room ≡ []) }
     {
@@ -46,7 +46,7 @@ impl Room {
         self.bytes.len() <= ROOM - more
     }
 
-    /// Puts a piece at the end.
+    /// Appends a piece.
     pub fn append(&mut self, piece: &[u8])
         requires { length self.old + length piece.now ≤ ROOM }
         ensures { self.new ≡ self.old ++ piece.now }
@@ -56,7 +56,7 @@ impl Room {
         }
     }
 
-    /// Puts the characters of cells at the end.
+    /// Appends the characters of cells.
     pub fn append_characters(&mut self, cells: &[Shown])
         requires { length self.old + length cells.now ≤ ROOM }
         ensures appended { self.new ≡ self.old ++ characters cells.now }
@@ -73,7 +73,7 @@ impl Room {
         self.bytes.as_slice()
     }
 
-    /// Nothing is in it any more.
+    /// Empties it.
     pub fn clear(&mut self)
         ensures { self.new ≡ [] }
     {
@@ -81,7 +81,7 @@ impl Room {
     }
 }
 
-/// Puts the characters of cells at the end of bytes that have room for them.
+/// Appends the characters of cells to bytes that have room for them.
 fn push_characters(bytes: &mut Vec<u8>, cells: &[Shown])
     requires { vec_len bytes.old + length cells.now ≤ vec_capacity bytes.old }
     ensures appended { bytes.new.items ≡ bytes.old.items ++ characters cells.now }

@@ -1,4 +1,4 @@
--- A count that begins again at 2^64.
+-- A counter that wraps around at 2^64.
 use Rattle.std.specs.Prelude.{◌≡◌, ℕ, ◌+◌, ◌%◌, ◌^◌}
 
 -- it grew by so many, from one number to another, modulo 2^64

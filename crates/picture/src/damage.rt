@@ -53,7 +53,7 @@ impl Damage {
         self.lines[usize::from(y)]
     }
 
-    /// The first damaged line from one on, and where there is none, a line that isn't there.
+    /// The first damaged line from one on, and where there is none, a line past the last.
     pub fn next(&self, from: u16) -> u16
         ensures from { from ≤ result }
         ensures inside { from ≤ length self.now → result ≤ length self.now }
@@ -66,7 +66,7 @@ impl Damage {
         }
     }
 
-    /// A line isn't damaged any more.
+    /// Clears the damage of a line.
     pub fn clear(&mut self, y: u16)
         requires { y < length self.old }
         ensures { self.new ≡ slice_set self.old y None }

@@ -5,8 +5,8 @@
 //! - `owners`: from run to run along a line
 //! - `parts`: which part of the screen shows something of a window
 //! - `piece`: a part of a window's line, put into a picture
-//! - `repair`: the damaged lines composed anew
-//! - `rows`: from where the cells come, counted
+//! - `repair`: the damaged lines composed again
+//! - `rows`: the lines of windows, with a count of the cells that are read
 //! - `search`: what the search finds at a place, and the topmost's cursor
 //! - `span`: the search from the top, along a line
 #![tactic(auto)]

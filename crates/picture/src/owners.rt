@@ -15,7 +15,7 @@ use crate::span::owner_span;
 use cell::{Rect, WinId};
 use stack::Stack;
 
-/// So many columns are looked at together.
+/// How many columns are searched for together, at most.
 const PART: usize = 256;
 
 /// With at most so many visible panels each run is searched for by itself.
@@ -39,7 +39,7 @@ pub struct Owners {
 }
 
 impl Owners {
-    /// Of no column.
+    /// The windows of no column.
     pub fn none(stack: &Stack) -> Owners
         ensures { (window : WindowMap) (panels : Panels) (y : ℕ) → KnowsOwners window panels y result }
     {

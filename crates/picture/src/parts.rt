@@ -17,7 +17,7 @@ use grids::Grids;
 use stack::Stack;
 use world::PanelId;
 
-/// The rectangle of a window on the screen, if it is there and no pad.
+/// The rectangle of a window on the screen, if there is such a window and it is no pad.
 pub fn window_part(table: &Grids, win: WinId) -> Option<Rect>
     ensures holds { (y x : ℕ) → part_holds result y x ≡ holds (windows_of table.now).window win.0 y x }
     ensures within { MatchOption result ⊤ (IsFrameWithin table.now.lines table.now.columns) }
@@ -65,7 +65,7 @@ pub fn following_part(table: &Grids, win: WinId, u: WinId) -> Option<Rect>
     }
 }
 
-/// The rectangle of a panel's window on the screen, if the panel is there and visible.
+/// The rectangle of a panel's window on the screen, if there is such a panel and it is visible.
 pub fn panel_part(table: &Grids, stack: &Stack, panel: PanelId) -> Option<Rect>
     requires { AreSoundPanels (windows_of table.now).window (panels stack.now) }
     ensures holds { (y x : ℕ) → part_holds result y x ≡ panel_shows_at (windows_of table.now).window (panels stack.now) panel.0 y x }

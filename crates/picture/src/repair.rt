@@ -1,4 +1,4 @@
-//! The damaged part of the picture of windows and panels, composed anew.
+//! Composes the damaged part of the picture of windows and panels again.
 
 ghost use Rattle.std.specs.Prelude.{◌≡◌, ◌<◌, ◌≤◌, ℕ, None, false, length};
 ghost use Rattle.cell.specs.Pictures.{AreShown, HasSize, picture_of, shown_at};
@@ -16,8 +16,8 @@ use cell::{Grid, Pairs, Shown};
 use stack::Stack;
 use world::Columns;
 
-/// Puts what a search from the top finds at each damaged place of so many lines into a picture, and takes the damage away. It answers how
-/// many cells of windows it read.
+/// Puts what a search from the top finds at each damaged place of so many lines into a picture, and clears the damage. It answers how many
+/// cells of windows it read.
 pub fn show_damaged<'a, R: Rows<'a>>(
     rows: &mut R,
     stack: &Stack,

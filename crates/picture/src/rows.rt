@@ -22,15 +22,15 @@ pub trait Rows<'a> {
 
     ghost lent: { Self → ℕ };
 
-    /// The rectangle of a window on the screen. The window must be there, and no pad.
+    /// The rectangle of a window on the screen. The window must exist, and be no pad.
     fn rect(&self, win: WinId) -> Rect
         requires { is_no_pad (windows self.now).window win.0 ≡ true }
         ensures place { (result.top, result.left) ≡ place_of (windows self.now).window win.0 }
         ensures ordered { result.left ≤ result.right }
         ensures holds { (y x : ℕ) → frame_holds result y x ≡ holds (windows self.now).window win.0 y x };
 
-    /// A piece of line `y` of a window, from its column `left` to its column `right`, both inclusive, which must be there. The
-    /// count goes up by the number of its cells, modulo 2^64.
+    /// A piece of line `y` of a window, from its column `left` to its column `right`, both inclusive, which must exist. The count goes up
+    /// by the number of its cells, modulo 2^64.
     fn lend(&mut self, win: WinId, y: u16, left: u16, right: u16) -> &'a [Cell]
         requires ordered { left ≤ right }
         requires place { HasPlace (windows self.old).window win.0 y right }
@@ -47,7 +47,7 @@ pub struct Lent<'a> {
 }
 
 impl<'a> Lent<'a> {
-    /// Nothing of the table was read yet.
+    /// The lines of a table, of which nothing was read yet.
     pub fn of(table: &'a Grids) -> Lent<'a>
         ensures windows { ⟦<Lent<'a> as Rows<'a>>⟧.windows result ≡ windows_of table.now }
         ensures none { ⟦<Lent<'a> as Rows<'a>>⟧.lent result ≡ 0 }

@@ -1,5 +1,5 @@
-//! Tests of a desk. The proof of a test carries along what is known of each call that it makes, and none of it is needed here: so most
-//! calls are made by helpers without a contract.
+//! Tests of a desk. The proof of a test would carry along what is known of each call that it makes, and none of it is needed here: so
+//! helpers without a contract make most calls.
 
 use cell::{Cell, Refusal, VirtualScreen, WinId};
 use compose::{Calls, Desk, Span};

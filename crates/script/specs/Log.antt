@@ -1,4 +1,4 @@
--- The lines of a script's log. Their form is Curspan's own; docs/curspan.1 tells it under LOG.
+-- The lines of a script's log. Their form is Curspan's own; docs/curspan.1 describes it under LOG.
 use Rattle.std.specs.Prelude.{ℕ, if◌then◌else◌, List, [], ◌∷◌, ◌++◌, codes, decimal, Option, Some, None, Result, Ok, Err}
 use Rattle.std.specs.Option.{option_map_or}
 use Rattle.script.specs.Characters.{newline, space}

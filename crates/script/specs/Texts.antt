@@ -1,4 +1,4 @@
--- The forms of arguments in a script. They are Curspan's own; docs/curspan.1 tells them under Arguments.
+-- The forms of arguments in a script. They are Curspan's own; docs/curspan.1 describes them under Arguments.
 use Rattle.std.specs.Prelude.{◌+◌, ◌*◌, ◌==◌, ◌&&◌, ◌||◌, ℕ, ℤ, pos, ◌-ℤ◌, Bool, true, false, not, List, [], ◌∷◌, ◌++◌, codes, length, slice_index, Option, Some, None, option_map}
 use Rattle.std.specs.Prelude.{option_and_then, position, nat_le, if◌then◌else◌}
 use Rattle.std.specs.Str.{bytes_eq}

@@ -5,13 +5,13 @@ ghost use Rattle.script.specs.Words.{entry_of, word_of};
 ghost use Rattle.script.specs.declared.limits.TheConstants.{ALL_ATTRIBUTES, GREATEST_NUMBER, GREATEST_SIGNED, LONGEST_LINE, MOST_ARGUMENTS, MOST_DIGITS};
 ghost use Rattle.script.specs.declared.words.Word.{Word};
 
-/// The word of each call is read as that call. So no two calls have one word, and the list of words lacks none.
+/// The word of each call is read as that call. So no two calls have the same word, and the list of words lacks none.
 pub fn each_word_is_read()
     ensures { (word : Word) → word_of (entry_of word).word ≡ Some word }
 {}
 
 /// The limits of a script's text in numerals: the bytes of a line, the arguments of a call, the digits and the greatest of numbers, with a
-/// sign and without, and the greatest set of attributes. This is what a reader believes; all else cites the names.
+/// sign and without, and the greatest set of attributes. Here a reader checks the values; all else uses the names.
 pub fn limits_in_numerals()
     ensures line { LONGEST_LINE ≡ 512 }
     ensures arguments { MOST_ARGUMENTS ≡ 9 }

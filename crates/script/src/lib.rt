@@ -1,4 +1,4 @@
-//! Scripts: a call a line. The reading of a script's text, and the lines of its log.
+//! Scripts, with one call per line: the reading of a script's text, and the lines of its log.
 //!
 //! - `arguments`: its arguments
 //! - `bytes`: lines, however the reader cuts them

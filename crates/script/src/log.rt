@@ -23,7 +23,7 @@ pub type LogLine = ArrayVec<u8, LINE_ROOM>;
 /// The most bytes that the log says of a reply: two numbers, and between them two spaces and two digits.
 const LONGEST_REPLY: usize = 2 * MOST_DECIMAL_DIGITS + 4;
 
-/// Puts the number of a panel at the end, or that there is none.
+/// Appends the number of a panel, or that there is none.
 fn append_panel(line: &mut LogLine, panel: Option<PanelId>)
     requires { length line.old.items + MOST_DECIMAL_DIGITS ≤ LINE_ROOM }
     ensures text { line.new.items ≡ line.old.items ++ panel_text panel }
@@ -35,7 +35,7 @@ fn append_panel(line: &mut LogLine, panel: Option<PanelId>)
     }
 }
 
-/// Puts what the log says of a reply at the end, if it says something.
+/// Appends what the log says of a reply, if it says something.
 fn append_reply(line: &mut LogLine, reply: Reply)
     requires { length line.old.items + LONGEST_REPLY ≤ LINE_ROOM }
     ensures text { Some line.new.items ≡ option_map_or (λ text. Some (line.old.items ++ text)) (reply_text reply) (Some line.old.items) }

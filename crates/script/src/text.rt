@@ -51,7 +51,7 @@ fn first_character(piece: &[u8]) -> Option<(u8, &[u8])>
     Some((character, rest))
 }
 
-/// Whether a text has a backslash, by a loop that has one end and so is done in lanes.
+/// Whether a text has a backslash, by a loop with one exit, which the compiler vectorizes.
 fn has_backslash(text: &[u8]) -> bool
     ensures { result ≡ list_any (λ b. b == backslash) text.now }
 {

@@ -19,7 +19,7 @@ last_in (Some columns) = columns.last
 abbrev pub AreEnds : ℕ → ℕ → Type 0
 AreEnds first last = (first ≤ last) ⊎ ((first ≡ 1) × (last ≡ 0))
 
--- the columns give their ends back
+-- the columns of two ends have these ends
 pub first-back : (first last : ℕ) → AreEnds first last → first_in (columns_in first last) ≡ first
 first-back first last ends = elim ends [
   | inl ordered ↦ rw (le-ltb last first ordered) refl

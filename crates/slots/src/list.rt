@@ -123,7 +123,7 @@ pub fn fill_slot_at(slots: &mut Vec<Option<Slot>>, at: u16, slot: Slot) -> Resul
     Ok(())
 }
 
-/// Gives up a slot.
+/// Empties a slot.
 pub fn free_slot(slots: &mut Vec<Option<Slot>>, at: u16)
     requires few { length slots.old.items ≤ MOST_WINDOWS + 1 }
     requires below { at < length slots.old.items }
@@ -178,7 +178,7 @@ pub fn touch_row(slots: &mut Vec<Option<Slot>>, at: u16, line: u16, left: u16, r
     }
 }
 
-/// Sets what a slot's window is set to.
+/// Gives a slot's window other settings.
 pub fn set_slot(slots: &mut Vec<Option<Slot>>, at: u16, settings: Settings)
     requires taken { IsSome (slot_at slots.old.items at) }
     requires cursor_line { settings.cursor.0 < lines_at slots.old.items at }
@@ -192,7 +192,7 @@ pub fn set_slot(slots: &mut Vec<Option<Slot>>, at: u16, settings: Settings)
     }
 }
 
-/// Takes all touches of a slot's window away, which asks for a clear screen no more.
+/// Untouches all of a slot's window, which asks for a clear screen no more.
 pub fn unmark_slot(slots: &mut Vec<Option<Slot>>, at: u16)
     requires { IsSome (slot_at slots.old.items at) }
     ensures { Changed slots.old.items slots.new.items at unmarked }
@@ -202,7 +202,7 @@ pub fn unmark_slot(slots: &mut Vec<Option<Slot>>, at: u16)
     }
 }
 
-/// Touches lines of a slot's window from their first column to their last, from one on, or takes their touches away.
+/// Touches lines of a slot's window from their first column to their last, from one on, or untouches them.
 pub fn mark_slot(slots: &mut Vec<Option<Slot>>, at: u16, first: u16, n: u16, flag: bool)
     requires taken { IsSome (slot_at slots.old.items at) }
     requires lines { first + n ≤ lines_at slots.old.items at }

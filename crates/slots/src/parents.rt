@@ -10,7 +10,7 @@ use crate::place::Place;
 use crate::slot::{Origin, Slot};
 use cell::{MOST_WINDOWS, WinId};
 
-/// The place of the parent that a derived window shows at a place of it. The place must be there.
+/// The place of the parent that a derived window shows at a place of it. The place must exist.
 pub fn place_in_parent(slots: &[Option<Slot>], at: Place) -> Option<Place>
     requires chained { IsChained slots.now }
     requires there { HasPlace (window_map slots.now) at.win.0 at.line at.column }
@@ -47,7 +47,7 @@ fn first_place(slots: &[Option<Slot>], win: u16) -> Origin
     }
 }
 
-/// Sets the origin of each slot anew.
+/// Sets the origin of each slot again.
 pub fn settle(slots: &mut Vec<Option<Slot>>)
     requires chained { IsChained slots.old.items }
     requires few { length slots.old.items ≤ MOST_WINDOWS + 1 }

@@ -172,7 +172,7 @@ impl Slot {
         self.place
     }
 
-    /// What the window is set to.
+    /// The window's settings.
     pub fn settings(&self) -> Settings
         ensures { result ≡ self.now.settings }
     {
@@ -238,7 +238,7 @@ impl Slot {
         }
     }
 
-    /// Sets what the window is set to; bits beyond the six attributes are dropped.
+    /// Gives the window other settings; bits beyond the six attributes are dropped.
     pub fn set_settings(&mut self, settings: Settings)
         requires cursor_line { settings.cursor.0 < self.old.lines }
         requires cursor_column { settings.cursor.1 < self.old.columns }
@@ -302,7 +302,7 @@ impl Slot {
         }
     }
 
-    /// Takes all touches away, and asks for a clear screen no more.
+    /// Untouches all lines, and asks for a clear screen no more.
     pub fn unmark(&mut self)
         ensures window { window_of self.new ≡ unmarked (window_of self.old) }
         ensures place { StaysInPlace self.old self.new }
@@ -311,7 +311,7 @@ impl Slot {
         self.settings.clear = false;
     }
 
-    /// Touches lines from their first column to their last, from one on, or takes their touches away.
+    /// Touches lines from their first column to their last, from one on, or untouches them.
     pub fn mark(&mut self, first: u16, n: u16, flag: bool)
         requires { first + n ≤ self.old.lines }
         ensures window { window_of self.new ≡ lines_marked first n flag (window_of self.old) }
@@ -395,7 +395,7 @@ fn has_columns(touched: &[Touched]) -> bool
     touched.iter().any(|it| it.columns().is_some())
 }
 
-/// What a new window is set to.
+/// The settings of a new window.
 fn first_settings(lines: u16) -> Settings
     requires { 0 < lines }
     ensures { result ≡ first_settings lines }

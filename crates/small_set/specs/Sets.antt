@@ -2,7 +2,7 @@
 use Rattle.std.specs.Prelude.{◌≡◌, ℕ, ◌/◌, ◌%◌, ◌<◌, ◌≤◌, ◌==◌, Bool, true, false, MatchOption, Option, List, slice_index}
 use Rattle.std.specs.Int.{bit_at}
 
--- the number is one of the set: its bit is set
+-- the number is in the set: its bit is set
 abbrev pub contains : List ℕ → ℕ → Bool
 contains words n = bit_at (slice_index words (n / 64)) (n % 64) == 1
 

@@ -28,14 +28,14 @@ impl Model for SmallSet {
 }
 
 impl SmallSet {
-    /// No number.
+    /// The empty set.
     pub fn new() -> SmallSet
         ensures { (n : ℕ) → contains result n ≡ false }
     {
         SmallSet { words: [0; 16] }
     }
 
-    /// Takes a number in.
+    /// Adds a number.
     pub fn insert(&mut self, number: u16)
         requires { number < CAPACITY }
         ensures { (n : ℕ) → contains self.new n ≡ (n == number || contains self.old n) }
@@ -43,7 +43,7 @@ impl SmallSet {
         self.words[usize::from(number / WIDTH)] |= 1 << (number % WIDTH);
     }
 
-    /// Takes a number out.
+    /// Removes a number.
     pub fn remove(&mut self, number: u16)
         requires { number < CAPACITY }
         ensures { (n : ℕ) → contains self.new n ≡ (if n == number then false else contains self.old n) }
@@ -84,7 +84,7 @@ impl SmallSet {
         Some(at * WIDTH + lowest_bit(word))
     }
 
-    /// Takes all numbers out.
+    /// Removes all numbers.
     pub fn clear(&mut self)
         ensures { (n : ℕ) → contains self.new n ≡ false }
     {

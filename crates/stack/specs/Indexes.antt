@@ -1,4 +1,5 @@
--- By which the least free number and the panel of a window are found: the set of the numbers that are taken, and a panel for each window.
+-- The indexes by which the least free number and the panel of a window are found: the set of the numbers that are taken, and a panel for
+-- each window.
 use Rattle.std.specs.Prelude.{◌≡◌, ℕ, ◌+◌, ◌<◌, ◌≤◌, ◌==◌, ◌||◌, Bool, if◌then◌else◌, Option, None, Some, is_some, List, length, slice_index_or}
 use Rattle.cell.specs.declared.limits.TheConstants.{MOST_PANELS}
 use Rattle.stack.specs.Nodes.{window_at}

@@ -6,7 +6,7 @@
 //! - `holders`: the panel of each window
 //! - `links`: a panel leaves the order, or enters it
 //! - `nodes`: panels by number, with their neighbours
-//! - `queries`: what is asked of panels
+//! - `queries`: queries about panels
 //! - `table`: the `Stack`
 //! - `visible`: walks through the order
 #![tactic(auto)]

@@ -1,4 +1,4 @@
-//! The nodes through which the order of the visible panels is threaded.
+//! The nodes of the doubly linked list of the visible panels.
 
 ghost use Rattle.std.specs.Prelude.{◌≡◌, ◌<◌, ◌≤◌, ◌++◌, ◌∷◌, ◌==◌, [], ℕ, false, true, None, Some, MatchOption, length, slice_set, is_ok, if◌then◌else◌, ⊤};
 ghost use Rattle.std.specs.Option.{option_map};
@@ -14,8 +14,8 @@ use small_set::SmallSet;
 use std::alloc::{AllocError, Global};
 use std::marker::Model;
 
-/// The window of a panel, and the panels right above and below. A node that no panel has, has no window, and one that isn't
-/// in the order names itself.
+/// The window of a panel, and the panels right above and below. A node without a panel has no window, and one that isn't in the order names
+/// itself.
 #[derive(Clone, Copy)]
 pub struct Node {
     pub window: Option<WinId>,

@@ -1,4 +1,4 @@
-//! What the stack is asked. No query changes it.
+//! Queries about panels. None changes the stack.
 
 ghost use Rattle.std.specs.Prelude.{◌≡◌, Some, IfOk, IfSome, is_some, reverse, length, ◌≤◌};
 ghost use Rattle.std.specs.Result.{result_err};

@@ -26,7 +26,7 @@ impl Model for Stack {
 }
 
 impl Stack {
-    /// No panels. It takes no memory.
+    /// A stack of no panels. It takes no memory.
     pub fn new(alloc: Global) -> Stack
         ensures { panels result ≡ first_panels }
     {

@@ -1,7 +1,7 @@
 -- How the failures of a sink or a source are counted. No standard says it; the answers are those of Rust's std::io.
 use Rattle.std.specs.Prelude.{ℕ, ◌+◌, ◌%◌, ◌^◌, ◌==◌, ◌&&◌, nat_lt, if◌then◌else◌, Bool, List, length}
 
--- a count that goes on from the greatest u64 to 0
+-- a counter that wraps around from the greatest u64 to 0
 abbrev pub next_count : ℕ → ℕ
 next_count n = (n + 1) % 2 ^ 64
 

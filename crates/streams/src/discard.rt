@@ -5,7 +5,7 @@ ghost use Rattle.std.specs.Prelude.{◌≡◌, None, false};
 use crate::sink::Sink;
 use std::io;
 
-/// Takes every byte, and keeps none. It never fails.
+/// A sink that takes every byte, and keeps none. It never fails.
 #[derive(Drop)]
 pub struct Discard {
     flushes: u64,

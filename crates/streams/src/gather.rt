@@ -1,4 +1,4 @@
-//! Gathering a text in fixed room before it is sent.
+//! Gathering a text in a buffer of fixed size before it is sent.
 
 ghost use Rattle.std.specs.Prelude.{◌≡◌, ◌≤◌, ◌+◌, ◌++◌, decimal, length};
 
@@ -8,7 +8,7 @@ use itoa::Buffer;
 /// The most digits of a u64 in decimal.
 pub const MOST_DECIMAL_DIGITS: usize = 20;
 
-/// Puts bytes at the end of a text that has room for them.
+/// Appends bytes to a text that has room for them.
 pub fn append<const N: usize>(text: &mut ArrayVec<u8, N>, piece: &[u8])
     requires { length text.old.items + length piece.now ≤ N }
     ensures { text.new.items ≡ text.old.items ++ piece.now }
@@ -18,7 +18,7 @@ pub fn append<const N: usize>(text: &mut ArrayVec<u8, N>, piece: &[u8])
     }
 }
 
-/// Puts a number in decimal at the end of a text that has room for the greatest one.
+/// Appends a number in decimal to a text that has room for the greatest one.
 pub fn append_decimal<const N: usize>(text: &mut ArrayVec<u8, N>, n: u64)
     requires { length text.old.items + MOST_DECIMAL_DIGITS ≤ N }
     ensures text { text.new.items ≡ text.old.items ++ decimal n }

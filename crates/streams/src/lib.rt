@@ -1,7 +1,7 @@
 //! Streams of bytes: what takes them and what gives them, with a count of their failures.
 //!
 //! - `discard`: a sink that keeps nothing
-//! - `gather`: a text in fixed room
+//! - `gather`: a text in a buffer of fixed size
 //! - `sending`: a piece, through short writes
 //! - `sink`: where bytes go
 //! - `source`: where bytes come from

@@ -1,4 +1,4 @@
-//! What takes the bytes of a text.
+//! Sinks: what takes the bytes of a text.
 
 ghost use Rattle.std.specs.Prelude.{◌≡◌, ℕ, false, is_err};
 ghost use Rattle.std.specs.Io.{WritesAtMost};
@@ -27,7 +27,7 @@ pub trait Sink {
         ensures flushed { (seen self.new).flushed ≡ flushed_after_write (seen self.old).flushed result }
         ensures same { name self.new ≡ name self.old };
 
-    /// Passes on all that was taken.
+    /// Flushes: passes on all bytes that were taken.
     fn flush(&mut self) -> io::Result<()>
         ensures bytes { Keeps (seen self.old).taken (seen self.new).taken }
         ensures failures { (seen self.new).failures ≡ counted (is_err result) (seen self.old).failures }
@@ -50,7 +50,7 @@ impl<S: Sink> Sink for &mut S {
     }
 }
 
-/// Makes a sink of any writer.
+/// A sink made of any writer.
 #[derive(Drop)]
 pub struct Counted<W> {
     writer: W,
@@ -79,7 +79,7 @@ impl<W: Write> Counted<W> {
         &self.writer
     }
 
-    /// The writer again.
+    /// Gives the writer back.
     pub fn into_inner(self) -> W
         ensures { W.contents result ≡ (⟦<Counted<W> as Sink>⟧.seen self).taken }
     {

@@ -1,4 +1,4 @@
-//! What gives the bytes of a text.
+//! Sources: what gives the bytes of a text.
 
 ghost use Rattle.std.specs.Prelude.{◌≡◌, ◌-◌, ◌^◌, ◌||◌, false, is_err, IsErr};
 ghost use Rattle.std.specs.Io.{ReadsAtMost};
@@ -26,7 +26,7 @@ pub trait Source {
         ensures exhausted { (seen self.old).reads_left ≡ 0 → IsErr result };
 }
 
-/// Makes a source of any reader. After 2^64 - 1 reads each further one is an error.
+/// A source made of any reader. After 2^64 - 1 reads each further one is an error.
 #[derive(Drop)]
 pub struct CountedReader<R> {
     reader: R,

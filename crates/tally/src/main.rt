@@ -1,4 +1,4 @@
-//! Makes the calls of a script on a screen, and puts out how many cells each `update_panels` of it read.
+//! Makes the calls of a script on a screen, and prints how many cells each `update_panels` of it read.
 #![tactic(auto)]
 
 use cell::Refusal;
@@ -21,7 +21,7 @@ fn main(rt: HostRuntime) -> ExitCode {
     }
 }
 
-/// A blank screen of the size that the words tell, over a sink that keeps nothing.
+/// A blank screen of the size that the words give, over a sink that keeps nothing.
 fn screen_of(rt: &HostRuntime) -> io::Result<Screen<Discard>> {
     let alloc = rt.alloc();
     let words: Vec<String> = env::args(rt)?.collect(alloc)?;
@@ -60,7 +60,7 @@ fn composed(
     }
 }
 
-/// Makes the calls of the script on standard input, up to its first fault, and puts out each count in a line.
+/// Makes the calls of the script on standard input, up to its first fault, and prints each count in a line.
 fn run(rt: &HostRuntime) -> io::Result<()> {
     let mut screen = screen_of(rt)?;
     let mut text = Vec::new(rt.alloc());

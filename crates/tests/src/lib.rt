@@ -1,5 +1,6 @@
-//! The tests of the libraries below `compose`, a module for each; those of `compose` and `desk` are in `screen_tests`. They make public calls alone; a library whose tests look at what it keeps to itself has its
-//! own. They are proved once, over the proved libraries: a library with tests in its sources would be proved once more for them.
+//! The tests of the libraries below `compose`, a module for each; those of `compose` and `desk` are in `screen_tests`. They make public
+//! calls alone; a library with tests of its private parts has its own. They are proved once, over the proved libraries: a library with
+//! tests in its sources would be proved once more for them.
 #![tactic(auto)]
 
 #[cfg(test)]

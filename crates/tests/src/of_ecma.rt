@@ -1,4 +1,4 @@
-//! Each kind of token, spelled. The bytes were written by hand, from the table of control functions.
+//! The bytes of each kind of token, written by hand from the table of control functions.
 
 ghost use Rattle.ecma.specs.Spelling.{IsToken};
 

@@ -11,7 +11,7 @@ use Rattle.world.specs.declared.call.Copying.{Copying}
 use Rattle.world.specs.declared.call.Writing.{Writing}
 use Rattle.grids.specs.Tables.{WindowTable, windows}
 
--- it was refused exactly as its tests have it, and then nothing changed; else the frame and the windows are those of its effect
+-- it was refused exactly by its tests, and then nothing changed; else the frame and the windows are those of its effect
 pub record Drew {T : Type 0} (frame_of : T → Option Rect) (old : WindowTable) (refusal : Option Refusal) (change : Change) (r : Result T Refusal) (new : WindowTable)
     : Type 0 where
   pub refused : result_err r ≡ refusal

@@ -1,4 +1,4 @@
-//! The drawings of the writing calls, made of writes of one line each. The window must be there, with the state handed over.
+//! The drawings of the writing calls, made of writes of one line each. The window must exist and have the given state.
 
 ghost use Rattle.std.specs.Prelude.{◌≡◌, ◌<◌, ◌≤◌, ◌+◌, ◌-◌, false};
 ghost use Rattle.world.specs.Windows.{put};

@@ -1,4 +1,4 @@
-//! What a window is asked besides what its table knows.
+//! The query about a window that reads a cell.
 
 ghost use Rattle.world.specs.calls.Queries.{cell_at_cursor};
 ghost use Rattle.world.specs.declared.call.Query.{Query};

@@ -1,4 +1,4 @@
-//! What a call asks of its window first, and its cursor.
+//! What a call reads of its window first, and its cursor.
 
 ghost use Rattle.std.specs.Prelude.{◌≡◌, ◌<◌, MatchResult, None};
 ghost use Rattle.world.specs.Settings.{set, with_cursor};
@@ -10,7 +10,7 @@ use cell::{Refusal, WinId};
 use grids::Grids;
 use world::Settings;
 
-/// The size of a window, and what it is set to.
+/// The size and the settings of a window.
 #[derive(Clone, Copy)]
 pub struct WindowState {
     pub lines: u16,
@@ -18,7 +18,7 @@ pub struct WindowState {
     pub settings: Settings,
 }
 
-/// The size of a window and what it is set to, or that there is no such window.
+/// The size and the settings of a window, or that there is no such window.
 pub fn state_of(table: &Grids, win: WinId) -> Result<WindowState, Refusal>
     ensures state { MatchResult result
         (λ state. IsStateOf (windows table.now) win.0 state)
@@ -33,7 +33,7 @@ pub fn state_of(table: &Grids, win: WinId) -> Result<WindowState, Refusal>
     })
 }
 
-/// Moves the cursor. The window must be there, with the state handed over, and hold the place.
+/// Moves the cursor. The window must exist, have the given state, and hold the place.
 pub fn set_cursor(table: &mut Grids, win: WinId, state: &WindowState, y: u16, x: u16)
     requires state { IsStateOf (windows table.old) win.0 state.now }
     requires line { y < state.now.lines }

@@ -1,4 +1,4 @@
--- What the writing calls draw in a window. Places past the window's edges don't count.
+-- What the writing calls draw in a window. Places past the window's edges are ignored.
 -- X/Open Curses Issue 7: addch ("Rendition of characters placed into a window"), clrtoeol, clrtobot, erase, insch, delch, insertln,
 -- deleteln, scrl.
 use Rattle.std.specs.Prelude.{ℕ, ◌+◌, ◌-◌, if◌then◌else◌, ◌==◌, ◌&&◌, ◌||◌, nat_lt, nat_le, Some, None}

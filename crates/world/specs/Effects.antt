@@ -1,5 +1,5 @@
 -- What calls do, said once for each effect: a call is its tests and one of these effects.
--- X/Open Curses Issue 7 and NetBSD panel(3) say what each call does; that so few effects make them all up is Curspan's own finding.
+-- X/Open Curses Issue 7 and NetBSD panel(3) say what each call does; that these few effects cover them all is Curspan's own finding.
 use Rattle.std.specs.Prelude.{ℕ, Bool, true, false, if◌then◌else◌, ◌==◌, ◌||◌, Option, Some, None, List, [], ◌∷◌, ◌++◌, slice_set}
 use Rattle.std.specs.List.{list_any}
 use Rattle.std.specs.Option.{option_map, option_map_or}
@@ -176,9 +176,9 @@ order_takes_memory (carries p place) = false
 
 -- ---- on the world
 
--- arranges: as above, and the virtual screen stays. refreshes: a drawing is laid over the virtual screen, which takes a cursor, and the lines
--- of a window that pass a test are untouched. composes: the virtual screen is the picture of the world. shows: it was sent, and the terminal
--- needn't be cleared any more. colours: those of a pair.
+-- arranges: a change of the panels or windows, as above; the virtual screen stays. refreshes: a drawing is laid over the virtual screen,
+-- which takes a cursor, and the lines of a window that pass a test are untouched. composes: the virtual screen is the picture of the world.
+-- shows: it was sent, and the terminal needn't be cleared any more. colours: those of a pair.
 pub data Effect : Type 0 where
   arranges : Order → Effect
   refreshes : ℕ → (ℕ → Bool) → Drawing → Place → Effect

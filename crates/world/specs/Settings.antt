@@ -1,4 +1,4 @@
--- What a window is set to.
+-- The settings of a window.
 -- X/Open Curses Issue 7: move, attrset, bkgdset, setscrreg, scrollok, clearok.
 use Rattle.std.specs.Prelude.{ℕ}
 use Rattle.cell.specs.Attributes.{bits_of, known}

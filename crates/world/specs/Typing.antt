@@ -1,5 +1,5 @@
 -- Typing characters in a window: what each draws, and where the cursor goes.
--- X/Open Curses Issue 7: addch, addstr. Where the cursor goes at the ends of lines and of the window, and what scrolls there, is Curspan's
+-- X/Open Curses Issue 7: addch, addstr. Where the cursor goes at the ends of lines and of the window, and what scrolls then, is Curspan's
 -- own choice.
 use Rattle.std.specs.Prelude.{ℕ, ◌+◌, ◌-◌, Bool, if◌then◌else◌, ◌==◌, ◌&&◌, ◌||◌, nat_lt, Option, None, List, [], ◌∷◌, fold}
 use Rattle.std.specs.Option.{option_and_then}

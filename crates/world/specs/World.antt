@@ -25,7 +25,7 @@ topmost_cursor world = cursor_of_topmost world.windows.window world.panels
 
 -- ---- a new screen
 
--- what a new window is set to
+-- the settings of a new window
 abbrev pub first_settings : ℕ → Settings
 first_settings lines = record { cursor = origin; region = (0, lines - 1); attrs = record { 0 = 0 }; background = blank; pair = 0; scrolling = false; clear = false }
 

@@ -149,7 +149,7 @@ pub enum Copying {
     Touchwin {
         win: WinId,
     },
-    /// Takes all touches away.
+    /// Untouches all lines.
     Untouchwin {
         win: WinId,
     },
@@ -159,18 +159,18 @@ pub enum Copying {
         y: u16,
         n: u16,
     },
-    /// Touches lines, from one on, or takes their touches away.
+    /// Touches lines, from one on, or untouches them.
     Touchln {
         win: WinId,
         y: u16,
         n: u16,
         flag: bool,
     },
-    /// Touches in each ancestor what is touched of the window.
+    /// Touches each ancestor where it shows what is touched of the window.
     Syncup {
         win: WinId,
     },
-    /// Touches what is touched of some ancestor.
+    /// Touches the window where it shows what is touched of an ancestor.
     Syncdown {
         win: WinId,
     },

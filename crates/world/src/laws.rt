@@ -103,7 +103,7 @@ pub fn kept_by_stacking()
         ≡ found_from_top windows.window panels y x }
 {}
 
-/// Refreshing changes the picture nowhere: it changes marks, the virtual screen and colours.
+/// Refreshing changes the picture nowhere: it changes touched columns, clear flags, the virtual screen and colours.
 pub fn kept_by_refresh()
     ensures { (world : World) (refresh : Refresh) (y x : ℕ)
         → found_from_top (world_after world (Call.Refresh refresh)).windows.window (world_after world (Call.Refresh refresh)).panels y x
@@ -145,7 +145,7 @@ pub fn joined_frames()
         → IsFrameOf (λ y x. Covers f a.columns a.lines y x ⊎ Covers g a.columns a.lines y x) (joined (frame_of a f) (frame_of a g)) }
 {}
 
-/// Taking marks away changes neither what a search from the top finds nor the topmost's cursor.
+/// Untouching windows and clearing their clear flags changes neither what a search from the top finds nor the topmost's cursor.
 pub fn unmarked_picture()
     ensures found { (window : WindowMap) (ws : List ℕ) (panels : Panels) (y x : ℕ)
         → found_from_top (with_unmarked window ws) panels y x ≡ found_from_top window panels y x }

@@ -4,7 +4,7 @@
 //! - `call`: calls and answers
 //! - `laws`: the laws, each the contract of a function
 //! - `panel`: numbers of panels
-//! - `settings`: what a window is set to, and columns of a line
+//! - `settings`: the settings of a window, and columns of a line
 #![tactic(auto)]
 
 mod call;

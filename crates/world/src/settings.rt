@@ -1,4 +1,4 @@
-//! What a window is set to, and what is touched of it.
+//! The settings of a window, and the columns of a line.
 
 ghost use Rattle.std.specs.Prelude.{◌≡◌, Some};
 ghost use Rattle.world.specs.Windows.{joined_columns};
@@ -27,7 +27,7 @@ impl Columns {
     }
 }
 
-/// What a window is set to. The cursor is a line and a column, the region its first and its last line.
+/// The settings of a window. The cursor is a line and a column, the region its first and its last line.
 #[derive(Clone, Copy, PartialEq, Eq, Debug)]
 pub struct Settings {
     pub cursor: (u16, u16),

@@ -84,7 +84,7 @@ pub extern "C" fn curspan_touchwin(alloc: Global, screen: &mut Handle, win: u16)
     screen.call(alloc, &Call::Copying(Copying::Touchwin { win: WinId(win) }))
 }
 
-/// Takes all touches away.
+/// Untouches all lines.
 #[unsafe(no_mangle)]
 pub extern "C" fn curspan_untouchwin(alloc: Global, screen: &mut Handle, win: u16) -> Answer
     ensures { Called ⟦<Outlet as Sink>⟧ screen.old.value (Call.Copying (Copying.Untouchwin (record { 0 = win }))) result screen.new.value }
@@ -116,7 +116,7 @@ pub extern "C" fn curspan_touchline(
     )
 }
 
-/// Touches lines, from one on, or takes their touches away.
+/// Touches lines, from one on, or untouches them.
 #[unsafe(no_mangle)]
 pub extern "C" fn curspan_wtouchln(
     alloc: Global,
@@ -139,7 +139,7 @@ pub extern "C" fn curspan_wtouchln(
     )
 }
 
-/// Touches in each ancestor what is touched of the window.
+/// Touches each ancestor where it shows what is touched of the window.
 #[unsafe(no_mangle)]
 pub extern "C" fn curspan_wsyncup(alloc: Global, screen: &mut Handle, win: u16) -> Answer
     ensures { Called ⟦<Outlet as Sink>⟧ screen.old.value (Call.Copying (Copying.Syncup (record { 0 = win }))) result screen.new.value }
@@ -147,7 +147,7 @@ pub extern "C" fn curspan_wsyncup(alloc: Global, screen: &mut Handle, win: u16) 
     screen.call(alloc, &Call::Copying(Copying::Syncup { win: WinId(win) }))
 }
 
-/// Touches what is touched of some ancestor.
+/// Touches the window where it shows what is touched of an ancestor.
 #[unsafe(no_mangle)]
 pub extern "C" fn curspan_wsyncdown(alloc: Global, screen: &mut Handle, win: u16) -> Answer
     ensures { Called ⟦<Outlet as Sink>⟧ screen.old.value (Call.Copying (Copying.Syncdown (record { 0 = win }))) result screen.new.value }

@@ -7,7 +7,7 @@ use crate::answer::Answer;
 use crate::handle::Handle;
 use std::alloc::Global;
 
-/// Puts a blank screen of 1 to 999 lines and columns into a handle, in the place of one that was there.
+/// Puts a blank screen of 1 to 999 lines and columns into a handle, in place of one that was there.
 #[unsafe(no_mangle)]
 pub extern "C" fn curspan_open(
     alloc: Global,
@@ -20,7 +20,7 @@ pub extern "C" fn curspan_open(
     screen.open(alloc, lines, columns)
 }
 
-/// Frees the screen of a handle, which is closed then. A closed one stays so.
+/// Frees the screen of a handle and closes it. A closed one stays closed.
 #[unsafe(no_mangle)]
 pub extern "C" fn curspan_close(alloc: Global, screen: &mut Handle)
     ensures { screen.new.value ≡ None }

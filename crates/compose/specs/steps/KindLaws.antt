@@ -108,7 +108,7 @@ of_effect composes h = cc
 of_effect shows h = cc
 of_effect (colours p foreground background) h = refl
 
--- what an accepted call tells that sends nothing
+-- what an accepted call answers that sends nothing
 pub kind-told : (w : World) (damaged : ℕ → Bool) (call : Call) (reply : Reply) → is_doupdate call ≡ false → refusal w call ≡ None → MayTell w damaged call reply
     → IsOfKind (kind_of w call) reply
 kind-told w damaged (calls.Query query) reply other h is = subst (IsOfKind (kind_of_query query)) (sym is) (of_query w.windows query h)

@@ -1,4 +1,4 @@
--- What telling of a script's lines one after another does: words of contracts of single steps.
+-- What reporting a script's lines one after another does: definitions for the contracts of single steps.
 use Rattle.std.specs.Prelude.{◌≡◌, ◌++◌, ◌∷◌, [], ℕ, Bool, true, false, not, List}
 use Rattle.std.specs.List.{flat_map}
 use Rattle.streams.specs.Sinks.{Seen}
@@ -21,7 +21,7 @@ finding_of_read number line true ReadFailed = []
 finding_of_read number line true Newline = finding_of number line (said_by_line line)
 finding_of_read number line true ScriptEnd = finding_of number line (said_by_line line)
 
--- These lines were put out, all of them or a prefix, and counted.
+-- These lines were written, all of them or a prefix, and counted.
 pub record IsReported (old new : Seen) (report : Report) (lines : List (List ℕ)) : Type 0 where
   pub put : PuttingEnds report.is_written old new (flat_map (λ line. line) lines)
   pub faulty : report.faulty ≡ count_of lines

@@ -1,4 +1,4 @@
--- What reading a stream into a terminal does: words of contracts of single steps.
+-- What reading a stream into a terminal does: definitions for the contracts of single steps.
 use Rattle.std.specs.Prelude.{◌≡◌, ◌⊎◌, ℕ, Bool, List, Option, Some, None}
 use Rattle.ecma.specs.Standing.{Follows, Reader}
 use Rattle.ecma.specs.declared.terminal.NotInProfile.{NotInProfile}
@@ -13,7 +13,7 @@ pub record Feeds (old new : SourceSeen) (before after : Reader) (is_whole : Bool
   pub reads : ReadsStream old new is_whole stream
   pub follows : Follows stream before after
 
--- The log tells of the terminal's fault, if it has one.
+-- The log gets a line about the terminal's fault, if it has one.
 abbrev pub TellsFault : Option NotInProfile → Seen → Seen → ℕ → Type 0
 TellsFault None log told status = (status ≡ 0) × (told ≡ log)
 TellsFault (Some fault) log told status =

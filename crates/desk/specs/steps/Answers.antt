@@ -1,4 +1,4 @@
--- A call's end as the log sees it: an answer, or a text that was cut short.
+-- A call's end as the log has it: an answer, or a text that was cut short.
 use Rattle.std.specs.Prelude.{Result, Ok, Err}
 use Rattle.cell.specs.declared.refusal.Refusal.{Refusal}
 use Rattle.streams.specs.declared.sending.WriteFault.{WriteFault}

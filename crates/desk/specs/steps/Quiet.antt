@@ -1,4 +1,4 @@
--- Doupdate is the only call that sends, and the others may answer what a desk tells.
+-- Doupdate is the only call that sends, and the others may answer what a desk answers.
 use Rattle.std.specs.Prelude.{◌≡◌, ℕ, false, List, [], refl}
 use Rattle.compose.specs.Calling.{MayTell}
 use Rattle.world.specs.calls.Dispatch.{is_doupdate}

@@ -6,7 +6,7 @@ use super::Screen;
 use std::mem::replace;
 
 impl<W> Screen<W> {
-    /// Puts another writer in the place of this one, which comes back. What is known of the terminal stays known.
+    /// Puts another writer in the place of this one, and gives this one back. What is known of the terminal stays known.
     pub fn replace_writer(&mut self, writer: W) -> W
         ensures writer { result ≡ self.old.writer }
         ensures rest { self.new ≡ record self.old { writer = writer } }

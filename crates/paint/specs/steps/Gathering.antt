@@ -8,13 +8,13 @@ use Rattle.paint.specs.declared.outbox.Outbox.{Outbox}
 abbrev pub counted_bytes : ℕ → ℕ
 counted_bytes n = min n (2 ^ 32 - 1)
 
--- A prefix of the text went out, and the rest is in the room; or a write failed somewhere in it.
+-- A prefix of the text went out, and the rest is in the buffer; or a write failed somewhere in it.
 abbrev pub GoesOut : Bool → Seen → Seen → List ℕ → ℕ → List ℕ → Type 0
 GoesOut false start now room sent text =
     (front : List ℕ) × (text ≡ front ++ room) × (sent ≡ counted_bytes (length front)) × Sends start now 0 front (Ok (length front))
 GoesOut true start now room sent text = (taken : ℕ) × (sent ≡ counted_bytes taken) × Sends start now 0 text (Err (record { sent = taken }))
 
--- The sink was seen so at the text's start, and is seen so now.
+-- The text was gathered: the sink was seen as `start` when it began, and is seen as `now`.
 pub record IsGathered (start now : Seen) (outbox : Outbox) (text : List ℕ) : Type 0 where
   pub goes_out : GoesOut outbox.failed start now outbox.room outbox.sent text
 

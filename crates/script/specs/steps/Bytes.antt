@@ -1,4 +1,4 @@
--- What the functions that read a script tell of its bytes: words of their own contracts.
+-- What the functions that read a script ensure about its bytes: definitions for their own contracts.
 use Rattle.std.specs.Prelude.{◌≡◌, ◌+◌, ◌*◌, ℕ, Bool, true, false, List, [], ◌∷◌, ◌++◌, ◌≤◌, ◌<◌, ◌||◌, length, Option, Some, None}
 use Rattle.std.specs.List.{list_any}
 use Rattle.std.specs.Io.KnownBytes.{Consumes, IsAtEnd}

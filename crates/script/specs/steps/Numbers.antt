@@ -1,4 +1,4 @@
--- What the functions that read a number tell of its digits.
+-- What the functions that read a number ensure about its digits.
 use Rattle.std.specs.Prelude.{◌≡◌, ◌^◌, ◌<◌, ℕ, true, List, ◌∷◌, take, Option, Some, None}
 use Rattle.std.specs.List.{list_all, slice_split}
 use Rattle.std.specs.Char.{is_ascii_digit}

@@ -1,4 +1,4 @@
--- What the functions that read a line tell of what they read.
+-- What the functions that read a line ensure about it.
 use Rattle.std.specs.Prelude.{◌≡◌, ℕ, List, ◌∷◌, Option, Some, None, Result, Ok, Err}
 use Rattle.std.specs.List.{slice_split}
 use Rattle.std.specs.Borrow.{Bor}
@@ -22,7 +22,7 @@ Reads (Err fault) a said = said ≡ Err fault
 pub record IsFirst (form : Form) (text piece : List ℕ) (left : List (List ℕ)) : Type 0 where
   pub first : (forms : List Form) → arguments (form ∷ forms) (slice_split is_space text) ≡ piece ∷ arguments forms left
 
--- The first argument was taken and what follows it is left, or it has not its form.
+-- The first argument was taken and what follows it is left, or it lacks its form.
 abbrev pub TakesFirst : Form → List ℕ → Arguments → Arguments → Option (Option (Bor (List ℕ))) → Type 0
 TakesFirst form text old new None = (piece : List ℕ) × (left : List (List ℕ)) × IsFirst form text piece left × (said form piece old ≡ None)
 TakesFirst form text old new (Some after) = (piece : List ℕ) × IsFirst form text piece (pieces_of after) × (said form piece old ≡ Some new)

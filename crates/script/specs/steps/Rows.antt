@@ -1,4 +1,4 @@
--- What the tables of words tell: words of their own contracts.
+-- What the tables of words ensure: definitions for their own contracts.
 use Rattle.std.specs.Prelude.{◌≡◌, ◌≤◌, ◌%◌, ℕ, List, [], ◌∷◌, length, Option, find, map, slice_index_or}
 use Rattle.std.specs.Str.{bytes_eq}
 use Rattle.script.specs.Words.{Arguments, Entry, entry_of, placeless}

@@ -1,4 +1,4 @@
-//! The words of the calls that write, and of those that set how is written.
+//! The words of the calls that write, and of those that set how a window is written in.
 
 ghost use Rattle.script.specs.Words.{writing_entry};
 ghost use Rattle.script.specs.steps.Rows.{IsRow};
@@ -9,7 +9,7 @@ use crate::arguments::Arguments;
 use cell::WinId;
 use world::{Call, Writing};
 
-/// A call that writes or sets how is written, by its word.
+/// A call that writes, or sets how a window is written in, by its word.
 #[rattlefmt::skip]
 #[derive(Clone, Copy, Debug, PartialEq, Eq)]
 pub enum WritingWord {

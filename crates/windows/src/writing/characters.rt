@@ -192,7 +192,7 @@ fn is_bad_character(ch: u8) -> bool
     !(is_printable(ch) || ch == BACKSPACE || ch == NEWLINE || ch == CARRIAGE_RETURN)
 }
 
-/// Writes an accepted character. The window must be there, with the state handed over.
+/// Writes an accepted character. The window must exist and have the given state.
 fn type_character(table: &mut Grids, win: WinId, state: &WindowState, ch: u8) -> Option<Rect>
     requires state { IsStateOf (windows table.old) win.0 state.now }
     requires accepted { is_bad_character ch ≡ false }

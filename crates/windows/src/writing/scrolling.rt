@@ -71,7 +71,7 @@ impl Windows {
     }
 }
 
-/// Moves the lines of the scroll region up by `n`, or down by `-n`. The window must be there, with the state handed over.
+/// Moves the lines of the scroll region up by `n`, or down by `-n`. The window must exist and have the given state.
 fn scroll(table: &mut Grids, win: WinId, state: &WindowState, n: i16) -> Option<Rect>
     requires state { IsStateOf (windows table.old) win.0 state.now }
     ensures written { windows table.new ≡ put (windows table.old) win.0 (scrl_drawing (windows table.old).window win.0 n (window_in_state state.now)) }

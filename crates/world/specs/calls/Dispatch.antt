@@ -1,4 +1,4 @@
--- Each call is two rows: its tests, in their order, and its effect. All else about a call is what holds of the two.
+-- Each call is two rows: its tests, in their order, and its effect. All else about a call follows from the two.
 -- X/Open Curses Issue 7: newwin to mvderwin, addch to bkgdset, overlay to is_wintouched, getyx to inch, doupdate. NetBSD panel(3): new_panel
 -- to panel_hidden, update_panels.
 use Rattle.std.specs.Prelude.{Bool, true, false, Option, List}

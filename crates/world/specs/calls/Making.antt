@@ -132,7 +132,7 @@ reaches_past y x a parent = not (nat_le (y + a.lines) parent.lines && nat_le (x 
 abbrev pub leaves_parent : WindowMap → ℕ → ℕ → ℕ → Bool
 leaves_parent window w y x = option_map_or (λ a. option_map_or (reaches_past y x a) (parent_in window a.backing) false) (window w) false
 
--- as where no window is in a panel
+-- as if no window were in a panel
 abbrev pub in_no_panel : ℕ → Bool
 in_no_panel w = false
 

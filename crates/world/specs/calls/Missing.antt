@@ -1,4 +1,4 @@
--- The one test of a call that any window or pad accepts: that it is there.
+-- The one test of a call that accepts any window or pad: that there is one.
 use Rattle.std.specs.Prelude.{ℕ, Bool}
 use Rattle.cell.specs.declared.refusal.Refusal.{Refusal}
 use Rattle.cell.specs.declared.refusal.Refusal.TheVariants.{NoSuchWindow}

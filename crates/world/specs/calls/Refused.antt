@@ -4,7 +4,7 @@ use Rattle.std.specs.Result.{result_err}
 use Rattle.cell.specs.Refusals.{RefusedBy}
 use Rattle.cell.specs.declared.refusal.Refusal.{Refusal}
 
--- exactly as its tests have it; where it takes memory and none of them holds, also for want of memory
+-- exactly by its tests; where it takes memory and none of them holds, also for lack of memory
 abbrev pub Refused : {T : Type 0} → Bool → Option Refusal → Result T Refusal → Type 0
 Refused true refusal r = RefusedBy refusal r
 Refused false refusal r = result_err r ≡ refusal

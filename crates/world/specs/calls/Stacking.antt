@@ -56,7 +56,7 @@ next_panel panels = unwrap_or (new_panel_number panels) 0
 
 -- ---- tests
 
--- a call that any panel accepts, and one that only a visible panel accepts
+-- a call that accepts any panel, and one that accepts only a visible panel
 abbrev pub panel_tests : Panels → ℕ → List (Bool × Refusal)
 panel_tests panels p = (is_none (panels.window p), NoSuchPanel) ∷ []
 
