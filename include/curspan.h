@@ -13,8 +13,8 @@
        ... write(1, bytes, length) ...
        curspan_close(&screen);
 
-   It is proved of each function here that it does what X/Open Curses and panel(3) say of the call of its name, as the manual
-   of Curspan says it exactly, is safe, and returns. The proof asks of the program: `screen` is a handle that began as
+   It is proved of each function here but curspan_text, which is C, that it does what the definitions of Curspan say of it, as
+   the manual explains them, is safe, and returns. The proof asks of the program: `screen` is a handle that began as
    CURSPAN_INIT, and no other call uses it meanwhile; a text or a buffer has the length that is passed with it, and isn't NULL;
    malloc, realloc and free are those of one allocator.
 
