@@ -44,7 +44,6 @@ pub struct Nodes {
 
 impl Model for Nodes {
     ghost use Rattle.std.specs.Prelude.{List, ◌∷◌};
-    ghost use Rattle.small_set.specs.Sets.{contains};
     ghost use Rattle.stack.specs.Indexes.{IsIndexed};
     ghost use Rattle.stack.specs.declared.nodes.Node.{Node};
 
