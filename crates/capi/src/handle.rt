@@ -48,6 +48,7 @@ impl Handle {
     }
 
     /// Gives the box back, where the handle is open.
+    #[inline(always)]
     pub fn into_loose(self, alloc: Global) -> Option<Loose<Surface, Global>>
         ensures { MatchOption result (self.value ≡ None) (λ l. self.value ≡ Some l.value) }
     {
@@ -71,6 +72,7 @@ impl Handle {
     }
 
     /// Takes the surface out, where the handle is open, and closes it.
+    #[inline(always)]
     fn lift(&mut self, alloc: Global) -> Option<Box<Surface>>
         ensures lifted { MatchOption result (self.old.value ≡ None) (λ surface. self.old.value ≡ Some surface.value) }
         ensures closed { self.new.value ≡ None }
@@ -82,6 +84,7 @@ impl Handle {
     }
 
     /// Puts a surface in. One that was there is freed.
+    #[inline(always)]
     fn put(&mut self, alloc: Global, surface: Box<Surface>)
         ensures { self.new.value ≡ Some surface.value }
     {
@@ -109,6 +112,7 @@ impl Handle {
     }
 
     /// Makes a call on the screen.
+    #[inline(always)]
     pub fn call(&mut self, alloc: Global, call: &Call<'_>) -> Answer
         ensures { Called ⟦<Outlet as Sink>⟧ self.old.value call.now result self.new.value }
     {

@@ -31,6 +31,7 @@ impl Surface {
     }
 
     /// Makes a call, and says all that is known of it.
+    #[inline(always)]
     fn make(&mut self, call: &Call<'_>) -> Result<Reply, Fault>
         ensures { CallMade ⟦<Outlet as Sink>⟧.seen ⟦<Outlet as Sink>⟧.name self.old.screen call.now result self.new.screen }
     {
@@ -38,6 +39,7 @@ impl Surface {
     }
 
     /// Makes a call, and answers C how it ended.
+    #[inline(always)]
     pub fn call(&mut self, call: &Call<'_>) -> Answer
         ensures { Makes ⟦<Outlet as Sink>⟧ self.old call.now result self.new }
     {

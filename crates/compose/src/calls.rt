@@ -55,6 +55,7 @@ pub(crate) fn make_damaging(
 }
 
 /// Makes a call of the table of writing.
+#[inline(always)]
 pub(crate) fn write_damaging(
     windows: &mut Windows,
     stack: &Stack,

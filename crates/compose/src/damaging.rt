@@ -28,6 +28,7 @@ pub enum Affected {
 }
 
 /// Damages what the standard screen and the windows of visible panels show of what a call affected, if it affected something.
+#[inline(always)]
 pub(crate) fn damage_affected(
     damage: &mut Damage,
     table: &Grids,

@@ -28,7 +28,7 @@ use crate::calls::{arrange_damaging, copy_damaging, make_damaging, write_damagin
 use crate::damaging::damage_part;
 use crate::dispatch::{query, refresh};
 use crate::marks::{clear_asked, unmark_composed};
-use crate::methods::Calls;
+use calls::Calls;
 use cell::{Cell, Colour, Grid, PairId, Pairs, Refusal, Shown, VirtualScreen, WinId};
 use grids::Grids;
 use picture::{
@@ -272,6 +272,7 @@ impl Calls for Desk {
 
     ghost made = { Called };
 
+    #[inline(always)]
     fn call(&mut self, call: &Call<'_>) -> Result<Reply, Refusal> {
         match *call {
             Call::Making(making) => make_damaging(

@@ -62,6 +62,7 @@ pub(crate) fn make(table: &mut Grids, stack: &Stack, making: Making) -> Result<C
 }
 
 /// Makes a call of the table of writing.
+#[inline(always)]
 pub(crate) fn write(windows: &mut Windows, writing: Writing<'_>) -> Result<Changed, Refusal>
     ensures refused { result_err result ≡ writing_refusal (windows_of windows.old.table) writing.entry }
     ensures reply { IfOk result (λ changed. changed.reply ≡ Reply.Nothing) }
@@ -230,6 +231,7 @@ fn nothing<T: Copy>(_answer: T) -> Result<Reply, Refusal>
 }
 
 /// The outcome of a call that drew in a window.
+#[inline(always)]
 fn drew(win: WinId, frame: Option<Rect>) -> Result<Changed, Refusal>
     ensures { result ≡ Ok (record { reply = Reply.Nothing; affected = option_map (λ r. Affected.Written win r) frame }) }
 {
@@ -244,6 +246,7 @@ fn drew(win: WinId, frame: Option<Rect>) -> Result<Changed, Refusal>
 }
 
 /// The outcome of a call that set something, and affected nothing that windows show.
+#[inline(always)]
 fn set<T: Copy>(_answer: T) -> Result<Changed, Refusal>
     ensures { result ≡ Ok (record { reply = Reply.Nothing; affected = None }) }
 {

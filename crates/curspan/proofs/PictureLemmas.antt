@@ -6,9 +6,9 @@ use Rattle.world.specs.World.{World}
 use Rattle.script.specs.declared.fault.ScriptEnd.{ScriptEnd}
 use Rattle.script.specs.Log.{last_line}
 use Rattle.script.specs.declared.fault.ScriptFault.TheVariants.{Log}
-use Rattle.curspan.specs.Statuses.{status_of}
+use Rattle.commands.specs.Statuses.{status_of}
 use Rattle.curspan.specs.Serving.{Prints, picture_text}
-use Rattle.curspan.specs.Written.{IsNotWritten, IsTold, IsWritten, Outputs}
+use Rattle.commands.specs.Written.{IsNotWritten, IsTold, IsWritten, Outputs}
 
 without : {X : Type 0} {A : Type 0} (B : X → Type 0) (o : Option X) → is_some o ≡ false → A → MatchOption o A B
 without B None none a = a

@@ -1,5 +1,5 @@
 -- What the program does, by the words of its command line and the status that it answers.
-use Rattle.std.specs.Prelude.{◌≡◌, ◌⊎◌, ◌∷◌, ◌++◌, [], ℕ, List, Some, None, false, is_some, codes, MatchOption}
+use Rattle.std.specs.Prelude.{◌≡◌, ◌⊎◌, ℕ, List, Some, None, false, is_some, MatchOption}
 use Rattle.clap.specs.Words.{IsAmong, Text, fault_of}
 use Rattle.clap.specs.declared.error.kind.ErrorKind.{ErrorKind}
 use Rattle.clap.specs.declared.error.kind.ErrorKind.TheVariants.{DisplayHelp, DisplayVersion, OutOfMemory}
@@ -9,7 +9,6 @@ use Rattle.world.specs.World.{World, first_world, picture, topmost_cursor}
 use Rattle.streams.specs.Sinks.{Seen}
 use Rattle.streams.specs.Sources.{SourceSeen}
 use Rattle.streams.specs.Counts.{counted}
-use Rattle.script.specs.Characters.{newline}
 use Rattle.script.specs.Log.{last_line}
 use Rattle.script.specs.declared.fault.ScriptEnd.{ScriptEnd}
 use Rattle.script.specs.declared.fault.ScriptFault.TheVariants.{Log}
@@ -17,27 +16,16 @@ use Rattle.paint.specs.Updates.{first_painter}
 use Rattle.compose.specs.Desks.{world}
 use Rattle.desk.specs.ScriptEnds.{ScriptEnds, read_failed, write_fault}
 use Rattle.desk.specs.States.{ScreenOver}
-use Rattle.curspan.specs.Checks.{Checks}
-use Rattle.curspan.specs.CommandLine.{Asks, AsksCheck, curspan}
-use Rattle.curspan.specs.Printing.{printed_picture}
-use Rattle.curspan.specs.Shows.{Shows}
-use Rattle.curspan.specs.Spelled.{spelled}
-use Rattle.curspan.specs.Statuses.{status_of}
-use Rattle.curspan.specs.Written.{IsNotWritten, IsTold, IsWritten, Outputs}
-use Rattle.curspan.specs.declared.asked.Job.{Job}
-use Rattle.curspan.specs.declared.asked.Kind.{Kind}
-use Rattle.curspan.specs.declared.asked.Kind.TheVariants.{Run, Paint, Show}
-
--- ---- lack of memory
-
-abbrev pub no_memory_line : List ℕ
-no_memory_line = codes "no memory for the screen" ++ newline ∷ []
-
--- The log gets the line, and nothing went to the output.
-pub record LacksMemory (old new : Outputs) (status : ℕ) : Type 0 where
-  pub status_is : status ≡ 4
-  pub output : new.output ≡ old.output
-  pub tells : IsTold old.log new.log no_memory_line
+use Rattle.commands.specs.Checks.{Checks}
+use Rattle.commands.specs.CommandLine.{Asks, AsksCheck, curspan}
+use Rattle.commands.specs.Printing.{printed_picture}
+use Rattle.commands.specs.Shows.{Shows}
+use Rattle.commands.specs.Spelled.{spelled}
+use Rattle.commands.specs.Statuses.{LacksMemory, status_of}
+use Rattle.commands.specs.Written.{IsNotWritten, IsTold, IsWritten, Outputs}
+use Rattle.commands.specs.declared.asked.Job.{Job}
+use Rattle.commands.specs.declared.asked.Kind.{Kind}
+use Rattle.commands.specs.declared.asked.Kind.TheVariants.{Run, Paint, Show}
 
 -- ---- words that are refused
 

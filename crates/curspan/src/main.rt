@@ -1,30 +1,13 @@
 //! Runs scripts of calls on a screen of windows, and prints the pictures that they leave.
 //!
-//! - `asked`: what the words ask for
-//! - `check`: `check`
-//! - `command`: the command line
-//! - `printing`: the printed picture
-//! - `put`: what is written, and flushed
-//! - `serve`: help, `run` and `paint`
-//! - `show`: `show`
-//! - `spelled`: a usage fault's text
-//! - `status`: the exit statuses
+//! `serve` has help, `run` and `paint`; the command line and what needs no screen is in the library `commands`.
 #![tactic(auto)]
 
-mod asked;
-mod check;
-mod command;
-mod printing;
-mod put;
 mod serve;
-mod show;
-mod spelled;
-mod status;
 
+use commands::{no_memory, tell};
 use desk::{Counted, CountedReader, Sink};
-use put::tell;
 use serve::serve;
-use status::no_memory;
 use std::io::{BufReader, BufWriter, ErrorKind};
 use std::process::ExitCode;
 use std::{env, io};

@@ -4,10 +4,11 @@ ghost use Rattle.std.specs.Prelude.{◌≡◌, ◌<◌, ◌⊎◌, IfOk, None, S
 ghost use Rattle.cell.specs.Refusals.{RefusedBy};
 ghost use Rattle.cell.specs.Shown.{no_rendition};
 ghost use Rattle.clap.specs.Words.{kind_of};
-ghost use Rattle.curspan.specs.CommandLine.{IsSize};
-ghost use Rattle.curspan.specs.Printing.{printed_picture};
-ghost use Rattle.curspan.specs.Serving.{Explains, LacksMemory, Paints, Runs, Serves, ShowsText, Tells, nothing_seen};
-ghost use Rattle.curspan.specs.Written.{WritingEnds, outputs};
+ghost use Rattle.commands.specs.CommandLine.{IsSize};
+ghost use Rattle.commands.specs.Printing.{printed_picture};
+ghost use Rattle.curspan.specs.Serving.{Explains, Paints, Runs, Serves, ShowsText, Tells, nothing_seen};
+ghost use Rattle.commands.specs.Statuses.{LacksMemory};
+ghost use Rattle.commands.specs.Written.{WritingEnds, outputs};
 ghost use Rattle.compose.specs.Desks.{world};
 ghost use Rattle.paint.specs.Updates.{first_painter};
 ghost use Rattle.world.specs.World.{first_world};
@@ -16,17 +17,13 @@ ghost use Rattle.world.specs.calls.Dispatch.{world_after};
 ghost use Rattle.world.specs.declared.call.Call.{Call};
 ghost use Rattle.world.specs.declared.call.Refresh.{Refresh};
 
-use crate::asked::{Asked, Job, Kind};
-use crate::check::check;
-use crate::command::job;
-use crate::printing::print;
-use crate::put::{tell, write_out};
-use crate::show::show;
-use crate::spelled::tell_spelled;
-use crate::status::{ACCEPTED, BAD_TEXT, no_memory, status_of, tell_failure};
 use cell::Rendition;
 use clap::Error;
 use clap::error::ErrorKind;
+use commands::{
+    ACCEPTED, Asked, BAD_TEXT, Job, Kind, check_script, job, no_memory, print, show_stream,
+    status_of, tell, tell_failure, tell_spelled, write_out,
+};
 use desk::{
     Call, Calls, Desk, Refresh, Refusal, Screen, ScriptEnd, ScriptFault, Sink, Source,
     VirtualScreen,
@@ -183,11 +180,11 @@ pub fn serve<'a, S: AsStr, R: Source, O: Sink, L: Sink>(
     ensures log { result < 2 → (L.seen log.new).failures ≡ (L.seen log.old).failures }
 {
     match job(alloc, words) {
-        Ok(Asked::Check) => check(input, out, log),
+        Ok(Asked::Check) => check_script(input, out, log),
         Ok(Asked::Job(job)) => match job.kind {
             Kind::Run => run(alloc, job, input, out, log),
             Kind::Paint => paint(alloc, job, input, out, log),
-            Kind::Show => show(alloc, job, input, out, log),
+            Kind::Show => show_stream(alloc, job, input, out, log),
         },
         Err(error) => usage(alloc, &error, out, log),
     }

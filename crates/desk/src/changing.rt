@@ -19,6 +19,7 @@ use paint::{Changes, Stretch};
 use world::{Call, Columns, Refresh};
 
 /// Adds the columns in which a call, once it is accepted, may change the virtual screen.
+#[inline(always)]
 pub fn widen_for(changes: &mut Changes, desk: &Desk, call: &Call<'_>)
     requires { length changes.old ≡ desk.now.windows.lines }
     ensures height { length changes.new ≡ length changes.old }

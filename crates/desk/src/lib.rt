@@ -9,8 +9,9 @@ mod changing;
 mod run_script;
 mod screen;
 
+pub use calls::{Answer, Calls};
 pub use cell::{Attr, Cell, Refusal, VirtualScreen, WinId};
-pub use compose::{Answer, Calls, Desk};
+pub use compose::Desk;
 pub use screen::{Fault, RunEnd, Screen};
 pub use script::{ScriptEnd, ScriptFault, TextFault};
 pub use streams::{Counted, CountedReader, Sent, Sink, Source, WriteFault};

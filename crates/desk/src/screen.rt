@@ -15,8 +15,9 @@ ghost use Rattle.desk.specs.Runs.{cells_of_reply};
 ghost use Rattle.desk.specs.declared.screen.Fault.TheVariants.{Refused};
 
 use crate::changing::widen_for;
+use calls::Calls;
 use cell::Refusal;
-use compose::{Calls, Desk};
+use compose::Desk;
 use paint::{Changes, Painter};
 use std::alloc::Global;
 use std::marker::Model;
@@ -132,7 +133,7 @@ impl<W: Sink> Screen<W> {
     ghost use Rattle.desk.specs.Ends.{CallEnds, RunEnds, cut_of};
     ghost use Rattle.desk.specs.Showing.{RunShows};
     ghost use Rattle.desk.specs.Methods.{CallMade};
-    ghost use Rattle.compose.specs.Methods.{told};
+    ghost use Rattle.calls.specs.Methods.{told};
 
     /// The windows and the virtual screen.
     pub fn desk(&self) -> &Desk
@@ -171,6 +172,7 @@ impl<W: Sink> Screen<W> {
         self.desk.size().0 > 0
     }
 
+    #[inline(always)]
     pub(crate) fn make_call(&mut self, call: &Call<'_>) -> Result<Reply, Fault>
         ensures call { CallEnds W.seen self.old call.now result self.new }
         ensures failures { (W.seen self.new.writer).failures ≡ counted (is_some (cut_of result)) (W.seen self.old.writer).failures }
@@ -183,6 +185,7 @@ impl<W: Sink> Screen<W> {
     }
 
     /// Makes a call that sends nothing.
+    #[inline(always)]
     fn call_desk(&mut self, call: &Call<'_>) -> Result<Reply, Fault>
         requires { is_doupdate call.now ≡ false }
         ensures call { CallEnds W.seen self.old call.now result self.new }
@@ -267,6 +270,7 @@ impl<W: Sink> Calls for Screen<W> {
     ghost made = { CallMade W.seen W.name };
 
     /// Makes one call, which may be `doupdate`.
+    #[inline(always)]
     fn call(&mut self, call: &Call<'_>) -> Result<Reply, Fault>
         ensures { CallMade W.seen W.name self.old call.now result self.new }
     {

@@ -1,8 +1,9 @@
 //! Tests of a desk. The proof of a test would carry along what is known of each call that it makes, and none of it is needed here: so
 //! helpers without a contract make most calls.
 
+use calls::Calls;
 use cell::{Cell, Refusal, VirtualScreen, WinId};
-use compose::{Calls, Desk, Span};
+use compose::{Desk, Span};
 use std::alloc::Global;
 use std::test::Fail;
 use world::{Call, Composed, Making, PanelId, Reply, Writing};

@@ -22,7 +22,7 @@ use Rattle.world.specs.declared.call.Reply.{Reply}
 use Rattle.world.specs.declared.call.Reply.TheVariants.{Nothing, Number, Pair, Cell, Flag, Panel, Composed, Sent}
 use Rattle.compose.specs.Calling.{Called, MayTell}
 use Rattle.compose.specs.Desks.{DeskTable, is_damaged_line, world}
-use Rattle.compose.specs.Kinds.{IsAnswerTo, IsOfKind, kind_of, kind_of_change, kind_of_effect, kind_of_order, kind_of_query, kind_of_reply, pair, cell}
+use Rattle.calls.specs.Kinds.{IsAnswerTo, IsOfKind, kind_of, kind_of_change, kind_of_effect, kind_of_order, kind_of_query, kind_of_reply, pair, cell}
 
 -- ---- what a call asks for is there where it isn't refused
 

@@ -5,7 +5,7 @@ use Rattle.world.specs.calls.Dispatch.{is_doupdate}
 use Rattle.world.specs.declared.call.Call.{Call}
 use Rattle.world.specs.declared.call.Reply.{Reply}
 use Rattle.compose.specs.Desks.{is_damaged_line, world}
-use Rattle.compose.specs.Kinds.{IsAnswerTo}
+use Rattle.calls.specs.Kinds.{IsAnswerTo}
 use Rattle.compose.specs.steps.KindLaws.{kind-told}
 use Rattle.desk.specs.Methods.{CallMade}
 use Rattle.desk.specs.States.{ScreenOver, state_of}

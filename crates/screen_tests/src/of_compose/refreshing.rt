@@ -1,6 +1,7 @@
 use crate::of_compose::{make, new_desk, shows, wanted_cursor, write};
+use calls::Calls;
 use cell::{Refusal, VirtualScreen, WinId};
-use compose::{Calls, Desk};
+use compose::Desk;
 use std::alloc::Global;
 use std::test::Fail;
 use world::{Making, Writing};

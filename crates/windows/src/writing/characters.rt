@@ -52,7 +52,10 @@ impl Windows {
     pub fn waddstr(&mut self, win: WinId, text: &[u8]) -> Result<Option<Rect>, Refusal>
         ensures { Wrote its_frame self.old.table (Writing.Addstr win text.entry) result self.new.table }
     {
-        state_of(&self.table, win)?;
+        let state = state_of(&self.table, win)?;
+        if is_one_run(&state, text) {
+            return Ok(Some(print_run(&mut self.table, win, &state, text)));
+        }
         if has_bad_character(text) {
             return Err(Refusal::BadCharacter);
         }
@@ -97,6 +100,19 @@ fn has_bad_character(text: &[u8]) -> bool
     ensures { result ≡ list_any is_bad_character text.now }
 {
     !are_printable(text) && text.iter().any(|ch| is_bad_character(*ch))
+}
+
+/// Whether a text has characters, and all are printed in the cursor's line before its last column.
+#[tactic(auto, using(crate::proofs::Texts::none_bad, crate::proofs::Texts::each_printed))]
+fn is_one_run(state: &WindowState, text: &[u8]) -> bool
+    requires { state.now.settings.cursor.1 < state.now.columns }
+    ensures some { result ≡ true → 0 < length text.now }
+    ensures inside { result ≡ true → state.now.settings.cursor.1 + length text.now < state.now.columns }
+    ensures printable { result ≡ true → EachIndex text.now (λ k. is_printable (slice_index text.now k) ≡ true) }
+    ensures accepted { result ≡ true → list_any is_bad_character text.now ≡ false }
+{
+    let room = usize::from(state.columns - 1 - state.settings.cursor.1);
+    0 < text.len() && text.len() <= room && are_printable(text)
 }
 
 /// Writes an accepted text in a window that is there.

@@ -5,8 +5,8 @@ use Rattle.curspan.proofs.PictureLemmas.{Prints-failed, Prints-nothing, Prints-w
 use Rattle.compose.specs.Desks.{world}
 use Rattle.world.specs.World.{World}
 use Rattle.cell.specs.Shown.{no_rendition}
-use Rattle.curspan.specs.Printing.{printed_picture}
-use Rattle.curspan.specs.Written.{IsNotWritten, IsWritten, outputs}
+use Rattle.commands.specs.Printing.{printed_picture}
+use Rattle.commands.specs.Written.{IsNotWritten, IsWritten, outputs}
 use Rattle.curspan.proofs.serve.paint.Goals as goal
 
 pub returns-clause-painted : goal.returns-clause-painted

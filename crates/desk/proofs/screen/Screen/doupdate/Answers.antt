@@ -2,7 +2,7 @@
 use Rattle.world.specs.declared.call.Call.TheVariants.{Refresh}
 use Rattle.world.specs.declared.call.Refresh.TheVariants.{Doupdate}
 use Rattle.world.specs.declared.call.Reply.TheVariants.{Sent}
-use Rattle.compose.specs.Methods.{told}
+use Rattle.calls.specs.Methods.{told}
 use Rattle.desk.proofs.ShowingLemmas.{call-keeps_size, call-shows}
 use Rattle.desk.proofs.screen.Screen.doupdate.Goals as goal
 

@@ -1,0 +1,244 @@
+-- The findings of a script, a line at a time.
+use Rattle.std.proofs.Common.{◌≡◌, ℕ, ◌+◌, ◌≤◌, ◌<◌, List, [], ◌∷◌, ◌++◌, length, Bool, true, false, ◌||◌, not, Err, refl, ap, subst, sym, ◌∙◌, append-nil, append_assoc, length-append, arith}
+use Rattle.std.proofs.Common.{nat_lt, min, ◌==◌}
+use Rattle.std.proofs.lemmas.Bool.{both_ways, false_from_ne_true}
+use Rattle.std.proofs.lemmas.Bool.Decides.{nat_tests}
+use Rattle.std.proofs.lemmas.Grind.{flat_map-append}
+use Rattle.std.proofs.lemmas.List.Folds.{list_any_at}
+use Rattle.std.proofs.lemmas.List.Splits.{length-slice_split, slice_split_at, slice_split_none}
+use Rattle.std.proofs.Math.Seq.{take-append-add}
+use Rattle.std.proofs.KnownBytes.{Appends-trans, Consumes-nil, Consumes-trans}
+use Rattle.std.specs.List.{All, flat_map, slice_split}
+use Rattle.std.specs.Io.KnownBytes.{Consumes}
+use Rattle.streams.specs.Counts.{counted, next_count}
+use Rattle.streams.specs.Sinks.{Seen}
+use Rattle.streams.specs.Sources.{SourceSeen}
+use Rattle.script.specs.Characters.{is_newline}
+use Rattle.script.specs.Readings.{next_number, said_by_line}
+use Rattle.script.specs.declared.bytes.LineEnd.{LineEnd}
+use Rattle.script.specs.declared.bytes.LineEnd.TheVariants.{Newline, ScriptEnd, ReadFailed}
+use Rattle.script.specs.declared.fault.TextFault.TheVariants.{LineTooLong}
+use Rattle.script.specs.declared.limits.TheConstants.{LONGEST_LINE}
+use Rattle.script.specs.steps.Bytes.{EndsLine, HasNoNewline, IsKept, ReadingEnds, ReadsToEnd, end_failed, has_newline, met_end}
+use Rattle.commands.specs.Checks.{count_line, count_of, report, findings, findings_from, finding_of, finding_of_rest}
+use Rattle.commands.specs.Written.{IsNotWritten, WritingEnds}
+use Rattle.commands.specs.declared.check.Report.{Report}
+use Rattle.commands.specs.steps.Checking.{IsReported, ReportsMore, ReportsScript, finding_of_read}
+use Rattle.commands.specs.steps.Putting.{PuttingEnds}
+use Rattle.commands.proofs.PutLemmas.{cut_before, not_put, nothing_put, put_behind}
+
+-- ---- lines with a finding
+
+abbrev flat : List (List ℕ) → List ℕ
+flat lines = flat_map (λ line. line) lines
+
+flat_more : (lines : List (List ℕ)) (text : List ℕ) → flat (lines ++ text ∷ []) ≡ flat lines ++ text
+flat_more lines text = flat_map-append _ lines (text ∷ []) ∙ ap (λ l. flat lines ++ l) (append-nil text)
+
+min_more : (a m : ℕ) → min (min a m + 1) m ≡ min (a + 1) m
+min_more a m = grind (arith, nat_tests)
+
+count_more : (lines : List (List ℕ)) (text : List ℕ) → next_number (count_of lines) ≡ count_of (lines ++ text ∷ [])
+count_more lines text = min_more (length lines) 18446744073709551615 ∙ ap (λ n. min n 18446744073709551615) (sym (length-append lines (text ∷ [])))
+
+pub none_reported : (out : Seen) (report : Report) → report.is_written ≡ true → report.faulty ≡ 0 → IsReported out out report []
+none_reported out report written none = record {
+  put = rw written (nothing_put out);
+  faulty = none;
+}
+
+pub line_reported : (first old new : Seen) (before : Report) (lines : List (List ℕ)) (text : List ℕ) (faulty : ℕ) (is_put : Bool) → IsReported first old before lines
+    → before.is_written ≡ true → faulty ≡ next_number before.faulty → PuttingEnds is_put old new text
+    → IsReported first new (record { faulty = faulty; is_written = is_put }) (lines ++ text ∷ [])
+line_reported first old new before lines text faulty is_put r written more p = record {
+  put = rw (flat_more lines text) (put_behind _ _ _ _ _ _ _ r.put written p);
+  faulty = more ∙ ap next_number r.faulty ∙ count_more lines text;
+}
+
+pub line_dropped : (first old : Seen) (before : Report) (lines : List (List ℕ)) (text : List ℕ) (faulty : ℕ) → IsReported first old before lines → before.is_written ≡ false
+    → faulty ≡ next_number before.faulty → IsReported first old (record { faulty = faulty; is_written = false }) (lines ++ text ∷ [])
+line_dropped first old before lines text faulty r written more = record {
+  put = rw (flat_more lines text) (cut_before _ _ _ _ _ r.put written);
+  faulty = more ∙ ap next_number r.faulty ∙ count_more lines text;
+}
+
+-- ---- lines that are read
+
+no_newlines : (line : List ℕ) → HasNoNewline line → All (λ b. is_newline b ≡ false) line
+no_newlines line h = λ k d lt. false_from_ne_true _ (λ e. both_ways _ h (list_any_at is_newline line k d lt e))
+
+line_first : (failed : Bool) (n : ℕ) (line : List ℕ) (pieces : List (List ℕ)) → 0 < length pieces
+    → findings_from failed n (line ∷ pieces) ≡ finding_of n line (said_by_line line) ++ findings_from failed (next_number n) pieces
+line_first failed n line [] some = absurd (omega arith)
+line_first true n line (p ∷ ps) some = refl
+line_first false n line (p ∷ ps) some = refl
+
+line_of_script : (failed : Bool) (n : ℕ) (line left : List ℕ) → HasNoNewline line
+    → findings_from failed n (slice_split is_newline (line ++ 10 ∷ left)) ≡ finding_of n line (said_by_line line) ++ findings_from failed (next_number n) (slice_split is_newline left)
+line_of_script failed n line left h =
+    ap (findings_from failed n) (slice_split_at is_newline line 10 left (no_newlines line h) refl)
+    ∙ line_first failed n line (slice_split is_newline left) (omega (arith, length-slice_split is_newline left))
+
+long_test : (line : List ℕ) → LONGEST_LINE < length line → nat_lt LONGEST_LINE (length line) ≡ true
+long_test line h = grind (arith, nat_tests)
+
+short_test : (line : List ℕ) → length line ≤ LONGEST_LINE → nat_lt LONGEST_LINE (length line) ≡ false
+short_test line h = grind (arith, nat_tests)
+
+long_line : (line : List ℕ) → LONGEST_LINE < length line → said_by_line line ≡ Err LineTooLong
+long_line line h = rw (long_test line h) refl
+
+-- the finding of a line, kept or not, is by what it says
+told_is : (n : ℕ) (line kept : List ℕ) (is_kept : Bool) (end : LineEnd) → IsKept is_kept line kept → end_failed end ≡ false
+    → finding_of_read n kept is_kept end ≡ finding_of n line (said_by_line line)
+told_is n line kept true Newline k e = ap (λ l. finding_of n l (said_by_line l)) k.0
+told_is n line kept true ScriptEnd k e = ap (λ l. finding_of n l (said_by_line l)) k.0
+told_is n line kept is_kept ReadFailed k e = cc
+told_is n line kept false end k e = sym (ap (finding_of n line) (long_line line k))
+
+told_is_rest : (n : ℕ) (line kept : List ℕ) (is_kept : Bool) → IsKept is_kept line kept → finding_of_read n kept is_kept ReadFailed ≡ finding_of_rest n line
+told_is_rest n line kept true k = rw (short_test line k.1) refl
+told_is_rest n line kept false k = rw (long_test line k) refl
+
+-- The findings of the lines of a script that were read, and what is left of it.
+pub record Checking (input rest : SourceSeen) (out after : Seen) (unused : List ℕ) (number : ℕ) (report : Report) : Type 0 where
+  pub text : List ℕ
+  pub lines : List (List ℕ)
+  pub read : Consumes input.left rest.left text
+  pub met : rest.met_end ≡ input.met_end
+  pub read_once : input.met_end ≡ false → rest.read_past_end ≡ input.read_past_end
+  pub failures : rest.failures ≡ input.failures
+  pub reported : IsReported out after report lines
+  pub says : (failed : Bool) (more : List ℕ) → findings failed (text ++ more) ≡ lines ++ findings_from failed number (slice_split is_newline (unused ++ more))
+
+pub checking_none : (input : SourceSeen) (out : Seen) (unused : List ℕ) (report : Report) → unused ≡ [] → report.is_written ≡ true → report.faulty ≡ 0
+    → Checking input input out out unused 1 report
+checking_none input out unused report e written none = record {
+  text = [];
+  lines = [];
+  read = Consumes-nil _;
+  met = refl;
+  read_once = λ unmet. refl;
+  failures = refl;
+  reported = none_reported out report written none;
+  says = λ failed more. rw e refl;
+}
+
+-- How the reading of a whole line ends.
+abbrev pub LineReadingEnds : SourceSeen → SourceSeen → List ℕ → List ℕ → LineEnd → Type 0
+LineReadingEnds old new unused left end = ReadingEnds old new unused left (met_end end) (end_failed end) (has_newline end)
+
+newline_ends : (end : LineEnd) (all line left : List ℕ) → end ≡ Newline → EndsLine end all line left → all ≡ line ++ 10 ∷ left
+newline_ends Newline all line left e h = h
+newline_ends ScriptEnd all line left e h = cc
+newline_ends ReadFailed all line left e h = cc
+
+pub checking_next : (input r1 r2 : SourceSeen) (out o1 o2 : Seen) (unused left kept : List ℕ) (n : ℕ) (before after : Report) (is_kept : Bool) (end : LineEnd)
+    → Checking input r1 out o1 unused n before → (r : ReadsToEnd r1 r2 unused left end) → IsKept is_kept r.line kept → end ≡ Newline
+    → LineReadingEnds r1 r2 unused left end
+    → ReportsMore o1 o2 before after (finding_of_read n kept is_kept end) → Checking input r2 out o2 left (next_number n) after
+checking_next input r1 r2 out o1 o2 unused left kept n before after is_kept end s r k is reading more =
+    let all = newline_ends end (unused ++ r.bytes) r.line left is r.ends in
+    let same = told_is n r.line kept is_kept end k (ap end_failed is) in
+    record {
+      text = s.text ++ r.bytes;
+      lines = s.lines ++ finding_of_read n kept is_kept end;
+      read = Consumes-trans _ _ _ _ _ s.read r.read;
+      met = reading.ended ∙ ap (λ e. met_end e || r1.met_end) is ∙ s.met;
+      read_once = λ unmet. reading.past (s.met ∙ unmet) ∙ s.read_once unmet;
+      failures = reading.failures ∙ ap (λ e. counted (end_failed e) r1.failures) is ∙ s.failures;
+      reported = more out s.lines s.reported;
+      says = λ failed m.
+          ap (findings failed) (append_assoc s.text r.bytes m) ∙ s.says failed (r.bytes ++ m)
+          ∙ ap (λ l. s.lines ++ findings_from failed n (slice_split is_newline l)) (sym (append_assoc unused r.bytes m) ∙ ap (λ l. l ++ m) all ∙ append_assoc r.line (10 ∷ left) m)
+          ∙ ap (λ l. s.lines ++ l) (line_of_script failed n r.line (left ++ m) r.no_newline)
+          ∙ ap (λ l. s.lines ++ (l ++ findings_from failed (next_number n) (slice_split is_newline (left ++ m)))) (sym same)
+          ∙ sym (append_assoc s.lines (finding_of_read n kept is_kept end) (findings_from failed (next_number n) (slice_split is_newline (left ++ m))));
+    }
+
+end_is_all : (end : LineEnd) (all line left : List ℕ) → end ≡ ScriptEnd → EndsLine end all line left → all ≡ line
+end_is_all Newline all line left e h = cc
+end_is_all ScriptEnd all line left e h = h.0
+end_is_all ReadFailed all line left e h = cc
+
+failed_is_all : (end : LineEnd) (all line left : List ℕ) → end ≡ ReadFailed → EndsLine end all line left → all ≡ line
+failed_is_all Newline all line left e h = cc
+failed_is_all ScriptEnd all line left e h = cc
+failed_is_all ReadFailed all line left e h = h.0
+
+pub checked_all : (input r1 r2 : SourceSeen) (out o1 o2 : Seen) (unused left kept : List ℕ) (n : ℕ) (before after : Report) (is_kept : Bool) (end : LineEnd)
+    → Checking input r1 out o1 unused n before → (r : ReadsToEnd r1 r2 unused left end) → IsKept is_kept r.line kept → end ≡ ScriptEnd
+    → LineReadingEnds r1 r2 unused left end
+    → ReportsMore o1 o2 before after (finding_of_read n kept is_kept end) → ReportsScript input r2 out o2 true after
+checked_all input r1 r2 out o1 o2 unused left kept n before after is_kept end s r k is reading more =
+    let all = end_is_all end (unused ++ r.bytes) r.line left is r.ends in
+    let says : findings false (s.text ++ r.bytes) ≡ s.lines ++ finding_of_read n kept is_kept end =
+    s.says false r.bytes
+    ∙ ap (λ l. s.lines ++ findings_from false n (slice_split is_newline l)) all
+    ∙ ap (λ ps. s.lines ++ findings_from false n ps) (slice_split_none is_newline r.line (no_newlines r.line r.no_newline))
+    ∙ ap (λ l. s.lines ++ l) (append-nil (finding_of n r.line (said_by_line r.line)) ∙ sym (told_is n r.line kept is_kept end k (ap end_failed is))) in
+    record {
+      text = s.text ++ r.bytes;
+      reads = record {
+        read = Consumes-trans _ _ _ _ _ s.read r.read;
+        whole = (reading.ended ∙ ap (λ e. met_end e || r1.met_end) is, r.at_end (ap met_end is));
+        failures = reading.failures ∙ ap (λ e. counted (end_failed e) r1.failures) is ∙ s.failures;
+        read_once = λ unmet. reading.past (s.met ∙ unmet) ∙ s.read_once unmet;
+      };
+      reported = subst (IsReported out o2 after) (sym says) (more out s.lines s.reported);
+    }
+
+pub checked_front : (input r1 r2 : SourceSeen) (out o1 o2 : Seen) (unused left kept : List ℕ) (n : ℕ) (before after : Report) (is_kept : Bool) (end : LineEnd)
+    → Checking input r1 out o1 unused n before → (r : ReadsToEnd r1 r2 unused left end) → IsKept is_kept r.line kept → end ≡ ReadFailed
+    → LineReadingEnds r1 r2 unused left end
+    → ReportsMore o1 o2 before after (finding_of_read n kept is_kept end) → ReportsScript input r2 out o2 false after
+checked_front input r1 r2 out o1 o2 unused left kept n before after is_kept end s r k is reading more =
+    let all = failed_is_all end (unused ++ r.bytes) r.line left is r.ends in
+    let says : findings true (s.text ++ r.bytes) ≡ s.lines ++ finding_of_read n kept is_kept end =
+    s.says true r.bytes
+    ∙ ap (λ l. s.lines ++ findings_from true n (slice_split is_newline l)) all
+    ∙ ap (λ ps. s.lines ++ findings_from true n ps) (slice_split_none is_newline r.line (no_newlines r.line r.no_newline))
+    ∙ ap (λ l. s.lines ++ l) (sym (told_is_rest n r.line kept is_kept k) ∙ ap (finding_of_read n kept is_kept) (sym is)) in
+    record {
+      text = s.text ++ r.bytes;
+      reads = record {
+        read = Consumes-trans _ _ _ _ _ s.read r.read;
+        whole = tt;
+        failures = reading.failures ∙ ap (λ e. counted (end_failed e) r1.failures) is ∙ ap (counted true) s.failures;
+        read_once = λ unmet. reading.past (s.met ∙ unmet) ∙ s.read_once unmet;
+      };
+      reported = subst (IsReported out o2 after) (sym says) (more out s.lines s.reported);
+    }
+
+-- ---- the end of a report
+
+pub reported_fails : (first old : Seen) (before : Report) (lines : List (List ℕ)) (behind : List ℕ) → IsReported first old before lines → before.is_written ≡ false
+    → IsNotWritten first old (flat lines ++ behind)
+reported_fails first old before lines behind r written =
+    not_put first old (flat lines ++ behind) false (cut_before _ _ _ _ _ r.put written) refl
+
+same_end : (a s b : ℕ) → (s == b) ≡ (a + s == a + b)
+same_end a s b = grind (arith, nat_tests)
+
+pub reported_ends : (first old new : Seen) (before : Report) (lines : List (List ℕ)) (behind : List ℕ) (written : Bool) → IsReported first old before lines
+    → before.is_written ≡ true → WritingEnds written old new behind → WritingEnds written first new (flat lines ++ behind)
+reported_ends first old new before lines behind true r written h = record {
+  taken = Appends-trans _ _ _ _ _ (r.put.taken written) h.taken;
+  no_failure = h.no_failure ∙ r.put.failures ∙ ap (λ b. counted (not b) first.failures) written;
+  flushes = h.flushes ∙ ap next_count r.put.flushes;
+  flushed = h.flushed;
+}
+reported_ends first old new before lines behind false r written h = record {
+  sent = length (flat lines) + h.sent;
+  within = omega (arith, h.within, length-append (flat lines) behind);
+  taken = rw (take-append-add (flat lines) behind h.sent) (Appends-trans _ _ _ _ _ (r.put.taken written) h.taken);
+  failure = h.failure ∙ ap next_count (r.put.failures ∙ ap (λ b. counted (not b) first.failures) written);
+  flushes = h.flushes ∙ ap (counted (h.sent == length behind)) r.put.flushes
+      ∙ ap (λ b. counted b first.flushes) (same_end (length (flat lines)) h.sent (length behind) ∙ ap (λ n. length (flat lines) + h.sent == n) (sym (length-append (flat lines) behind)));
+}
+
+-- with how many lines after them
+pub counted_ends : (first old new : Seen) (before : Report) (written : Bool) (count : List ℕ) (lines : List (List ℕ)) → count ≡ count_line before.faulty
+    → before.is_written ≡ true → WritingEnds written old new count → IsReported first old before lines → WritingEnds written first new (report true lines)
+counted_ends first old new before written count lines is all h r =
+    subst (λ t. WritingEnds written first new (flat lines ++ t)) (is ∙ ap count_line r.faulty) (reported_ends first old new before lines count written r all h)

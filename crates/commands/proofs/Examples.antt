@@ -1,0 +1,72 @@
+-- What the definition of the command line says of some words, for its reader.
+use Rattle.std.proofs.Common.{◌≡◌, ◌∷◌, [], List, Option, Some, option_map, refl, codes}
+use Rattle.clap.specs.Words.{Kinds, Row, Text, fault_of, one_of, subcommand_of}
+use Rattle.clap.specs.declared.error.kind.ErrorKind.TheVariants as kind
+use Rattle.clap.proofs.OnLiterals.{clap_on_literals}
+use Rattle.commands.specs.CommandLine.{curspan}
+
+-- the words after the program's name
+abbrev faults : List Text → Kinds
+faults words = fault_of curspan (codes "curspan" ∷ words)
+
+-- the subcommand and the texts of its options
+abbrev Asked : Type 0
+Asked = Option (Text × Option Text × Option Text)
+
+abbrev asked : List Text → Asked
+asked words = option_map (λ (p : Text × List Row). (p.0, one_of (codes "lines") p.1, one_of (codes "cols") p.1)) (subcommand_of curspan (codes "curspan" ∷ words))
+
+four_by_ten : List Text
+four_by_ten = codes "run" ∷ codes "--lines" ∷ codes "4" ∷ codes "--cols" ∷ codes "10" ∷ []
+
+four_by_ten_is_taken : faults four_by_ten ≡ []
+unfolding clap_on_literals four_by_ten
+four_by_ten_is_taken = refl
+
+four_by_ten_is_asked : asked four_by_ten ≡ Some (codes "run", Some (codes "4"), Some (codes "10"))
+unfolding clap_on_literals four_by_ten
+four_by_ten_is_asked = refl
+
+with_equals_signs : asked (codes "run" ∷ codes "--cols=999" ∷ codes "--lines=1" ∷ []) ≡ Some (codes "run", Some (codes "1"), Some (codes "999"))
+unfolding clap_on_literals
+with_equals_signs = refl
+
+no_words : faults [] ≡ kind.MissingSubcommand ∷ []
+unfolding clap_on_literals
+no_words = refl
+
+no_size : faults (codes "run" ∷ codes "--lines" ∷ codes "4" ∷ []) ≡ kind.MissingRequiredArgument ∷ []
+unfolding clap_on_literals
+no_size = refl
+
+size_of_0 : faults (codes "run" ∷ codes "--lines" ∷ codes "0" ∷ codes "--cols" ∷ codes "10" ∷ []) ≡ kind.ValueValidation ∷ []
+unfolding clap_on_literals
+size_of_0 = refl
+
+size_of_1000 : faults (codes "run" ∷ codes "--lines" ∷ codes "4" ∷ codes "--cols" ∷ codes "1000" ∷ []) ≡ kind.ValueValidation ∷ []
+unfolding clap_on_literals
+size_of_1000 = refl
+
+size_in_letters : faults (codes "run" ∷ codes "--lines" ∷ codes "four" ∷ codes "--cols" ∷ codes "10" ∷ []) ≡ kind.ValueValidation ∷ []
+unfolding clap_on_literals
+size_in_letters = refl
+
+size_twice : faults (codes "run" ∷ codes "--lines" ∷ codes "4" ∷ codes "--lines" ∷ codes "4" ∷ codes "--cols" ∷ codes "10" ∷ []) ≡ kind.ArgumentConflict ∷ []
+unfolding clap_on_literals
+size_twice = refl
+
+one_word_more : faults (codes "run" ∷ codes "--lines" ∷ codes "4" ∷ codes "--cols" ∷ codes "10" ∷ codes "x" ∷ []) ≡ kind.UnknownArgument ∷ []
+unfolding clap_on_literals
+one_word_more = refl
+
+another_subcommand : faults (codes "fly" ∷ []) ≡ kind.UnknownArgument ∷ kind.InvalidSubcommand ∷ []
+unfolding clap_on_literals
+another_subcommand = refl
+
+help : faults (codes "--help" ∷ []) ≡ kind.DisplayHelp ∷ []
+unfolding clap_on_literals
+help = refl
+
+help_of_run : faults (codes "run" ∷ codes "-h" ∷ []) ≡ kind.DisplayHelp ∷ []
+unfolding clap_on_literals
+help_of_run = refl

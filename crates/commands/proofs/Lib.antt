@@ -1,0 +1,22 @@
+-- What the definition of the command line says of some words, for its reader
+pub mod Examples
+-- What clap says of this program's command line, and of the number of an option; for `command`, `job`, `number`
+pub mod JobLemmas
+-- Where clap refuses nothing of the words, each row that a subcommand's options leave holds a size of a screen; for `KindIsNamed`, `TakenLemmas`
+pub mod KeptRows
+-- A text is written piece by piece; for `print`, `put`, `put_lines` and others
+pub mod PutLemmas
+-- The spelling of a text is written piece by piece; for `put_spelled`
+pub mod SpelledLemmas
+-- Where clap refuses nothing of the words, the subcommand at which its walk stops is one of the program's; for `TakenLemmas`
+pub mod KindIsNamed
+-- Where clap refuses nothing of the words, they name a subcommand and give both numbers; for `job`
+pub mod TakenLemmas
+-- The text of a rendition, put together piece by piece; for `append_rendition`
+pub mod PrintLemmas
+-- The text of a picture around one of its lines; for `put_lines`
+pub mod PictureTexts
+-- A stream is read into a terminal piece by piece; for `read_stream`
+pub mod FeedingLemmas
+-- The findings of a script, a line at a time; for `end_report`, `tell`, `tell_lines`
+pub mod CheckLemmas

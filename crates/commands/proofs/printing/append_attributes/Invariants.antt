@@ -1,0 +1,11 @@
+use Rattle.std.proofs.Common.{◌≡◌, ◌≤◌, ◌+◌, ◌*◌, ◌∷◌, ◌++◌, length, take}
+use Rattle.std.specs.List.{flat_map}
+use Rattle.cell.specs.Attributes.{hex_digits}
+use Rattle.cell.specs.Shown.{Shown}
+use Rattle.commands.proofs.printing.append_attributes.Given as goal
+
+abbrev pub invariant-loop-cell : goal.invariant-loop-cell
+invariant-loop-cell l = record {
+  text : l.text.items ≡ l.fn.text.items ++ 58 ∷ flat_map (λ (cell : Shown). hex_digits cell.rendition.attributes) (take l.cell-index l.row);
+  short : length l.text.items ≤ length l.fn.text.items + 1 + 2 * l.cell-index;
+}

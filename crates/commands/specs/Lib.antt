@@ -1,0 +1,8 @@
+pub mod CommandLine
+pub mod Printing
+pub mod Written
+pub mod Spelled
+pub mod Statuses
+pub mod Shows
+pub mod Checks
+pub mod steps

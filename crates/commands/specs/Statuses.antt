@@ -1,0 +1,30 @@
+-- The exit statuses of the program, and that there is no memory.
+use Rattle.std.specs.Prelude.{◌≡◌, ◌∷◌, ◌++◌, [], ℕ, List, codes, if◌then◌else◌}
+use Rattle.std.specs.Option.{option_map_or}
+use Rattle.script.specs.Characters.{newline}
+use Rattle.script.specs.declared.fault.ScriptEnd.{ScriptEnd}
+use Rattle.script.specs.declared.fault.ScriptFault.{ScriptFault}
+use Rattle.script.specs.declared.fault.ScriptFault.TheVariants.{Text, Reading, Write, Log}
+use Rattle.commands.specs.Written.{IsTold, Outputs}
+
+-- 2 for a fault of the text, 3 where reading or writing failed
+abbrev pub status_of_fault : ScriptFault → ℕ
+status_of_fault (Text line fault) = 2
+status_of_fault Reading = 3
+status_of_fault (Write line fault) = 3
+status_of_fault Log = 3
+
+-- 1 where some call was refused, 0 where each was accepted
+abbrev pub status_of : ScriptEnd → ℕ
+status_of end = option_map_or status_of_fault end.fault (if end.refused then 1 else 0)
+
+-- ---- lack of memory
+
+abbrev pub no_memory_line : List ℕ
+no_memory_line = codes "no memory for the screen" ++ newline ∷ []
+
+-- The log gets the line, and nothing went to the output.
+pub record LacksMemory (old new : Outputs) (status : ℕ) : Type 0 where
+  pub status_is : status ≡ 4
+  pub output : new.output ≡ old.output
+  pub tells : IsTold old.log new.log no_memory_line

@@ -1,0 +1,43 @@
+-- What reporting a script's lines one after another does: definitions for the contracts of single steps.
+use Rattle.std.specs.Prelude.{◌≡◌, ◌++◌, ◌∷◌, [], ℕ, Bool, true, false, not, List}
+use Rattle.std.specs.List.{flat_map}
+use Rattle.streams.specs.Sinks.{Seen}
+use Rattle.streams.specs.Sources.{SourceSeen}
+use Rattle.explain.specs.Explanations.{finding}
+use Rattle.script.specs.Readings.{said_by_line}
+use Rattle.script.specs.declared.bytes.LineEnd.{LineEnd}
+use Rattle.script.specs.declared.bytes.LineEnd.TheVariants.{Newline, ScriptEnd, ReadFailed}
+use Rattle.script.specs.declared.fault.TextFault.TheVariants.{LineTooLong}
+use Rattle.commands.specs.Checks.{count_of, report, findings, finding_of}
+use Rattle.commands.specs.Shows.{ReadsStream}
+use Rattle.commands.specs.Written.{WritingEnds}
+use Rattle.commands.specs.declared.check.Report.{Report}
+use Rattle.commands.specs.steps.Putting.{PuttingEnds}
+
+-- the finding of a line as it was read
+abbrev pub finding_of_read : ℕ → List ℕ → Bool → LineEnd → List (List ℕ)
+finding_of_read number line false end = finding number LineTooLong [] ∷ []
+finding_of_read number line true ReadFailed = []
+finding_of_read number line true Newline = finding_of number line (said_by_line line)
+finding_of_read number line true ScriptEnd = finding_of number line (said_by_line line)
+
+-- These lines were written, all of them or a prefix, and counted.
+pub record IsReported (old new : Seen) (report : Report) (lines : List (List ℕ)) : Type 0 where
+  pub put : PuttingEnds report.is_written old new (flat_map (λ line. line) lines)
+  pub faulty : report.faulty ≡ count_of lines
+
+-- After what was reported some lines are, too.
+abbrev pub ReportsMore : Seen → Seen → Report → Report → List (List ℕ) → Type 0
+ReportsMore old new before after lines =
+    (first : Seen) (reported : List (List ℕ)) → IsReported first old before reported → IsReported first new after (reported ++ lines)
+
+-- A script was read to its end, or until a read failed, and is reported.
+pub record ReportsScript (old new : SourceSeen) (output after : Seen) (is_whole : Bool) (report : Report) : Type 0 where
+  pub text : List ℕ
+  pub reads : ReadsStream old new is_whole text
+  pub reported : IsReported output after report (findings (not is_whole) text)
+
+-- What was reported is ended and flushed, or that failed.
+abbrev pub EndsReport : Seen → Seen → Bool → Report → Bool → Type 0
+EndsReport old new is_whole before written =
+    (first : Seen) (lines : List (List ℕ)) → IsReported first old before lines → WritingEnds written first new (report is_whole lines)

@@ -1,0 +1,20 @@
+-- What reading a stream into a terminal does: definitions for the contracts of single steps.
+use Rattle.std.specs.Prelude.{◌≡◌, ◌⊎◌, ℕ, Bool, List, Option, Some, None}
+use Rattle.ecma.specs.Standing.{Follows, Reader}
+use Rattle.ecma.specs.declared.terminal.NotInProfile.{NotInProfile}
+use Rattle.streams.specs.Sinks.{Seen}
+use Rattle.streams.specs.Sources.{SourceSeen}
+use Rattle.commands.specs.Shows.{ReadsStream, offset_line}
+use Rattle.commands.specs.Written.{IsNotWritten, IsWritten}
+
+-- A stream was read, and the terminal has read it.
+pub record Feeds (old new : SourceSeen) (before after : Reader) (is_whole : Bool) : Type 0 where
+  pub stream : List ℕ
+  pub reads : ReadsStream old new is_whole stream
+  pub follows : Follows stream before after
+
+-- The log gets a line about the terminal's fault, if it has one.
+abbrev pub TellsFault : Option NotInProfile → Seen → Seen → ℕ → Type 0
+TellsFault None log told status = (status ≡ 0) × (told ≡ log)
+TellsFault (Some fault) log told status =
+    ((status ≡ 1) × IsWritten log told (offset_line fault.at)) ⊎ ((status ≡ 3) × IsNotWritten log told (offset_line fault.at))

@@ -1,0 +1,177 @@
+//! Says of each faulty line of a script what is wrong with it. No call is made.
+
+ghost use Rattle.std.specs.Prelude.{◌≡◌, ◌≤◌, ◌<◌, ◌∷◌, [], length};
+ghost use Rattle.std.specs.Option.{option_map_or};
+ghost use Rattle.script.specs.Readings.{said_by_line};
+ghost use Rattle.commands.specs.Checks.{Checks, count_line, finding_of};
+ghost use Rattle.commands.specs.Written.{outputs};
+ghost use Rattle.commands.specs.steps.Checking.{EndsReport, ReportsMore, ReportsScript, finding_of_read};
+
+use crate::put::{put, write_out};
+use crate::status::{ACCEPTED, BAD_TEXT, tell_failure};
+use arrayvec::ArrayVec;
+use explain::{Finding, finding};
+use script::{Arguments, LONGEST_LINE, LineEnd, Lines, ScriptFault, TextFault, read_line};
+use streams::{Sink, Source, append, append_decimal};
+
+/// Room for the line on how many lines are faulty: a number, and 14 bytes more.
+const COUNT_ROOM: usize = 64;
+
+/// What was said of a script's lines.
+#[derive(Clone, Copy)]
+struct Report {
+    /// How many are faulty.
+    faulty: u64,
+    /// Whether all that was said went out.
+    is_written: bool,
+}
+
+/// How a script was read, and what was said of it.
+#[derive(Clone, Copy)]
+struct Checked {
+    /// Whether it was read to its end.
+    is_whole: bool,
+    report: Report,
+}
+
+/// The line about a line's fault, if it has one.
+fn finding_of(number: u64, line: &[u8], taken: &mut Arguments) -> Option<Finding>
+    requires { length line.now ≤ LONGEST_LINE }
+    ensures { finding_of number line.now (said_by_line line.now) ≡ option_map_or (λ text. text.items ∷ []) result [] }
+{
+    match read_line(line, taken) {
+        Ok(_) => None,
+        Err(fault) => Some(finding(number, fault, line)),
+    }
+}
+
+/// The same of a line as it was read: it may be too long, or end where a read failed.
+fn finding_of_read(
+    number: u64,
+    end: LineEnd,
+    is_kept: bool,
+    line: &[u8],
+    taken: &mut Arguments,
+) -> Option<Finding>
+    requires { length line.now ≤ LONGEST_LINE }
+    ensures { finding_of_read number line.now is_kept end ≡ option_map_or (λ text. text.items ∷ []) result [] }
+{
+    if !is_kept {
+        return Some(finding(number, TextFault::LineTooLong, b""));
+    }
+    match end {
+        LineEnd::Newline => finding_of(number, line, taken),
+        LineEnd::ScriptEnd => finding_of(number, line, taken),
+        LineEnd::ReadFailed => None,
+    }
+}
+
+/// Writes one line more of a report, unless a write failed before.
+fn tell<O: Sink>(out: &mut O, report: Report, text: &[u8]) -> Report
+    ensures { ReportsMore (O.seen out.old) (O.seen out.new) report result (text.now ∷ []) }
+{
+    let is_written = report.is_written && put(out, text);
+    Report {
+        faulty: report.faulty.saturating_add(1),
+        is_written,
+    }
+}
+
+/// Writes the line about a fault, if there is one.
+fn tell_finding<O: Sink>(out: &mut O, report: Report, finding: Option<Finding>) -> Report
+    ensures { ReportsMore (O.seen out.old) (O.seen out.new) report result (option_map_or (λ text. text.items ∷ []) finding []) }
+{
+    match finding {
+        Some(text) => tell(out, report, text.as_slice()),
+        None => report,
+    }
+}
+
+/// Reads a script to its end or until a read fails, and reports each faulty line. Nothing is flushed.
+fn tell_lines<R: Source, O: Sink>(input: &mut R, out: &mut O) -> Checked
+    ensures { ReportsScript (R.seen input.old) (R.seen input.new) (O.seen out.old) (O.seen out.new) result.is_whole result.report }
+{
+    let mut lines = Lines::new();
+    let mut taken = Arguments::new();
+    let mut number = 1u64;
+    let mut report = Report {
+        faulty: 0,
+        is_written: true,
+    };
+    loop {
+        let (end, is_kept) = lines.next_whole_line(input);
+        let finding = finding_of_read(number, end, is_kept, lines.line(), &mut taken);
+        report = tell_finding(out, report, finding);
+        match end {
+            LineEnd::Newline => number = number.saturating_add(1),
+            LineEnd::ScriptEnd => {
+                return Checked {
+                    is_whole: true,
+                    report,
+                };
+            }
+            LineEnd::ReadFailed => {
+                return Checked {
+                    is_whole: false,
+                    report,
+                };
+            }
+        }
+    }
+}
+
+/// The line that says how many lines are faulty, if one is.
+fn count_line(n: u64) -> ArrayVec<u8, COUNT_ROOM>
+    ensures { result.items ≡ count_line n }
+{
+    let mut text = ArrayVec::<u8, COUNT_ROOM>::new();
+    if n == 0 {
+        return text;
+    }
+    append_decimal(&mut text, n);
+    append(
+        &mut text,
+        if n == 1 {
+            b" faulty line".as_slice()
+        } else {
+            b" faulty lines"
+        },
+    );
+    append(&mut text, b"\n");
+    text
+}
+
+/// Writes what follows the lines of a report and flushes, and answers whether all of it went out.
+fn end_report<O: Sink>(out: &mut O, checked: Checked) -> bool
+    ensures { EndsReport (O.seen out.old) (O.seen out.new) checked.is_whole checked.report result }
+{
+    if !checked.report.is_written {
+        return false;
+    }
+    if checked.is_whole {
+        write_out(out, count_line(checked.report.faulty).as_slice())
+    } else {
+        write_out(out, b"")
+    }
+}
+
+/// Reads a script to its end, says on the output of each faulty line where it is and what is wrong, and after them how
+/// many they are, and answers the status.
+pub fn check_script<R: Source, O: Sink, L: Sink>(input: &mut R, out: &mut O, log: &mut L) -> u8
+    ensures checked { Checks (R.seen input.old) (R.seen input.new) (outputs (O.seen out.old) (L.seen log.old))
+        (outputs (O.seen out.new) (L.seen log.new)) result }
+    ensures log { result < 2 → (L.seen log.new).failures ≡ (L.seen log.old).failures }
+{
+    let checked = tell_lines(input, out);
+    if !end_report(out, checked) {
+        return tell_failure(log, ScriptFault::Log);
+    }
+    if !checked.is_whole {
+        return tell_failure(log, ScriptFault::Reading);
+    }
+    if checked.report.faulty == 0 {
+        ACCEPTED
+    } else {
+        BAD_TEXT
+    }
+}

@@ -1,0 +1,109 @@
+//! Shows what a stream of terminal bytes leaves on a terminal.
+
+ghost use Rattle.std.specs.Prelude.{◌≡◌, ◌<◌, ◌⊎◌};
+ghost use Rattle.commands.specs.CommandLine.{IsSize};
+ghost use Rattle.commands.specs.Shows.{Shows, offset_line, terminal_text};
+ghost use Rattle.commands.specs.Statuses.{LacksMemory};
+ghost use Rattle.commands.specs.steps.Feeding.{Feeds, TellsFault};
+ghost use Rattle.commands.specs.Written.{WritingEnds, outputs};
+
+use crate::asked::Job;
+use crate::printing::print;
+use crate::put::write_out;
+use crate::status::{ACCEPTED, FAILED, REFUSED, no_memory, tell_failure};
+use arrayvec::ArrayVec;
+use ecma::{NotInProfile, Terminal};
+use script::ScriptFault;
+use std::alloc::Global;
+use streams::{Sink, Source, append, append_decimal};
+
+/// How many bytes are read at once, at most.
+const LONGEST_PIECE: usize = 4096;
+
+/// Room for the line on a stream that fails: a number, and 29 bytes more.
+const ROOM: usize = 64;
+
+/// Reads a stream into a terminal, to its end or until a read fails, and answers whether it is whole.
+fn read_stream<R: Source>(input: &mut R, terminal: &mut Terminal) -> bool
+    ensures { Feeds (R.seen input.old) (R.seen input.new) terminal.old terminal.new result }
+{
+    let mut piece = [0; LONGEST_PIECE];
+    loop {
+        match input.read(&mut piece) {
+            Ok(0) => return true,
+            Ok(count) => {
+                terminal.feed(&piece[..count]);
+            }
+            Err(_) => return false,
+        }
+    }
+}
+
+/// Prints the picture of a terminal and flushes, and answers whether all of it went out.
+fn print_terminal<O: Sink>(out: &mut O, terminal: &Terminal) -> bool
+    ensures { WritingEnds result (O.seen out.old) (O.seen out.new) (terminal_text terminal.now.terminal) }
+{
+    print(
+        out,
+        terminal.picture(),
+        terminal.lines(),
+        terminal.cursor(),
+        terminal.rendition(),
+    )
+}
+
+/// The line of the log on a stream that fails.
+fn offset_line(fault: NotInProfile) -> ArrayVec<u8, ROOM>
+    ensures { result.items ≡ offset_line fault.at }
+{
+    let mut line = ArrayVec::<u8, ROOM>::new();
+    append(&mut line, b"offset ");
+    append_decimal(&mut line, fault.at);
+    append(&mut line, b": not in the profile");
+    append(&mut line, b"\n");
+    line
+}
+
+/// Writes to the log at which offset a stream fails, if it does, and answers the status.
+fn judge<L: Sink>(log: &mut L, fault: Option<NotInProfile>) -> u8
+    ensures { TellsFault fault (L.seen log.old) (L.seen log.new) result }
+{
+    match fault {
+        None => ACCEPTED,
+        Some(fault) => {
+            if write_out(log, offset_line(fault).as_slice()) {
+                REFUSED
+            } else {
+                FAILED
+            }
+        }
+    }
+}
+
+/// Reads a stream to its end, prints the picture that it leaves on a terminal of the job's size, and answers the status.
+pub fn show_stream<R: Source, O: Sink, L: Sink>(
+    alloc: Global,
+    job: Job,
+    input: &mut R,
+    out: &mut O,
+    log: &mut L,
+) -> u8
+    requires { IsSize job.lines × IsSize job.cols }
+    ensures shown { (LacksMemory (outputs (O.seen out.old) (L.seen log.old)) (outputs (O.seen out.new) (L.seen log.new)) result ×
+        (R.seen input.new ≡ R.seen input.old))
+        ⊎ Shows job (R.seen input.old) (R.seen input.new) (outputs (O.seen out.old) (L.seen log.old)) (outputs (O.seen out.new) (L.seen log.new)) result }
+    ensures log { result < 2 → (L.seen log.new).failures ≡ (L.seen log.old).failures }
+{
+    let mut terminal = match Terminal::new(alloc, job.lines, job.cols) {
+        Ok(terminal) => terminal,
+        Err(_) => return no_memory(log),
+    };
+    if !read_stream(input, &mut terminal) {
+        return tell_failure(log, ScriptFault::Reading);
+    }
+    if print_terminal(out, &terminal) {
+        judge(log, terminal.fault())
+    } else {
+        tell_failure(log, ScriptFault::Log)
+    }
+}

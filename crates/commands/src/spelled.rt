@@ -1,0 +1,78 @@
+//! Escapes a text that may hold any byte, as the words of a command line do, since a terminal may show it.
+
+ghost use Rattle.std.specs.Prelude.{◌≡◌, ◌≤◌, ◌+◌, ◌++◌, length};
+ghost use Rattle.commands.specs.Spelled.{spelled, spelled_byte};
+ghost use Rattle.commands.specs.Written.{IsTold, WritingEnds};
+ghost use Rattle.commands.specs.steps.Putting.{PuttingEnds};
+
+use crate::put::put;
+use arrayvec::ArrayVec;
+use cell::{hex_digits, is_printable};
+use streams::{Sink, append};
+
+/// How many bytes are escaped at once.
+const PIECE: usize = 256;
+
+/// Room for the spelling of a piece: four bytes for each of its own.
+const ROOM: usize = 1024;
+
+/// The spelling of a piece.
+type Spelling = ArrayVec<u8, ROOM>;
+
+/// Appends a byte, as it is if it is printable or a newline, and else as `\x1b`.
+fn append_spelled(text: &mut Spelling, byte: u8)
+    requires { length text.old.items + 4 ≤ ROOM }
+    ensures text { text.new.items ≡ text.old.items ++ spelled_byte byte }
+    ensures short { length text.new.items ≤ length text.old.items + 4 }
+{
+    if is_printable(byte) || byte == b'\n' {
+        append(text, &[byte]);
+    } else {
+        append(text, b"\\x");
+        append(text, &hex_digits(byte));
+    }
+}
+
+/// The spelling of a piece.
+fn spelled(piece: &[u8]) -> Spelling
+    requires { length piece.now ≤ PIECE }
+    ensures { result.items ≡ spelled piece.now }
+{
+    let mut text = Spelling::new();
+    for byte in piece {
+        append_spelled(&mut text, *byte);
+    }
+    text
+}
+
+/// Writes the spelling of a text, and answers whether all of it went out. Nothing is flushed.
+fn put_spelled<W: Sink>(sink: &mut W, text: &[u8]) -> bool
+    ensures { PuttingEnds result (W.seen sink.old) (W.seen sink.new) (spelled text.now) }
+{
+    let mut rest = text;
+    while !rest.is_empty() {
+        let (piece, after) = rest.split_at(rest.len().min(PIECE));
+        if !put(sink, spelled(piece).as_slice()) {
+            return false;
+        }
+        rest = after;
+    }
+    true
+}
+
+/// Writes the spelling of a text and flushes, and answers whether all of it went out.
+fn write_spelled<W: Sink>(sink: &mut W, text: &[u8]) -> bool
+    ensures { WritingEnds result (W.seen sink.old) (W.seen sink.new) (spelled text.now) }
+{
+    if !put_spelled(sink, text) {
+        return false;
+    }
+    sink.flush().is_ok()
+}
+
+/// Writes the spelling of a text on the log and flushes it, as `tell` does a line.
+pub fn tell_spelled<L: Sink>(log: &mut L, text: &[u8])
+    ensures { IsTold (L.seen log.old) (L.seen log.new) (spelled text.now) }
+{
+    write_spelled(log, text);
+}

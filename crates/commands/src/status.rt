@@ -1,0 +1,52 @@
+//! The exit statuses, and what is written to the log with them.
+
+ghost use Rattle.std.specs.Prelude.{◌≡◌, ◌<◌, None};
+ghost use Rattle.commands.specs.Statuses.{no_memory_line, status_of};
+ghost use Rattle.commands.specs.Written.{IsTold};
+ghost use Rattle.script.specs.Log.{last_line};
+
+use crate::put::tell;
+use script::{ScriptEnd, ScriptFault, last_line};
+use streams::Sink;
+
+/// Every call was accepted, the stream is in the profile, or help was asked for.
+pub const ACCEPTED: u8 = 0;
+/// Some call was refused, or the stream isn't in the profile.
+pub const REFUSED: u8 = 1;
+/// The command line or the script's text has a fault.
+pub const BAD_TEXT: u8 = 2;
+/// Reading or writing failed.
+pub const FAILED: u8 = 3;
+/// There is no memory for the screen.
+const NO_MEMORY: u8 = 4;
+
+/// Says on the log that there is no memory, and answers that status.
+pub fn no_memory<L: Sink>(log: &mut L) -> u8
+    ensures status { result ≡ 4 }
+    ensures told { IsTold (L.seen log.old) (L.seen log.new) no_memory_line }
+{
+    tell(log, b"no memory for the screen\n");
+    NO_MEMORY
+}
+
+/// Writes to the log the line of a fault, which is a failed read or write, and answers the status for it.
+pub fn tell_failure<L: Sink>(log: &mut L, fault: ScriptFault) -> u8
+    ensures status { result ≡ 3 }
+    ensures told { IsTold (L.seen log.old) (L.seen log.new) (last_line fault) }
+{
+    tell(log, last_line(fault).as_slice());
+    FAILED
+}
+
+/// The status for how a script ended.
+pub fn status_of(end: ScriptEnd) -> u8
+    ensures status { result ≡ status_of end }
+    ensures well { result < 2 → end.fault ≡ None }
+{
+    match end.fault {
+        Some(ScriptFault::Text { .. }) => BAD_TEXT,
+        Some(_) => FAILED,
+        None if end.refused => REFUSED,
+        None => ACCEPTED,
+    }
+}

@@ -1,6 +1,0 @@
-use Rattle.std.proofs.Common.{◌≡◌, ◌∷◌, ◌++◌, map, take}
-use Rattle.cell.specs.Shown.{Shown}
-use Rattle.curspan.proofs.printing.append_characters.Given as goal
-
-abbrev pub invariant-loop-cell : goal.invariant-loop-cell
-invariant-loop-cell l = l.text.items ≡ l.fn.text.items ++ 124 ∷ map (λ (cell : Shown). cell.character) (take l.cell-index l.row)
