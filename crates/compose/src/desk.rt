@@ -24,8 +24,8 @@ ghost use Rattle.world.specs.declared.call.Stacking.{Stacking};
 ghost use Rattle.compose.specs.Desks.{damaged_columns, is_damaged_line, world};
 ghost use Rattle.compose.specs.Calling.{Called, DamagesFew};
 
-use crate::calls::{arrange_damaging, copy_damaging, make_damaging, write_damaging};
 use crate::damaging::damage_part;
+use crate::damaging_calls::{arrange_damaging, copy_damaging, make_damaging, write_damaging};
 use crate::dispatch::{query, refresh};
 use crate::marks::{clear_asked, unmark_composed};
 use calls::Calls;

@@ -1,6 +1,6 @@
 //! Windows, panels, colour pairs and the virtual screen together: the `Desk`, with each call and what it damages of the screen.
 //!
-//! - `calls`: a call with what it damages
+//! - `damaging_calls`: a call with what it damages
 //! - `damaging`: what a call damages
 //! - `desk`: the `Desk` and what can be read of it
 //! - `dispatch`: a call of each group, made
@@ -9,8 +9,8 @@
 //! - `refresh`: what a window or a pad puts into the virtual screen
 #![tactic(auto)]
 
-mod calls;
 mod damaging;
+mod damaging_calls;
 mod desk;
 mod dispatch;
 mod marks;

@@ -5,7 +5,7 @@ use Rattle.stack.specs.Tables.{panels}
 use Rattle.world.specs.Effects.{edits}
 use Rattle.world.specs.calls.Writing.{writing_edit}
 use Rattle.compose.proofs.AffectedDamages.{damages, possible, same-size}
-use Rattle.compose.proofs.calls.write_damaging.Goals as goal
+use Rattle.compose.proofs.damaging_calls.write_damaging.Goals as goal
 
 pub damage_affected-requires-clause-height : goal.damage_affected-requires-clause-height
 damage_affected-requires-clause-height c =

@@ -4,7 +4,7 @@ use Rattle.grids.specs.Tables.{windows}
 use Rattle.stack.specs.Tables.{panels}
 use Rattle.world.specs.calls.Copying.{copying_change}
 use Rattle.compose.proofs.AffectedDamages.{damages, possible, same-size}
-use Rattle.compose.proofs.calls.copy_damaging.Goals as goal
+use Rattle.compose.proofs.damaging_calls.copy_damaging.Goals as goal
 
 pub damage_affected-requires-clause-height : goal.damage_affected-requires-clause-height
 damage_affected-requires-clause-height c =

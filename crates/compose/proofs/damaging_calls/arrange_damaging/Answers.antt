@@ -13,7 +13,7 @@ use Rattle.picture.proofs.DamageLaws.{damages-as, damages-none, damages-then, pa
 use Rattle.compose.specs.steps.Changes.{top_window}
 use Rattle.compose.proofs.Arranging.{arranged-size}
 use Rattle.compose.proofs.Parting.{order_stays, part-within, stacking-parts, stays-where-same, unseen-where-same}
-use Rattle.compose.proofs.calls.arrange_damaging.Goals as goal
+use Rattle.compose.proofs.damaging_calls.arrange_damaging.Goals as goal
 
 pub damage_part-requires-2-clause-few : goal.damage_part-requires-2-clause-few
 damage_part-requires-2-clause-few c =
