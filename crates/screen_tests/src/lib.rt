@@ -1,8 +1,11 @@
-//! The tests of `compose` and `desk`, by public calls alone. They are a crate of their own, beside `tests`, so that both are linked and proved
-//! side by side.
+//! The tests of `desk`: screens over writers that fail, runs of calls, and scripts. Tests are crates of their own, over the proved
+//! libraries: a library with tests in its sources would be proved once more for them. They are several, a crate for a layer, so that they
+//! are proved side by side, each as soon as its layer is.
 #![tactic(auto)]
 
 #[cfg(test)]
-mod of_compose;
+mod of_runs;
 #[cfg(test)]
-mod of_desk;
+mod of_scripts;
+#[cfg(test)]
+mod screens;
