@@ -27,10 +27,11 @@ impl Read for Pieces<'_> {
 }
 
 /// A writer that takes at most `step` bytes a call. Once, where it has taken `stop` bytes, its next write fails or takes none, or its
-/// next flush fails. One that is stuck can't be flushed.
+/// next flush fails. One that is stuck can't be flushed. It counts its writes.
 #[derive(Drop)]
 pub struct Halting {
     pub taken: Vec<u8>,
+    pub writes: u32,
     step: usize,
     stop: Option<usize>,
     fails: bool,
@@ -42,6 +43,7 @@ impl Halting {
     pub fn taking(alloc: Global, step: usize, is_stuck: bool) -> Halting {
         Halting {
             taken: Vec::new(alloc),
+            writes: 0,
             step,
             stop: None,
             fails: false,
@@ -53,6 +55,7 @@ impl Halting {
     pub fn stopping(alloc: Global, stop: usize, fails: bool) -> Halting {
         Halting {
             taken: Vec::new(alloc),
+            writes: 0,
             step: usize::MAX,
             stop: Some(stop),
             fails,
@@ -63,6 +66,7 @@ impl Halting {
 
 impl Write for Halting {
     fn write(&mut self, buf: &[u8]) -> io::Result<usize> {
+        self.writes = self.writes.saturating_add(1);
         let mut count = self.step.min(buf.len());
         if let Some(stop) = self.stop {
             let room = stop.saturating_sub(self.taken.len());
@@ -84,23 +88,6 @@ impl Write for Halting {
             self.stop = None;
             return Err(io::Error::from(ErrorKind::Other));
         }
-        Ok(())
-    }
-}
-
-/// A writer that takes everything, and counts its calls.
-#[derive(Drop)]
-pub struct Counting {
-    pub writes: u32,
-}
-
-impl Write for Counting {
-    fn write(&mut self, buf: &[u8]) -> io::Result<usize> {
-        self.writes = self.writes.saturating_add(1);
-        Ok(buf.len())
-    }
-
-    fn flush(&mut self) -> io::Result<()> {
         Ok(())
     }
 }

@@ -1,8 +1,10 @@
-//! The tests of `compose` and `desk`, by public calls alone. They are a crate of their own, beside `tests`, so that both are linked and proved
-//! side by side.
+//! The tests of `desk`: screens over writers that fail, runs of calls, and scripts.
+//! `docs/DECISIONS.md` says why tests have crates of their own.
 #![tactic(auto)]
 
 #[cfg(test)]
-mod of_compose;
+mod of_runs;
 #[cfg(test)]
-mod of_desk;
+mod of_scripts;
+#[cfg(test)]
+mod screens;

@@ -4,7 +4,7 @@ use std::test::Fail;
 
 /// Faulty lines, and what is said of each.
 #[rattlefmt::skip]
-const FINDINGS: [(TextFault, &[u8], &str); 8] = [
+static FINDINGS: [(TextFault, &[u8], &str); 8] = [
     (TextFault::LineTooLong, b"", "line 12, column 513: the line is longer than 512 bytes\n"),
     (TextFault::BadByte, b"addstr 0 hi\r", "line 12, column 12: bad byte 0d: a line ends with a newline alone\n"),
     (TextFault::UnknownCall, b"fly 0", "line 12, column 1: unknown call \"fly\"\n"),
@@ -21,11 +21,11 @@ const FINDINGS: [(TextFault, &[u8], &str); 8] = [
 
 #[test]
 fn faults_are_explained(rt: HostRuntime) -> Result<(), Fail> {
-    for (fault, line, text) in FINDINGS {
+    for (fault, line, text) in &FINDINGS {
         if line.len() > LONGEST_LINE {
             return Err(Fail::new("the test's line is too long"));
         }
-        assert_eq!(rt; finding(12, fault, line).as_slice(), text.as_bytes());
+        assert_eq!(rt; finding(12, *fault, line).as_slice(), text.as_bytes());
     }
     Ok(())
 }

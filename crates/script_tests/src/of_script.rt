@@ -10,12 +10,12 @@ use streams::{Counted, CountedReader, Sent, WriteFault};
 use world::{Composed, PanelId, Reply};
 
 /// What a line says: its call, its fault, or nothing.
-fn said(alloc: Global, line: &[u8]) -> Result<String, Fail> {
+fn said(alloc: Global, line: &str) -> Result<String, Fail> {
     if line.len() > LONGEST_LINE {
         return Err(Fail::new("the test's line is too long"));
     }
     let mut arguments = Arguments::new();
-    let text = match read_line(line, &mut arguments) {
+    let text = match read_line(line.as_bytes(), &mut arguments) {
         Ok(Some(word)) => format!(in alloc; "{:?}", word.call(&arguments))?,
         Ok(None) => format!(in alloc; "nothing")?,
         Err(fault) => format!(in alloc; "{fault}")?,
@@ -25,7 +25,7 @@ fn said(alloc: Global, line: &[u8]) -> Result<String, Fail> {
 
 /// Lines with their calls.
 #[rattlefmt::skip]
-const CALLS: [(&str, &str); 62] = [
+static CALLS: [(&str, &str); 66] = [
     ("newwin 3 6 0 2", "Making(Newwin { lines: 3, columns: 6, y: 0, x: 2 })"),
     ("subwin 1 2 3 4 5", "Making(Subwin { win: WinId(1), lines: 2, columns: 3, y: 4, x: 5 })"),
     ("derwin 1 2 3 4 5", "Making(Derwin { win: WinId(1), lines: 2, columns: 3, y: 4, x: 5 })"),
@@ -37,6 +37,10 @@ const CALLS: [(&str, &str); 62] = [
     ("move 0 7 9", "Writing(Move { win: WinId(0), y: 7, x: 9 })"),
     ("addch 0 #", "Writing(Addch { win: WinId(0), ch: 35 })"),
     ("addstr 0 a  b", "Writing(Addstr { win: WinId(0), text: [97, 32, 32, 98] })"),
+    ("addstr 0 ", "Writing(Addstr { win: WinId(0), text: [] })"),
+    ("addstr 0 a\\nb\\rc\\bd\\\\", "Writing(Addstr { win: WinId(0), text: [97, 10, 98, 13, 99, 8, 100, 92] })"),
+    ("addstr 0 \\x41\\xff", "Writing(Addstr { win: WinId(0), text: [65, 255] })"),
+    ("addstr 0 # ~", "Writing(Addstr { win: WinId(0), text: [35, 32, 126] })"),
     ("insch 0  ", "Writing(Insch { win: WinId(0), ch: 32 })"),
     ("delch 10", "Writing(Delch { win: WinId(10) })"),
     ("insertln 10", "Writing(Insertln { win: WinId(10) })"),
@@ -96,176 +100,154 @@ const CALLS: [(&str, &str); 62] = [
     ("doupdate", "Refresh(Doupdate)"),
 ];
 
-/// Lines each with an argument that lacks its form.
+/// Lines that make no call, by what is said of them. A line with several faults has the first of them.
 #[rattlefmt::skip]
-const BAD_ARGUMENTS: [&str; 29] = [
-    "getyx 65536", "getyx 00", "getyx 01", "getyx -1", "getyx 123456", "getyx 1a",
-    "scrl 0 32768", "scrl 0 -0", "scrl 0 -32768", "scrl 0 --1", "scrl 0 -",
-    "attron 0 40", "attroff 0 1", "attrset 0 0A", "attrset 0 001",
-    "scrollok 0 yes", "scrollok 0 ON", "addch 0 ab", "insch 0 ", "bkgdset 0 00 \\xAB",
-    "addstr 0 a\\", "addstr 0 \\q", "addstr 0 \\N", "addstr 0 \\x4", "addstr 0 \\x4g",
-    "panel_above None", "panel_below 01", "panel_window none", "getyx none",
+static OTHERS: [(&str, &[&str]); 5] = [
+    ("nothing", &["", "#", "# a comment ~"]),
+    ("bad byte", &["# a\ttab", "erase 0\r", "nothing\x7f", "caf\u{e9}"]),
+    ("unknown call", &[" ", " erase 0", "Erase 0"]),
+    ("wrong number of arguments", &["erase", "erase 0 ", "erase  0", "addstr x", "doupdate 0"]),
+    ("bad argument", &[
+        "getyx 65536", "getyx 00", "getyx 01", "getyx -1", "getyx 123456", "getyx 1a",
+        "scrl 0 32768", "scrl 0 -0", "scrl 0 -32768", "scrl 0 --1", "scrl 0 -",
+        "attron 0 40", "attroff 0 1", "attrset 0 0A", "attrset 0 001",
+        "scrollok 0 yes", "scrollok 0 ON", "addch 0 ab", "insch 0 ", "bkgdset 0 00 \\xAB",
+        "addstr 0 a\\", "addstr 0 \\q", "addstr 0 \\N", "addstr 0 \\x4", "addstr 0 \\x4g",
+        "panel_above None", "panel_below 01", "panel_window none", "getyx none",
+    ]),
 ];
 
 #[test]
 fn words_make_their_calls(rt: HostRuntime) -> Result<(), Fail> {
-    for (line, call) in CALLS {
-        let answer = said(rt.alloc(), line.as_bytes())?;
-        assert_eq!(rt; answer.as_str(), call, "at {line}");
+    for (line, call) in &CALLS {
+        let answer = said(rt.alloc(), line)?;
+        assert_eq!(rt; answer.as_str(), *call, "at {line}");
     }
     Ok(())
 }
 
 #[test]
-fn arguments_have_their_forms(rt: HostRuntime) -> Result<(), Fail> {
-    let texts = [
-        ("addstr 0 ", ""),
-        (
-            "addstr 0 a\\nb\\rc\\bd\\\\",
-            "97, 10, 98, 13, 99, 8, 100, 92",
-        ),
-        ("addstr 0 \\x41\\xff", "65, 255"),
-        ("addstr 0 # ~", "35, 32, 126"),
-    ];
-    for (line, text) in texts {
-        let call = format!(in rt.alloc(); "Writing(Addstr {{ win: WinId(0), text: [{text}] }})")?;
-        let answer = said(rt.alloc(), line.as_bytes())?;
-        assert_eq!(rt; answer.as_str(), call.as_str(), "at {line}");
-    }
-    for line in BAD_ARGUMENTS {
-        let answer = said(rt.alloc(), line.as_bytes())?;
-        assert_eq!(rt; answer.as_str(), "bad argument", "at {line}");
+fn other_lines_have_their_faults(rt: HostRuntime) -> Result<(), Fail> {
+    for (wanted, lines) in &OTHERS {
+        for line in *lines {
+            let answer = said(rt.alloc(), line)?;
+            assert_eq!(rt; answer.as_str(), *wanted, "at {line}");
+        }
     }
     Ok(())
 }
 
-#[test]
-fn faults_are_told_in_their_order(rt: HostRuntime) -> Result<(), Fail> {
-    let lines: [(&[u8], &str); 15] = [
-        (b"", "nothing"),
-        (b"#", "nothing"),
-        (b"# a comment ~", "nothing"),
-        (b"# a\ttab", "bad byte"),
-        (b"erase 0\r", "bad byte"),
-        (b"nothing\x7f", "bad byte"),
-        (b"caf\xc3\xa9", "bad byte"),
-        (b" ", "unknown call"),
-        (b" erase 0", "unknown call"),
-        (b"Erase 0", "unknown call"),
-        (b"erase", "wrong number of arguments"),
-        (b"erase 0 ", "wrong number of arguments"),
-        (b"erase  0", "wrong number of arguments"),
-        (b"addstr x", "wrong number of arguments"),
-        (b"doupdate 0", "wrong number of arguments"),
-    ];
-    for (line, answer) in lines {
-        assert_eq!(rt; said(rt.alloc(), line)?.as_str(), answer);
-    }
-    Ok(())
-}
+/// A line with its end, or none where it is too long.
+type Ended<'a> = (&'a [u8], Option<LineEnd>);
 
-/// Whether a reader gives these lines one after another, each with its end, and none where it is too long.
-fn gives(pieces: Pieces<'_>, lines: &[(&[u8], Option<LineEnd>)]) -> bool {
-    let mut source = CountedReader::new(pieces);
+/// Whether a reader gives these lines one after another, of bytes that come in pieces of so many.
+fn gives(bytes: &[u8], step: usize, fails: bool, lines: &[Ended<'_>]) -> bool {
+    let mut source = CountedReader::new(Pieces { bytes, step, fails });
     let mut reader = Lines::new();
-    for (text, end) in lines {
-        if reader.next_line(&mut source) != *end || reader.line() != *text {
+    for (line, end) in lines {
+        if reader.next_line(&mut source) != *end || reader.line() != *line {
             return false;
         }
     }
     true
 }
 
-#[test]
-fn lines_come_whole_from_pieces(rt: HostRuntime) {
-    let bytes = b"newwin 1 1 0 0\n\nlast".as_slice();
-    let lines: [(&[u8], Option<LineEnd>); 4] = [
-        (b"newwin 1 1 0 0", Some(LineEnd::Newline)),
-        (b"", Some(LineEnd::Newline)),
-        (b"last", Some(LineEnd::ScriptEnd)),
-        (b"", Some(LineEnd::ScriptEnd)),
-    ];
-    for step in [1, 3, 600] {
-        let fails = false;
-        assert!(rt; gives(Pieces { bytes, step, fails }, &lines));
-    }
-}
+const THREE_LINES: [Ended<'static>; 4] = [
+    (b"newwin 1 1 0 0", Some(LineEnd::Newline)),
+    (b"", Some(LineEnd::Newline)),
+    (b"last", Some(LineEnd::ScriptEnd)),
+    (b"", Some(LineEnd::ScriptEnd)),
+];
 
 #[test]
-fn a_failed_read_leaves_what_came_before(rt: HostRuntime) {
-    let (bytes, step, fails) = (b"erase 0\nera".as_slice(), 3, true);
-    let lines: [(&[u8], Option<LineEnd>); 2] = [
-        (b"erase 0", Some(LineEnd::Newline)),
-        (b"era", Some(LineEnd::ReadFailed)),
-    ];
-    assert!(rt; gives(Pieces { bytes, step, fails }, &lines));
+fn lines_come_whole_from_pieces(rt: HostRuntime) {
+    for step in [1, 3, 600] {
+        assert!(rt; gives(b"newwin 1 1 0 0\n\nlast", step, false, &THREE_LINES));
+    }
 }
 
 static LONG: [u8; 513] = [b'x'; 513];
 
-#[test]
-fn a_line_has_at_most_512_bytes(rt: HostRuntime) {
-    for (length, end) in [(512, Some(LineEnd::ScriptEnd)), (513, None)] {
-        let (bytes, step, fails) = (&LONG[..length], 600, false);
-        assert!(rt; gives(Pieces { bytes, step, fails }, &[(&LONG[..512], end)]));
-    }
+/// Whether a failed read leaves what came before it, a line of 512 bytes is given, and one of 513 isn't.
+fn ends() -> [bool; 3] {
+    let cut: [Ended<'static>; 2] = [
+        (b"erase 0", Some(LineEnd::Newline)),
+        (b"era", Some(LineEnd::ReadFailed)),
+    ];
+    let longest = &LONG[..512];
+    [
+        gives(b"erase 0\nera", 3, true, &cut),
+        gives(longest, 600, false, &[(longest, Some(LineEnd::ScriptEnd))]),
+        gives(&LONG, 600, false, &[(longest, None)]),
+    ]
 }
+
+#[test]
+fn lines_end_at_a_failed_read_and_at_512_bytes(rt: HostRuntime) {
+    assert_eq!(rt; ends(), [true; 3]);
+}
+
+/// Faults of a script, with their last lines.
+#[rattlefmt::skip]
+static LAST_LINES: [(ScriptFault, &str); 4] = [
+    (ScriptFault::Text { line: 12, fault: TextFault::WrongNumberOfArguments }, "line 12: wrong number of arguments\n"),
+    (
+        ScriptFault::Write { line: 12, fault: WriteFault { sent: u32::MAX } },
+        "line 12: write failed after 4294967295 bytes\n",
+    ),
+    (ScriptFault::Reading, "reading failed\n"),
+    (ScriptFault::Log, "writing failed\n"),
+];
 
 #[test]
 fn faults_have_their_last_lines(rt: HostRuntime) {
-    let (line, sent) = (12, u32::MAX);
-    let faults = [
-        (
-            ScriptFault::Text {
-                line,
-                fault: TextFault::WrongNumberOfArguments,
-            },
-            "line 12: wrong number of arguments\n",
-        ),
-        (
-            ScriptFault::Write {
-                line,
-                fault: WriteFault { sent },
-            },
-            "line 12: write failed after 4294967295 bytes\n",
-        ),
-        (ScriptFault::Reading, "reading failed\n"),
-        (ScriptFault::Log, "writing failed\n"),
-    ];
-    for (fault, text) in faults {
-        assert_eq!(rt; last_line(fault).as_slice(), text.as_bytes());
+    for (fault, text) in &LAST_LINES {
+        assert_eq!(rt; last_line(*fault).as_slice(), text.as_bytes());
     }
 }
 
+/// What a log is given of an answer.
+fn logged(alloc: Global, number: u64, answer: Result<Reply, Refusal>) -> Result<Vec<u8>, Fail> {
+    let mut log = Counted::new(Vec::new(alloc));
+    match log_answer(&mut log, number, answer) {
+        Ok(()) => Ok(log.into_inner()),
+        Err(_) => Err("the log failed".into()),
+    }
+}
+
+/// Answers, with their lines.
+#[rattlefmt::skip]
+const ANSWERS: [(u64, Result<Reply, Refusal>, &str); 9] = [
+    (1, Ok(Reply::Number(WinId(2))), "line 1: 2\n"),
+    (5, Ok(Reply::Panel(Some(PanelId(2)))), "line 5: 2\n"),
+    (6, Ok(Reply::Panel(None)), "line 6: none\n"),
+    (12, Ok(Reply::Pair(3, 0)), "line 12: 3 0\n"),
+    (9, Err(Refusal::NoSuchWindow), "line 9: E1 NoSuchWindow\n"),
+    (u64::MAX, Err(Refusal::BadCharacter), "line 18446744073709551615: E13 BadCharacter\n"),
+    (2, Ok(Reply::Nothing), ""),
+    (3, Ok(Reply::Composed(Composed { cells: 4 })), ""),
+    (4, Ok(Reply::Sent(Sent { bytes: 30 })), ""),
+];
+
 #[test]
 fn answers_have_their_lines(rt: HostRuntime) -> Result<(), Fail> {
-    let cell = Cell::new(b'A', Attr::REVERSE, 63).ok_or("no cell")?;
-    let answers = [
-        (1, Ok(Reply::Number(WinId(2))), "line 1: 2\n"),
-        (5, Ok(Reply::Panel(Some(PanelId(2)))), "line 5: 2\n"),
-        (6, Ok(Reply::Panel(None)), "line 6: none\n"),
-        (12, Ok(Reply::Pair(3, 0)), "line 12: 3 0\n"),
-        (7, Ok(Reply::Cell(cell)), "line 7: 65 10 63\n"),
-        (9, Err(Refusal::NoSuchWindow), "line 9: E1 NoSuchWindow\n"),
-        (
-            u64::MAX,
-            Err(Refusal::BadCharacter),
-            "line 18446744073709551615: E13 BadCharacter\n",
-        ),
-        (2, Ok(Reply::Nothing), ""),
-        (3, Ok(Reply::Composed(Composed { cells: 4 })), ""),
-        (4, Ok(Reply::Sent(Sent { bytes: 30 })), ""),
-    ];
-    for (number, answer, line) in answers {
-        let mut log = Counted::new(Vec::new(rt.alloc()));
-        assert_eq!(rt; log_answer(&mut log, number, answer), Ok(()));
-        assert_eq!(rt; log.get_ref().as_slice(), line.as_bytes());
+    for (number, answer, line) in ANSWERS {
+        let log = logged(rt.alloc(), number, answer)?;
+        assert_eq!(rt; log.as_slice(), line.as_bytes());
     }
     Ok(())
 }
 
 #[test]
-fn a_full_log_is_told(rt: HostRuntime) {
+fn a_cell_is_logged_as_its_numbers(rt: HostRuntime) -> Result<(), Fail> {
+    let cell = Cell::new(b'A', Attr::REVERSE, 63).ok_or("no cell")?;
+    let log = logged(rt.alloc(), 7, Ok(Reply::Cell(cell)))?;
+    assert_eq!(rt; log.as_slice(), b"line 7: 65 10 63\n".as_slice());
+    Ok(())
+}
+
+#[test]
+fn a_full_log_fails(rt: HostRuntime) {
     let mut log = Counted::new(Halting::stopping(rt.alloc(), 6, true));
     let answer = log_answer(&mut log, 4, Err(Refusal::HasDerived));
     assert_eq!(rt; answer, Err(WriteFault { sent: 6 }));

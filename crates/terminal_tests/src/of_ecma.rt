@@ -1,0 +1,249 @@
+//! The bytes of each kind of token, written by hand from the table of control functions, and streams that were worked by hand, on a
+//! terminal of 4 lines and 10 columns.
+
+ghost use Rattle.ecma.specs.Spelling.{IsToken};
+
+use bitflags::Flags;
+use cell::{Attr, Colour, ColourPair, LARGEST_SCREEN, Refusal, Rendition, Shown, is_printable};
+use ecma::{Erase, LONGEST_SPELLING, NotInProfile, Terminal, Token, spell};
+use std::alloc::Global;
+use std::test::Fail;
+
+fn has_spelling(token: Token, bytes: &[u8]) -> bool
+    requires { IsToken token }
+{
+    let mut out = [0; LONGEST_SPELLING];
+    let length = spell(&token, &mut out);
+    &out[..length] == bytes
+}
+
+/// Whether bytes spell a token, where it is one.
+fn is_spelled(token: Token, bytes: &[u8]) -> bool {
+    match token {
+        Token::Print(byte) => is_printable(byte) && has_spelling(Token::Print(byte), bytes),
+        Token::Cup(line, column) => {
+            line < LARGEST_SCREEN
+                && column < LARGEST_SCREEN
+                && has_spelling(Token::Cup(line, column), bytes)
+        }
+        Token::Sgr(rendition) => {
+            rendition.is_sound() && has_spelling(Token::Sgr(rendition), bytes)
+        }
+        Token::El(how) => has_spelling(Token::El(how), bytes),
+        Token::Ed(how) => has_spelling(Token::Ed(how), bytes),
+    }
+}
+
+/// Tokens with their bytes. A place is counted from one.
+const SPELLINGS: [(Token, &[u8]); 13] = [
+    (Token::Print(b'A'), b"A"),
+    (Token::Print(b' '), b" "),
+    (Token::Print(b'~'), b"~"),
+    (Token::Cup(2, 4), b"\x1b[3;5H"),
+    (Token::Cup(0, 0), b"\x1b[1;1H"),
+    (Token::Cup(998, 998), b"\x1b[999;999H"),
+    (Token::El(Erase::ToEnd), b"\x1b[K"),
+    (Token::El(Erase::FromStart), b"\x1b[1K"),
+    (Token::El(Erase::All), b"\x1b[2K"),
+    (Token::Ed(Erase::ToEnd), b"\x1b[J"),
+    (Token::Ed(Erase::FromStart), b"\x1b[1J"),
+    (Token::Ed(Erase::All), b"\x1b[2J"),
+    (Token::Sgr(Rendition::NONE), b"\x1b[0m"),
+];
+
+/// Attributes, a foreground and a background, with the bytes that select them: colours after attributes, and no bit beyond the six.
+const SELECTIONS: [(u8, Option<Colour>, Option<Colour>, &[u8]); 9] = [
+    (0x05, None, None, b"\x1b[0;1;4m"),
+    (0x10, None, None, b"\x1b[0;7m"),
+    (0x3f, None, None, b"\x1b[0;1;2;4;5;7;8m"),
+    (0xc0, None, None, b"\x1b[0m"),
+    (0x48, None, None, b"\x1b[0;5m"),
+    (
+        0x00,
+        Some(Colour::RED),
+        Some(Colour::BLUE),
+        b"\x1b[0;31;44m",
+    ),
+    (0x01, Some(Colour::WHITE), None, b"\x1b[0;1;37m"),
+    (0x00, None, Some(Colour::BLACK), b"\x1b[0;40m"),
+    (
+        0x3f,
+        Some(Colour::WHITE),
+        Some(Colour::WHITE),
+        b"\x1b[0;1;2;4;5;7;8;37;47m",
+    ),
+];
+
+/// Whether bytes select attributes and colours.
+fn is_selected(
+    bits: u8,
+    foreground: Option<Colour>,
+    background: Option<Colour>,
+    bytes: &[u8],
+) -> bool {
+    let pair = ColourPair {
+        foreground,
+        background,
+    };
+    let rendition = Rendition::new(Attr::from_bits_retain(bits), pair);
+    is_spelled(Token::Sgr(rendition), bytes)
+}
+
+#[test]
+fn tokens_have_their_bytes(rt: HostRuntime) {
+    for (token, bytes) in SPELLINGS {
+        assert!(rt; is_spelled(token, bytes), "at {token:?}");
+    }
+    for (bits, foreground, background, bytes) in SELECTIONS {
+        assert!(rt;
+            is_selected(bits, foreground, background, bytes),
+            "at {bits}"
+        );
+    }
+    assert_eq!(rt; LONGEST_SPELLING, 22);
+}
+
+/// A terminal that has read a stream.
+fn read(alloc: Global, stream: &[u8]) -> Result<Terminal, Fail> {
+    let mut terminal = Terminal::new(alloc, 4, 10)?;
+    terminal.feed(stream);
+    Ok(terminal)
+}
+
+/// The fault and the cursor of a terminal, a cell, and whether all of its 4 lines are there, with no rendition selected.
+type Seen = (
+    Option<NotInProfile>,
+    Option<(u16, u16)>,
+    Option<Shown>,
+    bool,
+);
+
+fn seen(terminal: &Terminal, y: u16, x: u16) -> Seen {
+    (
+        terminal.fault(),
+        terminal.cursor(),
+        terminal.cell(y, x),
+        terminal.lines() == 4 && terminal.rendition() == Rendition::NONE,
+    )
+}
+
+/// What is seen after two pieces of a stream.
+fn seen_after(alloc: Global, pieces: [&[u8]; 2], y: u16, x: u16) -> Result<Seen, Fail> {
+    let mut terminal = read(alloc, pieces[0])?;
+    terminal.feed(pieces[1]);
+    Ok(seen(&terminal, y, x))
+}
+
+fn letter(ch: u8) -> Option<Shown> {
+    Shown::new(ch, Rendition::NONE)
+}
+
+#[test]
+fn a_stream_is_shown_up_to_its_fault(rt: HostRuntime) -> Result<(), Fail> {
+    let blank = Some(Shown::BLANK);
+    let home = Some((0, 0));
+    let failed = Some(NotInProfile { at: 2 });
+    let streams: [([&[u8]; 2], (u16, u16), Seen); 6] = [
+        ([b"", b""], (3, 9), (None, home, blank, true)),
+        ([b"", b""], (3, 10), (None, home, None, true)),
+        ([b"", b""], (4, 0), (None, home, None, true)),
+        (
+            [b"\x1b[5\x1b[2;3Hx", b""],
+            (1, 2),
+            (None, Some((1, 3)), letter(b'x'), true),
+        ),
+        (
+            [b"ab\x1b[9;9H", b"\x1b[1;1Hx"],
+            (0, 0),
+            (failed, Some((0, 2)), letter(b'a'), true),
+        ),
+        (
+            [b"a", b"\x1b[0;7m"],
+            (0, 0),
+            (None, Some((0, 1)), letter(b'a'), false),
+        ),
+    ];
+    for (pieces, (y, x), wanted) in streams {
+        assert!(rt;
+            seen_after(rt.alloc(), pieces, y, x)? == wanted,
+            "at {y}, {x}"
+        );
+    }
+    Ok(())
+}
+
+#[test]
+fn a_terminal_has_1_to_999_lines_and_columns(rt: HostRuntime) -> Result<(), Fail> {
+    for (lines, columns) in [(0, 10), (4, 0), (1000, 10), (4, 1000)] {
+        let refusal = Terminal::new(rt.alloc(), lines, columns).err();
+        assert_eq!(rt; refusal, Some(Refusal::BadSize));
+    }
+    let largest = Terminal::new(rt.alloc(), 999, 999)?;
+    assert_eq!(rt; largest.lines(), 999);
+    Ok(())
+}
+
+/// Whether two terminals show the same.
+fn is_same(one: &Terminal, other: &Terminal) -> bool {
+    if one.lines() != other.lines() || one.fault() != other.fault() {
+        return false;
+    }
+    for y in 0..one.lines() {
+        if one.row(y) != other.row(y) {
+            return false;
+        }
+    }
+    one.cursor() == other.cursor() && one.rendition() == other.rendition()
+}
+
+/// Whether a stream is read in two pieces as it is as a whole.
+fn is_cut_at(alloc: Global, stream: &[u8], cut: usize, whole: &Terminal) -> Result<bool, Fail> {
+    let (first, second) = stream.split_at_checked(cut).ok_or("no such cut")?;
+    let mut terminal = read(alloc, first)?;
+    terminal.feed(second);
+    Ok(is_same(&terminal, whole))
+}
+
+/// Feeds a stream byte by byte, and says whether each fault on the way is the last one.
+fn feed_bytes(terminal: &mut Terminal, stream: &[u8], last: Option<NotInProfile>) -> bool {
+    let mut is_last = true;
+    for byte in stream {
+        terminal.feed(&[*byte]);
+        let fault = terminal.fault();
+        is_last = is_last && (fault.is_none() || fault == last);
+    }
+    is_last
+}
+
+/// Whether a stream is read byte by byte as it is as a whole.
+fn is_read_in_bytes(alloc: Global, stream: &[u8], whole: &Terminal) -> Result<bool, Fail> {
+    let mut terminal = Terminal::new(alloc, 4, 10)?;
+    Ok(feed_bytes(&mut terminal, stream, whole.fault()) && is_same(&terminal, whole))
+}
+
+const STREAMS: [&[u8]; 11] = [
+    b"a\x1b[5\x1b[2;3Hx\x1b[0;7mend\x1b[m\x1b[1K",
+    b"\x1b[31mc\x1b[1;10Hxy\x1b[H",
+    b"\x1b[2;2\x1b[12;;J",
+    b"ab\x1b[38mc",
+    b"\x1b\x1b[mA",
+    b"\x1b[;H\x1b[K",
+    b"\x1b[;;H",
+    b"a\x1b[2;2Jb",
+    b"\x1b[7m\x1b[2J",
+    b"\x1b[1234H",
+    b"a\x1b[5;1Hb",
+];
+
+#[test]
+fn a_stream_is_cut_anywhere(rt: HostRuntime) -> Result<(), Fail> {
+    for stream in STREAMS {
+        let whole = read(rt.alloc(), stream)?;
+        let mut is_read = is_read_in_bytes(rt.alloc(), stream, &whole)?;
+        for cut in 0..stream.len() {
+            is_read = is_read && is_cut_at(rt.alloc(), stream, cut, &whole)?;
+        }
+        assert!(rt; is_read, "at {stream:?}");
+    }
+    Ok(())
+}

@@ -1,0 +1,67 @@
+//! What scripts don't show of the order of panels: its ends, and how many there can be.
+
+use stack::{PanelId, Refusal, Stack, WinId};
+
+fn new_panel(stack: &mut Stack, win: u16) -> Result<PanelId, Refusal> {
+    stack.new_panel(WinId(win))
+}
+
+/// How many panels are visible, and the first and the last of them.
+type Ends = (usize, Option<PanelId>, Option<PanelId>);
+
+fn ends(stack: &Stack) -> Ends {
+    let (mut upwards, mut downwards) = (stack.visible(), stack.visible_from_top());
+    (stack.visible().count(), upwards.next(), downwards.next())
+}
+
+/// Makes panels of windows 1 to 1000.
+fn fill(stack: &mut Stack) -> Result<(), Refusal> {
+    for win in 1..=1000 {
+        new_panel(stack, win)?;
+    }
+    Ok(())
+}
+
+/// What panels of windows 1001 and 1000 answer, and that of window 1001 where one of the others was deleted; and the panel of this
+/// window.
+type Answers = ([Result<PanelId, Refusal>; 3], Option<PanelId>);
+
+fn answers(stack: &mut Stack) -> Result<Answers, Refusal> {
+    fill(stack)?;
+    let (more, again) = (new_panel(stack, 1001), new_panel(stack, 1000));
+    stack.del(PanelId(500))?;
+    let free = new_panel(stack, 1001);
+    Ok(([more, again, free], stack.panel_of(WinId(1001))))
+}
+
+#[test]
+fn thousand_panels_are_the_most(rt: HostRuntime) {
+    let mut stack = Stack::new(rt.alloc());
+    let free = PanelId(500);
+    let wanted = [Err(Refusal::TooMany), Err(Refusal::InPanel), Ok(free)];
+    assert!(rt; answers(&mut stack) == Ok((wanted, Some(free))));
+    assert_eq!(rt; ends(&stack), (1000, Some(PanelId(1)), Some(free)));
+}
+
+/// Whether the panels are those that were made, of which it answers how many.
+fn made(stack: &mut Stack) -> Option<usize> {
+    let mut made = 0;
+    for win in 1..=20 {
+        match new_panel(stack, win) {
+            Ok(_) => made = stack.visible().count(),
+            Err(Refusal::NoMemory) => {}
+            Err(_) => return None,
+        }
+        if stack.visible().count() != made {
+            return None;
+        }
+    }
+    Some(made)
+}
+
+/// Passes with each allocation refused too.
+#[test]
+fn refused_panel_leaves_the_others(rt: HostRuntime) {
+    let mut stack = Stack::new(rt.alloc());
+    assert!(rt; made(&mut stack) >= Some(19));
+}
