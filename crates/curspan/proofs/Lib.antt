@@ -1,2 +1,2 @@
--- A picture that was written, or could not be; for `paint`
+-- A picture that was written, or could not be; for `paint_screen`
 pub mod PictureLemmas

@@ -6,6 +6,7 @@ ghost use Rattle.cell.specs.Shown.{no_rendition};
 ghost use Rattle.clap.specs.Words.{kind_of};
 ghost use Rattle.commands.specs.CommandLine.{IsSize};
 ghost use Rattle.commands.specs.Printing.{printed_picture};
+ghost use Rattle.curspan.specs.steps.Painting.{PaintsScreen};
 ghost use Rattle.curspan.specs.Serving.{Explains, Paints, Runs, Serves, ShowsText, Tells, nothing_seen};
 ghost use Rattle.commands.specs.Statuses.{LacksMemory};
 ghost use Rattle.commands.specs.Written.{WritingEnds, outputs};
@@ -134,6 +135,28 @@ fn print_desk<O: Sink>(out: &mut O, desk: &Desk) -> bool
     print(out, desk.virtual_screen(), lines, cursor, Rendition::NONE)
 }
 
+/// Runs a script on a screen, prints the picture that it leaves, and answers the status.
+fn paint_screen<R: Source, O: Sink, L: Sink>(
+    screen: &mut Screen<Discard>,
+    input: &mut R,
+    out: &mut O,
+    log: &mut L,
+) -> u8
+    ensures painted { PaintsScreen ⟦<Discard as Sink>⟧.seen screen.old (R.seen input.old) (R.seen input.new) (outputs (O.seen out.old) (L.seen log.old)) (outputs (O.seen out.new) (L.seen log.new)) result }
+    ensures log { result < 2 → (L.seen log.new).failures ≡ (L.seen log.old).failures }
+{
+    let end = run_told(screen, input, log);
+    if end.fault.is_some() {
+        return status_of(end);
+    }
+    take_picture(screen);
+    if print_desk(out, screen.desk()) {
+        status_of(end)
+    } else {
+        tell_failure(log, ScriptFault::Log)
+    }
+}
+
 /// Runs a script on a screen of the job's size, prints the picture that it leaves, and answers the status.
 fn paint<R: Source, O: Sink, L: Sink>(
     alloc: Global,
@@ -148,19 +171,9 @@ fn paint<R: Source, O: Sink, L: Sink>(
         ⊎ Paints ⟦<Discard as Sink>⟧.seen job (R.seen input.old) (R.seen input.new) (outputs (O.seen out.old) (L.seen log.old)) (outputs (O.seen out.new) (L.seen log.new)) result }
     ensures log { result < 2 → (L.seen log.new).failures ≡ (L.seen log.old).failures }
 {
-    let mut screen = match blank_screen(alloc, job) {
-        Ok(screen) => screen,
-        Err(_) => return no_memory(log),
-    };
-    let end = run_told(&mut screen, input, log);
-    if end.fault.is_some() {
-        return status_of(end);
-    }
-    take_picture(&mut screen);
-    if print_desk(out, screen.desk()) {
-        status_of(end)
-    } else {
-        tell_failure(log, ScriptFault::Log)
+    match blank_screen(alloc, job) {
+        Ok(mut screen) => paint_screen(&mut screen, input, out, log),
+        Err(_) => no_memory(log),
     }
 }
 

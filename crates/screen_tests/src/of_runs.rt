@@ -51,6 +51,23 @@ fn a_run_sends_what_it_shows_and_counts(rt: HostRuntime) -> Result<(), Fail> {
     Ok(())
 }
 
+/// Runs of which the first ends at a write that fails after five bytes.
+fn run_after_fault(alloc: Global) -> Result<([RunEnd; 2], Vec<u8>), Refusal> {
+    let first = [addstr(b"hi"), UPDATE, SHOW];
+    run_twice(alloc, 5, &first, &[addstr(b"!"), UPDATE, SHOW])
+}
+
+#[test]
+fn a_run_goes_on_after_one_that_a_failed_write_ended(rt: HostRuntime) -> Result<(), Fail> {
+    let (ends, stream) = run_after_fault(rt.alloc())?;
+    let [first, second] = ends;
+    let fault = Some(WriteFault { sent: 5 });
+    assert!(rt; (first.done, first.refused, first.fault) == (2, 0, fault));
+    assert!(rt; (second.done, second.refused, second.fault) == (3, 0, None));
+    assert_eq!(rt; stream.len(), 5 + 17);
+    Ok(())
+}
+
 /// Whether a terminal that reads a stream shows a text in its corner, nothing else, and the cursor after it.
 fn shows(terminal: &mut Terminal, stream: &[u8], text: &[u8]) -> bool {
     terminal.feed(stream);

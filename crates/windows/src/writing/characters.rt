@@ -111,8 +111,8 @@ fn is_one_run(state: &WindowState, text: &[u8]) -> bool
     ensures printable { result ≡ true → EachIndex text.now (λ k. is_printable (slice_index text.now k) ≡ true) }
     ensures accepted { result ≡ true → list_any is_bad_character text.now ≡ false }
 {
-    let room = usize::from(state.columns - 1 - state.settings.cursor.1);
-    0 < text.len() && text.len() <= room && are_printable(text)
+    let rest = usize::from(state.columns - state.settings.cursor.1);
+    0 < text.len() && text.len() < rest && are_printable(text)
 }
 
 /// Writes an accepted text in a window that is there.
@@ -180,6 +180,7 @@ fn run_length(state: &WindowState, text: &[u8]) -> usize
 }
 
 /// Prints characters at the cursor that end before the last column.
+#[inline(always)]
 fn print_run(table: &mut Grids, win: WinId, state: &WindowState, run: &[u8]) -> Rect
     requires state { IsStateOf (windows table.old) win.0 state.now }
     requires some { 0 < length run.now }

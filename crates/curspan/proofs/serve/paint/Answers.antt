@@ -1,71 +1,20 @@
--- `paint`: a picture that was written, or could not be (`PictureLemmas`).
-use Rattle.std.proofs.Common.{◌≡◌, false, true, Some, ap, inr, refl, subst, sym, ◌∙◌}
-use Rattle.std.specs.Prelude.{is_some}
-use Rattle.curspan.proofs.PictureLemmas.{Prints-failed, Prints-nothing, Prints-written}
-use Rattle.compose.specs.Desks.{world}
-use Rattle.world.specs.World.{World}
-use Rattle.cell.specs.Shown.{no_rendition}
-use Rattle.commands.specs.Printing.{printed_picture}
-use Rattle.commands.specs.Written.{IsNotWritten, IsWritten, outputs}
+-- `paint`: what it does on the screen that it makes.
+use Rattle.std.proofs.Common.{inr}
 use Rattle.curspan.proofs.serve.paint.Goals as goal
 
-pub returns-clause-painted : goal.returns-clause-painted
-returns-clause-painted g c =
-    let fault : is_some c.run_told-end.result.fault ≡ false = sym c.is_some.ensures ∙ c.if-is_some.false in
-    let text = ap (λ (w : World). printed_picture w.virtual.picture (Some w.virtual.cursor) no_rendition) c.take_picture.ensures in
-    let not_written = subst (IsNotWritten (g.O.Sink.seen c.args.out.now) (g.O.Sink.seen c.print_desk.new.out)) text (rw (c.desk.ensures, c.if-print_desk.false) at c.print_desk.ensures) in
+pub returns-in-Ok-clause-painted : goal.returns-in-Ok-clause-painted
+returns-in-Ok-clause-painted g c =
+    let painted = c.paint_screen.ensures.painted in
     inr (record {
-      last = c.run_told-end.new.screen;
-      end = c.run_told-end.result;
-      told = g.L.Sink.seen c.run_told-end.new.log;
+      last = painted.last;
+      end = painted.end;
+      told = painted.told;
       script = record {
         first = c.in-Ok.screen;
         blank = c.in-Ok.ensures.world;
         unpainted = c.in-Ok.ensures.painter;
         over = c.in-Ok.ensures.writer;
-        runs = c.run_told-end.ensures.ran;
+        runs = painted.runs;
       };
-      prints = Prints-failed c.run_told-end.result (world c.run_told-end.new.screen.desk) (g.L.Sink.seen c.run_told-end.new.log)
-          (outputs (g.O.Sink.seen c.args.out.now) (g.L.Sink.seen c.args.log.now)) (outputs (g.O.Sink.seen c.print_desk.new.out) (g.L.Sink.seen c.tell_failure.new.log))
-          c.tell_failure.result fault c.tell_failure.ensures.status not_written c.tell_failure.ensures.told;
-    })
-
-pub returns-then-print_desk-clause-painted : goal.returns-then-print_desk-clause-painted
-returns-then-print_desk-clause-painted g c =
-    let fault : is_some c.run_told-end.result.fault ≡ false = sym c.is_some.ensures ∙ c.if-is_some.false in
-    let text = ap (λ (w : World). printed_picture w.virtual.picture (Some w.virtual.cursor) no_rendition) c.take_picture.ensures in
-    let written = subst (IsWritten (g.O.Sink.seen c.args.out.now) (g.O.Sink.seen c.print_desk.new.out)) text (rw (c.desk.ensures, c.if-print_desk.true) at c.print_desk.ensures) in
-    inr (record {
-      last = c.run_told-end.new.screen;
-      end = c.run_told-end.result;
-      told = g.L.Sink.seen c.run_told-end.new.log;
-      script = record {
-        first = c.in-Ok.screen;
-        blank = c.in-Ok.ensures.world;
-        unpainted = c.in-Ok.ensures.painter;
-        over = c.in-Ok.ensures.writer;
-        runs = c.run_told-end.ensures.ran;
-      };
-      prints = Prints-written c.run_told-end.result (world c.run_told-end.new.screen.desk) (g.L.Sink.seen c.run_told-end.new.log)
-          (outputs (g.O.Sink.seen c.args.out.now) (g.L.Sink.seen c.args.log.now)) (outputs (g.O.Sink.seen c.print_desk.new.out) (g.L.Sink.seen c.run_told-end.new.log))
-          c.status_of-then-print_desk.result fault c.status_of-then-print_desk.ensures.status written refl;
-    })
-
-pub returns-then-is_some-clause-painted : goal.returns-then-is_some-clause-painted
-returns-then-is_some-clause-painted g c =
-    let fault : is_some c.run_told-end.result.fault ≡ true = sym c.is_some.ensures ∙ c.if-is_some.true in
-    inr (record {
-      last = c.run_told-end.new.screen;
-      end = c.run_told-end.result;
-      told = g.L.Sink.seen c.run_told-end.new.log;
-      script = record {
-        first = c.in-Ok.screen;
-        blank = c.in-Ok.ensures.world;
-        unpainted = c.in-Ok.ensures.painter;
-        over = c.in-Ok.ensures.writer;
-        runs = c.run_told-end.ensures.ran;
-      };
-      prints = Prints-nothing c.run_told-end.result (world c.run_told-end.new.screen.desk) (g.L.Sink.seen c.run_told-end.new.log)
-          (outputs (g.O.Sink.seen c.args.out.now) (g.L.Sink.seen c.args.log.now)) (outputs (g.O.Sink.seen c.args.out.now) (g.L.Sink.seen c.run_told-end.new.log))
-          c.status_of.result fault c.status_of.ensures.status refl refl;
+      prints = painted.prints;
     })
