@@ -142,7 +142,8 @@ fn paint_screen<R: Source, O: Sink, L: Sink>(
     out: &mut O,
     log: &mut L,
 ) -> u8
-    ensures painted { PaintsScreen ⟦<Discard as Sink>⟧.seen screen.old (R.seen input.old) (R.seen input.new) (outputs (O.seen out.old) (L.seen log.old)) (outputs (O.seen out.new) (L.seen log.new)) result }
+    ensures painted { PaintsScreen ⟦<Discard as Sink>⟧.seen screen.old (R.seen input.old) (R.seen input.new)
+        (outputs (O.seen out.old) (L.seen log.old)) (outputs (O.seen out.new) (L.seen log.new)) result }
     ensures log { result < 2 → (L.seen log.new).failures ≡ (L.seen log.old).failures }
 {
     let end = run_told(screen, input, log);
