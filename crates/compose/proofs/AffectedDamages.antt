@@ -1,22 +1,32 @@
 -- What a change damages, in terms of the windows before it.
-use Rattle.std.proofs.Common.{◌≡◌, ℕ, ◌≤◌, Option, Some, None, List, refl, sym, subst, ◌∙◌}
+use Rattle.std.proofs.Common.{◌≡◌, ℕ, ◌≤◌, Bool, true, false, Ok, Option, Some, None, List, refl, sym, subst, ◌∙◌}
 use Rattle.std.specs.Prelude.{MatchOption, ⊤}
 use Rattle.std.specs.Option.{option_map}
+use Rattle.cell.specs.declared.refusal.Refusal.{Refusal}
 use Rattle.cell.specs.declared.window.Rect.{Rect}
 use Rattle.world.specs.Panels.{Panels}
 use Rattle.world.specs.Windows.{HasPlace, WindowMap, Windows}
-use Rattle.world.specs.Effects.{Change, after_change, after_edit, asks, deletes, edit_frame, edit_window, edits, makes, marks, moves, shifts}
+use Rattle.world.specs.Effects.{Change, after_change, after_edit, asks, change_takes_memory, deletes, edit_frame, edit_window, edits, makes, marks, moves, shifts}
 use Rattle.world.specs.calls.Affected.{change_shows_at, frame_shows_at}
+use Rattle.world.specs.calls.Refused.{Refused}
 use Rattle.world.specs.declared.settings.Columns.{Columns}
 use Rattle.world.proofs.MoveLaws.{move_shows-moved}
 use Rattle.world.proofs.PictureLaws.{SameView, frame_shows-same}
 use Rattle.world.proofs.Sizes.{SameSize, size-change}
 use Rattle.world.proofs.WritingLaws.{inside-edit, there-still, view-edit}
+use Rattle.grids.specs.Tables.{WindowTable, windows}
 use Rattle.picture.specs.Damages.{Damages}
 use Rattle.picture.proofs.DamageLaws.{damages-as}
 use Rattle.compose.specs.declared.damaging.Affected.{Affected}
 use Rattle.compose.specs.declared.damaging.Affected.TheVariants.{Written}
+use Rattle.compose.specs.declared.dispatch.Outcome.{Outcome}
 use Rattle.compose.specs.steps.Changes.{IsPossible, affected_by, any_shows_at}
+use Rattle.compose.specs.steps.Outcomes.{Affects, ChangedDamaging}
+
+-- an accepted call is accepted whatever it answers
+accepted-as : {T U : Type 0} (takes : Bool) (refusal : Option Refusal) (one : T) (other : U) → Refused takes refusal (Ok one) → Refused takes refusal (Ok other)
+accepted-as true refusal one other h = h
+accepted-as false refusal one other h = h
 
 -- a rectangle that lies in the window before an edit lies in it after it
 still-possible : (old new : WindowMap) → SameView new old → (w : ℕ) (frame : Option Rect)
@@ -52,19 +62,36 @@ shows-after old panels (deletes w) y x = refl
 shows-after old panels (moves w place) y x = refl
 shows-after old panels (shifts w place) y x = move_shows-moved old w place.0 place.1 panels y x
 
-module _ (old new : Windows) (panels : Panels) (change : Change) (affected : Option Affected) (is : new ≡ after_change old change) (by : affected ≡ affected_by old change) where
-  pub same-size : SameSize new old
-  same-size = subst (λ (ws : Windows). SameSize ws old) (sym is) (size-change old change)
+possible-for : (old new : Windows) (change : Change) (affected : Option Affected) → new ≡ after_change old change → affected ≡ affected_by old change
+    → MatchOption affected ⊤ (IsPossible new.window)
+possible-for old new change affected is by = rw (is, by) (possible-after old change)
 
-  pub possible : MatchOption affected ⊤ (IsPossible new.window)
-  possible = rw (is, by) (possible-after old change)
+module _ (old new : WindowTable) (refusal : Option Refusal) (change : Change) (outcome : Outcome) (a : Affects old refusal change (Ok outcome) new) where
+  same-size : SameSize (windows new) (windows old)
+  same-size = subst (λ (ws : Windows). SameSize ws (windows old)) (sym a.call.changed) (size-change (windows old) change)
 
-  shows : (y x : ℕ) → any_shows_at new.window panels affected y x ≡ change_shows_at old panels change y x
-  shows y x = (λ i. any_shows_at (is i).window panels (by i) y x) ∙ shows-after old panels change y x
+  pub lines-affected : new.lines ≡ old.lines
+  lines-affected = same-size.lines
 
-  pub damages : (before after : List (Option Columns)) → Damages new.columns (any_shows_at new.window panels affected) before after
-      → Damages old.columns (change_shows_at old panels change) before after
-  damages before after h =
-      subst (λ n. Damages n (change_shows_at old panels change) before after) same-size.columns
-      (damages-as new.columns (any_shows_at new.window panels affected) (change_shows_at old panels change) before after h
-      (λ y x below left at. shows y x ∙ at) (λ y x left at. sym (shows y x) ∙ at))
+  pub possible-affected : MatchOption outcome.affected ⊤ (IsPossible (windows new).window)
+  possible-affected = possible-for (windows old) (windows new) change outcome.affected a.call.changed a.affected
+
+  shows : (panels : Panels) (y x : ℕ) → any_shows_at (windows new).window panels outcome.affected y x ≡ change_shows_at (windows old) panels change y x
+  shows panels y x = (λ i. any_shows_at (a.call.changed i).window panels (a.affected i) y x) ∙ shows-after (windows old) panels change y x
+
+  -- it is accepted with its answer, where what it affects is damaged
+  pub damaging : (panels : Panels) (before after : List (Option Columns)) → Damages new.columns (any_shows_at (windows new).window panels outcome.affected) before after
+      → ChangedDamaging old panels refusal change before (Ok outcome.reply) new after
+  damaging panels before after h = record {
+    call = record {
+      refused = accepted-as (change_takes_memory change) refusal outcome outcome.reply a.call.refused;
+      reply = a.call.reply;
+      changed = a.call.changed;
+      unchanged = tt;
+      sound = a.call.sound;
+    };
+    damaged = subst (λ n. Damages n (change_shows_at (windows old) panels change) before after) same-size.columns
+        (damages-as new.columns (any_shows_at (windows new).window panels outcome.affected) (change_shows_at (windows old) panels change) before after h
+        (λ y x below left at. shows panels y x ∙ at) (λ y x left at. sym (shows panels y x) ∙ at));
+    undamaged = tt;
+  }

@@ -7,11 +7,10 @@ use Rattle.cell.specs.Shown.{Pairs, ArePairs, IsShown, first_pairs, shown_blank}
 use Rattle.cell.specs.Pictures.{Picture, blank_picture}
 use Rattle.cell.proofs.PictureLemmas.{ArePairs-first, EachCell-all_of, HasSize-all_of, IsShown-blank}
 use Rattle.world.specs.Windows.{Windows}
-use Rattle.world.specs.Panels.{Panels, is_in_panel, first_panels, standard_screen}
+use Rattle.world.specs.Panels.{Panels, first_panels, standard_screen}
 use Rattle.cell.specs.VirtualScreens.{VirtualScreen}
 use Rattle.world.specs.World.{World, first_world}
 use Rattle.world.specs.Sound.{AreSoundPanels, AreSoundWindows, IsSound}
-use Rattle.world.specs.calls.Making.{after_making, making_change, making_refusal}
 use Rattle.world.specs.calls.Dispatch.{refusal, takes_memory, world_after}
 use Rattle.cell.specs.declared.refusal.Refusal.{Refusal}
 use Rattle.cell.specs.declared.refusal.Refusal.TheVariants.{NoMemory}
@@ -22,10 +21,8 @@ use Rattle.compose.specs.Desks.{DeskTable, is_damaged_line, world}
 use Rattle.compose.specs.Calling.{Called, DamagesFew, MayLeave, MayRefuse, MayTell}
 use Rattle.world.specs.declared.call.Call.{Call}
 use Rattle.world.specs.declared.call.Call.TheVariants as calls
-use Rattle.world.specs.declared.call.Making.{Making}
 use Rattle.world.specs.declared.call.Reply.{Reply}
-use Rattle.world.proofs.Allowed.{allowed-making}
-use Rattle.world.proofs.PlaceLaws.{has_place, keeps-change, panels-kept}
+use Rattle.world.proofs.PlaceLaws.{has_place, panels-kept}
 use Rattle.world.proofs.Sizes.{SameSize, size-call}
 
 -- a desk of these windows, panels and pairs, and this virtual screen; its damage is no part of its world
@@ -63,14 +60,6 @@ module _ (old new : WindowTable) (ps : PanelTable) (pairs : Pairs) (virtual : Vi
       IsSound-desk h sound (record { lines = ap (λ ws. ws.lines) is ∙ size.lines; columns = ap (λ ws. ws.columns) is ∙ size.columns })
       (λ p w has other there. subst (λ ws. has_place (ws.window w) ≡ true) (sym is) (keeps done refl p w has other there))
   IsSound-after after (Err e) h sound size keeps is unchanged = subst (λ t. IsSound (world (desk_of t ps pairs virtual))) (sym unchanged) h
-
-  -- ---- making
-
-  pub keeps-made : (making : Making) (r : Result Reply Refusal) → AreSoundPanels (windows old).window (panels ps) → RefusedBy (making_refusal (windows old) (is_in_panel (panels ps)) making) r
-      → (reply : Reply) → r ≡ Ok reply → KeepsPlaces (panels ps) (windows old) (after_making (windows old) making)
-  keeps-made making (Ok reply) sound refused done is p w has other there =
-      keeps-change (windows old) (panels ps) (making_change (windows old) making) sound (allowed-making (windows old) (panels ps) making refused) p w has there
-  keeps-made making (Err e) sound refused done is p w has other there = cc
 
 -- a new desk
 pub IsSound-new : (w : WindowTable) (ps : PanelTable) (lines columns : ℕ) (pairs : Pairs) (picture : Picture) → AreSoundWindows (windows w) → windows w ≡ (first_world lines columns).windows

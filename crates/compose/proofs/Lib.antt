@@ -30,3 +30,5 @@ pub mod Parting
 pub mod Padding
 -- What update_panels reads: no less than it changes, and no more than all of the damaged lines; for `compose`
 pub mod Updating
+-- A call on windows, made on a desk: what it answers and leaves, and that the desk is still one; for `call`
+mod WindowCalls

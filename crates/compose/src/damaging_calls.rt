@@ -6,19 +6,18 @@ ghost use Rattle.std.specs.Result.{result_err};
 ghost use Rattle.cell.specs.Refusals.{RefusedBy};
 ghost use Rattle.world.specs.Panels.{is_in_panel};
 ghost use Rattle.world.specs.Sound.{AreSoundPanels, AreSoundWindows};
-ghost use Rattle.world.specs.calls.Copying.{after_copying, copying_refusal, copying_change};
-ghost use Rattle.world.specs.calls.Writing.{after_writing, writing_refusal, writing_edit};
-ghost use Rattle.world.specs.calls.Making.{after_making, making_refusal, making_change};
+ghost use Rattle.world.specs.calls.Copying.{copying_refusal, copying_change};
+ghost use Rattle.world.specs.calls.Writing.{writing_refusal, writing_edit};
+ghost use Rattle.world.specs.calls.Making.{making_refusal, making_change};
 ghost use Rattle.world.specs.calls.Stacking.{stacking_refusal, panel_number, after_stacking, stacking_order};
-ghost use Rattle.world.specs.calls.Affected.{panel_shows_at, change_shows_at, edit_shows_at, order_shows_at};
-ghost use Rattle.world.specs.Effects.{change_reply, change_takes_memory, order_reply, order_takes_memory, windows_after};
-ghost use Rattle.world.specs.Windows.{changed};
+ghost use Rattle.world.specs.calls.Affected.{panel_shows_at, order_shows_at};
+ghost use Rattle.world.specs.Effects.{edits, order_reply, order_takes_memory, windows_after};
 ghost use Rattle.grids.specs.Tables.{windows as windows_of};
 ghost use Rattle.stack.specs.Tables.{panels};
-ghost use Rattle.world.specs.declared.call.Reply.{Reply};
 ghost use Rattle.picture.specs.Parts.{IsFrameWithin, part_holds};
 ghost use Rattle.picture.specs.Damages.{Damages};
 ghost use Rattle.compose.specs.steps.Changes.{top_window};
+ghost use Rattle.compose.specs.steps.Outcomes.{ChangedDamaging};
 
 use crate::damaging::{damage_affected, damage_part};
 use crate::dispatch::{arrange, changed_panel, copy, make, named_panel, ordered_panel, write};
@@ -38,20 +37,12 @@ pub(crate) fn make_damaging(
 ) -> Result<Reply, Refusal>
     requires panels { AreSoundPanels (windows_of table.old).window (panels stack.now) }
     requires height { length damage.old ≡ table.old.lines }
-    ensures refused { RefusedBy (making_refusal (windows_of table.old) (is_in_panel (panels stack.now)) making) result }
-    ensures exact { change_takes_memory (making_change (windows_of table.old) making) ≡ false
-        → result_err result ≡ making_refusal (windows_of table.old) (is_in_panel (panels stack.now)) making }
-    ensures reply { IfOk result (λ reply. reply ≡ change_reply (making_change (windows_of table.old) making)) }
-    ensures made { OnOk result (windows_of table.new ≡ after_making (windows_of table.old) making) }
-    ensures damaged { OnOk result (Damages table.old.columns (change_shows_at (windows_of table.old) (panels stack.now)
-        (making_change (windows_of table.old) making)) damage.old damage.new) }
-    ensures unchanged { OnErr result (table.new ≡ table.old) }
-    ensures undamaged { OnErr result (damage.new ≡ damage.old) }
-    ensures sound { AreSoundWindows (windows_of table.new) }
+    ensures { ChangedDamaging table.old (panels stack.now) (making_refusal (windows_of table.old) (is_in_panel (panels stack.now)) making)
+        (making_change (windows_of table.old) making) damage.old result table.new damage.new }
 {
-    let changed = make(table, stack, making)?;
-    damage_affected(damage, table, stack, changed.affected);
-    Ok(changed.reply)
+    let outcome = make(table, stack, making)?;
+    damage_affected(damage, table, stack, outcome.affected);
+    Ok(outcome.reply)
 }
 
 /// Makes a call of the table of writing.
@@ -63,21 +54,16 @@ pub(crate) fn write_damaging(
     writing: Writing<'_>,
 ) -> Result<Reply, Refusal>
     requires height { length damage.old ≡ windows.old.table.lines }
-    ensures refused { result_err result ≡ writing_refusal (windows_of windows.old.table) writing.entry }
-    ensures reply { IfOk result (λ reply. reply ≡ Reply.Nothing) }
-    ensures written { OnOk result (windows_of windows.new.table ≡ after_writing (windows_of windows.old.table) writing.entry) }
-    ensures damaged { OnOk result (Damages windows.old.table.columns (edit_shows_at (windows_of windows.old.table) (panels stack.now)
-        (writing_edit (windows_of windows.old.table) writing.entry)) damage.old damage.new) }
-    ensures unchanged { OnErr result (windows.new.table ≡ windows.old.table) }
-    ensures undamaged { OnErr result (damage.new ≡ damage.old) }
-    ensures sound { AreSoundWindows (windows_of windows.new.table) }
+    ensures { ChangedDamaging windows.old.table (panels stack.now) (writing_refusal (windows_of windows.old.table) writing.entry)
+        (edits (writing_edit (windows_of windows.old.table) writing.entry)) damage.old result windows.new.table damage.new }
 {
-    let changed = write(windows, writing)?;
-    damage_affected(damage, &windows.table, stack, changed.affected);
-    Ok(changed.reply)
+    let outcome = write(windows, writing)?;
+    damage_affected(damage, &windows.table, stack, outcome.affected);
+    Ok(outcome.reply)
 }
 
 /// Makes a call of the table of copies and marks.
+#[inline(always)]
 pub(crate) fn copy_damaging(
     windows: &mut Windows,
     stack: &Stack,
@@ -85,18 +71,12 @@ pub(crate) fn copy_damaging(
     copying: Copying,
 ) -> Result<Reply, Refusal>
     requires height { length damage.old ≡ windows.old.table.lines }
-    ensures refused { result_err result ≡ copying_refusal (windows_of windows.old.table) copying }
-    ensures reply { IfOk result (λ reply. reply ≡ change_reply (copying_change (windows_of windows.old.table) copying)) }
-    ensures copied { OnOk result (windows_of windows.new.table ≡ after_copying (windows_of windows.old.table) copying) }
-    ensures damaged { OnOk result (Damages windows.old.table.columns (change_shows_at (windows_of windows.old.table) (panels stack.now)
-        (copying_change (windows_of windows.old.table) copying)) damage.old damage.new) }
-    ensures unchanged { OnErr result (windows.new.table ≡ windows.old.table) }
-    ensures undamaged { OnErr result (damage.new ≡ damage.old) }
-    ensures sound { AreSoundWindows (windows_of windows.new.table) }
+    ensures { ChangedDamaging windows.old.table (panels stack.now) (copying_refusal (windows_of windows.old.table) copying)
+        (copying_change (windows_of windows.old.table) copying) damage.old result windows.new.table damage.new }
 {
-    let changed = copy(windows, copying)?;
-    damage_affected(damage, &windows.table, stack, changed.affected);
-    Ok(changed.reply)
+    let outcome = copy(windows, copying)?;
+    damage_affected(damage, &windows.table, stack, outcome.affected);
+    Ok(outcome.reply)
 }
 
 /// Makes a call of the table of panels.

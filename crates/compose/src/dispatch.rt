@@ -1,24 +1,29 @@
 //! The calls on windows, by the group that they are in.
 
-ghost use Rattle.std.specs.Prelude.{◌≡◌, IfOk, OnErr, OnOk, None, Some, false, option_map};
+ghost use Rattle.std.specs.Prelude.{◌≡◌, ℕ, IfOk, OnErr, OnOk, Option, None, false};
 ghost use Rattle.std.specs.Result.{result_err};
+ghost use Rattle.cell.specs.Pictures.{Place};
 ghost use Rattle.cell.specs.Refusals.{RefusedBy};
+ghost use Rattle.cell.specs.declared.refusal.Refusal.{Refusal};
 ghost use Rattle.world.specs.Panels.{is_in_panel, Panels};
 ghost use Rattle.world.specs.Sound.{AreSoundPanels, AreSoundWindows};
-ghost use Rattle.world.specs.calls.Copying.{after_copying, copying_refusal, copying_change};
-ghost use Rattle.world.specs.calls.Making.{after_making, making_refusal, making_change};
+ghost use Rattle.world.specs.calls.Copying.{copying_refusal, copying_change};
+ghost use Rattle.world.specs.calls.Making.{making_refusal, making_change};
 ghost use Rattle.world.specs.calls.Stacking.{after_stacking, stacking_refusal, panel_number, stacking_order};
 ghost use Rattle.world.specs.calls.Dispatch.{is_doupdate};
-ghost use Rattle.world.specs.calls.Writing.{after_writing, writing_refusal, writing_edit};
+ghost use Rattle.world.specs.calls.Writing.{writing_refusal, writing_edit};
 ghost use Rattle.world.specs.calls.Queries.{query_refusal, query_reply};
-ghost use Rattle.world.specs.Effects.{change_reply, change_takes_memory, edits, order_reply, order_takes_memory, windows_after};
-ghost use Rattle.world.specs.Windows.{changed};
-ghost use Rattle.grids.specs.Tables.{windows as windows_of};
-ghost use Rattle.stack.specs.Tables.{panels};
+ghost use Rattle.world.specs.Effects.{Change, asks, edits, makes, shifts, Edit, edit_window, order_reply, order_takes_memory, windows_after};
+ghost use Rattle.world.specs.Windows.{Window};
 ghost use Rattle.world.specs.declared.call.Call.{Call};
+ghost use Rattle.world.specs.declared.call.Reply.{Reply};
+ghost use Rattle.grids.specs.Calls.{Changed, its_flag, its_number, nothing as no_answer};
+ghost use Rattle.grids.specs.Tables.{WindowTable, windows as windows_of};
+ghost use Rattle.windows.specs.Calls.{Drew, its_frame, no_frame};
+ghost use Rattle.stack.specs.Tables.{panels};
 ghost use Rattle.compose.specs.steps.Changes.{affected_by, named_panel, order_panel, ordered_panel};
+ghost use Rattle.compose.specs.steps.Outcomes.{Affects};
 ghost use Rattle.compose.specs.Calling.{Called};
-ghost use Rattle.compose.specs.Desks.{world};
 
 use crate::damaging::Affected;
 use crate::desk::Desk;
@@ -29,98 +34,161 @@ use stack::Stack;
 use windows::Windows;
 use world::{Copying, Making, PanelId, Query, Refresh, Reply, Stacking, Writing};
 
-/// The outcome of a call on windows: its answer, and what it affected of what they show.
+/// The outcome of a call on windows: its answer, and what it affects of what they show.
 #[derive(Clone, Copy)]
-pub struct Changed {
+pub struct Outcome {
     pub reply: Reply,
     pub affected: Option<Affected>,
 }
 
 /// Makes a call of the table of making and placing.
 #[rattlefmt::skip]
-pub(crate) fn make(table: &mut Grids, stack: &Stack, making: Making) -> Result<Changed, Refusal>
+pub(crate) fn make(table: &mut Grids, stack: &Stack, making: Making) -> Result<Outcome, Refusal>
     requires { AreSoundPanels (windows_of table.old).window (panels stack.now) }
-    ensures refused { RefusedBy (making_refusal (windows_of table.old) (is_in_panel (panels stack.now)) making) result }
-    ensures exact { change_takes_memory (making_change (windows_of table.old) making) ≡ false
-        → result_err result ≡ making_refusal (windows_of table.old) (is_in_panel (panels stack.now)) making }
-    ensures reply { IfOk result (λ changed. changed.reply ≡ change_reply (making_change (windows_of table.old) making)) }
-    ensures affected { IfOk result (λ changed. changed.affected ≡ affected_by (windows_of table.old) (making_change (windows_of table.old) making)) }
-    ensures made { OnOk result (windows_of table.new ≡ after_making (windows_of table.old) making) }
-    ensures unchanged { OnErr result (table.new ≡ table.old) }
-    ensures sound { AreSoundWindows (windows_of table.new) }
+    ensures { Affects table.old (making_refusal (windows_of table.old) (is_in_panel (panels stack.now)) making)
+        (making_change (windows_of table.old) making) result table.new }
 {
     match making {
-        Making::Newwin { lines, columns, y, x } => made(table.newwin(lines, columns, y, x)?),
-        Making::Subwin { win, lines, columns, y, x } => made(table.subwin(win, lines, columns, y, x)?),
-        Making::Derwin { win, lines, columns, y, x } => made(table.derwin(win, lines, columns, y, x)?),
-        Making::Newpad { lines, columns } => made(table.newpad(lines, columns)?),
-        Making::Subpad { pad, lines, columns, y, x } => made(table.subpad(pad, lines, columns, y, x)?),
-        Making::Delwin { win } => set(delete_window(table, stack, win)?),
-        Making::Mvwin { win, y, x } => set(move_window(table, stack, win, y, x)?),
-        Making::Mvderwin { win, y, x } => moved(win, table.mvderwin(win, y, x)?),
+        Making::Newwin { lines, columns, y, x } => Outcome::window(table.newwin(lines, columns, y, x)),
+        Making::Subwin { win, lines, columns, y, x } => Outcome::window(table.subwin(win, lines, columns, y, x)),
+        Making::Derwin { win, lines, columns, y, x } => Outcome::window(table.derwin(win, lines, columns, y, x)),
+        Making::Newpad { lines, columns } => Outcome::window(table.newpad(lines, columns)),
+        Making::Subpad { pad, lines, columns, y, x } => Outcome::window(table.subpad(pad, lines, columns, y, x)),
+        Making::Delwin { win } => Outcome::unseen(delete_window(table, stack, win)),
+        Making::Mvwin { win, y, x } => Outcome::unseen(move_window(table, stack, win, y, x)),
+        Making::Mvderwin { win, y, x } => Outcome::shift(win, table.mvderwin(win, y, x)),
     }
 }
 
 /// Makes a call of the table of writing.
 #[inline(always)]
-pub(crate) fn write(windows: &mut Windows, writing: Writing<'_>) -> Result<Changed, Refusal>
-    ensures refused { result_err result ≡ writing_refusal (windows_of windows.old.table) writing.entry }
-    ensures reply { IfOk result (λ changed. changed.reply ≡ Reply.Nothing) }
-    ensures affected { IfOk result (λ changed. changed.affected ≡ affected_by (windows_of windows.old.table)
-        (edits (writing_edit (windows_of windows.old.table) writing.entry))) }
-    ensures written { OnOk result (windows_of windows.new.table ≡ after_writing (windows_of windows.old.table) writing.entry) }
-    ensures unchanged { OnErr result (windows.new.table ≡ windows.old.table) }
-    ensures sound { AreSoundWindows (windows_of windows.new.table) }
+pub(crate) fn write(windows: &mut Windows, writing: Writing<'_>) -> Result<Outcome, Refusal>
+    ensures { Affects windows.old.table (writing_refusal (windows_of windows.old.table) writing.entry)
+        (edits (writing_edit (windows_of windows.old.table) writing.entry)) result windows.new.table }
 {
     match writing {
-        Writing::Move { win, y, x } => set(windows.wmove(win, y, x)?),
-        Writing::Addch { win, ch } => drew(win, windows.waddch(win, ch)?),
-        Writing::Addstr { win, text } => drew(win, windows.waddstr(win, text)?),
-        Writing::Insch { win, ch } => drew(win, windows.winsch(win, ch)?),
-        Writing::Delch { win } => drew(win, windows.wdelch(win)?),
-        Writing::Insertln { win } => drew(win, windows.winsertln(win)?),
-        Writing::Deleteln { win } => drew(win, windows.wdeleteln(win)?),
-        Writing::Erase { win } => drew(win, windows.werase(win)?),
-        Writing::Clear { win } => drew(win, windows.wclear(win)?),
-        Writing::Clrtoeol { win } => drew(win, windows.wclrtoeol(win)?),
-        Writing::Clrtobot { win } => drew(win, windows.wclrtobot(win)?),
-        Writing::Scrl { win, n } => drew(win, windows.wscrl(win, n)?),
-        Writing::Setscrreg { win, top, bottom } => set(windows.wsetscrreg(win, top, bottom)?),
-        Writing::Scrollok { win, flag } => set(windows.scrollok(win, flag)?),
-        Writing::Clearok { win, flag } => set(windows.clearok(win, flag)?),
-        Writing::Attrset { win, attrs } => set(windows.wattrset(win, attrs)?),
-        Writing::Attron { win, attrs } => set(windows.wattron(win, attrs)?),
-        Writing::Attroff { win, attrs } => set(windows.wattroff(win, attrs)?),
-        Writing::Bkgdset { win, attrs, ch } => set(windows.wbkgdset(win, attrs, ch)?),
-        Writing::ColorSet { win, pair } => set(windows.wcolor_set(win, pair)?),
-        Writing::Bkgdpair { win, pair } => set(windows.wbkgdpair(win, pair)?),
+        Writing::Move { win, y, x } => Outcome::setting(windows.wmove(win, y, x)),
+        Writing::Addch { win, ch } => Outcome::drawing(win, windows.waddch(win, ch)),
+        Writing::Addstr { win, text } => Outcome::drawing(win, windows.waddstr(win, text)),
+        Writing::Insch { win, ch } => Outcome::drawing(win, windows.winsch(win, ch)),
+        Writing::Delch { win } => Outcome::drawing(win, windows.wdelch(win)),
+        Writing::Insertln { win } => Outcome::drawing(win, windows.winsertln(win)),
+        Writing::Deleteln { win } => Outcome::drawing(win, windows.wdeleteln(win)),
+        Writing::Erase { win } => Outcome::drawing(win, windows.werase(win)),
+        Writing::Clear { win } => Outcome::drawing(win, windows.wclear(win)),
+        Writing::Clrtoeol { win } => Outcome::drawing(win, windows.wclrtoeol(win)),
+        Writing::Clrtobot { win } => Outcome::drawing(win, windows.wclrtobot(win)),
+        Writing::Scrl { win, n } => Outcome::drawing(win, windows.wscrl(win, n)),
+        Writing::Setscrreg { win, top, bottom } => {
+            Outcome::setting(windows.wsetscrreg(win, top, bottom))
+        }
+        Writing::Scrollok { win, flag } => Outcome::setting(windows.scrollok(win, flag)),
+        Writing::Clearok { win, flag } => Outcome::setting(windows.clearok(win, flag)),
+        Writing::Attrset { win, attrs } => Outcome::setting(windows.wattrset(win, attrs)),
+        Writing::Attron { win, attrs } => Outcome::setting(windows.wattron(win, attrs)),
+        Writing::Attroff { win, attrs } => Outcome::setting(windows.wattroff(win, attrs)),
+        Writing::Bkgdset { win, attrs, ch } => Outcome::setting(windows.wbkgdset(win, attrs, ch)),
+        Writing::ColorSet { win, pair } => Outcome::setting(windows.wcolor_set(win, pair)),
+        Writing::Bkgdpair { win, pair } => Outcome::setting(windows.wbkgdpair(win, pair)),
     }
 }
 
 /// Makes a call of the table of copies and marks.
 #[rattlefmt::skip]
-pub(crate) fn copy(windows: &mut Windows, copying: Copying) -> Result<Changed, Refusal>
-    ensures refused { result_err result ≡ copying_refusal (windows_of windows.old.table) copying }
-    ensures reply { IfOk result (λ changed. changed.reply ≡ change_reply (copying_change (windows_of windows.old.table) copying)) }
-    ensures affected { IfOk result (λ changed. changed.affected ≡ affected_by (windows_of windows.old.table)
-        (copying_change (windows_of windows.old.table) copying)) }
-    ensures copied { OnOk result (windows_of windows.new.table ≡ after_copying (windows_of windows.old.table) copying) }
-    ensures unchanged { OnErr result (windows.new.table ≡ windows.old.table) }
-    ensures sound { AreSoundWindows (windows_of windows.new.table) }
+pub(crate) fn copy(windows: &mut Windows, copying: Copying) -> Result<Outcome, Refusal>
+    ensures { Affects windows.old.table (copying_refusal (windows_of windows.old.table) copying)
+        (copying_change (windows_of windows.old.table) copying) result windows.new.table }
 {
     match copying {
-        Copying::Overlay { src, dst } => drew(dst, windows.overlay(src, dst)?),
-        Copying::Overwrite { src, dst } => drew(dst, windows.overwrite(src, dst)?),
+        Copying::Overlay { src, dst } => Outcome::drawing(dst, windows.overlay(src, dst)),
+        Copying::Overwrite { src, dst } => Outcome::drawing(dst, windows.overwrite(src, dst)),
         Copying::Copywin { src, dst, sminrow, smincol, dminrow, dmincol, dmaxrow, dmaxcol, overlay } =>
-            drew(dst, windows.copywin(src, dst, sminrow, smincol, dminrow, dmincol, dmaxrow, dmaxcol, overlay)?),
-        Copying::Touchwin { win } => set(windows.table.touchwin(win)?),
-        Copying::Untouchwin { win } => set(windows.table.untouchwin(win)?),
-        Copying::Touchline { win, y, n } => set(windows.table.touchline(win, y, n)?),
-        Copying::Touchln { win, y, n, flag } => set(windows.table.wtouchln(win, y, n, flag)?),
-        Copying::Syncup { win } => set(windows.table.wsyncup(win)?),
-        Copying::Syncdown { win } => set(windows.table.wsyncdown(win)?),
-        Copying::IsLinetouched { win, y } => told(windows.table.is_linetouched(win, y)?),
-        Copying::IsWintouched { win } => told(windows.table.is_wintouched(win)?),
+            Outcome::drawing(dst, windows.copywin(src, dst, sminrow, smincol, dminrow, dmincol, dmaxrow, dmaxcol, overlay)),
+        Copying::Touchwin { win } => Outcome::unseen(windows.table.touchwin(win)),
+        Copying::Untouchwin { win } => Outcome::unseen(windows.table.untouchwin(win)),
+        Copying::Touchline { win, y, n } => Outcome::unseen(windows.table.touchline(win, y, n)),
+        Copying::Touchln { win, y, n, flag } => Outcome::unseen(windows.table.wtouchln(win, y, n, flag)),
+        Copying::Syncup { win } => Outcome::unseen(windows.table.wsyncup(win)),
+        Copying::Syncdown { win } => Outcome::unseen(windows.table.wsyncdown(win)),
+        Copying::IsLinetouched { win, y } => Outcome::flag(windows.table.is_linetouched(win, y)),
+        Copying::IsWintouched { win } => Outcome::flag(windows.table.is_wintouched(win)),
+    }
+}
+
+impl Outcome {
+    /// Of a call that drew in a window.
+    #[inline(always)]
+    fn drawing(win: WinId, frame: Result<Option<Rect>, Refusal>) -> Result<Outcome, Refusal>
+        ensures { (old new : WindowTable) (refusal : Option Refusal) (edit : Edit) → edit_window edit ≡ win.0
+            → Drew its_frame old refusal (edits edit) frame new → Affects old refusal (edits edit) result new }
+    {
+        let affected = match frame? {
+            Some(frame) => Some(Affected::Written { win, frame }),
+            None => None,
+        };
+        Ok(Outcome {
+            reply: Reply::Nothing,
+            affected,
+        })
+    }
+
+    /// Of a call that set how a window is written in.
+    #[inline(always)]
+    fn setting(end: Result<(), Refusal>) -> Result<Outcome, Refusal>
+        ensures { (old new : WindowTable) (refusal : Option Refusal) (edit : Edit)
+            → Drew no_frame old refusal (edits edit) end new → Affects old refusal (edits edit) result new }
+    {
+        end?;
+        Ok(Outcome {
+            reply: Reply::Nothing,
+            affected: None,
+        })
+    }
+
+    /// Of a call that answers nothing, and affects nothing that windows show.
+    fn unseen(end: Result<(), Refusal>) -> Result<Outcome, Refusal>
+        ensures { (old new : WindowTable) (refusal : Option Refusal) (change : Change) → affected_by (windows_of old) change ≡ None
+            → Changed no_answer old refusal change end new → Affects old refusal change result new }
+    {
+        end?;
+        Ok(Outcome {
+            reply: Reply::Nothing,
+            affected: None,
+        })
+    }
+
+    /// Of a call that moved a window in its parent.
+    fn shift(win: WinId, end: Result<(), Refusal>) -> Result<Outcome, Refusal>
+        ensures { (old new : WindowTable) (refusal : Option Refusal) (place : Place)
+            → Changed no_answer old refusal (shifts win.0 place) end new → Affects old refusal (shifts win.0 place) result new }
+    {
+        end?;
+        Ok(Outcome {
+            reply: Reply::Nothing,
+            affected: Some(Affected::Moved { win }),
+        })
+    }
+
+    /// Of a call that made a window.
+    fn window(made: Result<WinId, Refusal>) -> Result<Outcome, Refusal>
+        ensures { (old new : WindowTable) (refusal : Option Refusal) (number : ℕ) (window : Option Window)
+            → Changed its_number old refusal (makes number window) made new → Affects old refusal (makes number window) result new }
+    {
+        Ok(Outcome {
+            reply: Reply::Number(made?),
+            affected: None,
+        })
+    }
+
+    /// Of a call that asks whether something is touched.
+    fn flag(is: Result<bool, Refusal>) -> Result<Outcome, Refusal>
+        ensures { (old new : WindowTable) (refusal : Option Refusal) (reply : Reply)
+            → Changed its_flag old refusal (asks reply) is new → Affects old refusal (asks reply) result new }
+    {
+        Ok(Outcome {
+            reply: Reply::Flag(is?),
+            affected: None,
+        })
     }
 }
 
@@ -228,62 +296,6 @@ fn nothing<T: Copy>(_answer: T) -> Result<Reply, Refusal>
     ensures { result ≡ Ok Reply.Nothing }
 {
     Ok(Reply::Nothing)
-}
-
-/// The outcome of a call that drew in a window.
-#[inline(always)]
-fn drew(win: WinId, frame: Option<Rect>) -> Result<Changed, Refusal>
-    ensures { result ≡ Ok (record { reply = Reply.Nothing; affected = option_map (λ r. Affected.Written win r) frame }) }
-{
-    let affected = match frame {
-        Some(frame) => Some(Affected::Written { win, frame }),
-        None => None,
-    };
-    Ok(Changed {
-        reply: Reply::Nothing,
-        affected,
-    })
-}
-
-/// The outcome of a call that set something, and affected nothing that windows show.
-#[inline(always)]
-fn set<T: Copy>(_answer: T) -> Result<Changed, Refusal>
-    ensures { result ≡ Ok (record { reply = Reply.Nothing; affected = None }) }
-{
-    Ok(Changed {
-        reply: Reply::Nothing,
-        affected: None,
-    })
-}
-
-/// The outcome of a call that moved a window in its parent.
-fn moved<T: Copy>(win: WinId, _answer: T) -> Result<Changed, Refusal>
-    ensures { result ≡ Ok (record { reply = Reply.Nothing; affected = Some (Affected.Moved win) }) }
-{
-    Ok(Changed {
-        reply: Reply::Nothing,
-        affected: Some(Affected::Moved { win }),
-    })
-}
-
-/// The outcome of a call that made a window.
-fn made(win: WinId) -> Result<Changed, Refusal>
-    ensures { result ≡ Ok (record { reply = Reply.Number win; affected = None }) }
-{
-    Ok(Changed {
-        reply: Reply::Number(win),
-        affected: None,
-    })
-}
-
-/// The outcome of a query on a window.
-fn told(flag: bool) -> Result<Changed, Refusal>
-    ensures { result ≡ Ok (record { reply = Reply.Flag flag; affected = None }) }
-{
-    Ok(Changed {
-        reply: Reply::Flag(flag),
-        affected: None,
-    })
 }
 
 /// The answer of a call that asked for a panel's window.

@@ -6,10 +6,11 @@ ghost use Rattle.cell.specs.Refusals.{RefusedBy, first_of};
 ghost use Rattle.world.specs.Panels.{is_in_panel};
 ghost use Rattle.world.specs.Sound.{AreSoundPanels, AreSoundWindows};
 ghost use Rattle.world.specs.calls.Stacking.{new_panel_number, window_tests, after_stacking, stacking_order, stacking_refusal};
-ghost use Rattle.world.specs.calls.Making.{after_making, making_refusal};
+ghost use Rattle.world.specs.calls.Making.{making_change, making_refusal};
 ghost use Rattle.world.specs.Effects.{windows_after};
 ghost use Rattle.world.specs.declared.call.Making.{Making};
 ghost use Rattle.world.specs.declared.call.Stacking.{Stacking};
+ghost use Rattle.grids.specs.Calls.{Changed, nothing};
 ghost use Rattle.grids.specs.Tables.{windows as windows_of};
 ghost use Rattle.stack.specs.Tables.{panels};
 
@@ -90,10 +91,8 @@ pub(crate) fn move_window(
     x: u16,
 ) -> Result<(), Refusal>
     requires { AreSoundPanels (windows_of table.old).window (panels stack.now) }
-    ensures refused { result_err result ≡ making_refusal (windows_of table.old) (is_in_panel (panels stack.now)) (Making.Mvwin win y x) }
-    ensures moved { OnOk result (windows_of table.new ≡ after_making (windows_of table.old) (Making.Mvwin win y x)) }
-    ensures unchanged { OnErr result (table.new ≡ table.old) }
-    ensures sound { AreSoundWindows (windows_of table.new) }
+    ensures { Changed nothing table.old (making_refusal (windows_of table.old) (is_in_panel (panels stack.now)) (Making.Mvwin win y x))
+        (making_change (windows_of table.old) (Making.Mvwin win y x)) result table.new }
 {
     prove!(table.has_window(WinId::STANDARD));
     if stack.panel_of(win).is_some() {
@@ -108,10 +107,8 @@ pub(crate) fn move_window(
 /// `NoSuchWindow`, `StandardScreen`, `InPanel`, `HasDerived`.
 pub(crate) fn delete_window(table: &mut Grids, stack: &Stack, win: WinId) -> Result<(), Refusal>
     requires { AreSoundPanels (windows_of table.old).window (panels stack.now) }
-    ensures refused { result_err result ≡ making_refusal (windows_of table.old) (is_in_panel (panels stack.now)) (Making.Delwin win) }
-    ensures deleted { OnOk result (windows_of table.new ≡ after_making (windows_of table.old) (Making.Delwin win)) }
-    ensures unchanged { OnErr result (table.new ≡ table.old) }
-    ensures sound { AreSoundWindows (windows_of table.new) }
+    ensures { Changed nothing table.old (making_refusal (windows_of table.old) (is_in_panel (panels stack.now)) (Making.Delwin win))
+        (making_change (windows_of table.old) (Making.Delwin win)) result table.new }
 {
     prove!(table.has_window(WinId::STANDARD));
     if stack.panel_of(win).is_some() {

@@ -1,27 +1,13 @@
--- `copy_damaging`: what a change damages, in terms of the windows before it (`AffectedDamages`).
-use Rattle.std.proofs.Common.{◌∙◌, sym}
-use Rattle.grids.specs.Tables.{windows}
-use Rattle.stack.specs.Tables.{panels}
-use Rattle.world.specs.calls.Copying.{copying_change}
-use Rattle.compose.proofs.AffectedDamages.{damages, possible, same-size}
+-- What the call affects is damaged (`AffectedDamages`).
+use Rattle.std.proofs.Common.{sym, ◌∙◌}
+use Rattle.compose.proofs.AffectedDamages.{damaging, lines-affected, possible-affected}
 use Rattle.compose.proofs.damaging_calls.copy_damaging.Goals as goal
 
 pub damage_affected-requires-clause-height : goal.damage_affected-requires-clause-height
-damage_affected-requires-clause-height c =
-    let e = c.in_ok-changed.ensures in
-    let size = same-size (windows c.args.windows.now.table) (windows c.copy.new.windows.table) (panels c.args.stack.now)
-    (copying_change (windows c.args.windows.now.table) c.args.copying) c.in_ok-changed.changed.affected e.copied e.affected in
-    c.requires.height ∙ sym size.lines
+damage_affected-requires-clause-height c = c.requires.height ∙ sym (lines-affected _ _ _ _ c.in_ok-outcome.outcome c.in_ok-outcome.ensures)
 
 pub damage_affected-requires-clause-possible : goal.damage_affected-requires-clause-possible
-damage_affected-requires-clause-possible c =
-    let e = c.in_ok-changed.ensures in
-    possible (windows c.args.windows.now.table) (windows c.copy.new.windows.table) (panels c.args.stack.now)
-    (copying_change (windows c.args.windows.now.table) c.args.copying) c.in_ok-changed.changed.affected e.copied e.affected
+damage_affected-requires-clause-possible c = possible-affected _ _ _ _ c.in_ok-outcome.outcome c.in_ok-outcome.ensures
 
-pub returns-clause-damaged : goal.returns-clause-damaged
-returns-clause-damaged c =
-    let e = c.in_ok-changed.ensures in
-    damages (windows c.args.windows.now.table) (windows c.copy.new.windows.table) (panels c.args.stack.now)
-    (copying_change (windows c.args.windows.now.table) c.args.copying) c.in_ok-changed.changed.affected e.copied e.affected
-    c.args.damage.now c.damage_affected.new.damage c.damage_affected.ensures.damaged
+pub returns : goal.returns
+returns c = damaging _ _ _ _ c.in_ok-outcome.outcome c.in_ok-outcome.ensures _ _ _ c.damage_affected.ensures.damaged
