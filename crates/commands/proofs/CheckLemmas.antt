@@ -10,7 +10,7 @@ use Rattle.std.proofs.Math.Seq.{take-append-add}
 use Rattle.std.proofs.KnownBytes.{Appends-trans, Consumes-nil, Consumes-trans}
 use Rattle.std.specs.List.{All, flat_map, slice_split}
 use Rattle.std.specs.Io.KnownBytes.{Consumes}
-use Rattle.streams.specs.Counts.{counted, next_count}
+use Rattle.streams.specs.Counts.{count_after, next_count}
 use Rattle.streams.specs.Sinks.{Seen}
 use Rattle.streams.specs.Sources.{SourceSeen}
 use Rattle.script.specs.Characters.{is_newline}
@@ -146,7 +146,7 @@ checking_next input r1 r2 out o1 o2 unused left kept n before after is_kept end 
       read = Consumes-trans _ _ _ _ _ s.read r.read;
       met = reading.ended ∙ ap (λ e. met_end e || r1.met_end) is ∙ s.met;
       read_once = λ unmet. reading.past (s.met ∙ unmet) ∙ s.read_once unmet;
-      failures = reading.failures ∙ ap (λ e. counted (end_failed e) r1.failures) is ∙ s.failures;
+      failures = reading.failures ∙ ap (λ e. count_after (end_failed e) r1.failures) is ∙ s.failures;
       reported = more out s.lines s.reported;
       says = λ failed m.
           ap (findings failed) (append_assoc s.text r.bytes m) ∙ s.says failed (r.bytes ++ m)
@@ -182,7 +182,7 @@ checked_all input r1 r2 out o1 o2 unused left kept n before after is_kept end s 
       reads = record {
         read = Consumes-trans _ _ _ _ _ s.read r.read;
         whole = (reading.ended ∙ ap (λ e. met_end e || r1.met_end) is, r.at_end (ap met_end is));
-        failures = reading.failures ∙ ap (λ e. counted (end_failed e) r1.failures) is ∙ s.failures;
+        failures = reading.failures ∙ ap (λ e. count_after (end_failed e) r1.failures) is ∙ s.failures;
         read_once = λ unmet. reading.past (s.met ∙ unmet) ∙ s.read_once unmet;
       };
       reported = subst (IsReported out o2 after) (sym says) (more out s.lines s.reported);
@@ -204,7 +204,7 @@ checked_front input r1 r2 out o1 o2 unused left kept n before after is_kept end 
       reads = record {
         read = Consumes-trans _ _ _ _ _ s.read r.read;
         whole = tt;
-        failures = reading.failures ∙ ap (λ e. counted (end_failed e) r1.failures) is ∙ ap (counted true) s.failures;
+        failures = reading.failures ∙ ap (λ e. count_after (end_failed e) r1.failures) is ∙ ap (count_after true) s.failures;
         read_once = λ unmet. reading.past (s.met ∙ unmet) ∙ s.read_once unmet;
       };
       reported = subst (IsReported out o2 after) (sym says) (more out s.lines s.reported);
@@ -224,7 +224,7 @@ pub reported_ends : (first old new : Seen) (before : Report) (lines : List (List
     → before.is_written ≡ true → WritingEnds written old new behind → WritingEnds written first new (flat lines ++ behind)
 reported_ends first old new before lines behind true r written h = record {
   taken = Appends-trans _ _ _ _ _ (r.put.taken written) h.taken;
-  no_failure = h.no_failure ∙ r.put.failures ∙ ap (λ b. counted (not b) first.failures) written;
+  no_failure = h.no_failure ∙ r.put.failures ∙ ap (λ b. count_after (not b) first.failures) written;
   flushes = h.flushes ∙ ap next_count r.put.flushes;
   flushed = h.flushed;
 }
@@ -232,9 +232,9 @@ reported_ends first old new before lines behind false r written h = record {
   sent = length (flat lines) + h.sent;
   within = omega (arith, h.within, length-append (flat lines) behind);
   taken = rw (take-append-add (flat lines) behind h.sent) (Appends-trans _ _ _ _ _ (r.put.taken written) h.taken);
-  failure = h.failure ∙ ap next_count (r.put.failures ∙ ap (λ b. counted (not b) first.failures) written);
-  flushes = h.flushes ∙ ap (counted (h.sent == length behind)) r.put.flushes
-      ∙ ap (λ b. counted b first.flushes) (same_end (length (flat lines)) h.sent (length behind) ∙ ap (λ n. length (flat lines) + h.sent == n) (sym (length-append (flat lines) behind)));
+  failure = h.failure ∙ ap next_count (r.put.failures ∙ ap (λ b. count_after (not b) first.failures) written);
+  flushes = h.flushes ∙ ap (count_after (h.sent == length behind)) r.put.flushes
+      ∙ ap (λ b. count_after b first.flushes) (same_end (length (flat lines)) h.sent (length behind) ∙ ap (λ n. length (flat lines) + h.sent == n) (sym (length-append (flat lines) behind)));
 }
 
 -- with how many lines after them

@@ -6,7 +6,7 @@ use Rattle.std.proofs.Math.Seq.{take-append-add, take-length}
 use Rattle.std.proofs.KnownBytes.{Appends-nil, Appends-trans}
 use Rattle.std.specs.Prelude.{is_err, is_ok}
 use Rattle.std.specs.Io.KnownBytes.{Appends, Keeps}
-use Rattle.streams.specs.Counts.{counted, next_count}
+use Rattle.streams.specs.Counts.{count_after, next_count}
 use Rattle.streams.specs.Sinks.{Seen, flushed_after_flush}
 use Rattle.streams.proofs.Sends.{Appends-keeps, cut-unflushed, whole-flushed}
 use Rattle.streams.specs.Sending.{Sends}
@@ -74,16 +74,16 @@ not_put old new text is_put p is =
       sent = front.sent;
       within = omega (arith, front.within);
       taken = front.taken;
-      failure = p.failures ∙ ap (λ b. counted (not b) old.failures) is;
+      failure = p.failures ∙ ap (λ b. count_after (not b) old.failures) is;
       flushes = p.flushes ∙ sym (cut-unflushed front.sent text old.flushes front.within);
     }
 
 pub flushed_behind : {T E : Type 0} (old mid new : Seen) (text : List ℕ) (is_put : Bool) (r : Result T E) → PuttingEnds is_put old mid text → is_put ≡ true
-    → Keeps mid.taken new.taken → new.failures ≡ counted (is_err r) mid.failures → new.flushes ≡ next_count mid.flushes
+    → Keeps mid.taken new.taken → new.failures ≡ count_after (is_err r) mid.failures → new.flushes ≡ next_count mid.flushes
     → new.flushed ≡ flushed_after_flush mid.flushed r → WritingEnds (is_ok r) old new text
 flushed_behind old mid new text is_put (Ok x) p is kept failure flush flushed = record {
   taken = Appends-keeps old.taken mid.taken new.taken text (p.taken is) kept;
-  no_failure = failure ∙ p.failures ∙ ap (λ b. counted (not b) old.failures) is;
+  no_failure = failure ∙ p.failures ∙ ap (λ b. count_after (not b) old.failures) is;
   flushes = flush ∙ ap next_count p.flushes;
   flushed = flushed;
 }
@@ -91,7 +91,7 @@ flushed_behind old mid new text is_put (Err e) p is kept failure flush flushed =
   sent = length text;
   within = omega arith;
   taken = rw (take-length text) (Appends-keeps old.taken mid.taken new.taken text (p.taken is) kept);
-  failure = failure ∙ ap next_count (p.failures ∙ ap (λ b. counted (not b) old.failures) is);
+  failure = failure ∙ ap next_count (p.failures ∙ ap (λ b. count_after (not b) old.failures) is);
   flushes = flush ∙ ap next_count p.flushes ∙ sym (whole-flushed (length text) text old.flushes refl);
 }
 
@@ -125,7 +125,7 @@ put_behind old mid new front text is_put written before is p = record {
   taken = λ e. Appends-trans _ _ _ _ _ (before.taken is) (p.taken e);
   cut = λ e. front_behind _ _ _ _ _ (before.taken is) (p.cut e);
   flushes = p.flushes ∙ before.flushes;
-  failures = p.failures ∙ ap (counted (not written)) (before.failures ∙ ap (λ b. counted (not b) old.failures) is);
+  failures = p.failures ∙ ap (count_after (not written)) (before.failures ∙ ap (λ b. count_after (not b) old.failures) is);
 }
 
 -- a text that was cut, and what was to come after it
@@ -134,5 +134,5 @@ cut_before old new text behind is_put p is = record {
   taken = λ e. cc;
   cut = λ e. front_before _ _ _ _ (p.cut is);
   flushes = p.flushes;
-  failures = p.failures ∙ ap (λ b. counted (not b) old.failures) is;
+  failures = p.failures ∙ ap (λ b. count_after (not b) old.failures) is;
 }

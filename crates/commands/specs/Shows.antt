@@ -1,7 +1,7 @@
 -- What `show` does with the stream that it reads.
 use Rattle.std.specs.Prelude.{◌≡◌, ◌⊎◌, ◌∷◌, ◌++◌, [], ℕ, Bool, true, false, not, List, codes, decimal, ⊤}
 use Rattle.std.specs.Io.KnownBytes.{Consumes, IsAtEnd}
-use Rattle.streams.specs.Counts.{counted}
+use Rattle.streams.specs.Counts.{count_after}
 use Rattle.streams.specs.Sinks.{Seen}
 use Rattle.streams.specs.Sources.{SourceSeen}
 use Rattle.ecma.specs.Standing.{HasFailed, blank_terminal}
@@ -24,7 +24,7 @@ IsWholeAt false seen = ⊤
 pub record ReadsStream (old new : SourceSeen) (is_whole : Bool) (stream : List ℕ) : Type 0 where
   pub read : Consumes old.left new.left stream
   pub whole : IsWholeAt is_whole new
-  pub failures : new.failures ≡ counted (not is_whole) old.failures
+  pub failures : new.failures ≡ count_after (not is_whole) old.failures
   pub read_once : old.met_end ≡ false → new.read_past_end ≡ old.read_past_end
 
 -- ---- showing

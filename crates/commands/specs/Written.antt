@@ -2,7 +2,7 @@
 -- No standard says it; the answers are those of Rust's std::io::Write.
 use Rattle.std.specs.Prelude.{◌≡◌, ◌⊎◌, ◌<◌, ◌≤◌, ◌==◌, ℕ, List, length, take, Bool, true, false}
 use Rattle.std.specs.Io.KnownBytes.{Appends}
-use Rattle.streams.specs.Counts.{counted, next_count}
+use Rattle.streams.specs.Counts.{count_after, next_count}
 use Rattle.streams.specs.Sinks.{Seen}
 
 -- The sink took a prefix of the text, and not all.
@@ -24,7 +24,7 @@ pub record IsNotWritten (old new : Seen) (text : List ℕ) : Type 0 where
   pub within : sent ≤ length text
   pub taken : Appends old.taken new.taken (take sent text)
   pub failure : new.failures ≡ next_count old.failures
-  pub flushes : new.flushes ≡ counted (sent == length text) old.flushes
+  pub flushes : new.flushes ≡ count_after (sent == length text) old.flushes
 
 -- The text was written, or wasn't.
 abbrev pub WritingEnds : Bool → Seen → Seen → List ℕ → Type 0

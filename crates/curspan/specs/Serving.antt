@@ -8,7 +8,7 @@ use Rattle.cell.specs.Pictures.{picture_of}
 use Rattle.world.specs.World.{World, first_world, picture, topmost_cursor}
 use Rattle.streams.specs.Sinks.{Seen}
 use Rattle.streams.specs.Sources.{SourceSeen}
-use Rattle.streams.specs.Counts.{counted}
+use Rattle.streams.specs.Counts.{count_after}
 use Rattle.script.specs.Log.{last_line}
 use Rattle.script.specs.declared.fault.ScriptEnd.{ScriptEnd}
 use Rattle.script.specs.declared.fault.ScriptFault.TheVariants.{Log}
@@ -61,8 +61,8 @@ Refuses words old new status = (kind : ErrorKind) × ((kind ≡ OutOfMemory) ⊎
 pub record Tells {W : Type 0} (seen : W → Seen) (first last : ScreenOver W) (input rest : SourceSeen) (log told : Seen) (end : ScriptEnd) : Type 0 where
   pub logged : Seen
   pub script : ScriptEnds seen first last input rest log logged end
-  pub reads : rest.failures ≡ counted (read_failed end.fault) input.failures
-  pub writes : (seen last.writer).failures ≡ counted (is_some (write_fault end.fault)) (seen first.writer).failures
+  pub reads : rest.failures ≡ count_after (read_failed end.fault) input.failures
+  pub writes : (seen last.writer).failures ≡ count_after (is_some (write_fault end.fault)) (seen first.writer).failures
   pub tells : MatchOption end.fault (told ≡ logged) (λ fault. IsTold logged told (last_line fault))
 
 -- The screen was blank at first, and over a sink of which this had been seen.

@@ -21,7 +21,7 @@ use Rattle.streams.specs.Sources.{SourceSeen}
 use Rattle.desk.specs.Runs.{Outcome, Run, is_refused, state_after}
 use Rattle.desk.specs.Ends.{Makes}
 use Rattle.desk.proofs.MakesLemmas.{Makes-append, Makes-nothing}
-use Rattle.streams.specs.Counts.{counted}
+use Rattle.streams.specs.Counts.{count_after}
 use Rattle.desk.specs.States.{state_of}
 use Rattle.desk.specs.Showing.{RunShows}
 use Rattle.desk.proofs.ShowingLemmas.{cut-keeps_size, makes-keep_size, shows-broken, shows-unbroken, then-keeps_size}
@@ -191,7 +191,7 @@ module _ {W : Type 0} (seen : W → Seen) where
         read = Consumes-trans _ _ _ _ _ s.read r.read;
         makes = makes_more s.made (numbered n e.call) s.makes (subst (Makes seen mid _ e.outcomes) (sym stop.1) e.makes);
         logs = subst (Appends _ _) (sym (log_text-append (state_of old) s.made (numbered n e.call) s.outcomes e.outcomes s.makes.run)) (Appends-trans _ _ _ _ _ s.logs logs);
-        failures = e.failures ∙ ap (λ f. counted (log_failed f) l1.failures) none ∙ s.failures;
+        failures = e.failures ∙ ap (λ f. count_after (log_failed f) l1.failures) none ∙ s.failures;
         flushes = e.flushes ∙ s.flushes;
         met = met ∙ s.met;
         read_once = still_once input r1 r2 s.met s.read_once once;
@@ -269,7 +269,7 @@ module _ {W : Type 0} (seen : W → Seen) where
     makes = makes_more s.made (numbered n e.call) s.makes e.makes;
     stop = stops s.made n (said_by_line line) e.call e.at_stop now r2.met_end (s.text ++ bytes) z end.fault e.stop says last;
     logs = logs_after (state_of old) s.made (numbered n e.call) s.outcomes e.outcomes log l1 l2 end.fault s.makes.run s.logs e.logs;
-    failures = e.failures ∙ ap (counted (log_failed end.fault)) s.failures;
+    failures = e.failures ∙ ap (count_after (log_failed end.fault)) s.failures;
     flushes = e.flushes ∙ s.flushes;
     refused = ap (λ x. x || end.refused) s.is_refused ∙ ap (λ x. list_any is_refused s.outcomes || x) e.refused ∙ sym (list_any-append is_refused s.outcomes e.outcomes);
     at_end = over;

@@ -3,7 +3,7 @@ use Rattle.std.specs.Prelude.{◌≡◌, ◌⊎◌, ◌<◌, ◌∷◌, ◌++◌
 use Rattle.std.specs.List.{flat_map, list_any}
 use Rattle.std.specs.Io.KnownBytes.{Appends, Consumes, IsAtEnd, Keeps}
 use Rattle.streams.specs.Sinks.{Seen}
-use Rattle.streams.specs.Counts.{counted, next_count}
+use Rattle.streams.specs.Counts.{count_after, next_count}
 use Rattle.streams.specs.declared.sending.WriteFault.{WriteFault}
 use Rattle.desk.specs.Runs.{Outcome, is_refused}
 use Rattle.desk.specs.Ends.{IsCut, Makes}
@@ -117,7 +117,7 @@ module _ {W : Type 0} (seen : W → Seen) where
     pub makes : Makes seen old (calls_of (numbered number call)) outcomes at_stop
     pub stop : LineStops number (said_by_line line) call at_stop end.fault new
     pub logs : Logs log written (log_lines (numbered number call) outcomes) end.fault
-    pub failures : written.failures ≡ counted (log_failed end.fault) log.failures
+    pub failures : written.failures ≡ count_after (log_failed end.fault) log.failures
     pub flushes : written.flushes ≡ log.flushes
     pub refused : end.refused ≡ list_any is_refused outcomes
 
@@ -148,7 +148,7 @@ module _ {W : Type 0} (seen : W → Seen) where
     pub makes : Makes seen old (calls_of made) outcomes at_stop
     pub stop : ScriptStops rest.met_end text made at_stop end.fault new
     pub logs : Logs log written (log_lines made outcomes) end.fault
-    pub failures : written.failures ≡ counted (log_failed end.fault) log.failures
+    pub failures : written.failures ≡ count_after (log_failed end.fault) log.failures
     pub flushes : written.flushes ≡ log.flushes
     pub refused : end.refused ≡ list_any is_refused outcomes
     -- Without a fault the source has no byte left.

@@ -11,7 +11,7 @@ use Rattle.ecma.specs.Items.{escape}
 use Rattle.ecma.specs.Spelling.{spelling}
 use Rattle.ecma.specs.Terminals.{Terminal}
 use Rattle.ecma.specs.Streams.{IsInProfile, LeadsWithBreaks, Shows, showing}
-use Rattle.streams.specs.Counts.{counted, next_count}
+use Rattle.streams.specs.Counts.{count_after, next_count}
 use Rattle.streams.specs.Sinks.{Seen}
 
 -- a picture with a cursor
@@ -106,7 +106,7 @@ pub record BreaksOff (painter : PainterState) (clear : Bool) (old new : Seen) (w
   pub within : sent ≤ length text
   pub taken : Appends old.taken new.taken (take sent text)
   pub failure : new.failures ≡ next_count old.failures
-  pub flushes : new.flushes ≡ counted (sent == length text) old.flushes
+  pub flushes : new.flushes ≡ count_after (sent == length text) old.flushes
 
 -- ---- streams that agree with a painter
 

@@ -12,7 +12,7 @@ use Rattle.std.proofs.lemmas.Bool.Decides.{nat_tests}
 use Rattle.script.specs.Characters.{is_newline, newline}
 use Rattle.script.specs.declared.bytes.TheConstants.{LONGEST_PIECE}
 use Rattle.script.specs.declared.limits.TheConstants.{LONGEST_LINE}
-use Rattle.streams.specs.Counts.{counted}
+use Rattle.streams.specs.Counts.{count_after}
 use Rattle.streams.specs.Sources.{SourceSeen}
 use Rattle.script.specs.steps.Bytes.{EndsLine, HasNoNewline, ReadingEnds, ReadsByte, ReadsLine, ReadsToEnd, ReadsWhole, work_left}
 use Rattle.script.specs.declared.bytes.LineEnd.{LineEnd}
@@ -48,7 +48,7 @@ pub ends_behind : (old mid new : SourceSeen) (unused between left : List ℕ) (m
 ends_behind old mid new unused between left meets_end fails continues so_far r = record {
   ended = r.ended ∙ ap (λ b. meets_end || b) so_far.ended;
   past = λ unmet. r.past (so_far.ended ∙ unmet) ∙ so_far.past unmet;
-  failures = r.failures ∙ ap (counted fails) so_far.failures;
+  failures = r.failures ∙ ap (count_after fails) so_far.failures;
   progress = λ more. omega (arith, r.progress more);
 }
 

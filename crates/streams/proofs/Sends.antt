@@ -4,17 +4,17 @@ use Rattle.std.proofs.Common.{◌≡◌, ℕ, ◌+◌, ◌<◌, ◌≤◌, ◌==
 use Rattle.std.specs.Io.KnownBytes.{Appends, Keeps}
 use Rattle.std.proofs.lemmas.List.{append-nil, take-append-le, take-append-drop, length-take-le}
 use Rattle.std.proofs.Math.Seq.{take-append-add}
-use Rattle.streams.specs.Counts.{next_count, counted, moved_nothing}
+use Rattle.streams.specs.Counts.{next_count, count_after, moved_nothing}
 use Rattle.streams.specs.Sinks.{Seen}
 use Rattle.streams.specs.Sending.{Sends}
 use Rattle.streams.specs.declared.sending.WriteFault.{WriteFault}
 
 -- one flush more exactly where all of a text was sent
-pub whole-flushed : (sent : ℕ) (text : List ℕ) (flushes : ℕ) → sent ≡ length text → counted (sent == length text) flushes ≡ next_count flushes
-whole-flushed sent text flushes e = ap (λ b. counted b flushes) (eq-eqb sent (length text) e)
+pub whole-flushed : (sent : ℕ) (text : List ℕ) (flushes : ℕ) → sent ≡ length text → count_after (sent == length text) flushes ≡ next_count flushes
+whole-flushed sent text flushes e = ap (λ b. count_after b flushes) (eq-eqb sent (length text) e)
 
-pub cut-unflushed : (sent : ℕ) (text : List ℕ) (flushes : ℕ) → sent < length text → counted (sent == length text) flushes ≡ flushes
-cut-unflushed sent text flushes h = ap (λ b. counted b flushes) (ne_eqb sent (length text) (λ e. absurd (omega arith)))
+pub cut-unflushed : (sent : ℕ) (text : List ℕ) (flushes : ℕ) → sent < length text → count_after (sent == length text) flushes ≡ flushes
+cut-unflushed sent text flushes h = ap (λ b. count_after b flushes) (ne_eqb sent (length text) (λ e. absurd (omega arith)))
 
 pub Appends-append : (a b c : Option (List ℕ)) (s t : List ℕ) → Appends a b s → Appends b c t → Appends a c (s ++ t)
 Appends-append None b c s t h k = tt
@@ -78,7 +78,7 @@ IsPartlySent-more old mid new sent piece rest total n more h short bytes failure
 }
 
 -- a write that takes some bytes counts no failure
-pub failures-some : (failures n : ℕ) (piece : List ℕ) → (n ≡ 0 → ⊥) → counted (moved_nothing n piece) failures ≡ failures
+pub failures-some : (failures n : ℕ) (piece : List ℕ) → (n ≡ 0 → ⊥) → count_after (moved_nothing n piece) failures ≡ failures
 failures-some failures n piece h = rw (ne_eqb n 0 h) refl
 
 -- ---- a text in pieces
