@@ -4,7 +4,7 @@ use Rattle.std.specs.Io.KnownBytes.{Consumes, IsAtEnd}
 use Rattle.streams.specs.Counts.{count_after}
 use Rattle.streams.specs.Sinks.{Seen}
 use Rattle.streams.specs.Sources.{SourceSeen}
-use Rattle.ecma.specs.Standing.{HasFailed, blank_terminal}
+use Rattle.ecma.specs.Readers.{HasFailed, blank_terminal}
 use Rattle.ecma.specs.Streams.{IsInProfile}
 use Rattle.ecma.specs.Terminals.{Terminal}
 use Rattle.script.specs.Characters.{newline}

@@ -4,7 +4,7 @@ ghost use Rattle.std.specs.Prelude.{◌≡◌, ◌↔◌, ℕ, ◌<◌, ◌≤�
 ghost use Rattle.cell.specs.Pictures.{HasSize, Picture};
 ghost use Rattle.cell.specs.Differences.{difference};
 ghost use Rattle.ecma.specs.Items.{EndsOrEscapes, Item, Splits};
-ghost use Rattle.ecma.specs.Standing.{Reader, StandsAfter};
+ghost use Rattle.ecma.specs.Readers.{Reader, HasRead};
 ghost use Rattle.ecma.specs.Terminals.{Terminal};
 ghost use Rattle.ecma.specs.Spelling.{spelling, IsToken, IsItemOf};
 ghost use Rattle.ecma.specs.declared.token.Token.{Token};
@@ -33,8 +33,8 @@ pub fn one_failure()
 {}
 
 /// What a reader shows is that of the stream that it read, however it was cut: two readers of one stream show one terminal.
-pub fn one_standing()
-    ensures { (stream : List ℕ) (first : Terminal) (one other : Reader) → StandsAfter stream first one → StandsAfter stream first other
+pub fn one_terminal_shown()
+    ensures { (stream : List ℕ) (first : Terminal) (one other : Reader) → HasRead stream first one → HasRead stream first other
         → one.terminal ≡ other.terminal }
 {}
 

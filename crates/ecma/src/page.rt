@@ -9,7 +9,7 @@ ghost use Rattle.cell.specs.declared.limits.TheConstants.{LARGEST_SCREEN};
 ghost use Rattle.ecma.specs.Items.{Control, SGR};
 ghost use Rattle.ecma.specs.Parameters.{parameter_of};
 ghost use Rattle.ecma.specs.steps.Parameters.{function_of};
-ghost use Rattle.ecma.specs.Standing.{blank_terminal};
+ghost use Rattle.ecma.specs.Readers.{blank_terminal};
 ghost use Rattle.ecma.specs.Terminals.{blanked, effect, erase_line, erase_page, erased_at, move_to, print};
 
 use crate::parameter::{Parameter, erasure, position};

@@ -1,6 +1,6 @@
 -- `show`: lemmas of std alone.
 use Rattle.std.proofs.Common.{false, inr, refl}
-use Rattle.ecma.specs.Standing.{blank_terminal}
+use Rattle.ecma.specs.Readers.{blank_terminal}
 use Rattle.commands.proofs.show.show_stream.Goals as goal
 
 pub returns-then-not-read_stream-clause-shown : goal.returns-then-not-read_stream-clause-shown

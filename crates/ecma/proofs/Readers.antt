@@ -18,7 +18,7 @@ use Rattle.ecma.specs.Terminals.{Terminal, print, effect}
 use Rattle.ecma.specs.Streams.{FailsAt, IsInProfile, Leads, LeadsWithBreaks}
 use Rattle.ecma.specs.Parameters.{Parameter, parameter_of}
 use Rattle.ecma.specs.steps.Parameters.{no_digits, longer, function_of}
-use Rattle.ecma.specs.Standing.{Reader, counted, InText, Unended, InParameters, HasFailed, StandsIn, Follows}
+use Rattle.ecma.specs.Readers.{Reader, saturating_u64, InText, InItem, InParameters, HasFailed, HasReadIn, Follows}
 use Rattle.ecma.proofs.Beginnings.{NoEffect-text, NoEffect-escape, NoEffect-parameters, join-more, no-more_digits, no-more_parameters, no-colon, final-no_digit, final-no_separator}
 use Rattle.ecma.proofs.Joining.{InProfile-append, LeadsWithBreaks-append, LeadsWithBreaks-in_profile, Leads-repairs, Reaches-in_profile}
 use Rattle.ecma.proofs.Failing.{FailsAt-outside, FailsAt-terminal, Reaches-unique}
@@ -27,7 +27,7 @@ use Rattle.ecma.proofs.Stopping.{NoEffect, FailsAt-leads, FailsAt-escape, FailsA
 
 -- ---- counting
 
-next-read : (stream : List ℕ) (byte at : ℕ) → at ≡ counted (length stream) → counted (at + 1) ≡ counted (length (stream ++ byte ∷ []))
+next-read : (stream : List ℕ) (byte at : ℕ) → at ≡ saturating_u64 (length stream) → saturating_u64 (at + 1) ≡ saturating_u64 (length (stream ++ byte ∷ []))
 next-read stream byte at h = omega (arith, length-append stream (byte ∷ []))
 
 -- ---- unfinished items
@@ -53,9 +53,9 @@ escape-begins = record { begun = omega arith; function = SGR; parameters = [] �
 begun-in_profile : (unfinished : List ℕ) (t : Terminal) → IsBeginning unfinished → IsInProfile unfinished t t
 begun-in_profile unfinished t h = record { items = Unfinished unfinished ∷ []; splits = ([], sym (append-nil unfinished), h, tt, refl); have_effect = refl }
 
-pub unended-in_profile : (stream : List ℕ) (first : Terminal) (reader : Reader) (unfinished : List ℕ) → Unended stream first reader unfinished → IsBeginning unfinished → EndsOrEscapes unfinished
+pub in_item-in_profile : (stream : List ℕ) (first : Terminal) (reader : Reader) (unfinished : List ℕ) → InItem stream first reader unfinished → IsBeginning unfinished → EndsOrEscapes unfinished
     → IsInProfile stream first reader.terminal
-unended-in_profile stream first reader unfinished h begins there =
+in_item-in_profile stream first reader unfinished h begins there =
     subst (λ (bytes : List ℕ). IsInProfile bytes first reader.terminal) (sym h.whole)
     (InProfile-append h.front unfinished first reader.terminal reader.terminal h.in_profile (begun-in_profile unfinished reader.terminal begins) there)
 
@@ -156,8 +156,8 @@ reader_of terminal state ended current read start = record { terminal = terminal
 
 -- a reader whose unfinished item goes on by a byte
 goes-on : (stream : List ℕ) (first t : Terminal) (state next : State) (ended more : List Parameter) (current last : Parameter) (at start byte : ℕ) (unfinished longer : List ℕ)
-    → Unended stream first (reader_of t state ended current at start) unfinished → unfinished ++ byte ∷ [] ≡ longer
-    → Unended (stream ++ byte ∷ []) first (reader_of t next more last (counted (at + 1)) start) longer
+    → InItem stream first (reader_of t state ended current at start) unfinished → unfinished ++ byte ∷ [] ≡ longer
+    → InItem (stream ++ byte ∷ []) first (reader_of t next more last (saturating_u64 (at + 1)) start) longer
 goes-on stream first t state next ended more current last at start byte unfinished longer h e = record {
   front = h.front;
   in_profile = h.in_profile;
@@ -168,11 +168,11 @@ goes-on stream first t state next ended more current last at start byte unfinish
 
 -- an escape breaks it off
 broken-off : (stream : List ℕ) (first t : Terminal) (state : State) (ended : List Parameter) (current : Parameter) (at start : ℕ) (unfinished : List ℕ)
-    → Unended stream first (reader_of t state ended current at start) unfinished → IsBeginning unfinished → EndsOrEscapes unfinished
-    → Unended (stream ++ 27 ∷ []) first (reader_of t Escape ended current (counted (at + 1)) at) (escape ∷ [])
+    → InItem stream first (reader_of t state ended current at start) unfinished → IsBeginning unfinished → EndsOrEscapes unfinished
+    → InItem (stream ++ 27 ∷ []) first (reader_of t Escape ended current (saturating_u64 (at + 1)) at) (escape ∷ [])
 broken-off stream first t state ended current at start unfinished h begins there = record {
   front = stream;
-  in_profile = unended-in_profile stream first (reader_of t state ended current at start) unfinished h begins there;
+  in_profile = in_item-in_profile stream first (reader_of t state ended current at start) unfinished h begins there;
   whole = refl;
   read = next-read stream 27 at h.read;
   start = h.read;
@@ -180,7 +180,7 @@ broken-off stream first t state ended current at start unfinished h begins there
 
 -- the byte leaves no item that has an effect
 fails-there : (stream : List ℕ) (first t : Terminal) (state : State) (ended : List Parameter) (current : Parameter) (at start byte : ℕ) (unfinished : List ℕ)
-    → Unended stream first (reader_of t state ended current at start) unfinished → EndsOrEscapes (unfinished ++ byte ∷ []) → NoEffect (unfinished ++ byte ∷ []) t
+    → InItem stream first (reader_of t state ended current at start) unfinished → EndsOrEscapes (unfinished ++ byte ∷ []) → NoEffect (unfinished ++ byte ∷ []) t
     → HasFailed (stream ++ byte ∷ []) first t start
 fails-there stream first t state ended current at start byte unfinished h there none =
     let some : 0 < length (unfinished ++ byte ∷ []) = omega (arith, length-append unfinished (byte ∷ [])) in
@@ -188,14 +188,14 @@ fails-there stream first t state ended current at start byte unfinished h there 
     record {
       offset = length h.front;
       fails = subst (λ (bytes : List ℕ). FailsAt bytes first (length h.front) t) (sym whole) (FailsAt-escape h.front (unfinished ++ byte ∷ []) first t h.in_profile there some none);
-      is_counted = h.start;
+      at_is = h.start;
     }
 
 module _ (t : Terminal) (ended : List Parameter) (current : Parameter) (at start : ℕ) where
   -- ---- in text
 
   pub printed-follows : (u : Terminal) (byte : ℕ) → IsTrue (is_printable byte) → print byte t ≡ Some u
-      → Follows (byte ∷ []) (reader_of t Text ended current at start) (reader_of u Text ended current (counted (at + 1)) start)
+      → Follows (byte ∷ []) (reader_of t Text ended current at start) (reader_of u Text ended current (saturating_u64 (at + 1)) start)
   printed-follows u byte printable e stream first h = record {
     leads = LeadsWithBreaks-append stream (byte ∷ []) first t u h.leads (record {
       items = Printable byte ∷ [];
@@ -208,49 +208,50 @@ module _ (t : Terminal) (ended : List Parameter) (current : Parameter) (at start
   }
 
   pub unprinted-follows : (byte : ℕ) → (byte ≡ 27 → ⊥) → (IsTrue (is_printable byte) → print byte t ≡ None)
-      → Follows (byte ∷ []) (reader_of t Text ended current at start) (reader_of t Failed ended current (counted (at + 1)) at)
+      → Follows (byte ∷ []) (reader_of t Text ended current at start) (reader_of t Failed ended current (saturating_u64 (at + 1)) at)
   unprinted-follows byte other none stream first h = record {
     offset = length stream;
     fails = FailsAt-leads stream byte first t h.leads (NoEffect-text byte t other none);
-    is_counted = h.read;
+    at_is = h.read;
   }
 
   -- ---- after an escape
 
-  pub escape-follows : Follows (27 ∷ []) (reader_of t Escape ended current at start) (reader_of t Escape ended current (counted (at + 1)) at)
+  pub escape-follows : Follows (27 ∷ []) (reader_of t Escape ended current at start) (reader_of t Escape ended current (saturating_u64 (at + 1)) at)
   escape-follows stream first h = broken-off stream first t Escape ended current at start (escape ∷ []) h escape-begins refl
 
-  pub bracket-follows : Follows (91 ∷ []) (reader_of t Escape ended current at start) (reader_of t Parameters [] no_digits (counted (at + 1)) start)
+  pub bracket-follows : Follows (91 ∷ []) (reader_of t Escape ended current at start) (reader_of t Parameters [] no_digits (saturating_u64 (at + 1)) start)
   bracket-follows stream first h = record {
     ended = [];
     current = [];
     well_formed = one-empty;
-    unended = goes-on stream first t Escape Parameters ended [] current no_digits at start 91 (escape ∷ []) introducer h refl;
+    in_item = goes-on stream first t Escape Parameters ended [] current no_digits at start 91 (escape ∷ []) introducer h refl;
     ended_kept = refl;
     current_kept = refl;
   }
 
-  pub other-follows : (byte : ℕ) → (byte ≡ 27 → ⊥) → (byte ≡ 91 → ⊥) → Follows (byte ∷ []) (reader_of t Escape ended current at start) (reader_of t Failed ended current (counted (at + 1)) start)
+  pub other-follows : (byte : ℕ) → (byte ≡ 27 → ⊥) → (byte ≡ 91 → ⊥)
+      → Follows (byte ∷ []) (reader_of t Escape ended current at start) (reader_of t Failed ended current (saturating_u64 (at + 1)) start)
   other-follows byte other no_bracket stream first h =
       fails-there stream first t Escape ended current at start byte (escape ∷ []) h refl (NoEffect-escape byte t other no_bracket)
 
   -- ---- within parameters
 
-  pub broken-follows : Follows (27 ∷ []) (reader_of t Parameters ended current at start) (reader_of t Escape ended current (counted (at + 1)) at)
+  pub broken-follows : Follows (27 ∷ []) (reader_of t Parameters ended current at start) (reader_of t Escape ended current (saturating_u64 (at + 1)) at)
   broken-follows stream first h =
-      broken-off stream first t Parameters ended current at start (introducer ++ join_with_byte separator (h.ended ++ h.current ∷ [])) h.unended
+      broken-off stream first t Parameters ended current at start (introducer ++ join_with_byte separator (h.ended ++ h.current ∷ [])) h.in_item
       (sequence-begins (h.ended ++ h.current ∷ []) h.well_formed) refl
 
   pub digit-follows : (byte : ℕ) → IsDigit byte → current.digits < 3 → Follows (byte ∷ []) (reader_of t Parameters ended current at start)
-      (reader_of t Parameters ended (longer current byte) (counted (at + 1)) start)
+      (reader_of t Parameters ended (longer current byte) (saturating_u64 (at + 1)) start)
   digit-follows byte digit few stream first h =
       let long : current.digits ≡ length h.current = ap (λ (p : Parameter). p.digits) h.current_kept in
       record {
         ended = h.ended;
         current = h.current ++ byte ∷ [];
         well_formed = with-digit h.ended h.current byte h.well_formed digit (omega arith);
-        unended = goes-on stream first t Parameters Parameters ended ended current (longer current byte) at start byte (introducer ++ join_with_byte separator (h.ended ++ h.current ∷ []))
-            (introducer ++ join_with_byte separator (h.ended ++ (h.current ++ byte ∷ []) ∷ [])) h.unended
+        in_item = goes-on stream first t Parameters Parameters ended ended current (longer current byte) at start byte (introducer ++ join_with_byte separator (h.ended ++ h.current ∷ []))
+            (introducer ++ join_with_byte separator (h.ended ++ (h.current ++ byte ∷ []) ∷ [])) h.in_item
             (ap (λ (bytes : List ℕ). 27 ∷ 91 ∷ bytes) (join-longer h.ended h.current (byte ∷ [])));
         ended_kept = h.ended_kept;
         current_kept = ap (λ (p : Parameter). longer p byte) h.current_kept ∙ parameter_of-digit h.current byte digit;
@@ -261,16 +262,18 @@ module _ (t : Terminal) (ended : List Parameter) (current : Parameter) (at start
       → ((function : Function) → byte ≡ final_byte function → effect (Control function (h.ended ++ h.current ∷ [])) t ≡ None)
       → HasFailed (stream ++ byte ∷ []) first t start
   fails-here stream first byte h other stops ends =
-      fails-there stream first t Parameters ended current at start byte (introducer ++ join_with_byte separator (h.ended ++ h.current ∷ [])) h.unended refl
+      fails-there stream first t Parameters ended current at start byte (introducer ++ join_with_byte separator (h.ended ++ h.current ∷ [])) h.in_item refl
       (NoEffect-parameters (h.ended ++ h.current ∷ []) byte t h.well_formed other (λ inner. stops) ends)
 
-  pub full-follows : (byte : ℕ) → IsDigit byte → 3 ≤ current.digits → Follows (byte ∷ []) (reader_of t Parameters ended current at start) (reader_of t Failed ended current (counted (at + 1)) start)
+  pub full-follows : (byte : ℕ) → IsDigit byte → 3 ≤ current.digits
+      → Follows (byte ∷ []) (reader_of t Parameters ended current at start) (reader_of t Failed ended current (saturating_u64 (at + 1)) start)
   full-follows byte digit full stream first h =
       let long : current.digits ≡ length h.current = ap (λ (p : Parameter). p.digits) h.current_kept in
       fails-here stream first byte h (λ e. omega (arith, digit.0)) (no-more_digits h.ended h.current byte h.well_formed digit (omega arith))
       (λ function e. absurd (final-no_digit function (subst IsDigit e digit)))
 
-  pub separator-follows : length ended < 15 → Follows (59 ∷ []) (reader_of t Parameters ended current at start) (reader_of t Parameters (ended ++ current ∷ []) no_digits (counted (at + 1)) start)
+  pub separator-follows : length ended < 15
+      → Follows (59 ∷ []) (reader_of t Parameters ended current at start) (reader_of t Parameters (ended ++ current ∷ []) no_digits (saturating_u64 (at + 1)) start)
   separator-follows few stream first h =
       let kept : length ended ≡ length h.ended = ap length h.ended_kept ∙ length-map h.ended parameter_of in
       let both : ended ++ current ∷ [] ≡ map parameter_of (h.ended ++ h.current ∷ []) =
@@ -279,13 +282,13 @@ module _ (t : Terminal) (ended : List Parameter) (current : Parameter) (at start
         ended = h.ended ++ h.current ∷ [];
         current = [];
         well_formed = with-next (h.ended ++ h.current ∷ []) h.well_formed (omega (arith, length-append h.ended (h.current ∷ [])));
-        unended = goes-on stream first t Parameters Parameters ended (ended ++ current ∷ []) current no_digits at start 59 (introducer ++ join_with_byte separator (h.ended ++ h.current ∷ []))
-            (introducer ++ join_with_byte separator ((h.ended ++ h.current ∷ []) ++ [] ∷ [])) h.unended (ap (λ (bytes : List ℕ). 27 ∷ 91 ∷ bytes) (join-next h.ended h.current));
+        in_item = goes-on stream first t Parameters Parameters ended (ended ++ current ∷ []) current no_digits at start 59 (introducer ++ join_with_byte separator (h.ended ++ h.current ∷ []))
+            (introducer ++ join_with_byte separator ((h.ended ++ h.current ∷ []) ++ [] ∷ [])) h.in_item (ap (λ (bytes : List ℕ). 27 ∷ 91 ∷ bytes) (join-next h.ended h.current));
         ended_kept = both;
         current_kept = refl;
       }
 
-  pub too_many-follows : 15 ≤ length ended → Follows (59 ∷ []) (reader_of t Parameters ended current at start) (reader_of t Failed ended current (counted (at + 1)) start)
+  pub too_many-follows : 15 ≤ length ended → Follows (59 ∷ []) (reader_of t Parameters ended current at start) (reader_of t Failed ended current (saturating_u64 (at + 1)) start)
   too_many-follows full stream first h =
       let kept : length ended ≡ length h.ended = ap length h.ended_kept ∙ length-map h.ended parameter_of in
       fails-here stream first 59 h (λ e. omega arith) (no-more_parameters h.ended h.current h.well_formed (omega arith)) (λ function e. absurd (final-no_separator function e))
@@ -300,18 +303,19 @@ module _ (t : Terminal) (ended : List Parameter) (current : Parameter) (at start
       (map_push parameter_of h.ended h.current ∙ ap (λ (ps : List Parameter). ps ++ parameter_of h.current ∷ []) (sym h.ended_kept) ∙ ap (λ (p : Parameter). ended ++ p ∷ []) (sym h.current_kept))
 
   finished : (stream : List ℕ) (first u : Terminal) (byte : ℕ) (function : Function) (h : InParameters stream first (reader_of t Parameters ended current at start))
-      → byte ≡ final_byte function → effect (Control function (h.ended ++ h.current ∷ [])) t ≡ Some u → InText (stream ++ byte ∷ []) first (reader_of u Text ended current (counted (at + 1)) start)
+      → byte ≡ final_byte function → effect (Control function (h.ended ++ h.current ∷ [])) t ≡ Some u
+      → InText (stream ++ byte ∷ []) first (reader_of u Text ended current (saturating_u64 (at + 1)) start)
   finished stream first u byte function h is e =
       let ps = h.ended ++ h.current ∷ [] in
       let sequence = control_sequence function (join_with_byte separator ps) in
       let leads : Leads sequence t u = record { items = Control function ps ∷ []; splits = ([], sym (append-nil sequence), h.well_formed, tt, refl); finished = (tt, tt); have_effect = rw e refl } in
-      let whole : stream ++ byte ∷ [] ≡ h.unended.front ++ sequence =
-      ap (λ (bytes : List ℕ). bytes ++ byte ∷ []) h.unended.whole
-      ∙ append_assoc h.unended.front (introducer ++ join_with_byte separator ps) (byte ∷ [])
-      ∙ ap (λ (b : ℕ). h.unended.front ++ ((introducer ++ join_with_byte separator ps) ++ b ∷ [])) is in
+      let whole : stream ++ byte ∷ [] ≡ h.in_item.front ++ sequence =
+      ap (λ (bytes : List ℕ). bytes ++ byte ∷ []) h.in_item.whole
+      ∙ append_assoc h.in_item.front (introducer ++ join_with_byte separator ps) (byte ∷ [])
+      ∙ ap (λ (b : ℕ). h.in_item.front ++ ((introducer ++ join_with_byte separator ps) ++ b ∷ [])) is in
       record {
-        leads = subst (λ (bytes : List ℕ). LeadsWithBreaks bytes first u) (sym whole) (Leads-repairs h.unended.front sequence first t u h.unended.in_profile leads (omega arith) refl);
-        read = next-read stream byte at h.unended.read;
+        leads = subst (λ (bytes : List ℕ). LeadsWithBreaks bytes first u) (sym whole) (Leads-repairs h.in_item.front sequence first t u h.in_item.in_profile leads (omega arith) refl);
+        read = next-read stream byte at h.in_item.read;
       }
 
   -- the same of a terminal and parameters that are these
@@ -322,9 +326,10 @@ module _ (t : Terminal) (ended : List Parameter) (current : Parameter) (at start
       subst (λ (reader : Reader). (digits : List (List ℕ)) → map parameter_of digits ≡ reader.ended ++ reader.current ∷ []
       → after ≡ option_and_then (λ function. effect (Control function digits) reader.terminal) (function_of byte)) same h
 
-  pub ending-follows : (u : Terminal) (byte : ℕ) → Ends byte (Some u) → Follows (byte ∷ []) (reader_of t Parameters ended current at start) (reader_of u Text ended current (counted (at + 1)) start)
+  pub ending-follows : (u : Terminal) (byte : ℕ) → Ends byte (Some u)
+      → Follows (byte ∷ []) (reader_of t Parameters ended current at start) (reader_of u Text ended current (saturating_u64 (at + 1)) start)
   ending-follows u byte ends stream first h = by_function (function_of byte) refl where
-    by_function : (o : Option Function) → function_of byte ≡ o → InText (stream ++ byte ∷ []) first (reader_of u Text ended current (counted (at + 1)) start)
+    by_function : (o : Option Function) → function_of byte ≡ o → InText (stream ++ byte ∷ []) first (reader_of u Text ended current (saturating_u64 (at + 1)) start)
     by_function None is =
         let never : ◌≡◌ {A = Option Terminal} (Some u) None = ends-at stream first byte (Some u) h ends
         ∙ ap (option_and_then (λ function. effect (Control function (h.ended ++ h.current ∷ [])) t)) is in absurd cc
@@ -333,9 +338,9 @@ module _ (t : Terminal) (ended : List Parameter) (current : Parameter) (at start
         (sym (ends-at stream first byte (Some u) h ends ∙ ap (option_and_then (λ function. effect (Control function (h.ended ++ h.current ∷ [])) t)) is))
 
   pub no_end-follows : (byte : ℕ) → (byte ≡ 27 → ⊥) → (IsDigit byte → ⊥) → (byte ≡ 59 → ⊥) → Ends byte None
-      → Follows (byte ∷ []) (reader_of t Parameters ended current at start) (reader_of t Failed ended current (counted (at + 1)) start)
+      → Follows (byte ∷ []) (reader_of t Parameters ended current at start) (reader_of t Failed ended current (saturating_u64 (at + 1)) start)
   no_end-follows byte other no_digit no_separator ends stream first h =
-      fails-there stream first t Parameters ended current at start byte (introducer ++ join_with_byte separator (h.ended ++ h.current ∷ [])) h.unended refl
+      fails-there stream first t Parameters ended current at start byte (introducer ++ join_with_byte separator (h.ended ++ h.current ∷ [])) h.in_item refl
       (NoEffect-parameters (h.ended ++ h.current ∷ []) byte t h.well_formed other stops
       (λ function is. sym (ends-at stream first byte None h ends ∙ ap (option_and_then (λ function. effect (Control function (h.ended ++ h.current ∷ [])) t))
       (ap function_of is ∙ function_of-byte function)))) where
@@ -352,13 +357,13 @@ module _ (t : Terminal) (ended : List Parameter) (current : Parameter) (at start
 
 pub failed-follows : (old new : Reader) (bytes : List ℕ) → old.state ≡ Failed → new.state ≡ Failed → new.terminal ≡ old.terminal → new.start ≡ old.start → Follows bytes old new
 failed-follows old new bytes old-is new-is same-terminal same-start stream first h =
-    let before : HasFailed stream first old.terminal old.start = subst (λ (state : State). StandsIn state stream first old) old-is h in
+    let before : HasFailed stream first old.terminal old.start = subst (λ (state : State). HasReadIn state stream first old) old-is h in
     let after : HasFailed (stream ++ bytes) first new.terminal new.start = record {
       offset = before.offset;
       fails = subst (λ (t : Terminal). FailsAt (stream ++ bytes) first before.offset t) (sym same-terminal) (FailsAt-append stream bytes before.offset first old.terminal before.fails);
-      is_counted = same-start ∙ before.is_counted;
+      at_is = same-start ∙ before.at_is;
     } in
-    subst (λ (state : State). StandsIn state (stream ++ bytes) first new) (sym new-is) after
+    subst (λ (state : State). HasReadIn state (stream ++ bytes) first new) (sym new-is) after
 
 -- ---- one after another
 
@@ -370,25 +375,25 @@ Follows-from old new after state at byte is known to same h =
     (subst (λ (b : ℕ). Follows (b ∷ []) (reader_of old.terminal state old.ended old.current at old.start) after) (sym same) h))
 
 pub Follows-nothing : (reader : Reader) → Follows [] reader reader
-Follows-nothing reader stream first h = subst (λ (bytes : List ℕ). StandsIn reader.state bytes first reader) (sym (append-nil stream)) h
+Follows-nothing reader stream first h = subst (λ (bytes : List ℕ). HasReadIn reader.state bytes first reader) (sym (append-nil stream)) h
 
 pub Follows-append : (bytes more : List ℕ) (old middle new : Reader) → Follows bytes old middle → Follows more middle new → Follows (bytes ++ more) old new
-Follows-append bytes more old middle new h k stream first stands =
-    subst (λ (whole : List ℕ). StandsIn new.state whole first new) (append_assoc stream bytes more) (k (stream ++ bytes) first (h stream first stands))
+Follows-append bytes more old middle new h k stream first read =
+    subst (λ (whole : List ℕ). HasReadIn new.state whole first new) (append_assoc stream bytes more) (k (stream ++ bytes) first (h stream first read))
 
 -- ---- what a reader answers
 
-pub standing-in_profile : (stream : List ℕ) (first : Terminal) (reader : Reader) → (reader.state ≡ Failed → ⊥) → StandsIn reader.state stream first reader → IsInProfile stream first reader.terminal
-standing-in_profile stream first reader not_failed h = by_state reader.state refl h where
-  by_state : (state : State) → reader.state ≡ state → StandsIn state stream first reader → IsInProfile stream first reader.terminal
+pub reader-in_profile : (stream : List ℕ) (first : Terminal) (reader : Reader) → (reader.state ≡ Failed → ⊥) → HasReadIn reader.state stream first reader → IsInProfile stream first reader.terminal
+reader-in_profile stream first reader not_failed h = by_state reader.state refl h where
+  by_state : (state : State) → reader.state ≡ state → HasReadIn state stream first reader → IsInProfile stream first reader.terminal
   by_state Text is h = LeadsWithBreaks-in_profile stream first reader.terminal h.leads
-  by_state Escape is h = unended-in_profile stream first reader (escape ∷ []) h escape-begins refl
+  by_state Escape is h = in_item-in_profile stream first reader (escape ∷ []) h escape-begins refl
   by_state Parameters is h =
-      unended-in_profile stream first reader (introducer ++ join_with_byte separator (h.ended ++ h.current ∷ [])) h.unended (sequence-begins (h.ended ++ h.current ∷ []) h.well_formed) refl
+      in_item-in_profile stream first reader (introducer ++ join_with_byte separator (h.ended ++ h.current ∷ [])) h.in_item (sequence-begins (h.ended ++ h.current ∷ []) h.well_formed) refl
   by_state Failed is h = absurd (not_failed is)
 
-pub standing-failed : (stream : List ℕ) (first : Terminal) (reader : Reader) → reader.state ≡ Failed → StandsIn reader.state stream first reader → HasFailed stream first reader.terminal reader.start
-standing-failed stream first reader is h = subst (λ (state : State). StandsIn state stream first reader) is h
+pub reader-failed : (stream : List ℕ) (first : Terminal) (reader : Reader) → reader.state ≡ Failed → HasReadIn reader.state stream first reader → HasFailed stream first reader.terminal reader.start
+reader-failed stream first reader is h = subst (λ (state : State). HasReadIn state stream first reader) is h
 
 -- ---- one stream, one terminal
 
@@ -398,16 +403,16 @@ in_profile-unique stream t u v h k = Reaches-unique stream (length stream) t u v
 abbrev Fate : List ℕ → Terminal → Reader → Type 0
 Fate stream first reader = IsInProfile stream first reader.terminal ⊎ HasFailed stream first reader.terminal reader.start
 
-fate : (stream : List ℕ) (first : Terminal) (reader : Reader) → StandsIn reader.state stream first reader → Fate stream first reader
+fate : (stream : List ℕ) (first : Terminal) (reader : Reader) → HasReadIn reader.state stream first reader → Fate stream first reader
 fate stream first reader h = by_state reader.state refl where
   by_state : (state : State) → reader.state ≡ state → Fate stream first reader
-  by_state Text is = inl (standing-in_profile stream first reader (λ failed. let never : Text ≡ Failed = sym is ∙ failed in absurd cc) h)
-  by_state Escape is = inl (standing-in_profile stream first reader (λ failed. let never : Escape ≡ Failed = sym is ∙ failed in absurd cc) h)
-  by_state Parameters is = inl (standing-in_profile stream first reader (λ failed. let never : Parameters ≡ Failed = sym is ∙ failed in absurd cc) h)
-  by_state Failed is = inr (standing-failed stream first reader is h)
+  by_state Text is = inl (reader-in_profile stream first reader (λ failed. let never : Text ≡ Failed = sym is ∙ failed in absurd cc) h)
+  by_state Escape is = inl (reader-in_profile stream first reader (λ failed. let never : Escape ≡ Failed = sym is ∙ failed in absurd cc) h)
+  by_state Parameters is = inl (reader-in_profile stream first reader (λ failed. let never : Parameters ≡ Failed = sym is ∙ failed in absurd cc) h)
+  by_state Failed is = inr (reader-failed stream first reader is h)
 
-pub one-standing : (stream : List ℕ) (first : Terminal) (one other : Reader) → StandsIn one.state stream first one → StandsIn other.state stream first other → one.terminal ≡ other.terminal
-one-standing stream first one other h k = elim (fate stream first one h) [
+pub one-terminal_shown : (stream : List ℕ) (first : Terminal) (one other : Reader) → HasReadIn one.state stream first one → HasReadIn other.state stream first other → one.terminal ≡ other.terminal
+one-terminal_shown stream first one other h k = elim (fate stream first one h) [
   | inl good ↦ elim (fate stream first other k) [
     | inl fine ↦ in_profile-unique stream first one.terminal other.terminal good fine
     | inr failed ↦ absurd (FailsAt-outside stream failed.offset first other.terminal one.terminal failed.fails good)
