@@ -11,7 +11,7 @@ counted_bytes n = min n (2 ^ 32 - 1)
 -- A prefix of the text went out, and the rest is in the buffer; or a write failed somewhere in it.
 abbrev pub GoesOut : Bool → Seen → Seen → List ℕ → ℕ → List ℕ → Type 0
 GoesOut false start now room sent text =
-    (front : List ℕ) × (text ≡ front ++ room) × (sent ≡ counted_bytes (length front)) × Sends start now 0 front (Ok (length front))
+    (prefix : List ℕ) × (text ≡ prefix ++ room) × (sent ≡ counted_bytes (length prefix)) × Sends start now 0 prefix (Ok (length prefix))
 GoesOut true start now room sent text = (taken : ℕ) × (sent ≡ counted_bytes taken) × Sends start now 0 text (Err (record { sent = taken }))
 
 -- The text was gathered: the sink was seen as `start` when it began, and is seen as `now`.
