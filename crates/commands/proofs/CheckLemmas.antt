@@ -188,11 +188,11 @@ checked_all input r1 r2 out o1 o2 unused left kept n before after is_kept end s 
       reported = subst (IsReported out o2 after) (sym says) (more out s.lines s.reported);
     }
 
-pub checked_front : (input r1 r2 : SourceSeen) (out o1 o2 : Seen) (unused left kept : List ℕ) (n : ℕ) (before after : Report) (is_kept : Bool) (end : LineEnd)
+pub checked_prefix : (input r1 r2 : SourceSeen) (out o1 o2 : Seen) (unused left kept : List ℕ) (n : ℕ) (before after : Report) (is_kept : Bool) (end : LineEnd)
     → Checking input r1 out o1 unused n before → (r : ReadsToEnd r1 r2 unused left end) → IsKept is_kept r.line kept → end ≡ ReadFailed
     → LineReadingEnds r1 r2 unused left end
     → ReportsMore o1 o2 before after (finding_of_read n kept is_kept end) → ReportsScript input r2 out o2 false after
-checked_front input r1 r2 out o1 o2 unused left kept n before after is_kept end s r k is reading more =
+checked_prefix input r1 r2 out o1 o2 unused left kept n before after is_kept end s r k is reading more =
     let all = failed_is_all end (unused ++ r.bytes) r.line left is r.ends in
     let says : findings true (s.text ++ r.bytes) ≡ s.lines ++ finding_of_read n kept is_kept end =
     s.says true r.bytes

@@ -8,34 +8,34 @@ use Rattle.commands.proofs.PutLemmas.{cut_before, nothing_put, put_behind}
 
 -- the spelling of a prefix of a text was written, and that of the rest wasn't yet
 pub record IsPartlySpelled (old new : Seen) (text rest : List ℕ) : Type 0 where
-  pub front : List ℕ
-  pub whole : text ≡ front ++ rest
-  pub put : PuttingEnds true old new (spelled front)
+  pub prefix : List ℕ
+  pub whole : text ≡ prefix ++ rest
+  pub put : PuttingEnds true old new (spelled prefix)
 
 pub none_spelled : (old : Seen) (text : List ℕ) → IsPartlySpelled old old text text
-none_spelled old text = record { front = []; whole = refl; put = nothing_put old }
+none_spelled old text = record { prefix = []; whole = refl; put = nothing_put old }
 
-through : (text front rest piece after : List ℕ) (at : ℕ) → text ≡ front ++ rest → piece ≡ take at rest → after ≡ drop at rest → text ≡ (front ++ piece) ++ after
-through text front rest piece after at whole is behind =
-    whole ∙ ap (λ l. front ++ l) (sym (ap₂ ◌++◌ is behind ∙ take-append-drop at rest)) ∙ sym (append_assoc front piece after)
+through : (text prefix rest piece after : List ℕ) (at : ℕ) → text ≡ prefix ++ rest → piece ≡ take at rest → after ≡ drop at rest → text ≡ (prefix ++ piece) ++ after
+through text prefix rest piece after at whole is behind =
+    whole ∙ ap (λ l. prefix ++ l) (sym (ap₂ ◌++◌ is behind ∙ take-append-drop at rest)) ∙ sym (append_assoc prefix piece after)
 
 pub more_spelled : (old mid new : Seen) (text rest piece after : List ℕ) (at : ℕ) (written : Bool) → IsPartlySpelled old mid text rest → PuttingEnds written mid new (spelled piece)
     → written ≡ true → piece ≡ take at rest → after ≡ drop at rest → IsPartlySpelled old new text after
-more_spelled old mid new text rest piece after at written p h is front back = record {
-  front = p.front ++ piece;
-  whole = through text p.front rest piece after at p.whole front back;
-  put = subst (PuttingEnds true old new) (sym (flat_map-append spelled_byte p.front piece)) (put_behind _ _ _ _ _ true true p.put refl (subst (λ w. PuttingEnds w mid new (spelled piece)) is h));
+more_spelled old mid new text rest piece after at written p h is prefix back = record {
+  prefix = p.prefix ++ piece;
+  whole = through text p.prefix rest piece after at p.whole prefix back;
+  put = subst (PuttingEnds true old new) (sym (flat_map-append spelled_byte p.prefix piece)) (put_behind _ _ _ _ _ true true p.put refl (subst (λ w. PuttingEnds w mid new (spelled piece)) is h));
 }
 
 pub all_spelled : (old new : Seen) (text rest : List ℕ) → IsPartlySpelled old new text rest → rest ≡ [] → PuttingEnds true old new (spelled text)
-all_spelled old new text rest p e = subst (λ l. PuttingEnds true old new (spelled l)) (sym (p.whole ∙ ap (λ l. p.front ++ l) e ∙ append-nil p.front)) p.put
+all_spelled old new text rest p e = subst (λ l. PuttingEnds true old new (spelled l)) (sym (p.whole ∙ ap (λ l. p.prefix ++ l) e ∙ append-nil p.prefix)) p.put
 
 -- a write failed
 pub cut_spelled : (old mid new : Seen) (text rest piece after : List ℕ) (at : ℕ) (written : Bool) → IsPartlySpelled old mid text rest → PuttingEnds written mid new (spelled piece)
     → written ≡ false → piece ≡ take at rest → after ≡ drop at rest → PuttingEnds false old new (spelled text)
-cut_spelled old mid new text rest piece after at written p h is front back =
-    let done : PuttingEnds written old new (spelled p.front ++ spelled piece) = put_behind _ _ _ _ _ true written p.put refl h in
-    let cut : PuttingEnds false old new ((spelled p.front ++ spelled piece) ++ spelled after) = cut_before _ _ _ _ written done is in
-    let joined : (spelled p.front ++ spelled piece) ++ spelled after ≡ spelled ((p.front ++ piece) ++ after) =
-    ap (λ l. l ++ spelled after) (sym (flat_map-append spelled_byte p.front piece)) ∙ sym (flat_map-append spelled_byte (p.front ++ piece) after) in
-    subst (PuttingEnds false old new) (joined ∙ sym (ap spelled (through text p.front rest piece after at p.whole front back))) cut
+cut_spelled old mid new text rest piece after at written p h is prefix back =
+    let done : PuttingEnds written old new (spelled p.prefix ++ spelled piece) = put_behind _ _ _ _ _ true written p.put refl h in
+    let cut : PuttingEnds false old new ((spelled p.prefix ++ spelled piece) ++ spelled after) = cut_before _ _ _ _ written done is in
+    let joined : (spelled p.prefix ++ spelled piece) ++ spelled after ≡ spelled ((p.prefix ++ piece) ++ after) =
+    ap (λ l. l ++ spelled after) (sym (flat_map-append spelled_byte p.prefix piece)) ∙ sym (flat_map-append spelled_byte (p.prefix ++ piece) after) in
+    subst (PuttingEnds false old new) (joined ∙ sym (ap spelled (through text p.prefix rest piece after at p.whole prefix back))) cut

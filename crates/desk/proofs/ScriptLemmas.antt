@@ -95,8 +95,8 @@ first_piece (x ∷ xs) ys h =
 too_long_says : (n : ℕ) (line more : List ℕ) (b : ℕ) → HasNoNewline line → is_newline b ≡ false → LONGEST_LINE ≤ length line
     → reading_of false n (slice_split is_newline (line ++ b ∷ more)) ≡ ends_with (Some (Text n LineTooLong))
 too_long_says n line more b h e long =
-    let front : HasNoNewline (line ++ b ∷ []) = rw (list_any-append is_newline line (b ∷ []), h, e) refl in
-    let first = first_piece (line ++ b ∷ []) more front in
+    let prefix : HasNoNewline (line ++ b ∷ []) = rw (list_any-append is_newline line (b ∷ []), h, e) refl in
+    let first = first_piece (line ++ b ∷ []) more prefix in
     let length_is : LONGEST_LINE < length ((line ++ b ∷ []) ++ first.0) = simp (length-append, length-append) (omega arith) in
     ap (λ l. reading_of false n (slice_split is_newline l)) (sym (append_assoc line (b ∷ []) more)) ∙ ap (reading_of false n) first.2
     ∙ ap (λ t. before_others n t (reading_of false (next_number n) first.1)) (long_line ((line ++ b ∷ []) ++ first.0) length_is)

@@ -10,14 +10,14 @@ use Rattle.ecma.specs.Terminals.{Terminal, print, effect}
 use Rattle.ecma.proofs.Numbers.{each-append}
 use Rattle.ecma.proofs.Printing.{from_space}
 use Rattle.ecma.proofs.Stopping.{NoEffect}
-use Rattle.ecma.proofs.Unique.{IsInner, Stops, cut, All-append, All-front, joined-inner, final-stops, not-digit, not-escape, shape-of, same-parameters}
+use Rattle.ecma.proofs.Unique.{IsInner, Stops, cut, All-append, All-prefix, joined-inner, final-stops, not-digit, not-escape, shape-of, same-parameters}
 
 -- ---- in text
 
 escape-first : (byte : ℕ) (q following : List ℕ) → IsBeginning q → byte ∷ [] ≡ q ++ following → byte ≡ 27
 escape-first byte q following h e = elim (shape-of q h) [
-  | inl lone ↦ let whole : byte ∷ [] ≡ 27 ∷ following = e ∙ ap (λ (front : List ℕ). front ++ following) lone in cc
-  | inr begins ↦ let whole : byte ∷ [] ≡ 27 ∷ 91 ∷ (begins.inner ++ following) = e ∙ ap (λ (front : List ℕ). front ++ following) begins.is in cc
+  | inl lone ↦ let whole : byte ∷ [] ≡ 27 ∷ following = e ∙ ap (λ (prefix : List ℕ). prefix ++ following) lone in cc
+  | inr begins ↦ let whole : byte ∷ [] ≡ 27 ∷ 91 ∷ (begins.inner ++ following) = e ∙ ap (λ (prefix : List ℕ). prefix ++ following) begins.is in cc
 ]
 
 pub NoEffect-text : (byte : ℕ) (t : Terminal) → (byte ≡ 27 → ⊥) → (IsTrue (is_printable byte) → print byte t ≡ None) → NoEffect (byte ∷ []) t
@@ -38,11 +38,11 @@ NoEffect-escape byte t other no_bracket = record { each = none } where
   none (Control function parameters) following e is p = absurd (let same : byte ≡ 91 = cc in no_bracket same)
   none (Unfinished q) following e is p = elim (shape-of q is) [
     | inl lone ↦
-        let whole : 27 ∷ byte ∷ [] ≡ 27 ∷ following = e ∙ ap (λ (front : List ℕ). front ++ following) lone in
+        let whole : 27 ∷ byte ∷ [] ≡ 27 ∷ following = e ∙ ap (λ (prefix : List ℕ). prefix ++ following) lone in
         let behind : byte ∷ [] ≡ following = cc in
         absurd (not-escape byte [] following other behind p)
     | inr begins ↦
-        let whole : 27 ∷ byte ∷ [] ≡ 27 ∷ 91 ∷ (begins.inner ++ following) = e ∙ ap (λ (front : List ℕ). front ++ following) begins.is in
+        let whole : 27 ∷ byte ∷ [] ≡ 27 ∷ 91 ∷ (begins.inner ++ following) = e ∙ ap (λ (prefix : List ℕ). prefix ++ following) begins.is in
         absurd (let same : byte ≡ 91 = cc in no_bracket same)
   ]
 
@@ -77,7 +77,7 @@ module _ (ps : List (List ℕ)) (byte : ℕ) (t : Terminal) (h : AreParameters p
   none-control function qs following k e none = elim (is_inner byte) [
     | inl inner ↦
         let all : AllByRecursion IsInner ((join_with_byte 59 qs ++ final_byte function ∷ []) ++ following) = subst (λ (bytes : List ℕ). AllByRecursion IsInner bytes) e (all-inner inner) in
-        let last = All-back (join_with_byte 59 qs) (final_byte function ∷ []) (All-front (join_with_byte 59 qs ++ final_byte function ∷ []) following all) in
+        let last = All-back (join_with_byte 59 qs) (final_byte function ∷ []) (All-prefix (join_with_byte 59 qs ++ final_byte function ∷ []) following all) in
         absurd (final-stops function [] last.0)
     | inr stops ↦
         let both = cut IsInner (join_with_byte 59 ps) (join_with_byte 59 qs) (byte ∷ []) (final_byte function ∷ following) (joined-inner ps h.digits) (joined-inner qs k.digits) stops
@@ -115,11 +115,11 @@ module _ (ps : List (List ℕ)) (byte : ℕ) (t : Terminal) (h : AreParameters p
         none-control function parameters following is behind (ends function)
     none (Unfinished q) following e is p = elim (shape-of q is) [
       | inl lone ↦
-          let whole : 27 ∷ 91 ∷ (join_with_byte 59 ps ++ byte ∷ []) ≡ 27 ∷ following = e ∙ ap (λ (front : List ℕ). front ++ following) lone in
+          let whole : 27 ∷ 91 ∷ (join_with_byte 59 ps ++ byte ∷ []) ≡ 27 ∷ following = e ∙ ap (λ (prefix : List ℕ). prefix ++ following) lone in
           let behind : 91 ∷ (join_with_byte 59 ps ++ byte ∷ []) ≡ following = cc in
           absurd (not-escape 91 (join_with_byte 59 ps ++ byte ∷ []) following (λ same. omega arith) behind p)
       | inr begins ↦
-          let whole : 27 ∷ 91 ∷ (join_with_byte 59 ps ++ byte ∷ []) ≡ 27 ∷ 91 ∷ (begins.inner ++ following) = e ∙ ap (λ (front : List ℕ). front ++ following) begins.is in
+          let whole : 27 ∷ 91 ∷ (join_with_byte 59 ps ++ byte ∷ []) ≡ 27 ∷ 91 ∷ (begins.inner ++ following) = e ∙ ap (λ (prefix : List ℕ). prefix ++ following) begins.is in
           let behind : join_with_byte 59 ps ++ byte ∷ [] ≡ begins.inner ++ following = cc in
           absurd (none-begun begins.inner following begins.each p (subst IsBeginning begins.is is) behind goes_on)
     ]
@@ -196,7 +196,7 @@ current-short : (ended : List (List ℕ)) (current : List ℕ) (byte : ℕ) (mis
 current-short [] current byte missing qs function h k short one digit e = current-first current byte missing qs function h.0 short one digit e
 current-short (a ∷ ended) current byte missing qs function h k short one digit e =
     let next = others a (join_with_byte 59 (ended ++ current ∷ []) ++ byte ∷ missing) qs function h.0 k one
-    (sym (append_assoc a (59 ∷ join_with_byte 59 (ended ++ current ∷ [])) (byte ∷ missing)) ∙ sym (ap (λ (front : List ℕ). front ++ byte ∷ missing) (join-more a ended current)) ∙ e) in
+    (sym (append_assoc a (59 ∷ join_with_byte 59 (ended ++ current ∷ [])) (byte ∷ missing)) ∙ sym (ap (λ (prefix : List ℕ). prefix ++ byte ∷ missing) (join-more a ended current)) ∙ e) in
     let digits = subst AreDigits next.is k in
     let lengths = subst AreShort next.is short in
     current-short ended current byte missing next.rest function h.1 digits.1 lengths.1 next.some digit next.behind
@@ -209,7 +209,7 @@ ended-few [] current missing qs function h k one e =
     let some = next.some in omega arith
 ended-few (a ∷ ended) current missing qs function h k one e =
     let next = others a (join_with_byte 59 (ended ++ current ∷ []) ++ 59 ∷ missing) qs function h.0 k one
-    (sym (append_assoc a (59 ∷ join_with_byte 59 (ended ++ current ∷ [])) (59 ∷ missing)) ∙ sym (ap (λ (front : List ℕ). front ++ 59 ∷ missing) (join-more a ended current)) ∙ e) in
+    (sym (append_assoc a (59 ∷ join_with_byte 59 (ended ++ current ∷ [])) (59 ∷ missing)) ∙ sym (ap (λ (prefix : List ℕ). prefix ++ 59 ∷ missing) (join-more a ended current)) ∙ e) in
     let digits = subst AreDigits next.is k in
     let long : length qs ≡ length (next.first ∷ next.rest) = ap length next.is in
     let few = ended-few ended current missing next.rest function h.1 digits.1 next.some next.behind in omega arith
@@ -217,21 +217,21 @@ ended-few (a ∷ ended) current missing qs function h k one e =
 pub no-more_digits : (ended : List (List ℕ)) (current : List ℕ) (byte : ℕ) → AreParameters (ended ++ current ∷ []) → IsDigit byte → 3 ≤ length current
     → IsBeginning (27 ∷ 91 ∷ (join_with_byte 59 (ended ++ current ∷ []) ++ byte ∷ [])) → ⊥
 no-more_digits ended current byte h digit full begins =
-    let front = join_with_byte 59 (ended ++ current ∷ []) in
+    let prefix = join_with_byte 59 (ended ++ current ∷ []) in
     let whole = begins.goes_on in
-    let tail : (front ++ byte ∷ []) ++ begins.missing ≡ join_with_byte 59 begins.parameters ++ final_byte begins.function ∷ [] = cc in
+    let tail : (prefix ++ byte ∷ []) ++ begins.missing ≡ join_with_byte 59 begins.parameters ++ final_byte begins.function ∷ [] = cc in
     let short = current-short ended current byte begins.missing begins.parameters begins.function h.digits begins.well_formed.digits begins.well_formed.short begins.well_formed.one digit
-    (sym (append_assoc front (byte ∷ []) begins.missing) ∙ tail) in
+    (sym (append_assoc prefix (byte ∷ []) begins.missing) ∙ tail) in
     omega arith
 
 pub no-more_parameters : (ended : List (List ℕ)) (current : List ℕ) → AreParameters (ended ++ current ∷ []) → 15 ≤ length ended
     → IsBeginning (27 ∷ 91 ∷ (join_with_byte 59 (ended ++ current ∷ []) ++ 59 ∷ [])) → ⊥
 no-more_parameters ended current h full begins =
-    let front = join_with_byte 59 (ended ++ current ∷ []) in
+    let prefix = join_with_byte 59 (ended ++ current ∷ []) in
     let whole = begins.goes_on in
-    let tail : (front ++ 59 ∷ []) ++ begins.missing ≡ join_with_byte 59 begins.parameters ++ final_byte begins.function ∷ [] = cc in
+    let tail : (prefix ++ 59 ∷ []) ++ begins.missing ≡ join_with_byte 59 begins.parameters ++ final_byte begins.function ∷ [] = cc in
     let few = ended-few ended current begins.missing begins.parameters begins.function h.digits begins.well_formed.digits begins.well_formed.one
-    (sym (append_assoc front (59 ∷ []) begins.missing) ∙ tail) in
+    (sym (append_assoc prefix (59 ∷ []) begins.missing) ∙ tail) in
     omega (arith, begins.well_formed.most)
 
 -- ---- a byte that no parameters have
@@ -255,15 +255,15 @@ joined-no_colon (digits ∷ []) h = digits-no_colon digits h.0
 joined-no_colon (digits ∷ next ∷ parameters) h =
     each-append (λ byte. byte ≡ 58 → ⊥) digits (59 ∷ join_with_byte 59 (next ∷ parameters)) (digits-no_colon digits h.0) ((λ e. omega arith), joined-no_colon (next ∷ parameters) h.1)
 
-no-colon_behind : (front missing : List ℕ) → NoColon (front ++ 58 ∷ missing) → ⊥
+no-colon_behind : (prefix missing : List ℕ) → NoColon (prefix ++ 58 ∷ missing) → ⊥
 no-colon_behind [] missing h = h.0 refl
-no-colon_behind (byte ∷ front) missing h = no-colon_behind front missing h.1
+no-colon_behind (byte ∷ prefix) missing h = no-colon_behind prefix missing h.1
 
-pub no-colon : (front : List ℕ) → IsBeginning (27 ∷ 91 ∷ (front ++ 58 ∷ [])) → ⊥
-no-colon front begins =
+pub no-colon : (prefix : List ℕ) → IsBeginning (27 ∷ 91 ∷ (prefix ++ 58 ∷ [])) → ⊥
+no-colon prefix begins =
     let whole = begins.goes_on in
-    let tail : (front ++ 58 ∷ []) ++ begins.missing ≡ join_with_byte 59 begins.parameters ++ final_byte begins.function ∷ [] = cc in
+    let tail : (prefix ++ 58 ∷ []) ++ begins.missing ≡ join_with_byte 59 begins.parameters ++ final_byte begins.function ∷ [] = cc in
     let all : NoColon (join_with_byte 59 begins.parameters ++ final_byte begins.function ∷ []) =
     each-append (λ byte. byte ≡ 58 → ⊥) (join_with_byte 59 begins.parameters) (final_byte begins.function ∷ []) (joined-no_colon begins.parameters begins.well_formed.digits)
     (final-no_colon begins.function, tt) in
-    no-colon_behind front begins.missing (subst NoColon (sym tail ∙ append_assoc front (58 ∷ []) begins.missing) all)
+    no-colon_behind prefix begins.missing (subst NoColon (sym tail ∙ append_assoc prefix (58 ∷ []) begins.missing) all)

@@ -42,8 +42,8 @@ erased-cell : (how : Erase) (column x : ℕ) (row : List Shown) → column < len
     → (if is_within (span how column (length row)) x then shown_blank else get_or row x shown_blank) ≡ get_or (erased_line how column row) x shown_blank
 erased-cell ToEnd column x row h k = elim (cases_lt x column) [
   | inl before ↦
-      let front : x < length (take column row) = omega (arith, length-take column row) in
-      rw (within-before (column, length row) x before) (sym (get_or_append_left (take column row) (blanked (drop column row)) shown_blank x front ∙ get_or-take column row x shown_blank before))
+      let prefix : x < length (take column row) = omega (arith, length-take column row) in
+      rw (within-before (column, length row) x before) (sym (get_or_append_left (take column row) (blanked (drop column row)) shown_blank x prefix ∙ get_or-take column row x shown_blank before))
   | inr from ↦
       rw (within-true (column, length row) x from k)
       (sym (get_or-append_right (take column row) (blanked (drop column row)) column x shown_blank (length-take-le column row (omega arith)) from ∙ blanked-cell (drop column row) (x - column)))
@@ -52,9 +52,9 @@ erased-cell FromStart column x row h k =
     let long : length (blanked (take (column + 1) row)) ≡ column + 1 = length-map (take (column + 1) row) (λ _. shown_blank) ∙ length-take-le (column + 1) row (omega arith) in
     elim (cases_lt x (column + 1)) [
       | inl before ↦
-          let front : x < length (blanked (take (column + 1) row)) = omega arith in
+          let prefix : x < length (blanked (take (column + 1) row)) = omega arith in
           rw (within-true (0, column + 1) x (omega arith) before)
-          (sym (get_or_append_left (blanked (take (column + 1) row)) (drop (column + 1) row) shown_blank x front ∙ blanked-cell (take (column + 1) row) x))
+          (sym (get_or_append_left (blanked (take (column + 1) row)) (drop (column + 1) row) shown_blank x prefix ∙ blanked-cell (take (column + 1) row) x))
       | inr after ↦
           let place : column + 1 + (x - (column + 1)) ≡ x = omega arith in
           rw (within-after (0, column + 1) x (omega arith) after)
@@ -108,20 +108,20 @@ lines_blanked-none first picture =
     let nothing : first - first ≡ 0 = omega arith in
     rw nothing (rw append-nil (sym (take-append-drop first picture)))
 
-length-front : (first i : ℕ) (picture : Picture) → first ≤ i → i < length picture → length (take first picture ++ map blanked (take (i - first) (drop first picture))) ≡ i
-length-front first i picture h k =
-    let front = length-take-le first picture (omega arith) in
+length-prefix : (first i : ℕ) (picture : Picture) → first ≤ i → i < length picture → length (take first picture ++ map blanked (take (i - first) (drop first picture))) ≡ i
+length-prefix first i picture h k =
+    let prefix = length-take-le first picture (omega arith) in
     let back = length-map (take (i - first) (drop first picture)) blanked in
     let some = length-take-le (i - first) (drop first picture) (omega (arith, length-drop first picture)) in
     omega (arith, length-append (take first picture) (map blanked (take (i - first) (drop first picture))))
 
 pub lines_blanked-more : (first i : ℕ) (picture old : Picture) → first ≤ i → i < length old → picture ≡ lines_blanked first i old → erased_at All (i, 0) picture ≡ lines_blanked first (i + 1) old
 lines_blanked-more first i picture old h k is =
-    let front = take first old ++ map blanked (take (i - first) (drop first old)) in
+    let prefix = take first old ++ map blanked (take (i - first) (drop first old)) in
     let line = line_of old i in
-    let long = length-front first i old h k in
-    let whole : picture ≡ front ++ line ∷ drop (i + 1) old = is ∙ ap (λ (rest : Picture). front ++ rest) (drop_more old i [] k) in
-    let here : line_of picture i ≡ line = ap (λ (p : Picture). line_of p i) whole ∙ get_or_at front line (drop (i + 1) old) [] i long in
+    let long = length-prefix first i old h k in
+    let whole : picture ≡ prefix ++ line ∷ drop (i + 1) old = is ∙ ap (λ (rest : Picture). prefix ++ rest) (drop_more old i [] k) in
+    let here : line_of picture i ≡ line = ap (λ (p : Picture). line_of p i) whole ∙ get_or_at prefix line (drop (i + 1) old) [] i long in
     let more : i - first + 1 ≡ i + 1 - first = omega arith in
     let place : first + (i - first) ≡ i = omega arith in
     let there : get_or (drop first old) (i - first) [] ≡ line = get_or-drop first old (i - first) [] ∙ ap (λ (n : ℕ). get_or old n []) place in
@@ -133,7 +133,7 @@ lines_blanked-more first i picture old h k is =
     ∙ map_push blanked (take (i - first) (drop first old)) line in
     ap (λ (row : List Shown). set picture i (blanked row)) here
     ∙ ap (λ (p : Picture). set p i (blanked line)) whole
-    ∙ set_at front line (drop (i + 1) old) (blanked line) i long
-    ∙ sym (append_assoc front (blanked line ∷ []) (drop (i + 1) old))
+    ∙ set_at prefix line (drop (i + 1) old) (blanked line) i long
+    ∙ sym (append_assoc prefix (blanked line ∷ []) (drop (i + 1) old))
     ∙ ap (λ (rows : Picture). rows ++ drop (i + 1) old) (append_assoc (take first old) (map blanked (take (i - first) (drop first old))) (blanked line ∷ [])
     ∙ ap (λ (rows : Picture). take first old ++ rows) (sym mapped))

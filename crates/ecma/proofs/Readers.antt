@@ -57,7 +57,7 @@ pub in_item-in_profile : (stream : List ℕ) (first : Terminal) (reader : Reader
     → IsInProfile stream first reader.terminal
 in_item-in_profile stream first reader unfinished h begins there =
     subst (λ (bytes : List ℕ). IsInProfile bytes first reader.terminal) (sym h.whole)
-    (InProfile-append h.front unfinished first reader.terminal reader.terminal h.in_profile (begun-in_profile unfinished reader.terminal begins) there)
+    (InProfile-append h.prefix unfinished first reader.terminal reader.terminal h.in_profile (begun-in_profile unfinished reader.terminal begins) there)
 
 -- ---- parameters one after another
 
@@ -65,9 +65,9 @@ each-push : {A : Type 0} (P : A → Type 0) (xs : List A) (x : A) → AllByRecur
 each-push P [] x h k = (k, tt)
 each-push P (y ∷ xs) x h k = (h.0, each-push P xs x h.1 k)
 
-each-front : {A : Type 0} (P : A → Type 0) (xs : List A) (x : A) → AllByRecursion P (xs ++ x ∷ []) → AllByRecursion P xs
-each-front P [] x h = tt
-each-front P (y ∷ xs) x h = (h.0, each-front P xs x h.1)
+each-prefix : {A : Type 0} (P : A → Type 0) (xs : List A) (x : A) → AllByRecursion P (xs ++ x ∷ []) → AllByRecursion P xs
+each-prefix P [] x h = tt
+each-prefix P (y ∷ xs) x h = (h.0, each-prefix P xs x h.1)
 
 each-last : {A : Type 0} (P : A → Type 0) (xs : List A) (x : A) → AllByRecursion P (xs ++ x ∷ []) → P x
 each-last P [] x h = h.0
@@ -83,8 +83,8 @@ with-digit : (ended : List (List ℕ)) (current : List ℕ) (byte : ℕ) → Are
 with-digit ended current byte h digit few = record {
   one = omega (arith, length-append ended ((current ++ byte ∷ []) ∷ []));
   most = omega (arith, h.most, length-append ended ((current ++ byte ∷ []) ∷ []), length-append ended (current ∷ []));
-  digits = each-push AllDigits ended (current ++ byte ∷ []) (each-front AllDigits ended current h.digits) (each-push IsDigit current byte (each-last AllDigits ended current h.digits) digit);
-  short = each-push IsShort ended (current ++ byte ∷ []) (each-front IsShort ended current h.short) (omega (arith, length-append current (byte ∷ [])));
+  digits = each-push AllDigits ended (current ++ byte ∷ []) (each-prefix AllDigits ended current h.digits) (each-push IsDigit current byte (each-last AllDigits ended current h.digits) digit);
+  short = each-push IsShort ended (current ++ byte ∷ []) (each-prefix IsShort ended current h.short) (omega (arith, length-append current (byte ∷ [])));
 }
 
 with-next : (parameters : List (List ℕ)) → AreParameters parameters → length parameters < 16 → AreParameters (parameters ++ [] ∷ [])
@@ -159,9 +159,9 @@ goes-on : (stream : List ℕ) (first t : Terminal) (state next : State) (ended m
     → InItem stream first (reader_of t state ended current at start) unfinished → unfinished ++ byte ∷ [] ≡ longer
     → InItem (stream ++ byte ∷ []) first (reader_of t next more last (saturating_u64 (at + 1)) start) longer
 goes-on stream first t state next ended more current last at start byte unfinished longer h e = record {
-  front = h.front;
+  prefix = h.prefix;
   in_profile = h.in_profile;
-  whole = ap (λ (bytes : List ℕ). bytes ++ byte ∷ []) h.whole ∙ append_assoc h.front unfinished (byte ∷ []) ∙ ap (λ (bytes : List ℕ). h.front ++ bytes) e;
+  whole = ap (λ (bytes : List ℕ). bytes ++ byte ∷ []) h.whole ∙ append_assoc h.prefix unfinished (byte ∷ []) ∙ ap (λ (bytes : List ℕ). h.prefix ++ bytes) e;
   read = next-read stream byte at h.read;
   start = h.start;
 }
@@ -171,7 +171,7 @@ broken-off : (stream : List ℕ) (first t : Terminal) (state : State) (ended : L
     → InItem stream first (reader_of t state ended current at start) unfinished → IsBeginning unfinished → EndsOrEscapes unfinished
     → InItem (stream ++ 27 ∷ []) first (reader_of t Escape ended current (saturating_u64 (at + 1)) at) (escape ∷ [])
 broken-off stream first t state ended current at start unfinished h begins there = record {
-  front = stream;
+  prefix = stream;
   in_profile = in_item-in_profile stream first (reader_of t state ended current at start) unfinished h begins there;
   whole = refl;
   read = next-read stream 27 at h.read;
@@ -184,10 +184,10 @@ fails-there : (stream : List ℕ) (first t : Terminal) (state : State) (ended : 
     → HasFailed (stream ++ byte ∷ []) first t start
 fails-there stream first t state ended current at start byte unfinished h there none =
     let some : 0 < length (unfinished ++ byte ∷ []) = omega (arith, length-append unfinished (byte ∷ [])) in
-    let whole : stream ++ byte ∷ [] ≡ h.front ++ (unfinished ++ byte ∷ []) = ap (λ (bytes : List ℕ). bytes ++ byte ∷ []) h.whole ∙ append_assoc h.front unfinished (byte ∷ []) in
+    let whole : stream ++ byte ∷ [] ≡ h.prefix ++ (unfinished ++ byte ∷ []) = ap (λ (bytes : List ℕ). bytes ++ byte ∷ []) h.whole ∙ append_assoc h.prefix unfinished (byte ∷ []) in
     record {
-      offset = length h.front;
-      fails = subst (λ (bytes : List ℕ). FailsAt bytes first (length h.front) t) (sym whole) (FailsAt-escape h.front (unfinished ++ byte ∷ []) first t h.in_profile there some none);
+      offset = length h.prefix;
+      fails = subst (λ (bytes : List ℕ). FailsAt bytes first (length h.prefix) t) (sym whole) (FailsAt-escape h.prefix (unfinished ++ byte ∷ []) first t h.in_profile there some none);
       at_is = h.start;
     }
 
@@ -309,12 +309,12 @@ module _ (t : Terminal) (ended : List Parameter) (current : Parameter) (at start
       let ps = h.ended ++ h.current ∷ [] in
       let sequence = control_sequence function (join_with_byte separator ps) in
       let leads : Leads sequence t u = record { items = Control function ps ∷ []; splits = ([], sym (append-nil sequence), h.well_formed, tt, refl); finished = (tt, tt); have_effect = rw e refl } in
-      let whole : stream ++ byte ∷ [] ≡ h.in_item.front ++ sequence =
+      let whole : stream ++ byte ∷ [] ≡ h.in_item.prefix ++ sequence =
       ap (λ (bytes : List ℕ). bytes ++ byte ∷ []) h.in_item.whole
-      ∙ append_assoc h.in_item.front (introducer ++ join_with_byte separator ps) (byte ∷ [])
-      ∙ ap (λ (b : ℕ). h.in_item.front ++ ((introducer ++ join_with_byte separator ps) ++ b ∷ [])) is in
+      ∙ append_assoc h.in_item.prefix (introducer ++ join_with_byte separator ps) (byte ∷ [])
+      ∙ ap (λ (b : ℕ). h.in_item.prefix ++ ((introducer ++ join_with_byte separator ps) ++ b ∷ [])) is in
       record {
-        leads = subst (λ (bytes : List ℕ). LeadsWithBreaks bytes first u) (sym whole) (Leads-repairs h.in_item.front sequence first t u h.in_item.in_profile leads (omega arith) refl);
+        leads = subst (λ (bytes : List ℕ). LeadsWithBreaks bytes first u) (sym whole) (Leads-repairs h.in_item.prefix sequence first t u h.in_item.in_profile leads (omega arith) refl);
         read = next-read stream byte at h.in_item.read;
       }
 

@@ -91,11 +91,11 @@ pub selected-none : (digits : List (List ℕ)) (ended : List Parameter) (last : 
     → selected_by (take (i + 1) ended) rendition ≡ None
     → select_all (map (number_or 0) digits) rendition ≡ None
 selected-none digits ended last i rendition same h none =
-    let front = take (i + 1) ended in
+    let prefix = take (i + 1) ended in
     let back = drop (i + 1) ended ++ last ∷ [] in
     select_all-kept digits (ended ++ last ∷ []) rendition same
     ∙ ap (λ (kept : List Parameter). selected_by kept rendition) (sym (ap (λ (kept : List Parameter). kept ++ last ∷ []) (take-append-drop (i + 1) ended))
-    ∙ append_assoc front (drop (i + 1) ended) (last ∷ []))
-    ∙ ap (λ (codes : List ℕ). select_all codes rendition) (map-append (number_of 0) front back)
-    ∙ select_all-append (map (number_of 0) front) (map (number_of 0) back) rendition
+    ∙ append_assoc prefix (drop (i + 1) ended) (last ∷ []))
+    ∙ ap (λ (codes : List ℕ). select_all codes rendition) (map-append (number_of 0) prefix back)
+    ∙ select_all-append (map (number_of 0) prefix) (map (number_of 0) back) rendition
     ∙ ap (option_and_then (select_all (map (number_of 0) back))) none

@@ -31,11 +31,11 @@ pub record InText (stream : List ℕ) (first : Terminal) (reader : Reader) : Typ
 
 -- The stream is one in the profile, and an unfinished item after it.
 pub record InItem (stream : List ℕ) (first : Terminal) (reader : Reader) (unfinished : List ℕ) : Type 0 where
-  pub front : List ℕ
-  pub in_profile : IsInProfile front first reader.terminal
-  pub whole : stream ≡ front ++ unfinished
+  pub prefix : List ℕ
+  pub in_profile : IsInProfile prefix first reader.terminal
+  pub whole : stream ≡ prefix ++ unfinished
   pub read : reader.read ≡ saturating_u64 (length stream)
-  pub start : reader.start ≡ saturating_u64 (length front)
+  pub start : reader.start ≡ saturating_u64 (length prefix)
 
 -- The unfinished item has these parameters, the last of which may go on.
 pub record InParameters (stream : List ℕ) (first : Terminal) (reader : Reader) : Type 0 where

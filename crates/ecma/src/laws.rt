@@ -14,7 +14,7 @@ ghost use Rattle.ecma.specs.Streams.{FailsAt, Leads, LeadsWithBreaks, IsInProfil
 /// other, also where items were never finished.
 pub fn one_row_of_items()
     ensures whole { (stream : List ℕ) (items others : List Item) → Splits stream items [] → Splits stream others [] → items ≡ others }
-    ensures front { (stream : List ℕ) (items others : List Item) (rest left : List ℕ) → Splits stream items rest → Splits stream others left
+    ensures prefix { (stream : List ℕ) (items others : List Item) (rest left : List ℕ) → Splits stream items rest → Splits stream others left
         → length left ≤ length rest → (more : List Item) × (others ≡ items ++ more) × Splits rest more left }
 {}
 

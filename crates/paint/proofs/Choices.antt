@@ -63,8 +63,8 @@ drop-chosen p (suc x) (a ∷ shown) [] = sym (chosen-nil p (drop x shown))
 drop-chosen p (suc x) (a ∷ shown) (b ∷ wanted) = drop-chosen p x shown wanted
 
 -- two choices are the same before a column, and from another on, where the lines are
-pub choices-front : (p q : Rendition → Bool) (x : ℕ) (shown wanted : List Shown) → take x shown ≡ take x wanted → take x (chosen p shown wanted) ≡ take x (chosen q shown wanted)
-choices-front p q x shown wanted e =
+pub choices-prefix : (p q : Rendition → Bool) (x : ℕ) (shown wanted : List Shown) → take x shown ≡ take x wanted → take x (chosen p shown wanted) ≡ take x (chosen q shown wanted)
+choices-prefix p q x shown wanted e =
     take-chosen p x shown wanted ∙ ap (λ l. chosen p l (take x wanted)) e ∙ chosen-same p (take x wanted)
     ∙ sym (chosen-same q (take x wanted)) ∙ ap (λ l. chosen q l (take x wanted)) (sym e) ∙ sym (take-chosen q x shown wanted)
 

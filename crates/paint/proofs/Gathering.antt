@@ -4,7 +4,7 @@ use Rattle.std.specs.Prelude.{min}
 use Rattle.streams.specs.Sinks.{Seen}
 use Rattle.streams.specs.Sending.{Sends}
 use Rattle.streams.specs.declared.sending.WriteFault.{WriteFault}
-use Rattle.streams.proofs.Sends.{Sends-nothing, Sends-then, Sends-front}
+use Rattle.streams.proofs.Sends.{Sends-nothing, Sends-then, Sends-prefix}
 use Rattle.paint.specs.steps.Gathering.{GoesOut}
 
 pub goes_out-none : (seen : Seen) → GoesOut false seen seen [] 0 []
@@ -13,7 +13,7 @@ goes_out-none seen = ([], refl, omega arith, Sends-nothing)
 pub goes_out-append : (failed : Bool) (start now : Seen) (room : List ℕ) (sent : ℕ) (text piece : List ℕ) → GoesOut failed start now room sent text
     → GoesOut failed start now (room ++ piece) sent (text ++ piece)
 goes_out-append false start now room sent text piece h = (h.0, ap (λ bytes. bytes ++ piece) h.1 ∙ append_assoc h.0 room piece, h.2, h.3)
-goes_out-append true start now room sent text piece h = (h.0, h.1, Sends-front piece h.2)
+goes_out-append true start now room sent text piece h = (h.0, h.1, Sends-prefix piece h.2)
 
 -- once a write failed the room is of no account
 pub goes_out-failed : (start now : Seen) (sent : ℕ) (text : List ℕ) → GoesOut true start now [] sent text → GoesOut true start now [] sent (text ++ [])
@@ -48,7 +48,7 @@ sent-all start now sent text h few =
     let count : length h.0 ≡ sent = omega (arith, h.2, ap length all) in
     subst (λ n. Sends start now 0 text (Ok n)) count (rw all h.3)
 
-pub sent-front : (start now : Seen) (room : List ℕ) (sent : ℕ) (text : List ℕ) → GoesOut true start now room sent text → length text < 2 ^ 32 → Sends start now 0 text (Err (record { sent = sent }))
-sent-front start now room sent text h few =
+pub sent-prefix : (start now : Seen) (room : List ℕ) (sent : ℕ) (text : List ℕ) → GoesOut true start now room sent text → length text < 2 ^ 32 → Sends start now 0 text (Err (record { sent = sent }))
+sent-prefix start now room sent text h few =
     let count : h.0 ≡ sent = omega (arith, h.1, h.2.ends.1, h.2.ends.2) in
     subst (λ n. Sends start now 0 text (Err (record { sent = n }))) count h.2

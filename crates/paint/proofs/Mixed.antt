@@ -36,8 +36,8 @@ length-mixed (suc x) [] old same = omega (arith, ap length (drop_all (suc x) old
 length-mixed (suc x) (b ∷ new) [] same = absurd (omega arith)
 length-mixed (suc x) (b ∷ new) (a ∷ old) same = ap (λ n. suc n) (length-mixed x new old (omega arith))
 
-pub mixed-front : {A : Type 0} (x : ℕ) (new old : List A) → take x old ≡ take x new → mixed x new old ≡ old
-mixed-front x new old e = ap (λ front. front ++ drop x old) (sym e) ∙ take-append-drop x old
+pub mixed-prefix : {A : Type 0} (x : ℕ) (new old : List A) → take x old ≡ take x new → mixed x new old ≡ old
+mixed-prefix x new old e = ap (λ prefix. prefix ++ drop x old) (sym e) ∙ take-append-drop x old
 
 pub mixed-back : {A : Type 0} (x : ℕ) (new old : List A) → drop x old ≡ drop x new → mixed x new old ≡ new
 mixed-back x new old e = ap (λ back. take x new ++ back) e ∙ take-append-drop x new

@@ -46,8 +46,8 @@ module _ {lines columns : ℕ} {shown wanted : Picture} (old_size : HasSize line
   same-lines : length (line_of shown y) ≡ length (line_of wanted y)
   same-lines = length-line y old_size inside ∙ sym (length-line y new_size inside)
 
-  front : take (y + 1) (set (mixed y wanted shown) y (line_of wanted y)) ≡ take (y + 1) wanted
-  front = ap (take (y + 1)) (mixed-more [] y wanted shown (omega (arith, old_size.height)) same) ∙ take-mixed (y + 1) wanted shown (omega (arith, new_size.height))
+  prefix : take (y + 1) (set (mixed y wanted shown) y (line_of wanted y)) ≡ take (y + 1) wanted
+  prefix = ap (take (y + 1)) (mixed-more [] y wanted shown (omega (arith, old_size.height)) same) ∙ take-mixed (y + 1) wanted shown (omega (arith, new_size.height))
 
   back : map blanked (drop (y + 1) before) ≡ drop (y + 1) wanted
   back =
@@ -60,7 +60,7 @@ module _ {lines columns : ℕ} {shown wanted : Picture} (old_size : HasSize line
   erased : erased_page ToEnd (y, e) before ≡ wanted
   erased =
       let line = erased-mixed (mixed y wanted shown) y e x (line_of shown y) (line_of wanted y) same-lines (omega (arith, length-mixed y wanted shown same, old_size.height)) before_x few tail in
-      (λ i. take (y + 1) (line i) ++ back i) ∙ ap (λ rows. rows ++ drop (y + 1) wanted) front ∙ take-append-drop (y + 1) wanted
+      (λ i. take (y + 1) (line i) ++ back i) ∙ ap (λ rows. rows ++ drop (y + 1) wanted) prefix ∙ take-append-drop (y + 1) wanted
 
   pub drawn : {c d : Seen} {next last : Pen} → ((picture : Picture) → Draws (spelling (Ed ToEnd)) c d next last picture (erased_page ToEnd (y, e) picture)) → Strokes 4 c d next last before wanted
   drawn {c} {d} {next} {last} draws = record {

@@ -16,7 +16,7 @@ use Rattle.streams.specs.Sinks.{Seen}
 use Rattle.paint.specs.declared.pen.Pen.{Pen}
 use Rattle.paint.specs.steps.Strokes.{change, Draws, Strokes, cell_bytes, line_bytes, picture_bytes}
 use Rattle.paint.specs.steps.Walks.{mixed, AreBlank, IsLinePainted, IsPicturePainted, IsReadyToErase}
-use Rattle.paint.proofs.Mixed.{mixed-at, mixed-back, mixed-front, mixed-more, mixed-same, length-mixed, between, take-mixed}
+use Rattle.paint.proofs.Mixed.{mixed-at, mixed-back, mixed-prefix, mixed-more, mixed-same, length-mixed, between, take-mixed}
 use Rattle.paint.proofs.Strokes.{Strokes-more, Strokes-nothing, Strokes-then, length-ended}
 
 -- ---- what the cells of a line may cost
@@ -46,10 +46,10 @@ same-line : (picture : Picture) (line : ℕ) (cells : List Shown) → line_of pi
 same-line picture line cells is = ap (set picture line) (sym is) ∙ set-get_or picture line []
 
 pub line-begun : (seen : Seen) (pen : Pen) (line x : ℕ) (shown wanted : List Shown) → take x shown ≡ take x wanted → IsLinePainted seen seen pen pen line x shown wanted
-line-begun seen pen line x shown wanted front = record {
+line-begun seen pen line x shown wanted prefix = record {
   spent = 0;
   within = omega (arith, line_bytes-drop x shown wanted);
-  strokes = λ picture inside is. subst (Strokes 0 seen seen pen pen picture) (sym (same-line picture line (mixed x wanted shown) (is ∙ sym (mixed-front x wanted shown front))))
+  strokes = λ picture inside is. subst (Strokes 0 seen seen pen pen picture) (sym (same-line picture line (mixed x wanted shown) (is ∙ sym (mixed-prefix x wanted shown prefix))))
       (Strokes-nothing seen pen picture);
   columns = refl;
 }
@@ -81,9 +81,9 @@ pub record IsGap (start x : ℕ) (wanted row : List Shown) : Type 0 where
   pub end : start + length (take (x - start) (drop start wanted)) ≡ x
 
 pub gap-before : (start x : ℕ) (wanted row : List Shown) → start ≤ x → x ≤ length wanted → take x row ≡ take x wanted → IsGap start x wanted row
-gap-before start x wanted row ordered inside front =
+gap-before start x wanted row ordered inside prefix =
     record {
-      shown = ap (λ n. take n (drop start row)) (gap-length start x wanted ordered inside) ∙ between start x row wanted ordered front;
+      shown = ap (λ n. take n (drop start row)) (gap-length start x wanted ordered inside) ∙ between start x row wanted ordered prefix;
       end = gap-ends start x wanted ordered inside;
     }
 
@@ -136,8 +136,8 @@ erased-line e x shown wanted same before few blank =
     let row = mixed x wanted shown in
     let back : length (drop e row) ≡ length (drop e wanted) =
     length-drop e row ∙ ap (λ n. n - e) (length-mixed x wanted shown same ∙ same) ∙ sym (length-drop e wanted) in
-    let front : take e row ≡ take e wanted = sym (take-take e x row before) ∙ ap (take e) (take-mixed x wanted shown few) ∙ take-take e x wanted before in
-    (λ i. front i ++ (blank-lengths (drop e row) (drop e wanted) back ∙ blank) i) ∙ take-append-drop e wanted
+    let prefix : take e row ≡ take e wanted = sym (take-take e x row before) ∙ ap (take e) (take-mixed x wanted shown few) ∙ take-take e x wanted before in
+    (λ i. prefix i ++ (blank-lengths (drop e row) (drop e wanted) back ∙ blank) i) ∙ take-append-drop e wanted
 
 -- The pen comes to a column of the blank end, up to whose first changed column the line is painted.
 pub line-ready : {before mid now : Seen} {old pen next : Pen} {line from x n : ℕ} {shown wanted : List Shown} → length shown ≡ length wanted → length shown ≡ old.columns
@@ -155,9 +155,9 @@ line-ready {line} {from} {x} {n} {shown} {wanted} same wide h ordered blank chan
       let row = mixed x wanted shown in
       let here : line_of (set picture line row) line ≡ row = get_or-set_same picture line row [] high in
       let long = ap length here ∙ length-mixed x wanted shown same ∙ wide ∙ sym h.columns in
-      let front : take from row ≡ take from wanted =
+      let prefix : take from row ≡ take from wanted =
       sym (take-take from x row ordered) ∙ ap (take from) (take-mixed x wanted shown (omega (arith, changed.inside))) ∙ take-take from x wanted ordered in
-      Strokes-then (h.strokes picture high at) (strokes (set picture line row) long (ap (take from) here ∙ front));
+      Strokes-then (h.strokes picture high at) (strokes (set picture line row) long (ap (take from) here ∙ prefix));
   cursor = cursor;
   rendition = rendition;
   columns = columns ∙ h.columns;
@@ -261,10 +261,10 @@ picture_bytes-later y z old new before =
     subst (λ n. n ≤ picture_bytes (drop y old) (drop y new)) (λ i. picture_bytes (one i) (other i)) less
 
 pub picture-begun : (seen : Seen) (pen : Pen) (line : ℕ) (shown wanted : Picture) → take line shown ≡ take line wanted → IsPicturePainted seen seen pen pen line shown wanted
-picture-begun seen pen line shown wanted front = record {
+picture-begun seen pen line shown wanted prefix = record {
   spent = 0;
   within = omega (arith, picture_bytes-drop line shown wanted);
-  strokes = subst (Strokes 0 seen seen pen pen shown) (sym (mixed-front line wanted shown front)) (Strokes-nothing seen pen shown);
+  strokes = subst (Strokes 0 seen seen pen pen shown) (sym (mixed-prefix line wanted shown prefix)) (Strokes-nothing seen pen shown);
   columns = refl;
 }
 

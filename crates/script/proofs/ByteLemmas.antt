@@ -261,18 +261,18 @@ kept old new unused left line end r = record {
   keeps = (refl, r.is_line.1);
 }
 
-any_joined : (front behind : List ℕ) (b : ℕ) → HasNoNewline front → is_newline b ≡ false → HasNoNewline behind → HasNoNewline (front ++ b ∷ behind)
-any_joined front behind b f e h = rw (list_any-append is_newline front (b ∷ behind), f, e) h
+any_joined : (prefix behind : List ℕ) (b : ℕ) → HasNoNewline prefix → is_newline b ≡ false → HasNoNewline behind → HasNoNewline (prefix ++ b ∷ behind)
+any_joined prefix behind b f e h = rw (list_any-append is_newline prefix (b ∷ behind), f, e) h
 
-more_bytes : (unused bytes more front left : List ℕ) (b : ℕ) → unused ++ bytes ≡ front ++ b ∷ left → unused ++ (bytes ++ more) ≡ front ++ b ∷ (left ++ more)
-more_bytes unused bytes more front left b e = sym (append_assoc unused bytes more) ∙ ap (λ l. l ++ more) e ∙ append_assoc front (b ∷ left) more
+more_bytes : (unused bytes more prefix left : List ℕ) (b : ℕ) → unused ++ bytes ≡ prefix ++ b ∷ left → unused ++ (bytes ++ more) ≡ prefix ++ b ∷ (left ++ more)
+more_bytes unused bytes more prefix left b e = sym (append_assoc unused bytes more) ∙ ap (λ l. l ++ more) e ∙ append_assoc prefix (b ∷ left) more
 
 -- what the bytes after those of a line that is too long come to
-joined_ends : (end : LineEnd) (unused bytes more front left rest line : List ℕ) (b : ℕ) → unused ++ bytes ≡ front ++ b ∷ left → EndsLine end (left ++ more) line rest
-    → EndsLine end (unused ++ (bytes ++ more)) (front ++ b ∷ line) rest
-joined_ends Newline unused bytes more front left rest line b e h = more_bytes unused bytes more front left b e ∙ ap (λ l. front ++ b ∷ l) h ∙ sym (append_assoc front (b ∷ line) (newline ∷ rest))
-joined_ends ScriptEnd unused bytes more front left rest line b e h = (more_bytes unused bytes more front left b e ∙ ap (λ l. front ++ b ∷ l) h.0, h.1)
-joined_ends ReadFailed unused bytes more front left rest line b e h = (more_bytes unused bytes more front left b e ∙ ap (λ l. front ++ b ∷ l) h.0, h.1)
+joined_ends : (end : LineEnd) (unused bytes more prefix left rest line : List ℕ) (b : ℕ) → unused ++ bytes ≡ prefix ++ b ∷ left → EndsLine end (left ++ more) line rest
+    → EndsLine end (unused ++ (bytes ++ more)) (prefix ++ b ∷ line) rest
+joined_ends Newline unused bytes more prefix left rest line b e h = more_bytes unused bytes more prefix left b e ∙ ap (λ l. prefix ++ b ∷ l) h ∙ sym (append_assoc prefix (b ∷ line) (newline ∷ rest))
+joined_ends ScriptEnd unused bytes more prefix left rest line b e h = (more_bytes unused bytes more prefix left b e ∙ ap (λ l. prefix ++ b ∷ l) h.0, h.1)
+joined_ends ReadFailed unused bytes more prefix left rest line b e h = (more_bytes unused bytes more prefix left b e ∙ ap (λ l. prefix ++ b ∷ l) h.0, h.1)
 
 pub left_out : (old mid new : SourceSeen) (unused left rest line kept : List ℕ) (end : LineEnd) → ReadsLine old mid unused left line None
     → ReadsToEnd mid new left rest end → ReadsWhole old new unused rest kept end false

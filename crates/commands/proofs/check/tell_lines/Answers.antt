@@ -1,7 +1,7 @@
 -- `tell_lines`: the findings of a script, a line at a time (`CheckLemmas`).
 use Rattle.std.proofs.Common.{ap, refl, sym}
 use Rattle.script.specs.steps.Bytes.{Held}
-use Rattle.commands.proofs.CheckLemmas.{checked_all, checked_front, checking_next, checking_none}
+use Rattle.commands.proofs.CheckLemmas.{checked_all, checked_prefix, checking_next, checking_none}
 use Rattle.commands.proofs.check.tell_lines.Goals as goal
 
 pub loop-number-init : goal.loop-number-init
@@ -22,5 +22,5 @@ returns-in-ScriptEnd g c =
 pub returns-in-ReadFailed : goal.returns-in-ReadFailed
 returns-in-ReadFailed g c =
     let read = c.next_whole_line-end.ensures in
-    checked_front _ _ _ _ _ _ _ _ _ _ _ _ _ _
+    checked_prefix _ _ _ _ _ _ _ _ _ _ _ _ _ _
     c.loop-number.invariant read.line.reads read.line.keeps c.in-ReadFailed.is read.ends (rw (sym c.finding_of_read-finding.ensures, c.line.ensures.line) at c.tell_finding-report.ensures)

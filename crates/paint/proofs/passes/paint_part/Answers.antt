@@ -9,7 +9,7 @@ use Rattle.cell.specs.Differences.{same_shown}
 use Rattle.paint.specs.steps.Passes.{is_drawn, line_after, pass_of as pass_in}
 use Rattle.paint.specs.steps.Strokes.{Strokes, run_bytes, with_cells}
 use Rattle.paint.specs.steps.Walks.{IsLinePainted}
-use Rattle.paint.proofs.Choices.{choices-alike, choices-back, choices-front, get-alike, get-in, get-kept, get-out, length-chosen, not-yet, now-drawn, other-pass, part-kept, same-cells}
+use Rattle.paint.proofs.Choices.{choices-alike, choices-back, choices-prefix, get-alike, get-in, get-kept, get-out, length-chosen, not-yet, now-drawn, other-pass, part-kept, same-cells}
 use Rattle.paint.proofs.Mixed.{drop-later}
 use Rattle.paint.proofs.Runs.{line-run, part-of}
 use Rattle.paint.proofs.Walks.{gap-before, gap-ends, line-begun, line-kept, line-painted}
@@ -22,7 +22,7 @@ loop-x-init g c =
     record {
       painted = line-begun _ _ c.args.line c.in-Some.first (line_after c.args.order.now c.args.pass c.args.shown.now c.args.wanted.now)
           (line_after c.args.order.now (c.args.pass + 1) c.args.shown.now c.args.wanted.now)
-          (choices-front p q c.in-Some.first c.args.shown.now c.args.wanted.now c.in-Some.ensures.1);
+          (choices-prefix p q c.in-Some.first c.args.shown.now c.args.wanted.now c.in-Some.ensures.1);
       gap = omega arith;
       kept = λ v from to. absurd (omega arith);
       same = refl;
@@ -116,8 +116,8 @@ loop-x-preserved g c =
     let slice : take (x - gap) (drop gap after_line) ≡ take (x - gap) (drop gap wanted) =
     part-kept q gap x shown wanted same c.loop-x.invariant.gap (omega arith) c.loop-x.invariant.kept in
     let strokes = λ (picture : Picture) (columns : length (line_of picture c.args.line) ≡ c.loop-x.pen.columns)
-    (front : take x (line_of picture c.args.line) ≡ take x after_line).
-    let there = gap-before gap x after_line (line_of picture c.args.line) c.loop-x.invariant.gap (omega (arith, wide)) front in
+    (prefix : take x (line_of picture c.args.line) ≡ take x after_line).
+    let there = gap-before gap x after_line (line_of picture c.args.line) c.loop-x.invariant.gap (omega (arith, wide)) prefix in
     subst (λ at. Strokes (run_bytes cells) (g.W.Sink.seen c.loop-x.sink) (g.W.Sink.seen c.paint_run.new.sink) c.loop-x.pen c.paint_run.new.pen picture
     (with_cells picture (c.args.line, at) cells)) (gap-ends gap x wanted c.loop-x.invariant.gap (omega arith))
     (c.paint_run.ensures.strokes picture columns (subst (λ part. take (length part) (drop gap (line_of picture c.args.line)) ≡ part) slice there.shown)) in

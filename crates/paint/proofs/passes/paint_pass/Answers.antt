@@ -5,7 +5,7 @@ use Rattle.cell.specs.Pictures.{line_of}
 use Rattle.paint.specs.Changes.{stretch_of}
 use Rattle.paint.specs.steps.Passes.{is_drawn, picture_after}
 use Rattle.paint.specs.steps.Walks.{IsWithin}
-use Rattle.paint.proofs.Alike.{line-alike, line-back, line-front, line-none}
+use Rattle.paint.proofs.Alike.{line-alike, line-back, line-prefix, line-none}
 use Rattle.paint.proofs.Changed.{is_out}
 use Rattle.paint.proofs.Choices.{choices-alike, length-lines, line-chosen}
 use Rattle.paint.proofs.Walks.{picture-begun, picture-drawn, picture-painted, picture-skipped}
@@ -37,7 +37,7 @@ paint_part-requires-clause-before g c =
     let y = c.loop-line.line in
     let below : y < length c.args.changes.now = omega (arith, c.loop-line-test.true, c.lines-end.ensures.inside) in
     let part = subst (λ n. IsWithin n (stretch_of c.args.changes.now y) c.within-start.result) (c.columns.ensures ∙ c.loop-line.invariant.painted.columns) c.within-start.ensures in
-    rw (c.row.ensures.row, c.row-in-loop-line.ensures.row, c.from-at.ensures) (line-front c.requires.shown c.requires.wanted c.requires.changes y below part)
+    rw (c.row.ensures.row, c.row-in-loop-line.ensures.row, c.from-at.ensures) (line-prefix c.requires.shown c.requires.wanted c.requires.changes y below part)
 
 pub paint_part-requires-clause-after : goal.paint_part-requires-clause-after
 paint_part-requires-clause-after g c =
