@@ -4,7 +4,7 @@ ghost use Rattle.std.specs.Prelude.{◌≡◌, ◌≤◌, ◌||◌, length, is_e
 ghost use Rattle.world.specs.Sound.{IsSound};
 ghost use Rattle.script.specs.Words.{placeless};
 ghost use Rattle.desk.specs.Ends.{CallEnds};
-ghost use Rattle.desk.specs.steps.Answers.{joined};
+ghost use Rattle.desk.specs.steps.Answers.{call_end};
 ghost use Rattle.streams.specs.Counts.{count_after};
 ghost use Rattle.compose.specs.Desks.{world};
 ghost use Rattle.desk.specs.ScriptEnds.{LineEnds, RunsLines, ScriptEnds, log_failed, read_failed, write_fault};
@@ -22,7 +22,7 @@ use world::{Call, Reply};
 impl<W: Sink> Screen<W> {
     /// Makes a call, and answers what the log says of it.
     fn answer(&mut self, call: &Call<'_>) -> Result<Result<Reply, Refusal>, WriteFault>
-        ensures answer { CallEnds W.seen self.old (placeless call.now) (joined result) self.new }
+        ensures answer { CallEnds W.seen self.old (placeless call.now) (call_end result) self.new }
         ensures failures { (W.seen self.new.writer).failures ≡ count_after (is_err result) (W.seen self.old.writer).failures }
         ensures same { W.name self.new.writer ≡ W.name self.old.writer }
     {
