@@ -21,24 +21,24 @@ goes_out-failed start now sent text h = rw append-nil h
 
 -- ---- the room is sent
 
-Sends-behind : {before after : Seen} {piece : List ℕ} {n : ℕ} (sent : ℕ) → Sends before after 0 piece (Ok n) → Sends before after sent piece (Ok (sent + n))
-Sends-behind sent h = record { ends = (omega (arith, h.ends.0), h.ends.1, h.ends.2); flushes = h.flushes }
+Sends-after : {before after : Seen} {piece : List ℕ} {n : ℕ} (sent : ℕ) → Sends before after 0 piece (Ok n) → Sends before after sent piece (Ok (sent + n))
+Sends-after sent h = record { ends = (omega (arith, h.ends.0), h.ends.1, h.ends.2); flushes = h.flushes }
 
-Sends-behind_fault : {before after : Seen} {piece : List ℕ} {fault : WriteFault} (sent : ℕ) → Sends before after 0 piece (Err fault)
+Sends-after_fault : {before after : Seen} {piece : List ℕ} {fault : WriteFault} (sent : ℕ) → Sends before after 0 piece (Err fault)
     → Sends before after sent piece (Err (record { sent = sent + fault.sent }))
-Sends-behind_fault sent h = record { ends = (h.ends.0, h.ends.1, omega (arith, h.ends.2), h.ends.3, h.ends.4); flushes = h.flushes }
+Sends-after_fault sent h = record { ends = (h.ends.0, h.ends.1, omega (arith, h.ends.2), h.ends.3, h.ends.4); flushes = h.flushes }
 
 pub goes_out-sent : (start mid now : Seen) (room : List ℕ) (sent n total : ℕ) (text : List ℕ) → GoesOut false start mid room sent text → Sends mid now 0 room (Ok n)
     → total ≡ min (sent + n) (2 ^ 32 - 1) → GoesOut false start now [] total (text ++ [])
 goes_out-sent start mid now room sent n total text h k e =
     let long : length (h.0 ++ room) ≡ length h.0 + n = length-append h.0 room ∙ omega (arith, k.ends.0) in
-    let whole = Sends-then h.3 (Sends-behind (length h.0) k) in
+    let whole = Sends-then h.3 (Sends-after (length h.0) k) in
     (h.0 ++ room, ap (λ bytes. bytes ++ []) h.1, omega (arith, h.2, long), subst (λ m. Sends start now 0 (h.0 ++ room) (Ok m)) (sym long) whole)
 
 pub goes_out-faulted : (start mid now : Seen) (room : List ℕ) (sent total : ℕ) (fault : WriteFault) (text : List ℕ) → GoesOut false start mid room sent text → Sends mid now 0 room (Err fault)
     → total ≡ min (sent + fault.sent) (2 ^ 32 - 1) → GoesOut true start now [] total (text ++ [])
 goes_out-faulted start mid now room sent total fault text h k e =
-    (length h.0 + fault.sent, omega (arith, h.2), rw (append-nil, h.1) (Sends-then h.3 (Sends-behind_fault (length h.0) k)))
+    (length h.0 + fault.sent, omega (arith, h.2), rw (append-nil, h.1) (Sends-then h.3 (Sends-after_fault (length h.0) k)))
 
 -- ---- the end of a text
 

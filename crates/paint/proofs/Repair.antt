@@ -47,10 +47,10 @@ module _ (painter : PainterState) (wanted : ShownPicture) (stream rest : List �
   u-size : HasSize painter.lines painter.columns u.picture
   u-size = size-effects painter.lines painter.columns profile.items t u size profile.have_effect
 
-  behind : (last : Option ShownPicture) → LeadsTo stream t last → ((v : Terminal) → MayRead painter last v → Shows (opening_from last ++ rest) v wanted.picture wanted.cursor)
+  leads-repaired : (last : Option ShownPicture) → LeadsTo stream t last → ((v : Terminal) → MayRead painter last v → Shows (opening_from last ++ rest) v wanted.picture wanted.cursor)
       → LeadsWithBreaks (stream ++ (opening_from last ++ rest)) t (showing wanted.picture wanted.cursor)
-  behind None leads shows = Leads-repairs stream (opening ++ rest) t u (showing wanted.picture wanted.cursor) profile (shows u u-size) (text-some rest) refl
-  behind (Some shown) leads shows =
+  leads-repaired None leads shows = Leads-repairs stream (opening ++ rest) t u (showing wanted.picture wanted.cursor) profile (shows u u-size) (text-some rest) refl
+  leads-repaired (Some shown) leads shows =
       LeadsWithBreaks-append stream rest t (showing shown.picture shown.cursor) (showing wanted.picture wanted.cursor) leads (shows (showing shown.picture shown.cursor) refl)
 
   cut : (last : Option ShownPicture) (sent : ℕ) → LeadsTo stream t last → ((v : Terminal) → MayRead painter last v → Shows (opening_from last ++ rest) v wanted.picture wanted.cursor)
@@ -73,7 +73,7 @@ Agrees-unknown painter none stream t u profile = record { in_profile = (u, profi
 pub shows-update : (painter : PainterState) (clear : Bool) (wanted : ShownPicture) (stream text : List ℕ) (t : Terminal) → HasSize painter.lines painter.columns t.picture → Agrees painter stream t
     → IsUpdateText painter clear wanted text → LeadsWithBreaks (stream ++ text) t (showing wanted.picture wanted.cursor)
 shows-update painter clear wanted stream text t size agrees is_text =
-    rw is_text.parts (behind painter wanted stream is_text.rest t agrees.in_profile.0 size agrees.in_profile.1 (known_picture painter clear) (known_picture-leads painter clear stream t agrees)
+    rw is_text.parts (leads-repaired painter wanted stream is_text.rest t agrees.in_profile.0 size agrees.in_profile.1 (known_picture painter clear) (known_picture-leads painter clear stream t agrees)
     (rw is_text.parts at is_text.shows))
 
 pub Agrees-update : (painter : PainterState) (clear : Bool) (wanted : ShownPicture) (stream text : List ℕ) (t : Terminal) → HasSize painter.lines painter.columns t.picture → Agrees painter stream t

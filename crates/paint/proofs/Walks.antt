@@ -164,12 +164,12 @@ line-ready {line} {from} {x} {n} {shown} {wanted} same wide h ordered blank chan
 }
 
 -- the pen is in the blank end of a line that is painted, and ends its rendition
-pub line-stands : {before mid now : Seen} {old pen next : Pen} {line from : ℕ} {shown wanted : List Shown} → length shown ≡ length wanted
+pub line-at_cursor : {before mid now : Seen} {old pen next : Pen} {line from : ℕ} {shown wanted : List Shown} → length shown ≡ length wanted
     → ((picture : Picture) → line < length picture → line_of picture line ≡ shown → Strokes (line_bytes shown wanted) before mid old pen picture (set picture line wanted)) → pen.columns ≡ old.columns
     → AreBlank (drop from wanted) → from ≤ length wanted
     → ((picture : Picture) → Draws (change pen.rendition no_rendition) mid now pen next picture picture) → next.cursor ≡ Some (line, from) → next.rendition ≡ no_rendition → next.columns ≡ pen.columns
     → IsReadyToErase (line_bytes shown wanted + 27) before now old next line from shown wanted
-line-stands {before} {mid} {now} {old} {pen} {next} {line} {from} {shown} {wanted} same painted kept blank inside ending cursor rendition columns = record {
+line-at_cursor {before} {mid} {now} {old} {pen} {next} {line} {from} {shown} {wanted} same painted kept blank inside ending cursor rendition columns = record {
   blank = blank;
   reached = length wanted;
   beyond = inside;
