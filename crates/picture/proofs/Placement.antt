@@ -9,7 +9,7 @@ use Rattle.world.specs.Sound.{AreColumnsWithin, AreSoundWindows, IsSoundWindow}
 use Rattle.world.specs.calls.Queries.{place_on_screen, window_size}
 
 -- the window is there, at this place of the screen
-pub record StandsAt (windows : Windows) (w : ℕ) (place : Place) (lines : ℕ) : Type 0 where
+pub record IsPlacedAt (windows : Windows) (w : ℕ) (place : Place) (lines : ℕ) : Type 0 where
   pub window : Window
   pub there : windows.window w ≡ Some window
   pub height : window.lines ≡ lines
@@ -21,11 +21,11 @@ pub record StandsAt (windows : Windows) (w : ℕ) (place : Place) (lines : ℕ) 
   pub has_column : 0 < window.columns
   pub touched : (y : ℕ) → AreColumnsWithin window.columns (window.touched y)
 
-stands : (windows : Windows) (w : ℕ) (place : Place) (lines : ℕ) (o : Option Window) → windows.window w ≡ o → AreSoundWindows windows
+placed_at-from : (windows : Windows) (w : ℕ) (place : Place) (lines : ℕ) (o : Option Window) → windows.window w ≡ o → AreSoundWindows windows
     → option_and_then (λ (a : Window). a.place) o ≡ Some place → (size : Option (ℕ × ℕ)) → option_map (λ (a : Window). (a.lines, a.columns)) o ≡ size
-    → (columns : ℕ) → size ≡ Some (lines, columns) → StandsAt windows w place lines
-stands windows w place lines None e sound place_is size size_is columns known = cc
-stands windows w place lines (Some a) e sound place_is size size_is columns known =
+    → (columns : ℕ) → size ≡ Some (lines, columns) → IsPlacedAt windows w place lines
+placed_at-from windows w place lines None e sound place_is size size_is columns known = cc
+placed_at-from windows w place lines (Some a) e sound place_is size size_is columns known =
     let window : IsSoundWindow windows w a = subst (λ (o : Option Window). MatchOption o ⊤ (IsSoundWindow windows w)) e (sound.each w) in
     let on : MatchOption (Some place) ⊤ (λ p. (p.0 + a.lines ≤ windows.lines) × (p.1 + a.columns ≤ windows.columns)) =
     subst (λ (o : Option Place). MatchOption o ⊤ (λ p. (p.0 + a.lines ≤ windows.lines) × (p.1 + a.columns ≤ windows.columns))) place_is window.on_screen in
@@ -44,20 +44,20 @@ stands windows w place lines (Some a) e sound place_is size size_is columns know
       touched = window.touched;
     }
 
-pub stands-at : (windows : Windows) (w : ℕ) (place : Place) (lines columns : ℕ) → AreSoundWindows windows → place_on_screen windows.window w ≡ Some place
+pub placed_at : (windows : Windows) (w : ℕ) (place : Place) (lines columns : ℕ) → AreSoundWindows windows → place_on_screen windows.window w ≡ Some place
     → window_size windows.window w ≡ Some (lines, columns)
-    → StandsAt windows w place lines
-stands-at windows w place lines columns sound place_is size_is = stands windows w place lines (windows.window w) refl sound place_is (window_size windows.window w) refl columns size_is
+    → IsPlacedAt windows w place lines
+placed_at windows w place lines columns sound place_is size_is = placed_at-from windows w place lines (windows.window w) refl sound place_is (window_size windows.window w) refl columns size_is
 
 -- a window that has a place on the screen is there
 placed-from : (windows : Windows) (w : ℕ) (place : Place) (o : Option Window) → windows.window w ≡ o → AreSoundWindows windows → option_and_then (λ (a : Window). a.place) o ≡ Some place
-    → (lines : ℕ) × StandsAt windows w place lines
+    → (lines : ℕ) × IsPlacedAt windows w place lines
 placed-from windows w place None e sound is = cc
 placed-from windows w place (Some a) e sound is = (
   a.lines,
-  stands-at windows w place a.lines a.columns sound (ap (λ (o : Option Window). option_and_then (λ (b : Window). b.place) o) e ∙ is)
+  placed_at windows w place a.lines a.columns sound (ap (λ (o : Option Window). option_and_then (λ (b : Window). b.place) o) e ∙ is)
       (ap (λ (o : Option Window). option_map (λ (b : Window). (b.lines, b.columns)) o) e),
 )
 
-pub placed : (windows : Windows) (w : ℕ) (place : Place) → AreSoundWindows windows → place_on_screen windows.window w ≡ Some place → (lines : ℕ) × StandsAt windows w place lines
+pub placed : (windows : Windows) (w : ℕ) (place : Place) → AreSoundWindows windows → place_on_screen windows.window w ≡ Some place → (lines : ℕ) × IsPlacedAt windows w place lines
 placed windows w place sound is = placed-from windows w place (windows.window w) refl sound is
