@@ -26,9 +26,9 @@ arguments_in [] = []
 arguments_in (word ∷ pieces) = arguments (forms_of word) pieces
 
 -- The first of the arguments begins in this column, and one space is after each: the column after as many as there are forms.
-abbrev pub column_behind : ℕ → List Form → List (List ℕ) → ℕ
-column_behind column (form ∷ forms) (argument ∷ others) = column_behind (column + length argument + 1) forms others
-column_behind column _ _ = column
+abbrev pub column_after : ℕ → List Form → List (List ℕ) → ℕ
+column_after column (form ∷ forms) (argument ∷ others) = column_after (column + length argument + 1) forms others
+column_after column _ _ = column
 
 -- an argument without its form
 pub record IllFormed : Type 0 where
@@ -67,5 +67,5 @@ column_of BadByte line = bad_place line + 1
 column_of UnknownCall line = 1
 column_of WrongNumberOfArguments line =
     let pieces = slice_split is_space line in
-    column_behind (first_column (word_in pieces)) (forms_of (word_in pieces)) (arguments_in pieces)
+    column_after (first_column (word_in pieces)) (forms_of (word_in pieces)) (arguments_in pieces)
 column_of BadArgument line = option_map_or (λ ill. ill.column) (find_ill_formed_in (slice_split is_space line)) 1

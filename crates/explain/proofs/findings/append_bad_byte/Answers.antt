@@ -2,7 +2,7 @@ use Rattle.std.proofs.Common.{codes}
 use Rattle.cell.specs.Attributes.{hex_digits}
 use Rattle.explain.specs.Reasons.{byte_advice}
 use Rattle.explain.proofs.TextLemmas.{four_joined}
-use Rattle.explain.proofs.telling.append_bad_byte.Goals as goal
+use Rattle.explain.proofs.findings.append_bad_byte.Goals as goal
 
 pub returns-clause-text : goal.returns-clause-text
 returns-clause-text c =

@@ -5,7 +5,7 @@ ghost use Rattle.explain.specs.Advice.{call_advice};
 ghost use Rattle.explain.specs.Faults.{IllFormed as Ill};
 ghost use Rattle.explain.specs.Explanations.{bad_byte_text, count_text, explanation, finding, ill_formed_text, number_text, quotation, unknown_text};
 
-use crate::advice::{advice_on, call_behind};
+use crate::advice::{advice_on, call_after_prefix};
 use crate::arguments::{IllFormed, count, find_ill_formed, forms_of};
 use crate::column::{bad_byte, column_of};
 use crate::reasons::{byte_advice, reason, requirement};
@@ -94,11 +94,11 @@ fn append_advice(text: &mut Finding, word: &[u8])
 {
     if let Some(advice) = advice_on(word) {
         append_call(text, b": ", advice.text());
-    } else if let Some(call) = call_behind(b"mvw", word) {
+    } else if let Some(call) = call_after_prefix(b"mvw", word) {
         append_call(text, b": see move, ", call);
-    } else if let Some(call) = call_behind(b"mv", word) {
+    } else if let Some(call) = call_after_prefix(b"mv", word) {
         append_call(text, b": see move, ", call);
-    } else if let Some(call) = call_behind(b"w", word) {
+    } else if let Some(call) = call_after_prefix(b"w", word) {
         append_call(text, b": see ", call);
     }
 }

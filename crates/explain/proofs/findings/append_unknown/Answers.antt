@@ -2,7 +2,7 @@ use Rattle.std.proofs.Common.{codes}
 use Rattle.explain.specs.Advice.{call_advice}
 use Rattle.explain.specs.Explanations.{quotation}
 use Rattle.explain.proofs.TextLemmas.{three_joined}
-use Rattle.explain.proofs.telling.append_unknown.Goals as goal
+use Rattle.explain.proofs.findings.append_unknown.Goals as goal
 
 pub returns-clause-text : goal.returns-clause-text
 returns-clause-text c =
