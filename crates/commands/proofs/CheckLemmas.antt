@@ -89,16 +89,16 @@ long_line : (line : List ℕ) → LONGEST_LINE < length line → said_by_line li
 long_line line h = rw (long_test line h) refl
 
 -- the finding of a line, kept or not, is by what it says
-told_is : (n : ℕ) (line kept : List ℕ) (is_kept : Bool) (end : LineEnd) → IsKept is_kept line kept → end_failed end ≡ false
+found_is : (n : ℕ) (line kept : List ℕ) (is_kept : Bool) (end : LineEnd) → IsKept is_kept line kept → end_failed end ≡ false
     → finding_of_read n kept is_kept end ≡ finding_of n line (said_by_line line)
-told_is n line kept true Newline k e = ap (λ l. finding_of n l (said_by_line l)) k.0
-told_is n line kept true ScriptEnd k e = ap (λ l. finding_of n l (said_by_line l)) k.0
-told_is n line kept is_kept ReadFailed k e = cc
-told_is n line kept false end k e = sym (ap (finding_of n line) (long_line line k))
+found_is n line kept true Newline k e = ap (λ l. finding_of n l (said_by_line l)) k.0
+found_is n line kept true ScriptEnd k e = ap (λ l. finding_of n l (said_by_line l)) k.0
+found_is n line kept is_kept ReadFailed k e = cc
+found_is n line kept false end k e = sym (ap (finding_of n line) (long_line line k))
 
-told_is_rest : (n : ℕ) (line kept : List ℕ) (is_kept : Bool) → IsKept is_kept line kept → finding_of_read n kept is_kept ReadFailed ≡ finding_of_rest n line
-told_is_rest n line kept true k = rw (short_test line k.1) refl
-told_is_rest n line kept false k = rw (long_test line k) refl
+found_is_rest : (n : ℕ) (line kept : List ℕ) (is_kept : Bool) → IsKept is_kept line kept → finding_of_read n kept is_kept ReadFailed ≡ finding_of_rest n line
+found_is_rest n line kept true k = rw (short_test line k.1) refl
+found_is_rest n line kept false k = rw (long_test line k) refl
 
 -- The findings of the lines of a script that were read, and what is left of it.
 pub record Checking (input rest : SourceSeen) (out after : Seen) (unused : List ℕ) (number : ℕ) (report : Report) : Type 0 where
@@ -139,7 +139,7 @@ pub checking_next : (input r1 r2 : SourceSeen) (out o1 o2 : Seen) (unused left k
     → ReportsMore o1 o2 before after (finding_of_read n kept is_kept end) → Checking input r2 out o2 left (next_number n) after
 checking_next input r1 r2 out o1 o2 unused left kept n before after is_kept end s r k is reading more =
     let all = newline_ends end (unused ++ r.bytes) r.line left is r.ends in
-    let same = told_is n r.line kept is_kept end k (ap end_failed is) in
+    let same = found_is n r.line kept is_kept end k (ap end_failed is) in
     record {
       text = s.text ++ r.bytes;
       lines = s.lines ++ finding_of_read n kept is_kept end;
@@ -176,7 +176,7 @@ checked_all input r1 r2 out o1 o2 unused left kept n before after is_kept end s 
     s.says false r.bytes
     ∙ ap (λ l. s.lines ++ findings_from false n (slice_split is_newline l)) all
     ∙ ap (λ ps. s.lines ++ findings_from false n ps) (slice_split_none is_newline r.line (no_newlines r.line r.no_newline))
-    ∙ ap (λ l. s.lines ++ l) (append-nil (finding_of n r.line (said_by_line r.line)) ∙ sym (told_is n r.line kept is_kept end k (ap end_failed is))) in
+    ∙ ap (λ l. s.lines ++ l) (append-nil (finding_of n r.line (said_by_line r.line)) ∙ sym (found_is n r.line kept is_kept end k (ap end_failed is))) in
     record {
       text = s.text ++ r.bytes;
       reads = record {
@@ -198,7 +198,7 @@ checked_prefix input r1 r2 out o1 o2 unused left kept n before after is_kept end
     s.says true r.bytes
     ∙ ap (λ l. s.lines ++ findings_from true n (slice_split is_newline l)) all
     ∙ ap (λ ps. s.lines ++ findings_from true n ps) (slice_split_none is_newline r.line (no_newlines r.line r.no_newline))
-    ∙ ap (λ l. s.lines ++ l) (sym (told_is_rest n r.line kept is_kept k) ∙ ap (finding_of_read n kept is_kept) (sym is)) in
+    ∙ ap (λ l. s.lines ++ l) (sym (found_is_rest n r.line kept is_kept k) ∙ ap (finding_of_read n kept is_kept) (sym is)) in
     record {
       text = s.text ++ r.bytes;
       reads = record {

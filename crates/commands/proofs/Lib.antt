@@ -18,5 +18,5 @@ pub mod PrintLemmas
 pub mod PictureTexts
 -- A stream is read into a terminal piece by piece; for `read_stream`
 pub mod FeedingLemmas
--- The findings of a script, a line at a time; for `end_report`, `tell`, `tell_lines`
+-- The findings of a script, a line at a time; for `end_report`, `report_text`, `report_lines`
 pub mod CheckLemmas

@@ -11,7 +11,7 @@ use Rattle.streams.specs.Sinks.{Seen, flushed_after_flush}
 use Rattle.streams.proofs.Sends.{Appends-keeps, cut-unflushed, whole-flushed}
 use Rattle.streams.specs.Sending.{Sends}
 use Rattle.streams.specs.declared.sending.WriteFault.{WriteFault}
-use Rattle.commands.specs.Written.{IsNotWritten, IsTold, TakesFront, WritingEnds}
+use Rattle.commands.specs.Written.{IsNotWritten, TakesFront, TriesToLog, WritingEnds}
 use Rattle.commands.specs.steps.Putting.{PuttingEnds}
 
 -- a prefix of a text was written, and the rest wasn't yet
@@ -95,9 +95,9 @@ flushed_behind old mid new text is_put (Err e) p is kept failure flush flushed =
   flushes = flush ∙ ap next_count p.flushes ∙ sym (whole-flushed (length text) text old.flushes refl);
 }
 
-pub told : (old new : Seen) (text : List ℕ) (written : Bool) → WritingEnds written old new text → IsTold old new text
-told old new text true h = inl h
-told old new text false h = inr h
+pub tries_to_log : (old new : Seen) (text : List ℕ) (written : Bool) → WritingEnds written old new text → TriesToLog old new text
+tries_to_log old new text true h = inl h
+tries_to_log old new text false h = inr h
 
 -- ---- one of several texts
 

@@ -32,8 +32,8 @@ WritingEnds true old new text = IsWritten old new text
 WritingEnds false old new text = IsNotWritten old new text
 
 -- A line was written on the log, once, or a failure was counted.
-abbrev pub IsTold : Seen → Seen → List ℕ → Type 0
-IsTold log told line = IsWritten log told line ⊎ IsNotWritten log told line
+abbrev pub TriesToLog : Seen → Seen → List ℕ → Type 0
+TriesToLog log log_after line = IsWritten log log_after line ⊎ IsNotWritten log log_after line
 
 -- ---- the output and the log
 

@@ -2,7 +2,7 @@
 
 ghost use Rattle.std.specs.Prelude.{◌≡◌, ◌≤◌, ◌+◌, ◌++◌, length};
 ghost use Rattle.commands.specs.Spelled.{spelled, spelled_byte};
-ghost use Rattle.commands.specs.Written.{IsTold, WritingEnds};
+ghost use Rattle.commands.specs.Written.{TriesToLog, WritingEnds};
 ghost use Rattle.commands.specs.steps.Putting.{PuttingEnds};
 
 use crate::put::put;
@@ -70,9 +70,9 @@ fn write_spelled<W: Sink>(sink: &mut W, text: &[u8]) -> bool
     sink.flush().is_ok()
 }
 
-/// Writes the spelling of a text on the log and flushes it, as `tell` does a line.
-pub fn tell_spelled<L: Sink>(log: &mut L, text: &[u8])
-    ensures { IsTold (L.seen log.old) (L.seen log.new) (spelled text.now) }
+/// Writes the spelling of a text on the log and flushes it, as `write_log` does a line.
+pub fn log_escaped<L: Sink>(log: &mut L, text: &[u8])
+    ensures { TriesToLog (L.seen log.old) (L.seen log.new) (spelled text.now) }
 {
     write_spelled(log, text);
 }

@@ -10,5 +10,5 @@ returns-then-not-read_stream-clause-shown g c =
       is_whole = false;
       reads = rw c.if-not-read_stream.true at c.read_stream.ensures.reads;
       last = blank_terminal c.args.job.lines c.args.job.cols;
-      ends = (c.tell_failure.ensures.status, refl, c.tell_failure.ensures.told);
+      ends = (c.log_failure.ensures.status, refl, c.log_failure.ensures.logs);
     })

@@ -1,6 +1,6 @@
 use Rattle.script.specs.steps.Bytes.{work_left}
 use Rattle.commands.proofs.CheckLemmas.{Checking}
-use Rattle.commands.proofs.check.tell_lines.Given as goal
+use Rattle.commands.proofs.check.report_lines.Given as goal
 
 abbrev pub invariant-loop-number : goal.invariant-loop-number
 invariant-loop-number g l =
