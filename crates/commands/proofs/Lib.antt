@@ -6,8 +6,8 @@ pub mod JobLemmas
 pub mod KeptRows
 -- A text is written piece by piece; for `print`, `put`, `put_lines` and others
 pub mod PutLemmas
--- The spelling of a text is written piece by piece; for `put_spelled`
-pub mod SpelledLemmas
+-- A text with its bytes escaped is written piece by piece; for `put_escaped`
+pub mod EscapeLemmas
 -- Where clap refuses nothing of the words, the subcommand at which its walk stops is one of the program's; for `TakenLemmas`
 pub mod KindIsNamed
 -- Where clap refuses nothing of the words, they name a subcommand and give both numbers; for `job`

@@ -4,27 +4,27 @@
 //! - `asked`: what the words ask for
 //! - `check`: `check`
 //! - `command`: the command line
+//! - `escapes`: a usage fault's text
 //! - `printing`: the printed picture
 //! - `put`: what is written, and flushed
 //! - `show`: `show`
-//! - `spelled`: a usage fault's text
 //! - `status`: the exit statuses
 #![tactic(auto)]
 
 mod asked;
 mod check;
 mod command;
+mod escapes;
 mod printing;
 mod put;
 mod show;
-mod spelled;
 mod status;
 
 pub use asked::{Asked, Job, Kind};
 pub use check::check_script;
 pub use command::job;
+pub use escapes::log_escaped;
 pub use printing::print;
 pub use put::{write_log, write_out};
 pub use show::show_stream;
-pub use spelled::log_escaped;
 pub use status::{ACCEPTED, BAD_TEXT, log_failure, no_memory, status_of};

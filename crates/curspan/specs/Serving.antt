@@ -20,7 +20,7 @@ use Rattle.commands.specs.Checks.{Checks}
 use Rattle.commands.specs.CommandLine.{Asks, AsksCheck, curspan}
 use Rattle.commands.specs.Printing.{printed_picture}
 use Rattle.commands.specs.Shows.{Shows}
-use Rattle.commands.specs.Spelled.{spelled}
+use Rattle.commands.specs.Escapes.{escaped_text}
 use Rattle.commands.specs.Statuses.{LacksMemory, status_of}
 use Rattle.commands.specs.Written.{IsNotWritten, IsWritten, Outputs, TriesToLog}
 use Rattle.commands.specs.declared.asked.Job.{Job}
@@ -41,7 +41,7 @@ ShowsHelp old new status = (text : List ℕ) × ShowsText text old new status
 
 -- A usage fault goes to the log, as a text of clap's with its bytes escaped, and nothing went to the output.
 abbrev pub LogsUsage : Outputs → Outputs → ℕ → Type 0
-LogsUsage old new status = (text : List ℕ) × (status ≡ 2) × (new.output ≡ old.output) × TriesToLog old.log new.log (spelled text)
+LogsUsage old new status = (text : List ℕ) × (status ≡ 2) × (new.output ≡ old.output) × TriesToLog old.log new.log (escaped_text text)
 
 -- What is said of an error of that kind. There may be no memory for its text.
 abbrev pub Explains : ErrorKind → Outputs → Outputs → ℕ → Type 0

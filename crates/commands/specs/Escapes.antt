@@ -7,8 +7,8 @@ use Rattle.cell.specs.Glyphs.{is_printable}
 use Rattle.script.specs.Characters.{backslash, is_newline, letter_x}
 
 -- a byte from the space to the tilde as it is, a newline too, and any other as `\x1b`
-abbrev pub spelled_byte : ℕ → List ℕ
-spelled_byte byte = if is_printable byte || is_newline byte then byte ∷ [] else backslash ∷ letter_x ∷ hex_digits byte
+abbrev pub escaped_byte : ℕ → List ℕ
+escaped_byte byte = if is_printable byte || is_newline byte then byte ∷ [] else backslash ∷ letter_x ∷ hex_digits byte
 
-abbrev pub spelled : List ℕ → List ℕ
-spelled text = flat_map spelled_byte text
+abbrev pub escaped_text : List ℕ → List ℕ
+escaped_text text = flat_map escaped_byte text
