@@ -22,8 +22,8 @@ use cell::Rendition;
 use clap::Error;
 use clap::error::ErrorKind;
 use commands::{
-    ACCEPTED, Asked, BAD_TEXT, Job, Kind, check_script, job, log_escaped,
-    log_failure, no_memory, print, show_stream, status_of, write_log, write_out,
+    ACCEPTED, Asked, BAD_TEXT, Job, Kind, check_script, job, log_escaped, log_failure, no_memory,
+    print, show_stream, status_of, write_log, write_out,
 };
 use desk::{
     Call, Calls, Desk, Refresh, Refusal, Screen, ScriptEnd, ScriptFault, Sink, Source,

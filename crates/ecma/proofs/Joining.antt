@@ -42,9 +42,14 @@ MayPrecede-finished (Unfinished begun) bytes h = absurd h
 -- an escape, or nothing, may follow any items
 pub Splits-then_escape : (bytes : List ℕ) (items : List Item) (rest more : List ℕ) → Splits bytes items rest → EndsOrEscapes more → Splits (bytes ++ more) items (rest ++ more)
 Splits-then_escape bytes [] rest more h there = ap (λ (prefix : List ℕ). prefix ++ more) h
-Splits-then_escape bytes (item ∷ items) rest more h there =
-    (h.0 ++ more, ap (λ (prefix : List ℕ). prefix ++ more) h.1
-        ∙ append_assoc (bytes_of item) h.0 more, h.2, MayPrecede-escape item h.0 more h.3 there, Splits-then_escape h.0 items rest more h.4 there)
+Splits-then_escape bytes (item ∷ items) rest more h there = (
+  h.0 ++ more,
+  ap (λ (prefix : List ℕ). prefix ++ more) h.1
+      ∙ append_assoc (bytes_of item) h.0 more,
+  h.2,
+  MayPrecede-escape item h.0 more h.3 there,
+  Splits-then_escape h.0 items rest more h.4 there,
+)
 
 -- anything may follow finished items
 pub Splits-then : (bytes : List ℕ) (items : List Item) (rest more : List ℕ) → Splits bytes items rest → AllByRecursion IsFinished items → Splits (bytes ++ more) items (rest ++ more)

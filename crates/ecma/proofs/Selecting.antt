@@ -23,7 +23,7 @@ colours_of rendition = record { foreground = rendition.foreground; background = 
 
 -- a rendition that was made of attributes of the six and the same colours
 made-with : (rendition made : Rendition) (bits attributes : ℕ) (pair : ColourPair) → attributes < 64 → bits ≡ attributes → pair ≡ colours_of rendition
-      → made ≡ rendition_with pair (valid_attributes bits)
+    → made ≡ rendition_with pair (valid_attributes bits)
     → made ≡ record rendition { attributes = attributes }
 made-with rendition made bits attributes pair few same colours is =
     let kept = ap valid_attributes same ∙ valid_attributes-small attributes few in

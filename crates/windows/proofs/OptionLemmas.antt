@@ -72,7 +72,7 @@ some-of false cell v e = cc
 
 pub made-cell : (cell : Glyph) (character attributes : ℕ)
     → (let o : Option Glyph = if is_printable character && nat_le 0 LAST_PAIR then Some (record { character = character; attributes = valid_attributes attributes; pair = 0 })
-      else None in Some cell ≡ o)
+    else None in Some cell ≡ o)
     → cell ≡ record { character = character; attributes = valid_attributes attributes; pair = 0 }
 made-cell cell character attributes e = some-of (is_printable character && nat_le 0 LAST_PAIR) cell (record { character = character; attributes = valid_attributes attributes; pair = 0 }) e
 
