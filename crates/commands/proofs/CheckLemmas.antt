@@ -25,7 +25,7 @@ use Rattle.commands.specs.Written.{IsNotWritten, WritingEnds}
 use Rattle.commands.specs.declared.check.Report.{Report}
 use Rattle.commands.specs.steps.Checking.{IsReported, ReportsMore, ReportsScript, finding_of_read}
 use Rattle.commands.specs.steps.Putting.{PuttingEnds}
-use Rattle.commands.proofs.PutLemmas.{cut_before, not_put, nothing_put, put_behind}
+use Rattle.commands.proofs.PutLemmas.{cut_before, not_put, nothing_put, put_after}
 
 -- ---- lines with a finding
 
@@ -51,7 +51,7 @@ pub line_reported : (first old new : Seen) (before : Report) (lines : List (List
     → before.is_written ≡ true → faulty ≡ next_number before.faulty → PuttingEnds is_put old new text
     → IsReported first new (record { faulty = faulty; is_written = is_put }) (lines ++ text ∷ [])
 line_reported first old new before lines text faulty is_put r written more p = record {
-  put = rw (flat_more lines text) (put_behind _ _ _ _ _ _ _ r.put written p);
+  put = rw (flat_more lines text) (put_after _ _ _ _ _ _ _ r.put written p);
   faulty = more ∙ ap next_number r.faulty ∙ count_more lines text;
 }
 
@@ -212,29 +212,29 @@ checked_prefix input r1 r2 out o1 o2 unused left kept n before after is_kept end
 
 -- ---- the end of a report
 
-pub reported_fails : (first old : Seen) (before : Report) (lines : List (List ℕ)) (behind : List ℕ) → IsReported first old before lines → before.is_written ≡ false
-    → IsNotWritten first old (flat lines ++ behind)
-reported_fails first old before lines behind r written =
-    not_put first old (flat lines ++ behind) false (cut_before _ _ _ _ _ r.put written) refl
+pub reported_fails : (first old : Seen) (before : Report) (lines : List (List ℕ)) (after : List ℕ) → IsReported first old before lines → before.is_written ≡ false
+    → IsNotWritten first old (flat lines ++ after)
+reported_fails first old before lines after r written =
+    not_put first old (flat lines ++ after) false (cut_before _ _ _ _ _ r.put written) refl
 
 same_end : (a s b : ℕ) → (s == b) ≡ (a + s == a + b)
 same_end a s b = grind (arith, nat_tests)
 
-pub reported_ends : (first old new : Seen) (before : Report) (lines : List (List ℕ)) (behind : List ℕ) (written : Bool) → IsReported first old before lines
-    → before.is_written ≡ true → WritingEnds written old new behind → WritingEnds written first new (flat lines ++ behind)
-reported_ends first old new before lines behind true r written h = record {
+pub reported_ends : (first old new : Seen) (before : Report) (lines : List (List ℕ)) (after : List ℕ) (written : Bool) → IsReported first old before lines
+    → before.is_written ≡ true → WritingEnds written old new after → WritingEnds written first new (flat lines ++ after)
+reported_ends first old new before lines after true r written h = record {
   taken = Appends-trans _ _ _ _ _ (r.put.taken written) h.taken;
   no_failure = h.no_failure ∙ r.put.failures ∙ ap (λ b. count_after (not b) first.failures) written;
   flushes = h.flushes ∙ ap next_count r.put.flushes;
   flushed = h.flushed;
 }
-reported_ends first old new before lines behind false r written h = record {
+reported_ends first old new before lines after false r written h = record {
   sent = length (flat lines) + h.sent;
-  within = omega (arith, h.within, length-append (flat lines) behind);
-  taken = rw (take-append-add (flat lines) behind h.sent) (Appends-trans _ _ _ _ _ (r.put.taken written) h.taken);
+  within = omega (arith, h.within, length-append (flat lines) after);
+  taken = rw (take-append-add (flat lines) after h.sent) (Appends-trans _ _ _ _ _ (r.put.taken written) h.taken);
   failure = h.failure ∙ ap next_count (r.put.failures ∙ ap (λ b. count_after (not b) first.failures) written);
-  flushes = h.flushes ∙ ap (count_after (h.sent == length behind)) r.put.flushes
-      ∙ ap (λ b. count_after b first.flushes) (same_end (length (flat lines)) h.sent (length behind) ∙ ap (λ n. length (flat lines) + h.sent == n) (sym (length-append (flat lines) behind)));
+  flushes = h.flushes ∙ ap (count_after (h.sent == length after)) r.put.flushes
+      ∙ ap (λ b. count_after b first.flushes) (same_end (length (flat lines)) h.sent (length after) ∙ ap (λ n. length (flat lines) + h.sent == n) (sym (length-append (flat lines) after)));
 }
 
 -- with how many lines after them

@@ -11,7 +11,7 @@ use Rattle.streams.specs.Sinks.{Seen, flushed_after_flush}
 use Rattle.streams.proofs.Sends.{Appends-keeps, cut-unflushed, whole-flushed}
 use Rattle.streams.specs.Sending.{Sends}
 use Rattle.streams.specs.declared.sending.WriteFault.{WriteFault}
-use Rattle.commands.specs.Written.{IsNotWritten, TakesFront, TriesToLog, WritingEnds}
+use Rattle.commands.specs.Written.{IsNotWritten, TakesPrefix, TriesToLog, WritingEnds}
 use Rattle.commands.specs.steps.Putting.{PuttingEnds}
 
 -- a prefix of a text was written, and the rest wasn't yet
@@ -78,16 +78,16 @@ not_put old new text is_put p is =
       flushes = p.flushes ∙ sym (cut-unflushed prefix.sent text old.flushes prefix.within);
     }
 
-pub flushed_behind : {T E : Type 0} (old mid new : Seen) (text : List ℕ) (is_put : Bool) (r : Result T E) → PuttingEnds is_put old mid text → is_put ≡ true
+pub flushed_after : {T E : Type 0} (old mid new : Seen) (text : List ℕ) (is_put : Bool) (r : Result T E) → PuttingEnds is_put old mid text → is_put ≡ true
     → Keeps mid.taken new.taken → new.failures ≡ count_after (is_err r) mid.failures → new.flushes ≡ next_count mid.flushes
     → new.flushed ≡ flushed_after_flush mid.flushed r → WritingEnds (is_ok r) old new text
-flushed_behind old mid new text is_put (Ok x) p is kept failure flush flushed = record {
+flushed_after old mid new text is_put (Ok x) p is kept failure flush flushed = record {
   taken = Appends-keeps old.taken mid.taken new.taken text (p.taken is) kept;
   no_failure = failure ∙ p.failures ∙ ap (λ b. count_after (not b) old.failures) is;
   flushes = flush ∙ ap next_count p.flushes;
   flushed = flushed;
 }
-flushed_behind old mid new text is_put (Err e) p is kept failure flush flushed = record {
+flushed_after old mid new text is_put (Err e) p is kept failure flush flushed = record {
   sent = length text;
   within = omega arith;
   taken = rw (take-length text) (Appends-keeps old.taken mid.taken new.taken text (p.taken is) kept);
@@ -101,27 +101,27 @@ tries_to_log old new text false h = inr h
 
 -- ---- one of several texts
 
-prefix_then : (old mid new : Seen) (prefix text : List ℕ) → Appends old.taken mid.taken prefix → TakesFront mid new text → TakesFront old new (prefix ++ text)
+prefix_then : (old mid new : Seen) (prefix text : List ℕ) → Appends old.taken mid.taken prefix → TakesPrefix mid new text → TakesPrefix old new (prefix ++ text)
 prefix_then old mid new prefix text before h = record {
   sent = length prefix + h.sent;
   within = omega (arith, h.within, length-append prefix text);
   taken = rw (take-append-add prefix text h.sent) (Appends-trans _ _ _ _ _ before h.taken);
 }
 
-prefix_of : (old new : Seen) (text behind : List ℕ) → TakesFront old new text → TakesFront old new (text ++ behind)
-prefix_of old new text behind h = record {
+prefix_of : (old new : Seen) (text after : List ℕ) → TakesPrefix old new text → TakesPrefix old new (text ++ after)
+prefix_of old new text after h = record {
   sent = h.sent;
-  within = omega (arith, h.within, length-append text behind);
-  taken = rw (take-append-le h.sent text behind (omega (arith, h.within))) h.taken;
+  within = omega (arith, h.within, length-append text after);
+  taken = rw (take-append-le h.sent text after (omega (arith, h.within))) h.taken;
 }
 
 pub nothing_put : (old : Seen) → PuttingEnds true old old []
 nothing_put old = record { taken = λ e. Appends-nil old.taken; cut = λ e. cc; flushes = refl; failures = refl }
 
 -- what was written after another text, all of it
-pub put_behind : (old mid new : Seen) (prefix text : List ℕ) (is_put written : Bool) → PuttingEnds is_put old mid prefix → is_put ≡ true → PuttingEnds written mid new text
+pub put_after : (old mid new : Seen) (prefix text : List ℕ) (is_put written : Bool) → PuttingEnds is_put old mid prefix → is_put ≡ true → PuttingEnds written mid new text
     → PuttingEnds written old new (prefix ++ text)
-put_behind old mid new prefix text is_put written before is p = record {
+put_after old mid new prefix text is_put written before is p = record {
   taken = λ e. Appends-trans _ _ _ _ _ (before.taken is) (p.taken e);
   cut = λ e. prefix_then _ _ _ _ _ (before.taken is) (p.cut e);
   flushes = p.flushes ∙ before.flushes;
@@ -129,8 +129,8 @@ put_behind old mid new prefix text is_put written before is p = record {
 }
 
 -- a text that was cut, and what was to come after it
-pub cut_before : (old new : Seen) (text behind : List ℕ) (is_put : Bool) → PuttingEnds is_put old new text → is_put ≡ false → PuttingEnds false old new (text ++ behind)
-cut_before old new text behind is_put p is = record {
+pub cut_before : (old new : Seen) (text after : List ℕ) (is_put : Bool) → PuttingEnds is_put old new text → is_put ≡ false → PuttingEnds false old new (text ++ after)
+cut_before old new text after is_put p is = record {
   taken = λ e. cc;
   cut = λ e. prefix_of _ _ _ _ (p.cut is);
   flushes = p.flushes;

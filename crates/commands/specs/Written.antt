@@ -6,7 +6,7 @@ use Rattle.streams.specs.Counts.{count_after, next_count}
 use Rattle.streams.specs.Sinks.{Seen}
 
 -- The sink took a prefix of the text, and not all.
-pub record TakesFront (old new : Seen) (text : List ℕ) : Type 0 where
+pub record TakesPrefix (old new : Seen) (text : List ℕ) : Type 0 where
   pub sent : ℕ
   pub within : sent < length text
   pub taken : Appends old.taken new.taken (take sent text)

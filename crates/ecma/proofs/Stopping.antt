@@ -59,18 +59,18 @@ FailsAt-escape prefix rest first last h there some none =
 record Split (a b c d : List ℕ) : Type 0 where
   between : List ℕ
   long : a ≡ c ++ between
-  behind : d ≡ between ++ b
+  after : d ≡ between ++ b
 
 -- of two prefixes of one text the longer goes on from the shorter
 split : (a b c d : List ℕ) → a ++ b ≡ c ++ d → length c ≤ length a → Split a b c d
-split a b [] d e h = record { between = a; long = refl; behind = sym e }
+split a b [] d e h = record { between = a; long = refl; after = sym e }
 split [] b (y ∷ c) d e h = absurd (omega arith)
 split (x ∷ a) b (y ∷ c) d e h =
     let head : x ≡ y = cc in
     let tail : a ++ b ≡ c ++ d = cc in
     let rest = split a b c d tail (omega arith) in
     let long : a ≡ c ++ rest.between = rest.long in
-    record { between = rest.between; long = cc; behind = rest.behind }
+    record { between = rest.between; long = cc; after = rest.after }
 
 MayPrecede-prefix : (item : Item) (bytes more : List ℕ) → MayPrecede item (bytes ++ more) → MayPrecede item bytes
 MayPrecede-prefix (Printable byte) bytes more h = tt
@@ -105,7 +105,7 @@ NoEffect-append rest more t some none = record {
         absurd cc
     | inr le ↦
         let parts = split rest more (bytes_of item) following e le in
-        none.each item parts.between parts.long h (MayPrecede-prefix item parts.between more (subst (λ (back : List ℕ). MayPrecede item back) parts.behind p))
+        none.each item parts.between parts.long h (MayPrecede-prefix item parts.between more (subst (λ (back : List ℕ). MayPrecede item back) parts.after p))
   ];
 }
 

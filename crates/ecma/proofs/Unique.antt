@@ -100,7 +100,7 @@ same-parameters a (c ∷ ps) b [] ha hb e =
 same-parameters a (c ∷ ps) b (d ∷ qs) ha hb e =
     let both = cut IsDigit a b (59 ∷ join_with_byte 59 (c ∷ ps)) (59 ∷ join_with_byte 59 (d ∷ qs)) ha.0 hb.0 not-digit not-digit e in
     let first : a ≡ b = both.first in
-    let behind : ◌≡◌ {A = List ℕ} (59 ∷ join_with_byte 59 (c ∷ ps)) (59 ∷ join_with_byte 59 (d ∷ qs)) = both.second in
+    let after : ◌≡◌ {A = List ℕ} (59 ∷ join_with_byte 59 (c ∷ ps)) (59 ∷ join_with_byte 59 (d ∷ qs)) = both.second in
     let rest : join_with_byte 59 (c ∷ ps) ≡ join_with_byte 59 (d ∷ qs) = cc in
     let others = same-parameters c ps d qs ha.1 hb.1 rest in cc
 
@@ -162,7 +162,7 @@ control-control a (p ∷ ps) b (q ∷ qs) f g h k e =
     sym (append_assoc (join_with_byte 59 (p ∷ ps)) (final_byte a ∷ []) f) ∙ e ∙ append_assoc (join_with_byte 59 (q ∷ qs)) (final_byte b ∷ []) g in
     let both = cut IsInner (join_with_byte 59 (p ∷ ps)) (join_with_byte 59 (q ∷ qs)) (final_byte a ∷ f) (final_byte b ∷ g) (joined-inner (p ∷ ps) h.digits) (joined-inner (q ∷ qs) k.digits)
     (final-stops a f) (final-stops b g) split in
-    let behind : final_byte a ∷ f ≡ final_byte b ∷ g = both.second in
+    let after : final_byte a ∷ f ≡ final_byte b ∷ g = both.second in
     let final : final_byte a ≡ final_byte b = cc in
     let parameters = same-parameters p ps q qs h.digits k.digits both.first in
     let function = same-function a b final in
@@ -171,13 +171,13 @@ control-control a (p ∷ ps) b (q ∷ qs) f g h k e =
 control-unfinished : (a : Function) (ps : List (List ℕ)) (begun f g : List ℕ) → AreParameters ps → EndsOrEscapes g → (begun ≡ 27 ∷ []) ⊎ Inner begun → bytes_of (Control a ps) ++ f ≡ begun ++ g → ⊥
 control-unfinished a ps begun f g h stop (inl lone) e =
     let whole : 27 ∷ 91 ∷ ((join_with_byte 59 ps ++ final_byte a ∷ []) ++ f) ≡ 27 ∷ g = e ∙ ap (λ (prefix : List ℕ). prefix ++ g) lone in
-    let behind : 91 ∷ ((join_with_byte 59 ps ++ final_byte a ∷ []) ++ f) ≡ g = cc in
-    not-escape 91 ((join_with_byte 59 ps ++ final_byte a ∷ []) ++ f) g (λ same. omega arith) behind stop
+    let after : 91 ∷ ((join_with_byte 59 ps ++ final_byte a ∷ []) ++ f) ≡ g = cc in
+    not-escape 91 ((join_with_byte 59 ps ++ final_byte a ∷ []) ++ f) g (λ same. omega arith) after stop
 control-unfinished a ps begun f g h stop (inr begins) e =
     let whole : 27 ∷ 91 ∷ ((join_with_byte 59 ps ++ final_byte a ∷ []) ++ f) ≡ 27 ∷ 91 ∷ (begins.inner ++ g) = e ∙ ap (λ (prefix : List ℕ). prefix ++ g) begins.is in
-    let behind : (join_with_byte 59 ps ++ final_byte a ∷ []) ++ f ≡ begins.inner ++ g = cc in
+    let after : (join_with_byte 59 ps ++ final_byte a ∷ []) ++ f ≡ begins.inner ++ g = cc in
     let both = cut IsInner (join_with_byte 59 ps) begins.inner (final_byte a ∷ f) g (joined-inner ps h.digits) begins.each (final-stops a f) (escape-stops g stop)
-    (sym (append_assoc (join_with_byte 59 ps) (final_byte a ∷ []) f) ∙ behind) in
+    (sym (append_assoc (join_with_byte 59 ps) (final_byte a ∷ []) f) ∙ after) in
     not-escape (final_byte a) f g (not-final a) both.second stop
 
 unfinished-unfinished : (p q f g : List ℕ) → EndsOrEscapes f → EndsOrEscapes g → (p ≡ 27 ∷ []) ⊎ Inner p → (q ≡ 27 ∷ []) ⊎ Inner q → p ++ f ≡ q ++ g → SameItem (Unfinished p) (Unfinished q) f g
@@ -187,16 +187,16 @@ unfinished-unfinished p q f g h k (inl a) (inl b) e =
     record { item = cc; rest = cc }
 unfinished-unfinished p q f g h k (inl a) (inr b) e =
     let whole : 27 ∷ f ≡ 27 ∷ 91 ∷ (b.inner ++ g) = sym (ap (λ (prefix : List ℕ). prefix ++ f) a) ∙ e ∙ ap (λ (prefix : List ℕ). prefix ++ g) b.is in
-    let behind : 91 ∷ (b.inner ++ g) ≡ f = cc in
-    absurd (not-escape 91 (b.inner ++ g) f (λ same. omega arith) behind h)
+    let after : 91 ∷ (b.inner ++ g) ≡ f = cc in
+    absurd (not-escape 91 (b.inner ++ g) f (λ same. omega arith) after h)
 unfinished-unfinished p q f g h k (inr a) (inl b) e =
     let whole : 27 ∷ 91 ∷ (a.inner ++ f) ≡ 27 ∷ g = sym (ap (λ (prefix : List ℕ). prefix ++ f) a.is) ∙ e ∙ ap (λ (prefix : List ℕ). prefix ++ g) b in
-    let behind : 91 ∷ (a.inner ++ f) ≡ g = cc in
-    absurd (not-escape 91 (a.inner ++ f) g (λ same. omega arith) behind k)
+    let after : 91 ∷ (a.inner ++ f) ≡ g = cc in
+    absurd (not-escape 91 (a.inner ++ f) g (λ same. omega arith) after k)
 unfinished-unfinished p q f g h k (inr a) (inr b) e =
     let whole : 27 ∷ 91 ∷ (a.inner ++ f) ≡ 27 ∷ 91 ∷ (b.inner ++ g) = sym (ap (λ (prefix : List ℕ). prefix ++ f) a.is) ∙ e ∙ ap (λ (prefix : List ℕ). prefix ++ g) b.is in
-    let behind : a.inner ++ f ≡ b.inner ++ g = cc in
-    let both = cut IsInner a.inner b.inner f g a.each b.each (escape-stops f h) (escape-stops g k) behind in
+    let after : a.inner ++ f ≡ b.inner ++ g = cc in
+    let both = cut IsInner a.inner b.inner f g a.each b.each (escape-stops f h) (escape-stops g k) after in
     let same : p ≡ q = a.is ∙ ap (λ (inner : List ℕ). 27 ∷ 91 ∷ inner) both.first ∙ sym b.is in
     record { item = cc; rest = both.second }
 
@@ -240,16 +240,16 @@ Splits-prefix bytes [] others rest left h k less = (others, refl, subst (λ (pre
 Splits-prefix bytes (item ∷ items) [] rest left h k less = absurd (let shorter = Splits-less bytes item items rest h in let same : length bytes ≡ length left = ap length k in omega arith)
 Splits-prefix bytes (item ∷ items) (other ∷ others) rest left h k less =
     let first = same-first item other h.0 k.0 h.2 k.2 h.3 k.3 (sym h.1 ∙ k.1) in
-    let behind = Splits-prefix k.0 items others rest left (subst (λ (following : List ℕ). Splits following items rest) first.rest h.4) k.4 less in
+    let after = Splits-prefix k.0 items others rest left (subst (λ (following : List ℕ). Splits following items rest) first.rest h.4) k.4 less in
     let here : item ≡ other = first.item in
-    let those : others ≡ items ++ behind.0 = behind.1 in
-    (behind.0, cc, behind.2)
+    let those : others ≡ items ++ after.0 = after.1 in
+    (after.0, cc, after.2)
 
 pub Splits-same : (bytes : List ℕ) (items others : List Item) (rest left : List ℕ) → Splits bytes items rest → Splits bytes others left → length rest ≡ length left → items ≡ others
 Splits-same bytes items others rest left h k same =
-    let behind = Splits-prefix bytes items others rest left h k (omega arith) in
-    let nothing = Splits-nothing rest behind.0 left behind.2 (omega arith) in
-    sym (behind.1 ∙ ap (λ (more : List Item). items ++ more) nothing ∙ append-nil items)
+    let after = Splits-prefix bytes items others rest left h k (omega arith) in
+    let nothing = Splits-nothing rest after.0 left after.2 (omega arith) in
+    sym (after.1 ∙ ap (λ (more : List Item). items ++ more) nothing ∙ append-nil items)
 
 pub Splits-unique : (bytes : List ℕ) (items others : List Item) → Splits bytes items [] → Splits bytes others [] → items ≡ others
 Splits-unique bytes items others h k = Splits-same bytes items others [] [] h k refl
