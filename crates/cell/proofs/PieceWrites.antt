@@ -26,8 +26,8 @@ module _ {A : Type 0} (none : A) (old piece : List A) (start : ℕ) (fits : star
       ∙ ap (λ k. get_or (piece ++ drop (start + length piece) old) (n - k) none) prefix
       ∙ get_or-append piece (drop (start + length piece) old) none (n - start) (omega arith)
 
-  after : (n : ℕ) → start + length piece ≤ n → get_or (splice old start (start + length piece) piece) n none ≡ get_or old n none
-  after n from =
+  beyond : (n : ℕ) → start + length piece ≤ n → get_or (splice old start (start + length piece) piece) n none ≡ get_or old n none
+  beyond n from =
       get_or-append_right (take start old) (piece ++ drop (start + length piece) old) n none (omega (arith, prefix))
       ∙ ap (λ k. get_or (piece ++ drop (start + length piece) old) (n - k) none) prefix
       ∙ get_or-append_right piece (drop (start + length piece) old) (n - start) none (omega arith)
@@ -112,14 +112,14 @@ module _ {A : Type 0} (none : A) {Is : A → Type 0} (lines columns : ℕ) (cell
                 | inl to ↦ within none cells piece (y * columns + x) (piece_end lines columns cells piece y x grid below fits) (v * columns + u) (omega (arith, line)) (omega (arith, line))
                     ∙ ap (λ k. get_or piece k none) (let e : v * columns + u - (y * columns + x) ≡ u - x = omega (arith, line) in e)
                     ∙ sym (cond-true test inner outer (inside v u y x (length piece) same from to))
-                | inr past ↦ after none cells piece (y * columns + x) (piece_end lines columns cells piece y x grid below fits) (v * columns + u) (omega (arith, line))
+                | inr past ↦ beyond none cells piece (y * columns + x) (piece_end lines columns cells piece y x grid below fits) (v * columns + u) (omega (arith, line))
                     ∙ sym (cond-false test inner outer (outside v u y x (length piece) (λ _ from to. omega arith)))
               ]
             ]
         | inr apart ↦ elim apart [
           | inl up ↦ before none cells piece (y * columns + x) (piece_end lines columns cells piece y x grid below fits) (v * columns + u) (omega (arith, line_end y columns v up))
               ∙ sym (cond-false test inner outer (outside v u y x (length piece) (λ e from to. omega arith)))
-          | inr down ↦ after none cells piece (y * columns + x) (piece_end lines columns cells piece y x grid below fits) (v * columns + u) (omega (arith, line_end v columns y down, fits))
+          | inr down ↦ beyond none cells piece (y * columns + x) (piece_end lines columns cells piece y x grid below fits) (v * columns + u) (omega (arith, line_end v columns y down, fits))
               ∙ sym (cond-false test inner outer (outside v u y x (length piece) (λ e from to. omega arith)))
         ]
       ]
