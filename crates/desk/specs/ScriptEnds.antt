@@ -92,9 +92,9 @@ LogCloses (Some earlier) logged written fault = (FlushSucceeds logged written �
 -- ---- its lines
 
 -- the call of a line, with its number
-abbrev pub numbered : ℕ → Option Call → List (ℕ × Call)
-numbered number None = []
-numbered number (Some call) = (number, call) ∷ []
+abbrev pub numbered_call : ℕ → Option Call → List (ℕ × Call)
+numbered_call number None = []
+numbered_call number (Some call) = (number, call) ∷ []
 
 abbrev pub calls_of : List (ℕ × Call) → List Call
 calls_of = map (λ call. call.1)
@@ -114,9 +114,9 @@ module _ {W : Type 0} (seen : W → Seen) where
     pub call : Option Call
     pub outcomes : List Outcome
     pub at_stop : ScreenOver W
-    pub makes : Makes seen old (calls_of (numbered number call)) outcomes at_stop
+    pub makes : Makes seen old (calls_of (numbered_call number call)) outcomes at_stop
     pub stop : LineStops number (said_by_line line) call at_stop end.fault new
-    pub logs : Logs log written (log_lines (numbered number call) outcomes) end.fault
+    pub logs : Logs log written (log_lines (numbered_call number call) outcomes) end.fault
     pub failures : written.failures ≡ count_after (log_failed end.fault) log.failures
     pub flushes : written.flushes ≡ log.flushes
     pub refused : end.refused ≡ list_any is_refused outcomes
