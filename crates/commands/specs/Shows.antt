@@ -12,7 +12,7 @@ use Rattle.script.specs.Log.{last_line}
 use Rattle.script.specs.declared.fault.ScriptFault.TheVariants.{Reading, Log}
 use Rattle.commands.specs.Printing.{printed_picture}
 use Rattle.commands.specs.Written.{IsNotWritten, IsWritten, Outputs, TriesToLog}
-use Rattle.commands.specs.declared.asked.Job.{Job}
+use Rattle.commands.specs.declared.requests.Job.{Job}
 
 -- ---- reading
 

@@ -23,9 +23,9 @@ use Rattle.commands.specs.Shows.{Shows}
 use Rattle.commands.specs.Escapes.{escaped_text}
 use Rattle.commands.specs.Statuses.{LacksMemory, status_of}
 use Rattle.commands.specs.Written.{IsNotWritten, IsWritten, Outputs, TriesToLog}
-use Rattle.commands.specs.declared.asked.Job.{Job}
-use Rattle.commands.specs.declared.asked.Kind.{Kind}
-use Rattle.commands.specs.declared.asked.Kind.TheVariants.{Run, Paint, Show}
+use Rattle.commands.specs.declared.requests.Job.{Job}
+use Rattle.commands.specs.declared.requests.Kind.{Kind}
+use Rattle.commands.specs.declared.requests.Kind.TheVariants.{Run, Paint, Show}
 
 -- ---- words that are refused
 

@@ -22,7 +22,7 @@ use cell::Rendition;
 use clap::Error;
 use clap::error::ErrorKind;
 use commands::{
-    ACCEPTED, Asked, BAD_TEXT, Job, Kind, check_script, job, log_escaped, log_failure, no_memory,
+    ACCEPTED, BAD_TEXT, Job, Kind, Request, check_script, job, log_escaped, log_failure, no_memory,
     print, show_stream, status_of, write_log, write_out,
 };
 use desk::{
@@ -194,8 +194,8 @@ pub fn serve<'a, S: AsStr, R: Source, O: Sink, L: Sink>(
     ensures log { result < 2 → (L.seen log.new).failures ≡ (L.seen log.old).failures }
 {
     match job(alloc, words) {
-        Ok(Asked::Check) => check_script(input, out, log),
-        Ok(Asked::Job(job)) => match job.kind {
+        Ok(Request::Check) => check_script(input, out, log),
+        Ok(Request::Job(job)) => match job.kind {
             Kind::Run => run(alloc, job, input, out, log),
             Kind::Paint => paint(alloc, job, input, out, log),
             Kind::Show => show_stream(alloc, job, input, out, log),

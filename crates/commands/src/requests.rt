@@ -13,7 +13,7 @@ pub enum Kind {
 
 /// What is asked for.
 #[derive(Clone, Copy, PartialEq, Eq, Debug)]
-pub enum Asked {
+pub enum Request {
     /// A job on a screen.
     Job(Job),
     /// What is wrong with a script.
