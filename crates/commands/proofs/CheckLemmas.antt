@@ -14,7 +14,7 @@ use Rattle.streams.specs.Counts.{count_after, next_count}
 use Rattle.streams.specs.Sinks.{Seen}
 use Rattle.streams.specs.Sources.{SourceSeen}
 use Rattle.script.specs.Characters.{is_newline}
-use Rattle.script.specs.Readings.{next_number, said_by_line}
+use Rattle.script.specs.Readings.{next_number, parse_line}
 use Rattle.script.specs.declared.bytes.LineEnd.{LineEnd}
 use Rattle.script.specs.declared.bytes.LineEnd.TheVariants.{Newline, ScriptEnd, ReadFailed}
 use Rattle.script.specs.declared.fault.TextFault.TheVariants.{LineTooLong}
@@ -68,13 +68,13 @@ no_newlines : (line : List ℕ) → HasNoNewline line → All (λ b. is_newline 
 no_newlines line h = λ k d lt. false_from_ne_true _ (λ e. both_ways _ h (list_any_at is_newline line k d lt e))
 
 line_first : (failed : Bool) (n : ℕ) (line : List ℕ) (pieces : List (List ℕ)) → 0 < length pieces
-    → findings_from failed n (line ∷ pieces) ≡ finding_of n line (said_by_line line) ++ findings_from failed (next_number n) pieces
+    → findings_from failed n (line ∷ pieces) ≡ finding_of n line (parse_line line) ++ findings_from failed (next_number n) pieces
 line_first failed n line [] some = absurd (omega arith)
 line_first true n line (p ∷ ps) some = refl
 line_first false n line (p ∷ ps) some = refl
 
 line_of_script : (failed : Bool) (n : ℕ) (line left : List ℕ) → HasNoNewline line
-    → findings_from failed n (slice_split is_newline (line ++ 10 ∷ left)) ≡ finding_of n line (said_by_line line) ++ findings_from failed (next_number n) (slice_split is_newline left)
+    → findings_from failed n (slice_split is_newline (line ++ 10 ∷ left)) ≡ finding_of n line (parse_line line) ++ findings_from failed (next_number n) (slice_split is_newline left)
 line_of_script failed n line left h =
     ap (findings_from failed n) (slice_split_at is_newline line 10 left (no_newlines line h) refl)
     ∙ line_first failed n line (slice_split is_newline left) (omega (arith, length-slice_split is_newline left))
@@ -85,14 +85,14 @@ long_test line h = grind (arith, nat_tests)
 short_test : (line : List ℕ) → length line ≤ LONGEST_LINE → nat_lt LONGEST_LINE (length line) ≡ false
 short_test line h = grind (arith, nat_tests)
 
-long_line : (line : List ℕ) → LONGEST_LINE < length line → said_by_line line ≡ Err LineTooLong
+long_line : (line : List ℕ) → LONGEST_LINE < length line → parse_line line ≡ Err LineTooLong
 long_line line h = rw (long_test line h) refl
 
 -- the finding of a line, kept or not, is by what it says
 found_is : (n : ℕ) (line kept : List ℕ) (is_kept : Bool) (end : LineEnd) → IsKept is_kept line kept → end_failed end ≡ false
-    → finding_of_read n kept is_kept end ≡ finding_of n line (said_by_line line)
-found_is n line kept true Newline k e = ap (λ l. finding_of n l (said_by_line l)) k.0
-found_is n line kept true ScriptEnd k e = ap (λ l. finding_of n l (said_by_line l)) k.0
+    → finding_of_read n kept is_kept end ≡ finding_of n line (parse_line line)
+found_is n line kept true Newline k e = ap (λ l. finding_of n l (parse_line l)) k.0
+found_is n line kept true ScriptEnd k e = ap (λ l. finding_of n l (parse_line l)) k.0
 found_is n line kept is_kept ReadFailed k e = cc
 found_is n line kept false end k e = sym (ap (finding_of n line) (long_line line k))
 
@@ -176,7 +176,7 @@ checked_all input r1 r2 out o1 o2 unused left kept n before after is_kept end s 
     s.says false r.bytes
     ∙ ap (λ l. s.lines ++ findings_from false n (slice_split is_newline l)) all
     ∙ ap (λ ps. s.lines ++ findings_from false n ps) (slice_split_none is_newline r.line (no_newlines r.line r.no_newline))
-    ∙ ap (λ l. s.lines ++ l) (append-nil (finding_of n r.line (said_by_line r.line)) ∙ sym (found_is n r.line kept is_kept end k (ap end_failed is))) in
+    ∙ ap (λ l. s.lines ++ l) (append-nil (finding_of n r.line (parse_line r.line)) ∙ sym (found_is n r.line kept is_kept end k (ap end_failed is))) in
     record {
       text = s.text ++ r.bytes;
       reads = record {

@@ -6,7 +6,7 @@ use Rattle.streams.specs.Sources.{SourceSeen}
 use Rattle.script.specs.Characters.{is_newline, newline}
 use Rattle.explain.specs.Explanations.{finding}
 use Rattle.script.specs.Log.{last_line}
-use Rattle.script.specs.Readings.{next_number, said_by_line}
+use Rattle.script.specs.Readings.{next_number, parse_line}
 use Rattle.script.specs.declared.fault.ScriptFault.TheVariants.{Reading, Log}
 use Rattle.script.specs.declared.fault.TextFault.{TextFault}
 use Rattle.script.specs.declared.fault.TextFault.TheVariants.{LineTooLong}
@@ -30,7 +30,7 @@ finding_of_rest number rest = if nat_lt LONGEST_LINE (length rest) then finding 
 abbrev pub findings_from : Bool → ℕ → List (List ℕ) → List (List ℕ)
 findings_from failed n [] = []
 findings_from true n (rest ∷ []) = finding_of_rest n rest
-findings_from failed n (line ∷ lines) = finding_of n line (said_by_line line) ++ findings_from failed (next_number n) lines
+findings_from failed n (line ∷ lines) = finding_of n line (parse_line line) ++ findings_from failed (next_number n) lines
 
 -- A line for each faulty line of a script whose bytes these are. A read failed after them, or they are all.
 abbrev pub findings : Bool → List ℕ → List (List ℕ)

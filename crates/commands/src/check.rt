@@ -2,7 +2,7 @@
 
 ghost use Rattle.std.specs.Prelude.{◌≡◌, ◌≤◌, ◌<◌, ◌∷◌, [], length};
 ghost use Rattle.std.specs.Option.{option_map_or};
-ghost use Rattle.script.specs.Readings.{said_by_line};
+ghost use Rattle.script.specs.Readings.{parse_line};
 ghost use Rattle.commands.specs.Checks.{Checks, count_line, finding_of};
 ghost use Rattle.commands.specs.Written.{outputs};
 ghost use Rattle.commands.specs.steps.Checking.{EndsReport, ReportsMore, ReportsScript, finding_of_read};
@@ -37,7 +37,7 @@ struct Checked {
 /// The line about a line's fault, if it has one.
 fn finding_of(number: u64, line: &[u8], taken: &mut Arguments) -> Option<Finding>
     requires { length line.now ≤ LONGEST_LINE }
-    ensures { finding_of number line.now (said_by_line line.now) ≡ option_map_or (λ text. text.items ∷ []) result [] }
+    ensures { finding_of number line.now (parse_line line.now) ≡ option_map_or (λ text. text.items ∷ []) result [] }
 {
     match read_line(line, taken) {
         Ok(_) => None,

@@ -25,7 +25,7 @@ use Rattle.streams.specs.Counts.{count_after}
 use Rattle.desk.specs.States.{state_of}
 use Rattle.desk.specs.Showing.{RunShows}
 use Rattle.desk.proofs.ShowingLemmas.{cut-keeps_size, makes-keep_size, shows-broken, shows-unbroken, then-keeps_size}
-use Rattle.script.specs.Readings.{Reading, before_others, ends_with, next_number, reading, reading_of, said_by_line}
+use Rattle.script.specs.Readings.{Reading, before_others, ends_with, next_number, reading, reading_of, parse_line}
 use Rattle.script.specs.Characters.{is_newline}
 use Rattle.script.specs.steps.Bytes.{HasNoNewline, ReadsLine}
 use Rattle.script.specs.Log.{log_line}
@@ -50,7 +50,7 @@ prepend_twice a b r = ap (λ (calls : List (ℕ × Call)). let x : Reading = rec
 
 -- a line before others
 line_first : (failed : Bool) (n : ℕ) (line : List ℕ) (pieces : List (List ℕ)) → 0 < length pieces
-    → reading_of failed n (line ∷ pieces) ≡ before_others n (said_by_line line) (reading_of failed (next_number n) pieces)
+    → reading_of failed n (line ∷ pieces) ≡ before_others n (parse_line line) (reading_of failed (next_number n) pieces)
 line_first failed n line [] some = absurd (omega arith)
 line_first true n line (p ∷ ps) some = refl
 line_first false n line (p ∷ ps) some = refl
@@ -72,12 +72,12 @@ no_newlines line h = λ k d lt. each_fails is_newline line k d h lt
 
 -- What a script says whose next line ends with a newline.
 line_of_script : (failed : Bool) (n : ℕ) (line left : List ℕ) → HasNoNewline line
-    → reading_of failed n (slice_split is_newline (line ++ 10 ∷ left)) ≡ before_others n (said_by_line line) (reading_of failed (next_number n) (slice_split is_newline left))
+    → reading_of failed n (slice_split is_newline (line ++ 10 ∷ left)) ≡ before_others n (parse_line line) (reading_of failed (next_number n) (slice_split is_newline left))
 line_of_script failed n line left h =
     ap (reading_of failed n) (slice_split_at is_newline line 10 left (no_newlines line h) refl)
     ∙ line_first failed n line (slice_split is_newline left) (omega (arith, length-slice_split is_newline left))
 
-long_line : (line : List ℕ) → LONGEST_LINE < length line → said_by_line line ≡ Err LineTooLong
+long_line : (line : List ℕ) → LONGEST_LINE < length line → parse_line line ≡ Err LineTooLong
 long_line line h = let long : nat_lt LONGEST_LINE (length line) ≡ true = grind (arith, nat_tests) in rw long refl
 
 has_first : (pieces : List (List ℕ)) → 0 < length pieces → (head : List ℕ) × (tail : List (List ℕ)) × (pieces ≡ head ∷ tail)
@@ -164,7 +164,7 @@ module _ {W : Type 0} (seen : W → Seen) where
   line_says : {old mid : ScreenOver W} {input r1 r2 : SourceSeen} {log l1 : Seen} {unused left line : List ℕ} {n : ℕ} {b : Bool}
       (s : SoFar old mid input r1 log l1 unused n b) (r : ReadsLine r1 r2 unused left line (Some Newline)) (failed : Bool) (more : List ℕ)
       → reading failed ((s.text ++ r.bytes) ++ more)
-      ≡ prepend s.made (before_others n (said_by_line line) (reading_of failed (next_number n) (slice_split is_newline (left ++ more))))
+      ≡ prepend s.made (before_others n (parse_line line) (reading_of failed (next_number n) (slice_split is_newline (left ++ more))))
   line_says {unused} {left} {line} {n} s r failed more =
       let together : unused ++ (r.bytes ++ more) ≡ line ++ 10 ∷ (left ++ more) =
       sym (append_assoc unused r.bytes more) ∙ ap (λ l. l ++ more) r.is_line.0 ∙ append_assoc line (10 ∷ left) more in
@@ -182,7 +182,7 @@ module _ {W : Type 0} (seen : W → Seen) where
       → SoFar old mid input r1 log l1 unused n b → ReadsLine r1 r2 unused left line (Some Newline) → r2.met_end ≡ r1.met_end → ReadsOnce r1 r2
       → LineEnds seen mid now n line l1 l2 end → end.fault ≡ None → SoFar old now input r2 log l2 left (next_number n) (b || end.refused)
   so_far_next old mid now input r1 r2 log l1 l2 unused left line n b end s r met once e none =
-      let stop : (said_by_line line ≡ Ok e.call) × (now ≡ e.at_stop) = subst (λ f. LineStops seen n (said_by_line line) e.call e.at_stop f now) none e.stop in
+      let stop : (parse_line line ≡ Ok e.call) × (now ≡ e.at_stop) = subst (λ f. LineStops seen n (parse_line line) e.call e.at_stop f now) none e.stop in
       let logs : Appends l1.taken l2.taken (log_text (log_lines (numbered_call n e.call) e.outcomes)) = subst (Logs l1 l2 (log_lines (numbered_call n e.call) e.outcomes)) none e.logs in
       record {
         text = s.text ++ r.bytes;
@@ -196,7 +196,7 @@ module _ {W : Type 0} (seen : W → Seen) where
         met = met ∙ s.met;
         read_once = still_once input r1 r2 s.met s.read_once once;
         is_refused = ap (λ x. x || end.refused) s.is_refused ∙ ap (λ x. list_any is_refused s.outcomes || x) e.refused ∙ sym (list_any-append is_refused s.outcomes e.outcomes);
-        says = λ failed more. line_says s r failed more ∙ says_call s.made n (said_by_line line) e.call _ stop.0;
+        says = λ failed more. line_says s r failed more ∙ says_call s.made n (parse_line line) e.call _ stop.0;
       }
 
   -- How the script ends at a line, where z is what the script says after the line.
@@ -256,7 +256,7 @@ module _ {W : Type 0} (seen : W → Seen) where
   -- The script ends at a line.
   ends_at_line : (old mid now : ScreenOver W) (input r1 r2 : SourceSeen) (log l1 l2 : Seen) (unused line bytes : List ℕ) (n : ℕ) (b : Bool) (end : ScriptEnd) (z : List ℕ → Reading)
       (s : SoFar old mid input r1 log l1 unused n b) → Consumes r1.left r2.left bytes → ReadsOnce r1 r2 → LineEnds seen mid now n line l1 l2 end
-      → ((more : List ℕ) → MayFollow r2.met_end more → reading false ((s.text ++ bytes) ++ more) ≡ prepend s.made (before_others n (said_by_line line) (z more)))
+      → ((more : List ℕ) → MayFollow r2.met_end more → reading false ((s.text ++ bytes) ++ more) ≡ prepend s.made (before_others n (parse_line line) (z more)))
       → (end.fault ≡ None → (r2.met_end ≡ true) × (z [] ≡ ends_with None))
       → (end.fault ≡ None → IsAtEnd r2.left)
       → RunsLines seen old now input r2 log l2 (record { refused = b || end.refused; fault = end.fault })
@@ -267,7 +267,7 @@ module _ {W : Type 0} (seen : W → Seen) where
     at_stop = e.at_stop;
     read = Consumes-trans _ _ _ _ _ s.read read;
     makes = makes_more s.made (numbered_call n e.call) s.makes e.makes;
-    stop = stops s.made n (said_by_line line) e.call e.at_stop now r2.met_end (s.text ++ bytes) z end.fault e.stop says last;
+    stop = stops s.made n (parse_line line) e.call e.at_stop now r2.met_end (s.text ++ bytes) z end.fault e.stop says last;
     logs = logs_after (state_of old) s.made (numbered_call n e.call) s.outcomes e.outcomes log l1 l2 end.fault s.makes.run s.logs e.logs;
     failures = e.failures ∙ ap (count_after (log_failed end.fault)) s.failures;
     flushes = e.flushes ∙ s.flushes;

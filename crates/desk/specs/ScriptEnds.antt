@@ -9,7 +9,7 @@ use Rattle.desk.specs.Runs.{Outcome, is_refused}
 use Rattle.desk.specs.Ends.{IsCut, Makes}
 use Rattle.desk.specs.Showing.{RunShows}
 use Rattle.streams.specs.Sources.{SourceSeen}
-use Rattle.script.specs.Readings.{Reading, reading, said_by_line}
+use Rattle.script.specs.Readings.{Reading, reading, parse_line}
 use Rattle.script.specs.Log.{log_line}
 use Rattle.world.specs.declared.call.Call.{Call}
 use Rattle.world.specs.declared.call.Call.TheVariants.{Refresh}
@@ -115,7 +115,7 @@ module _ {W : Type 0} (seen : W → Seen) where
     pub outcomes : List Outcome
     pub at_stop : ScreenOver W
     pub makes : Makes seen old (calls_of (numbered_call number call)) outcomes at_stop
-    pub stop : LineStops number (said_by_line line) call at_stop end.fault new
+    pub stop : LineStops number (parse_line line) call at_stop end.fault new
     pub logs : Logs log written (log_lines (numbered_call number call) outcomes) end.fault
     pub failures : written.failures ≡ count_after (log_failed end.fault) log.failures
     pub flushes : written.flushes ≡ log.flushes
