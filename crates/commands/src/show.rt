@@ -7,9 +7,9 @@ ghost use Rattle.commands.specs.Statuses.{LacksMemory};
 ghost use Rattle.commands.specs.steps.Feeding.{Feeds, LogsFault};
 ghost use Rattle.commands.specs.Written.{WritingEnds, outputs};
 
-use crate::requests::Job;
 use crate::printing::print;
 use crate::put::write_out;
+use crate::requests::Job;
 use crate::status::{ACCEPTED, FAILED, REFUSED, log_failure, no_memory};
 use arrayvec::ArrayVec;
 use ecma::{NotInProfile, Terminal};
