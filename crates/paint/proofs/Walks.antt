@@ -10,7 +10,7 @@ use Rattle.ecma.proofs.Difference.{same_shown-equal}
 use Rattle.ecma.proofs.Lengths.{length-spelling}
 use Rattle.ecma.specs.Spelling.{spelling}
 use Rattle.ecma.specs.declared.token.Token.TheVariants.{El}
-use Rattle.ecma.specs.Terminals.{blanked, erased_at, erased_line}
+use Rattle.ecma.specs.Terminals.{blank_line, erased_at, erased_line}
 use Rattle.ecma.specs.declared.token.Erase.TheVariants.{ToEnd}
 use Rattle.streams.specs.Sinks.{Seen}
 use Rattle.paint.specs.declared.pen.Pen.{Pen}
@@ -124,7 +124,7 @@ changed-bytes x shown wanted same h =
     ] in
     omega (arith, left x shown wanted same h.inside, line_bytes-other a b (drop (x + 1) shown) (drop (x + 1) wanted) other)
 
-blank-lengths : (one other : List Shown) → length one ≡ length other → blanked one ≡ blanked other
+blank-lengths : (one other : List Shown) → length one ≡ length other → blank_line one ≡ blank_line other
 blank-lengths [] [] same = refl
 blank-lengths [] (b ∷ other) same = absurd (omega arith)
 blank-lengths (a ∷ one) [] same = absurd (omega arith)
