@@ -12,12 +12,12 @@ use Rattle.ecma.specs.Terminals.{blank_line, erased_page}
 use Rattle.streams.specs.Sinks.{Seen}
 use Rattle.paint.specs.declared.pen.Pen.{Pen}
 use Rattle.paint.specs.steps.Strokes.{Draws, Strokes, line_bytes, picture_bytes}
-use Rattle.paint.specs.steps.Walks.{mixed, AreBlank, IsPicturePainted, IsReadyToErase}
-use Rattle.paint.proofs.Mixed.{drop-mixed, length-mixed, mixed-at, mixed-more, take-mixed}
+use Rattle.paint.specs.steps.Walks.{with_prefix, AreBlank, IsPicturePainted, IsReadyToErase}
+use Rattle.paint.proofs.Prefixes.{drop-with_prefix, length-with_prefix, with_prefix-at, with_prefix-more, take-with_prefix}
 use Rattle.paint.proofs.Shows.{blank_line-all}
 use Rattle.paint.proofs.Strokes.{Strokes-more, Strokes-then}
 use Rattle.paint.proofs.Tails.{kept-later}
-use Rattle.paint.proofs.Walks.{erased-mixed, line_bytes-changed, picture_bytes-later}
+use Rattle.paint.proofs.Walks.{erased-with_prefix, line_bytes-changed, picture_bytes-later}
 
 -- lines of one width are blank alike
 blank-rest : (lines columns n : ℕ) (picture : Picture) → HasSize lines columns picture → map blank_line (drop n picture) ≡ blank_picture (length (drop n picture)) columns
@@ -38,7 +38,7 @@ changed-below {lines} {columns} {shown} {wanted} old_size new_size y z below ins
 module _ {lines columns : ℕ} {shown wanted : Picture} (old_size : HasSize lines columns shown) (new_size : HasSize lines columns wanted) {y e x blank : ℕ} (inside : y < lines) (below : blank ≤ y + 1)
     (all_blank : map blank_line (drop blank wanted) ≡ drop blank wanted) (before_x : e ≤ x) (few : x ≤ length (line_of wanted y)) (tail : AreBlank (drop e (line_of wanted y))) where
   abbrev before : Picture
-  before = set (mixed y wanted shown) y (mixed x (line_of wanted y) (line_of shown y))
+  before = set (with_prefix y wanted shown) y (with_prefix x (line_of wanted y) (line_of shown y))
 
   same : length shown ≡ length wanted
   same = old_size.height ∙ sym new_size.height
@@ -46,20 +46,21 @@ module _ {lines columns : ℕ} {shown wanted : Picture} (old_size : HasSize line
   same-lines : length (line_of shown y) ≡ length (line_of wanted y)
   same-lines = length-line y old_size inside ∙ sym (length-line y new_size inside)
 
-  prefix : take (y + 1) (set (mixed y wanted shown) y (line_of wanted y)) ≡ take (y + 1) wanted
-  prefix = ap (take (y + 1)) (mixed-more [] y wanted shown (omega (arith, old_size.height)) same) ∙ take-mixed (y + 1) wanted shown (omega (arith, new_size.height))
+  prefix : take (y + 1) (set (with_prefix y wanted shown) y (line_of wanted y)) ≡ take (y + 1) wanted
+  prefix = ap (take (y + 1)) (with_prefix-more [] y wanted shown (omega (arith, old_size.height)) same) ∙ take-with_prefix (y + 1) wanted shown (omega (arith, new_size.height))
 
   back : map blank_line (drop (y + 1) before) ≡ drop (y + 1) wanted
   back =
-      let kept : drop (y + 1) before ≡ drop (y + 1) shown = drop-set-lt (y + 1) (mixed y wanted shown) y (mixed x (line_of wanted y) (line_of shown y)) (omega arith)
-      ∙ drop-mixed y wanted shown (omega (arith, new_size.height)) same in
+      let kept : drop (y + 1) before ≡ drop (y + 1) shown = drop-set-lt (y + 1) (with_prefix y wanted shown) y (with_prefix x (line_of wanted y) (line_of shown y)) (omega arith)
+      ∙ drop-with_prefix y wanted shown (omega (arith, new_size.height)) same in
       let long : length (drop (y + 1) shown) ≡ length (drop (y + 1) wanted) = omega (arith, length-drop (y + 1) shown, length-drop (y + 1) wanted, same) in
       ap (map blank_line) kept ∙ blank-rest lines columns (y + 1) shown old_size ∙ ap (λ n. blank_picture n columns) long ∙ sym (blank-rest lines columns (y + 1) wanted new_size)
       ∙ kept-later blank_line blank (y + 1) wanted below all_blank
 
   erased : erased_page ToEnd (y, e) before ≡ wanted
   erased =
-      let line = erased-mixed (mixed y wanted shown) y e x (line_of shown y) (line_of wanted y) same-lines (omega (arith, length-mixed y wanted shown same, old_size.height)) before_x few tail in
+      let line = erased-with_prefix (with_prefix y wanted shown) y e x (line_of shown y) (line_of wanted y) same-lines
+          (omega (arith, length-with_prefix y wanted shown same, old_size.height)) before_x few tail in
       (λ i. take (y + 1) (line i) ++ back i) ∙ ap (λ rows. rows ++ drop (y + 1) wanted) prefix ∙ take-append-drop (y + 1) wanted
 
   pub drawn : {c d : Seen} {next last : Pen} → ((picture : Picture) → Draws (spelling (Ed ToEnd)) c d next last picture (erased_page ToEnd (y, e) picture)) → Strokes 4 c d next last before wanted
@@ -81,5 +82,6 @@ page-erased {lines} {columns} {shown} {wanted} old_size new_size {y} {e} {blank}
     let other = drop_more wanted y [] (omega (arith, new_size.height)) in
     let left : picture_bytes (drop y shown) (drop y wanted) ≡ picture_bytes (line_of shown y ∷ drop (y + 1) shown) (line_of wanted y ∷ drop (y + 1) wanted) = λ i. picture_bytes (one i) (other i) in
     let rest = changed-below old_size new_size (y + 1) z (omega arith) last_line changed in
-    let ready = k.strokes (mixed y wanted shown) (omega (arith, length-mixed y wanted shown same, old_size.height)) (mixed-at [] y wanted shown (omega (arith, old_size.height)) same) in
+    let ready = k.strokes (with_prefix y wanted shown) (omega (arith, length-with_prefix y wanted shown same, old_size.height))
+        (with_prefix-at [] y wanted shown (omega (arith, old_size.height)) same) in
     Strokes-more (Strokes-then (Strokes-then h.strokes ready) (drawn old_size new_size inside below all_blank k.beyond k.inside k.blank draws)) (omega (arith, h.within, k.within, left, rest))
