@@ -60,7 +60,7 @@ module _ {lines columns : ℕ} {shown wanted : Picture} (old_size : HasSize line
   erased : erased_page ToEnd (y, e) before ≡ wanted
   erased =
       let line = erased-with_prefix (with_prefix y wanted shown) y e x (line_of shown y) (line_of wanted y) same-lines
-          (omega (arith, length-with_prefix y wanted shown same, old_size.height)) before_x few tail in
+      (omega (arith, length-with_prefix y wanted shown same, old_size.height)) before_x few tail in
       (λ i. take (y + 1) (line i) ++ back i) ∙ ap (λ rows. rows ++ drop (y + 1) wanted) prefix ∙ take-append-drop (y + 1) wanted
 
   pub drawn : {c d : Seen} {next last : Pen} → ((picture : Picture) → Draws (spelling (Ed ToEnd)) c d next last picture (erased_page ToEnd (y, e) picture)) → Strokes 4 c d next last before wanted
@@ -83,5 +83,5 @@ page-erased {lines} {columns} {shown} {wanted} old_size new_size {y} {e} {blank}
     let left : picture_bytes (drop y shown) (drop y wanted) ≡ picture_bytes (line_of shown y ∷ drop (y + 1) shown) (line_of wanted y ∷ drop (y + 1) wanted) = λ i. picture_bytes (one i) (other i) in
     let rest = changed-below old_size new_size (y + 1) z (omega arith) last_line changed in
     let ready = k.strokes (with_prefix y wanted shown) (omega (arith, length-with_prefix y wanted shown same, old_size.height))
-        (with_prefix-at [] y wanted shown (omega (arith, old_size.height)) same) in
+    (with_prefix-at [] y wanted shown (omega (arith, old_size.height)) same) in
     Strokes-more (Strokes-then (Strokes-then h.strokes ready) (drawn old_size new_size inside below all_blank k.beyond k.inside k.blank draws)) (omega (arith, h.within, k.within, left, rest))
