@@ -15,7 +15,7 @@ module _ (sink : Ghosts Outlet) where
   pub record Makes (old : Surface) (call : Call) (answer : Answer) (new : Surface) : Type 0 where
     pub end : Result Reply Fault
     pub made : CallMade sink.seen sink.name old.screen call end new.screen
-    pub told : answer ≡ of_end end
+    pub answer_is : answer ≡ of_end end
 
   -- A closed handle stays closed, and an open one open.
   abbrev pub Called : Option Surface → Call → Answer → Option Surface → Type 0

@@ -13,7 +13,7 @@ use Rattle.capi.specs.Held.{IsBlank, pending}
 pub record OpenedBlank (lines columns : ℕ) (answer : Answer) (new : Option Surface) : Type 0 where
   pub screen : Surface
   pub allowed : new_refusal lines columns ≡ None
-  pub told : answer ≡ ok 0 0
+  pub answer_is : answer ≡ ok 0 0
   pub blank : IsBlank lines columns screen
   pub now : new ≡ Some screen
 
@@ -21,7 +21,7 @@ pub record OpenedBlank (lines columns : ℕ) (answer : Answer) (new : Option Sur
 pub record NotOpened (lines columns : ℕ) (old : Option Surface) (answer : Answer) (new : Option Surface) : Type 0 where
   pub refusal : Refusal
   pub why : (new_refusal lines columns ≡ Some refusal) ⊎ ((new_refusal lines columns ≡ None) × (refusal ≡ NoMemory))
-  pub told : answer ≡ of_end (Err (Refused refusal))
+  pub answer_is : answer ≡ of_end (Err (Refused refusal))
   pub same : new ≡ old
 
 abbrev pub Opened : ℕ → ℕ → Option Surface → Answer → Option Surface → Type 0

@@ -9,7 +9,7 @@ ghost use Rattle.capi.specs.Held.{IsBlank};
 ghost use Rattle.capi.specs.Lives.{Forgotten, Opened, Taken};
 ghost use Rattle.capi.specs.declared.surface.Surface.{Surface as TheSurface};
 
-use crate::answer::{Answer, refused};
+use crate::answer::{Answer, refusal_answer};
 use crate::surface::{Outlet, Surface};
 use desk::{Call, Refusal, Reply, Sink};
 use loose::Loose;
@@ -107,7 +107,7 @@ impl Handle {
                 self.put(alloc, surface);
                 Answer::of(Ok(Reply::Nothing))
             }
-            Err(refusal) => refused(refusal),
+            Err(refusal) => refusal_answer(refusal),
         }
     }
 

@@ -14,22 +14,22 @@ use Rattle.cell.specs.Grids.{rows, IsGrid}
 use Rattle.cell.proofs.GridLemmas.{HasLine-from_length, length-rows, length-line_of-rows, line_of-rows, line_end}
 
 module _ {A : Type 0} (none : A) (old piece : List A) (start : ℕ) (fits : start + length piece ≤ length old) where
-  front : length (take start old) ≡ start
-  front = length-take-le start old (omega (arith, fits))
+  prefix : length (take start old) ≡ start
+  prefix = length-take-le start old (omega (arith, fits))
 
   before : (n : ℕ) → n < start → get_or (splice old start (start + length piece) piece) n none ≡ get_or old n none
-  before n below = get_or-append (take start old) (piece ++ drop (start + length piece) old) none n (omega (arith, front)) ∙ get_or-take start old n none below
+  before n below = get_or-append (take start old) (piece ++ drop (start + length piece) old) none n (omega (arith, prefix)) ∙ get_or-take start old n none below
 
   within : (n : ℕ) → start ≤ n → n < start + length piece → get_or (splice old start (start + length piece) piece) n none ≡ get_or piece (n - start) none
   within n from to =
-      get_or-append_right (take start old) (piece ++ drop (start + length piece) old) n none (omega (arith, front))
-      ∙ ap (λ k. get_or (piece ++ drop (start + length piece) old) (n - k) none) front
+      get_or-append_right (take start old) (piece ++ drop (start + length piece) old) n none (omega (arith, prefix))
+      ∙ ap (λ k. get_or (piece ++ drop (start + length piece) old) (n - k) none) prefix
       ∙ get_or-append piece (drop (start + length piece) old) none (n - start) (omega arith)
 
-  behind : (n : ℕ) → start + length piece ≤ n → get_or (splice old start (start + length piece) piece) n none ≡ get_or old n none
-  behind n from =
-      get_or-append_right (take start old) (piece ++ drop (start + length piece) old) n none (omega (arith, front))
-      ∙ ap (λ k. get_or (piece ++ drop (start + length piece) old) (n - k) none) front
+  beyond : (n : ℕ) → start + length piece ≤ n → get_or (splice old start (start + length piece) piece) n none ≡ get_or old n none
+  beyond n from =
+      get_or-append_right (take start old) (piece ++ drop (start + length piece) old) n none (omega (arith, prefix))
+      ∙ ap (λ k. get_or (piece ++ drop (start + length piece) old) (n - k) none) prefix
       ∙ get_or-append_right piece (drop (start + length piece) old) (n - start) none (omega arith)
       ∙ get_or-drop (start + length piece) old (n - start - length piece) none
       ∙ ap (λ k. get_or old k none) (let e : start + length piece + (n - start - length piece) ≡ n = omega arith in e)
@@ -37,7 +37,7 @@ module _ {A : Type 0} (none : A) (old piece : List A) (start : ℕ) (fits : star
   pub length-splice : length (splice old start (start + length piece) piece) ≡ length old
   length-splice =
       length-append (take start old) (piece ++ drop (start + length piece) old)
-      ∙ omega (arith, front, length-append piece (drop (start + length piece) old), length-drop (start + length piece) old, fits)
+      ∙ omega (arith, prefix, length-append piece (drop (start + length piece) old), length-drop (start + length piece) old, fits)
 
 -- what a grid shows at a place
 
@@ -106,20 +106,20 @@ module _ {A : Type 0} (none : A) {Is : A → Type 0} (lines columns : ℕ) (cell
         | inl same ↦
             let line : v * columns ≡ y * columns = ap (λ k. k * columns) same in
             elim (cases_lt u x) [
-              | inl front ↦ before none cells piece (y * columns + x) (piece_end lines columns cells piece y x grid below fits) (v * columns + u) (omega (arith, line))
+              | inl prefix ↦ before none cells piece (y * columns + x) (piece_end lines columns cells piece y x grid below fits) (v * columns + u) (omega (arith, line))
                   ∙ sym (cond-false test inner outer (outside v u y x (length piece) (λ _ from to. omega arith)))
               | inr from ↦ elim (cases_lt u (x + length piece)) [
                 | inl to ↦ within none cells piece (y * columns + x) (piece_end lines columns cells piece y x grid below fits) (v * columns + u) (omega (arith, line)) (omega (arith, line))
                     ∙ ap (λ k. get_or piece k none) (let e : v * columns + u - (y * columns + x) ≡ u - x = omega (arith, line) in e)
                     ∙ sym (cond-true test inner outer (inside v u y x (length piece) same from to))
-                | inr past ↦ behind none cells piece (y * columns + x) (piece_end lines columns cells piece y x grid below fits) (v * columns + u) (omega (arith, line))
+                | inr past ↦ beyond none cells piece (y * columns + x) (piece_end lines columns cells piece y x grid below fits) (v * columns + u) (omega (arith, line))
                     ∙ sym (cond-false test inner outer (outside v u y x (length piece) (λ _ from to. omega arith)))
               ]
             ]
         | inr apart ↦ elim apart [
           | inl up ↦ before none cells piece (y * columns + x) (piece_end lines columns cells piece y x grid below fits) (v * columns + u) (omega (arith, line_end y columns v up))
               ∙ sym (cond-false test inner outer (outside v u y x (length piece) (λ e from to. omega arith)))
-          | inr down ↦ behind none cells piece (y * columns + x) (piece_end lines columns cells piece y x grid below fits) (v * columns + u) (omega (arith, line_end v columns y down, fits))
+          | inr down ↦ beyond none cells piece (y * columns + x) (piece_end lines columns cells piece y x grid below fits) (v * columns + u) (omega (arith, line_end v columns y down, fits))
               ∙ sym (cond-false test inner outer (outside v u y x (length piece) (λ e from to. omega arith)))
         ]
       ]

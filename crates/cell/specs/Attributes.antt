@@ -9,8 +9,8 @@ abbrev pub bits_of : Attr → ℕ
 bits_of attr = attr.0
 
 -- the six attributes of some bits, the others dropped
-abbrev pub known : ℕ → ℕ
-known bits = bit_and bits 0x3f
+abbrev pub valid_attributes : ℕ → ℕ
+valid_attributes bits = bit_and bits 0x3f
 
 -- the attributes of the first set that the second lacks
 abbrev pub without : ℕ → ℕ → ℕ

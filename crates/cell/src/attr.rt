@@ -1,7 +1,7 @@
 //! Sets of attributes.
 
 ghost use Rattle.std.specs.Prelude.{⊤, ◌≡◌, ◌<◌, [], ◌∷◌, codes};
-ghost use Rattle.cell.specs.Attributes.{bits_of, hex_digit, hex_digits, known};
+ghost use Rattle.cell.specs.Attributes.{bits_of, hex_digit, hex_digits, valid_attributes};
 
 use bitflags::{Flag, Flags, bitflag_items};
 
@@ -49,8 +49,8 @@ impl Attr {
     pub const NONE: Attr = Attr(0);
 
     /// The six attributes of the set, with other bits dropped.
-    pub fn known(self) -> Attr
-        ensures value { bits_of result ≡ known (bits_of self) }
+    pub fn valid_attributes(self) -> Attr
+        ensures value { bits_of result ≡ valid_attributes (bits_of self) }
         ensures of_the_six { bits_of result < 64 }
     {
         Attr(self.0 & 0x3f)
@@ -58,7 +58,7 @@ impl Attr {
 
     /// The six attributes as two hexadecimal digits in lower case, with other bits dropped.
     pub fn hex_digits(self) -> [u8; 2]
-        ensures digits { result ≡ hex_digits (known (bits_of self)) }
+        ensures digits { result ≡ hex_digits (valid_attributes (bits_of self)) }
         ensures all { bits_of self < 64 → result ≡ hex_digits (bits_of self) }
     {
         hex_digits(self.0 & 0x3f)

@@ -1,7 +1,7 @@
 //! A cell: a character with attributes and a colour pair.
 
 ghost use Rattle.std.specs.Prelude.{◌≡◌, ◌+◌, ◌*◌, ◌&&◌, ◌<◌, nat_le, if◌then◌else◌, true};
-ghost use Rattle.cell.specs.Attributes.{bits_of, known};
+ghost use Rattle.cell.specs.Attributes.{bits_of, valid_attributes};
 ghost use Rattle.cell.specs.Glyphs.{IsCell, is_printable, same_glyph};
 ghost use Rattle.std.specs.Cmp.{partial_equiv_from_equiv};
 ghost use Rattle.std.specs.List.{list_all};
@@ -60,10 +60,10 @@ impl Cell {
     /// The cell of a character from 32 to 126 and a pair up to `LAST_PAIR`, and none for others.
     pub fn new(ch: u8, attr: Attr, pair: u16) -> Option<Cell>
         ensures { result ≡ (if is_printable ch && nat_le pair LAST_PAIR
-            then Some (record { character = ch; attributes = known (bits_of attr); pair = pair }) else None) }
+            then Some (record { character = ch; attributes = valid_attributes (bits_of attr); pair = pair }) else None) }
     {
         match PairId::new(pair) {
-            Some(pair) if is_printable(ch) => Some(packed(ch, attr.known(), pair)),
+            Some(pair) if is_printable(ch) => Some(pack(ch, attr.valid_attributes(), pair)),
             _ => None,
         }
     }
@@ -72,7 +72,7 @@ impl Cell {
     pub fn with_pair(self, pair: PairId) -> Cell
         ensures { result ≡ record self { pair = pair } }
     {
-        packed(self.ch(), self.attr(), pair)
+        pack(self.ch(), self.attr(), pair)
     }
 
     /// The character.
@@ -109,7 +109,7 @@ impl Cell {
 }
 
 /// The cell of a printable character, some of the six attributes and a pair.
-fn packed(ch: u8, attr: Attr, pair: PairId) -> Cell
+fn pack(ch: u8, attr: Attr, pair: PairId) -> Cell
     requires character { is_printable ch ≡ true }
     requires attributes { bits_of attr < 64 }
     ensures { result ≡ record { character = ch; attributes = bits_of attr; pair = pair } }

@@ -1,7 +1,7 @@
 //! A shown cell: a character with a rendition.
 
 ghost use Rattle.std.specs.Prelude.{◌≡◌, ◌<◌, if◌then◌else◌, true};
-ghost use Rattle.cell.specs.Attributes.{bits_of, known};
+ghost use Rattle.cell.specs.Attributes.{bits_of, valid_attributes};
 ghost use Rattle.cell.specs.Glyphs.{is_printable};
 ghost use Rattle.cell.specs.Shown.{IsRendition, IsShown, rendition_with};
 ghost use Rattle.cell.specs.Differences.{same_rendition, same_shown};
@@ -62,12 +62,12 @@ impl Rendition {
 
     /// The six attributes of a set, in the colours of a pair.
     pub fn new(attrs: Attr, pair: ColourPair) -> Rendition
-        ensures value { result ≡ rendition_with pair (known (bits_of attrs)) }
+        ensures value { result ≡ rendition_with pair (valid_attributes (bits_of attrs)) }
         ensures sound { IsRendition result }
     {
         let colours = ColourBits::new(pair);
         Rendition {
-            bits: colours.bits() + u32::from(attrs.known().bits()) * 256,
+            bits: colours.bits() + u32::from(attrs.valid_attributes().bits()) * 256,
         }
     }
 

@@ -136,7 +136,7 @@ fn colours_are_numbered_from_0_to_7(rt: HostRuntime) -> Result<(), Fail> {
 #[test]
 fn bytes_are_spelled_in_hexadecimal_and_faults_by_name(rt: HostRuntime) {
     let all = Attr::from_bits_retain(0xff);
-    assert_eq!(rt; all.known().bits(), 0x3f);
+    assert_eq!(rt; all.valid_attributes().bits(), 0x3f);
     let spelled = [
         hex_digits(0xab),
         (Attr::BOLD | Attr::REVERSE).hex_digits(),

@@ -10,11 +10,11 @@ use Rattle.std.proofs.Math.Seq.{take-append-add}
 use Rattle.std.proofs.KnownBytes.{Appends-trans, Consumes-nil, Consumes-trans}
 use Rattle.std.specs.List.{All, flat_map, slice_split}
 use Rattle.std.specs.Io.KnownBytes.{Consumes}
-use Rattle.streams.specs.Counts.{counted, next_count}
+use Rattle.streams.specs.Counts.{count_after, next_count}
 use Rattle.streams.specs.Sinks.{Seen}
 use Rattle.streams.specs.Sources.{SourceSeen}
 use Rattle.script.specs.Characters.{is_newline}
-use Rattle.script.specs.Readings.{next_number, said_by_line}
+use Rattle.script.specs.Readings.{next_number, parse_line}
 use Rattle.script.specs.declared.bytes.LineEnd.{LineEnd}
 use Rattle.script.specs.declared.bytes.LineEnd.TheVariants.{Newline, ScriptEnd, ReadFailed}
 use Rattle.script.specs.declared.fault.TextFault.TheVariants.{LineTooLong}
@@ -25,7 +25,7 @@ use Rattle.commands.specs.Written.{IsNotWritten, WritingEnds}
 use Rattle.commands.specs.declared.check.Report.{Report}
 use Rattle.commands.specs.steps.Checking.{IsReported, ReportsMore, ReportsScript, finding_of_read}
 use Rattle.commands.specs.steps.Putting.{PuttingEnds}
-use Rattle.commands.proofs.PutLemmas.{cut_before, not_put, nothing_put, put_behind}
+use Rattle.commands.proofs.PutLemmas.{cut_before, not_put, nothing_put, put_after}
 
 -- ---- lines with a finding
 
@@ -51,7 +51,7 @@ pub line_reported : (first old new : Seen) (before : Report) (lines : List (List
     → before.is_written ≡ true → faulty ≡ next_number before.faulty → PuttingEnds is_put old new text
     → IsReported first new (record { faulty = faulty; is_written = is_put }) (lines ++ text ∷ [])
 line_reported first old new before lines text faulty is_put r written more p = record {
-  put = rw (flat_more lines text) (put_behind _ _ _ _ _ _ _ r.put written p);
+  put = rw (flat_more lines text) (put_after _ _ _ _ _ _ _ r.put written p);
   faulty = more ∙ ap next_number r.faulty ∙ count_more lines text;
 }
 
@@ -68,13 +68,13 @@ no_newlines : (line : List ℕ) → HasNoNewline line → All (λ b. is_newline 
 no_newlines line h = λ k d lt. false_from_ne_true _ (λ e. both_ways _ h (list_any_at is_newline line k d lt e))
 
 line_first : (failed : Bool) (n : ℕ) (line : List ℕ) (pieces : List (List ℕ)) → 0 < length pieces
-    → findings_from failed n (line ∷ pieces) ≡ finding_of n line (said_by_line line) ++ findings_from failed (next_number n) pieces
+    → findings_from failed n (line ∷ pieces) ≡ finding_of n line (parse_line line) ++ findings_from failed (next_number n) pieces
 line_first failed n line [] some = absurd (omega arith)
 line_first true n line (p ∷ ps) some = refl
 line_first false n line (p ∷ ps) some = refl
 
 line_of_script : (failed : Bool) (n : ℕ) (line left : List ℕ) → HasNoNewline line
-    → findings_from failed n (slice_split is_newline (line ++ 10 ∷ left)) ≡ finding_of n line (said_by_line line) ++ findings_from failed (next_number n) (slice_split is_newline left)
+    → findings_from failed n (slice_split is_newline (line ++ 10 ∷ left)) ≡ finding_of n line (parse_line line) ++ findings_from failed (next_number n) (slice_split is_newline left)
 line_of_script failed n line left h =
     ap (findings_from failed n) (slice_split_at is_newline line 10 left (no_newlines line h) refl)
     ∙ line_first failed n line (slice_split is_newline left) (omega (arith, length-slice_split is_newline left))
@@ -85,20 +85,20 @@ long_test line h = grind (arith, nat_tests)
 short_test : (line : List ℕ) → length line ≤ LONGEST_LINE → nat_lt LONGEST_LINE (length line) ≡ false
 short_test line h = grind (arith, nat_tests)
 
-long_line : (line : List ℕ) → LONGEST_LINE < length line → said_by_line line ≡ Err LineTooLong
+long_line : (line : List ℕ) → LONGEST_LINE < length line → parse_line line ≡ Err LineTooLong
 long_line line h = rw (long_test line h) refl
 
 -- the finding of a line, kept or not, is by what it says
-told_is : (n : ℕ) (line kept : List ℕ) (is_kept : Bool) (end : LineEnd) → IsKept is_kept line kept → end_failed end ≡ false
-    → finding_of_read n kept is_kept end ≡ finding_of n line (said_by_line line)
-told_is n line kept true Newline k e = ap (λ l. finding_of n l (said_by_line l)) k.0
-told_is n line kept true ScriptEnd k e = ap (λ l. finding_of n l (said_by_line l)) k.0
-told_is n line kept is_kept ReadFailed k e = cc
-told_is n line kept false end k e = sym (ap (finding_of n line) (long_line line k))
+found_is : (n : ℕ) (line kept : List ℕ) (is_kept : Bool) (end : LineEnd) → IsKept is_kept line kept → end_failed end ≡ false
+    → finding_of_read n kept is_kept end ≡ finding_of n line (parse_line line)
+found_is n line kept true Newline k e = ap (λ l. finding_of n l (parse_line l)) k.0
+found_is n line kept true ScriptEnd k e = ap (λ l. finding_of n l (parse_line l)) k.0
+found_is n line kept is_kept ReadFailed k e = cc
+found_is n line kept false end k e = sym (ap (finding_of n line) (long_line line k))
 
-told_is_rest : (n : ℕ) (line kept : List ℕ) (is_kept : Bool) → IsKept is_kept line kept → finding_of_read n kept is_kept ReadFailed ≡ finding_of_rest n line
-told_is_rest n line kept true k = rw (short_test line k.1) refl
-told_is_rest n line kept false k = rw (long_test line k) refl
+found_is_rest : (n : ℕ) (line kept : List ℕ) (is_kept : Bool) → IsKept is_kept line kept → finding_of_read n kept is_kept ReadFailed ≡ finding_of_rest n line
+found_is_rest n line kept true k = rw (short_test line k.1) refl
+found_is_rest n line kept false k = rw (long_test line k) refl
 
 -- The findings of the lines of a script that were read, and what is left of it.
 pub record Checking (input rest : SourceSeen) (out after : Seen) (unused : List ℕ) (number : ℕ) (report : Report) : Type 0 where
@@ -139,14 +139,14 @@ pub checking_next : (input r1 r2 : SourceSeen) (out o1 o2 : Seen) (unused left k
     → ReportsMore o1 o2 before after (finding_of_read n kept is_kept end) → Checking input r2 out o2 left (next_number n) after
 checking_next input r1 r2 out o1 o2 unused left kept n before after is_kept end s r k is reading more =
     let all = newline_ends end (unused ++ r.bytes) r.line left is r.ends in
-    let same = told_is n r.line kept is_kept end k (ap end_failed is) in
+    let same = found_is n r.line kept is_kept end k (ap end_failed is) in
     record {
       text = s.text ++ r.bytes;
       lines = s.lines ++ finding_of_read n kept is_kept end;
       read = Consumes-trans _ _ _ _ _ s.read r.read;
       met = reading.ended ∙ ap (λ e. met_end e || r1.met_end) is ∙ s.met;
       read_once = λ unmet. reading.past (s.met ∙ unmet) ∙ s.read_once unmet;
-      failures = reading.failures ∙ ap (λ e. counted (end_failed e) r1.failures) is ∙ s.failures;
+      failures = reading.failures ∙ ap (λ e. count_after (end_failed e) r1.failures) is ∙ s.failures;
       reported = more out s.lines s.reported;
       says = λ failed m.
           ap (findings failed) (append_assoc s.text r.bytes m) ∙ s.says failed (r.bytes ++ m)
@@ -176,35 +176,35 @@ checked_all input r1 r2 out o1 o2 unused left kept n before after is_kept end s 
     s.says false r.bytes
     ∙ ap (λ l. s.lines ++ findings_from false n (slice_split is_newline l)) all
     ∙ ap (λ ps. s.lines ++ findings_from false n ps) (slice_split_none is_newline r.line (no_newlines r.line r.no_newline))
-    ∙ ap (λ l. s.lines ++ l) (append-nil (finding_of n r.line (said_by_line r.line)) ∙ sym (told_is n r.line kept is_kept end k (ap end_failed is))) in
+    ∙ ap (λ l. s.lines ++ l) (append-nil (finding_of n r.line (parse_line r.line)) ∙ sym (found_is n r.line kept is_kept end k (ap end_failed is))) in
     record {
       text = s.text ++ r.bytes;
       reads = record {
         read = Consumes-trans _ _ _ _ _ s.read r.read;
         whole = (reading.ended ∙ ap (λ e. met_end e || r1.met_end) is, r.at_end (ap met_end is));
-        failures = reading.failures ∙ ap (λ e. counted (end_failed e) r1.failures) is ∙ s.failures;
+        failures = reading.failures ∙ ap (λ e. count_after (end_failed e) r1.failures) is ∙ s.failures;
         read_once = λ unmet. reading.past (s.met ∙ unmet) ∙ s.read_once unmet;
       };
       reported = subst (IsReported out o2 after) (sym says) (more out s.lines s.reported);
     }
 
-pub checked_front : (input r1 r2 : SourceSeen) (out o1 o2 : Seen) (unused left kept : List ℕ) (n : ℕ) (before after : Report) (is_kept : Bool) (end : LineEnd)
+pub checked_prefix : (input r1 r2 : SourceSeen) (out o1 o2 : Seen) (unused left kept : List ℕ) (n : ℕ) (before after : Report) (is_kept : Bool) (end : LineEnd)
     → Checking input r1 out o1 unused n before → (r : ReadsToEnd r1 r2 unused left end) → IsKept is_kept r.line kept → end ≡ ReadFailed
     → LineReadingEnds r1 r2 unused left end
     → ReportsMore o1 o2 before after (finding_of_read n kept is_kept end) → ReportsScript input r2 out o2 false after
-checked_front input r1 r2 out o1 o2 unused left kept n before after is_kept end s r k is reading more =
+checked_prefix input r1 r2 out o1 o2 unused left kept n before after is_kept end s r k is reading more =
     let all = failed_is_all end (unused ++ r.bytes) r.line left is r.ends in
     let says : findings true (s.text ++ r.bytes) ≡ s.lines ++ finding_of_read n kept is_kept end =
     s.says true r.bytes
     ∙ ap (λ l. s.lines ++ findings_from true n (slice_split is_newline l)) all
     ∙ ap (λ ps. s.lines ++ findings_from true n ps) (slice_split_none is_newline r.line (no_newlines r.line r.no_newline))
-    ∙ ap (λ l. s.lines ++ l) (sym (told_is_rest n r.line kept is_kept k) ∙ ap (finding_of_read n kept is_kept) (sym is)) in
+    ∙ ap (λ l. s.lines ++ l) (sym (found_is_rest n r.line kept is_kept k) ∙ ap (finding_of_read n kept is_kept) (sym is)) in
     record {
       text = s.text ++ r.bytes;
       reads = record {
         read = Consumes-trans _ _ _ _ _ s.read r.read;
         whole = tt;
-        failures = reading.failures ∙ ap (λ e. counted (end_failed e) r1.failures) is ∙ ap (counted true) s.failures;
+        failures = reading.failures ∙ ap (λ e. count_after (end_failed e) r1.failures) is ∙ ap (count_after true) s.failures;
         read_once = λ unmet. reading.past (s.met ∙ unmet) ∙ s.read_once unmet;
       };
       reported = subst (IsReported out o2 after) (sym says) (more out s.lines s.reported);
@@ -212,29 +212,29 @@ checked_front input r1 r2 out o1 o2 unused left kept n before after is_kept end 
 
 -- ---- the end of a report
 
-pub reported_fails : (first old : Seen) (before : Report) (lines : List (List ℕ)) (behind : List ℕ) → IsReported first old before lines → before.is_written ≡ false
-    → IsNotWritten first old (flat lines ++ behind)
-reported_fails first old before lines behind r written =
-    not_put first old (flat lines ++ behind) false (cut_before _ _ _ _ _ r.put written) refl
+pub reported_fails : (first old : Seen) (before : Report) (lines : List (List ℕ)) (after : List ℕ) → IsReported first old before lines → before.is_written ≡ false
+    → IsNotWritten first old (flat lines ++ after)
+reported_fails first old before lines after r written =
+    not_put first old (flat lines ++ after) false (cut_before _ _ _ _ _ r.put written) refl
 
 same_end : (a s b : ℕ) → (s == b) ≡ (a + s == a + b)
 same_end a s b = grind (arith, nat_tests)
 
-pub reported_ends : (first old new : Seen) (before : Report) (lines : List (List ℕ)) (behind : List ℕ) (written : Bool) → IsReported first old before lines
-    → before.is_written ≡ true → WritingEnds written old new behind → WritingEnds written first new (flat lines ++ behind)
-reported_ends first old new before lines behind true r written h = record {
+pub reported_ends : (first old new : Seen) (before : Report) (lines : List (List ℕ)) (after : List ℕ) (written : Bool) → IsReported first old before lines
+    → before.is_written ≡ true → WritingEnds written old new after → WritingEnds written first new (flat lines ++ after)
+reported_ends first old new before lines after true r written h = record {
   taken = Appends-trans _ _ _ _ _ (r.put.taken written) h.taken;
-  no_failure = h.no_failure ∙ r.put.failures ∙ ap (λ b. counted (not b) first.failures) written;
+  no_failure = h.no_failure ∙ r.put.failures ∙ ap (λ b. count_after (not b) first.failures) written;
   flushes = h.flushes ∙ ap next_count r.put.flushes;
   flushed = h.flushed;
 }
-reported_ends first old new before lines behind false r written h = record {
+reported_ends first old new before lines after false r written h = record {
   sent = length (flat lines) + h.sent;
-  within = omega (arith, h.within, length-append (flat lines) behind);
-  taken = rw (take-append-add (flat lines) behind h.sent) (Appends-trans _ _ _ _ _ (r.put.taken written) h.taken);
-  failure = h.failure ∙ ap next_count (r.put.failures ∙ ap (λ b. counted (not b) first.failures) written);
-  flushes = h.flushes ∙ ap (counted (h.sent == length behind)) r.put.flushes
-      ∙ ap (λ b. counted b first.flushes) (same_end (length (flat lines)) h.sent (length behind) ∙ ap (λ n. length (flat lines) + h.sent == n) (sym (length-append (flat lines) behind)));
+  within = omega (arith, h.within, length-append (flat lines) after);
+  taken = rw (take-append-add (flat lines) after h.sent) (Appends-trans _ _ _ _ _ (r.put.taken written) h.taken);
+  failure = h.failure ∙ ap next_count (r.put.failures ∙ ap (λ b. count_after (not b) first.failures) written);
+  flushes = h.flushes ∙ ap (count_after (h.sent == length after)) r.put.flushes
+      ∙ ap (λ b. count_after b first.flushes) (same_end (length (flat lines)) h.sent (length after) ∙ ap (λ n. length (flat lines) + h.sent == n) (sym (length-append (flat lines) after)));
 }
 
 -- with how many lines after them

@@ -10,11 +10,11 @@ abbrev faults : List Text → Kinds
 faults words = fault_of curspan (codes "curspan" ∷ words)
 
 -- the subcommand and the texts of its options
-abbrev Asked : Type 0
-Asked = Option (Text × Option Text × Option Text)
+abbrev Options : Type 0
+Options = Option (Text × Option Text × Option Text)
 
-abbrev asked : List Text → Asked
-asked words = option_map (λ (p : Text × List Row). (p.0, one_of (codes "lines") p.1, one_of (codes "cols") p.1)) (subcommand_of curspan (codes "curspan" ∷ words))
+abbrev options_in : List Text → Options
+options_in words = option_map (λ (p : Text × List Row). (p.0, one_of (codes "lines") p.1, one_of (codes "cols") p.1)) (subcommand_of curspan (codes "curspan" ∷ words))
 
 four_by_ten : List Text
 four_by_ten = codes "run" ∷ codes "--lines" ∷ codes "4" ∷ codes "--cols" ∷ codes "10" ∷ []
@@ -23,11 +23,11 @@ four_by_ten_is_taken : faults four_by_ten ≡ []
 unfolding clap_on_literals four_by_ten
 four_by_ten_is_taken = refl
 
-four_by_ten_is_asked : asked four_by_ten ≡ Some (codes "run", Some (codes "4"), Some (codes "10"))
+options_in-four_by_ten : options_in four_by_ten ≡ Some (codes "run", Some (codes "4"), Some (codes "10"))
 unfolding clap_on_literals four_by_ten
-four_by_ten_is_asked = refl
+options_in-four_by_ten = refl
 
-with_equals_signs : asked (codes "run" ∷ codes "--cols=999" ∷ codes "--lines=1" ∷ []) ≡ Some (codes "run", Some (codes "1"), Some (codes "999"))
+with_equals_signs : options_in (codes "run" ∷ codes "--cols=999" ∷ codes "--lines=1" ∷ []) ≡ Some (codes "run", Some (codes "1"), Some (codes "999"))
 unfolding clap_on_literals
 with_equals_signs = refl
 

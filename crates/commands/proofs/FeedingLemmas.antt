@@ -6,27 +6,27 @@ use Rattle.std.proofs.KnownBytes.{Consumes-nil, Consumes-trans}
 use Rattle.std.specs.Io.KnownBytes.{Consumes}
 use Rattle.streams.specs.Sources.{SourceSeen}
 use Rattle.streams.specs.Counts.{moved_nothing}
-use Rattle.ecma.specs.Standing.{Follows, Reader, StandsAfter}
+use Rattle.ecma.specs.Readers.{Follows, Reader, HasRead}
 
 -- a prefix of the stream was read
 pub record IsPartlyFed (old new : SourceSeen) (before after : Reader) : Type 0 where
-  pub front : List ℕ
-  pub read : Consumes old.left new.left front
-  pub follows : Follows front before after
+  pub prefix : List ℕ
+  pub read : Consumes old.left new.left prefix
+  pub follows : Follows prefix before after
 
 pub none_fed : (old : SourceSeen) (before : Reader) → IsPartlyFed old old before before
 none_fed old before = record {
-  front = [];
+  prefix = [];
   read = Consumes-nil old.left;
-  follows = λ stream first stands. subst (λ s. StandsAfter s first before) (sym (append-nil stream)) stands;
+  follows = λ stream first read. subst (λ s. HasRead s first before) (sym (append-nil stream)) read;
 }
 
 pub more_fed : (old mid new : SourceSeen) (before between after : Reader) (piece : List ℕ) → IsPartlyFed old mid before between
     → Consumes mid.left new.left piece → Follows piece between after → IsPartlyFed old new before after
 more_fed old mid new before between after piece fed read follows = record {
-  front = fed.front ++ piece;
+  prefix = fed.prefix ++ piece;
   read = Consumes-trans _ _ _ _ _ fed.read read;
-  follows = λ stream first stands. subst (λ s. StandsAfter s first after) (append_assoc stream fed.front piece) (follows (stream ++ fed.front) first (fed.follows stream first stands));
+  follows = λ stream first read. subst (λ s. HasRead s first after) (append_assoc stream fed.prefix piece) (follows (stream ++ fed.prefix) first (fed.follows stream first read));
 }
 
 -- ---- a read that gave some bytes

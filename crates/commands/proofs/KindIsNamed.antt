@@ -10,8 +10,8 @@ use Rattle.clap.specs.Walk.{Held, Names, Outcome, Rule, Step, Text, Waiting, Wal
 use Rattle.clap.specs.Walk.{positional, refused, short_or_plain, subcommand, subcommand_met, subcommand_or_other, to_positional, trailing, value, waits, walked, walked_from, word_met}
 use Rattle.clap.specs.declared.error.kind.ErrorKind.TheVariants as kind
 use Rattle.commands.specs.CommandLine.{check_text, kind_text}
-use Rattle.commands.specs.declared.asked.Kind.{Kind}
-use Rattle.commands.specs.declared.asked.Kind.TheVariants.{Run, Paint, Show}
+use Rattle.commands.specs.declared.requests.Kind.{Kind}
+use Rattle.commands.specs.declared.requests.Kind.TheVariants.{Run, Paint, Show}
 use Rattle.commands.proofs.KeptRows.{both_none}
 
 -- the subcommand that a word was

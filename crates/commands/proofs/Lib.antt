@@ -6,8 +6,8 @@ pub mod JobLemmas
 pub mod KeptRows
 -- A text is written piece by piece; for `print`, `put`, `put_lines` and others
 pub mod PutLemmas
--- The spelling of a text is written piece by piece; for `put_spelled`
-pub mod SpelledLemmas
+-- A text with its bytes escaped is written piece by piece; for `put_escaped`
+pub mod EscapeLemmas
 -- Where clap refuses nothing of the words, the subcommand at which its walk stops is one of the program's; for `TakenLemmas`
 pub mod KindIsNamed
 -- Where clap refuses nothing of the words, they name a subcommand and give both numbers; for `job`
@@ -18,5 +18,5 @@ pub mod PrintLemmas
 pub mod PictureTexts
 -- A stream is read into a terminal piece by piece; for `read_stream`
 pub mod FeedingLemmas
--- The findings of a script, a line at a time; for `end_report`, `tell`, `tell_lines`
+-- The findings of a script, a line at a time; for `end_report`, `report_text`, `report_lines`
 pub mod CheckLemmas

@@ -6,33 +6,33 @@ use Rattle.std.proofs.Math.Seq.{take-append-add, take-length}
 use Rattle.std.proofs.KnownBytes.{Appends-nil, Appends-trans}
 use Rattle.std.specs.Prelude.{is_err, is_ok}
 use Rattle.std.specs.Io.KnownBytes.{Appends, Keeps}
-use Rattle.streams.specs.Counts.{counted, next_count}
+use Rattle.streams.specs.Counts.{count_after, next_count}
 use Rattle.streams.specs.Sinks.{Seen, flushed_after_flush}
 use Rattle.streams.proofs.Sends.{Appends-keeps, cut-unflushed, whole-flushed}
 use Rattle.streams.specs.Sending.{Sends}
 use Rattle.streams.specs.declared.sending.WriteFault.{WriteFault}
-use Rattle.commands.specs.Written.{IsNotWritten, IsTold, TakesFront, WritingEnds}
+use Rattle.commands.specs.Written.{IsNotWritten, TakesPrefix, TriesToLog, WritingEnds}
 use Rattle.commands.specs.steps.Putting.{PuttingEnds}
 
 -- a prefix of a text was written, and the rest wasn't yet
 pub record IsPartlyPut (old new : Seen) (text rest : List ℕ) : Type 0 where
-  pub front : List ℕ
-  pub whole : text ≡ front ++ rest
-  pub taken : Appends old.taken new.taken front
+  pub prefix : List ℕ
+  pub whole : text ≡ prefix ++ rest
+  pub taken : Appends old.taken new.taken prefix
   pub failures : new.failures ≡ old.failures
   pub flushes : new.flushes ≡ old.flushes
 
 pub none_put : (old : Seen) (text : List ℕ) → IsPartlyPut old old text text
-none_put old text = record { front = []; whole = refl; taken = Appends-nil old.taken; failures = refl; flushes = refl }
+none_put old text = record { prefix = []; whole = refl; taken = Appends-nil old.taken; failures = refl; flushes = refl }
 
 cut_rest : (rest piece after : List ℕ) (at : ℕ) → piece ≡ take at rest → after ≡ drop at rest → rest ≡ piece ++ after
-cut_rest rest piece after at front back = sym (ap₂ ◌++◌ front back ∙ take-append-drop at rest)
+cut_rest rest piece after at prefix back = sym (ap₂ ◌++◌ prefix back ∙ take-append-drop at rest)
 
 pub more_put : (old mid new : Seen) (text rest piece after : List ℕ) (at n : ℕ) → IsPartlyPut old mid text rest → Sends mid new 0 piece (Ok n)
     → piece ≡ take at rest → after ≡ drop at rest → IsPartlyPut old new text after
-more_put old mid new text rest piece after at n p s front back = record {
-  front = p.front ++ piece;
-  whole = p.whole ∙ ap (λ l. p.front ++ l) (cut_rest rest piece after at front back) ∙ sym (append_assoc p.front piece after);
+more_put old mid new text rest piece after at n p s prefix back = record {
+  prefix = p.prefix ++ piece;
+  whole = p.whole ∙ ap (λ l. p.prefix ++ l) (cut_rest rest piece after at prefix back) ∙ sym (append_assoc p.prefix piece after);
   taken = Appends-trans _ _ _ _ _ p.taken s.ends.1;
   failures = s.ends.2 ∙ p.failures;
   flushes = s.flushes ∙ p.flushes;
@@ -40,7 +40,7 @@ more_put old mid new text rest piece after at n p s front back = record {
 
 pub all_put : (old new : Seen) (text rest : List ℕ) → IsPartlyPut old new text rest → rest ≡ [] → PuttingEnds true old new text
 all_put old new text rest p e = record {
-  taken = λ put. subst (Appends old.taken new.taken) (sym (p.whole ∙ ap (λ l. p.front ++ l) e ∙ append-nil p.front)) p.taken;
+  taken = λ put. subst (Appends old.taken new.taken) (sym (p.whole ∙ ap (λ l. p.prefix ++ l) e ∙ append-nil p.prefix)) p.taken;
   cut = λ e. cc;
   flushes = p.flushes;
   failures = p.failures;
@@ -49,16 +49,16 @@ all_put old new text rest p e = record {
 -- a write failed
 pub cut_put : (old mid new : Seen) (text rest piece after : List ℕ) (at : ℕ) (fault : WriteFault) → IsPartlyPut old mid text rest → Sends mid new 0 piece (Err fault)
     → piece ≡ take at rest → after ≡ drop at rest → PuttingEnds false old new text
-cut_put old mid new text rest piece after at fault p s front back =
-    let whole : text ≡ p.front ++ (piece ++ after) = p.whole ∙ ap (λ l. p.front ++ l) (cut_rest rest piece after at front back) in
+cut_put old mid new text rest piece after at fault p s prefix back =
+    let whole : text ≡ p.prefix ++ (piece ++ after) = p.whole ∙ ap (λ l. p.prefix ++ l) (cut_rest rest piece after at prefix back) in
     let short : s.ends.0 ≤ length piece = omega (arith, s.ends.1) in
-    let taken : take (length p.front + s.ends.0) text ≡ p.front ++ take s.ends.0 piece =
-    ap (take (length p.front + s.ends.0)) whole ∙ take-append-add p.front (piece ++ after) s.ends.0 ∙ ap (λ l. p.front ++ l) (take-append-le s.ends.0 piece after short) in
+    let taken : take (length p.prefix + s.ends.0) text ≡ p.prefix ++ take s.ends.0 piece =
+    ap (take (length p.prefix + s.ends.0)) whole ∙ take-append-add p.prefix (piece ++ after) s.ends.0 ∙ ap (λ l. p.prefix ++ l) (take-append-le s.ends.0 piece after short) in
     record {
       taken = λ e. cc;
       cut = λ e. record {
-        sent = length p.front + s.ends.0;
-        within = rw whole (omega (arith, s.ends.1, length-append p.front (piece ++ after), length-append piece after));
+        sent = length p.prefix + s.ends.0;
+        within = rw whole (omega (arith, s.ends.1, length-append p.prefix (piece ++ after), length-append piece after));
         taken = subst (Appends old.taken new.taken) (sym taken) (Appends-trans _ _ _ _ _ p.taken s.ends.3);
       };
       flushes = s.flushes ∙ p.flushes;
@@ -69,70 +69,70 @@ cut_put old mid new text rest piece after at fault p s front back =
 
 pub not_put : (old new : Seen) (text : List ℕ) (is_put : Bool) → PuttingEnds is_put old new text → is_put ≡ false → IsNotWritten old new text
 not_put old new text is_put p is =
-    let front = p.cut is in
+    let prefix = p.cut is in
     record {
-      sent = front.sent;
-      within = omega (arith, front.within);
-      taken = front.taken;
-      failure = p.failures ∙ ap (λ b. counted (not b) old.failures) is;
-      flushes = p.flushes ∙ sym (cut-unflushed front.sent text old.flushes front.within);
+      sent = prefix.sent;
+      within = omega (arith, prefix.within);
+      taken = prefix.taken;
+      failure = p.failures ∙ ap (λ b. count_after (not b) old.failures) is;
+      flushes = p.flushes ∙ sym (cut-unflushed prefix.sent text old.flushes prefix.within);
     }
 
-pub flushed_behind : {T E : Type 0} (old mid new : Seen) (text : List ℕ) (is_put : Bool) (r : Result T E) → PuttingEnds is_put old mid text → is_put ≡ true
-    → Keeps mid.taken new.taken → new.failures ≡ counted (is_err r) mid.failures → new.flushes ≡ next_count mid.flushes
+pub flushed_after : {T E : Type 0} (old mid new : Seen) (text : List ℕ) (is_put : Bool) (r : Result T E) → PuttingEnds is_put old mid text → is_put ≡ true
+    → Keeps mid.taken new.taken → new.failures ≡ count_after (is_err r) mid.failures → new.flushes ≡ next_count mid.flushes
     → new.flushed ≡ flushed_after_flush mid.flushed r → WritingEnds (is_ok r) old new text
-flushed_behind old mid new text is_put (Ok x) p is kept failure flush flushed = record {
+flushed_after old mid new text is_put (Ok x) p is kept failure flush flushed = record {
   taken = Appends-keeps old.taken mid.taken new.taken text (p.taken is) kept;
-  no_failure = failure ∙ p.failures ∙ ap (λ b. counted (not b) old.failures) is;
+  no_failure = failure ∙ p.failures ∙ ap (λ b. count_after (not b) old.failures) is;
   flushes = flush ∙ ap next_count p.flushes;
   flushed = flushed;
 }
-flushed_behind old mid new text is_put (Err e) p is kept failure flush flushed = record {
+flushed_after old mid new text is_put (Err e) p is kept failure flush flushed = record {
   sent = length text;
   within = omega arith;
   taken = rw (take-length text) (Appends-keeps old.taken mid.taken new.taken text (p.taken is) kept);
-  failure = failure ∙ ap next_count (p.failures ∙ ap (λ b. counted (not b) old.failures) is);
+  failure = failure ∙ ap next_count (p.failures ∙ ap (λ b. count_after (not b) old.failures) is);
   flushes = flush ∙ ap next_count p.flushes ∙ sym (whole-flushed (length text) text old.flushes refl);
 }
 
-pub told : (old new : Seen) (text : List ℕ) (written : Bool) → WritingEnds written old new text → IsTold old new text
-told old new text true h = inl h
-told old new text false h = inr h
+pub tries_to_log : (old new : Seen) (text : List ℕ) (written : Bool) → WritingEnds written old new text → TriesToLog old new text
+tries_to_log old new text true h = inl h
+tries_to_log old new text false h = inr h
 
 -- ---- one of several texts
 
-front_behind : (old mid new : Seen) (front text : List ℕ) → Appends old.taken mid.taken front → TakesFront mid new text → TakesFront old new (front ++ text)
-front_behind old mid new front text before h = record {
-  sent = length front + h.sent;
-  within = omega (arith, h.within, length-append front text);
-  taken = rw (take-append-add front text h.sent) (Appends-trans _ _ _ _ _ before h.taken);
+prefix_then : (old mid new : Seen) (prefix text : List ℕ) → Appends old.taken mid.taken prefix → TakesPrefix mid new text → TakesPrefix old new (prefix ++ text)
+prefix_then old mid new prefix text before h = record {
+  sent = length prefix + h.sent;
+  within = omega (arith, h.within, length-append prefix text);
+  taken = rw (take-append-add prefix text h.sent) (Appends-trans _ _ _ _ _ before h.taken);
 }
 
-front_before : (old new : Seen) (text behind : List ℕ) → TakesFront old new text → TakesFront old new (text ++ behind)
-front_before old new text behind h = record {
+prefix_of : (old new : Seen) (text after : List ℕ) → TakesPrefix old new text → TakesPrefix old new (text ++ after)
+prefix_of old new text after h = record {
   sent = h.sent;
-  within = omega (arith, h.within, length-append text behind);
-  taken = rw (take-append-le h.sent text behind (omega (arith, h.within))) h.taken;
+  within = omega (arith, h.within, length-append text after);
+  taken = rw (take-append-le h.sent text after (omega (arith, h.within))) h.taken;
 }
 
 pub nothing_put : (old : Seen) → PuttingEnds true old old []
 nothing_put old = record { taken = λ e. Appends-nil old.taken; cut = λ e. cc; flushes = refl; failures = refl }
 
 -- what was written after another text, all of it
-pub put_behind : (old mid new : Seen) (front text : List ℕ) (is_put written : Bool) → PuttingEnds is_put old mid front → is_put ≡ true → PuttingEnds written mid new text
-    → PuttingEnds written old new (front ++ text)
-put_behind old mid new front text is_put written before is p = record {
+pub put_after : (old mid new : Seen) (prefix text : List ℕ) (is_put written : Bool) → PuttingEnds is_put old mid prefix → is_put ≡ true → PuttingEnds written mid new text
+    → PuttingEnds written old new (prefix ++ text)
+put_after old mid new prefix text is_put written before is p = record {
   taken = λ e. Appends-trans _ _ _ _ _ (before.taken is) (p.taken e);
-  cut = λ e. front_behind _ _ _ _ _ (before.taken is) (p.cut e);
+  cut = λ e. prefix_then _ _ _ _ _ (before.taken is) (p.cut e);
   flushes = p.flushes ∙ before.flushes;
-  failures = p.failures ∙ ap (counted (not written)) (before.failures ∙ ap (λ b. counted (not b) old.failures) is);
+  failures = p.failures ∙ ap (count_after (not written)) (before.failures ∙ ap (λ b. count_after (not b) old.failures) is);
 }
 
 -- a text that was cut, and what was to come after it
-pub cut_before : (old new : Seen) (text behind : List ℕ) (is_put : Bool) → PuttingEnds is_put old new text → is_put ≡ false → PuttingEnds false old new (text ++ behind)
-cut_before old new text behind is_put p is = record {
+pub cut_before : (old new : Seen) (text after : List ℕ) (is_put : Bool) → PuttingEnds is_put old new text → is_put ≡ false → PuttingEnds false old new (text ++ after)
+cut_before old new text after is_put p is = record {
   taken = λ e. cc;
-  cut = λ e. front_before _ _ _ _ (p.cut is);
+  cut = λ e. prefix_of _ _ _ _ (p.cut is);
   flushes = p.flushes;
-  failures = p.failures ∙ ap (λ b. counted (not b) old.failures) is;
+  failures = p.failures ∙ ap (λ b. count_after (not b) old.failures) is;
 }

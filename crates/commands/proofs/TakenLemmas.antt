@@ -22,9 +22,9 @@ use Rattle.clap.specs.Words.{subcommand_of}
 use Rattle.clap.specs.declared.error.kind.ErrorKind.TheVariants as kind
 use Rattle.clap.proofs.ValueTestLemmas.{accepts-Accepts}
 use Rattle.commands.specs.CommandLine.{Asks, AsksCheckIn, AsksIn, IsNumber, IsSize, IsTaken, ReadsNumber, check_text, curspan, kind_text, mode}
-use Rattle.commands.specs.declared.asked.Job.{Job}
-use Rattle.commands.specs.declared.asked.Kind.{Kind}
-use Rattle.commands.specs.declared.asked.Kind.TheVariants.{Run, Paint, Show}
+use Rattle.commands.specs.declared.requests.Job.{Job}
+use Rattle.commands.specs.declared.requests.Kind.{Kind}
+use Rattle.commands.specs.declared.requests.Kind.TheVariants.{Run, Paint, Show}
 use Rattle.commands.proofs.KeptRows.{HasSizes, IsKnownRule, IsSizeRow, found, level_keeps, level_passes, size_parser}
 use Rattle.commands.proofs.KindIsNamed.{StopsAtKind, program_names, walk_stops}
 
@@ -168,8 +168,8 @@ named_kind words job asked (inr check) =
     absurd (no_kind job.kind name)
 
 -- what the subcommand asks for has sizes
-pub asked_sizes : (words : List Text) (job : Job) → IsTaken words → AsksIn (subcommand_of curspan words) job → Asks words job
-asked_sizes words job none asked =
+pub sizes_of_job : (words : List Text) (job : Job) → IsTaken words → AsksIn (subcommand_of curspan words) job → Asks words job
+sizes_of_job words job none asked =
     let t = named_kind words job asked (taken words none) in
     let rows : t.rows ≡ asked.rows = ap (λ (o : Option (Text × List Row)). option_map_or (λ p. p.1) o []) (sym t.subcommand ∙ asked.named) in
     record {

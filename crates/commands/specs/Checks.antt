@@ -6,14 +6,14 @@ use Rattle.streams.specs.Sources.{SourceSeen}
 use Rattle.script.specs.Characters.{is_newline, newline}
 use Rattle.explain.specs.Explanations.{finding}
 use Rattle.script.specs.Log.{last_line}
-use Rattle.script.specs.Readings.{next_number, said_by_line}
+use Rattle.script.specs.Readings.{next_number, parse_line}
 use Rattle.script.specs.declared.fault.ScriptFault.TheVariants.{Reading, Log}
 use Rattle.script.specs.declared.fault.TextFault.{TextFault}
 use Rattle.script.specs.declared.fault.TextFault.TheVariants.{LineTooLong}
 use Rattle.script.specs.declared.limits.TheConstants.{LONGEST_LINE}
 use Rattle.world.specs.declared.call.Call.{Call}
 use Rattle.commands.specs.Shows.{ReadsStream}
-use Rattle.commands.specs.Written.{IsNotWritten, IsTold, IsWritten, Outputs}
+use Rattle.commands.specs.Written.{IsNotWritten, IsWritten, Outputs, TriesToLog}
 
 -- ---- the findings
 
@@ -30,7 +30,7 @@ finding_of_rest number rest = if nat_lt LONGEST_LINE (length rest) then finding 
 abbrev pub findings_from : Bool → ℕ → List (List ℕ) → List (List ℕ)
 findings_from failed n [] = []
 findings_from true n (rest ∷ []) = finding_of_rest n rest
-findings_from failed n (line ∷ lines) = finding_of n line (said_by_line line) ++ findings_from failed (next_number n) lines
+findings_from failed n (line ∷ lines) = finding_of n line (parse_line line) ++ findings_from failed (next_number n) lines
 
 -- A line for each faulty line of a script whose bytes these are. A read failed after them, or they are all.
 abbrev pub findings : Bool → List ℕ → List (List ℕ)
@@ -52,13 +52,13 @@ report is_whole lines = flat_map (λ line. line) lines ++ (if is_whole then coun
 -- A script that was read to its end is judged by whether it has a finding. Of another the log gets a line.
 abbrev pub Judges : Bool → List (List ℕ) → Seen → Seen → ℕ → Type 0
 Judges true lines log after status = (status ≡ (if length lines == 0 then 0 else 2)) × (after ≡ log)
-Judges false lines log after status = (status ≡ 3) × IsTold log after (last_line Reading)
+Judges false lines log after status = (status ≡ 3) × TriesToLog log after (last_line Reading)
 
 -- The output took the report; or that failed, and the log gets a line.
 abbrev pub Reports : Bool → List (List ℕ) → Outputs → Outputs → ℕ → Type 0
 Reports is_whole lines old new status =
     (IsWritten old.output new.output (report is_whole lines) × Judges is_whole lines old.log new.log status)
-    ⊎ ((status ≡ 3) × IsNotWritten old.output new.output (report is_whole lines) × IsTold old.log new.log (last_line Log))
+    ⊎ ((status ≡ 3) × IsNotWritten old.output new.output (report is_whole lines) × TriesToLog old.log new.log (last_line Log))
 
 -- The script was read, and its findings are reported.
 pub record Checks (input rest : SourceSeen) (old new : Outputs) (status : ℕ) : Type 0 where

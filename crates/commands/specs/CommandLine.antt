@@ -6,11 +6,11 @@ use Rattle.clap.specs.declared.builder.action.ArgAction.TheVariants.{Set}
 use Rattle.clap.specs.declared.builder.value_parser.ValueParser.TheVariants as parsers
 use Rattle.cell.specs.Limits.{is_no_size}
 use Rattle.cell.specs.declared.limits.TheConstants.{LARGEST_SCREEN}
-use Rattle.commands.specs.declared.asked.Asked.{Asked}
-use Rattle.commands.specs.declared.asked.Asked.TheVariants as asked
-use Rattle.commands.specs.declared.asked.Job.{Job}
-use Rattle.commands.specs.declared.asked.Kind.{Kind}
-use Rattle.commands.specs.declared.asked.Kind.TheVariants.{Run, Paint, Show}
+use Rattle.commands.specs.declared.requests.Request.{Request}
+use Rattle.commands.specs.declared.requests.Request.TheVariants as requests
+use Rattle.commands.specs.declared.requests.Job.{Job}
+use Rattle.commands.specs.declared.requests.Kind.{Kind}
+use Rattle.commands.specs.declared.requests.Kind.TheVariants.{Run, Paint, Show}
 
 -- a required option for a number of lines or columns that a screen may have
 abbrev pub size_rule : Text → Rule
@@ -95,6 +95,6 @@ pub record AsksCheck (words : List Text) : Type 0 where
   pub asked : AsksCheckIn (subcommand_of curspan words)
 
 -- what the words ask for
-abbrev pub AsksFor : List Text → Asked → Type 0
-AsksFor words (asked.Job job) = Asks words job
-AsksFor words asked.Check = AsksCheck words
+abbrev pub AsksFor : List Text → Request → Type 0
+AsksFor words (requests.Job job) = Asks words job
+AsksFor words requests.Check = AsksCheck words

@@ -1,7 +1,7 @@
 pub mod CommandLine
 pub mod Printing
 pub mod Written
-pub mod Spelled
+pub mod Escapes
 pub mod Statuses
 pub mod Shows
 pub mod Checks

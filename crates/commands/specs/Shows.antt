@@ -1,18 +1,18 @@
 -- What `show` does with the stream that it reads.
 use Rattle.std.specs.Prelude.{◌≡◌, ◌⊎◌, ◌∷◌, ◌++◌, [], ℕ, Bool, true, false, not, List, codes, decimal, ⊤}
 use Rattle.std.specs.Io.KnownBytes.{Consumes, IsAtEnd}
-use Rattle.streams.specs.Counts.{counted}
+use Rattle.streams.specs.Counts.{count_after}
 use Rattle.streams.specs.Sinks.{Seen}
 use Rattle.streams.specs.Sources.{SourceSeen}
-use Rattle.ecma.specs.Standing.{HasFailed, blank_terminal}
+use Rattle.ecma.specs.Readers.{HasFailed, blank_terminal}
 use Rattle.ecma.specs.Streams.{IsInProfile}
 use Rattle.ecma.specs.Terminals.{Terminal}
 use Rattle.script.specs.Characters.{newline}
 use Rattle.script.specs.Log.{last_line}
 use Rattle.script.specs.declared.fault.ScriptFault.TheVariants.{Reading, Log}
 use Rattle.commands.specs.Printing.{printed_picture}
-use Rattle.commands.specs.Written.{IsNotWritten, IsTold, IsWritten, Outputs}
-use Rattle.commands.specs.declared.asked.Job.{Job}
+use Rattle.commands.specs.Written.{IsNotWritten, IsWritten, Outputs, TriesToLog}
+use Rattle.commands.specs.declared.requests.Job.{Job}
 
 -- ---- reading
 
@@ -24,7 +24,7 @@ IsWholeAt false seen = ⊤
 pub record ReadsStream (old new : SourceSeen) (is_whole : Bool) (stream : List ℕ) : Type 0 where
   pub read : Consumes old.left new.left stream
   pub whole : IsWholeAt is_whole new
-  pub failures : new.failures ≡ counted (not is_whole) old.failures
+  pub failures : new.failures ≡ count_after (not is_whole) old.failures
   pub read_once : old.met_end ≡ false → new.read_past_end ≡ old.read_past_end
 
 -- ---- showing
@@ -39,18 +39,18 @@ offset_line at = codes "offset " ++ decimal at ++ codes ": not in the profile" +
 -- The stream is in the profile, from the first terminal to the last. Or it fails, and the log says at which offset; where that can't be
 -- written, the status says so.
 abbrev pub Judges : List ℕ → Terminal → Terminal → Seen → Seen → ℕ → Type 0
-Judges stream first last log told status =
-    (IsInProfile stream first last × (status ≡ 0) × (told ≡ log))
+Judges stream first last log log_after status =
+    (IsInProfile stream first last × (status ≡ 0) × (log_after ≡ log))
     ⊎ ((at : ℕ) × HasFailed stream first last at
-    × (((status ≡ 1) × IsWritten log told (offset_line at)) ⊎ ((status ≡ 3) × IsNotWritten log told (offset_line at))))
+    × (((status ≡ 1) × IsWritten log log_after (offset_line at)) ⊎ ((status ≡ 3) × IsNotWritten log log_after (offset_line at))))
 
 -- Of a stream that isn't whole nothing is printed, and the log gets a line. Else the picture of the last terminal is printed; or writing it
 -- failed, and the log gets a line.
 abbrev pub ShowsStream : Bool → List ℕ → Terminal → Terminal → Outputs → Outputs → ℕ → Type 0
-ShowsStream false stream first last old new status = (status ≡ 3) × (new.output ≡ old.output) × IsTold old.log new.log (last_line Reading)
+ShowsStream false stream first last old new status = (status ≡ 3) × (new.output ≡ old.output) × TriesToLog old.log new.log (last_line Reading)
 ShowsStream true stream first last old new status =
     (IsWritten old.output new.output (terminal_text last) × Judges stream first last old.log new.log status)
-    ⊎ ((status ≡ 3) × IsNotWritten old.output new.output (terminal_text last) × IsTold old.log new.log (last_line Log))
+    ⊎ ((status ≡ 3) × IsNotWritten old.output new.output (terminal_text last) × TriesToLog old.log new.log (last_line Log))
 
 -- The stream that was read is shown from a blank terminal of the job's size on.
 pub record Shows (job : Job) (input rest : SourceSeen) (old new : Outputs) (status : ℕ) : Type 0 where

@@ -5,7 +5,7 @@ use Rattle.script.specs.Characters.{newline}
 use Rattle.script.specs.declared.fault.ScriptEnd.{ScriptEnd}
 use Rattle.script.specs.declared.fault.ScriptFault.{ScriptFault}
 use Rattle.script.specs.declared.fault.ScriptFault.TheVariants.{Text, Reading, Write, Log}
-use Rattle.commands.specs.Written.{IsTold, Outputs}
+use Rattle.commands.specs.Written.{Outputs, TriesToLog}
 
 -- 2 for a fault of the text, 3 where reading or writing failed
 abbrev pub status_of_fault : ScriptFault → ℕ
@@ -27,4 +27,4 @@ no_memory_line = codes "no memory for the screen" ++ newline ∷ []
 pub record LacksMemory (old new : Outputs) (status : ℕ) : Type 0 where
   pub status_is : status ≡ 4
   pub output : new.output ≡ old.output
-  pub tells : IsTold old.log new.log no_memory_line
+  pub logs : TriesToLog old.log new.log no_memory_line

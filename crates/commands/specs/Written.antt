@@ -2,11 +2,11 @@
 -- No standard says it; the answers are those of Rust's std::io::Write.
 use Rattle.std.specs.Prelude.{◌≡◌, ◌⊎◌, ◌<◌, ◌≤◌, ◌==◌, ℕ, List, length, take, Bool, true, false}
 use Rattle.std.specs.Io.KnownBytes.{Appends}
-use Rattle.streams.specs.Counts.{counted, next_count}
+use Rattle.streams.specs.Counts.{count_after, next_count}
 use Rattle.streams.specs.Sinks.{Seen}
 
 -- The sink took a prefix of the text, and not all.
-pub record TakesFront (old new : Seen) (text : List ℕ) : Type 0 where
+pub record TakesPrefix (old new : Seen) (text : List ℕ) : Type 0 where
   pub sent : ℕ
   pub within : sent < length text
   pub taken : Appends old.taken new.taken (take sent text)
@@ -24,7 +24,7 @@ pub record IsNotWritten (old new : Seen) (text : List ℕ) : Type 0 where
   pub within : sent ≤ length text
   pub taken : Appends old.taken new.taken (take sent text)
   pub failure : new.failures ≡ next_count old.failures
-  pub flushes : new.flushes ≡ counted (sent == length text) old.flushes
+  pub flushes : new.flushes ≡ count_after (sent == length text) old.flushes
 
 -- The text was written, or wasn't.
 abbrev pub WritingEnds : Bool → Seen → Seen → List ℕ → Type 0
@@ -32,8 +32,8 @@ WritingEnds true old new text = IsWritten old new text
 WritingEnds false old new text = IsNotWritten old new text
 
 -- A line was written on the log, once, or a failure was counted.
-abbrev pub IsTold : Seen → Seen → List ℕ → Type 0
-IsTold log told line = IsWritten log told line ⊎ IsNotWritten log told line
+abbrev pub TriesToLog : Seen → Seen → List ℕ → Type 0
+TriesToLog log log_after line = IsWritten log log_after line ⊎ IsNotWritten log log_after line
 
 -- ---- the output and the log
 

@@ -2,13 +2,13 @@
 
 ghost use Rattle.std.specs.Prelude.{◌≡◌, ◌≤◌, ◌<◌, ◌∷◌, [], length};
 ghost use Rattle.std.specs.Option.{option_map_or};
-ghost use Rattle.script.specs.Readings.{said_by_line};
+ghost use Rattle.script.specs.Readings.{parse_line};
 ghost use Rattle.commands.specs.Checks.{Checks, count_line, finding_of};
 ghost use Rattle.commands.specs.Written.{outputs};
 ghost use Rattle.commands.specs.steps.Checking.{EndsReport, ReportsMore, ReportsScript, finding_of_read};
 
 use crate::put::{put, write_out};
-use crate::status::{ACCEPTED, BAD_TEXT, tell_failure};
+use crate::status::{ACCEPTED, BAD_TEXT, log_failure};
 use arrayvec::ArrayVec;
 use explain::{Finding, finding};
 use script::{Arguments, LONGEST_LINE, LineEnd, Lines, ScriptFault, TextFault, read_line};
@@ -37,7 +37,7 @@ struct Checked {
 /// The line about a line's fault, if it has one.
 fn finding_of(number: u64, line: &[u8], taken: &mut Arguments) -> Option<Finding>
     requires { length line.now ≤ LONGEST_LINE }
-    ensures { finding_of number line.now (said_by_line line.now) ≡ option_map_or (λ text. text.items ∷ []) result [] }
+    ensures { finding_of number line.now (parse_line line.now) ≡ option_map_or (λ text. text.items ∷ []) result [] }
 {
     match read_line(line, taken) {
         Ok(_) => None,
@@ -67,7 +67,7 @@ fn finding_of_read(
 }
 
 /// Writes one line more of a report, unless a write failed before.
-fn tell<O: Sink>(out: &mut O, report: Report, text: &[u8]) -> Report
+fn report_text<O: Sink>(out: &mut O, report: Report, text: &[u8]) -> Report
     ensures { ReportsMore (O.seen out.old) (O.seen out.new) report result (text.now ∷ []) }
 {
     let is_written = report.is_written && put(out, text);
@@ -78,17 +78,17 @@ fn tell<O: Sink>(out: &mut O, report: Report, text: &[u8]) -> Report
 }
 
 /// Writes the line about a fault, if there is one.
-fn tell_finding<O: Sink>(out: &mut O, report: Report, finding: Option<Finding>) -> Report
+fn report_finding<O: Sink>(out: &mut O, report: Report, finding: Option<Finding>) -> Report
     ensures { ReportsMore (O.seen out.old) (O.seen out.new) report result (option_map_or (λ text. text.items ∷ []) finding []) }
 {
     match finding {
-        Some(text) => tell(out, report, text.as_slice()),
+        Some(text) => report_text(out, report, text.as_slice()),
         None => report,
     }
 }
 
 /// Reads a script to its end or until a read fails, and reports each faulty line. Nothing is flushed.
-fn tell_lines<R: Source, O: Sink>(input: &mut R, out: &mut O) -> Checked
+fn report_lines<R: Source, O: Sink>(input: &mut R, out: &mut O) -> Checked
     ensures { ReportsScript (R.seen input.old) (R.seen input.new) (O.seen out.old) (O.seen out.new) result.is_whole result.report }
 {
     let mut lines = Lines::new();
@@ -101,7 +101,7 @@ fn tell_lines<R: Source, O: Sink>(input: &mut R, out: &mut O) -> Checked
     loop {
         let (end, is_kept) = lines.next_whole_line(input);
         let finding = finding_of_read(number, end, is_kept, lines.line(), &mut taken);
-        report = tell_finding(out, report, finding);
+        report = report_finding(out, report, finding);
         match end {
             LineEnd::Newline => number = number.saturating_add(1),
             LineEnd::ScriptEnd => {
@@ -162,12 +162,12 @@ pub fn check_script<R: Source, O: Sink, L: Sink>(input: &mut R, out: &mut O, log
         (outputs (O.seen out.new) (L.seen log.new)) result }
     ensures log { result < 2 → (L.seen log.new).failures ≡ (L.seen log.old).failures }
 {
-    let checked = tell_lines(input, out);
+    let checked = report_lines(input, out);
     if !end_report(out, checked) {
-        return tell_failure(log, ScriptFault::Log);
+        return log_failure(log, ScriptFault::Log);
     }
     if !checked.is_whole {
-        return tell_failure(log, ScriptFault::Reading);
+        return log_failure(log, ScriptFault::Reading);
     }
     if checked.report.faulty == 0 {
         ACCEPTED

@@ -3,11 +3,11 @@
 ghost use Rattle.std.specs.Prelude.{◌≡◌, IfOk, MatchOption, false, map, true};
 ghost use Rattle.clap.specs.Words.{FailsBy, app_of, fault_of, found_of, new_app, rows_of, rule_of, subcommand_rows_of};
 ghost use Rattle.clap.specs.declared.builder.command.Command.TheViews.{out-Command};
-ghost use Rattle.commands.specs.declared.asked.Job.{Job};
-ghost use Rattle.commands.specs.declared.asked.Kind.{Kind};
+ghost use Rattle.commands.specs.declared.requests.Job.{Job};
+ghost use Rattle.commands.specs.declared.requests.Kind.{Kind};
 ghost use Rattle.commands.specs.CommandLine.{AsksCheckIn, AsksFor, AsksIn, ReadsNone, ReadsNumber, bare, check_text, curspan, kind_text, mode, size_rule};
 
-use crate::asked::{Asked, Job, Kind};
+use crate::requests::{Job, Kind, Request};
 use cell::LARGEST_SCREEN;
 use clap::error::ErrorKind;
 use clap::{Arg, ArgAction, ArgMatches, Command, Error};
@@ -141,17 +141,17 @@ fn asks_check(matches: &ArgMatches<'_>) -> bool
 
 /// What the words ask for. The first word is the program's name. An error is lack of memory, or has one of the kinds that clap's definition
 /// gives for the words, a usage fault or a request for help; where it gives none, lack of memory is the only error.
-pub fn job<S: AsStr>(alloc: Global, words: &[S]) -> Result<Asked, Error>
-    ensures job { IfOk result (λ asked. AsksFor (map S.text words.now) asked) }
+pub fn job<S: AsStr>(alloc: Global, words: &[S]) -> Result<Request, Error>
+    ensures job { IfOk result (λ request. AsksFor (map S.text words.now) request) }
     ensures faults { FailsBy (fault_of curspan (map S.text words.now)) result }
 {
     let mut command = command(alloc)?;
     let matches = command.try_get_matches_from_mut(words)?;
     if asks_check(&matches) {
-        return Ok(Asked::Check);
+        return Ok(Request::Check);
     }
     match job_of(&matches) {
-        Some(job) => Ok(Asked::Job(job)),
+        Some(job) => Ok(Request::Job(job)),
         // What clap accepts always asks for a job, so this is never reached.
         None => Err(command.error(ErrorKind::MissingSubcommand, "no subcommand")?),
     }

@@ -1,30 +1,30 @@
 //! What the commands of `curspan` do without a screen of windows: they read the command line, show a stream, check a script and print a picture.
 //! This is a library of its own, so that it is proved beside those that a screen wants.
 //!
-//! - `asked`: what the words ask for
 //! - `check`: `check`
 //! - `command`: the command line
+//! - `escapes`: a usage fault's text
 //! - `printing`: the printed picture
 //! - `put`: what is written, and flushed
+//! - `requests`: what the words ask for
 //! - `show`: `show`
-//! - `spelled`: a usage fault's text
 //! - `status`: the exit statuses
 #![tactic(auto)]
 
-mod asked;
 mod check;
 mod command;
+mod escapes;
 mod printing;
 mod put;
+mod requests;
 mod show;
-mod spelled;
 mod status;
 
-pub use asked::{Asked, Job, Kind};
 pub use check::check_script;
 pub use command::job;
+pub use escapes::log_escaped;
 pub use printing::print;
-pub use put::{tell, write_out};
+pub use put::{write_log, write_out};
+pub use requests::{Job, Kind, Request};
 pub use show::show_stream;
-pub use spelled::tell_spelled;
-pub use status::{ACCEPTED, BAD_TEXT, no_memory, status_of, tell_failure};
+pub use status::{ACCEPTED, BAD_TEXT, log_failure, no_memory, status_of};

@@ -1,6 +1,6 @@
 //! Writing a text of any length.
 
-ghost use Rattle.commands.specs.Written.{IsTold, WritingEnds};
+ghost use Rattle.commands.specs.Written.{TriesToLog, WritingEnds};
 ghost use Rattle.commands.specs.steps.Putting.{PuttingEnds};
 
 use streams::{Sink, send};
@@ -34,8 +34,8 @@ pub fn write_out<W: Sink>(sink: &mut W, text: &[u8]) -> bool
 }
 
 /// Writes a line on the log and flushes it. Where that fails, there is no further place to report it.
-pub fn tell<L: Sink>(log: &mut L, line: &[u8])
-    ensures { IsTold (L.seen log.old) (L.seen log.new) line.now }
+pub fn write_log<L: Sink>(log: &mut L, line: &[u8])
+    ensures { TriesToLog (L.seen log.old) (L.seen log.new) line.now }
 {
     write_out(log, line);
 }

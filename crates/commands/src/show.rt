@@ -4,13 +4,13 @@ ghost use Rattle.std.specs.Prelude.{◌≡◌, ◌<◌, ◌⊎◌};
 ghost use Rattle.commands.specs.CommandLine.{IsSize};
 ghost use Rattle.commands.specs.Shows.{Shows, offset_line, terminal_text};
 ghost use Rattle.commands.specs.Statuses.{LacksMemory};
-ghost use Rattle.commands.specs.steps.Feeding.{Feeds, TellsFault};
+ghost use Rattle.commands.specs.steps.Feeding.{Feeds, LogsFault};
 ghost use Rattle.commands.specs.Written.{WritingEnds, outputs};
 
-use crate::asked::Job;
 use crate::printing::print;
 use crate::put::write_out;
-use crate::status::{ACCEPTED, FAILED, REFUSED, no_memory, tell_failure};
+use crate::requests::Job;
+use crate::status::{ACCEPTED, FAILED, REFUSED, log_failure, no_memory};
 use arrayvec::ArrayVec;
 use ecma::{NotInProfile, Terminal};
 use script::ScriptFault;
@@ -66,7 +66,7 @@ fn offset_line(fault: NotInProfile) -> ArrayVec<u8, ROOM>
 
 /// Writes to the log at which offset a stream fails, if it does, and answers the status.
 fn judge<L: Sink>(log: &mut L, fault: Option<NotInProfile>) -> u8
-    ensures { TellsFault fault (L.seen log.old) (L.seen log.new) result }
+    ensures { LogsFault fault (L.seen log.old) (L.seen log.new) result }
 {
     match fault {
         None => ACCEPTED,
@@ -99,11 +99,11 @@ pub fn show_stream<R: Source, O: Sink, L: Sink>(
         Err(_) => return no_memory(log),
     };
     if !read_stream(input, &mut terminal) {
-        return tell_failure(log, ScriptFault::Reading);
+        return log_failure(log, ScriptFault::Reading);
     }
     if print_terminal(out, &terminal) {
         judge(log, terminal.fault())
     } else {
-        tell_failure(log, ScriptFault::Log)
+        log_failure(log, ScriptFault::Log)
     }
 }

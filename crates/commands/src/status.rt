@@ -2,10 +2,10 @@
 
 ghost use Rattle.std.specs.Prelude.{◌≡◌, ◌<◌, None};
 ghost use Rattle.commands.specs.Statuses.{no_memory_line, status_of};
-ghost use Rattle.commands.specs.Written.{IsTold};
+ghost use Rattle.commands.specs.Written.{TriesToLog};
 ghost use Rattle.script.specs.Log.{last_line};
 
-use crate::put::tell;
+use crate::put::write_log;
 use script::{ScriptEnd, ScriptFault, last_line};
 use streams::Sink;
 
@@ -23,18 +23,18 @@ const NO_MEMORY: u8 = 4;
 /// Says on the log that there is no memory, and answers that status.
 pub fn no_memory<L: Sink>(log: &mut L) -> u8
     ensures status { result ≡ 4 }
-    ensures told { IsTold (L.seen log.old) (L.seen log.new) no_memory_line }
+    ensures logs { TriesToLog (L.seen log.old) (L.seen log.new) no_memory_line }
 {
-    tell(log, b"no memory for the screen\n");
+    write_log(log, b"no memory for the screen\n");
     NO_MEMORY
 }
 
 /// Writes to the log the line of a fault, which is a failed read or write, and answers the status for it.
-pub fn tell_failure<L: Sink>(log: &mut L, fault: ScriptFault) -> u8
+pub fn log_failure<L: Sink>(log: &mut L, fault: ScriptFault) -> u8
     ensures status { result ≡ 3 }
-    ensures told { IsTold (L.seen log.old) (L.seen log.new) (last_line fault) }
+    ensures logs { TriesToLog (L.seen log.old) (L.seen log.new) (last_line fault) }
 {
-    tell(log, last_line(fault).as_slice());
+    write_log(log, last_line(fault).as_slice());
     FAILED
 }
 

@@ -18,7 +18,7 @@ use Rattle.world.specs.declared.call.Refresh.TheVariants.{Pnoutrefresh}
 use Rattle.cell.specs.Refusals.{first_of}
 use Rattle.cell.specs.declared.refusal.Refusal.TheVariants.{BadRectangle, NoSuchWindow, NotPad, OffScreen, OutsideWindow}
 use Rattle.world.specs.declared.settings.Columns.{Columns}
-use Rattle.picture.proofs.Standing.{StandsAt}
+use Rattle.picture.proofs.Placement.{IsPlacedAt}
 use Rattle.compose.proofs.Laying.{HasPiece, IsBare}
 
 -- ---- one window
@@ -34,7 +34,7 @@ same-if : (t s : Bool) (one other : Glyph) → t ≡ s → (s ≡ true → one �
 same-if t true one other same h = rw same (ap (λ (g : Glyph). Some g) (h refl))
 same-if t false one other same h = rw same refl
 
-module _ (windows : Windows) (w : ℕ) (place : Place) (lines : ℕ) (h : StandsAt windows w place lines) where
+module _ (windows : Windows) (w : ℕ) (place : Place) (lines : ℕ) (h : IsPlacedAt windows w place lines) where
   drawn-is : (v u : ℕ) → touched_cells windows.window w v u ≡ drawn_at (Some place) h.window.lines h.window.columns h.window.touched (λ y x. cell_at windows.window w y x) v u
   drawn-is v u =
       ap (λ (o : Option Window). let p = option_map_or (λ (a : Window). unwrap_or a.place origin) o origin in

@@ -32,7 +32,7 @@ use calls::Calls;
 use cell::{Cell, Colour, Grid, PairId, Pairs, Refusal, Shown, VirtualScreen, WinId};
 use grids::Grids;
 use picture::{
-    Damage, Lent, Span, cell_found, owner_span, show_damaged, wanted_cursor, window_part,
+    Damage, Span, TableRows, cell_found, owner_span, show_damaged, wanted_cursor, window_part,
 };
 use stack::Stack;
 use std::alloc::Global;
@@ -113,7 +113,7 @@ impl Desk {
         ensures { Called self.old (Call.Refresh Refresh.UpdatePanels) (Ok (Reply.Composed result)) self.new }
     {
         let (lines, _) = self.windows.table.screen_size();
-        let mut rows = Lent::of(&self.windows.table);
+        let mut rows = TableRows::of(&self.windows.table);
         let cells = show_damaged(
             &mut rows,
             &self.stack,
@@ -213,7 +213,7 @@ impl Desk {
         ensures { IsSpan (windows_of self.now.windows).window (panels self.now.panels) y x (self.now.windows.columns - 1) result }
     {
         let (_, columns) = self.size();
-        let rows = Lent::of(&self.windows.table);
+        let rows = TableRows::of(&self.windows.table);
         owner_span(&rows, &self.stack, y, x, columns - 1)
     }
 

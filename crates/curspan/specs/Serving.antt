@@ -8,7 +8,7 @@ use Rattle.cell.specs.Pictures.{picture_of}
 use Rattle.world.specs.World.{World, first_world, picture, topmost_cursor}
 use Rattle.streams.specs.Sinks.{Seen}
 use Rattle.streams.specs.Sources.{SourceSeen}
-use Rattle.streams.specs.Counts.{counted}
+use Rattle.streams.specs.Counts.{count_after}
 use Rattle.script.specs.Log.{last_line}
 use Rattle.script.specs.declared.fault.ScriptEnd.{ScriptEnd}
 use Rattle.script.specs.declared.fault.ScriptFault.TheVariants.{Log}
@@ -20,12 +20,12 @@ use Rattle.commands.specs.Checks.{Checks}
 use Rattle.commands.specs.CommandLine.{Asks, AsksCheck, curspan}
 use Rattle.commands.specs.Printing.{printed_picture}
 use Rattle.commands.specs.Shows.{Shows}
-use Rattle.commands.specs.Spelled.{spelled}
+use Rattle.commands.specs.Escapes.{escaped_text}
 use Rattle.commands.specs.Statuses.{LacksMemory, status_of}
-use Rattle.commands.specs.Written.{IsNotWritten, IsTold, IsWritten, Outputs}
-use Rattle.commands.specs.declared.asked.Job.{Job}
-use Rattle.commands.specs.declared.asked.Kind.{Kind}
-use Rattle.commands.specs.declared.asked.Kind.TheVariants.{Run, Paint, Show}
+use Rattle.commands.specs.Written.{IsNotWritten, IsWritten, Outputs, TriesToLog}
+use Rattle.commands.specs.declared.requests.Job.{Job}
+use Rattle.commands.specs.declared.requests.Kind.{Kind}
+use Rattle.commands.specs.declared.requests.Kind.TheVariants.{Run, Paint, Show}
 
 -- ---- words that are refused
 
@@ -33,22 +33,22 @@ use Rattle.commands.specs.declared.asked.Kind.TheVariants.{Run, Paint, Show}
 abbrev pub ShowsText : List ℕ → Outputs → Outputs → ℕ → Type 0
 ShowsText text old new status =
     ((status ≡ 0) × IsWritten old.output new.output text × (new.log ≡ old.log))
-    ⊎ ((status ≡ 3) × IsNotWritten old.output new.output text × IsTold old.log new.log (last_line Log))
+    ⊎ ((status ≡ 3) × IsNotWritten old.output new.output text × TriesToLog old.log new.log (last_line Log))
 
 -- Help was shown, a text of clap's.
 abbrev pub ShowsHelp : Outputs → Outputs → ℕ → Type 0
 ShowsHelp old new status = (text : List ℕ) × ShowsText text old new status
 
 -- A usage fault goes to the log, as a text of clap's with its bytes escaped, and nothing went to the output.
-abbrev pub TellsUsage : Outputs → Outputs → ℕ → Type 0
-TellsUsage old new status = (text : List ℕ) × (status ≡ 2) × (new.output ≡ old.output) × IsTold old.log new.log (spelled text)
+abbrev pub LogsUsage : Outputs → Outputs → ℕ → Type 0
+LogsUsage old new status = (text : List ℕ) × (status ≡ 2) × (new.output ≡ old.output) × TriesToLog old.log new.log (escaped_text text)
 
 -- What is said of an error of that kind. There may be no memory for its text.
 abbrev pub Explains : ErrorKind → Outputs → Outputs → ℕ → Type 0
 Explains OutOfMemory old new status = LacksMemory old new status
 Explains DisplayHelp old new status = ShowsHelp old new status ⊎ LacksMemory old new status
 Explains DisplayVersion old new status = ShowsHelp old new status ⊎ LacksMemory old new status
-Explains kind old new status = TellsUsage old new status ⊎ LacksMemory old new status
+Explains kind old new status = LogsUsage old new status ⊎ LacksMemory old new status
 
 -- Memory ran out, or clap refuses the words by a kind, and that is said.
 abbrev pub Refuses : List Text → Outputs → Outputs → ℕ → Type 0
@@ -58,20 +58,22 @@ Refuses words old new status = (kind : ErrorKind) × ((kind ≡ OutOfMemory) ⊎
 
 -- The script that was read ran on a screen, and ended so. A failure was counted exactly where its end has such a fault. After the lines of
 -- the calls the log gets a line about the fault, if there is one, and nothing else.
-pub record Tells {W : Type 0} (seen : W → Seen) (first last : ScreenOver W) (input rest : SourceSeen) (log told : Seen) (end : ScriptEnd) : Type 0 where
+pub record RunsAndLogs {W : Type 0} (seen : W → Seen) (first last : ScreenOver W) (input rest : SourceSeen) (log log_after : Seen)
+    (end : ScriptEnd) : Type 0 where
   pub logged : Seen
   pub script : ScriptEnds seen first last input rest log logged end
-  pub reads : rest.failures ≡ counted (read_failed end.fault) input.failures
-  pub writes : (seen last.writer).failures ≡ counted (is_some (write_fault end.fault)) (seen first.writer).failures
-  pub tells : MatchOption end.fault (told ≡ logged) (λ fault. IsTold logged told (last_line fault))
+  pub reads : rest.failures ≡ count_after (read_failed end.fault) input.failures
+  pub writes : (seen last.writer).failures ≡ count_after (is_some (write_fault end.fault)) (seen first.writer).failures
+  pub logs : MatchOption end.fault (log_after ≡ logged) (λ fault. TriesToLog logged log_after (last_line fault))
 
 -- The screen was blank at first, and over a sink of which this had been seen.
-pub record RunsScript {W : Type 0} (seen : W → Seen) (job : Job) (input rest : SourceSeen) (sink log told : Seen) (last : ScreenOver W) (end : ScriptEnd) : Type 0 where
+pub record RunsScript {W : Type 0} (seen : W → Seen) (job : Job) (input rest : SourceSeen) (sink log log_after : Seen)
+    (last : ScreenOver W) (end : ScriptEnd) : Type 0 where
   pub first : ScreenOver W
   pub blank : world first.desk ≡ first_world job.lines job.cols
   pub unpainted : first.painter ≡ first_painter job.lines job.cols
   pub over : seen first.writer ≡ sink
-  pub runs : Tells seen first last input rest log told end
+  pub runs : RunsAndLogs seen first last input rest log log_after end
 
 -- ---- run: the terminal bytes go to the output
 
@@ -93,10 +95,10 @@ picture_text world = printed_picture (picture_of world.windows.lines world.windo
 -- A script that ends with a fault prints nothing. After another the picture is printed; or writing it failed, and the log gets a line after
 -- those of the script.
 abbrev pub Prints : ScriptEnd → World → Seen → Outputs → Outputs → ℕ → Type 0
-Prints end world told old new status = MatchOption end.fault
-    (((status ≡ status_of end) × IsWritten old.output new.output (picture_text world) × (new.log ≡ told))
-    ⊎ ((status ≡ 3) × IsNotWritten old.output new.output (picture_text world) × IsTold told new.log (last_line Log)))
-    (λ fault. (status ≡ status_of end) × (new.output ≡ old.output) × (new.log ≡ told))
+Prints end world log_after old new status = MatchOption end.fault
+    (((status ≡ status_of end) × IsWritten old.output new.output (picture_text world) × (new.log ≡ log_after))
+    ⊎ ((status ≡ 3) × IsNotWritten old.output new.output (picture_text world) × TriesToLog log_after new.log (last_line Log)))
+    (λ fault. (status ≡ status_of end) × (new.output ≡ old.output) × (new.log ≡ log_after))
 
 -- of a sink that keeps nothing
 abbrev pub nothing_seen : Seen
@@ -106,9 +108,9 @@ module _ {V : Type 0} (discarded : V → Seen) where
   pub record Paints (job : Job) (input rest : SourceSeen) (old new : Outputs) (status : ℕ) : Type 0 where
     pub last : ScreenOver V
     pub end : ScriptEnd
-    pub told : Seen
-    pub script : RunsScript discarded job input rest nothing_seen old.log told last end
-    pub prints : Prints end (world last.desk) told old new status
+    pub log_after : Seen
+    pub script : RunsScript discarded job input rest nothing_seen old.log log_after last end
+    pub prints : Prints end (world last.desk) log_after old new status
 
 -- ---- the program
 

@@ -5,7 +5,7 @@
 
 mod serve;
 
-use commands::{no_memory, tell};
+use commands::{no_memory, write_log};
 use desk::{Counted, CountedReader, Sink};
 use serve::serve;
 use std::io::{BufReader, BufWriter, ErrorKind};
@@ -24,7 +24,7 @@ fn main(rt: HostRuntime) -> ExitCode {
         Ok(status) => status,
         Err(error) if error.kind() == ErrorKind::OutOfMemory => no_memory(&mut log),
         Err(_) => {
-            tell(&mut log, b"a word of the command line is not in UTF-8\n");
+            write_log(&mut log, b"a word of the command line is not in UTF-8\n");
             2
         }
     };

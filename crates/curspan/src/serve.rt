@@ -7,7 +7,7 @@ ghost use Rattle.clap.specs.Words.{kind_of};
 ghost use Rattle.commands.specs.CommandLine.{IsSize};
 ghost use Rattle.commands.specs.Printing.{printed_picture};
 ghost use Rattle.curspan.specs.steps.Painting.{PaintsScreen};
-ghost use Rattle.curspan.specs.Serving.{Explains, Paints, Runs, Serves, ShowsText, Tells, nothing_seen};
+ghost use Rattle.curspan.specs.Serving.{Explains, Paints, Runs, RunsAndLogs, Serves, ShowsText, nothing_seen};
 ghost use Rattle.commands.specs.Statuses.{LacksMemory};
 ghost use Rattle.commands.specs.Written.{WritingEnds, outputs};
 ghost use Rattle.compose.specs.Desks.{world};
@@ -22,8 +22,8 @@ use cell::Rendition;
 use clap::Error;
 use clap::error::ErrorKind;
 use commands::{
-    ACCEPTED, Asked, BAD_TEXT, Job, Kind, check_script, job, no_memory, print, show_stream,
-    status_of, tell, tell_failure, tell_spelled, write_out,
+    ACCEPTED, BAD_TEXT, Job, Kind, Request, check_script, job, log_escaped, log_failure, no_memory,
+    print, show_stream, status_of, write_log, write_out,
 };
 use desk::{
     Call, Calls, Desk, Refresh, Refusal, Screen, ScriptEnd, ScriptFault, Sink, Source,
@@ -42,7 +42,7 @@ fn show_text<O: Sink, L: Sink>(text: &[u8], out: &mut O, log: &mut L) -> u8
     if write_out(out, text) {
         ACCEPTED
     } else {
-        tell_failure(log, ScriptFault::Log)
+        log_failure(log, ScriptFault::Log)
     }
 }
 
@@ -56,7 +56,7 @@ fn usage<O: Sink, L: Sink>(alloc: Global, error: &Error, out: &mut O, log: &mut 
     }
     match error.to_string(alloc) {
         Ok(text) if error.use_stderr() => {
-            tell_spelled(log, text.as_bytes());
+            log_escaped(log, text.as_bytes());
             BAD_TEXT
         }
         Ok(text) => show_text(text.as_bytes(), out, log),
@@ -76,18 +76,18 @@ fn blank_screen(alloc: Global, job: Job) -> Result<Screen<Discard>, Refusal>
 }
 
 /// Runs a script on a screen, and writes to the log the fault that ended it.
-fn run_told<W: Sink, R: Source, L: Sink>(
+fn run_and_log<W: Sink, R: Source, L: Sink>(
     screen: &mut Screen<W>,
     input: &mut R,
     log: &mut L,
 ) -> ScriptEnd
-    ensures ran { Tells W.seen screen.old screen.new (R.seen input.old) (R.seen input.new) (L.seen log.old) (L.seen log.new) result }
+    ensures ran { RunsAndLogs W.seen screen.old screen.new (R.seen input.old) (R.seen input.new) (L.seen log.old) (L.seen log.new) result }
     ensures log { result.fault ≡ None → (L.seen log.new).failures ≡ (L.seen log.old).failures }
     ensures same { W.name screen.new.writer ≡ W.name screen.old.writer }
 {
     let end = screen.run_script(input, log);
     if let Some(fault) = end.fault {
-        tell(log, last_line(fault).as_slice());
+        write_log(log, last_line(fault).as_slice());
     }
     end
 }
@@ -110,7 +110,7 @@ fn run<'a, R: Source, O: Sink, L: Sink>(
         Ok(screen) => screen.with_writer(out),
         Err(_) => return no_memory(log),
     };
-    let end = run_told(&mut screen, input, log);
+    let end = run_and_log(&mut screen, input, log);
     // This shows the proof that the output is what the screen sent.
     screen.into_writer();
     status_of(end)
@@ -146,7 +146,7 @@ fn paint_screen<R: Source, O: Sink, L: Sink>(
         (outputs (O.seen out.old) (L.seen log.old)) (outputs (O.seen out.new) (L.seen log.new)) result }
     ensures log { result < 2 → (L.seen log.new).failures ≡ (L.seen log.old).failures }
 {
-    let end = run_told(screen, input, log);
+    let end = run_and_log(screen, input, log);
     if end.fault.is_some() {
         return status_of(end);
     }
@@ -154,7 +154,7 @@ fn paint_screen<R: Source, O: Sink, L: Sink>(
     if print_desk(out, screen.desk()) {
         status_of(end)
     } else {
-        tell_failure(log, ScriptFault::Log)
+        log_failure(log, ScriptFault::Log)
     }
 }
 
@@ -194,8 +194,8 @@ pub fn serve<'a, S: AsStr, R: Source, O: Sink, L: Sink>(
     ensures log { result < 2 → (L.seen log.new).failures ≡ (L.seen log.old).failures }
 {
     match job(alloc, words) {
-        Ok(Asked::Check) => check_script(input, out, log),
-        Ok(Asked::Job(job)) => match job.kind {
+        Ok(Request::Check) => check_script(input, out, log),
+        Ok(Request::Job(job)) => match job.kind {
             Kind::Run => run(alloc, job, input, out, log),
             Kind::Paint => paint(alloc, job, input, out, log),
             Kind::Show => show_stream(alloc, job, input, out, log),

@@ -15,7 +15,7 @@ use Rattle.desk.specs.declared.screen.Fault.TheVariants.{Refused, Write}
 use Rattle.desk.specs.States.{ScreenOver}
 use Rattle.desk.specs.declared.screen.Fault.{Fault}
 use Rattle.desk.specs.Runs.{MayAnswer, state_after}
-use Rattle.desk.specs.steps.Answers.{joined}
+use Rattle.desk.specs.steps.Answers.{call_end}
 
 module _ {W : Type 0} (seen : W → Seen) where
   pub placeless_ends : (old : ScreenOver W) (call : Call) (r : Result Reply Fault) (new : ScreenOver W) → CallEnds seen old call r new → CallEnds seen old (placeless call) r new
@@ -30,7 +30,7 @@ module _ {W : Type 0} (seen : W → Seen) where
   Answered old call answer new = IsWithin (state_of new) (state_after (state_of old) call answer)
       × ((sent : List ℕ) × MayAnswer (state_of old) call answer sent × Writes seen old new (call ∷ []) sent)
 
-  pub is_answered : (old : ScreenOver W) (call : Call) (answer : Result Reply Refusal) (new : ScreenOver W) → CallEnds seen old call (joined (Ok answer)) new → Answered old call answer new
+  pub is_answered : (old : ScreenOver W) (call : Call) (answer : Result Reply Refusal) (new : ScreenOver W) → CallEnds seen old call (call_end (Ok answer)) new → Answered old call answer new
   is_answered old call (Ok reply) new h = h
   is_answered old call (Err refusal) new h =
       (is-kept h.1, ([], (h.0, refl), subst (λ s. Writes seen old s (call ∷ []) []) (sym h.1) (Writes-refused seen old call refusal h.0)))

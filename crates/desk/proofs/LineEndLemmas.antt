@@ -7,9 +7,9 @@ use Rattle.streams.specs.Sinks.{Seen}
 use Rattle.world.specs.calls.Dispatch.{is_doupdate}
 use Rattle.desk.specs.Ends.{CallEnds}
 use Rattle.desk.proofs.MakesLemmas.{Makes-nothing, Makes-one}
-use Rattle.desk.specs.steps.Answers.{joined}
+use Rattle.desk.specs.steps.Answers.{call_end}
 use Rattle.desk.proofs.AnswerLemmas.{is_answered}
-use Rattle.script.specs.Readings.{said_by_line}
+use Rattle.script.specs.Readings.{parse_line}
 use Rattle.script.specs.Log.{log_line}
 use Rattle.desk.specs.ScriptEnds.{LineEnds}
 use Rattle.world.specs.declared.call.Call.{Call}
@@ -36,7 +36,7 @@ refused_is (Ok reply) r e = e
 refused_is (Err refusal) r e = e
 
 module _ {W : Type 0} (seen : W → Seen) where
-  pub line_says_nothing : (old : ScreenOver W) (n : ℕ) (line : List ℕ) (log : Seen) → said_by_line line ≡ Ok None
+  pub line_says_nothing : (old : ScreenOver W) (n : ℕ) (line : List ℕ) (log : Seen) → parse_line line ≡ Ok None
       → LineEnds seen old old n line log log (record { refused = false; fault = None })
   line_says_nothing old n line log said = record {
     call = None;
@@ -50,7 +50,7 @@ module _ {W : Type 0} (seen : W → Seen) where
     refused = refl;
   }
 
-  pub line_has_fault : (old : ScreenOver W) (n : ℕ) (line : List ℕ) (log : Seen) (fault : TextFault) → said_by_line line ≡ Err fault
+  pub line_has_fault : (old : ScreenOver W) (n : ℕ) (line : List ℕ) (log : Seen) (fault : TextFault) → parse_line line ≡ Err fault
       → LineEnds seen old old n line log log (record { refused = false; fault = Some (Text n fault) })
   line_has_fault old n line log fault said = record {
     call = None;
@@ -65,7 +65,7 @@ module _ {W : Type 0} (seen : W → Seen) where
   }
 
   pub line_is_run : (old new : ScreenOver W) (n : ℕ) (line : List ℕ) (log written : Seen) (call : Call) (answer : Result Reply Refusal) (r : Bool)
-      → said_by_line line ≡ Ok (Some call) → CallEnds seen old call (joined (Ok answer)) new → r ≡ is_err answer
+      → parse_line line ≡ Ok (Some call) → CallEnds seen old call (call_end (Ok answer)) new → r ≡ is_err answer
       → Appends log.taken written.taken (log_line n answer) → written.failures ≡ log.failures → written.flushes ≡ log.flushes
       → LineEnds seen old new n line log written (record { refused = r; fault = None })
   line_is_run old new n line log written call answer r said h e logs failures flushes = let a = is_answered seen old call answer new h in record {
@@ -81,7 +81,7 @@ module _ {W : Type 0} (seen : W → Seen) where
   }
 
   pub line_is_not_logged : (old new : ScreenOver W) (n : ℕ) (line : List ℕ) (log written : Seen) (call : Call) (answer : Result Reply Refusal) (r : Bool) (sent : ℕ)
-      → said_by_line line ≡ Ok (Some call) → CallEnds seen old call (joined (Ok answer)) new → r ≡ is_err answer
+      → parse_line line ≡ Ok (Some call) → CallEnds seen old call (call_end (Ok answer)) new → r ≡ is_err answer
       → sent < length (log_line n answer) → Appends log.taken written.taken (take sent (log_line n answer))
       → written.failures ≡ next_count log.failures → written.flushes ≡ log.flushes
       → LineEnds seen old new n line log written (record { refused = r; fault = Some Log })
@@ -98,7 +98,7 @@ module _ {W : Type 0} (seen : W → Seen) where
   }
 
   pub line_is_cut : (old new : ScreenOver W) (n : ℕ) (line : List ℕ) (log : Seen) (call : Call) (fault : WriteFault)
-      → said_by_line line ≡ Ok (Some call) → CallEnds seen old call (Err (Cut fault)) new
+      → parse_line line ≡ Ok (Some call) → CallEnds seen old call (Err (Cut fault)) new
       → LineEnds seen old new n line log log (record { refused = false; fault = Some (Write n fault) })
   line_is_cut old new n line log call fault said a = record {
     call = None;

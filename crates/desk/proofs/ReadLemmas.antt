@@ -12,7 +12,7 @@ use Rattle.world.specs.calls.Dispatch.{is_update_panels, reply_of}
 use Rattle.world.specs.calls.Queries.{pair, cell_at_cursor}
 use Rattle.desk.specs.States.{State}
 use Rattle.desk.specs.Runs.{MayAnswer, Outcome, Run, cells_of_answer, cells_of_reply, cells_read, state_after}
-use Rattle.desk.specs.Reads.{ReadsFew, redrawn, with_acceptance}
+use Rattle.desk.specs.Reads.{ReadsFew, places_redrawn, with_acceptance}
 use Rattle.world.specs.declared.call.Call.{Call}
 use Rattle.world.specs.declared.call.Call.TheVariants as calls
 use Rattle.world.specs.declared.call.Copying.TheVariants.{Syncup}
@@ -25,43 +25,43 @@ use Rattle.world.specs.declared.call.Stacking.TheVariants.{DelPanel}
 
 -- ---- only update_panels answers a number of cells
 
-pair-tells : (place : Option Place) → cells_of_reply (pair place) ≡ 0
-pair-tells None = refl
-pair-tells (Some p) = refl
+pair-no_cells : (place : Option Place) → cells_of_reply (pair place) ≡ 0
+pair-no_cells None = refl
+pair-no_cells (Some p) = refl
 
-cell-tells : (cell : Option Glyph) → cells_of_reply (option_map_or (λ c. Cell c) cell Nothing) ≡ 0
-cell-tells None = refl
-cell-tells (Some c) = refl
+cell-no_cells : (cell : Option Glyph) → cells_of_reply (option_map_or (λ c. Cell c) cell Nothing) ≡ 0
+cell-no_cells None = refl
+cell-no_cells (Some c) = refl
 
 -- what the effect of a call answers; a row with a call lets the last go through its group
-tells : (w : World) (call : Call) → cells_of_reply (reply_of w call) ≡ 0
-tells w (calls.Making (Delwin win)) = refl
-tells w (calls.Copying (Syncup win)) = refl
-tells w (calls.Query (Inch win)) = cell-tells (cell_at_cursor w.windows.window win.0)
-tells w (calls.Query query) = pair-tells _
-tells w (calls.Stacking (DelPanel panel)) = refl
-tells w (calls.Refresh Doupdate) = refl
-tells w call = refl
+reply_of-no_cells : (w : World) (call : Call) → cells_of_reply (reply_of w call) ≡ 0
+reply_of-no_cells w (calls.Making (Delwin win)) = refl
+reply_of-no_cells w (calls.Copying (Syncup win)) = refl
+reply_of-no_cells w (calls.Query (Inch win)) = cell-no_cells (cell_at_cursor w.windows.window win.0)
+reply_of-no_cells w (calls.Query query) = pair-no_cells _
+reply_of-no_cells w (calls.Stacking (DelPanel panel)) = refl
+reply_of-no_cells w (calls.Refresh Doupdate) = refl
+reply_of-no_cells w call = refl
 
 -- ---- one call
 
 -- what one call read is between these
 pub record CallReads (s : State) (call : Call) (cells : ℕ) : Type 0 where
-  pub least : redrawn s.world call ≤ cells
+  pub least : places_redrawn s.world call ≤ cells
   pub most : cells ≤ owed s.world s.damaged call
 
 reads-nothing : (s : State) (call : Call) (cells : ℕ) → is_update_panels call ≡ false → cells ≡ 0 → CallReads s call cells
 reads-nothing s call cells other none = rw none (record { least = rw other (omega arith); most = omega arith })
 
-told : (reply other : Reply) → reply ≡ other → cells_of_reply other ≡ 0 → cells_of_reply reply ≡ 0
-told reply other is none = ap cells_of_reply is ∙ none
+same-no_cells : (reply other : Reply) → reply ≡ other → cells_of_reply other ≡ 0 → cells_of_reply reply ≡ 0
+same-no_cells reply other is none = ap cells_of_reply is ∙ none
 
 call-reads : (s : State) (call : Call) (reply : Reply) (sent : List ℕ) → MayAnswer s call (Ok reply) sent → CallReads s call (cells_of_reply reply)
 call-reads s (calls.Refresh UpdatePanels) reply sent may =
     let read = may.1.1.1 in
     rw may.1.1.2 (record { least = read.at_least; most = read.at_most })
-call-reads s (calls.Refresh Doupdate) reply sent may = reads-nothing s (calls.Refresh Doupdate) _ refl (told reply _ may.1.1 refl)
-call-reads s call reply sent may = reads-nothing s call _ refl (told reply _ may.1.1 (tells s.world call))
+call-reads s (calls.Refresh Doupdate) reply sent may = reads-nothing s (calls.Refresh Doupdate) _ refl (same-no_cells reply _ may.1.1 refl)
+call-reads s call reply sent may = reads-nothing s call _ refl (same-no_cells reply _ may.1.1 (reply_of-no_cells s.world call))
 
 -- ---- a run
 

@@ -21,16 +21,16 @@ use Rattle.streams.specs.Sources.{SourceSeen}
 use Rattle.desk.specs.Runs.{Outcome, Run, is_refused, state_after}
 use Rattle.desk.specs.Ends.{Makes}
 use Rattle.desk.proofs.MakesLemmas.{Makes-append, Makes-nothing}
-use Rattle.streams.specs.Counts.{counted}
+use Rattle.streams.specs.Counts.{count_after}
 use Rattle.desk.specs.States.{state_of}
 use Rattle.desk.specs.Showing.{RunShows}
 use Rattle.desk.proofs.ShowingLemmas.{cut-keeps_size, makes-keep_size, shows-broken, shows-unbroken, then-keeps_size}
-use Rattle.script.specs.Readings.{Reading, before_others, ends_with, next_number, reading, reading_of, said_by_line}
+use Rattle.script.specs.Readings.{Reading, before_others, ends_with, next_number, reading, reading_of, parse_line}
 use Rattle.script.specs.Characters.{is_newline}
 use Rattle.script.specs.steps.Bytes.{HasNoNewline, ReadsLine}
 use Rattle.script.specs.Log.{log_line}
 use Rattle.desk.specs.ScriptEnds.{FlushFails, FlushSucceeds, LineEnds, LineStops, LogCloses, Logs, MayFollow, RunsLines, ScriptEnds, ScriptStops, calls_of, log_failed, log_lines, log_text}
-use Rattle.desk.specs.ScriptEnds.{numbered, write_fault}
+use Rattle.desk.specs.ScriptEnds.{numbered_call, write_fault}
 use Rattle.world.specs.declared.call.Call.{Call}
 use Rattle.desk.specs.States.{HasOneSize, KeepsSize, ScreenOver}
 use Rattle.script.specs.declared.fault.TextFault.{TextFault}
@@ -41,7 +41,7 @@ use Rattle.script.specs.declared.bytes.LineEnd.TheVariants.{Newline, ScriptEnd a
 abbrev pub prepend : List (ℕ × Call) → Reading → Reading
 prepend calls r = record { calls = calls ++ r.calls; fault = r.fault }
 
-prepend_numbered : (n : ℕ) (call : Option Call) (r : Reading) → before_others n (Ok call) r ≡ prepend (numbered n call) r
+prepend_numbered : (n : ℕ) (call : Option Call) (r : Reading) → before_others n (Ok call) r ≡ prepend (numbered_call n call) r
 prepend_numbered n None r = refl
 prepend_numbered n (Some call) r = refl
 
@@ -50,7 +50,7 @@ prepend_twice a b r = ap (λ (calls : List (ℕ × Call)). let x : Reading = rec
 
 -- a line before others
 line_first : (failed : Bool) (n : ℕ) (line : List ℕ) (pieces : List (List ℕ)) → 0 < length pieces
-    → reading_of failed n (line ∷ pieces) ≡ before_others n (said_by_line line) (reading_of failed (next_number n) pieces)
+    → reading_of failed n (line ∷ pieces) ≡ before_others n (parse_line line) (reading_of failed (next_number n) pieces)
 line_first failed n line [] some = absurd (omega arith)
 line_first true n line (p ∷ ps) some = refl
 line_first false n line (p ∷ ps) some = refl
@@ -72,12 +72,12 @@ no_newlines line h = λ k d lt. each_fails is_newline line k d h lt
 
 -- What a script says whose next line ends with a newline.
 line_of_script : (failed : Bool) (n : ℕ) (line left : List ℕ) → HasNoNewline line
-    → reading_of failed n (slice_split is_newline (line ++ 10 ∷ left)) ≡ before_others n (said_by_line line) (reading_of failed (next_number n) (slice_split is_newline left))
+    → reading_of failed n (slice_split is_newline (line ++ 10 ∷ left)) ≡ before_others n (parse_line line) (reading_of failed (next_number n) (slice_split is_newline left))
 line_of_script failed n line left h =
     ap (reading_of failed n) (slice_split_at is_newline line 10 left (no_newlines line h) refl)
     ∙ line_first failed n line (slice_split is_newline left) (omega (arith, length-slice_split is_newline left))
 
-long_line : (line : List ℕ) → LONGEST_LINE < length line → said_by_line line ≡ Err LineTooLong
+long_line : (line : List ℕ) → LONGEST_LINE < length line → parse_line line ≡ Err LineTooLong
 long_line line h = let long : nat_lt LONGEST_LINE (length line) ≡ true = grind (arith, nat_tests) in rw long refl
 
 has_first : (pieces : List (List ℕ)) → 0 < length pieces → (head : List ℕ) × (tail : List (List ℕ)) × (pieces ≡ head ∷ tail)
@@ -95,8 +95,8 @@ first_piece (x ∷ xs) ys h =
 too_long_says : (n : ℕ) (line more : List ℕ) (b : ℕ) → HasNoNewline line → is_newline b ≡ false → LONGEST_LINE ≤ length line
     → reading_of false n (slice_split is_newline (line ++ b ∷ more)) ≡ ends_with (Some (Text n LineTooLong))
 too_long_says n line more b h e long =
-    let front : HasNoNewline (line ++ b ∷ []) = rw (list_any-append is_newline line (b ∷ []), h, e) refl in
-    let first = first_piece (line ++ b ∷ []) more front in
+    let prefix : HasNoNewline (line ++ b ∷ []) = rw (list_any-append is_newline line (b ∷ []), h, e) refl in
+    let first = first_piece (line ++ b ∷ []) more prefix in
     let length_is : LONGEST_LINE < length ((line ++ b ∷ []) ++ first.0) = simp (length-append, length-append) (omega arith) in
     ap (λ l. reading_of false n (slice_split is_newline l)) (sym (append_assoc line (b ∷ []) more)) ∙ ap (reading_of false n) first.2
     ∙ ap (λ t. before_others n t (reading_of false (next_number n) first.1)) (long_line ((line ++ b ∷ []) ++ first.0) length_is)
@@ -164,7 +164,7 @@ module _ {W : Type 0} (seen : W → Seen) where
   line_says : {old mid : ScreenOver W} {input r1 r2 : SourceSeen} {log l1 : Seen} {unused left line : List ℕ} {n : ℕ} {b : Bool}
       (s : SoFar old mid input r1 log l1 unused n b) (r : ReadsLine r1 r2 unused left line (Some Newline)) (failed : Bool) (more : List ℕ)
       → reading failed ((s.text ++ r.bytes) ++ more)
-      ≡ prepend s.made (before_others n (said_by_line line) (reading_of failed (next_number n) (slice_split is_newline (left ++ more))))
+      ≡ prepend s.made (before_others n (parse_line line) (reading_of failed (next_number n) (slice_split is_newline (left ++ more))))
   line_says {unused} {left} {line} {n} s r failed more =
       let together : unused ++ (r.bytes ++ more) ≡ line ++ 10 ∷ (left ++ more) =
       sym (append_assoc unused r.bytes more) ∙ ap (λ l. l ++ more) r.is_line.0 ∙ append_assoc line (10 ∷ left) more in
@@ -173,30 +173,30 @@ module _ {W : Type 0} (seen : W → Seen) where
       ∙ ap (prepend s.made) (line_of_script failed n line (left ++ more) r.no_newline)
 
   says_call : (made : List (ℕ × Call)) (n : ℕ) (said : Result (Option Call) TextFault) (call : Option Call) (others : Reading) → said ≡ Ok call
-      → prepend made (before_others n said others) ≡ prepend (made ++ numbered n call) others
+      → prepend made (before_others n said others) ≡ prepend (made ++ numbered_call n call) others
   says_call made n said call others e =
-      ap (λ t. prepend made (before_others n t others)) e ∙ ap (prepend made) (prepend_numbered n call others) ∙ prepend_twice made (numbered n call) others
+      ap (λ t. prepend made (before_others n t others)) e ∙ ap (prepend made) (prepend_numbered n call others) ∙ prepend_twice made (numbered_call n call) others
 
   -- one more line
   pub so_far_next : (old mid now : ScreenOver W) (input r1 r2 : SourceSeen) (log l1 l2 : Seen) (unused left line : List ℕ) (n : ℕ) (b : Bool) (end : ScriptEnd)
       → SoFar old mid input r1 log l1 unused n b → ReadsLine r1 r2 unused left line (Some Newline) → r2.met_end ≡ r1.met_end → ReadsOnce r1 r2
       → LineEnds seen mid now n line l1 l2 end → end.fault ≡ None → SoFar old now input r2 log l2 left (next_number n) (b || end.refused)
   so_far_next old mid now input r1 r2 log l1 l2 unused left line n b end s r met once e none =
-      let stop : (said_by_line line ≡ Ok e.call) × (now ≡ e.at_stop) = subst (λ f. LineStops seen n (said_by_line line) e.call e.at_stop f now) none e.stop in
-      let logs : Appends l1.taken l2.taken (log_text (log_lines (numbered n e.call) e.outcomes)) = subst (Logs l1 l2 (log_lines (numbered n e.call) e.outcomes)) none e.logs in
+      let stop : (parse_line line ≡ Ok e.call) × (now ≡ e.at_stop) = subst (λ f. LineStops seen n (parse_line line) e.call e.at_stop f now) none e.stop in
+      let logs : Appends l1.taken l2.taken (log_text (log_lines (numbered_call n e.call) e.outcomes)) = subst (Logs l1 l2 (log_lines (numbered_call n e.call) e.outcomes)) none e.logs in
       record {
         text = s.text ++ r.bytes;
-        made = s.made ++ numbered n e.call;
+        made = s.made ++ numbered_call n e.call;
         outcomes = s.outcomes ++ e.outcomes;
         read = Consumes-trans _ _ _ _ _ s.read r.read;
-        makes = makes_more s.made (numbered n e.call) s.makes (subst (Makes seen mid _ e.outcomes) (sym stop.1) e.makes);
-        logs = subst (Appends _ _) (sym (log_text-append (state_of old) s.made (numbered n e.call) s.outcomes e.outcomes s.makes.run)) (Appends-trans _ _ _ _ _ s.logs logs);
-        failures = e.failures ∙ ap (λ f. counted (log_failed f) l1.failures) none ∙ s.failures;
+        makes = makes_more s.made (numbered_call n e.call) s.makes (subst (Makes seen mid _ e.outcomes) (sym stop.1) e.makes);
+        logs = subst (Appends _ _) (sym (log_text-append (state_of old) s.made (numbered_call n e.call) s.outcomes e.outcomes s.makes.run)) (Appends-trans _ _ _ _ _ s.logs logs);
+        failures = e.failures ∙ ap (λ f. count_after (log_failed f) l1.failures) none ∙ s.failures;
         flushes = e.flushes ∙ s.flushes;
         met = met ∙ s.met;
         read_once = still_once input r1 r2 s.met s.read_once once;
         is_refused = ap (λ x. x || end.refused) s.is_refused ∙ ap (λ x. list_any is_refused s.outcomes || x) e.refused ∙ sym (list_any-append is_refused s.outcomes e.outcomes);
-        says = λ failed more. line_says s r failed more ∙ says_call s.made n (said_by_line line) e.call _ stop.0;
+        says = λ failed more. line_says s r failed more ∙ says_call s.made n (parse_line line) e.call _ stop.0;
       }
 
   -- How the script ends at a line, where z is what the script says after the line.
@@ -204,17 +204,17 @@ module _ {W : Type 0} (seen : W → Seen) where
       (fault : Option ScriptFault) → LineStops seen n said call at_stop fault now
       → ((more : List ℕ) → MayFollow ended more → reading false (text ++ more) ≡ prepend made (before_others n said (z more)))
       → (fault ≡ None → (ended ≡ true) × (z [] ≡ ends_with None))
-      → ScriptStops seen ended text (made ++ numbered n call) at_stop fault now
+      → ScriptStops seen ended text (made ++ numbered_call n call) at_stop fault now
   stops made n said call at_stop now ended text z None ls says last = (
     (last refl).0,
-    ap (reading false) (sym (append-nil text)) ∙ says [] (λ e. refl) ∙ says_call made n said call (z []) ls.0 ∙ ap (prepend (made ++ numbered n call)) (last refl).1
-        ∙ ap (λ (calls : List (ℕ × Call)). let x : Reading = record { calls = calls; fault = None } in x) (append-nil (made ++ numbered n call)),
+    ap (reading false) (sym (append-nil text)) ∙ says [] (λ e. refl) ∙ says_call made n said call (z []) ls.0 ∙ ap (prepend (made ++ numbered_call n call)) (last refl).1
+        ∙ ap (λ (calls : List (ℕ × Call)). let x : Reading = record { calls = calls; fault = None } in x) (append-nil (made ++ numbered_call n call)),
     ls.1,
   )
   stops made n said call at_stop now ended text z (Some (Text line fault)) ls says last = (
     λ more h. says more h ∙ ap (λ t. prepend made (before_others n t (z more))) ls.1
         ∙ ap (λ m. let x : Reading = record { calls = made ++ []; fault = Some (Text m fault) } in x) (sym ls.0)
-        ∙ ap (λ c. let x : Reading = record { calls = made ++ numbered n c; fault = Some (Text line fault) } in x) (sym ls.2),
+        ∙ ap (λ c. let x : Reading = record { calls = made ++ numbered_call n c; fault = Some (Text line fault) } in x) (sym ls.2),
     ls.3,
   )
   stops made n said call at_stop now ended text z (Some Reading_fault) ls says last = absurd ls
@@ -223,7 +223,7 @@ module _ {W : Type 0} (seen : W → Seen) where
       (z more).calls,
       ap (λ (r : Reading). r.calls) (says more h ∙ says_call made n said (Some (Refresh Doupdate)) (z more) ls.1)
           ∙ ap (λ m. (made ++ (m, Refresh Doupdate) ∷ []) ++ (z more).calls) (sym ls.0)
-          ∙ ap (λ l. (l ++ (line, Refresh Doupdate) ∷ []) ++ (z more).calls) (sym (append-nil made) ∙ ap (λ c. made ++ numbered n c) (sym ls.2)),
+          ∙ ap (λ l. (l ++ (line, Refresh Doupdate) ∷ []) ++ (z more).calls) (sym (append-nil made) ∙ ap (λ c. made ++ numbered_call n c) (sym ls.2)),
     ),
     ls.3,
   )
@@ -256,20 +256,20 @@ module _ {W : Type 0} (seen : W → Seen) where
   -- The script ends at a line.
   ends_at_line : (old mid now : ScreenOver W) (input r1 r2 : SourceSeen) (log l1 l2 : Seen) (unused line bytes : List ℕ) (n : ℕ) (b : Bool) (end : ScriptEnd) (z : List ℕ → Reading)
       (s : SoFar old mid input r1 log l1 unused n b) → Consumes r1.left r2.left bytes → ReadsOnce r1 r2 → LineEnds seen mid now n line l1 l2 end
-      → ((more : List ℕ) → MayFollow r2.met_end more → reading false ((s.text ++ bytes) ++ more) ≡ prepend s.made (before_others n (said_by_line line) (z more)))
+      → ((more : List ℕ) → MayFollow r2.met_end more → reading false ((s.text ++ bytes) ++ more) ≡ prepend s.made (before_others n (parse_line line) (z more)))
       → (end.fault ≡ None → (r2.met_end ≡ true) × (z [] ≡ ends_with None))
       → (end.fault ≡ None → IsAtEnd r2.left)
       → RunsLines seen old now input r2 log l2 (record { refused = b || end.refused; fault = end.fault })
   ends_at_line old mid now input r1 r2 log l1 l2 unused line bytes n b end z s read once e says last over = record {
     text = s.text ++ bytes;
-    made = s.made ++ numbered n e.call;
+    made = s.made ++ numbered_call n e.call;
     outcomes = s.outcomes ++ e.outcomes;
     at_stop = e.at_stop;
     read = Consumes-trans _ _ _ _ _ s.read read;
-    makes = makes_more s.made (numbered n e.call) s.makes e.makes;
-    stop = stops s.made n (said_by_line line) e.call e.at_stop now r2.met_end (s.text ++ bytes) z end.fault e.stop says last;
-    logs = logs_after (state_of old) s.made (numbered n e.call) s.outcomes e.outcomes log l1 l2 end.fault s.makes.run s.logs e.logs;
-    failures = e.failures ∙ ap (counted (log_failed end.fault)) s.failures;
+    makes = makes_more s.made (numbered_call n e.call) s.makes e.makes;
+    stop = stops s.made n (parse_line line) e.call e.at_stop now r2.met_end (s.text ++ bytes) z end.fault e.stop says last;
+    logs = logs_after (state_of old) s.made (numbered_call n e.call) s.outcomes e.outcomes log l1 l2 end.fault s.makes.run s.logs e.logs;
+    failures = e.failures ∙ ap (count_after (log_failed end.fault)) s.failures;
     flushes = e.flushes ∙ s.flushes;
     refused = ap (λ x. x || end.refused) s.is_refused ∙ ap (λ x. list_any is_refused s.outcomes || x) e.refused ∙ sym (list_any-append is_refused s.outcomes e.outcomes);
     at_end = over;

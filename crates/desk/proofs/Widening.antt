@@ -7,7 +7,7 @@ use Rattle.std.proofs.lemmas.Bool.Decides.{nat_tests}
 use Rattle.cell.specs.Pictures.{HasSize, Picture, origin, picture_of, shown_at}
 use Rattle.cell.specs.Shown.{Shown, shown_blank}
 use Rattle.cell.proofs.PictureLemmas.{HasSize-lines_from, cell_or-lines_from}
-use Rattle.paint.specs.Changes.{is_in, joined, may_change, stretch_of}
+use Rattle.paint.specs.Changes.{is_in, join, may_change, stretch_of}
 use Rattle.paint.specs.declared.changes.Stretch.{Stretch}
 use Rattle.paint.proofs.Changed.{not-added, not-before, out-of}
 use Rattle.paint.proofs.Copying.{same-outside}
@@ -32,13 +32,13 @@ use Rattle.world.specs.calls.Refresh.{among, touched_cells}
 -- what holds of the places before a line that can't change, and of those of this line, holds of those before the next
 pub wider : {Q : ℕ → ℕ → Type 0} (changes : List Stretch) (y : ℕ) (s : Stretch) (bound : ℕ) → ((v u : ℕ) → v < y → u < bound → may_change changes v u ≡ false → Q v u)
     → (y < length changes → (u : ℕ) → u < bound → is_in s u ≡ false → Q y u)
-    → (v u : ℕ) → v < y + 1 → v < length changes → u < bound → may_change (set changes y (joined (stretch_of changes y) s)) v u ≡ false → Q v u
+    → (v u : ℕ) → v < y + 1 → v < length changes → u < bound → may_change (set changes y (join (stretch_of changes y) s)) v u ≡ false → Q v u
 wider {Q} changes y s bound done here v u few inside left none = elim (cases_lt v y) [
   | inl before ↦ done v u before left (not-before changes y s v u none)
   | inr from ↦
       let line : v ≡ y = omega arith in
       subst (λ n. Q n u) (sym line)
-      (here (omega arith) u left (not-added changes y s u (omega arith) (subst (λ n. may_change (set changes y (joined (stretch_of changes y) s)) n u ≡ false) line none)))
+      (here (omega arith) u left (not-added changes y s u (omega arith) (subst (λ n. may_change (set changes y (join (stretch_of changes y) s)) n u ≡ false) line none)))
 ]
 
 and-right : (b c : Bool) → c ≡ false → (b && c) ≡ false

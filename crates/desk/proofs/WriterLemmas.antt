@@ -4,7 +4,7 @@ use Rattle.std.proofs.KnownBytes.{Appends-nil, Appends-trans}
 use Rattle.std.proofs.lemmas.List.Folds.{list_any-append}
 use Rattle.std.specs.List.{list_any}
 use Rattle.cell.specs.declared.refusal.Refusal.{Refusal}
-use Rattle.streams.specs.Counts.{counted}
+use Rattle.streams.specs.Counts.{count_after}
 use Rattle.streams.specs.Sinks.{Seen}
 use Rattle.streams.specs.declared.sending.WriteFault.{WriteFault}
 use Rattle.paint.specs.Updates.{BreaksOff, Updates}
@@ -35,7 +35,7 @@ never-refused w refresh e none no_memory (inr h) = let no : false ≡ true = sym
 
 flushes_after-append : (flushes : ℕ) (calls more : List Call) → flushes_after flushes (calls ++ more) ≡ flushes_after (flushes_after flushes calls) more
 flushes_after-append flushes [] more = refl
-flushes_after-append flushes (call ∷ calls) more = flushes_after-append (counted (is_doupdate call) flushes) calls more
+flushes_after-append flushes (call ∷ calls) more = flushes_after-append (count_after (is_doupdate call) flushes) calls more
 
 or-damaged : (damaged affected : Bool) → damaged ≡ true → (damaged || affected) ≡ true
 or-damaged true affected h = refl
@@ -63,7 +63,7 @@ module _ {W : Type 0} (seen : W → Seen) where
   quiet : (old new : ScreenOver W) (call : Call) → is_doupdate call ≡ false → new.writer ≡ old.writer → Writes seen old new (call ∷ []) []
   quiet old new call other same = subst (λ w. Writes seen old (record new { writer = w }) (call ∷ []) []) (sym same) (record {
     taken = Appends-nil _;
-    flushes = ap (λ b. counted b (seen old.writer).flushes) (sym other);
+    flushes = ap (λ b. count_after b (seen old.writer).flushes) (sym other);
     flushed = ap (λ b. (b || false) || (seen old.writer).flushed) (sym other);
   })
 

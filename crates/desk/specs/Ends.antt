@@ -2,7 +2,7 @@
 use Rattle.std.specs.Prelude.{◌≡◌, ◌≤◌, ◌==◌, ◌||◌, ℕ, List, [], ◌∷◌, ◌++◌, Bool, true, false, length, take, Option, Some, None, Result, Ok, Err, count_by, sum_by}
 use Rattle.std.specs.List.{list_any}
 use Rattle.std.specs.Io.KnownBytes.{Appends}
-use Rattle.streams.specs.Counts.{counted}
+use Rattle.streams.specs.Counts.{count_after}
 use Rattle.streams.specs.Sinks.{Seen}
 use Rattle.paint.specs.Updates.{IsUpdateText}
 use Rattle.streams.specs.declared.sending.WriteFault.{WriteFault}
@@ -46,7 +46,7 @@ module _ {W : Type 0} (seen : W → Seen) where
     pub is_text : IsUpdateText old.painter old.desk.virtual.clear (wanted (world old.desk)) text
     pub within : fault.sent ≤ length text
     pub bytes : Took old new (take fault.sent text)
-    pub flushes : (seen new.writer).flushes ≡ counted (fault.sent == length text) (seen old.writer).flushes
+    pub flushes : (seen new.writer).flushes ≡ count_after (fault.sent == length text) (seen old.writer).flushes
 
   -- One call ended so.
   abbrev pub CallEnds : ScreenOver W → Call → Result Reply Fault → ScreenOver W → Type 0

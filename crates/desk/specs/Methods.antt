@@ -1,6 +1,6 @@
 -- A call made on a screen.
 use Rattle.std.specs.Prelude.{◌≡◌, ◌∷◌, ℕ, [], is_some, Result}
-use Rattle.streams.specs.Counts.{counted}
+use Rattle.streams.specs.Counts.{count_after}
 use Rattle.streams.specs.Sinks.{Seen}
 use Rattle.compose.specs.Desks.{world}
 use Rattle.world.specs.Sound.{IsSound}
@@ -16,7 +16,7 @@ module _ {W : Type 0} (seen : W → Seen) (name : W → ℕ) where
   pub record CallMade (old : ScreenOver W) (call : Call) (end : Result Reply Fault) (new : ScreenOver W) : Type 0 where
     pub ends : CallEnds seen old call end new
     pub shown : RunShows seen old new (call ∷ []) (cut_of end)
-    pub failures : (seen new.writer).failures ≡ counted (is_some (cut_of end)) (seen old.writer).failures
+    pub failures : (seen new.writer).failures ≡ count_after (is_some (cut_of end)) (seen old.writer).failures
     pub same : name new.writer ≡ name old.writer
     pub sound : IsSound (world new.desk)
     pub size : KeepsSize old.desk new.desk

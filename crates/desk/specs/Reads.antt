@@ -14,16 +14,16 @@ with_acceptance (call ∷ calls) (outcome ∷ outcomes) = (call, is_accepted out
 with_acceptance _ _ = []
 
 -- how many places of the virtual screen an update_panels changes
-abbrev pub redrawn : World → Call → ℕ
-redrawn world call = if is_update_panels call then difference world.virtual.picture (world_after world call).virtual.picture else 0
+abbrev pub places_redrawn : World → Call → ℕ
+places_redrawn world call = if is_update_panels call then difference world.virtual.picture (world_after world call).virtual.picture else 0
 
 -- how many all update_panels of a run change
-abbrev pub redrawn_in_run : World → List (Call × Bool) → ℕ
-redrawn_in_run world [] = 0
-redrawn_in_run world (call ∷ calls) =
-    if call.1 then redrawn world call.0 + redrawn_in_run (world_after world call.0) calls else redrawn_in_run world calls
+abbrev pub places_redrawn_in_run : World → List (Call × Bool) → ℕ
+places_redrawn_in_run world [] = 0
+places_redrawn_in_run world (call ∷ calls) =
+    if call.1 then places_redrawn world call.0 + places_redrawn_in_run (world_after world call.0) calls else places_redrawn_in_run world calls
 
 -- The update_panels of a run read at least as many cells as they changed places, and at most as many as `bound_on_reads` says.
 pub record ReadsFew (s : State) (calls : List (Call × Bool)) (cells : ℕ) : Type 0 where
-  pub at_least : redrawn_in_run s.world calls ≤ cells
+  pub at_least : places_redrawn_in_run s.world calls ≤ cells
   pub at_most : cells ≤ bound_on_reads s.world s.damaged calls

@@ -3,7 +3,7 @@ use Rattle.std.specs.Prelude.{◌≡◌, ℕ, ◌≤◌, if◌then◌else◌, Li
 use Rattle.std.specs.List.{flat_map}
 use Rattle.cell.specs.declared.refusal.Refusal.{Refusal}
 use Rattle.paint.specs.Updates.{IsUpdateText, most_bytes}
-use Rattle.streams.specs.Counts.{counted}
+use Rattle.streams.specs.Counts.{count_after}
 use Rattle.compose.specs.Calling.{MayRefuse, MayTell}
 use Rattle.world.specs.calls.Dispatch.{is_doupdate, refusal}
 use Rattle.desk.specs.States.{State, after, wanted}
@@ -79,7 +79,7 @@ cells_read outcome = cells_of_answer outcome.answer
 -- a count of flushes after these calls: a doupdate flushes once
 abbrev pub flushes_after : ℕ → List Call → ℕ
 flushes_after flushes [] = flushes
-flushes_after flushes (call ∷ calls) = flushes_after (counted (is_doupdate call) flushes) calls
+flushes_after flushes (call ∷ calls) = flushes_after (count_after (is_doupdate call) flushes) calls
 
 -- all bytes that were sent
 abbrev pub all_sent : List Outcome → List ℕ

@@ -3,13 +3,13 @@ use Rattle.std.specs.Prelude.{◌≡◌, ◌⊎◌, ◌<◌, ◌∷◌, ◌++◌
 use Rattle.std.specs.List.{flat_map, list_any}
 use Rattle.std.specs.Io.KnownBytes.{Appends, Consumes, IsAtEnd, Keeps}
 use Rattle.streams.specs.Sinks.{Seen}
-use Rattle.streams.specs.Counts.{counted, next_count}
+use Rattle.streams.specs.Counts.{count_after, next_count}
 use Rattle.streams.specs.declared.sending.WriteFault.{WriteFault}
 use Rattle.desk.specs.Runs.{Outcome, is_refused}
 use Rattle.desk.specs.Ends.{IsCut, Makes}
 use Rattle.desk.specs.Showing.{RunShows}
 use Rattle.streams.specs.Sources.{SourceSeen}
-use Rattle.script.specs.Readings.{Reading, reading, said_by_line}
+use Rattle.script.specs.Readings.{Reading, reading, parse_line}
 use Rattle.script.specs.Log.{log_line}
 use Rattle.world.specs.declared.call.Call.{Call}
 use Rattle.world.specs.declared.call.Call.TheVariants.{Refresh}
@@ -92,9 +92,9 @@ LogCloses (Some earlier) logged written fault = (FlushSucceeds logged written �
 -- ---- its lines
 
 -- the call of a line, with its number
-abbrev pub numbered : ℕ → Option Call → List (ℕ × Call)
-numbered number None = []
-numbered number (Some call) = (number, call) ∷ []
+abbrev pub numbered_call : ℕ → Option Call → List (ℕ × Call)
+numbered_call number None = []
+numbered_call number (Some call) = (number, call) ∷ []
 
 abbrev pub calls_of : List (ℕ × Call) → List Call
 calls_of = map (λ call. call.1)
@@ -114,10 +114,10 @@ module _ {W : Type 0} (seen : W → Seen) where
     pub call : Option Call
     pub outcomes : List Outcome
     pub at_stop : ScreenOver W
-    pub makes : Makes seen old (calls_of (numbered number call)) outcomes at_stop
-    pub stop : LineStops number (said_by_line line) call at_stop end.fault new
-    pub logs : Logs log written (log_lines (numbered number call) outcomes) end.fault
-    pub failures : written.failures ≡ counted (log_failed end.fault) log.failures
+    pub makes : Makes seen old (calls_of (numbered_call number call)) outcomes at_stop
+    pub stop : LineStops number (parse_line line) call at_stop end.fault new
+    pub logs : Logs log written (log_lines (numbered_call number call) outcomes) end.fault
+    pub failures : written.failures ≡ count_after (log_failed end.fault) log.failures
     pub flushes : written.flushes ≡ log.flushes
     pub refused : end.refused ≡ list_any is_refused outcomes
 
@@ -148,7 +148,7 @@ module _ {W : Type 0} (seen : W → Seen) where
     pub makes : Makes seen old (calls_of made) outcomes at_stop
     pub stop : ScriptStops rest.met_end text made at_stop end.fault new
     pub logs : Logs log written (log_lines made outcomes) end.fault
-    pub failures : written.failures ≡ counted (log_failed end.fault) log.failures
+    pub failures : written.failures ≡ count_after (log_failed end.fault) log.failures
     pub flushes : written.flushes ≡ log.flushes
     pub refused : end.refused ≡ list_any is_refused outcomes
     -- Without a fault the source has no byte left.

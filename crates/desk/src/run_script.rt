@@ -4,8 +4,8 @@ ghost use Rattle.std.specs.Prelude.{◌≡◌, ◌≤◌, ◌||◌, length, is_e
 ghost use Rattle.world.specs.Sound.{IsSound};
 ghost use Rattle.script.specs.Words.{placeless};
 ghost use Rattle.desk.specs.Ends.{CallEnds};
-ghost use Rattle.desk.specs.steps.Answers.{joined};
-ghost use Rattle.streams.specs.Counts.{counted};
+ghost use Rattle.desk.specs.steps.Answers.{call_end};
+ghost use Rattle.streams.specs.Counts.{count_after};
 ghost use Rattle.compose.specs.Desks.{world};
 ghost use Rattle.desk.specs.ScriptEnds.{LineEnds, RunsLines, ScriptEnds, log_failed, read_failed, write_fault};
 ghost use Rattle.desk.specs.States.{KeepsSize};
@@ -22,8 +22,8 @@ use world::{Call, Reply};
 impl<W: Sink> Screen<W> {
     /// Makes a call, and answers what the log says of it.
     fn answer(&mut self, call: &Call<'_>) -> Result<Result<Reply, Refusal>, WriteFault>
-        ensures answer { CallEnds W.seen self.old (placeless call.now) (joined result) self.new }
-        ensures failures { (W.seen self.new.writer).failures ≡ counted (is_err result) (W.seen self.old.writer).failures }
+        ensures answer { CallEnds W.seen self.old (placeless call.now) (call_end result) self.new }
+        ensures failures { (W.seen self.new.writer).failures ≡ count_after (is_err result) (W.seen self.old.writer).failures }
         ensures same { W.name self.new.writer ≡ W.name self.old.writer }
     {
         match self.make_call(call) {
@@ -43,7 +43,7 @@ impl<W: Sink> Screen<W> {
     ) -> ScriptEnd
         requires { length line.now ≤ LONGEST_LINE }
         ensures line { LineEnds W.seen self.old self.new number line.now (L.seen log.old) (L.seen log.new) result }
-        ensures writer { (W.seen self.new.writer).failures ≡ counted (is_some (write_fault result.fault)) (W.seen self.old.writer).failures }
+        ensures writer { (W.seen self.new.writer).failures ≡ count_after (is_some (write_fault result.fault)) (W.seen self.old.writer).failures }
         ensures same { W.name self.new.writer ≡ W.name self.old.writer }
         ensures reads { read_failed result.fault ≡ false }
     {
@@ -73,8 +73,8 @@ impl<W: Sink> Screen<W> {
     /// Makes the calls of the script's lines in order.
     fn run_lines<R: Source, L: Sink>(&mut self, input: &mut R, log: &mut L) -> ScriptEnd
         ensures lines { RunsLines W.seen self.old self.new (R.seen input.old) (R.seen input.new) (L.seen log.old) (L.seen log.new) result }
-        ensures reading { (R.seen input.new).failures ≡ counted (read_failed result.fault) (R.seen input.old).failures }
-        ensures writer { (W.seen self.new.writer).failures ≡ counted (is_some (write_fault result.fault)) (W.seen self.old.writer).failures }
+        ensures reading { (R.seen input.new).failures ≡ count_after (read_failed result.fault) (R.seen input.old).failures }
+        ensures writer { (W.seen self.new.writer).failures ≡ count_after (is_some (write_fault result.fault)) (W.seen self.old.writer).failures }
         ensures same { W.name self.new.writer ≡ W.name self.old.writer }
     {
         let mut lines = Lines::new();
@@ -111,8 +111,8 @@ impl<W: Sink> Screen<W> {
     /// is refused. It flushes the log once, unless it failed before.
     pub fn run_script<R: Source, L: Sink>(&mut self, input: &mut R, log: &mut L) -> ScriptEnd
         ensures script { ScriptEnds W.seen self.old self.new (R.seen input.old) (R.seen input.new) (L.seen log.old) (L.seen log.new) result }
-        ensures reading { (R.seen input.new).failures ≡ counted (read_failed result.fault) (R.seen input.old).failures }
-        ensures writer { (W.seen self.new.writer).failures ≡ counted (is_some (write_fault result.fault)) (W.seen self.old.writer).failures }
+        ensures reading { (R.seen input.new).failures ≡ count_after (read_failed result.fault) (R.seen input.old).failures }
+        ensures writer { (W.seen self.new.writer).failures ≡ count_after (is_some (write_fault result.fault)) (W.seen self.old.writer).failures }
         ensures same { W.name self.new.writer ≡ W.name self.old.writer }
         ensures sound { IsSound (world self.new.desk) }
         ensures size { KeepsSize self.old.desk self.new.desk }

@@ -8,7 +8,7 @@ ghost use Rattle.cell.specs.Refusals.{RefusedBy};
 ghost use Rattle.world.specs.Sound.{IsSound};
 ghost use Rattle.world.specs.World.{first_world};
 ghost use Rattle.world.specs.calls.Dispatch.{is_doupdate};
-ghost use Rattle.streams.specs.Counts.{counted};
+ghost use Rattle.streams.specs.Counts.{count_after};
 ghost use Rattle.paint.specs.Updates.{first_painter};
 ghost use Rattle.compose.specs.Desks.{is_damaged_line, world};
 ghost use Rattle.desk.specs.Runs.{cells_of_reply};
@@ -175,7 +175,7 @@ impl<W: Sink> Screen<W> {
     #[inline(always)]
     pub(crate) fn make_call(&mut self, call: &Call<'_>) -> Result<Reply, Fault>
         ensures call { CallEnds W.seen self.old call.now result self.new }
-        ensures failures { (W.seen self.new.writer).failures ≡ counted (is_some (cut_of result)) (W.seen self.old.writer).failures }
+        ensures failures { (W.seen self.new.writer).failures ≡ count_after (is_some (cut_of result)) (W.seen self.old.writer).failures }
         ensures same { W.name self.new.writer ≡ W.name self.old.writer }
     {
         match *call {
@@ -189,7 +189,7 @@ impl<W: Sink> Screen<W> {
     fn call_desk(&mut self, call: &Call<'_>) -> Result<Reply, Fault>
         requires { is_doupdate call.now ≡ false }
         ensures call { CallEnds W.seen self.old call.now result self.new }
-        ensures failures { (W.seen self.new.writer).failures ≡ counted (is_some (cut_of result)) (W.seen self.old.writer).failures }
+        ensures failures { (W.seen self.new.writer).failures ≡ count_after (is_some (cut_of result)) (W.seen self.old.writer).failures }
         ensures same { W.name self.new.writer ≡ W.name self.old.writer }
     {
         widen_for(&mut self.changes, &self.desk, call);
@@ -199,7 +199,7 @@ impl<W: Sink> Screen<W> {
     /// Shows the virtual screen.
     fn send_update(&mut self) -> Result<Sent, Fault>
         ensures call { CallEnds W.seen self.old (Call.Refresh Refresh.Doupdate) (told Reply.Sent result) self.new }
-        ensures failures { (W.seen self.new.writer).failures ≡ counted (is_some (cut_of (told Reply.Sent result))) (W.seen self.old.writer).failures }
+        ensures failures { (W.seen self.new.writer).failures ≡ count_after (is_some (cut_of (told Reply.Sent result))) (W.seen self.old.writer).failures }
         ensures same { W.name self.new.writer ≡ W.name self.old.writer }
     {
         prove!(self.is_sound());
@@ -222,7 +222,7 @@ impl<W: Sink> Screen<W> {
     pub fn run(&mut self, calls: &[Call<'_>]) -> RunEnd
         ensures run { RunEnds W.seen self.old calls.now result self.new }
         ensures shown { RunShows W.seen self.old self.new calls.now result.fault }
-        ensures failures { (W.seen self.new.writer).failures ≡ counted (is_some result.fault) (W.seen self.old.writer).failures }
+        ensures failures { (W.seen self.new.writer).failures ≡ count_after (is_some result.fault) (W.seen self.old.writer).failures }
         ensures same { W.name self.new.writer ≡ W.name self.old.writer }
         ensures sound { IsSound (world self.new.desk) }
         ensures size { KeepsSize self.old.desk self.new.desk }
@@ -235,7 +235,7 @@ impl<W: Sink> Screen<W> {
 
     fn run_calls(&mut self, calls: &[Call<'_>]) -> RunEnd
         ensures run { RunEnds W.seen self.old calls.now result self.new }
-        ensures failures { (W.seen self.new.writer).failures ≡ counted (is_some result.fault) (W.seen self.old.writer).failures }
+        ensures failures { (W.seen self.new.writer).failures ≡ count_after (is_some result.fault) (W.seen self.old.writer).failures }
         ensures same { W.name self.new.writer ≡ W.name self.old.writer }
     {
         let mut end = RunEnd {

@@ -10,14 +10,14 @@ use Rattle.ecma.specs.Terminals.{Terminal, print, effect}
 use Rattle.ecma.proofs.Numbers.{each-append}
 use Rattle.ecma.proofs.Printing.{from_space}
 use Rattle.ecma.proofs.Stopping.{NoEffect}
-use Rattle.ecma.proofs.Unique.{IsInner, Stops, cut, All-append, All-front, joined-inner, final-stops, not-digit, not-escape, shape-of, same-parameters}
+use Rattle.ecma.proofs.Unique.{IsInner, Stops, cut, All-append, All-prefix, joined-inner, final-stops, not-digit, not-escape, shape-of, same-parameters}
 
 -- ---- in text
 
 escape-first : (byte : ℕ) (q following : List ℕ) → IsBeginning q → byte ∷ [] ≡ q ++ following → byte ≡ 27
 escape-first byte q following h e = elim (shape-of q h) [
-  | inl lone ↦ let whole : byte ∷ [] ≡ 27 ∷ following = e ∙ ap (λ (front : List ℕ). front ++ following) lone in cc
-  | inr begins ↦ let whole : byte ∷ [] ≡ 27 ∷ 91 ∷ (begins.inner ++ following) = e ∙ ap (λ (front : List ℕ). front ++ following) begins.is in cc
+  | inl lone ↦ let whole : byte ∷ [] ≡ 27 ∷ following = e ∙ ap (λ (prefix : List ℕ). prefix ++ following) lone in cc
+  | inr begins ↦ let whole : byte ∷ [] ≡ 27 ∷ 91 ∷ (begins.inner ++ following) = e ∙ ap (λ (prefix : List ℕ). prefix ++ following) begins.is in cc
 ]
 
 pub NoEffect-text : (byte : ℕ) (t : Terminal) → (byte ≡ 27 → ⊥) → (IsTrue (is_printable byte) → print byte t ≡ None) → NoEffect (byte ∷ []) t
@@ -38,11 +38,11 @@ NoEffect-escape byte t other no_bracket = record { each = none } where
   none (Control function parameters) following e is p = absurd (let same : byte ≡ 91 = cc in no_bracket same)
   none (Unfinished q) following e is p = elim (shape-of q is) [
     | inl lone ↦
-        let whole : 27 ∷ byte ∷ [] ≡ 27 ∷ following = e ∙ ap (λ (front : List ℕ). front ++ following) lone in
-        let behind : byte ∷ [] ≡ following = cc in
-        absurd (not-escape byte [] following other behind p)
+        let whole : 27 ∷ byte ∷ [] ≡ 27 ∷ following = e ∙ ap (λ (prefix : List ℕ). prefix ++ following) lone in
+        let after : byte ∷ [] ≡ following = cc in
+        absurd (not-escape byte [] following other after p)
     | inr begins ↦
-        let whole : 27 ∷ byte ∷ [] ≡ 27 ∷ 91 ∷ (begins.inner ++ following) = e ∙ ap (λ (front : List ℕ). front ++ following) begins.is in
+        let whole : 27 ∷ byte ∷ [] ≡ 27 ∷ 91 ∷ (begins.inner ++ following) = e ∙ ap (λ (prefix : List ℕ). prefix ++ following) begins.is in
         absurd (let same : byte ≡ 91 = cc in no_bracket same)
   ]
 
@@ -77,13 +77,13 @@ module _ (ps : List (List ℕ)) (byte : ℕ) (t : Terminal) (h : AreParameters p
   none-control function qs following k e none = elim (is_inner byte) [
     | inl inner ↦
         let all : AllByRecursion IsInner ((join_with_byte 59 qs ++ final_byte function ∷ []) ++ following) = subst (λ (bytes : List ℕ). AllByRecursion IsInner bytes) e (all-inner inner) in
-        let last = All-back (join_with_byte 59 qs) (final_byte function ∷ []) (All-front (join_with_byte 59 qs ++ final_byte function ∷ []) following all) in
+        let last = All-back (join_with_byte 59 qs) (final_byte function ∷ []) (All-prefix (join_with_byte 59 qs ++ final_byte function ∷ []) following all) in
         absurd (final-stops function [] last.0)
     | inr stops ↦
         let both = cut IsInner (join_with_byte 59 ps) (join_with_byte 59 qs) (byte ∷ []) (final_byte function ∷ following) (joined-inner ps h.digits) (joined-inner qs k.digits) stops
         (final-stops function following)
         (e ∙ append_assoc (join_with_byte 59 qs) (final_byte function ∷ []) following) in
-        let behind : byte ∷ [] ≡ final_byte function ∷ following = both.second in
+        let after : byte ∷ [] ≡ final_byte function ∷ following = both.second in
         let final : byte ≡ final_byte function = cc in
         subst (λ (parameters : List (List ℕ)). effect (Control function parameters) t ≡ None) (same-joined ps qs h k both.first) (none final)
   ]
@@ -100,7 +100,7 @@ module _ (ps : List (List ℕ)) (byte : ℕ) (t : Terminal) (h : AreParameters p
         omega (arith, last.0.0)
     | inr stops ↦
         let both = cut IsInner (join_with_byte 59 ps) inner (byte ∷ []) (x ∷ following) (joined-inner ps h.digits) each stops (λ last. omega (arith, last.0)) e in
-        let behind : byte ∷ [] ≡ x ∷ following = both.second in
+        let after : byte ∷ [] ≡ x ∷ following = both.second in
         let same : byte ≡ x = cc in other (same ∙ there)
   ]
 
@@ -111,17 +111,17 @@ module _ (ps : List (List ℕ)) (byte : ℕ) (t : Terminal) (h : AreParameters p
     none : (item : Item) (following : List ℕ) → 27 ∷ 91 ∷ (join_with_byte 59 ps ++ byte ∷ []) ≡ bytes_of item ++ following → IsItem item → MayPrecede item following → effect item t ≡ None
     none (Printable c) following e is p = absurd (let same : 27 ≡ c = cc in omega (arith, from_space c is))
     none (Control function parameters) following e is p =
-        let behind : join_with_byte 59 ps ++ byte ∷ [] ≡ (join_with_byte 59 parameters ++ final_byte function ∷ []) ++ following = cc in
-        none-control function parameters following is behind (ends function)
+        let after : join_with_byte 59 ps ++ byte ∷ [] ≡ (join_with_byte 59 parameters ++ final_byte function ∷ []) ++ following = cc in
+        none-control function parameters following is after (ends function)
     none (Unfinished q) following e is p = elim (shape-of q is) [
       | inl lone ↦
-          let whole : 27 ∷ 91 ∷ (join_with_byte 59 ps ++ byte ∷ []) ≡ 27 ∷ following = e ∙ ap (λ (front : List ℕ). front ++ following) lone in
-          let behind : 91 ∷ (join_with_byte 59 ps ++ byte ∷ []) ≡ following = cc in
-          absurd (not-escape 91 (join_with_byte 59 ps ++ byte ∷ []) following (λ same. omega arith) behind p)
+          let whole : 27 ∷ 91 ∷ (join_with_byte 59 ps ++ byte ∷ []) ≡ 27 ∷ following = e ∙ ap (λ (prefix : List ℕ). prefix ++ following) lone in
+          let after : 91 ∷ (join_with_byte 59 ps ++ byte ∷ []) ≡ following = cc in
+          absurd (not-escape 91 (join_with_byte 59 ps ++ byte ∷ []) following (λ same. omega arith) after p)
       | inr begins ↦
-          let whole : 27 ∷ 91 ∷ (join_with_byte 59 ps ++ byte ∷ []) ≡ 27 ∷ 91 ∷ (begins.inner ++ following) = e ∙ ap (λ (front : List ℕ). front ++ following) begins.is in
-          let behind : join_with_byte 59 ps ++ byte ∷ [] ≡ begins.inner ++ following = cc in
-          absurd (none-begun begins.inner following begins.each p (subst IsBeginning begins.is is) behind goes_on)
+          let whole : 27 ∷ 91 ∷ (join_with_byte 59 ps ++ byte ∷ []) ≡ 27 ∷ 91 ∷ (begins.inner ++ following) = e ∙ ap (λ (prefix : List ℕ). prefix ++ following) begins.is in
+          let after : join_with_byte 59 ps ++ byte ∷ [] ≡ begins.inner ++ following = cc in
+          absurd (none-begun begins.inner following begins.each p (subst IsBeginning begins.is is) after goes_on)
     ]
 
 -- ---- too many digits, and too many parameters
@@ -154,21 +154,21 @@ record Others (qs : List (List ℕ)) (function : Function) (bytes : List ℕ) : 
   rest : List (List ℕ)
   is : ◌≡◌ {A = List (List ℕ)} qs (first ∷ rest)
   some : 1 ≤ length rest
-  behind : bytes ≡ join_with_byte 59 rest ++ final_byte function ∷ []
+  after : bytes ≡ join_with_byte 59 rest ++ final_byte function ∷ []
 
 others : (a bytes : List ℕ) (qs : List (List ℕ)) (function : Function) → AllByRecursion IsDigit a → AllByRecursion (AllByRecursion IsDigit) qs → 1 ≤ length qs
     → a ++ 59 ∷ bytes ≡ join_with_byte 59 qs ++ final_byte function ∷ [] → Others qs function bytes
 others a bytes [] function h k one e = absurd (omega arith)
 others a bytes (q ∷ []) function h k one e =
     let both = cut IsDigit a q (59 ∷ bytes) (final_byte function ∷ []) h k.0 not-digit (final-no_digit function) e in
-    let behind : 59 ∷ bytes ≡ final_byte function ∷ [] = both.second in
+    let after : 59 ∷ bytes ≡ final_byte function ∷ [] = both.second in
     let same : 59 ≡ final_byte function = cc in
     absurd (final-no_separator function same)
 others a bytes (q ∷ r ∷ qs) function h k one e =
     let both = cut IsDigit a q (59 ∷ bytes) (59 ∷ (join_with_byte 59 (r ∷ qs) ++ final_byte function ∷ [])) h k.0 not-digit not-digit
     (e ∙ append_assoc q (59 ∷ join_with_byte 59 (r ∷ qs)) (final_byte function ∷ [])) in
-    let behind : 59 ∷ bytes ≡ 59 ∷ (join_with_byte 59 (r ∷ qs) ++ final_byte function ∷ []) = both.second in
-    record { first = q; rest = r ∷ qs; is = refl; some = omega arith; behind = cc }
+    let after : 59 ∷ bytes ≡ 59 ∷ (join_with_byte 59 (r ∷ qs) ++ final_byte function ∷ []) = both.second in
+    record { first = q; rest = r ∷ qs; is = refl; some = omega arith; after = cc }
 
 pub join-more : (a : List ℕ) (ended : List (List ℕ)) (current : List ℕ) → join_with_byte 59 (a ∷ (ended ++ current ∷ [])) ≡ a ++ 59 ∷ join_with_byte 59 (ended ++ current ∷ [])
 join-more a [] current = refl
@@ -196,10 +196,10 @@ current-short : (ended : List (List ℕ)) (current : List ℕ) (byte : ℕ) (mis
 current-short [] current byte missing qs function h k short one digit e = current-first current byte missing qs function h.0 short one digit e
 current-short (a ∷ ended) current byte missing qs function h k short one digit e =
     let next = others a (join_with_byte 59 (ended ++ current ∷ []) ++ byte ∷ missing) qs function h.0 k one
-    (sym (append_assoc a (59 ∷ join_with_byte 59 (ended ++ current ∷ [])) (byte ∷ missing)) ∙ sym (ap (λ (front : List ℕ). front ++ byte ∷ missing) (join-more a ended current)) ∙ e) in
+    (sym (append_assoc a (59 ∷ join_with_byte 59 (ended ++ current ∷ [])) (byte ∷ missing)) ∙ sym (ap (λ (prefix : List ℕ). prefix ++ byte ∷ missing) (join-more a ended current)) ∙ e) in
     let digits = subst AreDigits next.is k in
     let lengths = subst AreShort next.is short in
-    current-short ended current byte missing next.rest function h.1 digits.1 lengths.1 next.some digit next.behind
+    current-short ended current byte missing next.rest function h.1 digits.1 lengths.1 next.some digit next.after
 
 ended-few : (ended : List (List ℕ)) (current : List ℕ) (missing : List ℕ) (qs : List (List ℕ)) (function : Function) → AreDigits (ended ++ current ∷ []) → AreDigits qs → 1 ≤ length qs
     → join_with_byte 59 (ended ++ current ∷ []) ++ 59 ∷ missing ≡ join_with_byte 59 qs ++ final_byte function ∷ [] → length ended + 2 ≤ length qs
@@ -209,29 +209,29 @@ ended-few [] current missing qs function h k one e =
     let some = next.some in omega arith
 ended-few (a ∷ ended) current missing qs function h k one e =
     let next = others a (join_with_byte 59 (ended ++ current ∷ []) ++ 59 ∷ missing) qs function h.0 k one
-    (sym (append_assoc a (59 ∷ join_with_byte 59 (ended ++ current ∷ [])) (59 ∷ missing)) ∙ sym (ap (λ (front : List ℕ). front ++ 59 ∷ missing) (join-more a ended current)) ∙ e) in
+    (sym (append_assoc a (59 ∷ join_with_byte 59 (ended ++ current ∷ [])) (59 ∷ missing)) ∙ sym (ap (λ (prefix : List ℕ). prefix ++ 59 ∷ missing) (join-more a ended current)) ∙ e) in
     let digits = subst AreDigits next.is k in
     let long : length qs ≡ length (next.first ∷ next.rest) = ap length next.is in
-    let few = ended-few ended current missing next.rest function h.1 digits.1 next.some next.behind in omega arith
+    let few = ended-few ended current missing next.rest function h.1 digits.1 next.some next.after in omega arith
 
 pub no-more_digits : (ended : List (List ℕ)) (current : List ℕ) (byte : ℕ) → AreParameters (ended ++ current ∷ []) → IsDigit byte → 3 ≤ length current
     → IsBeginning (27 ∷ 91 ∷ (join_with_byte 59 (ended ++ current ∷ []) ++ byte ∷ [])) → ⊥
 no-more_digits ended current byte h digit full begins =
-    let front = join_with_byte 59 (ended ++ current ∷ []) in
+    let prefix = join_with_byte 59 (ended ++ current ∷ []) in
     let whole = begins.goes_on in
-    let tail : (front ++ byte ∷ []) ++ begins.missing ≡ join_with_byte 59 begins.parameters ++ final_byte begins.function ∷ [] = cc in
+    let tail : (prefix ++ byte ∷ []) ++ begins.missing ≡ join_with_byte 59 begins.parameters ++ final_byte begins.function ∷ [] = cc in
     let short = current-short ended current byte begins.missing begins.parameters begins.function h.digits begins.well_formed.digits begins.well_formed.short begins.well_formed.one digit
-    (sym (append_assoc front (byte ∷ []) begins.missing) ∙ tail) in
+    (sym (append_assoc prefix (byte ∷ []) begins.missing) ∙ tail) in
     omega arith
 
 pub no-more_parameters : (ended : List (List ℕ)) (current : List ℕ) → AreParameters (ended ++ current ∷ []) → 15 ≤ length ended
     → IsBeginning (27 ∷ 91 ∷ (join_with_byte 59 (ended ++ current ∷ []) ++ 59 ∷ [])) → ⊥
 no-more_parameters ended current h full begins =
-    let front = join_with_byte 59 (ended ++ current ∷ []) in
+    let prefix = join_with_byte 59 (ended ++ current ∷ []) in
     let whole = begins.goes_on in
-    let tail : (front ++ 59 ∷ []) ++ begins.missing ≡ join_with_byte 59 begins.parameters ++ final_byte begins.function ∷ [] = cc in
+    let tail : (prefix ++ 59 ∷ []) ++ begins.missing ≡ join_with_byte 59 begins.parameters ++ final_byte begins.function ∷ [] = cc in
     let few = ended-few ended current begins.missing begins.parameters begins.function h.digits begins.well_formed.digits begins.well_formed.one
-    (sym (append_assoc front (59 ∷ []) begins.missing) ∙ tail) in
+    (sym (append_assoc prefix (59 ∷ []) begins.missing) ∙ tail) in
     omega (arith, begins.well_formed.most)
 
 -- ---- a byte that no parameters have
@@ -255,15 +255,15 @@ joined-no_colon (digits ∷ []) h = digits-no_colon digits h.0
 joined-no_colon (digits ∷ next ∷ parameters) h =
     each-append (λ byte. byte ≡ 58 → ⊥) digits (59 ∷ join_with_byte 59 (next ∷ parameters)) (digits-no_colon digits h.0) ((λ e. omega arith), joined-no_colon (next ∷ parameters) h.1)
 
-no-colon_behind : (front missing : List ℕ) → NoColon (front ++ 58 ∷ missing) → ⊥
-no-colon_behind [] missing h = h.0 refl
-no-colon_behind (byte ∷ front) missing h = no-colon_behind front missing h.1
+no-colon_after : (prefix missing : List ℕ) → NoColon (prefix ++ 58 ∷ missing) → ⊥
+no-colon_after [] missing h = h.0 refl
+no-colon_after (byte ∷ prefix) missing h = no-colon_after prefix missing h.1
 
-pub no-colon : (front : List ℕ) → IsBeginning (27 ∷ 91 ∷ (front ++ 58 ∷ [])) → ⊥
-no-colon front begins =
+pub no-colon : (prefix : List ℕ) → IsBeginning (27 ∷ 91 ∷ (prefix ++ 58 ∷ [])) → ⊥
+no-colon prefix begins =
     let whole = begins.goes_on in
-    let tail : (front ++ 58 ∷ []) ++ begins.missing ≡ join_with_byte 59 begins.parameters ++ final_byte begins.function ∷ [] = cc in
+    let tail : (prefix ++ 58 ∷ []) ++ begins.missing ≡ join_with_byte 59 begins.parameters ++ final_byte begins.function ∷ [] = cc in
     let all : NoColon (join_with_byte 59 begins.parameters ++ final_byte begins.function ∷ []) =
     each-append (λ byte. byte ≡ 58 → ⊥) (join_with_byte 59 begins.parameters) (final_byte begins.function ∷ []) (joined-no_colon begins.parameters begins.well_formed.digits)
     (final-no_colon begins.function, tt) in
-    no-colon_behind front begins.missing (subst NoColon (sym tail ∙ append_assoc front (58 ∷ []) begins.missing) all)
+    no-colon_after prefix begins.missing (subst NoColon (sym tail ∙ append_assoc prefix (58 ∷ []) begins.missing) all)

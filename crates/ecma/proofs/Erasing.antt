@@ -10,15 +10,15 @@ use Rattle.cell.specs.Pictures.{Picture, HasSize, cell_or, line_of}
 use Rattle.cell.proofs.PictureLemmas.{length-line, same_pictures}
 use Rattle.ecma.specs.declared.token.Erase.{Erase}
 use Rattle.ecma.specs.declared.token.Erase.TheVariants.{ToEnd, FromStart, All}
-use Rattle.ecma.specs.Terminals.{blanked, erased_line, erased_at}
+use Rattle.ecma.specs.Terminals.{blank_line, erased_line, erased_at}
 use Rattle.ecma.proofs.Sizes.{size-erased_at}
 
 -- ---- one line
 
-blanked-cell : (row : List Shown) (x : ℕ) → get_or (blanked row) x shown_blank ≡ shown_blank
-blanked-cell [] x = refl
-blanked-cell (shown ∷ row) zero = refl
-blanked-cell (shown ∷ row) (suc x) = blanked-cell row x
+blank_line-cell : (row : List Shown) (x : ℕ) → get_or (blank_line row) x shown_blank ≡ shown_blank
+blank_line-cell [] x = refl
+blank_line-cell (shown ∷ row) zero = refl
+blank_line-cell (shown ∷ row) (suc x) = blank_line-cell row x
 
 -- the columns that are erased, up to an end that is left out
 abbrev pub span : Erase → ℕ → ℕ → ℕ × ℕ
@@ -42,26 +42,26 @@ erased-cell : (how : Erase) (column x : ℕ) (row : List Shown) → column < len
     → (if is_within (span how column (length row)) x then shown_blank else get_or row x shown_blank) ≡ get_or (erased_line how column row) x shown_blank
 erased-cell ToEnd column x row h k = elim (cases_lt x column) [
   | inl before ↦
-      let front : x < length (take column row) = omega (arith, length-take column row) in
-      rw (within-before (column, length row) x before) (sym (get_or_append_left (take column row) (blanked (drop column row)) shown_blank x front ∙ get_or-take column row x shown_blank before))
+      let prefix : x < length (take column row) = omega (arith, length-take column row) in
+      rw (within-before (column, length row) x before) (sym (get_or_append_left (take column row) (blank_line (drop column row)) shown_blank x prefix ∙ get_or-take column row x shown_blank before))
   | inr from ↦
       rw (within-true (column, length row) x from k)
-      (sym (get_or-append_right (take column row) (blanked (drop column row)) column x shown_blank (length-take-le column row (omega arith)) from ∙ blanked-cell (drop column row) (x - column)))
+      (sym (get_or-append_right (take column row) (blank_line (drop column row)) column x shown_blank (length-take-le column row (omega arith)) from ∙ blank_line-cell (drop column row) (x - column)))
 ]
 erased-cell FromStart column x row h k =
-    let long : length (blanked (take (column + 1) row)) ≡ column + 1 = length-map (take (column + 1) row) (λ _. shown_blank) ∙ length-take-le (column + 1) row (omega arith) in
+    let long : length (blank_line (take (column + 1) row)) ≡ column + 1 = length-map (take (column + 1) row) (λ _. shown_blank) ∙ length-take-le (column + 1) row (omega arith) in
     elim (cases_lt x (column + 1)) [
       | inl before ↦
-          let front : x < length (blanked (take (column + 1) row)) = omega arith in
+          let prefix : x < length (blank_line (take (column + 1) row)) = omega arith in
           rw (within-true (0, column + 1) x (omega arith) before)
-          (sym (get_or_append_left (blanked (take (column + 1) row)) (drop (column + 1) row) shown_blank x front ∙ blanked-cell (take (column + 1) row) x))
+          (sym (get_or_append_left (blank_line (take (column + 1) row)) (drop (column + 1) row) shown_blank x prefix ∙ blank_line-cell (take (column + 1) row) x))
       | inr after ↦
           let place : column + 1 + (x - (column + 1)) ≡ x = omega arith in
           rw (within-after (0, column + 1) x (omega arith) after)
-          (sym (get_or-append_right (blanked (take (column + 1) row)) (drop (column + 1) row) (column + 1) x shown_blank long after
+          (sym (get_or-append_right (blank_line (take (column + 1) row)) (drop (column + 1) row) (column + 1) x shown_blank long after
           ∙ get_or-drop (column + 1) row (x - (column + 1)) shown_blank ∙ ap (λ (i : ℕ). get_or row i shown_blank) place))
     ]
-erased-cell All column x row h k = rw (within-true (0, length row) x (omega arith) k) (sym (blanked-cell row x))
+erased-cell All column x row h k = rw (within-true (0, length row) x (omega arith) k) (sym (blank_line-cell row x))
 
 pub filled-is : (how : Erase) (line column lines columns : ℕ) (old new : Picture) → HasSize lines columns old → HasSize lines columns new → line < lines → column < columns
     → ((v u : ℕ) → cell_or shown_blank new (v, u) ≡ (if (v == line) && is_within (span how column columns) u then shown_blank else cell_or shown_blank old (v, u)))
@@ -101,27 +101,27 @@ fill-erases how line column lines columns y start end ends old new h k below lef
 
 -- the lines from first up to end, which is left out, erased
 abbrev pub lines_blanked : ℕ → ℕ → Picture → Picture
-lines_blanked first end picture = take first picture ++ map blanked (take (end - first) (drop first picture)) ++ drop end picture
+lines_blanked first end picture = take first picture ++ map blank_line (take (end - first) (drop first picture)) ++ drop end picture
 
 pub lines_blanked-none : (first : ℕ) (picture : Picture) → picture ≡ lines_blanked first first picture
 lines_blanked-none first picture =
     let nothing : first - first ≡ 0 = omega arith in
     rw nothing (rw append-nil (sym (take-append-drop first picture)))
 
-length-front : (first i : ℕ) (picture : Picture) → first ≤ i → i < length picture → length (take first picture ++ map blanked (take (i - first) (drop first picture))) ≡ i
-length-front first i picture h k =
-    let front = length-take-le first picture (omega arith) in
-    let back = length-map (take (i - first) (drop first picture)) blanked in
+length-prefix : (first i : ℕ) (picture : Picture) → first ≤ i → i < length picture → length (take first picture ++ map blank_line (take (i - first) (drop first picture))) ≡ i
+length-prefix first i picture h k =
+    let prefix = length-take-le first picture (omega arith) in
+    let back = length-map (take (i - first) (drop first picture)) blank_line in
     let some = length-take-le (i - first) (drop first picture) (omega (arith, length-drop first picture)) in
-    omega (arith, length-append (take first picture) (map blanked (take (i - first) (drop first picture))))
+    omega (arith, length-append (take first picture) (map blank_line (take (i - first) (drop first picture))))
 
 pub lines_blanked-more : (first i : ℕ) (picture old : Picture) → first ≤ i → i < length old → picture ≡ lines_blanked first i old → erased_at All (i, 0) picture ≡ lines_blanked first (i + 1) old
 lines_blanked-more first i picture old h k is =
-    let front = take first old ++ map blanked (take (i - first) (drop first old)) in
+    let prefix = take first old ++ map blank_line (take (i - first) (drop first old)) in
     let line = line_of old i in
-    let long = length-front first i old h k in
-    let whole : picture ≡ front ++ line ∷ drop (i + 1) old = is ∙ ap (λ (rest : Picture). front ++ rest) (drop_more old i [] k) in
-    let here : line_of picture i ≡ line = ap (λ (p : Picture). line_of p i) whole ∙ get_or_at front line (drop (i + 1) old) [] i long in
+    let long = length-prefix first i old h k in
+    let whole : picture ≡ prefix ++ line ∷ drop (i + 1) old = is ∙ ap (λ (rest : Picture). prefix ++ rest) (drop_more old i [] k) in
+    let here : line_of picture i ≡ line = ap (λ (p : Picture). line_of p i) whole ∙ get_or_at prefix line (drop (i + 1) old) [] i long in
     let more : i - first + 1 ≡ i + 1 - first = omega arith in
     let place : first + (i - first) ≡ i = omega arith in
     let there : get_or (drop first old) (i - first) [] ≡ line = get_or-drop first old (i - first) [] ∙ ap (λ (n : ℕ). get_or old n []) place in
@@ -129,11 +129,11 @@ lines_blanked-more first i picture old h k is =
     ap (λ (n : ℕ). take n (drop first old)) (sym more)
     ∙ take_more (drop first old) (i - first) [] (omega (arith, length-drop first old))
     ∙ ap (λ (last : List Shown). take (i - first) (drop first old) ++ last ∷ []) there in
-    let mapped : map blanked (take (i + 1 - first) (drop first old)) ≡ map blanked (take (i - first) (drop first old)) ++ blanked line ∷ [] = ap (map blanked) taken
-    ∙ map_push blanked (take (i - first) (drop first old)) line in
-    ap (λ (row : List Shown). set picture i (blanked row)) here
-    ∙ ap (λ (p : Picture). set p i (blanked line)) whole
-    ∙ set_at front line (drop (i + 1) old) (blanked line) i long
-    ∙ sym (append_assoc front (blanked line ∷ []) (drop (i + 1) old))
-    ∙ ap (λ (rows : Picture). rows ++ drop (i + 1) old) (append_assoc (take first old) (map blanked (take (i - first) (drop first old))) (blanked line ∷ [])
+    let mapped : map blank_line (take (i + 1 - first) (drop first old)) ≡ map blank_line (take (i - first) (drop first old)) ++ blank_line line ∷ [] = ap (map blank_line) taken
+    ∙ map_push blank_line (take (i - first) (drop first old)) line in
+    ap (λ (row : List Shown). set picture i (blank_line row)) here
+    ∙ ap (λ (p : Picture). set p i (blank_line line)) whole
+    ∙ set_at prefix line (drop (i + 1) old) (blank_line line) i long
+    ∙ sym (append_assoc prefix (blank_line line ∷ []) (drop (i + 1) old))
+    ∙ ap (λ (rows : Picture). rows ++ drop (i + 1) old) (append_assoc (take first old) (map blank_line (take (i - first) (drop first old))) (blank_line line ∷ [])
     ∙ ap (λ (rows : Picture). take first old ++ rows) (sym mapped))

@@ -98,9 +98,9 @@ unfolding new blank_with
 in_last_column = refl
 
 -- E[1;10Hxy: the y has no place
-behind_last_column : effects (Control CUP (codes "1" ∷ codes "10" ∷ []) ∷ Printable 120 ∷ Printable 121 ∷ []) new ≡ None
+after_last_column : effects (Control CUP (codes "1" ∷ codes "10" ∷ []) ∷ Printable 120 ∷ Printable 121 ∷ []) new ≡ None
 unfolding new blank_with
-behind_last_column = refl
+after_last_column = refl
 
 -- ---- erasing
 

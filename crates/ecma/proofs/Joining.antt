@@ -11,16 +11,16 @@ use Rattle.std.proofs.lemmas.Bool.{cases_lt}
 
 -- ---- effects of items one after another
 
-pub effects-append : (front back : List Item) (t : Terminal) → effects (front ++ back) t ≡ option_and_then (effects back) (effects front t)
+pub effects-append : (prefix back : List Item) (t : Terminal) → effects (prefix ++ back) t ≡ option_and_then (effects back) (effects prefix t)
 effects-append [] back t = refl
-effects-append (item ∷ front) back t =
-    elim (effect item t) as (λ o. option_and_then (effects (front ++ back)) o ≡ option_and_then (effects back) (option_and_then (effects front) o)) [
+effects-append (item ∷ prefix) back t =
+    elim (effect item t) as (λ o. option_and_then (effects (prefix ++ back)) o ≡ option_and_then (effects back) (option_and_then (effects prefix) o)) [
       | None ↦ refl
-      | Some u ↦ effects-append front back u
+      | Some u ↦ effects-append prefix back u
     ]
 
-pub effects-then : (front back : List Item) (t u v : Terminal) → effects front t ≡ Some u → effects back u ≡ Some v → effects (front ++ back) t ≡ Some v
-effects-then front back t u v e f = rw (effects-append front back t, e) f
+pub effects-then : (prefix back : List Item) (t u v : Terminal) → effects prefix t ≡ Some u → effects back u ≡ Some v → effects (prefix ++ back) t ≡ Some v
+effects-then prefix back t u v e f = rw (effects-append prefix back t, e) f
 
 -- ---- items one after another
 
@@ -41,16 +41,22 @@ MayPrecede-finished (Unfinished begun) bytes h = absurd h
 
 -- an escape, or nothing, may follow any items
 pub Splits-then_escape : (bytes : List ℕ) (items : List Item) (rest more : List ℕ) → Splits bytes items rest → EndsOrEscapes more → Splits (bytes ++ more) items (rest ++ more)
-Splits-then_escape bytes [] rest more h there = ap (λ (front : List ℕ). front ++ more) h
-Splits-then_escape bytes (item ∷ items) rest more h there =
-    (h.0 ++ more, ap (λ (front : List ℕ). front ++ more) h.1 ∙ append_assoc (bytes_of item) h.0 more, h.2, MayPrecede-escape item h.0 more h.3 there, Splits-then_escape h.0 items rest more h.4 there)
+Splits-then_escape bytes [] rest more h there = ap (λ (prefix : List ℕ). prefix ++ more) h
+Splits-then_escape bytes (item ∷ items) rest more h there = (
+  h.0 ++ more,
+  ap (λ (prefix : List ℕ). prefix ++ more) h.1
+      ∙ append_assoc (bytes_of item) h.0 more,
+  h.2,
+  MayPrecede-escape item h.0 more h.3 there,
+  Splits-then_escape h.0 items rest more h.4 there,
+)
 
 -- anything may follow finished items
 pub Splits-then : (bytes : List ℕ) (items : List Item) (rest more : List ℕ) → Splits bytes items rest → AllByRecursion IsFinished items → Splits (bytes ++ more) items (rest ++ more)
-Splits-then bytes [] rest more h finished = ap (λ (front : List ℕ). front ++ more) h
+Splits-then bytes [] rest more h finished = ap (λ (prefix : List ℕ). prefix ++ more) h
 Splits-then bytes (item ∷ items) rest more h finished = (
   h.0 ++ more,
-  ap (λ (front : List ℕ). front ++ more) h.1 ∙ append_assoc (bytes_of item) h.0 more,
+  ap (λ (prefix : List ℕ). prefix ++ more) h.1 ∙ append_assoc (bytes_of item) h.0 more,
   h.2,
   MayPrecede-finished item
       (h.0 ++ more) finished.0,
@@ -96,11 +102,11 @@ MayPrecede-then (Control function parameters) bytes more some h = tt
 MayPrecede-then (Unfinished begun) bytes more some h = EndsOrEscapes-then bytes more some h
 
 pub Splits-ends_then : (bytes : List ℕ) (items : List Item) (more : List ℕ) → Splits bytes items [] → EndsFinished items → Splits (bytes ++ more) items more
-Splits-ends_then bytes [] more h ends = ap (λ (front : List ℕ). front ++ more) h
+Splits-ends_then bytes [] more h ends = ap (λ (prefix : List ℕ). prefix ++ more) h
 Splits-ends_then bytes (item ∷ []) more h ends = Splits-then bytes (item ∷ []) [] more h (ends, tt)
 Splits-ends_then bytes (item ∷ next ∷ items) more h ends = (
   h.0 ++ more,
-  ap (λ (front : List ℕ). front ++ more) h.1 ∙ append_assoc (bytes_of item) h.0 more,
+  ap (λ (prefix : List ℕ). prefix ++ more) h.1 ∙ append_assoc (bytes_of item) h.0 more,
   h.2,
   MayPrecede-then item h.0 more
       (Splits_some h.0 next items [] h.4) h.3,

@@ -25,11 +25,11 @@ pub mod Lengths
 pub mod Difference
 -- Where no item with an effect begins, the stream fails, whatever follows; for `failure_stays`
 pub mod Stopping
--- What continues a control sequence, and what doesn't; for `Standing`
+-- What continues a control sequence, and what doesn't; for `Readers`
 pub mod Beginnings
 -- Renditions selected by the parameters of a control sequence; for `select_all`, `with_off`, `with_on`
 pub mod Selecting
 -- Lines of a picture, erased; for `erase_in_line`, `erase_lines`
 pub mod Erasing
--- What a reader has after one more byte; for `fault`, `one_standing`, `read_digit` and others
-pub mod Standing
+-- What a reader has after one more byte; for `fault`, `one_terminal_shown`, `read_digit` and others
+pub mod Readers

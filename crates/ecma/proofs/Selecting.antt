@@ -5,7 +5,7 @@ use Rattle.std.specs.Int.RustNames.{bit_or}
 use Rattle.std.proofs.lemmas.Bool.{ne_eqb}
 use Rattle.std.proofs.lemmas.Nat.{and_mask, or_lt, and_le_l}
 use Rattle.std.proofs.lemmas.List.{append_assoc, map-append, map_push, take-append-drop, take_more}
-use Rattle.cell.specs.Attributes.{known, without}
+use Rattle.cell.specs.Attributes.{valid_attributes, without}
 use Rattle.cell.specs.Shown.{Rendition, rendition_with}
 use Rattle.cell.specs.declared.colour.ColourPair.{ColourPair}
 use Rattle.ecma.specs.Parameters.{Parameter, parameter_of}
@@ -15,28 +15,29 @@ use Rattle.ecma.proofs.Numbers.{select_all-append}
 
 -- ---- attributes
 
-known-small : (bits : ℕ) → bits < 64 → known bits ≡ bits
-known-small bits h = and_mask bits 6 ∙ omega arith
+valid_attributes-small : (bits : ℕ) → bits < 64 → valid_attributes bits ≡ bits
+valid_attributes-small bits h = and_mask bits 6 ∙ omega arith
 
 abbrev colours_of : Rendition → ColourPair
 colours_of rendition = record { foreground = rendition.foreground; background = rendition.background }
 
 -- a rendition that was made of attributes of the six and the same colours
-made-with : (rendition made : Rendition) (bits attributes : ℕ) (pair : ColourPair) → attributes < 64 → bits ≡ attributes → pair ≡ colours_of rendition → made ≡ rendition_with pair (known bits)
+made-with : (rendition made : Rendition) (bits attributes : ℕ) (pair : ColourPair) → attributes < 64 → bits ≡ attributes → pair ≡ colours_of rendition
+    → made ≡ rendition_with pair (valid_attributes bits)
     → made ≡ record rendition { attributes = attributes }
 made-with rendition made bits attributes pair few same colours is =
-    let kept = ap known same ∙ known-small attributes few in
-    is ∙ ap (λ (p : ColourPair). rendition_with p (known bits)) colours ∙ ap (λ (n : ℕ). rendition_with (colours_of rendition) n) kept
+    let kept = ap valid_attributes same ∙ valid_attributes-small attributes few in
+    is ∙ ap (λ (p : ColourPair). rendition_with p (valid_attributes bits)) colours ∙ ap (λ (n : ℕ). rendition_with (colours_of rendition) n) kept
 
 pub with_on-made : (rendition made : Rendition) (old others bits : ℕ) (pair : ColourPair) → rendition.attributes < 64 → others < 64 → old ≡ rendition.attributes → bits ≡ bit_or old others
     → pair ≡ colours_of rendition
-    → made ≡ rendition_with pair (known bits) → made ≡ with_on others rendition
+    → made ≡ rendition_with pair (valid_attributes bits) → made ≡ with_on others rendition
 with_on-made rendition made old others bits pair few small same either colours is =
     made-with rendition made bits (bit_or rendition.attributes others) pair (or_lt 6 rendition.attributes others few small) (either ∙ ap (λ (n : ℕ). bit_or n others) same) colours is
 
 pub with_off-made : (rendition made : Rendition) (old others bits : ℕ) (pair : ColourPair) → rendition.attributes < 64 → old ≡ rendition.attributes → bits ≡ without old others
     → pair ≡ colours_of rendition
-    → made ≡ rendition_with pair (known bits) → made ≡ with_off others rendition
+    → made ≡ rendition_with pair (valid_attributes bits) → made ≡ with_off others rendition
 with_off-made rendition made old others bits pair few same left colours is =
     let less : without rendition.attributes others < 64 = omega (arith, and_le_l rendition.attributes (255 - others)) in
     made-with rendition made bits (without rendition.attributes others) pair less (left ∙ ap (λ (n : ℕ). without n others) same) colours is
@@ -91,11 +92,11 @@ pub selected-none : (digits : List (List ℕ)) (ended : List Parameter) (last : 
     → selected_by (take (i + 1) ended) rendition ≡ None
     → select_all (map (number_or 0) digits) rendition ≡ None
 selected-none digits ended last i rendition same h none =
-    let front = take (i + 1) ended in
+    let prefix = take (i + 1) ended in
     let back = drop (i + 1) ended ++ last ∷ [] in
     select_all-kept digits (ended ++ last ∷ []) rendition same
     ∙ ap (λ (kept : List Parameter). selected_by kept rendition) (sym (ap (λ (kept : List Parameter). kept ++ last ∷ []) (take-append-drop (i + 1) ended))
-    ∙ append_assoc front (drop (i + 1) ended) (last ∷ []))
-    ∙ ap (λ (codes : List ℕ). select_all codes rendition) (map-append (number_of 0) front back)
-    ∙ select_all-append (map (number_of 0) front) (map (number_of 0) back) rendition
+    ∙ append_assoc prefix (drop (i + 1) ended) (last ∷ []))
+    ∙ ap (λ (codes : List ℕ). select_all codes rendition) (map-append (number_of 0) prefix back)
+    ∙ select_all-append (map (number_of 0) prefix) (map (number_of 0) back) rendition
     ∙ ap (option_and_then (select_all (map (number_of 0) back))) none

@@ -9,7 +9,7 @@ use Rattle.cell.specs.Pictures.{Picture, Place, line_of, is_place, HasSize}
 use Rattle.ecma.specs.declared.token.Erase.{Erase}
 use Rattle.ecma.specs.declared.token.Erase.TheVariants.{ToEnd, FromStart, All}
 use Rattle.ecma.specs.Items.{Item, Printable, Control, Unfinished, CUP, ED, EL, SGR}
-use Rattle.ecma.specs.Terminals.{Terminal, blanked, erased_line, erased_at, erased_page, erase_line, erase_page, move_to, printed, effect, effects, position, erasure, select_all, number_or}
+use Rattle.ecma.specs.Terminals.{Terminal, blank_line, erased_line, erased_at, erased_page, erase_line, erase_page, move_to, print_at, effect, effects, position, erasure, select_all, number_or}
 use Rattle.ecma.proofs.Joining.{effects_first}
 
 abbrev AreWide : ℕ → Picture → Type 0
@@ -34,7 +34,7 @@ wide-append : (columns : ℕ) (a b : Picture) → AreWide columns a → AreWide 
 wide-append columns [] b h k = k
 wide-append columns (line ∷ a) b h k = (h.0, wide-append columns a b h.1 k)
 
-wide-blank : (columns : ℕ) (lines : Picture) → AreWide columns lines → AreWide columns (map blanked lines)
+wide-blank : (columns : ℕ) (lines : Picture) → AreWide columns lines → AreWide columns (map blank_line lines)
 wide-blank columns [] h = tt
 wide-blank columns (line ∷ lines) h = (length-map line (λ _. shown_blank) ∙ h.0, wide-blank columns lines h.1)
 
@@ -64,17 +64,17 @@ size-erased_page lines columns ToEnd place picture h =
     let at = size-erased_at lines columns ToEnd place picture h in
     record {
       height = simp (length-append, length-map, length-take, length-drop, length-set) (omega (arith, h.height));
-      width = wide-append columns (take (place.0 + 1) (erased_at ToEnd place picture)) (map blanked (drop (place.0 + 1) picture))
+      width = wide-append columns (take (place.0 + 1) (erased_at ToEnd place picture)) (map blank_line (drop (place.0 + 1) picture))
           (wide-take columns (place.0 + 1) (erased_at ToEnd place picture) at.width) (wide-blank columns (drop (place.0 + 1) picture) (wide-drop columns (place.0 + 1) picture h.width));
     }
 size-erased_page lines columns FromStart place picture h =
     let at = size-erased_at lines columns FromStart place picture h in
     record {
       height = simp (length-append, length-map, length-take, length-drop, length-set) (omega (arith, h.height));
-      width = wide-append columns (map blanked (take place.0 picture)) (drop place.0 (erased_at FromStart place picture))
+      width = wide-append columns (map blank_line (take place.0 picture)) (drop place.0 (erased_at FromStart place picture))
           (wide-blank columns (take place.0 picture) (wide-take columns place.0 picture h.width)) (wide-drop columns place.0 (erased_at FromStart place picture) at.width);
     }
-size-erased_page lines columns All place picture h = record { height = length-map picture blanked ∙ h.height; width = wide-blank columns picture h.width }
+size-erased_page lines columns All place picture h = record { height = length-map picture blank_line ∙ h.height; width = wide-blank columns picture h.width }
 
 -- what an effect keeps, where there is one
 abbrev Keeps : ℕ → ℕ → Option Terminal → Type 0
@@ -103,11 +103,11 @@ size-erase_page lines columns ToEnd t h = keeps-cond lines columns (is_empty t.r
     (λ place. size-erased_page lines columns ToEnd place t.picture h))
 size-erase_page lines columns FromStart t h = keeps-cond lines columns (is_empty t.rendition) _ (keeps-map lines columns
     (λ place. record t { picture = erased_page FromStart place t.picture }) t.cursor (λ place. size-erased_page lines columns FromStart place t.picture h))
-size-erase_page lines columns All t h = keeps-cond lines columns (is_empty t.rendition) _ (keeps-some lines columns (record t { picture = map blanked t.picture })
+size-erase_page lines columns All t h = keeps-cond lines columns (is_empty t.rendition) _ (keeps-some lines columns (record t { picture = map blank_line t.picture })
     (size-erased_page lines columns All (0, 0) t.picture h))
 
 size-effect : (lines columns : ℕ) (item : Item) (t : Terminal) → HasSize lines columns t.picture → Keeps lines columns (effect item t)
-size-effect lines columns (Printable byte) t h = keeps-map lines columns (printed byte t) t.cursor
+size-effect lines columns (Printable byte) t h = keeps-map lines columns (print_at byte t) t.cursor
     (λ place. size-row lines columns t.picture place.0 (set (line_of t.picture place.0) place.1 (shown_with t.rendition byte)) h (length-set (line_of t.picture place.0) place.1 _))
 size-effect lines columns (Control CUP parameters) t h = keeps-then lines columns (λ place. move_to place t) (position parameters)
     (λ place. keeps-cond lines columns (is_place t.picture place) (Some (record t { cursor = Some place })) (keeps-some lines columns (record t { cursor = Some place }) h))

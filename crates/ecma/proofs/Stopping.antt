@@ -6,7 +6,7 @@ use Rattle.ecma.specs.Items.{Item, Printable, Control, Unfinished, IsItem, IsBeg
 use Rattle.ecma.specs.Terminals.{Terminal, effect, effects}
 use Rattle.ecma.specs.Streams.{FailsAt, IsInProfile, LeadsWithBreaks}
 use Rattle.ecma.proofs.Joining.{bytes_of_some, effects_first, effects-then, effects-append, Splits-append, Splits-then_escape, Splits-ends_then}
-use Rattle.ecma.proofs.Unique.{Splits-front}
+use Rattle.ecma.proofs.Unique.{Splits-prefix}
 
 -- no item at the start of these bytes has an effect on the terminal
 pub record NoEffect (bytes : List ℕ) (t : Terminal) : Type 0 where
@@ -29,15 +29,15 @@ FailsAt-rest stream items rest offset first last h e at some none = record {
     | inl beyond ↦
         let there = r.at in
         let less : length r.rest < length rest = omega arith in
-        let front = Splits-front stream items r.items rest r.rest h r.splits (omega arith) in
-        let both : effects (items ++ front.0) first ≡ Some u = sym (ap (λ (row : List Item). effects row first) front.1) ∙ r.have_effect in
-        let last_part : effects front.0 last ≡ Some u = effects-rest items front.0 first last u e both in
-        absurd (reaches_less rest front.0 r.rest last u none front.2 last_part less)
+        let prefix = Splits-prefix stream items r.items rest r.rest h r.splits (omega arith) in
+        let both : effects (items ++ prefix.0) first ≡ Some u = sym (ap (λ (row : List Item). effects row first) prefix.1) ∙ r.have_effect in
+        let last_part : effects prefix.0 last ≡ Some u = effects-rest items prefix.0 first last u e both in
+        absurd (reaches_less rest prefix.0 r.rest last u none prefix.2 last_part less)
     | inr le ↦ le
   ];
 } where
-  effects-rest : (front back : List Item) (t u v : Terminal) → effects front t ≡ Some u → effects (front ++ back) t ≡ Some v → effects back u ≡ Some v
-  effects-rest front back t u v one both = rw (effects-append front back t, one) at both
+  effects-rest : (prefix back : List Item) (t u v : Terminal) → effects prefix t ≡ Some u → effects (prefix ++ back) t ≡ Some v → effects back u ≡ Some v
+  effects-rest prefix back t u v one both = rw (effects-append prefix back t, one) at both
 
 -- ---- failing at once
 
@@ -48,35 +48,35 @@ FailsAt-leads stream byte first last h none =
     (sym (length-append stream (byte ∷ []))) (omega arith) none
 
 -- where an escape begins what has no effect
-pub FailsAt-escape : (front rest : List ℕ) (first last : Terminal) → IsInProfile front first last → EndsOrEscapes rest → 0 < length rest → NoEffect rest last
-    → FailsAt (front ++ rest) first (length front) last
-FailsAt-escape front rest first last h there some none =
-    FailsAt-rest (front ++ rest) h.items rest (length front) first last (Splits-then_escape front h.items [] rest h.splits there) h.have_effect
-    (sym (length-append front rest)) some none
+pub FailsAt-escape : (prefix rest : List ℕ) (first last : Terminal) → IsInProfile prefix first last → EndsOrEscapes rest → 0 < length rest → NoEffect rest last
+    → FailsAt (prefix ++ rest) first (length prefix) last
+FailsAt-escape prefix rest first last h there some none =
+    FailsAt-rest (prefix ++ rest) h.items rest (length prefix) first last (Splits-then_escape prefix h.items [] rest h.splits there) h.have_effect
+    (sym (length-append prefix rest)) some none
 
 -- ---- once failed, always failed
 
 record Split (a b c d : List ℕ) : Type 0 where
   between : List ℕ
   long : a ≡ c ++ between
-  behind : d ≡ between ++ b
+  after : d ≡ between ++ b
 
 -- of two prefixes of one text the longer goes on from the shorter
 split : (a b c d : List ℕ) → a ++ b ≡ c ++ d → length c ≤ length a → Split a b c d
-split a b [] d e h = record { between = a; long = refl; behind = sym e }
+split a b [] d e h = record { between = a; long = refl; after = sym e }
 split [] b (y ∷ c) d e h = absurd (omega arith)
 split (x ∷ a) b (y ∷ c) d e h =
     let head : x ≡ y = cc in
     let tail : a ++ b ≡ c ++ d = cc in
     let rest = split a b c d tail (omega arith) in
     let long : a ≡ c ++ rest.between = rest.long in
-    record { between = rest.between; long = cc; behind = rest.behind }
+    record { between = rest.between; long = cc; after = rest.after }
 
-MayPrecede-front : (item : Item) (bytes more : List ℕ) → MayPrecede item (bytes ++ more) → MayPrecede item bytes
-MayPrecede-front (Printable byte) bytes more h = tt
-MayPrecede-front (Control function parameters) bytes more h = tt
-MayPrecede-front (Unfinished begun) [] more h = tt
-MayPrecede-front (Unfinished begun) (byte ∷ bytes) more h = h
+MayPrecede-prefix : (item : Item) (bytes more : List ℕ) → MayPrecede item (bytes ++ more) → MayPrecede item bytes
+MayPrecede-prefix (Printable byte) bytes more h = tt
+MayPrecede-prefix (Control function parameters) bytes more h = tt
+MayPrecede-prefix (Unfinished begun) [] more h = tt
+MayPrecede-prefix (Unfinished begun) (byte ∷ bytes) more h = h
 
 -- what is shorter than an item is one itself
 beginning-of : (rest missing : List ℕ) (item : Item) → 0 < length rest → 0 < length missing → IsItem item → rest ++ missing ≡ bytes_of item → IsBeginning rest
@@ -91,7 +91,7 @@ beginning-of rest missing (Unfinished begun) some more h e = record {
   missing = missing ++ h.missing;
   well_formed = h.well_formed;
   not_finished = omega (arith, length-append missing h.missing);
-  goes_on = sym (append_assoc rest missing h.missing) ∙ ap (λ (front : List ℕ). front ++ h.missing) e ∙ h.goes_on;
+  goes_on = sym (append_assoc rest missing h.missing) ∙ ap (λ (prefix : List ℕ). prefix ++ h.missing) e ∙ h.goes_on;
 }
 
 NoEffect-append : (rest more : List ℕ) (t : Terminal) → 0 < length rest → NoEffect rest t → NoEffect (rest ++ more) t
@@ -105,15 +105,15 @@ NoEffect-append rest more t some none = record {
         absurd cc
     | inr le ↦
         let parts = split rest more (bytes_of item) following e le in
-        none.each item parts.between parts.long h (MayPrecede-front item parts.between more (subst (λ (back : List ℕ). MayPrecede item back) parts.behind p))
+        none.each item parts.between parts.long h (MayPrecede-prefix item parts.between more (subst (λ (back : List ℕ). MayPrecede item back) parts.after p))
   ];
 }
 
 Splits-more : (bytes : List ℕ) (items : List Item) (rest more : List ℕ) → 0 < length rest → Splits bytes items rest → Splits (bytes ++ more) items (rest ++ more)
-Splits-more bytes [] rest more some h = ap (λ (front : List ℕ). front ++ more) h
+Splits-more bytes [] rest more some h = ap (λ (prefix : List ℕ). prefix ++ more) h
 Splits-more bytes (item ∷ items) rest more some h = (
   h.0 ++ more,
-  ap (λ (front : List ℕ). front ++ more) h.1 ∙ append_assoc (bytes_of item) h.0 more,
+  ap (λ (prefix : List ℕ). prefix ++ more) h.1 ∙ append_assoc (bytes_of item) h.0 more,
   h.2,
   MayPrecede-more item h.0
       (Splits-some h.0 items rest some h.4) h.3,

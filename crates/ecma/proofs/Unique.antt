@@ -39,9 +39,9 @@ pub All-append : (a b : List ℕ) → AllByRecursion IsInner a → AllByRecursio
 All-append [] b ha hb = hb
 All-append (x ∷ a) b ha hb = (ha.0, All-append a b ha.1 hb)
 
-pub All-front : (a b : List ℕ) → AllByRecursion IsInner (a ++ b) → AllByRecursion IsInner a
-All-front [] b h = tt
-All-front (x ∷ a) b h = (h.0, All-front a b h.1)
+pub All-prefix : (a b : List ℕ) → AllByRecursion IsInner (a ++ b) → AllByRecursion IsInner a
+All-prefix [] b h = tt
+All-prefix (x ∷ a) b h = (h.0, All-prefix a b h.1)
 
 digits-inner : (digits : List ℕ) → AllByRecursion IsDigit digits → AllByRecursion IsInner digits
 digits-inner [] h = tt
@@ -100,7 +100,7 @@ same-parameters a (c ∷ ps) b [] ha hb e =
 same-parameters a (c ∷ ps) b (d ∷ qs) ha hb e =
     let both = cut IsDigit a b (59 ∷ join_with_byte 59 (c ∷ ps)) (59 ∷ join_with_byte 59 (d ∷ qs)) ha.0 hb.0 not-digit not-digit e in
     let first : a ≡ b = both.first in
-    let behind : ◌≡◌ {A = List ℕ} (59 ∷ join_with_byte 59 (c ∷ ps)) (59 ∷ join_with_byte 59 (d ∷ qs)) = both.second in
+    let after : ◌≡◌ {A = List ℕ} (59 ∷ join_with_byte 59 (c ∷ ps)) (59 ∷ join_with_byte 59 (d ∷ qs)) = both.second in
     let rest : join_with_byte 59 (c ∷ ps) ≡ join_with_byte 59 (d ∷ qs) = cc in
     let others = same-parameters c ps d qs ha.1 hb.1 rest in cc
 
@@ -112,16 +112,16 @@ pub record Inner (bytes : List ℕ) : Type 0 where
   pub is : bytes ≡ 27 ∷ 91 ∷ inner
   pub each : AllByRecursion IsInner inner
 
-front-inner : (p q : List ℕ) (m : ℕ) (missing : List ℕ) (final : ℕ) → AllByRecursion IsInner q → p ++ m ∷ missing ≡ q ++ final ∷ [] → AllByRecursion IsInner p
-front-inner [] q m missing final h e = tt
-front-inner (x ∷ p) [] m missing final h e =
+prefix-inner : (p q : List ℕ) (m : ℕ) (missing : List ℕ) (final : ℕ) → AllByRecursion IsInner q → p ++ m ∷ missing ≡ q ++ final ∷ [] → AllByRecursion IsInner p
+prefix-inner [] q m missing final h e = tt
+prefix-inner (x ∷ p) [] m missing final h e =
     let tail : p ++ m ∷ missing ≡ [] = cc in
     let len : length (p ++ m ∷ missing) ≡ 0 = ap length tail in
     absurd (omega (arith, length-append p (m ∷ missing)))
-front-inner (x ∷ p) (y ∷ q) m missing final h e =
+prefix-inner (x ∷ p) (y ∷ q) m missing final h e =
     let head : x ≡ y = cc in
     let tail : p ++ m ∷ missing ≡ q ++ final ∷ [] = cc in
-    (rw head h.0, front-inner p q m missing final h.1 tail)
+    (rw head h.0, prefix-inner p q m missing final h.1 tail)
 
 shape : (bytes missing : List ℕ) (function : Function) (parameters : List (List ℕ)) → 0 < length bytes → 0 < length missing → AreParameters parameters
     → bytes ++ missing ≡ bytes_of (Control function parameters)
@@ -131,7 +131,7 @@ shape (x ∷ bytes) [] function parameters some more h e = absurd (omega arith)
 shape (x ∷ []) (m ∷ missing) function parameters some more h e = inl cc
 shape (x ∷ y ∷ p) (m ∷ missing) function parameters some more h e =
     let tail : p ++ m ∷ missing ≡ join_with_byte 59 parameters ++ final_byte function ∷ [] = cc in
-    inr (record { inner = p; is = cc; each = front-inner p (join_with_byte 59 parameters) m missing (final_byte function) (joined-inner parameters h.digits) tail })
+    inr (record { inner = p; is = cc; each = prefix-inner p (join_with_byte 59 parameters) m missing (final_byte function) (joined-inner parameters h.digits) tail })
 
 pub shape-of : (bytes : List ℕ) → IsBeginning bytes → (bytes ≡ 27 ∷ []) ⊎ Inner bytes
 shape-of bytes h = shape bytes h.missing h.function h.parameters h.begun h.not_finished h.well_formed h.goes_on
@@ -162,7 +162,7 @@ control-control a (p ∷ ps) b (q ∷ qs) f g h k e =
     sym (append_assoc (join_with_byte 59 (p ∷ ps)) (final_byte a ∷ []) f) ∙ e ∙ append_assoc (join_with_byte 59 (q ∷ qs)) (final_byte b ∷ []) g in
     let both = cut IsInner (join_with_byte 59 (p ∷ ps)) (join_with_byte 59 (q ∷ qs)) (final_byte a ∷ f) (final_byte b ∷ g) (joined-inner (p ∷ ps) h.digits) (joined-inner (q ∷ qs) k.digits)
     (final-stops a f) (final-stops b g) split in
-    let behind : final_byte a ∷ f ≡ final_byte b ∷ g = both.second in
+    let after : final_byte a ∷ f ≡ final_byte b ∷ g = both.second in
     let final : final_byte a ≡ final_byte b = cc in
     let parameters = same-parameters p ps q qs h.digits k.digits both.first in
     let function = same-function a b final in
@@ -170,42 +170,42 @@ control-control a (p ∷ ps) b (q ∷ qs) f g h k e =
 
 control-unfinished : (a : Function) (ps : List (List ℕ)) (begun f g : List ℕ) → AreParameters ps → EndsOrEscapes g → (begun ≡ 27 ∷ []) ⊎ Inner begun → bytes_of (Control a ps) ++ f ≡ begun ++ g → ⊥
 control-unfinished a ps begun f g h stop (inl lone) e =
-    let whole : 27 ∷ 91 ∷ ((join_with_byte 59 ps ++ final_byte a ∷ []) ++ f) ≡ 27 ∷ g = e ∙ ap (λ (front : List ℕ). front ++ g) lone in
-    let behind : 91 ∷ ((join_with_byte 59 ps ++ final_byte a ∷ []) ++ f) ≡ g = cc in
-    not-escape 91 ((join_with_byte 59 ps ++ final_byte a ∷ []) ++ f) g (λ same. omega arith) behind stop
+    let whole : 27 ∷ 91 ∷ ((join_with_byte 59 ps ++ final_byte a ∷ []) ++ f) ≡ 27 ∷ g = e ∙ ap (λ (prefix : List ℕ). prefix ++ g) lone in
+    let after : 91 ∷ ((join_with_byte 59 ps ++ final_byte a ∷ []) ++ f) ≡ g = cc in
+    not-escape 91 ((join_with_byte 59 ps ++ final_byte a ∷ []) ++ f) g (λ same. omega arith) after stop
 control-unfinished a ps begun f g h stop (inr begins) e =
-    let whole : 27 ∷ 91 ∷ ((join_with_byte 59 ps ++ final_byte a ∷ []) ++ f) ≡ 27 ∷ 91 ∷ (begins.inner ++ g) = e ∙ ap (λ (front : List ℕ). front ++ g) begins.is in
-    let behind : (join_with_byte 59 ps ++ final_byte a ∷ []) ++ f ≡ begins.inner ++ g = cc in
+    let whole : 27 ∷ 91 ∷ ((join_with_byte 59 ps ++ final_byte a ∷ []) ++ f) ≡ 27 ∷ 91 ∷ (begins.inner ++ g) = e ∙ ap (λ (prefix : List ℕ). prefix ++ g) begins.is in
+    let after : (join_with_byte 59 ps ++ final_byte a ∷ []) ++ f ≡ begins.inner ++ g = cc in
     let both = cut IsInner (join_with_byte 59 ps) begins.inner (final_byte a ∷ f) g (joined-inner ps h.digits) begins.each (final-stops a f) (escape-stops g stop)
-    (sym (append_assoc (join_with_byte 59 ps) (final_byte a ∷ []) f) ∙ behind) in
+    (sym (append_assoc (join_with_byte 59 ps) (final_byte a ∷ []) f) ∙ after) in
     not-escape (final_byte a) f g (not-final a) both.second stop
 
 unfinished-unfinished : (p q f g : List ℕ) → EndsOrEscapes f → EndsOrEscapes g → (p ≡ 27 ∷ []) ⊎ Inner p → (q ≡ 27 ∷ []) ⊎ Inner q → p ++ f ≡ q ++ g → SameItem (Unfinished p) (Unfinished q) f g
 unfinished-unfinished p q f g h k (inl a) (inl b) e =
-    let whole : 27 ∷ f ≡ 27 ∷ g = sym (ap (λ (front : List ℕ). front ++ f) a) ∙ e ∙ ap (λ (front : List ℕ). front ++ g) b in
+    let whole : 27 ∷ f ≡ 27 ∷ g = sym (ap (λ (prefix : List ℕ). prefix ++ f) a) ∙ e ∙ ap (λ (prefix : List ℕ). prefix ++ g) b in
     let same : p ≡ q = a ∙ sym b in
     record { item = cc; rest = cc }
 unfinished-unfinished p q f g h k (inl a) (inr b) e =
-    let whole : 27 ∷ f ≡ 27 ∷ 91 ∷ (b.inner ++ g) = sym (ap (λ (front : List ℕ). front ++ f) a) ∙ e ∙ ap (λ (front : List ℕ). front ++ g) b.is in
-    let behind : 91 ∷ (b.inner ++ g) ≡ f = cc in
-    absurd (not-escape 91 (b.inner ++ g) f (λ same. omega arith) behind h)
+    let whole : 27 ∷ f ≡ 27 ∷ 91 ∷ (b.inner ++ g) = sym (ap (λ (prefix : List ℕ). prefix ++ f) a) ∙ e ∙ ap (λ (prefix : List ℕ). prefix ++ g) b.is in
+    let after : 91 ∷ (b.inner ++ g) ≡ f = cc in
+    absurd (not-escape 91 (b.inner ++ g) f (λ same. omega arith) after h)
 unfinished-unfinished p q f g h k (inr a) (inl b) e =
-    let whole : 27 ∷ 91 ∷ (a.inner ++ f) ≡ 27 ∷ g = sym (ap (λ (front : List ℕ). front ++ f) a.is) ∙ e ∙ ap (λ (front : List ℕ). front ++ g) b in
-    let behind : 91 ∷ (a.inner ++ f) ≡ g = cc in
-    absurd (not-escape 91 (a.inner ++ f) g (λ same. omega arith) behind k)
+    let whole : 27 ∷ 91 ∷ (a.inner ++ f) ≡ 27 ∷ g = sym (ap (λ (prefix : List ℕ). prefix ++ f) a.is) ∙ e ∙ ap (λ (prefix : List ℕ). prefix ++ g) b in
+    let after : 91 ∷ (a.inner ++ f) ≡ g = cc in
+    absurd (not-escape 91 (a.inner ++ f) g (λ same. omega arith) after k)
 unfinished-unfinished p q f g h k (inr a) (inr b) e =
-    let whole : 27 ∷ 91 ∷ (a.inner ++ f) ≡ 27 ∷ 91 ∷ (b.inner ++ g) = sym (ap (λ (front : List ℕ). front ++ f) a.is) ∙ e ∙ ap (λ (front : List ℕ). front ++ g) b.is in
-    let behind : a.inner ++ f ≡ b.inner ++ g = cc in
-    let both = cut IsInner a.inner b.inner f g a.each b.each (escape-stops f h) (escape-stops g k) behind in
+    let whole : 27 ∷ 91 ∷ (a.inner ++ f) ≡ 27 ∷ 91 ∷ (b.inner ++ g) = sym (ap (λ (prefix : List ℕ). prefix ++ f) a.is) ∙ e ∙ ap (λ (prefix : List ℕ). prefix ++ g) b.is in
+    let after : a.inner ++ f ≡ b.inner ++ g = cc in
+    let both = cut IsInner a.inner b.inner f g a.each b.each (escape-stops f h) (escape-stops g k) after in
     let same : p ≡ q = a.is ∙ ap (λ (inner : List ℕ). 27 ∷ 91 ∷ inner) both.first ∙ sym b.is in
     record { item = cc; rest = both.second }
 
 printable-unfinished : (byte : ℕ) (begun f g : List ℕ) → 32 ≤ byte → (begun ≡ 27 ∷ []) ⊎ Inner begun → byte ∷ f ≡ begun ++ g → ⊥
 printable-unfinished byte begun f g h (inl a) e =
-    let whole : byte ∷ f ≡ 27 ∷ g = e ∙ ap (λ (front : List ℕ). front ++ g) a in
+    let whole : byte ∷ f ≡ 27 ∷ g = e ∙ ap (λ (prefix : List ℕ). prefix ++ g) a in
     let same : byte ≡ 27 = cc in omega arith
 printable-unfinished byte begun f g h (inr a) e =
-    let whole : byte ∷ f ≡ 27 ∷ 91 ∷ (a.inner ++ g) = e ∙ ap (λ (front : List ℕ). front ++ g) a.is in
+    let whole : byte ∷ f ≡ 27 ∷ 91 ∷ (a.inner ++ g) = e ∙ ap (λ (prefix : List ℕ). prefix ++ g) a.is in
     let same : byte ≡ 27 = cc in omega arith
 
 pub same-first : (i j : Item) (f g : List ℕ) → IsItem i → IsItem j → MayPrecede i f → MayPrecede j g → bytes_of i ++ f ≡ bytes_of j ++ g → SameItem i j f g
@@ -234,22 +234,22 @@ Splits-nothing bytes [] rest h short = refl
 Splits-nothing bytes (item ∷ items) rest h short = absurd (let less = Splits-less bytes item items rest h in omega arith)
 
 -- of two rows of items the one that leaves less goes on from the other
-pub Splits-front : (bytes : List ℕ) (items others : List Item) (rest left : List ℕ) → Splits bytes items rest → Splits bytes others left → length left ≤ length rest
+pub Splits-prefix : (bytes : List ℕ) (items others : List Item) (rest left : List ℕ) → Splits bytes items rest → Splits bytes others left → length left ≤ length rest
     → (more : List Item) × (others ≡ items ++ more) × Splits rest more left
-Splits-front bytes [] others rest left h k less = (others, refl, subst (λ (front : List ℕ). Splits front others left) h k)
-Splits-front bytes (item ∷ items) [] rest left h k less = absurd (let shorter = Splits-less bytes item items rest h in let same : length bytes ≡ length left = ap length k in omega arith)
-Splits-front bytes (item ∷ items) (other ∷ others) rest left h k less =
+Splits-prefix bytes [] others rest left h k less = (others, refl, subst (λ (prefix : List ℕ). Splits prefix others left) h k)
+Splits-prefix bytes (item ∷ items) [] rest left h k less = absurd (let shorter = Splits-less bytes item items rest h in let same : length bytes ≡ length left = ap length k in omega arith)
+Splits-prefix bytes (item ∷ items) (other ∷ others) rest left h k less =
     let first = same-first item other h.0 k.0 h.2 k.2 h.3 k.3 (sym h.1 ∙ k.1) in
-    let behind = Splits-front k.0 items others rest left (subst (λ (following : List ℕ). Splits following items rest) first.rest h.4) k.4 less in
+    let after = Splits-prefix k.0 items others rest left (subst (λ (following : List ℕ). Splits following items rest) first.rest h.4) k.4 less in
     let here : item ≡ other = first.item in
-    let those : others ≡ items ++ behind.0 = behind.1 in
-    (behind.0, cc, behind.2)
+    let those : others ≡ items ++ after.0 = after.1 in
+    (after.0, cc, after.2)
 
 pub Splits-same : (bytes : List ℕ) (items others : List Item) (rest left : List ℕ) → Splits bytes items rest → Splits bytes others left → length rest ≡ length left → items ≡ others
 Splits-same bytes items others rest left h k same =
-    let behind = Splits-front bytes items others rest left h k (omega arith) in
-    let nothing = Splits-nothing rest behind.0 left behind.2 (omega arith) in
-    sym (behind.1 ∙ ap (λ (more : List Item). items ++ more) nothing ∙ append-nil items)
+    let after = Splits-prefix bytes items others rest left h k (omega arith) in
+    let nothing = Splits-nothing rest after.0 left after.2 (omega arith) in
+    sym (after.1 ∙ ap (λ (more : List Item). items ++ more) nothing ∙ append-nil items)
 
 pub Splits-unique : (bytes : List ℕ) (items others : List Item) → Splits bytes items [] → Splits bytes others [] → items ≡ others
 Splits-unique bytes items others h k = Splits-same bytes items others [] [] h k refl

@@ -6,4 +6,4 @@ pub mod Difference
 pub mod Pages
 pub mod Parameters
 pub mod steps
-pub mod Standing
+pub mod Readers

@@ -27,12 +27,12 @@ pub record Terminal : Type 0 where
 abbrev pub right_of : Picture → Place → Option Place
 right_of picture place = if nat_lt (place.1 + 1) (length (line_of picture place.0)) then Some (place.0, place.1 + 1) else None
 
-abbrev pub printed : ℕ → Terminal → Place → Terminal
-printed byte t place = record t { picture = with_shown t.picture place (shown_with t.rendition byte); cursor = right_of t.picture place }
+abbrev pub print_at : ℕ → Terminal → Place → Terminal
+print_at byte t place = record t { picture = with_shown t.picture place (shown_with t.rendition byte); cursor = right_of t.picture place }
 
 -- no effect where the cursor is unknown
 abbrev pub print : ℕ → Terminal → Option Terminal
-print byte t = option_map (printed byte t) t.cursor
+print byte t = option_map (print_at byte t) t.cursor
 
 -- ---- moving
 
@@ -42,14 +42,14 @@ move_to place t = if is_place t.picture place then Some (record t { cursor = Som
 
 -- ---- erasing
 
-abbrev pub blanked : List Shown → List Shown
-blanked line = map (λ _. shown_blank) line
+abbrev pub blank_line : List Shown → List Shown
+blank_line line = map (λ _. shown_blank) line
 
 -- a line, erased from a column on, from its start to the column, or all of it; the column is erased each time
 abbrev pub erased_line : Erase → ℕ → List Shown → List Shown
-erased_line ToEnd column line = take column line ++ blanked (drop column line)
-erased_line FromStart column line = blanked (take (column + 1) line) ++ drop (column + 1) line
-erased_line All column line = blanked line
+erased_line ToEnd column line = take column line ++ blank_line (drop column line)
+erased_line FromStart column line = blank_line (take (column + 1) line) ++ drop (column + 1) line
+erased_line All column line = blank_line line
 
 -- the picture with the line of a place erased
 abbrev pub erased_at : Erase → Place → Picture → Picture
@@ -57,9 +57,9 @@ erased_at how place picture = slice_set picture place.0 (erased_line how place.1
 
 -- a picture, erased from a place on, from its start to the place, or all of it; the place is erased each time
 abbrev pub erased_page : Erase → Place → Picture → Picture
-erased_page ToEnd place picture = take (place.0 + 1) (erased_at ToEnd place picture) ++ map blanked (drop (place.0 + 1) picture)
-erased_page FromStart place picture = map blanked (take place.0 picture) ++ drop place.0 (erased_at FromStart place picture)
-erased_page All place picture = map blanked picture
+erased_page ToEnd place picture = take (place.0 + 1) (erased_at ToEnd place picture) ++ map blank_line (drop (place.0 + 1) picture)
+erased_page FromStart place picture = map blank_line (take place.0 picture) ++ drop place.0 (erased_at FromStart place picture)
+erased_page All place picture = map blank_line picture
 
 -- no effect while an attribute or a colour is on
 abbrev pub under_no_rendition : Terminal → Option Terminal → Option Terminal
@@ -73,7 +73,7 @@ erase_line how t = under_no_rendition t (option_map (λ place. record t { pictur
 abbrev pub erase_page : Erase → Terminal → Option Terminal
 erase_page ToEnd t = under_no_rendition t (option_map (λ place. record t { picture = erased_page ToEnd place t.picture }) t.cursor)
 erase_page FromStart t = under_no_rendition t (option_map (λ place. record t { picture = erased_page FromStart place t.picture }) t.cursor)
-erase_page All t = under_no_rendition t (Some (record t { picture = map blanked t.picture }))
+erase_page All t = under_no_rendition t (Some (record t { picture = map blank_line t.picture }))
 
 -- ---- selecting a rendition
 

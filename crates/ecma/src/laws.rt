@@ -4,7 +4,7 @@ ghost use Rattle.std.specs.Prelude.{◌≡◌, ◌↔◌, ℕ, ◌<◌, ◌≤�
 ghost use Rattle.cell.specs.Pictures.{HasSize, Picture};
 ghost use Rattle.cell.specs.Differences.{difference};
 ghost use Rattle.ecma.specs.Items.{EndsOrEscapes, Item, Splits};
-ghost use Rattle.ecma.specs.Standing.{Reader, StandsAfter};
+ghost use Rattle.ecma.specs.Readers.{Reader, HasRead};
 ghost use Rattle.ecma.specs.Terminals.{Terminal};
 ghost use Rattle.ecma.specs.Spelling.{spelling, IsToken, IsItemOf};
 ghost use Rattle.ecma.specs.declared.token.Token.{Token};
@@ -14,7 +14,7 @@ ghost use Rattle.ecma.specs.Streams.{FailsAt, Leads, LeadsWithBreaks, IsInProfil
 /// other, also where items were never finished.
 pub fn one_row_of_items()
     ensures whole { (stream : List ℕ) (items others : List Item) → Splits stream items [] → Splits stream others [] → items ≡ others }
-    ensures front { (stream : List ℕ) (items others : List Item) (rest left : List ℕ) → Splits stream items rest → Splits stream others left
+    ensures prefix { (stream : List ℕ) (items others : List Item) (rest left : List ℕ) → Splits stream items rest → Splits stream others left
         → length left ≤ length rest → (more : List Item) × (others ≡ items ++ more) × Splits rest more left }
 {}
 
@@ -33,8 +33,8 @@ pub fn one_failure()
 {}
 
 /// What a reader shows is that of the stream that it read, however it was cut: two readers of one stream show one terminal.
-pub fn one_standing()
-    ensures { (stream : List ℕ) (first : Terminal) (one other : Reader) → StandsAfter stream first one → StandsAfter stream first other
+pub fn one_terminal_shown()
+    ensures { (stream : List ℕ) (first : Terminal) (one other : Reader) → HasRead stream first one → HasRead stream first other
         → one.terminal ≡ other.terminal }
 {}
 

@@ -9,8 +9,8 @@ ghost use Rattle.cell.specs.declared.limits.TheConstants.{LARGEST_SCREEN};
 ghost use Rattle.ecma.specs.Items.{Control, SGR};
 ghost use Rattle.ecma.specs.Parameters.{parameter_of};
 ghost use Rattle.ecma.specs.steps.Parameters.{function_of};
-ghost use Rattle.ecma.specs.Standing.{blank_terminal};
-ghost use Rattle.ecma.specs.Terminals.{blanked, effect, erase_line, erase_page, erased_at, move_to, print};
+ghost use Rattle.ecma.specs.Readers.{blank_terminal};
+ghost use Rattle.ecma.specs.Terminals.{blank_line, effect, erase_line, erase_page, erased_at, move_to, print};
 
 use crate::parameter::{Parameter, erasure, position};
 use crate::selection::select_all;
@@ -248,7 +248,7 @@ fn erase_lines(picture: &mut Grid<Shown>, first: u16, end: u16, columns: u16)
     requires columns { 1 ≤ columns }
     requires size { HasSize (length picture.old) columns picture.old }
     ensures size { HasSize (length picture.old) columns picture.new }
-    ensures erased { picture.new ≡ take first picture.old ++ map blanked (take (end - first) (drop first picture.old)) ++ drop end picture.old }
+    ensures erased { picture.new ≡ take first picture.old ++ map blank_line (take (end - first) (drop first picture.old)) ++ drop end picture.old }
 {
     for line in first..end {
         erase_in_line(picture, Erase::All, line, 0, columns);

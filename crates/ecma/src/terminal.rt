@@ -4,7 +4,7 @@ ghost use Rattle.std.specs.Prelude.{◌≡◌, ◌↔◌, ◌⊎◌, ◌||◌, �
 ghost use Rattle.cell.specs.Limits.{is_no_size};
 ghost use Rattle.cell.specs.Pictures.{is_place, line_of, shown_at};
 ghost use Rattle.ecma.specs.Items.{IsDigit, separator};
-ghost use Rattle.ecma.specs.Standing.{StandsAfter, Follows, HasFailed, blank_terminal, counted};
+ghost use Rattle.ecma.specs.Readers.{HasRead, Follows, HasFailed, blank_terminal, saturating_u64};
 ghost use Rattle.ecma.specs.Streams.{IsInProfile};
 ghost use Rattle.ecma.specs.Terminals;
 
@@ -60,7 +60,7 @@ pub struct Terminal {
 
 impl Model for Terminal {
     ghost use Rattle.std.specs.Prelude.{◌≤◌, take};
-    ghost use Rattle.ecma.specs.Standing.{Reader};
+    ghost use Rattle.ecma.specs.Readers.{Reader};
     ghost use Rattle.ecma.specs.declared.terminal.TheConstants.{MOST_ENDED};
 
     ghost Value = { Reader };
@@ -74,7 +74,7 @@ impl Terminal {
     /// A blank terminal with the cursor at its first place and the empty rendition. It has 1 to `LARGEST_SCREEN` lines and
     /// columns; another size is refused as `BadSize`, and the only other refusal is `NoMemory`.
     pub fn new(alloc: Global, lines: u16, columns: u16) -> Result<Terminal, Refusal>
-        ensures stands { IfOk result (StandsAfter [] (blank_terminal lines columns)) }
+        ensures read { IfOk result (HasRead [] (blank_terminal lines columns)) }
         ensures blank { IfOk result (λ terminal. terminal.terminal ≡ blank_terminal lines columns) }
         ensures size { IsErrOf result Refusal.BadSize ↔ IsTrue (is_no_size LARGEST_SCREEN lines || is_no_size LARGEST_SCREEN columns) }
         ensures memory { IfErr result (λ refusal. (refusal ≡ Refusal.BadSize) ⊎ (refusal ≡ Refusal.NoMemory)) }
@@ -107,9 +107,9 @@ impl Terminal {
 
     /// Where the stream that was read leaves the profile, and none where it is in the profile.
     pub fn fault(&self) -> Option<NotInProfile>
-        ensures profile { (stream : List ℕ) (first : Terminals.Terminal) → StandsAfter stream first self.now
+        ensures profile { (stream : List ℕ) (first : Terminals.Terminal) → HasRead stream first self.now
             → IfNone result (IsInProfile stream first self.now.terminal) }
-        ensures fault { (stream : List ℕ) (first : Terminals.Terminal) → StandsAfter stream first self.now
+        ensures fault { (stream : List ℕ) (first : Terminals.Terminal) → HasRead stream first self.now
             → IfSome result (λ fault. HasFailed stream first self.now.terminal fault.at) }
     {
         match self.state {
@@ -181,7 +181,7 @@ impl Terminal {
     /// Reads the byte at an offset after an item.
     fn read_text(&mut self, at: u64, byte: u8)
         requires state { self.old.state ≡ State.Text }
-        requires read { self.old.read ≡ counted (at + 1) }
+        requires read { self.old.read ≡ saturating_u64 (at + 1) }
         ensures { Follows (byte ∷ []) (record self.old { read = at }) self.new }
     {
         if byte == ESCAPE {
@@ -196,7 +196,7 @@ impl Terminal {
     /// Reads the byte at an offset after an escape.
     fn read_escaped(&mut self, at: u64, byte: u8)
         requires state { self.old.state ≡ State.Escape }
-        requires read { self.old.read ≡ counted (at + 1) }
+        requires read { self.old.read ≡ saturating_u64 (at + 1) }
         ensures { Follows (byte ∷ []) (record self.old { read = at }) self.new }
     {
         if byte == ESCAPE {
@@ -213,7 +213,7 @@ impl Terminal {
     /// Reads the byte at an offset within the parameters of a control sequence.
     fn read_parameter(&mut self, at: u64, byte: u8)
         requires state { self.old.state ≡ State.Parameters }
-        requires read { self.old.read ≡ counted (at + 1) }
+        requires read { self.old.read ≡ saturating_u64 (at + 1) }
         ensures { Follows (byte ∷ []) (record self.old { read = at }) self.new }
     {
         if byte == ESCAPE {
@@ -232,7 +232,7 @@ impl Terminal {
     fn read_digit(&mut self, digit: u8)
         requires state { self.old.state ≡ State.Parameters }
         requires digit { IsDigit digit }
-        ensures { (at : ℕ) → self.old.read ≡ counted (at + 1) → Follows (digit ∷ []) (record self.old { read = at }) self.new }
+        ensures { (at : ℕ) → self.old.read ≡ saturating_u64 (at + 1) → Follows (digit ∷ []) (record self.old { read = at }) self.new }
     {
         match self.current.with_digit(digit) {
             Some(longer) => self.current = longer,
@@ -243,7 +243,7 @@ impl Terminal {
     /// Reads the separator after a parameter.
     fn read_separator(&mut self)
         requires { self.old.state ≡ State.Parameters }
-        ensures { (at : ℕ) → self.old.read ≡ counted (at + 1) → Follows (separator ∷ []) (record self.old { read = at }) self.new }
+        ensures { (at : ℕ) → self.old.read ≡ saturating_u64 (at + 1) → Follows (separator ∷ []) (record self.old { read = at }) self.new }
     {
         if self.count < MOST_ENDED {
             self.ended[self.count] = self.current;
@@ -260,7 +260,7 @@ impl Terminal {
         requires no_escape { byte ≡ 27 → ⊥ }
         requires no_digit { IsDigit byte → ⊥ }
         requires no_separator { byte ≡ separator → ⊥ }
-        ensures { (at : ℕ) → self.old.read ≡ counted (at + 1) → Follows (byte ∷ []) (record self.old { read = at }) self.new }
+        ensures { (at : ℕ) → self.old.read ≡ saturating_u64 (at + 1) → Follows (byte ∷ []) (record self.old { read = at }) self.new }
     {
         let done = self
             .page

@@ -40,14 +40,15 @@ unfoldable pub advice_on : List ℕ → Option Advice
 advice_on = look_up (map (λ entry. (entry.0.now, entry.1)) ADVICE)
 
 -- the rest of a word after a prefix, if the word has the prefix and the rest is a call
-abbrev pub call_behind : List ℕ → List ℕ → Option (List ℕ)
-call_behind front word = if bytes_eq (take (length front) word) front && is_some (word_of (drop (length front) word)) then Some (drop (length front) word)
+abbrev pub call_after_prefix : List ℕ → List ℕ → Option (List ℕ)
+call_after_prefix prefix word = if bytes_eq (take (length prefix) word) prefix && is_some (word_of (drop (length prefix) word))
+    then Some (drop (length prefix) word)
     else None
 
 -- what to write for a word of curses that is no call: what the table has; else, where the word is a call with the prefix `mvw`, `mv` or
 -- `w`, that call
 abbrev pub call_advice : List ℕ → List ℕ
 call_advice word = option_map_or (λ advice. codes ": " ++ advice_text advice) (advice_on word)
-    (option_map_or (λ rest. codes ": see move, " ++ rest) (call_behind (codes "mvw") word)
-    (option_map_or (λ rest. codes ": see move, " ++ rest) (call_behind (codes "mv") word)
-    (option_map_or (λ rest. codes ": see " ++ rest) (call_behind (codes "w") word) [])))
+    (option_map_or (λ rest. codes ": see move, " ++ rest) (call_after_prefix (codes "mvw") word)
+    (option_map_or (λ rest. codes ": see move, " ++ rest) (call_after_prefix (codes "mv") word)
+    (option_map_or (λ rest. codes ": see " ++ rest) (call_after_prefix (codes "w") word) [])))

@@ -1,7 +1,7 @@
 //! What to write for a name of curses that is no word of scripts.
 
 ghost use Rattle.std.specs.Prelude.{◌≡◌, ◌≤◌, IfSome, length, map, option_map};
-ghost use Rattle.explain.specs.Advice.{advice_on, advice_text, call_behind, look_up};
+ghost use Rattle.explain.specs.Advice.{advice_on, advice_text, call_after_prefix, look_up};
 
 use script::Word;
 
@@ -130,11 +130,11 @@ pub fn advice_on(name: &[u8]) -> Option<Advice>
 }
 
 /// The rest of a word after a prefix, if the word has the prefix and the rest is a call.
-pub fn call_behind<'a>(front: &[u8], word: &'a [u8]) -> Option<&'a [u8]>
-    ensures rest { option_map (λ rest. rest.now) result ≡ call_behind front.now word.now }
+pub fn call_after_prefix<'a>(prefix: &[u8], word: &'a [u8]) -> Option<&'a [u8]>
+    ensures rest { option_map (λ rest. rest.now) result ≡ call_after_prefix prefix.now word.now }
     ensures short { IfSome result (λ rest. length rest.now ≤ length word.now) }
 {
-    let rest = word.strip_prefix(front)?;
+    let rest = word.strip_prefix(prefix)?;
     if Word::of(rest).is_some() {
         Some(rest)
     } else {

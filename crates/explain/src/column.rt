@@ -4,7 +4,7 @@ ghost use Rattle.std.specs.Prelude.{◌≡◌, ◌≤◌, ◌+◌, ◌<◌, IfSo
 ghost use Rattle.script.specs.Characters.{is_bad_byte};
 ghost use Rattle.script.specs.Pieces.{pieces_of};
 ghost use Rattle.script.specs.Readings.{arguments};
-ghost use Rattle.explain.specs.Faults.{bad_place, column_behind, column_of};
+ghost use Rattle.explain.specs.Faults.{bad_place, column_after, column_of};
 
 use crate::arguments::{find_ill_formed, forms_of};
 use cell::is_printable;
@@ -40,14 +40,14 @@ pub fn bad_byte(line: &[u8]) -> u8
 }
 
 /// The column after as many arguments as there are forms, of which the first begins in a column.
-fn column_behind(column: usize, forms: &[Form], text: Option<&[u8]>) -> usize
+fn column_after(column: usize, forms: &[Form], text: Option<&[u8]>) -> usize
     requires short { IfSome text (λ t. column + length t.now ≤ LONGEST_LINE + 2) }
-    ensures { result ≡ column_behind column forms.now (arguments forms.now (pieces_of text.entry)) }
+    ensures { result ≡ column_after column forms.now (arguments forms.now (pieces_of text.entry)) }
 {
     match (forms.split_first(), text) {
         (Some((form, others)), Some(text)) => {
             let (argument, rest) = next_argument(*form, text);
-            column_behind(column + argument.len() + 1, others, rest)
+            column_after(column + argument.len() + 1, others, rest)
         }
         _ => column,
     }
@@ -63,7 +63,7 @@ pub fn column_of(fault: TextFault, line: &[u8]) -> usize
         TextFault::LineTooLong => LONGEST_LINE + 1,
         TextFault::BadByte => bad_place(line) + 1,
         TextFault::UnknownCall => 1,
-        TextFault::WrongNumberOfArguments => column_behind(word.len() + 2, forms_of(word), text),
+        TextFault::WrongNumberOfArguments => column_after(word.len() + 2, forms_of(word), text),
         TextFault::BadArgument => match find_ill_formed(word.len() + 2, forms_of(word), text) {
             Some(ill) => ill.column,
             None => 1,

@@ -9,7 +9,7 @@ ghost use Rattle.explain.specs.Explanations.{explanation};
 ghost use Rattle.explain.specs.Reasons.{numeral_in, requirement};
 
 /// The numerals that a person reads are the limits of a script's text.
-pub fn limits_are_told()
+pub fn limits_in_texts()
     ensures number { numeral_in 19 (requirement Number) ≡ GREATEST_NUMBER }
     ensures none { numeral_in 19 (requirement NumberOrNone) ≡ GREATEST_NUMBER }
     ensures negative { numeral_in 15 (requirement Signed) ≡ GREATEST_SIGNED }

@@ -3,17 +3,17 @@
 //! - `advice`: what to write for a name of curses
 //! - `arguments`: the arguments of the line, and the first that lacks its form
 //! - `column`: where the fault is
+//! - `findings`: the line on a fault
 //! - `laws`: the numerals that are printed are the limits
 //! - `reasons`: what an argument has to be, and why it is not
-//! - `telling`: the line on a fault
 #![tactic(auto)]
 
 mod advice;
 mod arguments;
 mod column;
+mod findings;
 mod laws;
 mod reasons;
-mod telling;
 
-pub use laws::limits_are_told;
-pub use telling::{Finding, finding};
+pub use findings::{Finding, finding};
+pub use laws::limits_in_texts;

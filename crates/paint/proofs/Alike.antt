@@ -39,8 +39,8 @@ module _ {lines columns : ℕ} {changes : List Stretch} {shown wanted : Picture}
   pub line-none : (y : ℕ) → y < lines → stretch_of changes y ≡ no_stretch → line_of shown y ≡ line_of wanted y
   line-none y below none = line-alike y below (λ x left. ap (λ (s : Stretch). is_in s x) none ∙ is_out no_stretch x (inr (omega arith)))
 
-  pub line-front : (y : ℕ) {part : ℕ × ℕ} → y < lines → IsWithin columns (stretch_of changes y) part → take part.0 (line_of shown y) ≡ take part.0 (line_of wanted y)
-  line-front y below h = take-same shown_blank _ (line_of shown y) (line_of wanted y) (same-width y below) (λ x few left. only.others y x (h.before x few))
+  pub line-prefix : (y : ℕ) {part : ℕ × ℕ} → y < lines → IsWithin columns (stretch_of changes y) part → take part.0 (line_of shown y) ≡ take part.0 (line_of wanted y)
+  line-prefix y below h = take-same shown_blank _ (line_of shown y) (line_of wanted y) (same-width y below) (λ x few left. only.others y x (h.before x few))
 
   pub line-back : (y : ℕ) {part : ℕ × ℕ} → y < lines → IsWithin columns (stretch_of changes y) part → drop part.1 (line_of shown y) ≡ drop part.1 (line_of wanted y)
   line-back y below h =
@@ -48,12 +48,12 @@ module _ {lines columns : ℕ} {changes : List Stretch} {shown wanted : Picture}
 
   pub line-whole : (y : ℕ) {part : ℕ × ℕ} → y < lines → IsWithin columns (stretch_of changes y) part → part.0 ≡ part.1 → line_of shown y ≡ line_of wanted y
   line-whole y {part} below h none =
-      sym (take-append-drop part.1 (line_of shown y)) ∙ (λ i. front i ++ line-back y below h i) ∙ take-append-drop part.1 (line_of wanted y) where
-        front : take part.1 (line_of shown y) ≡ take part.1 (line_of wanted y)
-        front = ap (λ n. take n (line_of shown y)) (sym none) ∙ line-front y below h ∙ ap (λ n. take n (line_of wanted y)) none
+      sym (take-append-drop part.1 (line_of shown y)) ∙ (λ i. prefix i ++ line-back y below h i) ∙ take-append-drop part.1 (line_of wanted y) where
+        prefix : take part.1 (line_of shown y) ≡ take part.1 (line_of wanted y)
+        prefix = ap (λ n. take n (line_of shown y)) (sym none) ∙ line-prefix y below h ∙ ap (λ n. take n (line_of wanted y)) none
 
-  pub lines-front : (n : ℕ) → ((y : ℕ) → y < n → stretch_of changes y ≡ no_stretch) → take n shown ≡ take n wanted
-  lines-front n none = take-same [] n shown wanted (old_size.height ∙ sym new_size.height) (λ y few below. line-none y (omega (arith, below, old_size.height)) (none y few))
+  pub lines-prefix : (n : ℕ) → ((y : ℕ) → y < n → stretch_of changes y ≡ no_stretch) → take n shown ≡ take n wanted
+  lines-prefix n none = take-same [] n shown wanted (old_size.height ∙ sym new_size.height) (λ y few below. line-none y (omega (arith, below, old_size.height)) (none y few))
 
   pub lines-first : (n : ℕ) → ((y x : ℕ) → y < n → may_change changes y x ≡ false) → take n shown ≡ take n wanted
   lines-first n none = take-same [] n shown wanted (old_size.height ∙ sym new_size.height) (λ y few below. line-alike y (omega (arith, below, old_size.height)) (λ x left. none y x few))

@@ -7,7 +7,7 @@ use Rattle.std.proofs.lemmas.Bool.Decides.{nat_tests}
 use Rattle.std.proofs.lemmas.List.{get_or-set_same, get_or-set_other, set_past}
 use Rattle.small_set.specs.Sets.{IsNext, contains}
 use Rattle.paint.specs.declared.changes.Stretch.{Stretch}
-use Rattle.paint.specs.Changes.{is_in, joined, may_change, no_stretch, stretch_of}
+use Rattle.paint.specs.Changes.{is_in, join, may_change, no_stretch, stretch_of}
 
 pub out-of : (s : Stretch) (x : ℕ) → is_in s x ≡ false → (x < s.start) ⊎ (s.end ≤ x)
 out-of s x h = elim (cases_lt x s.start) [
@@ -76,27 +76,27 @@ module _ (lines : List ℕ) (changes : List Stretch) (y : ℕ) (inside : y < len
 
 -- ---- a line gets more columns
 
-out-of-both : (a b : Stretch) (x : ℕ) → is_in (joined a b) x ≡ false → (is_in a x ≡ false) × (is_in b x ≡ false)
-out-of-both a b x h = elim (out-of (joined a b) x h) [
+out-of-both : (a b : Stretch) (x : ℕ) → is_in (join a b) x ≡ false → (is_in a x ≡ false) × (is_in b x ≡ false)
+out-of-both a b x h = elim (out-of (join a b) x h) [
   | inl below ↦ (is_out a x (inl (omega arith)), is_out b x (inl (omega arith)))
   | inr past ↦ (is_out a x (inr (omega arith)), is_out b x (inr (omega arith)))
 ]
 
 -- none is lost
-pub not-before : (changes : List Stretch) (y : ℕ) (s : Stretch) (v u : ℕ) → may_change (set changes y (joined (stretch_of changes y) s)) v u ≡ false → may_change changes v u ≡ false
+pub not-before : (changes : List Stretch) (y : ℕ) (s : Stretch) (v u : ℕ) → may_change (set changes y (join (stretch_of changes y) s)) v u ≡ false → may_change changes v u ≡ false
 not-before changes y s v u h = elim (cases_eq v y) [
-  | inr other ↦ ap (λ (t : Stretch). is_in t u) (sym (get_or-set_other changes y v (joined (stretch_of changes y) s) no_stretch other)) ∙ h
+  | inr other ↦ ap (λ (t : Stretch). is_in t u) (sym (get_or-set_other changes y v (join (stretch_of changes y) s) no_stretch other)) ∙ h
   | inl same ↦ elim (cases_lt y (length changes)) [
     | inl inside ↦
-        let line : stretch_of (set changes y (joined (stretch_of changes y) s)) v ≡ joined (stretch_of changes y) s =
-        ap (λ k. get_or (set changes y (joined (stretch_of changes y) s)) k no_stretch) same ∙ get_or-set_same changes y (joined (stretch_of changes y) s) no_stretch inside in
+        let line : stretch_of (set changes y (join (stretch_of changes y) s)) v ≡ join (stretch_of changes y) s =
+        ap (λ k. get_or (set changes y (join (stretch_of changes y) s)) k no_stretch) same ∙ get_or-set_same changes y (join (stretch_of changes y) s) no_stretch inside in
         ap (λ k. may_change changes k u) same ∙ (out-of-both (stretch_of changes y) s u (ap (λ (t : Stretch). is_in t u) (sym line) ∙ h)).0
-    | inr past ↦ ap (λ (l : List Stretch). may_change l v u) (sym (set_past changes y (joined (stretch_of changes y) s) past)) ∙ h
+    | inr past ↦ ap (λ (l : List Stretch). may_change l v u) (sym (set_past changes y (join (stretch_of changes y) s) past)) ∙ h
   ]
 ]
 
 -- and these are there
-pub not-added : (changes : List Stretch) (y : ℕ) (s : Stretch) (u : ℕ) → y < length changes → may_change (set changes y (joined (stretch_of changes y) s)) y u ≡ false → is_in s u ≡ false
+pub not-added : (changes : List Stretch) (y : ℕ) (s : Stretch) (u : ℕ) → y < length changes → may_change (set changes y (join (stretch_of changes y) s)) y u ≡ false → is_in s u ≡ false
 not-added changes y s u inside h =
-    let line = get_or-set_same changes y (joined (stretch_of changes y) s) no_stretch inside in
+    let line = get_or-set_same changes y (join (stretch_of changes y) s) no_stretch inside in
     (out-of-both (stretch_of changes y) s u (ap (λ (t : Stretch). is_in t u) (sym line) ∙ h)).1

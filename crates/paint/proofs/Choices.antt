@@ -11,70 +11,70 @@ use Rattle.cell.specs.Differences.{same_rendition, same_shown}
 use Rattle.cell.specs.Pictures.{HasSize, Picture, line_of}
 use Rattle.cell.proofs.PictureLemmas.{length-line}
 use Rattle.paint.specs.steps.Strokes.{cell_bytes, line_bytes, picture_bytes}
-use Rattle.paint.specs.steps.Passes.{chosen, chosen_lines, is_drawn, pass_of}
+use Rattle.paint.specs.steps.Passes.{choose, choose_lines, is_drawn, pass_of}
 
 -- ---- lines
 
-pub length-chosen : (p : Rendition → Bool) (shown wanted : List Shown) → length shown ≡ length wanted → length (chosen p shown wanted) ≡ length shown
-length-chosen p [] wanted same = refl
-length-chosen p (a ∷ shown) [] same = absurd (omega arith)
-length-chosen p (a ∷ shown) (b ∷ wanted) same = ap (λ n. suc n) (length-chosen p shown wanted (omega arith))
+pub length-choose : (p : Rendition → Bool) (shown wanted : List Shown) → length shown ≡ length wanted → length (choose p shown wanted) ≡ length shown
+length-choose p [] wanted same = refl
+length-choose p (a ∷ shown) [] same = absurd (omega arith)
+length-choose p (a ∷ shown) (b ∷ wanted) same = ap (λ n. suc n) (length-choose p shown wanted (omega arith))
 
-pub get-chosen : (p : Rendition → Bool) (x : ℕ) (shown wanted : List Shown) → length shown ≡ length wanted → x < length shown
-    → get_or (chosen p shown wanted) x shown_blank ≡ (if p (get_or wanted x shown_blank).rendition then get_or wanted x shown_blank else get_or shown x shown_blank)
-get-chosen p x [] wanted same inside = absurd (omega arith)
-get-chosen p x (a ∷ shown) [] same inside = absurd (omega arith)
-get-chosen p zero (a ∷ shown) (b ∷ wanted) same inside = refl
-get-chosen p (suc x) (a ∷ shown) (b ∷ wanted) same inside = get-chosen p x shown wanted (omega arith) (omega arith)
+pub get-choose : (p : Rendition → Bool) (x : ℕ) (shown wanted : List Shown) → length shown ≡ length wanted → x < length shown
+    → get_or (choose p shown wanted) x shown_blank ≡ (if p (get_or wanted x shown_blank).rendition then get_or wanted x shown_blank else get_or shown x shown_blank)
+get-choose p x [] wanted same inside = absurd (omega arith)
+get-choose p x (a ∷ shown) [] same inside = absurd (omega arith)
+get-choose p zero (a ∷ shown) (b ∷ wanted) same inside = refl
+get-choose p (suc x) (a ∷ shown) (b ∷ wanted) same inside = get-choose p x shown wanted (omega arith) (omega arith)
 
 -- a line of which all is shown already
-pub chosen-same : (p : Rendition → Bool) (line : List Shown) → chosen p line line ≡ line
-chosen-same p [] = refl
-chosen-same p (a ∷ line) = elim (cases_Bool (p a.rendition)) [
-  | inl h ↦ rw h (ap (λ l. a ∷ l) (chosen-same p line))
-  | inr h ↦ rw h (ap (λ l. a ∷ l) (chosen-same p line))
+pub choose-same : (p : Rendition → Bool) (line : List Shown) → choose p line line ≡ line
+choose-same p [] = refl
+choose-same p (a ∷ line) = elim (cases_Bool (p a.rendition)) [
+  | inl h ↦ rw h (ap (λ l. a ∷ l) (choose-same p line))
+  | inr h ↦ rw h (ap (λ l. a ∷ l) (choose-same p line))
 ]
 
-pub chosen-all : (p : Rendition → Bool) → ((r : Rendition) → p r ≡ true) → (shown wanted : List Shown) → length shown ≡ length wanted → chosen p shown wanted ≡ wanted
-chosen-all p all [] [] same = refl
-chosen-all p all [] (b ∷ wanted) same = absurd (omega arith)
-chosen-all p all (a ∷ shown) [] same = absurd (omega arith)
-chosen-all p all (a ∷ shown) (b ∷ wanted) same = rw (all b.rendition) (ap (λ l. b ∷ l) (chosen-all p all shown wanted (omega arith)))
+pub choose-all : (p : Rendition → Bool) → ((r : Rendition) → p r ≡ true) → (shown wanted : List Shown) → length shown ≡ length wanted → choose p shown wanted ≡ wanted
+choose-all p all [] [] same = refl
+choose-all p all [] (b ∷ wanted) same = absurd (omega arith)
+choose-all p all (a ∷ shown) [] same = absurd (omega arith)
+choose-all p all (a ∷ shown) (b ∷ wanted) same = rw (all b.rendition) (ap (λ l. b ∷ l) (choose-all p all shown wanted (omega arith)))
 
-pub chosen-none : (p : Rendition → Bool) → ((r : Rendition) → p r ≡ false) → (shown wanted : List Shown) → length shown ≡ length wanted → chosen p shown wanted ≡ shown
-chosen-none p none [] wanted same = refl
-chosen-none p none (a ∷ shown) [] same = absurd (omega arith)
-chosen-none p none (a ∷ shown) (b ∷ wanted) same = rw (none b.rendition) (ap (λ l. a ∷ l) (chosen-none p none shown wanted (omega arith)))
+pub choose-none : (p : Rendition → Bool) → ((r : Rendition) → p r ≡ false) → (shown wanted : List Shown) → length shown ≡ length wanted → choose p shown wanted ≡ shown
+choose-none p none [] wanted same = refl
+choose-none p none (a ∷ shown) [] same = absurd (omega arith)
+choose-none p none (a ∷ shown) (b ∷ wanted) same = rw (none b.rendition) (ap (λ l. a ∷ l) (choose-none p none shown wanted (omega arith)))
 
-pub take-chosen : (p : Rendition → Bool) (x : ℕ) (shown wanted : List Shown) → take x (chosen p shown wanted) ≡ chosen p (take x shown) (take x wanted)
-take-chosen p zero shown wanted = refl
-take-chosen p (suc x) [] wanted = refl
-take-chosen p (suc x) (a ∷ shown) [] = refl
-take-chosen p (suc x) (a ∷ shown) (b ∷ wanted) = ap (λ l. (if p b.rendition then b else a) ∷ l) (take-chosen p x shown wanted)
+pub take-choose : (p : Rendition → Bool) (x : ℕ) (shown wanted : List Shown) → take x (choose p shown wanted) ≡ choose p (take x shown) (take x wanted)
+take-choose p zero shown wanted = refl
+take-choose p (suc x) [] wanted = refl
+take-choose p (suc x) (a ∷ shown) [] = refl
+take-choose p (suc x) (a ∷ shown) (b ∷ wanted) = ap (λ l. (if p b.rendition then b else a) ∷ l) (take-choose p x shown wanted)
 
-chosen-nil : (p : Rendition → Bool) (shown : List Shown) → chosen p shown [] ≡ []
-chosen-nil p [] = refl
-chosen-nil p (a ∷ shown) = refl
+choose-nil : (p : Rendition → Bool) (shown : List Shown) → choose p shown [] ≡ []
+choose-nil p [] = refl
+choose-nil p (a ∷ shown) = refl
 
-pub drop-chosen : (p : Rendition → Bool) (x : ℕ) (shown wanted : List Shown) → drop x (chosen p shown wanted) ≡ chosen p (drop x shown) (drop x wanted)
-drop-chosen p zero shown wanted = refl
-drop-chosen p (suc x) [] wanted = refl
-drop-chosen p (suc x) (a ∷ shown) [] = sym (chosen-nil p (drop x shown))
-drop-chosen p (suc x) (a ∷ shown) (b ∷ wanted) = drop-chosen p x shown wanted
+pub drop-choose : (p : Rendition → Bool) (x : ℕ) (shown wanted : List Shown) → drop x (choose p shown wanted) ≡ choose p (drop x shown) (drop x wanted)
+drop-choose p zero shown wanted = refl
+drop-choose p (suc x) [] wanted = refl
+drop-choose p (suc x) (a ∷ shown) [] = sym (choose-nil p (drop x shown))
+drop-choose p (suc x) (a ∷ shown) (b ∷ wanted) = drop-choose p x shown wanted
 
 -- two choices are the same before a column, and from another on, where the lines are
-pub choices-front : (p q : Rendition → Bool) (x : ℕ) (shown wanted : List Shown) → take x shown ≡ take x wanted → take x (chosen p shown wanted) ≡ take x (chosen q shown wanted)
-choices-front p q x shown wanted e =
-    take-chosen p x shown wanted ∙ ap (λ l. chosen p l (take x wanted)) e ∙ chosen-same p (take x wanted)
-    ∙ sym (chosen-same q (take x wanted)) ∙ ap (λ l. chosen q l (take x wanted)) (sym e) ∙ sym (take-chosen q x shown wanted)
+pub choices-prefix : (p q : Rendition → Bool) (x : ℕ) (shown wanted : List Shown) → take x shown ≡ take x wanted → take x (choose p shown wanted) ≡ take x (choose q shown wanted)
+choices-prefix p q x shown wanted e =
+    take-choose p x shown wanted ∙ ap (λ l. choose p l (take x wanted)) e ∙ choose-same p (take x wanted)
+    ∙ sym (choose-same q (take x wanted)) ∙ ap (λ l. choose q l (take x wanted)) (sym e) ∙ sym (take-choose q x shown wanted)
 
-pub choices-back : (p q : Rendition → Bool) (x : ℕ) (shown wanted : List Shown) → drop x shown ≡ drop x wanted → drop x (chosen p shown wanted) ≡ drop x (chosen q shown wanted)
+pub choices-back : (p q : Rendition → Bool) (x : ℕ) (shown wanted : List Shown) → drop x shown ≡ drop x wanted → drop x (choose p shown wanted) ≡ drop x (choose q shown wanted)
 choices-back p q x shown wanted e =
-    drop-chosen p x shown wanted ∙ ap (λ l. chosen p l (drop x wanted)) e ∙ chosen-same p (drop x wanted)
-    ∙ sym (chosen-same q (drop x wanted)) ∙ ap (λ l. chosen q l (drop x wanted)) (sym e) ∙ sym (drop-chosen q x shown wanted)
+    drop-choose p x shown wanted ∙ ap (λ l. choose p l (drop x wanted)) e ∙ choose-same p (drop x wanted)
+    ∙ sym (choose-same q (drop x wanted)) ∙ ap (λ l. choose q l (drop x wanted)) (sym e) ∙ sym (drop-choose q x shown wanted)
 
-pub choices-alike : (p q : Rendition → Bool) (shown wanted : List Shown) → shown ≡ wanted → chosen p shown wanted ≡ chosen q shown wanted
-choices-alike p q shown wanted e = ap (λ l. chosen p l wanted) e ∙ chosen-same p wanted ∙ sym (chosen-same q wanted) ∙ ap (λ l. chosen q l wanted) (sym e)
+pub choices-alike : (p q : Rendition → Bool) (shown wanted : List Shown) → shown ≡ wanted → choose p shown wanted ≡ choose q shown wanted
+choices-alike p q shown wanted e = ap (λ l. choose p l wanted) e ∙ choose-same p wanted ∙ sym (choose-same q wanted) ∙ ap (λ l. choose q l wanted) (sym e)
 
 -- ---- a cell of a line
 
@@ -84,23 +84,23 @@ if-same false a c e = e
 
 -- a cell that is shown already
 pub get-kept : (p : Rendition → Bool) (x : ℕ) (shown wanted : List Shown) → length shown ≡ length wanted → x < length shown
-    → get_or shown x shown_blank ≡ get_or wanted x shown_blank → get_or (chosen p shown wanted) x shown_blank ≡ get_or wanted x shown_blank
+    → get_or shown x shown_blank ≡ get_or wanted x shown_blank → get_or (choose p shown wanted) x shown_blank ≡ get_or wanted x shown_blank
 get-kept p x shown wanted same inside e =
-    get-chosen p x shown wanted same inside ∙ if-same (p (get_or wanted x shown_blank).rendition) (get_or shown x shown_blank) (get_or wanted x shown_blank) e
+    get-choose p x shown wanted same inside ∙ if-same (p (get_or wanted x shown_blank).rendition) (get_or shown x shown_blank) (get_or wanted x shown_blank) e
 
 -- a cell of a rendition of which two choices think alike
 pub get-alike : (p q : Rendition → Bool) (x : ℕ) (shown wanted : List Shown) → length shown ≡ length wanted → x < length shown
-    → p (get_or wanted x shown_blank).rendition ≡ q (get_or wanted x shown_blank).rendition → get_or (chosen p shown wanted) x shown_blank ≡ get_or (chosen q shown wanted) x shown_blank
+    → p (get_or wanted x shown_blank).rendition ≡ q (get_or wanted x shown_blank).rendition → get_or (choose p shown wanted) x shown_blank ≡ get_or (choose q shown wanted) x shown_blank
 get-alike p q x shown wanted same inside e =
-    get-chosen p x shown wanted same inside ∙ ap (λ b. if b then get_or wanted x shown_blank else get_or shown x shown_blank) e ∙ sym (get-chosen q x shown wanted same inside)
+    get-choose p x shown wanted same inside ∙ ap (λ b. if b then get_or wanted x shown_blank else get_or shown x shown_blank) e ∙ sym (get-choose q x shown wanted same inside)
 
 pub get-out : (p : Rendition → Bool) (x : ℕ) (shown wanted : List Shown) → length shown ≡ length wanted → x < length shown
-    → p (get_or wanted x shown_blank).rendition ≡ false → get_or (chosen p shown wanted) x shown_blank ≡ get_or shown x shown_blank
-get-out p x shown wanted same inside e = get-chosen p x shown wanted same inside ∙ ap (λ b. if b then get_or wanted x shown_blank else get_or shown x shown_blank) e
+    → p (get_or wanted x shown_blank).rendition ≡ false → get_or (choose p shown wanted) x shown_blank ≡ get_or shown x shown_blank
+get-out p x shown wanted same inside e = get-choose p x shown wanted same inside ∙ ap (λ b. if b then get_or wanted x shown_blank else get_or shown x shown_blank) e
 
 pub get-in : (p : Rendition → Bool) (x : ℕ) (shown wanted : List Shown) → length shown ≡ length wanted → x < length shown
-    → p (get_or wanted x shown_blank).rendition ≡ true → get_or (chosen p shown wanted) x shown_blank ≡ get_or wanted x shown_blank
-get-in p x shown wanted same inside e = get-chosen p x shown wanted same inside ∙ ap (λ b. if b then get_or wanted x shown_blank else get_or shown x shown_blank) e
+    → p (get_or wanted x shown_blank).rendition ≡ true → get_or (choose p shown wanted) x shown_blank ≡ get_or wanted x shown_blank
+get-in p x shown wanted same inside e = get-choose p x shown wanted same inside ∙ ap (λ b. if b then get_or wanted x shown_blank else get_or shown x shown_blank) e
 
 pub same-cells : (a b : Shown) → a ≡ b → same_shown a b ≡ true
 same-cells a b e = ap (same_shown a) (sym e) ∙ same_shown-self a
@@ -108,28 +108,28 @@ same-cells a b e = ap (same_shown a) (sym e) ∙ same_shown-self a
 -- cells that are shown already are those of the wanted line
 pub part-kept : (p : Rendition → Bool) (start x : ℕ) (shown wanted : List Shown) → length shown ≡ length wanted → start ≤ x → x ≤ length shown
     → ((v : ℕ) → start ≤ v → v < x → get_or shown v shown_blank ≡ get_or wanted v shown_blank)
-    → take (x - start) (drop start (chosen p shown wanted)) ≡ take (x - start) (drop start wanted)
+    → take (x - start) (drop start (choose p shown wanted)) ≡ take (x - start) (drop start wanted)
 part-kept p start x shown wanted same ordered inside kept =
-    let long = length-chosen p shown wanted same in
-    take-same shown_blank (x - start) (drop start (chosen p shown wanted)) (drop start wanted)
-    (omega (arith, length-drop start (chosen p shown wanted), length-drop start wanted, long, same))
-    (λ k few left. get_or-drop start (chosen p shown wanted) k shown_blank
+    let long = length-choose p shown wanted same in
+    take-same shown_blank (x - start) (drop start (choose p shown wanted)) (drop start wanted)
+    (omega (arith, length-drop start (choose p shown wanted), length-drop start wanted, long, same))
+    (λ k few left. get_or-drop start (choose p shown wanted) k shown_blank
     ∙ get-kept p (start + k) shown wanted same (omega arith) (kept (start + k) (omega arith) (omega arith))
     ∙ sym (get_or-drop start wanted k shown_blank))
 
 -- ---- pictures
 
-pub length-lines : (p : Rendition → Bool) (shown wanted : Picture) → length shown ≡ length wanted → length (chosen_lines p shown wanted) ≡ length shown
+pub length-lines : (p : Rendition → Bool) (shown wanted : Picture) → length shown ≡ length wanted → length (choose_lines p shown wanted) ≡ length shown
 length-lines p [] wanted same = refl
 length-lines p (line ∷ shown) [] same = absurd (omega arith)
 length-lines p (line ∷ shown) (other ∷ wanted) same = ap (λ n. suc n) (length-lines p shown wanted (omega arith))
 
-pub line-chosen : (p : Rendition → Bool) (y : ℕ) (shown wanted : Picture) → y < length shown → length shown ≡ length wanted
-    → line_of (chosen_lines p shown wanted) y ≡ chosen p (line_of shown y) (line_of wanted y)
-line-chosen p y [] wanted inside same = absurd (omega arith)
-line-chosen p y (line ∷ shown) [] inside same = absurd (omega arith)
-line-chosen p zero (line ∷ shown) (other ∷ wanted) inside same = refl
-line-chosen p (suc y) (line ∷ shown) (other ∷ wanted) inside same = line-chosen p y shown wanted (omega arith) (omega arith)
+pub line-choose : (p : Rendition → Bool) (y : ℕ) (shown wanted : Picture) → y < length shown → length shown ≡ length wanted
+    → line_of (choose_lines p shown wanted) y ≡ choose p (line_of shown y) (line_of wanted y)
+line-choose p y [] wanted inside same = absurd (omega arith)
+line-choose p y (line ∷ shown) [] inside same = absurd (omega arith)
+line-choose p zero (line ∷ shown) (other ∷ wanted) inside same = refl
+line-choose p (suc y) (line ∷ shown) (other ∷ wanted) inside same = line-choose p y shown wanted (omega arith) (omega arith)
 
 -- ---- passes
 
@@ -169,24 +169,24 @@ once-drawn order passes rendition h = lt-ltb (pass_of order rendition) (passes +
 -- ---- whole pictures
 
 module _ (p : Rendition → Bool) {lines columns : ℕ} {shown wanted : Picture} (old_size : HasSize lines columns shown) (new_size : HasSize lines columns wanted) where
-  high : length (chosen_lines p shown wanted) ≡ length shown
+  high : length (choose_lines p shown wanted) ≡ length shown
   high = length-lines p shown wanted (old_size.height ∙ sym new_size.height)
 
-  line-at : (y : ℕ) → y < lines → line_of (chosen_lines p shown wanted) y ≡ chosen p (line_of shown y) (line_of wanted y)
-  line-at y below = line-chosen p y shown wanted (omega (arith, old_size.height)) (old_size.height ∙ sym new_size.height)
+  line-at : (y : ℕ) → y < lines → line_of (choose_lines p shown wanted) y ≡ choose p (line_of shown y) (line_of wanted y)
+  line-at y below = line-choose p y shown wanted (omega (arith, old_size.height)) (old_size.height ∙ sym new_size.height)
 
   wide : (y : ℕ) → y < lines → length (line_of shown y) ≡ length (line_of wanted y)
   wide y below = length-line y old_size below ∙ sym (length-line y new_size below)
 
-  pub lines-none : ((r : Rendition) → p r ≡ false) → chosen_lines p shown wanted ≡ shown
-  lines-none none = ext_get_or [] (chosen_lines p shown wanted) shown high (λ y few.
+  pub lines-none : ((r : Rendition) → p r ≡ false) → choose_lines p shown wanted ≡ shown
+  lines-none none = ext_get_or [] (choose_lines p shown wanted) shown high (λ y few.
       let below : y < lines = omega (arith, few, high, old_size.height) in
-      line-at y below ∙ chosen-none p none (line_of shown y) (line_of wanted y) (wide y below))
+      line-at y below ∙ choose-none p none (line_of shown y) (line_of wanted y) (wide y below))
 
-  pub lines-all : ((r : Rendition) → p r ≡ true) → chosen_lines p shown wanted ≡ wanted
-  lines-all all = ext_get_or [] (chosen_lines p shown wanted) wanted (high ∙ old_size.height ∙ sym new_size.height) (λ y few.
+  pub lines-all : ((r : Rendition) → p r ≡ true) → choose_lines p shown wanted ≡ wanted
+  lines-all all = ext_get_or [] (choose_lines p shown wanted) wanted (high ∙ old_size.height ∙ sym new_size.height) (λ y few.
       let below : y < lines = omega (arith, few, high, old_size.height) in
-      line-at y below ∙ chosen-all p all (line_of shown y) (line_of wanted y) (wide y below))
+      line-at y below ∙ choose-all p all (line_of shown y) (line_of wanted y) (wide y below))
 
 -- ---- what a pass may cost is no longer left after it
 
@@ -215,7 +215,7 @@ cell-left false true a b kept = omega (arith, cost-self b)
 cell-left false false a b kept = omega (arith, cost-self a)
 
 line-left : (p q : Rendition → Bool) → ((r : Rendition) → p r ≡ true → q r ≡ true) → (shown wanted : List Shown)
-    → line_bytes (chosen p shown wanted) (chosen q shown wanted) + line_bytes (chosen q shown wanted) wanted ≤ line_bytes (chosen p shown wanted) wanted
+    → line_bytes (choose p shown wanted) (choose q shown wanted) + line_bytes (choose q shown wanted) wanted ≤ line_bytes (choose p shown wanted) wanted
 line-left p q kept [] wanted = omega arith
 line-left p q kept (a ∷ shown) [] = omega arith
 line-left p q kept (a ∷ shown) (b ∷ wanted) =
@@ -223,15 +223,15 @@ line-left p q kept (a ∷ shown) (b ∷ wanted) =
     let other = if q b.rendition then b else a in
     omega (
       arith,
-      line-cost one other (chosen p shown wanted) (chosen q shown wanted),
-      line-cost other b (chosen q shown wanted) wanted,
-      line-cost one b (chosen p shown wanted) wanted,
+      line-cost one other (choose p shown wanted) (choose q shown wanted),
+      line-cost other b (choose q shown wanted) wanted,
+      line-cost one b (choose p shown wanted) wanted,
       cell-left (p b.rendition) (q b.rendition) a b (kept b.rendition),
       line-left p q kept shown wanted,
     )
 
 pub lines-left : (p q : Rendition → Bool) → ((r : Rendition) → p r ≡ true → q r ≡ true) → (shown wanted : Picture)
-    → picture_bytes (chosen_lines p shown wanted) (chosen_lines q shown wanted) + picture_bytes (chosen_lines q shown wanted) wanted ≤ picture_bytes (chosen_lines p shown wanted) wanted
+    → picture_bytes (choose_lines p shown wanted) (choose_lines q shown wanted) + picture_bytes (choose_lines q shown wanted) wanted ≤ picture_bytes (choose_lines p shown wanted) wanted
 lines-left p q kept [] wanted = omega arith
 lines-left p q kept (line ∷ shown) [] = omega arith
 lines-left p q kept (line ∷ shown) (other ∷ wanted) = omega (arith, line-left p q kept line other, lines-left p q kept shown wanted)

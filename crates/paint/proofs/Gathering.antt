@@ -4,7 +4,7 @@ use Rattle.std.specs.Prelude.{min}
 use Rattle.streams.specs.Sinks.{Seen}
 use Rattle.streams.specs.Sending.{Sends}
 use Rattle.streams.specs.declared.sending.WriteFault.{WriteFault}
-use Rattle.streams.proofs.Sends.{Sends-nothing, Sends-then, Sends-front}
+use Rattle.streams.proofs.Sends.{Sends-nothing, Sends-then, Sends-prefix}
 use Rattle.paint.specs.steps.Gathering.{GoesOut}
 
 pub goes_out-none : (seen : Seen) → GoesOut false seen seen [] 0 []
@@ -13,7 +13,7 @@ goes_out-none seen = ([], refl, omega arith, Sends-nothing)
 pub goes_out-append : (failed : Bool) (start now : Seen) (room : List ℕ) (sent : ℕ) (text piece : List ℕ) → GoesOut failed start now room sent text
     → GoesOut failed start now (room ++ piece) sent (text ++ piece)
 goes_out-append false start now room sent text piece h = (h.0, ap (λ bytes. bytes ++ piece) h.1 ∙ append_assoc h.0 room piece, h.2, h.3)
-goes_out-append true start now room sent text piece h = (h.0, h.1, Sends-front piece h.2)
+goes_out-append true start now room sent text piece h = (h.0, h.1, Sends-prefix piece h.2)
 
 -- once a write failed the room is of no account
 pub goes_out-failed : (start now : Seen) (sent : ℕ) (text : List ℕ) → GoesOut true start now [] sent text → GoesOut true start now [] sent (text ++ [])
@@ -21,24 +21,24 @@ goes_out-failed start now sent text h = rw append-nil h
 
 -- ---- the room is sent
 
-Sends-behind : {before after : Seen} {piece : List ℕ} {n : ℕ} (sent : ℕ) → Sends before after 0 piece (Ok n) → Sends before after sent piece (Ok (sent + n))
-Sends-behind sent h = record { ends = (omega (arith, h.ends.0), h.ends.1, h.ends.2); flushes = h.flushes }
+Sends-after : {before after : Seen} {piece : List ℕ} {n : ℕ} (sent : ℕ) → Sends before after 0 piece (Ok n) → Sends before after sent piece (Ok (sent + n))
+Sends-after sent h = record { ends = (omega (arith, h.ends.0), h.ends.1, h.ends.2); flushes = h.flushes }
 
-Sends-behind_fault : {before after : Seen} {piece : List ℕ} {fault : WriteFault} (sent : ℕ) → Sends before after 0 piece (Err fault)
+Sends-after_fault : {before after : Seen} {piece : List ℕ} {fault : WriteFault} (sent : ℕ) → Sends before after 0 piece (Err fault)
     → Sends before after sent piece (Err (record { sent = sent + fault.sent }))
-Sends-behind_fault sent h = record { ends = (h.ends.0, h.ends.1, omega (arith, h.ends.2), h.ends.3, h.ends.4); flushes = h.flushes }
+Sends-after_fault sent h = record { ends = (h.ends.0, h.ends.1, omega (arith, h.ends.2), h.ends.3, h.ends.4); flushes = h.flushes }
 
 pub goes_out-sent : (start mid now : Seen) (room : List ℕ) (sent n total : ℕ) (text : List ℕ) → GoesOut false start mid room sent text → Sends mid now 0 room (Ok n)
     → total ≡ min (sent + n) (2 ^ 32 - 1) → GoesOut false start now [] total (text ++ [])
 goes_out-sent start mid now room sent n total text h k e =
     let long : length (h.0 ++ room) ≡ length h.0 + n = length-append h.0 room ∙ omega (arith, k.ends.0) in
-    let whole = Sends-then h.3 (Sends-behind (length h.0) k) in
+    let whole = Sends-then h.3 (Sends-after (length h.0) k) in
     (h.0 ++ room, ap (λ bytes. bytes ++ []) h.1, omega (arith, h.2, long), subst (λ m. Sends start now 0 (h.0 ++ room) (Ok m)) (sym long) whole)
 
 pub goes_out-faulted : (start mid now : Seen) (room : List ℕ) (sent total : ℕ) (fault : WriteFault) (text : List ℕ) → GoesOut false start mid room sent text → Sends mid now 0 room (Err fault)
     → total ≡ min (sent + fault.sent) (2 ^ 32 - 1) → GoesOut true start now [] total (text ++ [])
 goes_out-faulted start mid now room sent total fault text h k e =
-    (length h.0 + fault.sent, omega (arith, h.2), rw (append-nil, h.1) (Sends-then h.3 (Sends-behind_fault (length h.0) k)))
+    (length h.0 + fault.sent, omega (arith, h.2), rw (append-nil, h.1) (Sends-then h.3 (Sends-after_fault (length h.0) k)))
 
 -- ---- the end of a text
 
@@ -48,7 +48,7 @@ sent-all start now sent text h few =
     let count : length h.0 ≡ sent = omega (arith, h.2, ap length all) in
     subst (λ n. Sends start now 0 text (Ok n)) count (rw all h.3)
 
-pub sent-front : (start now : Seen) (room : List ℕ) (sent : ℕ) (text : List ℕ) → GoesOut true start now room sent text → length text < 2 ^ 32 → Sends start now 0 text (Err (record { sent = sent }))
-sent-front start now room sent text h few =
+pub sent-prefix : (start now : Seen) (room : List ℕ) (sent : ℕ) (text : List ℕ) → GoesOut true start now room sent text → length text < 2 ^ 32 → Sends start now 0 text (Err (record { sent = sent }))
+sent-prefix start now room sent text h few =
     let count : h.0 ≡ sent = omega (arith, h.1, h.2.ends.1, h.2.ends.2) in
     subst (λ n. Sends start now 0 text (Err (record { sent = n }))) count h.2

@@ -15,7 +15,7 @@ use Rattle.ecma.proofs.Leading.{Leads-nothing}
 use Rattle.ecma.proofs.Failing.{Reaches-unique}
 use Rattle.streams.specs.Sinks.{Seen}
 use Rattle.paint.specs.declared.pen.Pen.{Pen}
-use Rattle.paint.specs.Updates.{PainterState, ShownPicture, IsUpdateText, MayRead, known, move, opening, opening_from, start_from, start_of_update}
+use Rattle.paint.specs.Updates.{PainterState, ShownPicture, IsUpdateText, MayRead, known_picture, move, opening, opening_from, start_from, start_of_update}
 use Rattle.paint.specs.steps.Gathering.{IsGathered}
 use Rattle.paint.specs.steps.Holding.{HoldsUpdate, last_shown}
 use Rattle.paint.specs.steps.Strokes.{change, move_from, under, Draws, Strokes, picture_bytes}
@@ -88,7 +88,7 @@ module _ (painter : PainterState) (clear : Bool) (wanted : ShownPicture) {a b c 
       → (strokes : Strokes (picture_bytes (start_of_update painter clear).picture wanted.picture) a b first drawn (start_of_update painter clear).picture wanted.picture)
       → Draws (change drawn.rendition no_rendition ++ move_from drawn.cursor wanted.cursor) b c drawn last wanted.picture wanted.picture
       → last.cursor ≡ Some wanted.cursor → last.rendition ≡ no_rendition
-      → IsUpdateText painter clear wanted (opening_from (known painter clear) ++ (strokes.piece ++ (change drawn.rendition no_rendition ++ move_from drawn.cursor wanted.cursor)))
+      → IsUpdateText painter clear wanted (opening_from (known_picture painter clear) ++ (strokes.piece ++ (change drawn.rendition no_rendition ++ move_from drawn.cursor wanted.cursor)))
   is_update lines columns few_lines few_columns cursor rendition strokes ending there none =
       let ended = change drawn.rendition no_rendition ++ move_from drawn.cursor wanted.cursor in
       let rest = strokes.piece ++ ended in
@@ -102,11 +102,11 @@ module _ (painter : PainterState) (clear : Bool) (wanted : ShownPicture) {a b c 
       record {
         rest = rest;
         parts = refl;
-        shows = shows-from painter (known painter clear) wanted rest lines columns leads;
+        shows = shows-from painter (known_picture painter clear) wanted rest lines columns leads;
         short = omega (
           arith,
           strokes.short,
-          length-append (opening_from (known painter clear)) rest,
+          length-append (opening_from (known_picture painter clear)) rest,
           length-append strokes.piece ended,
           length-append (change drawn.rendition no_rendition) (move_from drawn.cursor wanted.cursor),
           length-ended drawn.rendition,
@@ -122,7 +122,7 @@ module _ (painter : PainterState) (clear : Bool) (wanted : ShownPicture) {a b c 
       }
 
   pub holds : painter.lines ≤ LARGEST_SCREEN → painter.columns ≤ LARGEST_SCREEN → 0 < painter.lines → 0 < painter.columns → wanted.cursor.0 < LARGEST_SCREEN → wanted.cursor.1 < LARGEST_SCREEN
-      → HasSize painter.lines painter.columns (start_of_update painter clear).picture → {seen : Seen} → IsGathered seen a first.outbox (opening_from (known painter clear))
+      → HasSize painter.lines painter.columns (start_of_update painter clear).picture → {seen : Seen} → IsGathered seen a first.outbox (opening_from (known_picture painter clear))
       → first.cursor ≡ Some (start_of_update painter clear).cursor → first.rendition ≡ no_rendition
       → Strokes (picture_bytes (start_of_update painter clear).picture wanted.picture) a b first drawn (start_of_update painter clear).picture wanted.picture
       → Draws (change drawn.rendition no_rendition ++ move_from drawn.cursor wanted.cursor) b c drawn last wanted.picture wanted.picture
@@ -132,14 +132,14 @@ module _ (painter : PainterState) (clear : Bool) (wanted : ShownPicture) {a b c 
       let ended = change drawn.rendition no_rendition ++ move_from drawn.cursor wanted.cursor in
       let is = is_update lines columns few_lines few_columns cursor rendition strokes ending there none in
       record {
-        text = opening_from (known painter clear) ++ (strokes.piece ++ ended);
-        gathered = subst (IsGathered seen c last.outbox) (append_assoc (opening_from (known painter clear)) strokes.piece ended)
-            (ending.gathers seen (opening_from (known painter clear) ++ strokes.piece) (strokes.draws.gathers seen (opening_from (known painter clear)) gathered));
+        text = opening_from (known_picture painter clear) ++ (strokes.piece ++ ended);
+        gathered = subst (IsGathered seen c last.outbox) (append_assoc (opening_from (known_picture painter clear)) strokes.piece ended)
+            (ending.gathers seen (opening_from (known_picture painter clear) ++ strokes.piece) (strokes.draws.gathers seen (opening_from (known_picture painter clear)) gathered));
         is_text = is;
         few = omega (
           arith,
           is.short,
-          opening-few (known painter clear),
+          opening-few (known_picture painter clear),
           coloured (start_of_update painter clear).picture wanted.picture,
           most painter.columns (start_of_update painter clear).picture wanted.picture most_columns size.width,
           size.height,
@@ -149,7 +149,7 @@ module _ (painter : PainterState) (clear : Bool) (wanted : ShownPicture) {a b c 
   -- the pen was taken up at what is known
   pub holds-from : painter.lines ≤ LARGEST_SCREEN → painter.columns ≤ LARGEST_SCREEN → HasSize painter.lines painter.columns wanted.picture → wanted.cursor.0 < painter.lines
       → wanted.cursor.1 < painter.columns
-      → {shown : Picture} {from : Option ShownPicture} → from ≡ known painter clear → shown ≡ (start_from painter from).picture → HasSize painter.lines painter.columns shown
+      → {shown : Picture} {from : Option ShownPicture} → from ≡ known_picture painter clear → shown ≡ (start_from painter from).picture → HasSize painter.lines painter.columns shown
       → {seen : Seen} → IsGathered seen a first.outbox (opening_from from) → first.cursor ≡ Some (start_from painter from).cursor → first.rendition ≡ no_rendition
       → Strokes (picture_bytes shown wanted.picture) a b first drawn shown wanted.picture
       → ((picture : Picture) → wanted.cursor.1 < length (line_of picture wanted.cursor.0) → Draws (change drawn.rendition no_rendition ++ move_from drawn.cursor wanted.cursor) b c drawn last
@@ -165,8 +165,8 @@ module _ (painter : PainterState) (clear : Bool) (wanted : ShownPicture) {a b c 
       (ending wanted.picture (omega (arith, length-line wanted.cursor.0 wanted_size line))) there none
 
 -- what is known where a cursor is, unless a clear screen is asked for
-pub known-last : (painter : PainterState) (picture : Picture) (cursor : Option Place) (clear : Bool) (result : Option Place) → painter.last ≡ last_shown picture cursor
+pub known_picture-last : (painter : PainterState) (picture : Picture) (cursor : Option Place) (clear : Bool) (result : Option Place) → painter.last ≡ last_shown picture cursor
     → result ≡ (if clear then None else cursor)
-    → last_shown picture result ≡ known painter clear
-known-last painter picture cursor true result last is = ap (last_shown picture) is
-known-last painter picture cursor false result last is = ap (last_shown picture) is ∙ sym last
+    → last_shown picture result ≡ known_picture painter clear
+known_picture-last painter picture cursor true result last is = ap (last_shown picture) is
+known_picture-last painter picture cursor false result last is = ap (last_shown picture) is ∙ sym last

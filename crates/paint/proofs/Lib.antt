@@ -3,7 +3,7 @@ pub mod Gathering
 -- The strokes of a pen, one after another, and what each shows; for `approach`, `change_length`, `end` and others
 pub mod Strokes
 -- A list whose first items are those of another one; for `paint_picture`
-pub mod Mixed
+pub mod Prefixes
 -- The walk over the cells of a line, and over the lines of a picture; for `come_to`, `paint_cells`, `paint_last_line` and others
 pub mod Walks
 -- The blank end of a line; for `changed_tail`, `page_end`, `paint_last_line` and others

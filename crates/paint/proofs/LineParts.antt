@@ -30,9 +30,9 @@ module _ (start end : ℕ) (old new : List Shown) (ordered : start ≤ end) (ins
       sym (take-append-drop start old) ∙ (λ i. before i ++ back i) ∙ take-append-drop start new
 
   -- and the same up to a column of theirs up to which the parts are
-  pub front-between : (x : ℕ) → x ≤ end - start → take x (take (end - start) (drop start old)) ≡ take x (take (end - start) (drop start new)) → take (start + x) old ≡ take (start + x) new
-  front-between x few front =
-      let middle : take x (drop start old) ≡ take x (drop start new) = sym (take-take x (end - start) (drop start old) few) ∙ front ∙ take-take x (end - start) (drop start new) few in
+  pub prefix-between : (x : ℕ) → x ≤ end - start → take x (take (end - start) (drop start old)) ≡ take x (take (end - start) (drop start new)) → take (start + x) old ≡ take (start + x) new
+  prefix-between x few prefix =
+      let middle : take x (drop start old) ≡ take x (drop start new) = sym (take-take x (end - start) (drop start old) few) ∙ prefix ∙ take-take x (end - start) (drop start new) few in
       take-add start x old ∙ (λ i. before i ++ middle i) ∙ sym (take-add start x new)
 
   part-length : (cells : List Shown) → length cells ≡ length old → length (take (end - start) (drop start cells)) ≡ end - start

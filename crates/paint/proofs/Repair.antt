@@ -8,7 +8,7 @@ use Rattle.ecma.specs.Terminals.{Terminal}
 use Rattle.ecma.specs.Streams.{IsInProfile, LeadsWithBreaks, Shows, showing}
 use Rattle.ecma.proofs.Sizes.{size-effects}
 use Rattle.ecma.proofs.Joining.{Leads-repairs, Leads-take, InProfile-append, LeadsWithBreaks-append, LeadsWithBreaks-in_profile, LeadsWithBreaks-in_profile_then}
-use Rattle.paint.specs.Updates.{PainterState, ShownPicture, IsUpdateText, MayRead, Agrees, known, opening, opening_from}
+use Rattle.paint.specs.Updates.{PainterState, ShownPicture, IsUpdateText, MayRead, Agrees, known_picture, opening, opening_from}
 
 -- ---- a text that begins with the opening
 
@@ -28,16 +28,16 @@ IsKnown last t = MatchOption last ⊤ (λ shown. t ≡ showing shown.picture sho
 abbrev LeadsTo : List ℕ → Terminal → Option ShownPicture → Type 0
 LeadsTo stream t last = MatchOption last ⊤ (λ shown. LeadsWithBreaks stream t (showing shown.picture shown.cursor))
 
-known-leads : (painter : PainterState) (clear : Bool) (stream : List ℕ) (t : Terminal) → Agrees painter stream t → LeadsTo stream t (known painter clear)
-known-leads painter true stream t agrees = tt
-known-leads painter false stream t agrees = agrees.leads
+known_picture-leads : (painter : PainterState) (clear : Bool) (stream : List ℕ) (t : Terminal) → Agrees painter stream t → LeadsTo stream t (known_picture painter clear)
+known_picture-leads painter true stream t agrees = tt
+known_picture-leads painter false stream t agrees = agrees.leads
 
 may-read : (painter : PainterState) (last : Option ShownPicture) (t : Terminal) → HasSize painter.lines painter.columns t.picture → IsKnown last t → MayRead painter last t
 may-read painter None t size is = size
 may-read painter (Some shown) t size is = is
 
 -- a terminal of the size that shows what the painter knows may read its text
-pub reads-known : (painter : PainterState) (clear : Bool) (t : Terminal) → HasSize painter.lines painter.columns t.picture → IsKnown painter.last t → MayRead painter (known painter clear) t
+pub reads-known : (painter : PainterState) (clear : Bool) (t : Terminal) → HasSize painter.lines painter.columns t.picture → IsKnown painter.last t → MayRead painter (known_picture painter clear) t
 reads-known painter true t size is = size
 reads-known painter false t size is = may-read painter painter.last t size is
 
@@ -47,10 +47,10 @@ module _ (painter : PainterState) (wanted : ShownPicture) (stream rest : List �
   u-size : HasSize painter.lines painter.columns u.picture
   u-size = size-effects painter.lines painter.columns profile.items t u size profile.have_effect
 
-  behind : (last : Option ShownPicture) → LeadsTo stream t last → ((v : Terminal) → MayRead painter last v → Shows (opening_from last ++ rest) v wanted.picture wanted.cursor)
+  leads-repaired : (last : Option ShownPicture) → LeadsTo stream t last → ((v : Terminal) → MayRead painter last v → Shows (opening_from last ++ rest) v wanted.picture wanted.cursor)
       → LeadsWithBreaks (stream ++ (opening_from last ++ rest)) t (showing wanted.picture wanted.cursor)
-  behind None leads shows = Leads-repairs stream (opening ++ rest) t u (showing wanted.picture wanted.cursor) profile (shows u u-size) (text-some rest) refl
-  behind (Some shown) leads shows =
+  leads-repaired None leads shows = Leads-repairs stream (opening ++ rest) t u (showing wanted.picture wanted.cursor) profile (shows u u-size) (text-some rest) refl
+  leads-repaired (Some shown) leads shows =
       LeadsWithBreaks-append stream rest t (showing shown.picture shown.cursor) (showing wanted.picture wanted.cursor) leads (shows (showing shown.picture shown.cursor) refl)
 
   cut : (last : Option ShownPicture) (sent : ℕ) → LeadsTo stream t last → ((v : Terminal) → MayRead painter last v → Shows (opening_from last ++ rest) v wanted.picture wanted.cursor)
@@ -73,7 +73,7 @@ Agrees-unknown painter none stream t u profile = record { in_profile = (u, profi
 pub shows-update : (painter : PainterState) (clear : Bool) (wanted : ShownPicture) (stream text : List ℕ) (t : Terminal) → HasSize painter.lines painter.columns t.picture → Agrees painter stream t
     → IsUpdateText painter clear wanted text → LeadsWithBreaks (stream ++ text) t (showing wanted.picture wanted.cursor)
 shows-update painter clear wanted stream text t size agrees is_text =
-    rw is_text.parts (behind painter wanted stream is_text.rest t agrees.in_profile.0 size agrees.in_profile.1 (known painter clear) (known-leads painter clear stream t agrees)
+    rw is_text.parts (leads-repaired painter wanted stream is_text.rest t agrees.in_profile.0 size agrees.in_profile.1 (known_picture painter clear) (known_picture-leads painter clear stream t agrees)
     (rw is_text.parts at is_text.shows))
 
 pub Agrees-update : (painter : PainterState) (clear : Bool) (wanted : ShownPicture) (stream text : List ℕ) (t : Terminal) → HasSize painter.lines painter.columns t.picture → Agrees painter stream t
@@ -86,7 +86,8 @@ pub Agrees-fault : (painter : PainterState) (clear : Bool) (wanted : ShownPictur
     → Agrees painter stream t
     → IsUpdateText painter clear wanted text → sent ≤ length text → Agrees (record painter { last = None }) (stream ++ take sent text) t
 Agrees-fault painter clear wanted stream text sent t size agrees is_text within = record {
-  in_profile = rw is_text.parts (cut painter wanted stream is_text.rest t agrees.in_profile.0 size agrees.in_profile.1 (known painter clear) sent (known-leads painter clear stream t agrees)
+  in_profile = rw is_text.parts (cut painter wanted stream is_text.rest t agrees.in_profile.0 size agrees.in_profile.1 (known_picture painter clear) sent
+      (known_picture-leads painter clear stream t agrees)
       (rw is_text.parts at is_text.shows));
   leads = tt;
 }

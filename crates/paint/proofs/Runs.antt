@@ -18,8 +18,8 @@ use Rattle.streams.specs.Sinks.{Seen}
 use Rattle.paint.specs.declared.pen.Pen.{Pen}
 use Rattle.paint.specs.steps.Gathering.{Gathers}
 use Rattle.paint.specs.steps.Strokes.{Draws, Strokes, cell_bytes, characters, line_bytes, most_approach, run_bytes, with_cells, within}
-use Rattle.paint.specs.steps.Walks.{mixed, IsLinePainted}
-use Rattle.paint.proofs.Mixed.{length-mixed, take-mixed}
+use Rattle.paint.specs.steps.Walks.{with_prefix, IsLinePainted}
+use Rattle.paint.proofs.Prefixes.{length-with_prefix, take-with_prefix}
 use Rattle.paint.proofs.Strokes.{Draws-then, Strokes-then, spelled-print}
 use Rattle.paint.proofs.Walks.{left, line_bytes-other, one-drawn}
 
@@ -82,18 +82,18 @@ run-strokes cells is some few h k = record {
 -- ---- a run in a line
 
 -- the cells of a run are those of the wanted line
-run-mixed : (picture : Picture) (line x : ℕ) (shown wanted cells : List Shown) → line < length picture → length shown ≡ length wanted → x + length cells ≤ length shown
+run-with_prefix : (picture : Picture) (line x : ℕ) (shown wanted cells : List Shown) → line < length picture → length shown ≡ length wanted → x + length cells ≤ length shown
     → ((k : ℕ) → k < length cells → get_or cells k shown_blank ≡ get_or wanted (x + k) shown_blank)
-    → with_cells (set picture line (mixed x wanted shown)) (line, x) cells ≡ set picture line (mixed (x + length cells) wanted shown)
-run-mixed picture line x shown wanted [] high same room are = let none : x ≡ x + 0 = omega arith in ap (λ n. set picture line (mixed n wanted shown)) none
-run-mixed picture line x shown wanted (cell ∷ cells) high same room are =
+    → with_cells (set picture line (with_prefix x wanted shown)) (line, x) cells ≡ set picture line (with_prefix (x + length cells) wanted shown)
+run-with_prefix picture line x shown wanted [] high same room are = let none : x ≡ x + 0 = omega arith in ap (λ n. set picture line (with_prefix n wanted shown)) none
+run-with_prefix picture line x shown wanted (cell ∷ cells) high same room are =
     let here : x + 0 ≡ x = omega arith in
     let is : cell ≡ get_or wanted x shown_blank = are 0 (omega arith) ∙ ap (λ n. get_or wanted n shown_blank) here in
     let next : x + 1 + length cells ≡ x + suc (length cells) = omega arith in
     ap (λ p. with_cells p (line, x + 1) cells) (one-drawn picture line x shown wanted cell high same (omega arith) is)
-    ∙ run-mixed picture line (x + 1) shown wanted cells high same (omega arith)
+    ∙ run-with_prefix picture line (x + 1) shown wanted cells high same (omega arith)
     (λ k few. let later : x + suc k ≡ x + 1 + k = omega arith in are (suc k) (omega arith) ∙ ap (λ n. get_or wanted n shown_blank) later)
-    ∙ ap (λ n. set picture line (mixed n wanted shown)) next
+    ∙ ap (λ n. set picture line (with_prefix n wanted shown)) next
 
 -- each may cost a byte at least
 run-cost : (x n : ℕ) (shown wanted : List Shown) → length shown ≡ length wanted → x + n ≤ length shown
@@ -134,11 +134,11 @@ line-run {mid} {now} {pen} {next} {line} {x} {shown} {wanted} cells same some ro
         ap cell_bytes first,
       );
   strokes = λ picture high at.
-      let row = mixed x wanted shown in
+      let row = with_prefix x wanted shown in
       let here : line_of (set picture line row) line ≡ row = get_or-set_same picture line row [] high in
-      let long : length (line_of (set picture line row) line) ≡ pen.columns = ap length here ∙ length-mixed x wanted shown same ∙ wide ∙ sym h.columns in
-      Strokes-then (h.strokes picture high at) (subst (Strokes (run_bytes cells) mid now pen next (set picture line row)) (run-mixed picture line x shown wanted cells high same room are)
-      (strokes (set picture line row) long (ap (take x) here ∙ take-mixed x wanted shown (omega arith))));
+      let long : length (line_of (set picture line row) line) ≡ pen.columns = ap length here ∙ length-with_prefix x wanted shown same ∙ wide ∙ sym h.columns in
+      Strokes-then (h.strokes picture high at) (subst (Strokes (run_bytes cells) mid now pen next (set picture line row)) (run-with_prefix picture line x shown wanted cells high same room are)
+      (strokes (set picture line row) long (ap (take x) here ∙ take-with_prefix x wanted shown (omega arith))));
   columns = columns ∙ h.columns;
 }
 

@@ -9,7 +9,7 @@ use Rattle.cell.specs.Pictures.{Picture, HasSize, blank_picture, line_of, origin
 use Rattle.cell.proofs.PictureLemmas.{HasSize-all_of, IsRendition-none, length-line}
 use Rattle.ecma.specs.declared.token.Erase.TheVariants.{All}
 use Rattle.ecma.specs.declared.token.Token.TheVariants.{Cup, Sgr, Ed}
-use Rattle.ecma.specs.Terminals.{Terminal, blanked}
+use Rattle.ecma.specs.Terminals.{Terminal, blank_line}
 use Rattle.ecma.specs.Streams.{Leads, showing}
 use Rattle.ecma.specs.Spelling.{spelling, codes_of_attributes}
 use Rattle.ecma.proofs.Leading.{Leads-token}
@@ -21,18 +21,18 @@ pub opening-spelled : opening ≡ spelling (Sgr no_rendition) ++ spelling (Ed Al
 unfolding spelling codes_of_attributes digits
 opening-spelled = refl
 
-pub blanked-all : (columns : ℕ) (picture : Picture) → AllByRecursion (λ line. length line ≡ columns) picture → map blanked picture ≡ blank_picture (length picture) columns
-blanked-all columns [] h = refl
-blanked-all columns (line ∷ picture) h =
+pub blank_line-all : (columns : ℕ) (picture : Picture) → AllByRecursion (λ line. length line ≡ columns) picture → map blank_line picture ≡ blank_picture (length picture) columns
+blank_line-all columns [] h = refl
+blank_line-all columns (line ∷ picture) h =
     let first = splat_is_map line columns shown_blank h.0 in
-    let others = blanked-all columns picture h.1 in
+    let others = blank_line-all columns picture h.1 in
     λ i. sym first i ∷ others i
 
 -- it shows a blank picture, read from any terminal
 pub opening-leads : (lines columns : ℕ) (t : Terminal) → HasSize lines columns t.picture → 0 < lines → 0 < columns → Leads opening t (showing (blank_picture lines columns) origin)
 opening-leads lines columns t size some_lines some_columns =
     let blank = blank_picture lines columns in
-    let cleared : map blanked t.picture ≡ blank = blanked-all columns t.picture size.width ∙ ap (λ n. blank_picture n columns) size.height in
+    let cleared : map blank_line t.picture ≡ blank = blank_line-all columns t.picture size.width ∙ ap (λ n. blank_picture n columns) size.height in
     let wide : 0 < length (line_of blank 0) = omega (arith, length-line 0 (HasSize-all_of shown_blank lines columns) some_lines) in
     subst (λ (text : List ℕ). Leads text t (showing blank origin)) (sym opening-spelled)
     (Leads-append (spelling (Sgr no_rendition) ++ spelling (Ed All)) (spelling (Cup 0 0)) t (record t { picture = blank; rendition = no_rendition }) (showing blank origin)

@@ -24,7 +24,7 @@ use Rattle.streams.specs.Sinks.{Seen}
 use Rattle.paint.specs.declared.outbox.Outbox.{Outbox}
 use Rattle.paint.specs.declared.pen.Pen.{Pen}
 use Rattle.paint.specs.steps.Gathering.{Gathers, IsGathered}
-use Rattle.paint.specs.steps.Strokes.{behind, change, is_at, move_from, under, ArePrinted, Draws, Strokes, again_bytes, approach_bytes, most_approach, moved_bytes, reach_bytes}
+use Rattle.paint.specs.steps.Strokes.{cursor_after, change, is_at, move_from, under, ArePrinted, Draws, Strokes, again_bytes, approach_bytes, most_approach, moved_bytes, reach_bytes}
 
 -- ---- one after another
 
@@ -128,7 +128,7 @@ spelled-print byte = refl
 
 pub prints : {before after : Seen} (old new : Pen) (place : Place) (cell : Shown) (picture : Picture) → IsShown cell → old.cursor ≡ Some place → old.rendition ≡ cell.rendition
     → length (line_of picture place.0) ≡ old.columns → Gathers before after old.outbox new.outbox (cell.character ∷ [])
-    → new.rendition ≡ old.rendition → new.cursor ≡ behind old.columns place
+    → new.rendition ≡ old.rendition → new.cursor ≡ cursor_after old.columns place
     → Draws (cell.character ∷ []) before after old new picture (with_shown picture place cell)
 prints old new place cell picture is known same wide gathers rendition cursor = rw (← spelled-print cell.character)
     (Draws-token (Print cell.character) picture (with_shown picture place cell) (printable cell.character is.from_space is.to_tilde)
@@ -147,9 +147,9 @@ printed-none seen pen line column cells cursor = record {
 }
 
 -- one of the cells is shown where it is printed
-stands : (picture : Picture) (line column i : ℕ) (cells : List Shown) (cell : Shown) → take (length cells) (drop column (line_of picture line)) ≡ cells → i < length cells
+printed-there : (picture : Picture) (line column i : ℕ) (cells : List Shown) (cell : Shown) → take (length cells) (drop column (line_of picture line)) ≡ cells → i < length cells
     → cell ≡ get_or cells i shown_blank → with_shown picture (line, column + i) cell ≡ picture
-stands picture line column i cells cell are inside is =
+printed-there picture line column i cells cell are inside is =
     let row = line_of picture line in
     let there : cell ≡ get_or row (column + i) shown_blank =
     is ∙ ap (λ l. get_or l i shown_blank) (sym are) ∙ get_or-take (length cells) (drop column row) i shown_blank inside ∙ get_or-drop column row i shown_blank in
@@ -163,7 +163,7 @@ pub printed-more : {before mid chosen now : Seen} {old pen selected next : Pen} 
     → ((picture : Picture) → Draws (change pen.rendition cell.rendition) mid chosen pen selected picture picture) → selected.columns ≡ pen.columns
     → ((picture : Picture) → length (line_of picture line) ≡ selected.columns
     → Draws (cell.character ∷ []) chosen now selected next picture (with_shown picture (line, column + i) cell))
-    → next.rendition ≡ cell.rendition → next.cursor ≡ behind selected.columns (line, column + i) → next.columns ≡ selected.columns
+    → next.rendition ≡ cell.rendition → next.cursor ≡ cursor_after selected.columns (line, column + i) → next.columns ≡ selected.columns
     → ArePrinted before now old next line column (i + 1) cells
 printed-more {before} {mid} {chosen} {now} {old} {pen} {selected} {next} {line} {column} {i} {cells} cell h inside is room selects same draws rendition cursor columns = record {
   spent = h.spent + (length (change pen.rendition cell.rendition) + 1);
@@ -182,7 +182,7 @@ printed-more {before} {mid} {chosen} {now} {old} {pen} {selected} {next} {line} 
       } in
       let one : Strokes 1 chosen now selected next picture picture = record {
         piece = cell.character ∷ [];
-        draws = subst (Draws (cell.character ∷ []) chosen now selected next picture) (stands picture line column i cells cell are inside is) (draws picture (wide ∙ sym h.columns ∙ sym same));
+        draws = subst (Draws (cell.character ∷ []) chosen now selected next picture) (printed-there picture line column i cells cell are inside is) (draws picture (wide ∙ sym h.columns ∙ sym same));
         short = omega arith;
       } in
       Strokes-then (h.strokes picture wide are) (Strokes-then selection one);

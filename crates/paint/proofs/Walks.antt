@@ -10,13 +10,13 @@ use Rattle.ecma.proofs.Difference.{same_shown-equal}
 use Rattle.ecma.proofs.Lengths.{length-spelling}
 use Rattle.ecma.specs.Spelling.{spelling}
 use Rattle.ecma.specs.declared.token.Token.TheVariants.{El}
-use Rattle.ecma.specs.Terminals.{blanked, erased_at, erased_line}
+use Rattle.ecma.specs.Terminals.{blank_line, erased_at, erased_line}
 use Rattle.ecma.specs.declared.token.Erase.TheVariants.{ToEnd}
 use Rattle.streams.specs.Sinks.{Seen}
 use Rattle.paint.specs.declared.pen.Pen.{Pen}
 use Rattle.paint.specs.steps.Strokes.{change, Draws, Strokes, cell_bytes, line_bytes, picture_bytes}
-use Rattle.paint.specs.steps.Walks.{mixed, AreBlank, IsLinePainted, IsPicturePainted, IsReadyToErase}
-use Rattle.paint.proofs.Mixed.{mixed-at, mixed-back, mixed-front, mixed-more, mixed-same, length-mixed, between, take-mixed}
+use Rattle.paint.specs.steps.Walks.{with_prefix, AreBlank, IsLinePainted, IsPicturePainted, IsReadyToErase}
+use Rattle.paint.proofs.Prefixes.{with_prefix-at, with_prefix-back, with_prefix-prefix, with_prefix-more, with_prefix-same, length-with_prefix, between, take-with_prefix}
 use Rattle.paint.proofs.Strokes.{Strokes-more, Strokes-nothing, Strokes-then, length-ended}
 
 -- ---- what the cells of a line may cost
@@ -46,10 +46,10 @@ same-line : (picture : Picture) (line : ℕ) (cells : List Shown) → line_of pi
 same-line picture line cells is = ap (set picture line) (sym is) ∙ set-get_or picture line []
 
 pub line-begun : (seen : Seen) (pen : Pen) (line x : ℕ) (shown wanted : List Shown) → take x shown ≡ take x wanted → IsLinePainted seen seen pen pen line x shown wanted
-line-begun seen pen line x shown wanted front = record {
+line-begun seen pen line x shown wanted prefix = record {
   spent = 0;
   within = omega (arith, line_bytes-drop x shown wanted);
-  strokes = λ picture inside is. subst (Strokes 0 seen seen pen pen picture) (sym (same-line picture line (mixed x wanted shown) (is ∙ sym (mixed-front x wanted shown front))))
+  strokes = λ picture inside is. subst (Strokes 0 seen seen pen pen picture) (sym (same-line picture line (with_prefix x wanted shown) (is ∙ sym (with_prefix-prefix x wanted shown prefix))))
       (Strokes-nothing seen pen picture);
   columns = refl;
 }
@@ -60,13 +60,13 @@ left x shown wanted same inside = let a = drop_more shown x shown_blank inside i
 
 -- the next cell is drawn
 pub one-drawn : (picture : Picture) (line x : ℕ) (shown wanted : List Shown) (cell : Shown) → line < length picture → length shown ≡ length wanted → x < length shown
-    → cell ≡ get_or wanted x shown_blank → with_shown (set picture line (mixed x wanted shown)) (line, x) cell ≡ set picture line (mixed (x + 1) wanted shown)
+    → cell ≡ get_or wanted x shown_blank → with_shown (set picture line (with_prefix x wanted shown)) (line, x) cell ≡ set picture line (with_prefix (x + 1) wanted shown)
 one-drawn picture line x shown wanted cell high same inside is =
-    let row = mixed x wanted shown in
+    let row = with_prefix x wanted shown in
     ap (λ cells. set (set picture line row) line (set cells x cell)) (get_or-set_same picture line row [] high)
     ∙ set-set picture line row (set row x cell)
     ∙ ap (λ c. set picture line (set row x c)) is
-    ∙ ap (set picture line) (mixed-more shown_blank x wanted shown inside same)
+    ∙ ap (set picture line) (with_prefix-more shown_blank x wanted shown inside same)
 
 gap-length : (start x : ℕ) (wanted : List Shown) → start ≤ x → x ≤ length wanted → length (take (x - start) (drop start wanted)) ≡ x - start
 gap-length start x wanted ordered inside = length-take-le (x - start) (drop start wanted) (omega (arith, length-drop start wanted))
@@ -81,9 +81,9 @@ pub record IsGap (start x : ℕ) (wanted row : List Shown) : Type 0 where
   pub end : start + length (take (x - start) (drop start wanted)) ≡ x
 
 pub gap-before : (start x : ℕ) (wanted row : List Shown) → start ≤ x → x ≤ length wanted → take x row ≡ take x wanted → IsGap start x wanted row
-gap-before start x wanted row ordered inside front =
+gap-before start x wanted row ordered inside prefix =
     record {
-      shown = ap (λ n. take n (drop start row)) (gap-length start x wanted ordered inside) ∙ between start x row wanted ordered front;
+      shown = ap (λ n. take n (drop start row)) (gap-length start x wanted ordered inside) ∙ between start x row wanted ordered prefix;
       end = gap-ends start x wanted ordered inside;
     }
 
@@ -100,7 +100,7 @@ line-kept {before} {now} {old} {pen} {line} {x} {shown} {wanted} same inside h a
     line_bytes-same (get_or shown x shown_blank) (get_or wanted x shown_blank) (drop (x + 1) shown) (drop (x + 1) wanted) alike,
   );
   strokes = λ picture high at. subst (λ row. Strokes h.spent before now old pen picture (set picture line row))
-      (mixed-same shown_blank x wanted shown inside same (same_shown-equal (get_or shown x shown_blank) (get_or wanted x shown_blank) alike)) (h.strokes picture high at);
+      (with_prefix-same shown_blank x wanted shown inside same (same_shown-equal (get_or shown x shown_blank) (get_or wanted x shown_blank) alike)) (h.strokes picture high at);
   columns = h.columns;
 }
 
@@ -108,7 +108,7 @@ line-kept {before} {now} {old} {pen} {line} {x} {shown} {wanted} same inside h a
 pub line-painted : {before now : Seen} {old pen : Pen} {line x : ℕ} {shown wanted : List Shown} → IsLinePainted before now old pen line x shown wanted → drop x shown ≡ drop x wanted
     → (picture : Picture) → line < length picture → line_of picture line ≡ shown → Strokes (line_bytes shown wanted) before now old pen picture (set picture line wanted)
 line-painted {before} {now} {old} {pen} {line} {x} {shown} {wanted} h back = λ picture high at.
-    subst (λ row. Strokes (line_bytes shown wanted) before now old pen picture (set picture line row)) (mixed-back x wanted shown back)
+    subst (λ row. Strokes (line_bytes shown wanted) before now old pen picture (set picture line row)) (with_prefix-back x wanted shown back)
     (Strokes-more (h.strokes picture high at) (omega (arith, h.within)))
 
 -- ---- the end of a line is erased
@@ -124,20 +124,20 @@ changed-bytes x shown wanted same h =
     ] in
     omega (arith, left x shown wanted same h.inside, line_bytes-other a b (drop (x + 1) shown) (drop (x + 1) wanted) other)
 
-blank-lengths : (one other : List Shown) → length one ≡ length other → blanked one ≡ blanked other
+blank-lengths : (one other : List Shown) → length one ≡ length other → blank_line one ≡ blank_line other
 blank-lengths [] [] same = refl
 blank-lengths [] (b ∷ other) same = absurd (omega arith)
 blank-lengths (a ∷ one) [] same = absurd (omega arith)
 blank-lengths (a ∷ one) (b ∷ other) same = ap (λ (l : List Shown). shown_blank ∷ l) (blank-lengths one other (omega arith))
 
 -- a line whose first cells are the wanted ones, erased from one of them on, is the wanted one where that is blank from there
-erased-line : (e x : ℕ) (shown wanted : List Shown) → length shown ≡ length wanted → e ≤ x → x ≤ length wanted → AreBlank (drop e wanted) → erased_line ToEnd e (mixed x wanted shown) ≡ wanted
+erased-line : (e x : ℕ) (shown wanted : List Shown) → length shown ≡ length wanted → e ≤ x → x ≤ length wanted → AreBlank (drop e wanted) → erased_line ToEnd e (with_prefix x wanted shown) ≡ wanted
 erased-line e x shown wanted same before few blank =
-    let row = mixed x wanted shown in
+    let row = with_prefix x wanted shown in
     let back : length (drop e row) ≡ length (drop e wanted) =
-    length-drop e row ∙ ap (λ n. n - e) (length-mixed x wanted shown same ∙ same) ∙ sym (length-drop e wanted) in
-    let front : take e row ≡ take e wanted = sym (take-take e x row before) ∙ ap (take e) (take-mixed x wanted shown few) ∙ take-take e x wanted before in
-    (λ i. front i ++ (blank-lengths (drop e row) (drop e wanted) back ∙ blank) i) ∙ take-append-drop e wanted
+    length-drop e row ∙ ap (λ n. n - e) (length-with_prefix x wanted shown same ∙ same) ∙ sym (length-drop e wanted) in
+    let prefix : take e row ≡ take e wanted = sym (take-take e x row before) ∙ ap (take e) (take-with_prefix x wanted shown few) ∙ take-take e x wanted before in
+    (λ i. prefix i ++ (blank-lengths (drop e row) (drop e wanted) back ∙ blank) i) ∙ take-append-drop e wanted
 
 -- The pen comes to a column of the blank end, up to whose first changed column the line is painted.
 pub line-ready : {before mid now : Seen} {old pen next : Pen} {line from x n : ℕ} {shown wanted : List Shown} → length shown ≡ length wanted → length shown ≡ old.columns
@@ -152,24 +152,24 @@ line-ready {line} {from} {x} {n} {shown} {wanted} same wide h ordered blank chan
   spent = h.spent + n;
   within = omega (arith, h.within, changed-bytes x shown wanted same changed);
   strokes = λ picture high at.
-      let row = mixed x wanted shown in
+      let row = with_prefix x wanted shown in
       let here : line_of (set picture line row) line ≡ row = get_or-set_same picture line row [] high in
-      let long = ap length here ∙ length-mixed x wanted shown same ∙ wide ∙ sym h.columns in
-      let front : take from row ≡ take from wanted =
-      sym (take-take from x row ordered) ∙ ap (take from) (take-mixed x wanted shown (omega (arith, changed.inside))) ∙ take-take from x wanted ordered in
-      Strokes-then (h.strokes picture high at) (strokes (set picture line row) long (ap (take from) here ∙ front));
+      let long = ap length here ∙ length-with_prefix x wanted shown same ∙ wide ∙ sym h.columns in
+      let prefix : take from row ≡ take from wanted =
+      sym (take-take from x row ordered) ∙ ap (take from) (take-with_prefix x wanted shown (omega (arith, changed.inside))) ∙ take-take from x wanted ordered in
+      Strokes-then (h.strokes picture high at) (strokes (set picture line row) long (ap (take from) here ∙ prefix));
   cursor = cursor;
   rendition = rendition;
   columns = columns ∙ h.columns;
 }
 
 -- the pen is in the blank end of a line that is painted, and ends its rendition
-pub line-stands : {before mid now : Seen} {old pen next : Pen} {line from : ℕ} {shown wanted : List Shown} → length shown ≡ length wanted
+pub line-at_cursor : {before mid now : Seen} {old pen next : Pen} {line from : ℕ} {shown wanted : List Shown} → length shown ≡ length wanted
     → ((picture : Picture) → line < length picture → line_of picture line ≡ shown → Strokes (line_bytes shown wanted) before mid old pen picture (set picture line wanted)) → pen.columns ≡ old.columns
     → AreBlank (drop from wanted) → from ≤ length wanted
     → ((picture : Picture) → Draws (change pen.rendition no_rendition) mid now pen next picture picture) → next.cursor ≡ Some (line, from) → next.rendition ≡ no_rendition → next.columns ≡ pen.columns
     → IsReadyToErase (line_bytes shown wanted + 27) before now old next line from shown wanted
-line-stands {before} {mid} {now} {old} {pen} {next} {line} {from} {shown} {wanted} same painted kept blank inside ending cursor rendition columns = record {
+line-at_cursor {before} {mid} {now} {old} {pen} {next} {line} {from} {shown} {wanted} same painted kept blank inside ending cursor rendition columns = record {
   blank = blank;
   reached = length wanted;
   beyond = inside;
@@ -177,7 +177,7 @@ line-stands {before} {mid} {now} {old} {pen} {next} {line} {from} {shown} {wante
   spent = line_bytes shown wanted + 4;
   within = omega arith;
   strokes = λ picture high at.
-      let whole : mixed (length wanted) wanted shown ≡ wanted = mixed-back (length wanted) wanted shown
+      let whole : with_prefix (length wanted) wanted shown ≡ wanted = with_prefix-back (length wanted) wanted shown
       (drop_all (length wanted) shown (omega (arith, same)) ∙ sym (drop_all (length wanted) wanted (omega arith))) in
       let ended : Strokes 4 mid now pen next (set picture line wanted) (set picture line wanted) = record {
         piece = change pen.rendition no_rendition;
@@ -208,10 +208,10 @@ ready-more h few = record {
 }
 
 -- the line, its end erased after what was drawn
-pub erased-mixed : (picture : Picture) (line e x : ℕ) (shown wanted : List Shown) → length shown ≡ length wanted → line < length picture → e ≤ x → x ≤ length wanted → AreBlank (drop e wanted)
-    → erased_at ToEnd (line, e) (set picture line (mixed x wanted shown)) ≡ set picture line wanted
-erased-mixed picture line e x shown wanted same high before inside blank =
-    let row = mixed x wanted shown in
+pub erased-with_prefix : (picture : Picture) (line e x : ℕ) (shown wanted : List Shown) → length shown ≡ length wanted → line < length picture → e ≤ x → x ≤ length wanted → AreBlank (drop e wanted)
+    → erased_at ToEnd (line, e) (set picture line (with_prefix x wanted shown)) ≡ set picture line wanted
+erased-with_prefix picture line e x shown wanted same high before inside blank =
+    let row = with_prefix x wanted shown in
     ap (λ cells. set (set picture line row) line (erased_line ToEnd e cells)) (get_or-set_same picture line row [] high)
     ∙ set-set picture line row (erased_line ToEnd e row)
     ∙ ap (set picture line) (erased-line e x shown wanted same before inside blank)
@@ -221,8 +221,8 @@ pub line-erased : {before mid now : Seen} {old pen next : Pen} {line from : ℕ}
     → ((picture : Picture) → Draws (spelling (El ToEnd)) mid now pen next picture (erased_at ToEnd (line, from) picture))
     → (picture : Picture) → line < length picture → line_of picture line ≡ shown → Strokes (line_bytes shown wanted) before now old next picture (set picture line wanted)
 line-erased {mid} {now} {pen} {next} {line} {from} {shown} {wanted} same h draws = λ picture high at.
-    let row = mixed h.reached wanted shown in
-    let drawn = erased-mixed picture line from h.reached shown wanted same high h.beyond h.inside h.blank in
+    let row = with_prefix h.reached wanted shown in
+    let drawn = erased-with_prefix picture line from h.reached shown wanted same high h.beyond h.inside h.blank in
     let erasure : Strokes 4 mid now pen next (set picture line row) (set picture line wanted) = record {
       piece = spelling (El ToEnd);
       draws = subst (Draws (spelling (El ToEnd)) mid now pen next (set picture line row)) drawn (draws (set picture line row));
@@ -261,10 +261,10 @@ picture_bytes-later y z old new before =
     subst (λ n. n ≤ picture_bytes (drop y old) (drop y new)) (λ i. picture_bytes (one i) (other i)) less
 
 pub picture-begun : (seen : Seen) (pen : Pen) (line : ℕ) (shown wanted : Picture) → take line shown ≡ take line wanted → IsPicturePainted seen seen pen pen line shown wanted
-picture-begun seen pen line shown wanted front = record {
+picture-begun seen pen line shown wanted prefix = record {
   spent = 0;
   within = omega (arith, picture_bytes-drop line shown wanted);
-  strokes = subst (Strokes 0 seen seen pen pen shown) (sym (mixed-front line wanted shown front)) (Strokes-nothing seen pen shown);
+  strokes = subst (Strokes 0 seen seen pen pen shown) (sym (with_prefix-prefix line wanted shown prefix)) (Strokes-nothing seen pen shown);
   columns = refl;
 }
 
@@ -278,12 +278,12 @@ picture-drawn {before} {mid} {now} {old} {pen} {next} {line} {shown} {wanted} sa
     let b = drop_more wanted line [] (omega arith) in
     let left : picture_bytes (drop line shown) (drop line wanted) ≡ picture_bytes (line_of shown line ∷ drop (line + 1) shown) (line_of wanted line ∷ drop (line + 1) wanted) = λ i. picture_bytes
     (a i) (b i) in
-    let picture = mixed line wanted shown in
-    let drawn = strokes picture (omega (arith, length-mixed line wanted shown same)) (mixed-at [] line wanted shown inside same) in
+    let picture = with_prefix line wanted shown in
+    let drawn = strokes picture (omega (arith, length-with_prefix line wanted shown same)) (with_prefix-at [] line wanted shown inside same) in
     record {
       spent = h.spent + line_bytes (line_of shown line) (line_of wanted line);
       within = omega (arith, h.within, left);
-      strokes = Strokes-then h.strokes (subst (Strokes (line_bytes (line_of shown line) (line_of wanted line)) mid now pen next picture) (mixed-more [] line wanted shown inside same) drawn);
+      strokes = Strokes-then h.strokes (subst (Strokes (line_bytes (line_of shown line) (line_of wanted line)) mid now pen next picture) (with_prefix-more [] line wanted shown inside same) drawn);
       columns = columns ∙ h.columns;
     }
 
@@ -316,4 +316,4 @@ picture-skipped {before} {now} {old} {pen} {line} {shown} {wanted} end same orde
 pub picture-painted : {before now : Seen} {old pen : Pen} {line : ℕ} {shown wanted : Picture} → IsPicturePainted before now old pen line shown wanted → drop line shown ≡ drop line wanted
     → Strokes (picture_bytes shown wanted) before now old pen shown wanted
 picture-painted {before} {now} {old} {pen} {line} {shown} {wanted} h back =
-    subst (Strokes (picture_bytes shown wanted) before now old pen shown) (mixed-back line wanted shown back) (Strokes-more h.strokes (omega (arith, h.within)))
+    subst (Strokes (picture_bytes shown wanted) before now old pen shown) (with_prefix-back line wanted shown back) (Strokes-more h.strokes (omega (arith, h.within)))

@@ -14,8 +14,8 @@ abbrev pub is_in : Stretch → ℕ → Bool
 is_in stretch x = nat_le stretch.start x && nat_lt x stretch.end
 
 -- the columns of both, and those between them
-abbrev pub joined : Stretch → Stretch → Stretch
-joined a b = record { start = min a.start b.start; end = max a.end b.end }
+abbrev pub join : Stretch → Stretch → Stretch
+join a b = record { start = min a.start b.start; end = max a.end b.end }
 
 -- those of a line
 abbrev pub stretch_of : List Stretch → ℕ → Stretch

@@ -11,7 +11,7 @@ use Rattle.ecma.specs.Items.{escape}
 use Rattle.ecma.specs.Spelling.{spelling}
 use Rattle.ecma.specs.Terminals.{Terminal}
 use Rattle.ecma.specs.Streams.{IsInProfile, LeadsWithBreaks, Shows, showing}
-use Rattle.streams.specs.Counts.{counted, next_count}
+use Rattle.streams.specs.Counts.{count_after, next_count}
 use Rattle.streams.specs.Sinks.{Seen}
 
 -- a picture with a cursor
@@ -37,8 +37,8 @@ blank_shown lines columns = record { picture = blank_picture lines columns; curs
 
 -- What is known of the terminals when a doupdate begins. It clears where that is nothing: where the painter knows nothing, or a clear screen
 -- is asked for.
-abbrev pub known : PainterState → Bool → Option ShownPicture
-known painter clear = if clear then None else painter.last
+abbrev pub known_picture : PainterState → Bool → Option ShownPicture
+known_picture painter clear = if clear then None else painter.last
 
 -- what the terminals show then, or after the opening
 abbrev pub start_from : PainterState → Option ShownPicture → ShownPicture
@@ -47,7 +47,7 @@ start_from painter (Some shown) = shown
 
 -- What the terminal shows where the text, or its part after the opening, begins. A doupdate that clears begins at a blank picture.
 abbrev pub start_of_update : PainterState → Bool → ShownPicture
-start_of_update painter clear = start_from painter (known painter clear)
+start_of_update painter clear = start_from painter (known_picture painter clear)
 
 -- ---- texts
 
@@ -76,14 +76,14 @@ move cursor place = if same_place cursor place then [] else spelling (Cup place.
 abbrev pub most_bytes : PainterState → Bool → ShownPicture → ℕ
 most_bytes painter clear wanted =
     let start = (start_of_update painter clear).picture in
-    27 * difference start wanted.picture + 6 * colour_difference start wanted.picture + 14 + length (opening_from (known painter clear))
+    27 * difference start wanted.picture + 6 * colour_difference start wanted.picture + 14 + length (opening_from (known_picture painter clear))
 
 -- The text of a doupdate, whether a clear screen is asked for or not. It begins with the opening where the doupdate clears, and shows the
 -- picture and the cursor, read from any terminal that may read it. It is short, and where nothing changed it only moves the cursor.
 pub record IsUpdateText (painter : PainterState) (clear : Bool) (wanted : ShownPicture) (text : List ℕ) : Type 0 where
   pub rest : List ℕ
-  pub parts : text ≡ opening_from (known painter clear) ++ rest
-  pub shows : (t : Terminal) → MayRead painter (known painter clear) t → Shows text t wanted.picture wanted.cursor
+  pub parts : text ≡ opening_from (known_picture painter clear) ++ rest
+  pub shows : (t : Terminal) → MayRead painter (known_picture painter clear) t → Shows text t wanted.picture wanted.cursor
   pub short : length text ≤ most_bytes painter clear wanted
   pub unchanged : difference (start_of_update painter clear).picture wanted.picture ≡ 0 → rest ≡ move (start_of_update painter clear).cursor wanted.cursor
 
@@ -106,7 +106,7 @@ pub record BreaksOff (painter : PainterState) (clear : Bool) (old new : Seen) (w
   pub within : sent ≤ length text
   pub taken : Appends old.taken new.taken (take sent text)
   pub failure : new.failures ≡ next_count old.failures
-  pub flushes : new.flushes ≡ counted (sent == length text) old.flushes
+  pub flushes : new.flushes ≡ count_after (sent == length text) old.flushes
 
 -- ---- streams that agree with a painter
 

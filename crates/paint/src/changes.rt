@@ -2,7 +2,7 @@
 
 ghost use Rattle.std.specs.Prelude.{◌≡◌, ℕ, ◌<◌, ◌≤◌, IfOk, false, length, nat_lt, replicate, slice_set};
 ghost use Rattle.cell.specs.declared.limits.TheConstants.{LARGEST_SCREEN};
-ghost use Rattle.paint.specs.Changes.{is_in, joined, may_change, no_stretch, stretch_of};
+ghost use Rattle.paint.specs.Changes.{is_in, join, may_change, no_stretch, stretch_of};
 ghost use Rattle.paint.specs.steps.Walks.{IsWithin};
 ghost use Rattle.small_set.specs.Sets.{contains};
 
@@ -26,7 +26,7 @@ impl Stretch {
 
     /// The columns or lines of both, and those between them.
     fn join(self, other: Stretch) -> Stretch
-        ensures { result ≡ joined self other }
+        ensures { result ≡ join self other }
     {
         Stretch {
             start: self.start.min(other.start),
@@ -129,7 +129,7 @@ impl Changes {
 
     /// Adds columns of a line, and those between them and the ones that it has. A line past the last gets none.
     pub fn widen(&mut self, y: u16, stretch: Stretch)
-        ensures { self.new ≡ slice_set self.old y (joined (stretch_of self.old y) stretch) }
+        ensures { self.new ≡ slice_set self.old y (join (stretch_of self.old y) stretch) }
     {
         let at = usize::from(y);
         if at >= self.stretches.len() {

@@ -90,7 +90,7 @@ pub fn paint_last_line<W: Sink>(
         }
         None => {
             paint_line(pen, sink, line, shown, wanted, 0, wanted.len());
-            let column = pen.stands_in(line, tail, wanted.len())?;
+            let column = pen.column_between(line, tail, wanted.len())?;
             pen.select(sink, Rendition::NONE);
             Some(column)
         }

@@ -2,7 +2,7 @@
 
 ghost use Rattle.std.specs.Prelude.{◌≡◌, ◌≢◌, ℕ, ◌-◌, ◌<◌, ◌≤◌, drop, false, length, map, min};
 ghost use Rattle.cell.specs.Pictures.{HasSize, line_of};
-ghost use Rattle.ecma.specs.Terminals.{blanked};
+ghost use Rattle.ecma.specs.Terminals.{blank_line};
 ghost use Rattle.paint.specs.Changes.{DifferOnly, may_change};
 ghost use Rattle.paint.specs.steps.Strokes.{Strokes, picture_bytes};
 
@@ -72,8 +72,8 @@ fn page_end(picture: &Grid<Shown>, lines: u16, changed: u16, changes: &Changes) 
     requires height { length picture.now ≡ lines }
     requires changed { changed ≤ lines }
     requires same { length changes.now ≡ lines }
-    ensures blank { map blanked (drop result picture.now) ≡ drop result picture.now }
-    ensures first { let end = min result changed in 0 < end → map blanked (drop (end - 1) picture.now) ≢ drop (end - 1) picture.now }
+    ensures blank { map blank_line (drop result picture.now) ≡ drop result picture.now }
+    ensures first { let end = min result changed in 0 < end → map blank_line (drop (end - 1) picture.now) ≢ drop (end - 1) picture.now }
 {
     if changed == 0 {
         return lines;
@@ -88,8 +88,8 @@ fn page_end(picture: &Grid<Shown>, lines: u16, changed: u16, changes: &Changes) 
 /// The line from which on all are blank.
 fn blank_lines(picture: &Grid<Shown>, lines: u16) -> u16
     requires { length picture.now ≡ lines }
-    ensures blank { map blanked (drop result picture.now) ≡ drop result picture.now }
-    ensures first { 0 < result → blanked (line_of picture.now (result - 1)) ≢ line_of picture.now (result - 1) }
+    ensures blank { map blank_line (drop result picture.now) ≡ drop result picture.now }
+    ensures first { 0 < result → blank_line (line_of picture.now (result - 1)) ≢ line_of picture.now (result - 1) }
 {
     let mut start = lines;
     while start > 0 {

@@ -7,7 +7,7 @@ ghost use Rattle.cell.specs.declared.limits.TheConstants.{LARGEST_SCREEN};
 ghost use Rattle.cell.specs.Shown.{no_rendition};
 ghost use Rattle.streams.specs.Sinks.{Seen};
 ghost use Rattle.paint.specs.Changes.{DifferOnly};
-ghost use Rattle.paint.specs.Updates.{PainterState, ShownPicture, first_painter, known as known_to, opening_from, start_from, wanted_of, Updates, BreaksOff};
+ghost use Rattle.paint.specs.Updates.{PainterState, ShownPicture, first_painter, known_picture, opening_from, start_from, wanted_of, Updates, BreaksOff};
 ghost use Rattle.paint.specs.steps.Gathering.{IsGathered};
 ghost use Rattle.paint.specs.steps.Holding.{HoldsUpdate, last_shown};
 
@@ -179,7 +179,7 @@ fn draw<W: Sink>(
     requires height { length changes.now ≡ size.0 }
     requires changes { DifferOnly changes.now (start_from (first_painter size.0 size.1) (last_shown shown.old known)).picture picture.now }
     ensures holds { (painter : PainterState) (clear : Bool) → painter.lines ≡ size.0 → painter.columns ≡ size.1
-        → last_shown shown.old known ≡ known_to painter clear
+        → last_shown shown.old known ≡ known_picture painter clear
         → HoldsUpdate painter clear (record { picture = picture.now; cursor = cursor }) (W.seen sink.old) (W.seen sink.new) pen.new.outbox }
     ensures columns { pen.new.columns ≡ pen.old.columns }
     ensures shown { shown.new ≡ (start_from (first_painter size.0 size.1) (last_shown shown.old known)).picture }

@@ -12,7 +12,7 @@ ghost use Rattle.streams.specs.Sending.{Sends};
 ghost use Rattle.streams.specs.Sinks.{Seen};
 ghost use Rattle.paint.specs.Updates.{opening};
 ghost use Rattle.paint.specs.steps.Gathering.{Gathers, IsGathered};
-ghost use Rattle.paint.specs.steps.Strokes.{behind, change, characters, is_at, move_from, with_cells, within, ArePrinted, Draws};
+ghost use Rattle.paint.specs.steps.Strokes.{cursor_after, change, characters, is_at, move_from, with_cells, within, ArePrinted, Draws};
 
 use crate::outbox::Outbox;
 use cell::{LARGEST_SCREEN, Rendition, Shown};
@@ -138,7 +138,7 @@ impl Pen {
     }
 
     /// The column of the cursor, where it is known to be in a line, between two columns.
-    pub fn stands_in(&self, line: u16, from: usize, to: usize) -> Option<usize>
+    pub fn column_between(&self, line: u16, from: usize, to: usize) -> Option<usize>
         ensures { MatchOption result ⊤ (λ column. (self.now.cursor ≡ Some (line, column)) × (from ≤ column) × (column ≤ to)) }
     {
         let (y, x) = self.cursor?;
@@ -177,18 +177,18 @@ impl Pen {
         ensures draws { (picture : Picture) → length (line_of picture line) ≡ self.old.columns
             → Draws (cell.character ∷ []) (W.seen sink.old) (W.seen sink.new) self.old self.new picture (with_shown picture (line, column) cell) }
         ensures rendition { self.new.rendition ≡ self.old.rendition }
-        ensures cursor { self.new.cursor ≡ behind self.old.columns (line, column) }
+        ensures cursor { self.new.cursor ≡ cursor_after self.old.columns (line, column) }
         ensures columns { self.new.columns ≡ self.old.columns }
         ensures same { W.name sink.new ≡ W.name sink.old }
     {
         self.outbox.put(sink, &[cell.ch()]);
-        self.cursor = self.behind(line, column);
+        self.cursor = self.cursor_after(line, column);
     }
 
     /// Where the cursor is when a character was printed at a place.
-    fn behind(&self, line: u16, column: u16) -> Option<(u16, u16)>
+    fn cursor_after(&self, line: u16, column: u16) -> Option<(u16, u16)>
         requires { column < LARGEST_SCREEN }
-        ensures { result ≡ behind self.now.columns (line, column) }
+        ensures { result ≡ cursor_after self.now.columns (line, column) }
     {
         if column + 1 < self.columns {
             Some((line, column + 1))

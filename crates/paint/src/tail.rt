@@ -35,7 +35,7 @@ pub fn erased_from(
         gap tail }
 {
     let near = nearer(pen, line, wanted, gap, tail, column);
-    match pen.stands_in(line, tail, column) {
+    match pen.column_between(line, tail, column) {
         Some(here) => nearer(pen, line, wanted, gap, here, near),
         None => near,
     }

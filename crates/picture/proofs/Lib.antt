@@ -1,7 +1,7 @@
 -- places that a window's rectangle holds, for cell_found and compose_row
 pub mod Held
 -- where a window is, for shared_part
-pub mod Standing
+pub mod Placement
 -- the part of the screen that shows cells of another window, for shared_part
 pub mod PartLaws
 -- that a visible panel is there, for is_visible

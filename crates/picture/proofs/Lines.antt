@@ -26,7 +26,7 @@ joined true start x end u made new old begins ordered same = elim (cases_lt u x)
   | inl before ↦ grind (arith, nat_tests)
   | inr from ↦ elim (cases_lt u end) [
     | inl inside ↦ rw (same (omega arith) inside) (grind (arith, nat_tests))
-    | inr behind ↦ grind (arith, nat_tests)
+    | inr after ↦ grind (arith, nat_tests)
   ]
 ]
 

@@ -13,7 +13,7 @@ use Rattle.world.specs.Windows.{Window, Windows}
 use Rattle.world.specs.calls.Affected.{shows_at}
 use Rattle.picture.specs.Parts.{IsFrameWithin, frame_holds}
 use Rattle.picture.proofs.Held.{held-between}
-use Rattle.picture.proofs.Standing.{StandsAt}
+use Rattle.picture.proofs.Placement.{IsPlacedAt}
 
 true-alike : (b c : Bool) → (b ≡ true → c ≡ true) → (c ≡ true → b ≡ true) → b ≡ c
 true-alike true c to from = sym (to refl)
@@ -24,7 +24,7 @@ true-alike false false to from = refl
 abbrev pub frame_from : ℕ → ℕ → ℕ → ℕ → Rect
 frame_from top left lines columns = record { top = top; left = left; bottom = top + lines - 1; right = left + columns - 1 }
 
-module _ (windows : Windows) (w top left lines : ℕ) (h : StandsAt windows w (top, left) lines) where
+module _ (windows : Windows) (w top left lines : ℕ) (h : IsPlacedAt windows w (top, left) lines) where
   holds-is : (y x : ℕ) → holds windows.window w y x ≡ ((nat_le top y && nat_lt y (top + h.window.lines)) && (nat_le left x && nat_lt x (left + h.window.columns)))
   holds-is y x =
       ap (λ (o : Option Window). option_map_or (holds_place y x) o false) h.there

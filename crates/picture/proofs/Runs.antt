@@ -44,7 +44,7 @@ run-held window panels y x edge w last h standard u from upto =
     ap (λ v. holds window v y u) (sym (h.same u from upto)) ∙ owner-held window panels y u (owner window panels y u) refl (standard u from (omega (arith, upto, within)))
 
 -- What is read of a window, and where it is on the screen. The windows are those before.
-pub record IsLent (old now : Windows) (panels : Panels) (y x edge w last : ℕ) (r : Rect) (cells : List Glyph) : Type 0 where
+pub record IsRead (old now : Windows) (panels : Panels) (y x edge w last : ℕ) (r : Rect) (cells : List Glyph) : Type 0 where
   pub kept : now ≡ old
   pub run : IsRun old.window panels y x edge w last
   pub standard : (u : ℕ) → x ≤ u → u ≤ edge → holds old.window standard_screen y u ≡ true
@@ -52,7 +52,7 @@ pub record IsLent (old now : Windows) (panels : Panels) (y x edge w last : ℕ) 
   pub rectangle : (v u : ℕ) → frame_holds r v u ≡ holds now.window w v u
   pub piece : IsPiece now.window w (y - r.top) (x - r.left) (last - r.left - (x - r.left) + 1) cells
 
-module _ (old now : Windows) (panels : Panels) (y x edge w last : ℕ) (r : Rect) (cells : List Glyph) (h : IsLent old now panels y x edge w last r cells) where
+module _ (old now : Windows) (panels : Panels) (y x edge w last : ℕ) (r : Rect) (cells : List Glyph) (h : IsRead old now panels y x edge w last r cells) where
   held-from : (u : ℕ) → x ≤ u → u ≤ last → holds old.window w y u ≡ true
   held-from = run-held old.window panels y x edge w last h.run h.standard
 

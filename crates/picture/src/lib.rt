@@ -28,6 +28,6 @@ pub use line::compose_row;
 pub use parts::{following_part, panel_part, shared_part, window_part};
 pub use piece::show_piece;
 pub use repair::show_damaged;
-pub use rows::{Lent, Rows};
+pub use rows::{Rows, TableRows};
 pub use search::{cell_found, cursor_on_screen, wanted_cursor};
 pub use span::{Span, owner_span};

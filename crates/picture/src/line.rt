@@ -33,7 +33,7 @@ pub fn compose_row<'a, R: Rows<'a>>(
     ensures shown { (v u : ℕ) → shown_at picture.new (v, u) ≡ (if (v == y) && (nat_le left u && nat_lt u (right + 1)) then shown pairs.now
         (found_from_top (R.windows rows.old).window (panels stack.now) y u) else shown_at picture.old (v, u)) }
     ensures size { (lines columns : ℕ) → HasSize lines columns picture.old → HasSize lines columns picture.new }
-    ensures counted { GrewBy (right - left + 1) (R.lent rows.old) (R.lent rows.new) }
+    ensures count { GrewBy (right - left + 1) (R.cells_read rows.old) (R.cells_read rows.new) }
     ensures same { R.windows rows.new ≡ R.windows rows.old }
 {
     let mut owners = Owners::none(stack);
@@ -41,7 +41,7 @@ pub fn compose_row<'a, R: Rows<'a>>(
     loop {
         let run = owners.run(rows, stack, y, x, right);
         let rect = rows.rect(run.win);
-        let cells = rows.lend(run.win, y - rect.top, x - rect.left, run.last - rect.left);
+        let cells = rows.read(run.win, y - rect.top, x - rect.left, run.last - rect.left);
         show_cells(cells, pairs, y, x, picture);
         if run.last == right {
             return;

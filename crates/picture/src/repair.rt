@@ -40,7 +40,7 @@ pub fn show_damaged<'a, R: Rows<'a>>(
     ensures height { length damage.new ≡ (R.windows rows.old).lines }
     ensures none { (y : ℕ) → columns_of damage.new y ≡ None }
     ensures read { result ≡ cells_above damage.old (R.windows rows.old).lines }
-    ensures counted { GrewBy result (R.lent rows.old) (R.lent rows.new) }
+    ensures count { GrewBy result (R.cells_read rows.old) (R.cells_read rows.new) }
 {
     let mut cells = 0;
     let mut y = damage.next(0);

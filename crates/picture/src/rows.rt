@@ -20,7 +20,7 @@ pub trait Rows<'a> {
     // The windows that are read, and how many of their cells were given to read.
     ghost windows: { Self → Windows };
 
-    ghost lent: { Self → ℕ };
+    ghost cells_read: { Self → ℕ };
 
     /// The rectangle of a window on the screen. The window must exist, and be no pad.
     fn rect(&self, win: WinId) -> Rect
@@ -31,35 +31,35 @@ pub trait Rows<'a> {
 
     /// A piece of line `y` of a window, from its column `left` to its column `right`, both inclusive, which must exist. The count goes up
     /// by the number of its cells, modulo 2^64.
-    fn lend(&mut self, win: WinId, y: u16, left: u16, right: u16) -> &'a [Cell]
+    fn read(&mut self, win: WinId, y: u16, left: u16, right: u16) -> &'a [Cell]
         requires ordered { left ≤ right }
         requires place { HasPlace (windows self.old).window win.0 y right }
         ensures piece { IsPiece (windows self.old).window win.0 y left (right - left + 1) result.now }
-        ensures counted { GrewBy (right - left + 1) (lent self.old) (lent self.new) }
+        ensures count { GrewBy (right - left + 1) (cells_read self.old) (cells_read self.new) }
         ensures same { windows self.new ≡ windows self.old };
 }
 
 /// The lines of a table of windows.
 #[derive(Drop)]
-pub struct Lent<'a> {
+pub struct TableRows<'a> {
     table: &'a Grids,
     pub cells: u64,
 }
 
-impl<'a> Lent<'a> {
+impl<'a> TableRows<'a> {
     /// The lines of a table, of which nothing was read yet.
-    pub fn of(table: &'a Grids) -> Lent<'a>
-        ensures windows { ⟦<Lent<'a> as Rows<'a>>⟧.windows result ≡ windows_of table.now }
-        ensures none { ⟦<Lent<'a> as Rows<'a>>⟧.lent result ≡ 0 }
+    pub fn of(table: &'a Grids) -> TableRows<'a>
+        ensures windows { ⟦<TableRows<'a> as Rows<'a>>⟧.windows result ≡ windows_of table.now }
+        ensures none { ⟦<TableRows<'a> as Rows<'a>>⟧.cells_read result ≡ 0 }
     {
-        Lent { table, cells: 0 }
+        TableRows { table, cells: 0 }
     }
 }
 
-impl<'a> Rows<'a> for Lent<'a> {
+impl<'a> Rows<'a> for TableRows<'a> {
     ghost windows = { λ rows. windows_of rows.table.now };
 
-    ghost lent = { λ rows. rows.cells };
+    ghost cells_read = { λ rows. rows.cells };
 
     fn rect(&self, win: WinId) -> Rect {
         match window_part(self.table, win) {
@@ -68,7 +68,7 @@ impl<'a> Rows<'a> for Lent<'a> {
         }
     }
 
-    fn lend(&mut self, win: WinId, y: u16, left: u16, right: u16) -> &'a [Cell] {
+    fn read(&mut self, win: WinId, y: u16, left: u16, right: u16) -> &'a [Cell] {
         self.cells = self.cells.wrapping_add(u64::from(right - left) + 1);
         piece(self.table, win, y, left, usize::from(right - left) + 1)
     }

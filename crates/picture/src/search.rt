@@ -7,7 +7,7 @@ ghost use Rattle.world.specs.calls.Stacking.{panel_number};
 ghost use Rattle.grids.specs.Tables.{windows as windows_of};
 ghost use Rattle.stack.specs.Tables.{panels};
 
-use crate::rows::Lent;
+use crate::rows::TableRows;
 use crate::span::owner_span;
 use cell::{Cell, WinId};
 use grids::Grids;
@@ -24,7 +24,7 @@ pub fn cell_found(table: &Grids, stack: &Stack, y: u16, x: u16, columns: u16) ->
     requires columns { columns ≡ table.now.columns }
     ensures { result ≡ found_from_top (windows_of table.now).window (panels stack.now) y x }
 {
-    let span = owner_span(&Lent::of(table), stack, y, x, columns - 1);
+    let span = owner_span(&TableRows::of(table), stack, y, x, columns - 1);
     let win = window_of(stack, span.panel);
     let (top, left) = place(table, win);
     table.cell(win, y - top, x - left)

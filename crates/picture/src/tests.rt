@@ -4,7 +4,7 @@ ghost use Rattle.world.specs.Sound.{AreSoundPanels};
 ghost use Rattle.grids.specs.Tables.{windows as windows_of};
 ghost use Rattle.stack.specs.Tables.{panels};
 
-use crate::rows::Lent;
+use crate::rows::TableRows;
 use crate::{Rows, compose_row, show_piece};
 use cell::{Attr, Cell, Grid, Pairs, Rect, Shown, WinId};
 use grids::{Grids, Place};
@@ -41,21 +41,21 @@ impl Piece {
 /// The lines of a table. It notes the pieces that were read, up to three.
 #[derive(Drop)]
 struct Noted<'a> {
-    lent: Lent<'a>,
+    rows: TableRows<'a>,
     pieces: [Option<Piece>; 3],
     noted: usize,
 }
 
 impl<'a> Rows<'a> for Noted<'a> {
-    ghost windows = { λ rows. windows_of rows.lent.table.now };
+    ghost windows = { λ rows. windows_of rows.rows.table.now };
 
-    ghost lent = { λ rows. rows.lent.cells };
+    ghost cells_read = { λ rows. rows.rows.cells };
 
     fn rect(&self, win: WinId) -> Rect {
-        self.lent.rect(win)
+        self.rows.rect(win)
     }
 
-    fn lend(&mut self, win: WinId, y: u16, left: u16, right: u16) -> &'a [Cell] {
+    fn read(&mut self, win: WinId, y: u16, left: u16, right: u16) -> &'a [Cell] {
         if self.noted < 3 {
             self.pieces[self.noted] = Some(Piece {
                 win,
@@ -65,7 +65,7 @@ impl<'a> Rows<'a> for Noted<'a> {
             });
             self.noted += 1;
         }
-        self.lent.lend(win, y, left, right)
+        self.rows.read(win, y, left, right)
     }
 }
 
@@ -137,7 +137,7 @@ fn composed<'a>(
         return Err("no such columns".into());
     }
     let mut rows = Noted {
-        lent: Lent::of(table),
+        rows: TableRows::of(table),
         pieces: [None; 3],
         noted: 0,
     };
@@ -158,12 +158,12 @@ fn composed<'a>(
 }
 
 #[test]
-fn a_line_is_composed_of_lent_pieces(rt: HostRuntime) -> Result<(), Fail> {
+fn a_line_is_composed_of_pieces(rt: HostRuntime) -> Result<(), Fail> {
     let table = windows(rt.alloc())?;
     let stack = one_panel(rt.alloc(), &table)?;
     let (shown, rows) = composed(rt.alloc(), &table, &stack, 0, 3)?;
     assert_eq!(rt; shown.as_slice(), b"aXYd".as_slice());
-    assert_eq!(rt; rows.lent.cells, 4);
+    assert_eq!(rt; rows.rows.cells, 4);
     let pieces = [
         Some(Piece::new(WinId::STANDARD, 0, 0)),
         Some(Piece::new(IN_PANEL, 0, 1)),
@@ -179,7 +179,7 @@ fn other_columns_are_left(rt: HostRuntime) -> Result<(), Fail> {
     let stack = one_panel(rt.alloc(), &table)?;
     let (shown, rows) = composed(rt.alloc(), &table, &stack, 2, 2)?;
     assert_eq!(rt; shown.as_slice(), b"--Y-".as_slice());
-    assert_eq!(rt; rows.lent.cells, 1);
+    assert_eq!(rt; rows.rows.cells, 1);
     assert_eq!(rt; rows.pieces, [Some(Piece::new(IN_PANEL, 1, 1)), None, None]);
     Ok(())
 }

@@ -6,8 +6,8 @@ use Rattle.std.specs.Borrow.{Bor}
 use Rattle.std.proofs.lemmas.List.Splits.{join_with_byte-slice_split, length-slice_split}
 use Rattle.script.specs.Characters.{is_space}
 use Rattle.script.specs.Readings.{arguments, is_text}
-use Rattle.script.specs.Texts.{all_said}
-use Rattle.script.specs.Words.{Arguments, nothing_said}
+use Rattle.script.specs.Texts.{parse_arguments}
+use Rattle.script.specs.Words.{Arguments, no_arguments}
 use Rattle.script.specs.Pieces.{pieces_of}
 use Rattle.script.specs.declared.words.Form.{Form}
 
@@ -54,4 +54,4 @@ as_many forms pieces i counted all =
 
 -- What all arguments say is what those say that are left, after those that were taken.
 pub record Taken (forms : List Form) (pieces : List (List ℕ)) (i : ℕ) (rest : List (List ℕ)) (a : Arguments) : Type 0 where
-  pub same : all_said forms (arguments forms pieces) nothing_said ≡ all_said (drop i forms) (arguments (drop i forms) rest) a
+  pub same : parse_arguments forms (arguments forms pieces) no_arguments ≡ parse_arguments (drop i forms) (arguments (drop i forms) rest) a

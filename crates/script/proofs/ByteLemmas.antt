@@ -12,7 +12,7 @@ use Rattle.std.proofs.lemmas.Bool.Decides.{nat_tests}
 use Rattle.script.specs.Characters.{is_newline, newline}
 use Rattle.script.specs.declared.bytes.TheConstants.{LONGEST_PIECE}
 use Rattle.script.specs.declared.limits.TheConstants.{LONGEST_LINE}
-use Rattle.streams.specs.Counts.{counted}
+use Rattle.streams.specs.Counts.{count_after}
 use Rattle.streams.specs.Sources.{SourceSeen}
 use Rattle.script.specs.steps.Bytes.{EndsLine, HasNoNewline, ReadingEnds, ReadsByte, ReadsLine, ReadsToEnd, ReadsWhole, work_left}
 use Rattle.script.specs.declared.bytes.LineEnd.{LineEnd}
@@ -43,19 +43,19 @@ pub record ReadsOn (old new : SourceSeen) (unused left : List ℕ) : Type 0 wher
 pub none_read : (old : SourceSeen) (unused : List ℕ) → ReadsOn old old unused unused
 none_read old unused = record { ended = refl; past = λ unmet. refl; failures = refl; progress = omega arith }
 
-pub ends_behind : (old mid new : SourceSeen) (unused between left : List ℕ) (meets_end fails continues : Bool) → ReadsOn old mid unused between
+pub ends_then : (old mid new : SourceSeen) (unused between left : List ℕ) (meets_end fails continues : Bool) → ReadsOn old mid unused between
     → ReadingEnds mid new between left meets_end fails continues → ReadingEnds old new unused left meets_end fails continues
-ends_behind old mid new unused between left meets_end fails continues so_far r = record {
+ends_then old mid new unused between left meets_end fails continues so_far r = record {
   ended = r.ended ∙ ap (λ b. meets_end || b) so_far.ended;
   past = λ unmet. r.past (so_far.ended ∙ unmet) ∙ so_far.past unmet;
-  failures = r.failures ∙ ap (counted fails) so_far.failures;
+  failures = r.failures ∙ ap (count_after fails) so_far.failures;
   progress = λ more. omega (arith, r.progress more);
 }
 
 pub more_read : (old mid new : SourceSeen) (unused between left : List ℕ) → ReadsOn old mid unused between → ReadingEnds mid new between left false false true
     → ReadsOn old new unused left
 more_read old mid new unused between left so_far r =
-    let whole = ends_behind old mid new unused between left false false true so_far r in
+    let whole = ends_then old mid new unused between left false false true so_far r in
     record { ended = whole.ended; past = whole.past; failures = whole.failures; progress = omega (arith, whole.progress refl) }
 
 -- ---- a line, gathered
@@ -187,9 +187,9 @@ newline_found unused at found early =
     }
 
 -- a line that is read where it is
-pub lent_line : (seen : SourceSeen) (unused bytes gathered : List ℕ) (at : ℕ) → bytes ≡ unused → Some at ≡ position is_newline bytes → at < LONGEST_PIECE
+pub unread_line : (seen : SourceSeen) (unused bytes gathered : List ℕ) (at : ℕ) → bytes ≡ unused → Some at ≡ position is_newline bytes → at < LONGEST_PIECE
     → ReadsLine seen seen unused (drop (at + 1) bytes) (if at + 1 == 0 then gathered else take (at + 1 - 1) bytes) (Some Newline)
-lent_line seen unused bytes gathered at same found early =
+unread_line seen unused bytes gathered at same found early =
     let some : (at + 1 == 0) ≡ false = grind (arith, nat_tests) in
     let count : at + 1 - 1 ≡ at = omega arith in
     rw (some, count, ← same) (taken_line seen bytes (drop (at + 1) bytes) (take at bytes) (newline_found bytes at found early))
@@ -261,18 +261,18 @@ kept old new unused left line end r = record {
   keeps = (refl, r.is_line.1);
 }
 
-any_joined : (front behind : List ℕ) (b : ℕ) → HasNoNewline front → is_newline b ≡ false → HasNoNewline behind → HasNoNewline (front ++ b ∷ behind)
-any_joined front behind b f e h = rw (list_any-append is_newline front (b ∷ behind), f, e) h
+any_joined : (prefix after : List ℕ) (b : ℕ) → HasNoNewline prefix → is_newline b ≡ false → HasNoNewline after → HasNoNewline (prefix ++ b ∷ after)
+any_joined prefix after b f e h = rw (list_any-append is_newline prefix (b ∷ after), f, e) h
 
-more_bytes : (unused bytes more front left : List ℕ) (b : ℕ) → unused ++ bytes ≡ front ++ b ∷ left → unused ++ (bytes ++ more) ≡ front ++ b ∷ (left ++ more)
-more_bytes unused bytes more front left b e = sym (append_assoc unused bytes more) ∙ ap (λ l. l ++ more) e ∙ append_assoc front (b ∷ left) more
+more_bytes : (unused bytes more prefix left : List ℕ) (b : ℕ) → unused ++ bytes ≡ prefix ++ b ∷ left → unused ++ (bytes ++ more) ≡ prefix ++ b ∷ (left ++ more)
+more_bytes unused bytes more prefix left b e = sym (append_assoc unused bytes more) ∙ ap (λ l. l ++ more) e ∙ append_assoc prefix (b ∷ left) more
 
 -- what the bytes after those of a line that is too long come to
-joined_ends : (end : LineEnd) (unused bytes more front left rest line : List ℕ) (b : ℕ) → unused ++ bytes ≡ front ++ b ∷ left → EndsLine end (left ++ more) line rest
-    → EndsLine end (unused ++ (bytes ++ more)) (front ++ b ∷ line) rest
-joined_ends Newline unused bytes more front left rest line b e h = more_bytes unused bytes more front left b e ∙ ap (λ l. front ++ b ∷ l) h ∙ sym (append_assoc front (b ∷ line) (newline ∷ rest))
-joined_ends ScriptEnd unused bytes more front left rest line b e h = (more_bytes unused bytes more front left b e ∙ ap (λ l. front ++ b ∷ l) h.0, h.1)
-joined_ends ReadFailed unused bytes more front left rest line b e h = (more_bytes unused bytes more front left b e ∙ ap (λ l. front ++ b ∷ l) h.0, h.1)
+joined_ends : (end : LineEnd) (unused bytes more prefix left rest line : List ℕ) (b : ℕ) → unused ++ bytes ≡ prefix ++ b ∷ left → EndsLine end (left ++ more) line rest
+    → EndsLine end (unused ++ (bytes ++ more)) (prefix ++ b ∷ line) rest
+joined_ends Newline unused bytes more prefix left rest line b e h = more_bytes unused bytes more prefix left b e ∙ ap (λ l. prefix ++ b ∷ l) h ∙ sym (append_assoc prefix (b ∷ line) (newline ∷ rest))
+joined_ends ScriptEnd unused bytes more prefix left rest line b e h = (more_bytes unused bytes more prefix left b e ∙ ap (λ l. prefix ++ b ∷ l) h.0, h.1)
+joined_ends ReadFailed unused bytes more prefix left rest line b e h = (more_bytes unused bytes more prefix left b e ∙ ap (λ l. prefix ++ b ∷ l) h.0, h.1)
 
 pub left_out : (old mid new : SourceSeen) (unused left rest line kept : List ℕ) (end : LineEnd) → ReadsLine old mid unused left line None
     → ReadsToEnd mid new left rest end → ReadsWhole old new unused rest kept end false

@@ -4,15 +4,15 @@ use Rattle.std.specs.List.{list_any}
 use Rattle.script.specs.Characters.{backslash}
 use Rattle.script.specs.Texts.{text_of}
 
-pub nothing_in_front : (r : Option (List ℕ)) (xs : List ℕ) → xs ≡ [] → r ≡ option_map (λ t. xs ++ t) r
-nothing_in_front None xs e = refl
-nothing_in_front (Some t) xs e = ap (λ l. Some (l ++ t)) (sym e)
+pub nothing_before : (r : Option (List ℕ)) (xs : List ℕ) → xs ≡ [] → r ≡ option_map (λ t. xs ++ t) r
+nothing_before None xs e = refl
+nothing_before (Some t) xs e = ap (λ l. Some (l ++ t)) (sym e)
 
 -- one more character before it
-pub one_in_front : (all rest : Option (List ℕ)) (xs ys : List ℕ) (c : ℕ) → all ≡ option_map (λ t. xs ++ t) (option_map (λ t. c ∷ t) rest)
+pub one_before : (all rest : Option (List ℕ)) (xs ys : List ℕ) (c : ℕ) → all ≡ option_map (λ t. xs ++ t) (option_map (λ t. c ∷ t) rest)
     → ys ≡ xs ++ c ∷ [] → all ≡ option_map (λ t. ys ++ t) rest
-one_in_front all None xs ys c h e = h
-one_in_front all (Some t) xs ys c h e = h ∙ ap Some (sym (append_assoc xs (c ∷ []) t) ∙ ap (λ l. l ++ t) (sym e))
+one_before all None xs ys c h e = h
+one_before all (Some t) xs ys c h e = h ∙ ap Some (sym (append_assoc xs (c ∷ []) t) ∙ ap (λ l. l ++ t) (sym e))
 
 -- a text without a backslash is its own
 neither : (s t : Bool) → (s || t) ≡ false → (s ≡ false) × (t ≡ false)

@@ -5,8 +5,8 @@ use Rattle.std.specs.List.{join_with_byte, list_any, slice_split}
 use Rattle.std.specs.Option.{option_map_or}
 use Rattle.script.specs.Characters.{is_bad_byte, is_newline, is_space, number_sign, space}
 use Rattle.script.specs.declared.limits.TheConstants.{LONGEST_LINE}
-use Rattle.script.specs.Words.{Entry, entry_of, nothing_said, word_of}
-use Rattle.script.specs.Texts.{all_said}
+use Rattle.script.specs.Words.{Entry, entry_of, no_arguments, word_of}
+use Rattle.script.specs.Texts.{parse_arguments}
 use Rattle.world.specs.declared.call.Call.{Call}
 use Rattle.script.specs.declared.words.Form.{Form}
 use Rattle.script.specs.declared.words.Form.TheVariants.{Number, NumberOrNone, Signed, Attributes, Flag, Character, Text}
@@ -34,16 +34,16 @@ arguments (form ∷ forms) (piece ∷ pieces) =
 
 -- The call that an entry's arguments make, if they are as many as its forms and each has its own. Else their fault: a wrong number of them,
 -- or else a bad form.
-abbrev pub said_by_entry : Entry → List (List ℕ) → Result Call TextFault
-said_by_entry entry pieces =
+abbrev pub parse_entry : Entry → List (List ℕ) → Result Call TextFault
+parse_entry entry pieces =
     if length (arguments entry.forms pieces) == length entry.forms
-    then option_map_or (λ a. Ok (entry.call a)) (all_said entry.forms (arguments entry.forms pieces) nothing_said) (Err BadArgument)
+    then option_map_or (λ a. Ok (entry.call a)) (parse_arguments entry.forms (arguments entry.forms pieces) no_arguments) (Err BadArgument)
     else Err WrongNumberOfArguments
 
 -- the call that the pieces between single spaces say
-abbrev pub said_by_pieces : List (List ℕ) → Result Call TextFault
-said_by_pieces [] = Err UnknownCall
-said_by_pieces (word ∷ pieces) = option_map_or (λ w. said_by_entry (entry_of w) pieces) (word_of word) (Err UnknownCall)
+abbrev pub parse_pieces : List (List ℕ) → Result Call TextFault
+parse_pieces [] = Err UnknownCall
+parse_pieces (word ∷ pieces) = option_map_or (λ w. parse_entry (entry_of w) pieces) (word_of word) (Err UnknownCall)
 
 -- no byte, or a comment
 abbrev pub is_skipped : List ℕ → Bool
@@ -55,11 +55,11 @@ some_call (Ok call) = Ok (Some call)
 some_call (Err fault) = Err fault
 
 -- what a line says: a call, nothing, or its first fault
-abbrev pub said_by_line : List ℕ → Result (Option Call) TextFault
-said_by_line line = if nat_lt LONGEST_LINE (length line) then Err LineTooLong
+abbrev pub parse_line : List ℕ → Result (Option Call) TextFault
+parse_line line = if nat_lt LONGEST_LINE (length line) then Err LineTooLong
     else (if is_skipped line then Ok None
     else (if list_any is_bad_byte line then Err BadByte
-    else some_call (said_by_pieces (slice_split is_space line))))
+    else some_call (parse_pieces (slice_split is_space line))))
 
 -- What a script says: its calls with the numbers of their lines, and the fault that ends it, if there is one.
 pub record Reading : Type 0 where
@@ -87,7 +87,7 @@ cut_rest n rest = ends_with (Some (if nat_lt LONGEST_LINE (length rest) then Tex
 abbrev pub reading_of : Bool → ℕ → List (List ℕ) → Reading
 reading_of failed n [] = ends_with None
 reading_of true n (rest ∷ []) = cut_rest n rest
-reading_of failed n (line ∷ lines) = before_others n (said_by_line line) (reading_of failed (next_number n) lines)
+reading_of failed n (line ∷ lines) = before_others n (parse_line line) (reading_of failed (next_number n) lines)
 
 -- The reading of a script whose bytes these are. A read failed after them, or they are all.
 abbrev pub reading : Bool → List ℕ → Reading

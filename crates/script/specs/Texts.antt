@@ -85,16 +85,16 @@ only (character ∷ []) = Some (character ∷ [])
 only _ = None
 
 -- what an argument of a form says
-abbrev pub said : Form → List ℕ → Arguments → Option Arguments
-said Number piece a = option_map (λ n. record a { numbers = a.numbers ++ n ∷ [] }) (number_up_to GREATEST_NUMBER piece)
-said NumberOrNone piece a = option_map (λ n. record a { number_or_none = n }) (number_or_none piece)
-said Signed piece a = option_map (λ n. record a { signed = n }) (signed_number piece)
-said Attributes piece a = option_map (λ n. record a { attributes = n }) (attributes_of piece)
-said Flag piece a = option_map (λ b. record a { flag = b }) (flag_of piece)
-said Character piece a = option_map (λ text. record a { text = text }) (option_and_then only (text_of piece))
-said Text piece a = option_map (λ text. record a { text = text }) (text_of piece)
+abbrev pub parse_argument : Form → List ℕ → Arguments → Option Arguments
+parse_argument Number piece a = option_map (λ n. record a { numbers = a.numbers ++ n ∷ [] }) (number_up_to GREATEST_NUMBER piece)
+parse_argument NumberOrNone piece a = option_map (λ n. record a { number_or_none = n }) (number_or_none piece)
+parse_argument Signed piece a = option_map (λ n. record a { signed = n }) (signed_number piece)
+parse_argument Attributes piece a = option_map (λ n. record a { attributes = n }) (attributes_of piece)
+parse_argument Flag piece a = option_map (λ b. record a { flag = b }) (flag_of piece)
+parse_argument Character piece a = option_map (λ text. record a { text = text }) (option_and_then only (text_of piece))
+parse_argument Text piece a = option_map (λ text. record a { text = text }) (text_of piece)
 
 -- what the arguments say, each by its form
-abbrev pub all_said : List Form → List (List ℕ) → Arguments → Option Arguments
-all_said (form ∷ forms) (piece ∷ pieces) a = option_and_then (all_said forms pieces) (said form piece a)
-all_said _ _ a = Some a
+abbrev pub parse_arguments : List Form → List (List ℕ) → Arguments → Option Arguments
+parse_arguments (form ∷ forms) (piece ∷ pieces) a = option_and_then (parse_arguments forms pieces) (parse_argument form piece a)
+parse_arguments _ _ a = Some a

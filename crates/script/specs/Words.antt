@@ -45,8 +45,8 @@ pub record Arguments : Type 0 where
   pub flag : Bool
   pub text : List ℕ
 
-abbrev pub nothing_said : Arguments
-nothing_said = record { numbers = []; number_or_none = None; signed = pos 0; attributes = 0; flag = false; text = [] }
+abbrev pub no_arguments : Arguments
+no_arguments = record { numbers = []; number_or_none = None; signed = pos 0; attributes = 0; flag = false; text = [] }
 
 abbrev pub number : Arguments → ℕ → ℕ
 number a place = slice_index a.numbers place

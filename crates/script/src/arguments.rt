@@ -2,8 +2,8 @@
 
 ghost use Rattle.std.specs.Prelude.{◌≡◌, ◌≤◌, ◌<◌, ◌+◌, ◌∷◌, ◌++◌, [], length, is_some, IfSome, Some, None, false};
 ghost use Rattle.std.specs.Bool.{OnTrue};
-ghost use Rattle.script.specs.Words.{attributes, character, nothing_said, number, panel_or_none};
-ghost use Rattle.script.specs.Texts.{said};
+ghost use Rattle.script.specs.Words.{attributes, character, no_arguments, number, panel_or_none};
+ghost use Rattle.script.specs.Texts.{parse_argument};
 
 use crate::limits::{GREATEST_NUMBER, LONGEST_LINE, MOST_ARGUMENTS};
 use crate::numbers::{attributes_of, flag_of, number_or_none, number_up_to, signed_number};
@@ -64,7 +64,7 @@ fn put<T: Copy>(place: &mut T, said: Option<T>) -> bool
 impl Arguments {
     /// No argument yet.
     pub fn new() -> Arguments
-        ensures { result ≡ nothing_said }
+        ensures { result ≡ no_arguments }
     {
         Arguments {
             numbers: [0; MOST_ARGUMENTS],
@@ -79,7 +79,7 @@ impl Arguments {
 
     /// Forgets what was said.
     pub fn clear(&mut self)
-        ensures { self.new ≡ nothing_said }
+        ensures { self.new ≡ no_arguments }
     {
         self.count = 0;
         self.number_or_none = None;
@@ -154,8 +154,8 @@ impl Arguments {
     pub fn take(&mut self, form: Form, piece: &[u8]) -> bool
         requires room { length self.old.numbers < MOST_ARGUMENTS }
         requires short { length piece.now ≤ LONGEST_LINE }
-        ensures said { OnTrue result (said form piece.now self.old ≡ Some self.new) }
-        ensures wrong { result ≡ false → said form piece.now self.old ≡ None }
+        ensures argument { OnTrue result (parse_argument form piece.now self.old ≡ Some self.new) }
+        ensures wrong { result ≡ false → parse_argument form piece.now self.old ≡ None }
         ensures count { length self.new.numbers ≤ length self.old.numbers + 1 }
     {
         match form {

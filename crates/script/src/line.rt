@@ -4,10 +4,10 @@ ghost use Rattle.std.specs.Prelude.{◌≡◌, ◌≤◌, ◌+◌, ◌<◌, ◌�
 ghost use Rattle.std.specs.List.{list_any, slice_split};
 ghost use Rattle.std.specs.Bool.{OnTrue};
 ghost use Rattle.script.specs.declared.words.Form.{Form};
-ghost use Rattle.script.specs.Words.{nothing_said};
-ghost use Rattle.script.specs.Texts.{all_said};
+ghost use Rattle.script.specs.Words.{no_arguments};
+ghost use Rattle.script.specs.Texts.{parse_arguments};
 ghost use Rattle.script.specs.Characters.{is_bad_byte, is_space};
-ghost use Rattle.script.specs.Readings.{arguments, is_skipped, is_text, said_by_line};
+ghost use Rattle.script.specs.Readings.{arguments, is_skipped, is_text, parse_line};
 ghost use Rattle.script.specs.Pieces.{pieces_of, room_of};
 ghost use Rattle.script.specs.steps.Reads.{Reads, TakesFirst};
 
@@ -130,11 +130,11 @@ fn take_first<'a>(form: Form, text: &'a [u8], taken: &mut Arguments) -> Option<O
 fn take_all(forms: &[Form], text: Option<&[u8]>, taken: &mut Arguments) -> bool
     requires forms { length forms.now ≤ MOST_ARGUMENTS }
     requires short { IfSome text (λ t. length t.now ≤ LONGEST_LINE) }
-    requires start { taken.old ≡ nothing_said }
+    requires start { taken.old ≡ no_arguments }
     ensures count { OnTrue result (length (arguments forms.now (pieces_of text.entry)) ≡ length forms.now) }
-    ensures right { OnTrue result (all_said forms.now (arguments forms.now (pieces_of text.entry)) nothing_said ≡ Some taken.new) }
+    ensures right { OnTrue result (parse_arguments forms.now (arguments forms.now (pieces_of text.entry)) no_arguments ≡ Some taken.new) }
     ensures wrong { result ≡ false → length (arguments forms.now (pieces_of text.entry)) ≡ length forms.now
-        → all_said forms.now (arguments forms.now (pieces_of text.entry)) nothing_said ≡ None }
+        → parse_arguments forms.now (arguments forms.now (pieces_of text.entry)) no_arguments ≡ None }
 {
     let mut rest = text;
     for form in forms {
@@ -154,7 +154,7 @@ fn take_all(forms: &[Form], text: Option<&[u8]>, taken: &mut Arguments) -> bool
 /// first fault.
 pub fn read_line(line: &[u8], taken: &mut Arguments) -> Result<Option<Word>, TextFault>
     requires { length line.now ≤ LONGEST_LINE }
-    ensures { Reads result taken.new (said_by_line line.now) }
+    ensures { Reads result taken.new (parse_line line.now) }
 {
     if is_skipped(line) {
         return Ok(None);

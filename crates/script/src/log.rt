@@ -6,7 +6,7 @@ ghost use Rattle.std.specs.Io.KnownBytes.{Appends};
 ghost use Rattle.std.specs.Prelude.{codes, decimal, [], ◌∷◌};
 ghost use Rattle.script.specs.Characters.{newline};
 ghost use Rattle.script.specs.Log.{answer_text, last_line, log_line, panel_text, reply_text};
-ghost use Rattle.streams.specs.Counts.{counted};
+ghost use Rattle.streams.specs.Counts.{count_after};
 
 use crate::fault::ScriptFault;
 use arrayvec::ArrayVec;
@@ -122,7 +122,7 @@ pub fn log_answer<L: Sink>(
     ensures ok { OnOk result (Appends (L.seen log.old).taken (L.seen log.new).taken (log_line number answer)) }
     ensures err { IfErr result (λ fault. (fault.sent < length (log_line number answer))
         × Appends (L.seen log.old).taken (L.seen log.new).taken (take fault.sent (log_line number answer))) }
-    ensures failures { (L.seen log.new).failures ≡ counted (is_err result) (L.seen log.old).failures }
+    ensures failures { (L.seen log.new).failures ≡ count_after (is_err result) (L.seen log.old).failures }
     ensures flushes { (L.seen log.new).flushes ≡ (L.seen log.old).flushes }
 {
     if !has_line(&answer) {

@@ -138,10 +138,10 @@ fn other_lines_have_their_faults(rt: HostRuntime) -> Result<(), Fail> {
 }
 
 /// A line with its end, or none where it is too long.
-type Ended<'a> = (&'a [u8], Option<LineEnd>);
+type LineAndEnd<'a> = (&'a [u8], Option<LineEnd>);
 
 /// Whether a reader gives these lines one after another, of bytes that come in pieces of so many.
-fn gives(bytes: &[u8], step: usize, fails: bool, lines: &[Ended<'_>]) -> bool {
+fn gives(bytes: &[u8], step: usize, fails: bool, lines: &[LineAndEnd<'_>]) -> bool {
     let mut source = CountedReader::new(Pieces { bytes, step, fails });
     let mut reader = Lines::new();
     for (line, end) in lines {
@@ -152,7 +152,7 @@ fn gives(bytes: &[u8], step: usize, fails: bool, lines: &[Ended<'_>]) -> bool {
     true
 }
 
-const THREE_LINES: [Ended<'static>; 4] = [
+const THREE_LINES: [LineAndEnd<'static>; 4] = [
     (b"newwin 1 1 0 0", Some(LineEnd::Newline)),
     (b"", Some(LineEnd::Newline)),
     (b"last", Some(LineEnd::ScriptEnd)),
@@ -170,7 +170,7 @@ static LONG: [u8; 513] = [b'x'; 513];
 
 /// Whether a failed read leaves what came before it, a line of 512 bytes is given, and one of 513 isn't.
 fn ends() -> [bool; 3] {
-    let cut: [Ended<'static>; 2] = [
+    let cut: [LineAndEnd<'static>; 2] = [
         (b"erase 0", Some(LineEnd::Newline)),
         (b"era", Some(LineEnd::ReadFailed)),
     ];
@@ -207,7 +207,7 @@ fn faults_have_their_last_lines(rt: HostRuntime) {
 }
 
 /// What a log is given of an answer.
-fn logged(alloc: Global, number: u64, answer: Result<Reply, Refusal>) -> Result<Vec<u8>, Fail> {
+fn log_of(alloc: Global, number: u64, answer: Result<Reply, Refusal>) -> Result<Vec<u8>, Fail> {
     let mut log = Counted::new(Vec::new(alloc));
     match log_answer(&mut log, number, answer) {
         Ok(()) => Ok(log.into_inner()),
@@ -232,7 +232,7 @@ const ANSWERS: [(u64, Result<Reply, Refusal>, &str); 9] = [
 #[test]
 fn answers_have_their_lines(rt: HostRuntime) -> Result<(), Fail> {
     for (number, answer, line) in ANSWERS {
-        let log = logged(rt.alloc(), number, answer)?;
+        let log = log_of(rt.alloc(), number, answer)?;
         assert_eq!(rt; log.as_slice(), line.as_bytes());
     }
     Ok(())
@@ -241,7 +241,7 @@ fn answers_have_their_lines(rt: HostRuntime) -> Result<(), Fail> {
 #[test]
 fn a_cell_is_logged_as_its_numbers(rt: HostRuntime) -> Result<(), Fail> {
     let cell = Cell::new(b'A', Attr::REVERSE, 63).ok_or("no cell")?;
-    let log = logged(rt.alloc(), 7, Ok(Reply::Cell(cell)))?;
+    let log = log_of(rt.alloc(), 7, Ok(Reply::Cell(cell)))?;
     assert_eq!(rt; log.as_slice(), b"line 7: 65 10 63\n".as_slice());
     Ok(())
 }

@@ -249,7 +249,7 @@ impl Slot {
     {
         prove!(settings.background.ch() >= b' ' && settings.pair.is_sound());
         self.settings = Settings {
-            attrs: settings.attrs.known(),
+            attrs: settings.attrs.valid_attributes(),
             ..settings
         };
     }

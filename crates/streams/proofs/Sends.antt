@@ -4,23 +4,23 @@ use Rattle.std.proofs.Common.{◌≡◌, ℕ, ◌+◌, ◌<◌, ◌≤◌, ◌==
 use Rattle.std.specs.Io.KnownBytes.{Appends, Keeps}
 use Rattle.std.proofs.lemmas.List.{append-nil, take-append-le, take-append-drop, length-take-le}
 use Rattle.std.proofs.Math.Seq.{take-append-add}
-use Rattle.streams.specs.Counts.{next_count, counted, moved_nothing}
+use Rattle.streams.specs.Counts.{next_count, count_after, moved_nothing}
 use Rattle.streams.specs.Sinks.{Seen}
 use Rattle.streams.specs.Sending.{Sends}
 use Rattle.streams.specs.declared.sending.WriteFault.{WriteFault}
 
 -- one flush more exactly where all of a text was sent
-pub whole-flushed : (sent : ℕ) (text : List ℕ) (flushes : ℕ) → sent ≡ length text → counted (sent == length text) flushes ≡ next_count flushes
-whole-flushed sent text flushes e = ap (λ b. counted b flushes) (eq-eqb sent (length text) e)
+pub whole-flushed : (sent : ℕ) (text : List ℕ) (flushes : ℕ) → sent ≡ length text → count_after (sent == length text) flushes ≡ next_count flushes
+whole-flushed sent text flushes e = ap (λ b. count_after b flushes) (eq-eqb sent (length text) e)
 
-pub cut-unflushed : (sent : ℕ) (text : List ℕ) (flushes : ℕ) → sent < length text → counted (sent == length text) flushes ≡ flushes
-cut-unflushed sent text flushes h = ap (λ b. counted b flushes) (ne_eqb sent (length text) (λ e. absurd (omega arith)))
+pub cut-unflushed : (sent : ℕ) (text : List ℕ) (flushes : ℕ) → sent < length text → count_after (sent == length text) flushes ≡ flushes
+cut-unflushed sent text flushes h = ap (λ b. count_after b flushes) (ne_eqb sent (length text) (λ e. absurd (omega arith)))
 
 pub Appends-append : (a b c : Option (List ℕ)) (s t : List ℕ) → Appends a b s → Appends b c t → Appends a c (s ++ t)
 Appends-append None b c s t h k = tt
 Appends-append (Some x) None c s t h k = absurd h
 Appends-append (Some x) (Some y) None s t h k = absurd k
-Appends-append (Some x) (Some y) (Some z) s t h k = k ∙ ap (λ (front : List ℕ). front ++ t) h ∙ append_assoc x s t
+Appends-append (Some x) (Some y) (Some z) s t h k = k ∙ ap (λ (prefix : List ℕ). prefix ++ t) h ∙ append_assoc x s t
 
 pub Appends-nothing : (a : Option (List ℕ)) → Appends a a []
 Appends-nothing None = tt
@@ -34,10 +34,10 @@ Appends-keeps (Some x) (Some y) (Some z) s h k = k ∙ h
 
 -- a prefix of a piece went out, and the rest didn't yet
 pub record IsPartlySent (old new : Seen) (sent : ℕ) (piece rest : List ℕ) (total : ℕ) : Type 0 where
-  pub front : List ℕ
-  pub whole : piece ≡ front ++ rest
-  pub count : total ≡ sent + length front
-  pub bytes : Appends old.taken new.taken front
+  pub prefix : List ℕ
+  pub whole : piece ≡ prefix ++ rest
+  pub count : total ≡ sent + length prefix
+  pub bytes : Appends old.taken new.taken prefix
   pub failures : new.failures ≡ old.failures
   pub flushes : new.flushes ≡ old.flushes
 
@@ -60,8 +60,8 @@ Sends-then {a} {b} {c} {sent} {total} {s} {t} {r = Err fault} h k = record {
   flushes = k.flushes ∙ h.flushes;
 }
 
-pub Sends-front : {a b : Seen} {sent : ℕ} {s : List ℕ} {fault : WriteFault} (t : List ℕ) → Sends a b sent s (Err fault) → Sends a b sent (s ++ t) (Err fault)
-Sends-front {a} {b} {sent} {s} {fault} t h = record {
+pub Sends-prefix : {a b : Seen} {sent : ℕ} {s : List ℕ} {fault : WriteFault} (t : List ℕ) → Sends a b sent s (Err fault) → Sends a b sent (s ++ t) (Err fault)
+Sends-prefix {a} {b} {sent} {s} {fault} t h = record {
   ends = (h.ends.0, omega (arith, h.ends.1, length-append s t), h.ends.2, rw (take-append-le h.ends.0 s t (omega (arith, h.ends.1))) h.ends.3, h.ends.4);
   flushes = h.flushes;
 }
@@ -69,40 +69,40 @@ Sends-front {a} {b} {sent} {s} {fault} t h = record {
 pub IsPartlySent-more : (old mid new : Seen) (sent : ℕ) (piece rest : List ℕ) (total n more : ℕ) → IsPartlySent old mid sent piece rest total → n ≤ length rest
     → Appends mid.taken new.taken (take n rest) → new.failures ≡ mid.failures → new.flushes ≡ mid.flushes → more ≡ total + n → IsPartlySent old new sent piece (drop n rest) more
 IsPartlySent-more old mid new sent piece rest total n more h short bytes failures flushes e = record {
-  front = h.front ++ take n rest;
+  prefix = h.prefix ++ take n rest;
   whole = rw (append_assoc, take-append-drop n rest) h.whole;
-  count = omega (arith, h.count, length-append h.front (take n rest), length-take-le n rest short);
-  bytes = Appends-append old.taken mid.taken new.taken h.front (take n rest) h.bytes bytes;
+  count = omega (arith, h.count, length-append h.prefix (take n rest), length-take-le n rest short);
+  bytes = Appends-append old.taken mid.taken new.taken h.prefix (take n rest) h.bytes bytes;
   failures = failures ∙ h.failures;
   flushes = flushes ∙ h.flushes;
 }
 
 -- a write that takes some bytes counts no failure
-pub failures-some : (failures n : ℕ) (piece : List ℕ) → (n ≡ 0 → ⊥) → counted (moved_nothing n piece) failures ≡ failures
+pub failures-some : (failures n : ℕ) (piece : List ℕ) → (n ≡ 0 → ⊥) → count_after (moved_nothing n piece) failures ≡ failures
 failures-some failures n piece h = rw (ne_eqb n 0 h) refl
 
 -- ---- a text in pieces
 
 pub IsPartlySent-none : {old : Seen} {sent : ℕ} {text : List ℕ} → IsPartlySent old old sent text text sent
-IsPartlySent-none {old} {sent} {text} = record { front = []; whole = refl; count = omega arith; bytes = Appends-nothing old.taken; failures = refl; flushes = refl }
+IsPartlySent-none {old} {sent} {text} = record { prefix = []; whole = refl; count = omega arith; bytes = Appends-nothing old.taken; failures = refl; flushes = refl }
 
 pub IsPartlySent-then : {old mid new : Seen} {sent : ℕ} {whole piece rest : List ℕ} {total n : ℕ} → IsPartlySent old mid sent whole (piece ++ rest) total
     → Sends mid new total piece (Ok n) → IsPartlySent old new sent whole rest n
 IsPartlySent-then {old} {mid} {new} {sent} {whole} {piece} {rest} {total} {n} h k = record {
-  front = h.front ++ piece;
+  prefix = h.prefix ++ piece;
   whole = rw append_assoc h.whole;
-  count = omega (arith, h.count, k.ends.0, length-append h.front piece);
-  bytes = Appends-append old.taken mid.taken new.taken h.front piece h.bytes k.ends.1;
+  count = omega (arith, h.count, k.ends.0, length-append h.prefix piece);
+  bytes = Appends-append old.taken mid.taken new.taken h.prefix piece h.bytes k.ends.1;
   failures = k.ends.2 ∙ h.failures;
   flushes = k.flushes ∙ h.flushes;
 }
 
-Sends-partly : {old mid : Seen} {sent : ℕ} {whole rest : List ℕ} {total : ℕ} (h : IsPartlySent old mid sent whole rest total) → Sends old mid sent h.front (Ok total)
+Sends-partly : {old mid : Seen} {sent : ℕ} {whole rest : List ℕ} {total : ℕ} (h : IsPartlySent old mid sent whole rest total) → Sends old mid sent h.prefix (Ok total)
 Sends-partly h = record { ends = (h.count, h.bytes, h.failures); flushes = h.flushes }
 
 pub IsPartlySent-fails : {old mid new : Seen} {sent : ℕ} {whole piece : List ℕ} {total : ℕ} {fault : WriteFault} (rest : List ℕ) → IsPartlySent old mid sent whole (piece ++ rest) total
     → Sends mid new total piece (Err fault) → Sends old new sent whole (Err fault)
-IsPartlySent-fails rest h k = rw h.whole (Sends-then (Sends-partly h) (Sends-front rest k))
+IsPartlySent-fails rest h k = rw h.whole (Sends-then (Sends-partly h) (Sends-prefix rest k))
 
 pub IsPartlySent-all : {old new : Seen} {sent : ℕ} {whole : List ℕ} {total : ℕ} → IsPartlySent old new sent whole [] total → Sends old new sent whole (Ok total)
 IsPartlySent-all h = rw (h.whole, append-nil) (Sends-partly h)

@@ -6,8 +6,8 @@ abbrev pub next_count : ℕ → ℕ
 next_count n = (n + 1) % 2 ^ 64
 
 -- a count of failures after a call that failed or didn't
-abbrev pub counted : Bool → ℕ → ℕ
-counted failed failures = if failed then next_count failures else failures
+abbrev pub count_after : Bool → ℕ → ℕ
+count_after failed failures = if failed then next_count failures else failures
 
 -- no byte was taken of a piece that isn't empty, or none given to a buffer that has room
 abbrev pub moved_nothing : ℕ → List ℕ → Bool

@@ -3,7 +3,7 @@
 ghost use Rattle.std.specs.Prelude.{◌≡◌, ℕ, false, is_err};
 ghost use Rattle.std.specs.Io.{WritesAtMost};
 ghost use Rattle.std.specs.Io.KnownBytes.{WriteAppends, Keeps};
-ghost use Rattle.streams.specs.Counts.{counted, next_count};
+ghost use Rattle.streams.specs.Counts.{count_after, next_count};
 ghost use Rattle.streams.specs.Sinks.{Seen, write_fails, flushed_after_write, flushed_after_flush};
 
 use std::io;
@@ -22,7 +22,7 @@ pub trait Sink {
     fn write(&mut self, piece: &[u8]) -> io::Result<usize>
         ensures bound { WritesAtMost result piece.now }
         ensures bytes { WriteAppends (seen self.old).taken (seen self.new).taken result piece.now }
-        ensures failures { (seen self.new).failures ≡ counted (write_fails piece.now result) (seen self.old).failures }
+        ensures failures { (seen self.new).failures ≡ count_after (write_fails piece.now result) (seen self.old).failures }
         ensures flushes { (seen self.new).flushes ≡ (seen self.old).flushes }
         ensures flushed { (seen self.new).flushed ≡ flushed_after_write (seen self.old).flushed result }
         ensures same { name self.new ≡ name self.old };
@@ -30,7 +30,7 @@ pub trait Sink {
     /// Flushes: passes on all bytes that were taken.
     fn flush(&mut self) -> io::Result<()>
         ensures bytes { Keeps (seen self.old).taken (seen self.new).taken }
-        ensures failures { (seen self.new).failures ≡ counted (is_err result) (seen self.old).failures }
+        ensures failures { (seen self.new).failures ≡ count_after (is_err result) (seen self.old).failures }
         ensures flushes { (seen self.new).flushes ≡ next_count (seen self.old).flushes }
         ensures flushed { (seen self.new).flushed ≡ flushed_after_flush (seen self.old).flushed result }
         ensures same { name self.new ≡ name self.old };

@@ -3,7 +3,7 @@
 ghost use Rattle.std.specs.Prelude.{◌≡◌, ◌-◌, ◌^◌, ◌||◌, false, is_err, IsErr};
 ghost use Rattle.std.specs.Io.{ReadsAtMost};
 ghost use Rattle.std.specs.Io.KnownBytes.{ReadConsumes};
-ghost use Rattle.streams.specs.Counts.{counted};
+ghost use Rattle.streams.specs.Counts.{count_after};
 ghost use Rattle.streams.specs.Sources.{SourceSeen, met_end_after_read};
 
 use std::io;
@@ -21,7 +21,7 @@ pub trait Source {
         ensures bytes { ReadConsumes (seen self.old).left (seen self.new).left result buffer.new }
         ensures end { (seen self.new).met_end ≡ met_end_after_read (seen self.old).met_end buffer.new result }
         ensures past { (seen self.new).read_past_end ≡ ((seen self.old).read_past_end || (seen self.old).met_end) }
-        ensures failures { (seen self.new).failures ≡ counted (is_err result) (seen self.old).failures }
+        ensures failures { (seen self.new).failures ≡ count_after (is_err result) (seen self.old).failures }
         ensures reads { (seen self.new).reads_left ≡ (seen self.old).reads_left - 1 }
         ensures exhausted { (seen self.old).reads_left ≡ 0 → IsErr result };
 }

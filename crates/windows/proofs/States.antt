@@ -4,7 +4,7 @@ use Rattle.std.specs.Option.{option_map}
 use mathlib.Core.Path.{fun_ext}
 use Rattle.std.proofs.lemmas.Bool.{eqb-true}
 use Rattle.std.proofs.lemmas.Nat.{and_mask}
-use Rattle.cell.specs.Attributes.{bits_of, known}
+use Rattle.cell.specs.Attributes.{bits_of, valid_attributes}
 use Rattle.cell.specs.Pictures.{Place}
 use Rattle.world.specs.Windows.{Window, WindowMap, Windows, GridPlace, Drawing, own, drawn, put_from, put_windows, put, HasPlace}
 use Rattle.world.specs.Settings.{with_settings, after_set_settings, set_in, set, with_cursor}
@@ -65,11 +65,11 @@ has_place windows w s y x h below on = place-in (windows.window w) h.window s.li
 
 -- ---- other settings
 
-pub known-small : (bits : ℕ) → bits < 64 → known bits ≡ bits
-known-small bits h = and_mask bits 6 ∙ omega arith
+pub valid_attributes-small : (bits : ℕ) → bits < 64 → valid_attributes bits ≡ bits
+valid_attributes-small bits h = and_mask bits 6 ∙ omega arith
 
 set-at : (settings : Settings) (change : Settings → Settings) (a : Window) (t : Bool) (o : Option Window) → (t ≡ true → o ≡ Some a)
-    → record settings { attrs = record { 0 = known (bits_of settings.attrs) } } ≡ change a.settings
+    → record settings { attrs = record { 0 = valid_attributes (bits_of settings.attrs) } } ≡ change a.settings
     → (if t then option_map (with_settings settings) o else o) ≡ (if t then option_map (set_in change) o else o)
 set-at settings change a true o there e =
     let here = there refl in
@@ -77,7 +77,7 @@ set-at settings change a true o there e =
 set-at settings change a false o there e = refl
 
 pub set-is : (windows : Windows) (w : ℕ) (s : WindowState) (settings : Settings) (change : Settings → Settings) → IsStateOf windows w s
-    → record settings { attrs = record { 0 = known (bits_of settings.attrs) } } ≡ change s.settings
+    → record settings { attrs = record { 0 = valid_attributes (bits_of settings.attrs) } } ≡ change s.settings
     → after_set_settings windows w settings ≡ set windows w change
 set-is windows w s settings change h e = λ i. record windows {
   window = fun_ext (λ u.
@@ -87,7 +87,7 @@ set-is windows w s settings change h e = λ i. record windows {
 pub set-cursor : (windows new : Windows) (w : ℕ) (s : WindowState) (place : Place) → IsStateOf windows w s
     → new ≡ after_set_settings windows w (record s.settings { cursor = place }) → new ≡ set windows w (with_cursor place)
 set-cursor windows new w s place h is =
-    let bits = known-small (bits_of s.settings.attrs) h.within.attributes in
+    let bits = valid_attributes-small (bits_of s.settings.attrs) h.within.attributes in
     is ∙ set-is windows w s (record s.settings { cursor = place }) (with_cursor place) h (λ i. record s.settings { cursor = place; attrs = record { 0 = bits i } })
 
 -- a window of a sound world has the state that its size and its settings make

@@ -4,7 +4,7 @@ use Rattle.std.specs.Int.RustNames.{bit_or}
 use Rattle.std.proofs.lemmas.Bool.{lt-ltb}
 use Rattle.std.proofs.lemmas.Bool.Decides.{nat_tests}
 use Rattle.std.proofs.lemmas.Nat.{and_mask, or_lt}
-use Rattle.cell.specs.Attributes.{bits_of, known}
+use Rattle.cell.specs.Attributes.{bits_of, valid_attributes}
 use Rattle.cell.specs.Glyphs.{Glyph}
 use Rattle.cell.specs.Pictures.{Place}
 use Rattle.world.specs.Windows.{Windows, put}
@@ -34,8 +34,8 @@ both true false h k = k
 both false t h k = h
 
 -- attributes of the six are known
-pub known-either : (a b : ℕ) → a < 64 → b < 64 → known (bit_or a b) ≡ bit_or a b
-known-either a b h k =
+pub valid_attributes-either : (a b : ℕ) → a < 64 → b < 64 → valid_attributes (bit_or a b) ≡ bit_or a b
+valid_attributes-either a b h k =
     let small : bit_or a b < 2 ^ 6 = or_lt 6 a b h k in
     and_mask (bit_or a b) 6 ∙ omega arith
 
@@ -128,9 +128,9 @@ some-of false cell v e = cc
 pub written-is : (settings : Settings) (character shown attributes pair : ℕ) (t : Bool) (cell : Glyph) → bits_of settings.attrs < 64 → settings.background.attributes < 64
     → shown ≡ (if character == 32 then settings.background.character else character) → attributes ≡ bit_or (bits_of settings.attrs) settings.background.attributes
     → pair ≡ (if settings.pair == 0 then settings.background.pair else settings.pair)
-    → (let o : Option Glyph = if t then Some (record { character = shown; attributes = known attributes; pair = 0 }) else None in Some cell ≡ o)
+    → (let o : Option Glyph = if t then Some (record { character = shown; attributes = valid_attributes attributes; pair = 0 }) else None in Some cell ≡ o)
     → record cell { pair = pair } ≡ written_glyph settings character
 written-is settings character shown attributes pair t cell few small shown_is attributes_are pair_is e =
-    let together = ap known attributes_are ∙ known-either (bits_of settings.attrs) settings.background.attributes few small in
-    let made = some-of t cell (record { character = shown; attributes = known attributes; pair = 0 }) e in
+    let together = ap valid_attributes attributes_are ∙ valid_attributes-either (bits_of settings.attrs) settings.background.attributes few small in
+    let made = some-of t cell (record { character = shown; attributes = valid_attributes attributes; pair = 0 }) e in
     ap (λ (g : Glyph). record g { pair = pair }) made ∙ (λ i. record { character = shown_is i; attributes = together i; pair = pair_is i })

@@ -1,14 +1,14 @@
 -- The settings of a window.
 -- X/Open Curses Issue 7: move, attrset, bkgdset, setscrreg, scrollok, clearok.
 use Rattle.std.specs.Prelude.{ℕ}
-use Rattle.cell.specs.Attributes.{bits_of, known}
+use Rattle.cell.specs.Attributes.{bits_of, valid_attributes}
 use Rattle.cell.specs.Pictures.{Place}
 use Rattle.world.specs.Windows.{Window, Windows, changed}
 use Rattle.world.specs.declared.settings.Settings.{Settings}
 
 -- other settings, without bits beyond the six attributes
 abbrev pub with_settings : Settings → Window → Window
-with_settings settings a = record a { settings = record settings { attrs = record { 0 = known (bits_of settings.attrs) } } }
+with_settings settings a = record a { settings = record settings { attrs = record { 0 = valid_attributes (bits_of settings.attrs) } } }
 
 abbrev pub after_set_settings : Windows → ℕ → Settings → Windows
 after_set_settings windows w settings = record windows { window = changed windows.window w (with_settings settings) }

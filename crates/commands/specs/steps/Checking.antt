@@ -4,7 +4,7 @@ use Rattle.std.specs.List.{flat_map}
 use Rattle.streams.specs.Sinks.{Seen}
 use Rattle.streams.specs.Sources.{SourceSeen}
 use Rattle.explain.specs.Explanations.{finding}
-use Rattle.script.specs.Readings.{said_by_line}
+use Rattle.script.specs.Readings.{parse_line}
 use Rattle.script.specs.declared.bytes.LineEnd.{LineEnd}
 use Rattle.script.specs.declared.bytes.LineEnd.TheVariants.{Newline, ScriptEnd, ReadFailed}
 use Rattle.script.specs.declared.fault.TextFault.TheVariants.{LineTooLong}
@@ -18,8 +18,8 @@ use Rattle.commands.specs.steps.Putting.{PuttingEnds}
 abbrev pub finding_of_read : ℕ → List ℕ → Bool → LineEnd → List (List ℕ)
 finding_of_read number line false end = finding number LineTooLong [] ∷ []
 finding_of_read number line true ReadFailed = []
-finding_of_read number line true Newline = finding_of number line (said_by_line line)
-finding_of_read number line true ScriptEnd = finding_of number line (said_by_line line)
+finding_of_read number line true Newline = finding_of number line (parse_line line)
+finding_of_read number line true ScriptEnd = finding_of number line (parse_line line)
 
 -- These lines were written, all of them or a prefix, and counted.
 pub record IsReported (old new : Seen) (report : Report) (lines : List (List ℕ)) : Type 0 where

@@ -1,6 +1,6 @@
 -- What reading a stream into a terminal does: definitions for the contracts of single steps.
 use Rattle.std.specs.Prelude.{◌≡◌, ◌⊎◌, ℕ, Bool, List, Option, Some, None}
-use Rattle.ecma.specs.Standing.{Follows, Reader}
+use Rattle.ecma.specs.Readers.{Follows, Reader}
 use Rattle.ecma.specs.declared.terminal.NotInProfile.{NotInProfile}
 use Rattle.streams.specs.Sinks.{Seen}
 use Rattle.streams.specs.Sources.{SourceSeen}
@@ -14,7 +14,7 @@ pub record Feeds (old new : SourceSeen) (before after : Reader) (is_whole : Bool
   pub follows : Follows stream before after
 
 -- The log gets a line about the terminal's fault, if it has one.
-abbrev pub TellsFault : Option NotInProfile → Seen → Seen → ℕ → Type 0
-TellsFault None log told status = (status ≡ 0) × (told ≡ log)
-TellsFault (Some fault) log told status =
-    ((status ≡ 1) × IsWritten log told (offset_line fault.at)) ⊎ ((status ≡ 3) × IsNotWritten log told (offset_line fault.at))
+abbrev pub LogsFault : Option NotInProfile → Seen → Seen → ℕ → Type 0
+LogsFault None log log_after status = (status ≡ 0) × (log_after ≡ log)
+LogsFault (Some fault) log log_after status =
+    ((status ≡ 1) × IsWritten log log_after (offset_line fault.at)) ⊎ ((status ≡ 3) × IsNotWritten log log_after (offset_line fault.at))

@@ -6,7 +6,7 @@ use Rattle.world.specs.declared.call.Reply.{Reply}
 use Rattle.desk.specs.declared.screen.Fault.{Fault}
 use Rattle.desk.specs.declared.screen.Fault.TheVariants.{Refused, Write}
 
-abbrev pub joined : Result (Result Reply Refusal) WriteFault → Result Reply Fault
-joined (Ok (Ok reply)) = Ok reply
-joined (Ok (Err refusal)) = Err (Refused refusal)
-joined (Err fault) = Err (Write fault)
+abbrev pub call_end : Result (Result Reply Refusal) WriteFault → Result Reply Fault
+call_end (Ok (Ok reply)) = Ok reply
+call_end (Ok (Err refusal)) = Err (Refused refusal)
+call_end (Err fault) = Err (Write fault)

@@ -4,15 +4,15 @@ use Rattle.streams.specs.Sinks.{Seen}
 use Rattle.streams.specs.Sending.{Sends}
 use Rattle.paint.specs.declared.outbox.Outbox.{Outbox}
 
--- a number of bytes is counted up to the greatest of 32 bits
-abbrev pub counted_bytes : ℕ → ℕ
-counted_bytes n = min n (2 ^ 32 - 1)
+-- a number of bytes as it is kept: it stays at the greatest number of 32 bits
+abbrev pub saturating_u32 : ℕ → ℕ
+saturating_u32 n = min n (2 ^ 32 - 1)
 
 -- A prefix of the text went out, and the rest is in the buffer; or a write failed somewhere in it.
 abbrev pub GoesOut : Bool → Seen → Seen → List ℕ → ℕ → List ℕ → Type 0
 GoesOut false start now room sent text =
-    (front : List ℕ) × (text ≡ front ++ room) × (sent ≡ counted_bytes (length front)) × Sends start now 0 front (Ok (length front))
-GoesOut true start now room sent text = (taken : ℕ) × (sent ≡ counted_bytes taken) × Sends start now 0 text (Err (record { sent = taken }))
+    (prefix : List ℕ) × (text ≡ prefix ++ room) × (sent ≡ saturating_u32 (length prefix)) × Sends start now 0 prefix (Ok (length prefix))
+GoesOut true start now room sent text = (taken : ℕ) × (sent ≡ saturating_u32 taken) × Sends start now 0 text (Err (record { sent = taken }))
 
 -- The text was gathered: the sink was seen as `start` when it began, and is seen as `now`.
 pub record IsGathered (start now : Seen) (outbox : Outbox) (text : List ℕ) : Type 0 where

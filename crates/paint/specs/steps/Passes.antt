@@ -13,16 +13,16 @@ pass_of [] rendition = 0
 pass_of (first ∷ order) rendition = if same_rendition first rendition then 0 else 1 + pass_of order rendition
 
 -- a line whose cells are the wanted ones, where their renditions are chosen, and else those that are shown
-abbrev pub chosen : (Rendition → Bool) → List Shown → List Shown → List Shown
-chosen is_chosen [] wanted = []
-chosen is_chosen (a ∷ shown) [] = []
-chosen is_chosen (a ∷ shown) (b ∷ wanted) = (if is_chosen b.rendition then b else a) ∷ chosen is_chosen shown wanted
+abbrev pub choose : (Rendition → Bool) → List Shown → List Shown → List Shown
+choose is_chosen [] wanted = []
+choose is_chosen (a ∷ shown) [] = []
+choose is_chosen (a ∷ shown) (b ∷ wanted) = (if is_chosen b.rendition then b else a) ∷ choose is_chosen shown wanted
 
 -- a picture of such lines
-abbrev pub chosen_lines : (Rendition → Bool) → Picture → Picture → Picture
-chosen_lines is_chosen [] wanted = []
-chosen_lines is_chosen (line ∷ shown) [] = []
-chosen_lines is_chosen (line ∷ shown) (other ∷ wanted) = chosen is_chosen line other ∷ chosen_lines is_chosen shown wanted
+abbrev pub choose_lines : (Rendition → Bool) → Picture → Picture → Picture
+choose_lines is_chosen [] wanted = []
+choose_lines is_chosen (line ∷ shown) [] = []
+choose_lines is_chosen (line ∷ shown) (other ∷ wanted) = choose is_chosen line other ∷ choose_lines is_chosen shown wanted
 
 -- one of the first passes draws it
 abbrev pub is_drawn : List Rendition → ℕ → Rendition → Bool
@@ -30,10 +30,10 @@ is_drawn order passes rendition = nat_lt (pass_of order rendition) passes
 
 -- a line, and a picture, after the first passes
 abbrev pub line_after : List Rendition → ℕ → List Shown → List Shown → List Shown
-line_after order passes shown wanted = chosen (is_drawn order passes) shown wanted
+line_after order passes shown wanted = choose (is_drawn order passes) shown wanted
 
 abbrev pub picture_after : List Rendition → ℕ → Picture → Picture → Picture
-picture_after order passes shown wanted = chosen_lines (is_drawn order passes) shown wanted
+picture_after order passes shown wanted = choose_lines (is_drawn order passes) shown wanted
 
 -- The first passes were made, and what is left may still cost the rest.
 pub record ArePassed (before now : Seen) (old pen : Pen) (order : List Rendition) (passes : ℕ) (shown wanted : Picture) : Type 0 where

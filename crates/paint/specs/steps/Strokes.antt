@@ -29,8 +29,8 @@ unfoldable pub move_from : Option Place → Place → List ℕ
 move_from cursor place = if is_at cursor place then [] else spelling (Cup place.0 place.1)
 
 -- one column to the right; after the last column the cursor is unknown
-abbrev pub behind : ℕ → Place → Option Place
-behind columns place = if nat_lt (place.1 + 1) columns then Some (place.0, place.1 + 1) else None
+abbrev pub cursor_after : ℕ → Place → Option Place
+cursor_after columns place = if nat_lt (place.1 + 1) columns then Some (place.0, place.1 + 1) else None
 
 -- a place of a line, if it has the column
 abbrev pub within : ℕ → Place → Option Place

@@ -10,22 +10,22 @@ use Rattle.paint.specs.Changes.{is_in}
 use Rattle.paint.specs.steps.Strokes.{Strokes, line_bytes, picture_bytes}
 
 -- a list whose first items are those of another one
-abbrev pub mixed : {A : Type 0} → ℕ → List A → List A → List A
-mixed x new old = take x new ++ drop x old
+abbrev pub with_prefix : {A : Type 0} → ℕ → List A → List A → List A
+with_prefix x new old = take x new ++ drop x old
 
 -- The cells before a column are the wanted ones, and those from it on may still cost what is left.
 pub record IsLinePainted (before now : Seen) (old pen : Pen) (line x : ℕ) (shown wanted : List Shown) : Type 0 where
   pub spent : ℕ
   pub within : spent + line_bytes (drop x shown) (drop x wanted) ≤ line_bytes shown wanted
   pub strokes : (picture : Picture) → line < length picture → line_of picture line ≡ shown
-      → Strokes spent before now old pen picture (slice_set picture line (mixed x wanted shown))
+      → Strokes spent before now old pen picture (slice_set picture line (with_prefix x wanted shown))
   pub columns : pen.columns ≡ old.columns
 
 -- The lines before this one are the wanted ones, and those from it on may still cost what is left.
 pub record IsPicturePainted (before now : Seen) (old pen : Pen) (line : ℕ) (shown wanted : Picture) : Type 0 where
   pub spent : ℕ
   pub within : spent + picture_bytes (drop line shown) (drop line wanted) ≤ picture_bytes shown wanted
-  pub strokes : Strokes spent before now old pen shown (mixed line wanted shown)
+  pub strokes : Strokes spent before now old pen shown (with_prefix line wanted shown)
   pub columns : pen.columns ≡ old.columns
 
 -- these cells are blank
@@ -42,7 +42,7 @@ pub record IsReadyToErase (most : ℕ) (before now : Seen) (old pen : Pen) (line
   pub spent : ℕ
   pub within : spent + 4 ≤ most
   pub strokes : (picture : Picture) → line < length picture → line_of picture line ≡ shown
-      → Strokes spent before now old pen picture (slice_set picture line (mixed reached wanted shown))
+      → Strokes spent before now old pen picture (slice_set picture line (with_prefix reached wanted shown))
   pub cursor : pen.cursor ≡ Some (line, column)
   pub rendition : pen.rendition ≡ no_rendition
   pub columns : pen.columns ≡ old.columns

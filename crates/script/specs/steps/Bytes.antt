@@ -5,7 +5,7 @@ use Rattle.std.specs.Io.KnownBytes.{Consumes, IsAtEnd}
 use Rattle.script.specs.Characters.{is_newline, newline}
 use Rattle.script.specs.declared.bytes.TheConstants.{LONGEST_PIECE}
 use Rattle.script.specs.declared.limits.TheConstants.{LONGEST_LINE}
-use Rattle.streams.specs.Counts.{counted}
+use Rattle.streams.specs.Counts.{count_after}
 use Rattle.streams.specs.Sources.{SourceSeen}
 use Rattle.script.specs.declared.bytes.LineEnd.{LineEnd}
 use Rattle.script.specs.declared.bytes.LineEnd.TheVariants.{Newline, ScriptEnd, ReadFailed}
@@ -39,7 +39,7 @@ work_left seen unused = (LONGEST_PIECE + 1) * seen.reads_left + length unused
 pub record ReadingEnds (old new : SourceSeen) (unused left : List ℕ) (meets_end fails continues : Bool) : Type 0 where
   pub ended : new.met_end ≡ (meets_end || old.met_end)
   pub past : old.met_end ≡ false → new.read_past_end ≡ old.read_past_end
-  pub failures : new.failures ≡ counted fails old.failures
+  pub failures : new.failures ≡ count_after fails old.failures
   pub progress : continues ≡ true → work_left new left < work_left old unused
 
 -- the line that was read last, and the bytes after it that were read

@@ -5,7 +5,7 @@ use Rattle.std.specs.Borrow.{Bor}
 use Rattle.script.specs.Characters.{is_space}
 use Rattle.script.specs.Pieces.{pieces_of}
 use Rattle.script.specs.Readings.{arguments}
-use Rattle.script.specs.Texts.{said}
+use Rattle.script.specs.Texts.{parse_argument}
 use Rattle.script.specs.Words.{Arguments, entry_of}
 use Rattle.script.specs.declared.words.Form.{Form}
 use Rattle.world.specs.declared.call.Call.{Call}
@@ -24,5 +24,5 @@ pub record IsFirst (form : Form) (text piece : List ℕ) (left : List (List ℕ)
 
 -- The first argument was taken and what follows it is left, or it lacks its form.
 abbrev pub TakesFirst : Form → List ℕ → Arguments → Arguments → Option (Option (Bor (List ℕ))) → Type 0
-TakesFirst form text old new None = (piece : List ℕ) × (left : List (List ℕ)) × IsFirst form text piece left × (said form piece old ≡ None)
-TakesFirst form text old new (Some after) = (piece : List ℕ) × IsFirst form text piece (pieces_of after) × (said form piece old ≡ Some new)
+TakesFirst form text old new None = (piece : List ℕ) × (left : List (List ℕ)) × IsFirst form text piece left × (parse_argument form piece old ≡ None)
+TakesFirst form text old new (Some after) = (piece : List ℕ) × IsFirst form text piece (pieces_of after) × (parse_argument form piece old ≡ Some new)

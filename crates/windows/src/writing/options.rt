@@ -72,7 +72,7 @@ impl Windows {
     {
         let state = state_of(&self.table, win)?;
         let settings = Settings {
-            attrs: state.settings.attrs.union(attrs.known()),
+            attrs: state.settings.attrs.union(attrs.valid_attributes()),
             ..state.settings
         };
         self.table.set_settings(win, settings);
@@ -88,7 +88,7 @@ impl Windows {
     {
         let state = state_of(&self.table, win)?;
         let settings = Settings {
-            attrs: state.settings.attrs.difference(attrs.known()),
+            attrs: state.settings.attrs.difference(attrs.valid_attributes()),
             ..state.settings
         };
         self.table.set_settings(win, settings);

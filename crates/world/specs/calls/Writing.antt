@@ -5,7 +5,7 @@ use Rattle.std.specs.Prelude.{ℕ, zero, suc, ℤ, pos, negsuc, ◌-◌, Bool, t
 use Rattle.std.specs.List.{list_any}
 use Rattle.std.specs.Option.{option_map_or}
 use Rattle.std.specs.Int.RustNames.{bit_or}
-use Rattle.cell.specs.Attributes.{bits_of, known, without}
+use Rattle.cell.specs.Attributes.{bits_of, valid_attributes, without}
 use Rattle.cell.specs.Glyphs.{Glyph, is_printable}
 use Rattle.cell.specs.Pictures.{origin}
 use Rattle.cell.specs.Refusals.{first_of}
@@ -81,7 +81,7 @@ with_background glyph settings = record settings { background = glyph }
 
 -- of pair 0
 abbrev pub with_new_background : ℕ → ℕ → Settings → Settings
-with_new_background attributes character = with_background (record { character = character; attributes = known attributes; pair = 0 })
+with_new_background attributes character = with_background (record { character = character; attributes = valid_attributes attributes; pair = 0 })
 
 -- the background's pair alone
 abbrev pub with_background_pair : ℕ → Settings → Settings
@@ -149,9 +149,11 @@ writing_edit windows (Scrl win n) = draws win.0 (scrl_drawing windows.window win
 writing_edit windows (Setscrreg win top bottom) = sets win.0 (with_region top bottom)
 writing_edit windows (Scrollok win flag) = sets win.0 (with_scrolling flag)
 writing_edit windows (Clearok win flag) = sets win.0 (with_clear flag)
-writing_edit windows (Attrset win attributes) = sets win.0 (with_attributes (known (bits_of attributes)))
-writing_edit windows (Attron win attributes) = sets win.0 (λ settings. with_attributes (bit_or (bits_of settings.attrs) (known (bits_of attributes))) settings)
-writing_edit windows (Attroff win attributes) = sets win.0 (λ settings. with_attributes (without (bits_of settings.attrs) (known (bits_of attributes))) settings)
+writing_edit windows (Attrset win attributes) = sets win.0 (with_attributes (valid_attributes (bits_of attributes)))
+writing_edit windows (Attron win attributes) =
+    sets win.0 (λ settings. with_attributes (bit_or (bits_of settings.attrs) (valid_attributes (bits_of attributes))) settings)
+writing_edit windows (Attroff win attributes) =
+    sets win.0 (λ settings. with_attributes (without (bits_of settings.attrs) (valid_attributes (bits_of attributes))) settings)
 writing_edit windows (Bkgdset win attributes character) = sets win.0 (with_new_background (bits_of attributes) character)
 writing_edit windows (ColorSet win pair) = sets win.0 (with_pair pair)
 writing_edit windows (Bkgdpair win pair) = sets win.0 (with_background_pair pair)

@@ -5,7 +5,7 @@ use Rattle.clap.proofs.FaultLemmas.{failed_up}
 use Rattle.clap.specs.Words.{fault_of}
 use Rattle.commands.specs.CommandLine.{AsksCheckIn, AsksIn, curspan}
 use Rattle.commands.proofs.JobLemmas.{kinds_of_curspan, no_fault_of_curspan, subcommand_of_curspan}
-use Rattle.commands.proofs.TakenLemmas.{asked_sizes, nothing_else}
+use Rattle.commands.proofs.TakenLemmas.{sizes_of_job, nothing_else}
 use Rattle.commands.proofs.command.job.Goals as goal
 
 pub returns-in_err-matches-clause-faults : goal.returns-in_err-matches-clause-faults
@@ -32,7 +32,7 @@ returns-in-Some-clause-job g c =
     let words = map g.S.AsStr.text c.args.words.now in
     let app = c.in_ok-command.ensures in
     let same = subcommand_of_curspan _ words c.in_ok-matches.matches app c.in_ok-matches.ensures.ok.2 in
-    asked_sizes words c.in-Some.job (no_fault_of_curspan _ words app c.in_ok-matches.ensures.kinds) (subst (λ s. AsksIn s c.in-Some.job) same c.in-Some.ensures)
+    sizes_of_job words c.in-Some.job (no_fault_of_curspan _ words app c.in_ok-matches.ensures.kinds) (subst (λ s. AsksIn s c.in-Some.job) same c.in-Some.ensures)
 
 pub returns-clause-faults : goal.returns-clause-faults
 returns-clause-faults g c =

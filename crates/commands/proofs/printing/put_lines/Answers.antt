@@ -3,7 +3,7 @@ use Rattle.std.proofs.Common.{◌<◌, length, refl, arith}
 use Rattle.cell.specs.Pictures.{line_of}
 use Rattle.commands.specs.Printing.{line_text}
 use Rattle.commands.proofs.PictureTexts.{lines_around, lines_through}
-use Rattle.commands.proofs.PutLemmas.{cut_before, nothing_put, put_behind}
+use Rattle.commands.proofs.PutLemmas.{cut_before, nothing_put, put_after}
 use Rattle.commands.proofs.printing.put_lines.Goals as goal
 
 pub loop-y-init : goal.loop-y-init
@@ -14,11 +14,11 @@ loop-y-preserved g c =
     let picture = c.args.picture.now in
     let inside : c.loop-y.y < length picture = omega (arith, c.loop-y-test.true, c.requires.lines) in
     let line = rw (c.as_slice.ensures.value, c.line_text.ensures, c.row.ensures.row, c.from.ensures, c.if-not-put.false) at c.put.ensures in
-    rw (lines_through picture c.loop-y.y inside) (put_behind _ _ _ _ (line_text (line_of picture c.loop-y.y)) _ _ c.loop-y.invariant refl line)
+    rw (lines_through picture c.loop-y.y inside) (put_after _ _ _ _ (line_text (line_of picture c.loop-y.y)) _ _ c.loop-y.invariant refl line)
 
 pub returns-then-not-put : goal.returns-then-not-put
 returns-then-not-put g c =
     let picture = c.args.picture.now in
     let inside : c.loop-y.y < length picture = omega (arith, c.loop-y-test.true, c.requires.lines) in
     let line = rw (c.as_slice.ensures.value, c.line_text.ensures, c.row.ensures.row, c.from.ensures) at c.put.ensures in
-    rw (lines_around picture c.loop-y.y inside) (cut_before _ _ _ _ _ (put_behind _ _ _ _ (line_text (line_of picture c.loop-y.y)) _ _ c.loop-y.invariant refl line) c.if-not-put.true)
+    rw (lines_around picture c.loop-y.y inside) (cut_before _ _ _ _ _ (put_after _ _ _ _ (line_text (line_of picture c.loop-y.y)) _ _ c.loop-y.invariant refl line) c.if-not-put.true)

@@ -1,6 +1,6 @@
 -- `show`: lemmas of std alone.
 use Rattle.std.proofs.Common.{false, inr, refl}
-use Rattle.ecma.specs.Standing.{blank_terminal}
+use Rattle.ecma.specs.Readers.{blank_terminal}
 use Rattle.commands.proofs.show.show_stream.Goals as goal
 
 pub returns-then-not-read_stream-clause-shown : goal.returns-then-not-read_stream-clause-shown
@@ -10,5 +10,5 @@ returns-then-not-read_stream-clause-shown g c =
       is_whole = false;
       reads = rw c.if-not-read_stream.true at c.read_stream.ensures.reads;
       last = blank_terminal c.args.job.lines c.args.job.cols;
-      ends = (c.tell_failure.ensures.status, refl, c.tell_failure.ensures.told);
+      ends = (c.log_failure.ensures.status, refl, c.log_failure.ensures.logs);
     })

@@ -4,7 +4,7 @@ use Rattle.std.proofs.Common.{◌≡◌, ◌+◌, ◌-◌, arith, refl, subst, s
 use Rattle.world.specs.Windows.{Drawing, cell_at}
 use Rattle.world.specs.calls.Refresh.{touched_cells}
 use Rattle.grids.specs.Tables.{windows}
-use Rattle.picture.proofs.Standing.{stands-at}
+use Rattle.picture.proofs.Placement.{placed_at}
 use Rattle.compose.proofs.RefreshedLines.{bare-above, bare-below, bare-untouched, piece-touched, touched-inside}
 use Rattle.compose.proofs.Touching.{DamagedAbove, above-all, above-bare, above-more, above-none}
 use Rattle.compose.proofs.damaging.damage_touched.Goals.{in-Some, in_default-touched}
@@ -14,7 +14,7 @@ pub loop-y-init : goal.loop-y-init
 loop-y-init c =
     let a = c.args in
     let ws = windows a.table.now in
-    let stands = stands-at ws a.win.0 (a.top, a.left) c.in-Ok.lines c.in-Ok.field-0-1 c.requires.windows c.requires.place c.in-Ok.ensures.answer in
+    let stands = placed_at ws a.win.0 (a.top, a.left) c.in-Ok.lines c.in-Ok.field-0-1 c.requires.windows c.requires.place c.in-Ok.ensures.answer in
     record {
       height = c.requires.height;
       above = above-none ws.columns (touched_cells ws.window a.win.0) a.damage.now (a.top + 0) (λ v before. bare-above ws a.win.0 (a.top, a.left) c.in-Ok.lines stands v (omega (arith, before)));
@@ -24,7 +24,7 @@ pub returns : goal.returns
 returns c =
     let a = c.args in
     let ws = windows a.table.now in
-    let stands = stands-at ws a.win.0 (a.top, a.left) c.in-Ok.lines c.in-Ok.field-0-1 c.requires.windows c.requires.place c.in-Ok.ensures.answer in
+    let stands = placed_at ws a.win.0 (a.top, a.left) c.in-Ok.lines c.in-Ok.field-0-1 c.requires.windows c.requires.place c.in-Ok.ensures.answer in
     record {
       damaged = above-all ws.columns (touched_cells ws.window a.win.0) a.damage.now (a.top + c.loop-y.y) c.loop-y.damage c.loop-y.invariant.above
           (λ v from. bare-below ws a.win.0 (a.top, a.left) c.in-Ok.lines stands v (let end = c.loop-y-test.false in omega (arith, from, end)));
@@ -36,7 +36,7 @@ loop-y-preserved c =
     let ws = windows a.table.now in
     let w = a.win.0 in
     let y = c.loop-y.y in
-    let stands = stands-at ws w (a.top, a.left) c.in-Ok.lines c.in-Ok.field-0-1 c.requires.windows c.requires.place c.in-Ok.ensures.answer in
+    let stands = placed_at ws w (a.top, a.left) c.in-Ok.lines c.in-Ok.field-0-1 c.requires.windows c.requires.place c.in-Ok.ensures.answer in
     let f : Drawing = touched_cells ws.window w in
     let next : a.top + y + 1 ≡ a.top + (y + 1) = omega arith in
     record {

@@ -4,7 +4,7 @@ use Rattle.std.proofs.Common.{◌≡◌, ◌+◌, ◌-◌, arith, subst, sym}
 use Rattle.world.specs.Windows.{Drawing, cell_at}
 use Rattle.world.specs.calls.Refresh.{touched_cells}
 use Rattle.grids.specs.Tables.{windows}
-use Rattle.picture.proofs.Standing.{stands-at}
+use Rattle.picture.proofs.Placement.{placed_at}
 use Rattle.compose.proofs.Laying.{LaidAbove, laid-all, laid-bare, laid-more}
 use Rattle.compose.proofs.RefreshedLines.{bare-below, bare-untouched, piece-touched}
 use Rattle.compose.proofs.refresh.show_touched.Goals.{in-Some, in_default-touched}
@@ -17,7 +17,7 @@ loop-y-preserved c =
     let ws = windows table in
     let w = a.win.0 in
     let y = c.loop-y.y in
-    let stands = stands-at ws w (a.top, a.left) c.in-Ok.lines c.in-Ok.field-0-1 c.requires.windows c.requires.place c.in-Ok.ensures.answer in
+    let stands = placed_at ws w (a.top, a.left) c.in-Ok.lines c.in-Ok.field-0-1 c.requires.windows c.requires.place c.in-Ok.ensures.answer in
     let f : Drawing = touched_cells ws.window w in
     let next : a.top + y + 1 ≡ a.top + (y + 1) = omega arith in
     subst (λ n. LaidAbove a.pairs.now f table.lines table.columns a.picture.now n c.match-touched.picture) next
@@ -40,6 +40,6 @@ returns-clause-shown c =
     let table = a.table.now in
     let ws = windows table in
     let w = a.win.0 in
-    let stands = stands-at ws w (a.top, a.left) c.in-Ok.lines c.in-Ok.field-0-1 c.requires.windows c.requires.place c.in-Ok.ensures.answer in
+    let stands = placed_at ws w (a.top, a.left) c.in-Ok.lines c.in-Ok.field-0-1 c.requires.windows c.requires.place c.in-Ok.ensures.answer in
     laid-all a.pairs.now (touched_cells ws.window w) table.lines table.columns a.picture.now (a.top + c.loop-y.y) c.loop-y.picture c.loop-y.invariant
     (λ v from below. bare-below ws w (a.top, a.left) c.in-Ok.lines stands v (omega arith))

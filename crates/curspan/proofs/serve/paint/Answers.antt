@@ -8,7 +8,7 @@ returns-in-Ok-clause-painted g c =
     inr (record {
       last = painted.last;
       end = painted.end;
-      told = painted.told;
+      log_after = painted.log_after;
       script = record {
         first = c.in-Ok.screen;
         blank = c.in-Ok.ensures.world;

@@ -4,7 +4,7 @@ use Rattle.std.proofs.lemmas.Bool.{cases_lt}
 use Rattle.cell.specs.Pictures.{shown_at}
 use Rattle.world.specs.World.{picture}
 use Rattle.compose.specs.Desks.{world}
-use Rattle.paint.specs.Changes.{joined, may_change, stretch_of}
+use Rattle.paint.specs.Changes.{join, may_change, stretch_of}
 use Rattle.paint.proofs.Changed.{not-before}
 use Rattle.desk.proofs.Widening.{no-wider, wider}
 use Rattle.desk.proofs.changing.widen_damaged.Goals.{in-Some, in_default}
@@ -27,7 +27,7 @@ loop-y-preserved c =
     let desk = c.args.desk.now in
     let now = c.match-damaged.changes in
     let height : length now ≡ length c.args.changes.now = elim c.match-damaged.branch [
-      | in-Some w ↦ rw (w.changes-is, w.widen.ensures) (length-set c.loop-y.changes y (joined (stretch_of c.loop-y.changes y) w.stretch.result) ∙ h.height)
+      | in-Some w ↦ rw (w.changes-is, w.widen.ensures) (length-set c.loop-y.changes y (join (stretch_of c.loop-y.changes y) w.stretch.result) ∙ h.height)
       | in_default w ↦ rw w.changes-is h.height
     ] in
     let keeps : (v u : ℕ) → may_change now v u ≡ false → may_change c.args.changes.now v u ≡ false = elim c.match-damaged.branch [

@@ -1,6 +1,6 @@
 -- `widen_rectangle`: in which columns calls change the virtual screen (`Widening`).
 use Rattle.std.proofs.Common.{◌≡◌, ◌+◌, min, ◌<◌, ◌≤◌, ◌∙◌, false, length, length-set, refl, ap, arith}
-use Rattle.paint.specs.Changes.{is_in, joined, stretch_of}
+use Rattle.paint.specs.Changes.{is_in, join, stretch_of}
 use Rattle.paint.specs.declared.changes.Stretch.{Stretch}
 use Rattle.paint.proofs.Changed.{not-before}
 use Rattle.desk.proofs.Widening.{beside, wider}
@@ -12,7 +12,7 @@ loop-y-preserved c =
     let y = c.loop-y.y in
     let changes = c.loop-y.changes in
     let s : Stretch = record { start = c.args.frame.left; end = c.saturating_add.result } in
-    let long = length-set changes y (joined (stretch_of changes y) s) in
+    let long = length-set changes y (join (stretch_of changes y) s) in
     rw c.widen.ensures (record {
       height = long ∙ h.height;
       keeps = λ v u none. h.keeps v u (not-before changes y s v u none);

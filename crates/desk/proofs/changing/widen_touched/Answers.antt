@@ -2,7 +2,7 @@
 use Rattle.std.proofs.Common.{◌≡◌, ◌+◌, ◌-◌, ◌<◌, ◌∙◌, min, None, length, length-set, sym, ap, arith}
 use Rattle.world.specs.calls.Refresh.{among, touched_cells}
 use Rattle.grids.specs.Tables.{windows}
-use Rattle.paint.specs.Changes.{joined, stretch_of}
+use Rattle.paint.specs.Changes.{join, stretch_of}
 use Rattle.paint.proofs.Changed.{not-before}
 use Rattle.desk.proofs.Widening.{no-wider, untouched, wider}
 use Rattle.desk.proofs.changing.widen_touched.Goals.{in-Some, in_default-touched}
@@ -22,7 +22,7 @@ loop-y-preserved c =
           let s = b.stretch.result in
           let n = b.saturating_add.result in
           let sum : n ≡ min (top + y) 65535 = b.saturating_add.ensures in
-          let long = length-set changes n (joined (stretch_of changes n) s) in
+          let long = length-set changes n (join (stretch_of changes n) s) in
           rw (b.changes-is, b.widen.ensures) (record {
             height = long ∙ h.height;
             keeps = λ v u none. h.keeps v u (not-before changes n s v u none);

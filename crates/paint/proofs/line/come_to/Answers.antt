@@ -11,12 +11,12 @@ approach-requires-clause-inside g c =
     omega (arith, gap-ends c.min-start.result c.args.column c.args.wanted.now ordered (omega arith))
 
 pub returns-clause-strokes : goal.returns-clause-strokes
-returns-clause-strokes g c = λ picture wide front.
+returns-clause-strokes g c = λ picture wide prefix.
     let x = c.args.column in
     let wanted = c.args.wanted.now in
     let start = c.min-start.result in
     let ordered : start ≤ x = omega (arith, c.min-start.ensures) in
-    let gap = gap-before start x wanted _ ordered (omega arith) front in
+    let gap = gap-before start x wanted _ ordered (omega arith) prefix in
     subst (λ s. Strokes (approach_bytes c.args.pen.now.cursor c.args.pen.now.rendition (c.args.line, s) (take (x - s) (drop s wanted)) no_rendition) (g.W.Sink.seen c.args.sink.now)
     (g.W.Sink.seen c.approach.new.sink) c.args.pen.now c.approach.new.pen picture picture) c.min-start.ensures
     (c.approach.ensures.strokes picture wide gap.shown)

@@ -64,8 +64,8 @@ loop-x-preserved g c =
     let within : stop ≤ c.args.end = c.run_end-stop.ensures.within in
     let long : length cells ≡ stop - x = length-take-le (stop - x) (drop x wanted) (omega (arith, length-drop x wanted, within, c.requires.inside)) in
     let end : x + length cells ≡ stop = omega (arith, long, some) in
-    let strokes = λ (picture : Picture) (wide : length (line_of picture c.args.line) ≡ c.loop-x.pen.columns) (front : take x (line_of picture c.args.line) ≡ take x wanted).
-    let gap = gap-before c.loop-x.gap x wanted (line_of picture c.args.line) c.loop-x.invariant.gap (omega (arith, c.loop-x-test.true, c.requires.inside)) front in
+    let strokes = λ (picture : Picture) (wide : length (line_of picture c.args.line) ≡ c.loop-x.pen.columns) (prefix : take x (line_of picture c.args.line) ≡ take x wanted).
+    let gap = gap-before c.loop-x.gap x wanted (line_of picture c.args.line) c.loop-x.invariant.gap (omega (arith, c.loop-x-test.true, c.requires.inside)) prefix in
     subst (λ at. Strokes (run_bytes cells) (g.W.Sink.seen c.loop-x.sink) (g.W.Sink.seen c.paint_run.new.sink) c.loop-x.pen c.paint_run.new.pen picture
     (with_cells picture (c.args.line, at) cells)) gap.end (c.paint_run.ensures.strokes picture wide gap.shown) in
     record {

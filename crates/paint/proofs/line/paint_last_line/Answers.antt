@@ -5,7 +5,7 @@ use Rattle.cell.specs.Shown.{shown_blank}
 use Rattle.paint.specs.steps.Walks.{AreBlank}
 use Rattle.paint.proofs.Strokes.{reach-most}
 use Rattle.paint.proofs.Tails.{kept-later}
-use Rattle.paint.proofs.Walks.{line-begun, line-ready, line-stands, ready-more}
+use Rattle.paint.proofs.Walks.{line-begun, line-ready, line-at_cursor, ready-more}
 use Rattle.paint.proofs.line.paint_last_line.Goals as goal
 
 pub returns-in-Some-clause-ready : goal.returns-in-Some-clause-ready
@@ -29,5 +29,5 @@ returns-in_ok-column-in-None-clause-ready g c =
     let wanted = c.args.wanted.now in
     let same : length c.args.shown.now ≡ length wanted = c.requires.shown ∙ sym c.requires.wanted in
     let blank : AreBlank (drop column wanted) = kept-later (λ _. shown_blank) c.tail_start-tail.result column wanted c.in_ok-column-in-None.ensures.1 c.tail_start-tail.ensures.blank in
-    line-stands same c.paint_line.ensures.strokes c.paint_line.ensures.columns blank c.in_ok-column-in-None.ensures.2 c.select.ensures.draws
+    line-at_cursor same c.paint_line.ensures.strokes c.paint_line.ensures.columns blank c.in_ok-column-in-None.ensures.2 c.select.ensures.draws
     (c.select.ensures.cursor ∙ c.in_ok-column-in-None.ensures.0) c.select.ensures.rendition c.select.ensures.columns

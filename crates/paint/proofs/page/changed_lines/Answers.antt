@@ -1,7 +1,7 @@
 -- `changed_lines`: pictures that differ in some columns only (`Alike`); columns in which a picture may differ from another (`Changed`).
 use Rattle.std.proofs.Common.{◌≡◌, ◌-◌, ◌++◌, inl, inr, take, sym, ◌∙◌, arith}
 use Rattle.std.proofs.lemmas.List.{take-append-drop}
-use Rattle.paint.proofs.Alike.{line-back, line-front, lines-back, lines-front}
+use Rattle.paint.proofs.Alike.{line-back, line-prefix, lines-back, lines-prefix}
 use Rattle.paint.proofs.Changed.{is_out}
 use Rattle.paint.proofs.page.changed_lines.Goals as goal
 
@@ -15,7 +15,7 @@ loop-end-init c = record {
 pub first_changed-requires-clause-before : goal.first_changed-requires-clause-before
 first_changed-requires-clause-before c =
     let y = c.loop-end.end - 1 in
-    rw (c.row.ensures.row, c.row-in-loop-end.ensures.row, c.from-at.ensures) (line-front c.requires.shown c.requires.wanted c.requires.changes y
+    rw (c.row.ensures.row, c.row-in-loop-end.ensures.row, c.from-at.ensures) (line-prefix c.requires.shown c.requires.wanted c.requires.changes y
     (omega (arith, c.loop-end.invariant.within)) c.within-from.ensures)
 
 pub first_changed-requires-clause-after : goal.first_changed-requires-clause-after
@@ -29,6 +29,6 @@ returns-clause-kept c =
     let end = c.loop-end.end in
     let shown = c.args.shown.now in
     let wanted = c.args.wanted.now in
-    let front : take end shown ≡ take end wanted = lines-front c.requires.shown c.requires.wanted c.requires.changes end
+    let prefix : take end shown ≡ take end wanted = lines-prefix c.requires.shown c.requires.wanted c.requires.changes end
     (λ y before. c.lines-lines.ensures.others y (is_out c.lines-lines.result y (inl (omega (arith, c.loop-end-test.false))))) in
-    sym (take-append-drop end shown) ∙ (λ i. front i ++ c.loop-end.invariant.kept i) ∙ take-append-drop end wanted
+    sym (take-append-drop end shown) ∙ (λ i. prefix i ++ c.loop-end.invariant.kept i) ∙ take-append-drop end wanted

@@ -1,11 +1,11 @@
--- `paint_picture`: pictures that differ in some columns only (`Alike`); a list whose first items are those of another one (`Mixed`); the blank end
+-- `paint_picture`: pictures that differ in some columns only (`Alike`); a list whose first items are those of another one (`Prefixes`); the blank end
 -- of a page is erased (`Pages`); the walk over the cells of a line, and over the lines of a picture (`Walks`).
 use Rattle.std.proofs.Common.{◌≡◌, ◌+◌, ◌-◌, ◌<◌, ◌≤◌, ◌∙◌, length, refl, sym, ap, subst, arith}
 use Rattle.paint.specs.Changes.{stretch_of}
 use Rattle.paint.specs.declared.pen.Pen.{Pen}
 use Rattle.paint.specs.steps.Walks.{IsWithin}
-use Rattle.paint.proofs.Alike.{line-alike, line-back, line-front, lines-first}
-use Rattle.paint.proofs.Mixed.{drop-later}
+use Rattle.paint.proofs.Alike.{line-alike, line-back, line-prefix, lines-first}
+use Rattle.paint.proofs.Prefixes.{drop-later}
 use Rattle.paint.proofs.Pages.{page-erased}
 use Rattle.paint.proofs.Walks.{picture-begun, picture-drawn, picture-painted, picture-skipped}
 use Rattle.paint.proofs.page.paint_picture.Goals as goal
@@ -25,7 +25,7 @@ paint_line-requires-clause-before g c =
     let y = c.loop-line.line in
     let below : y < c.args.lines = omega (arith, c.loop-line-test.true, c.changed_lines-changed.ensures.within, c.requires.height) in
     let part = subst (λ n. IsWithin n (stretch_of c.args.changes.now y) c.within-start.result) (c.columns-then-line-blank.ensures ∙ c.loop-line.invariant.painted.columns) c.within-start.ensures in
-    rw (c.row-old.ensures.row, c.row-new.ensures.row, c.from-at.ensures) (line-front c.requires.shown c.requires.wanted c.requires.changes y below part)
+    rw (c.row-old.ensures.row, c.row-new.ensures.row, c.from-at.ensures) (line-prefix c.requires.shown c.requires.wanted c.requires.changes y below part)
 
 pub paint_line-requires-clause-after : goal.paint_line-requires-clause-after
 paint_line-requires-clause-after g c =

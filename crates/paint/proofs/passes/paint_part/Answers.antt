@@ -9,8 +9,8 @@ use Rattle.cell.specs.Differences.{same_shown}
 use Rattle.paint.specs.steps.Passes.{is_drawn, line_after, pass_of as pass_in}
 use Rattle.paint.specs.steps.Strokes.{Strokes, run_bytes, with_cells}
 use Rattle.paint.specs.steps.Walks.{IsLinePainted}
-use Rattle.paint.proofs.Choices.{choices-alike, choices-back, choices-front, get-alike, get-in, get-kept, get-out, length-chosen, not-yet, now-drawn, other-pass, part-kept, same-cells}
-use Rattle.paint.proofs.Mixed.{drop-later}
+use Rattle.paint.proofs.Choices.{choices-alike, choices-back, choices-prefix, get-alike, get-in, get-kept, get-out, length-choose, not-yet, now-drawn, other-pass, part-kept, same-cells}
+use Rattle.paint.proofs.Prefixes.{drop-later}
 use Rattle.paint.proofs.Runs.{line-run, part-of}
 use Rattle.paint.proofs.Walks.{gap-before, gap-ends, line-begun, line-kept, line-painted}
 use Rattle.paint.proofs.passes.paint_part.Goals as goal
@@ -22,7 +22,7 @@ loop-x-init g c =
     record {
       painted = line-begun _ _ c.args.line c.in-Some.first (line_after c.args.order.now c.args.pass c.args.shown.now c.args.wanted.now)
           (line_after c.args.order.now (c.args.pass + 1) c.args.shown.now c.args.wanted.now)
-          (choices-front p q c.in-Some.first c.args.shown.now c.args.wanted.now c.in-Some.ensures.1);
+          (choices-prefix p q c.in-Some.first c.args.shown.now c.args.wanted.now c.in-Some.ensures.1);
       gap = omega arith;
       kept = λ v from to. absurd (omega arith);
       same = refl;
@@ -49,9 +49,9 @@ loop-x-preserved-then-eq g c =
     let new = c.index-wanted-x.is ∙ get_or_default wanted x c.index-wanted-x.result shown_blank (omega arith) in
     let alike : same_shown (get_or shown x shown_blank) (get_or wanted x shown_blank) ≡ true = (λ i. same_shown (sym old i) (sym new i)) ∙ sym c.if-eq.ensures in
     let equal = same_shown-equal (get_or shown x shown_blank) (get_or wanted x shown_blank) alike in
-    let long = length-chosen p shown wanted same in
+    let long = length-choose p shown wanted same in
     record {
-      painted = line-kept (long ∙ sym (length-chosen q shown wanted same)) (omega (arith, long, inside)) c.loop-x.invariant.painted
+      painted = line-kept (long ∙ sym (length-choose q shown wanted same)) (omega (arith, long, inside)) c.loop-x.invariant.painted
           (same-cells _ _ (get-kept p x shown wanted same inside equal ∙ sym (get-kept q x shown wanted same inside equal)));
       gap = omega (arith, c.loop-x.invariant.gap);
       kept = λ v from to. elim (cases_lt v x) [
@@ -77,9 +77,9 @@ loop-x-preserved-then-pass_of-pass g c =
     c.pass_of.ensures ∙ ap (pass_in order) (c.rendition.ensures.value ∙ ap (λ (cell : Shown). cell.rendition) new) in
     let alike : p (get_or wanted x shown_blank).rendition ≡ q (get_or wanted x shown_blank).rendition =
     other-pass (pass_in order (get_or wanted x shown_blank).rendition) pass (λ e. c.if-pass_of-pass.true (drawn_in ∙ e)) in
-    let long = length-chosen p shown wanted same in
+    let long = length-choose p shown wanted same in
     record {
-      painted = line-kept (long ∙ sym (length-chosen q shown wanted same)) (omega (arith, long, inside)) c.loop-x.invariant.painted
+      painted = line-kept (long ∙ sym (length-choose q shown wanted same)) (omega (arith, long, inside)) c.loop-x.invariant.painted
           (same-cells _ _ (get-alike p q x shown wanted same inside alike));
       gap = omega arith;
       kept = λ v from to. absurd (omega arith);
@@ -109,15 +109,15 @@ loop-x-preserved g c =
     let old = c.index-shown-x.is ∙ get_or_default shown x c.index-shown-x.result shown_blank inside in
     let first = c.index-wanted-x.is ∙ get_or_default wanted x c.index-wanted-x.result shown_blank (omega arith) in
     let other : same_shown (get_or shown x shown_blank) (get_or wanted x shown_blank) ≡ false = (λ i. same_shown (sym old i) (sym first i)) ∙ sym c.if-eq.ensures in
-    let long = length-chosen p shown wanted same in
-    let wide = length-chosen q shown wanted same in
+    let long = length-choose p shown wanted same in
+    let wide = length-choose q shown wanted same in
     let before_line = line_after order pass shown wanted in
     let after_line = line_after order (pass + 1) shown wanted in
     let slice : take (x - gap) (drop gap after_line) ≡ take (x - gap) (drop gap wanted) =
     part-kept q gap x shown wanted same c.loop-x.invariant.gap (omega arith) c.loop-x.invariant.kept in
     let strokes = λ (picture : Picture) (columns : length (line_of picture c.args.line) ≡ c.loop-x.pen.columns)
-    (front : take x (line_of picture c.args.line) ≡ take x after_line).
-    let there = gap-before gap x after_line (line_of picture c.args.line) c.loop-x.invariant.gap (omega (arith, wide)) front in
+    (prefix : take x (line_of picture c.args.line) ≡ take x after_line).
+    let there = gap-before gap x after_line (line_of picture c.args.line) c.loop-x.invariant.gap (omega (arith, wide)) prefix in
     subst (λ at. Strokes (run_bytes cells) (g.W.Sink.seen c.loop-x.sink) (g.W.Sink.seen c.paint_run.new.sink) c.loop-x.pen c.paint_run.new.pen picture
     (with_cells picture (c.args.line, at) cells)) (gap-ends gap x wanted c.loop-x.invariant.gap (omega arith))
     (c.paint_run.ensures.strokes picture columns (subst (λ part. take (length part) (drop gap (line_of picture c.args.line)) ≡ part) slice there.shown)) in

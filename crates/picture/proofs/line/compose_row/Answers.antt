@@ -10,7 +10,7 @@ use Rattle.picture.specs.Spans.{HasPanelWindows}
 use Rattle.picture.specs.steps.Owners.{IsRun, KnowsOwners}
 use Rattle.picture.proofs.Held.{IsBetween, held-between, held-no-pad, held-place}
 use Rattle.picture.proofs.Lines.{LineShown}
-use Rattle.picture.proofs.Runs.{IsLent, run-grew, run-held, run-line}
+use Rattle.picture.proofs.Runs.{IsRead, run-grew, run-held, run-line}
 use Rattle.picture.proofs.line.compose_row.Goals as goal
 
 held : (old now : Windows) (ps : Panels) (y x right w last : ℕ) → now ≡ old → IsRun old.window ps y x right w last → ((u : ℕ) → x ≤ u → u ≤ right → holds old.window standard_screen y u ≡ true)
@@ -23,7 +23,7 @@ loop-owners-init g c = record {
   from = omega arith;
   within = c.requires.ordered;
   same = refl;
-  counted = search rules;
+  count = search rules;
   known = c.none-owners.ensures (g.R.Rows.windows c.args.rows.now).window (panels c.args.stack.now) c.args.y;
   line = search rules;
 }
@@ -109,8 +109,8 @@ overflow_sub-run g c =
     let left = between.left in
     omega (arith, left, from)
 
-pub lend-cells-requires : goal.lend-cells-requires
-lend-cells-requires g c κs =
+pub read-cells-requires : goal.read-cells-requires
+read-cells-requires g c κs =
     let a = c.args in
     let l = c.loop-owners in
     let old = g.R.Rows.windows a.rows.now in
@@ -146,18 +146,18 @@ returns-then-run-right-clause-shown g c =
     let from = run.from in
     let standard : (u : ℕ) → l.x ≤ u → u ≤ a.right → holds old.window standard_screen a.y u ≡ true = λ u after upto. c.requires.standard u (omega (arith, begun, after)) upto in
     let rect = c.rect-rect.result in
-    let cells = c.lend-cells.result.now in
-    let lent : IsLent old now ps a.y l.x a.right win last rect cells = record {
+    let cells = c.read-cells.result.now in
+    let is_read : IsRead old now ps a.y l.x a.right win last rect cells = record {
       kept = l.invariant.same;
       run = run;
       standard = standard;
       place = c.rect-rect.ensures.place;
       rectangle = c.rect-rect.ensures.holds;
-      piece = c.lend-cells.ensures.piece;
+      piece = c.read-cells.ensures.piece;
     } in
     let f : ℕ → Shown = λ u. shown a.pairs.now (found_from_top old.window ps a.y u) in
     let line : LineShown f a.y a.left (last + 1) a.picture.now c.show_cells.new.picture =
-    run-line old now ps a.y l.x a.right win last rect cells lent a.pairs.now a.left a.picture.now l.picture c.show_cells.new.picture l.invariant.line begun
+    run-line old now ps a.y l.x a.right win last rect cells is_read a.pairs.now a.left a.picture.now l.picture c.show_cells.new.picture l.invariant.line begun
     c.show_cells.ensures.shown c.show_cells.ensures.size c.show_cells.ensures.height (c.show_cells.ensures.width a.y) in
     let all : LineShown f a.y a.left (a.right + 1) a.picture.now c.show_cells.new.picture = subst (λ k. LineShown f a.y a.left (k + 1) a.picture.now c.show_cells.new.picture) c.if-run-right.true
     line in
@@ -166,8 +166,8 @@ returns-then-run-right-clause-shown g c =
 pub returns-then-run-right-clause-size : goal.returns-then-run-right-clause-size
 returns-then-run-right-clause-size g c = λ lines columns h. c.show_cells.ensures.size lines columns (c.loop-owners.invariant.line.size lines columns h)
 
-pub returns-then-run-right-clause-counted : goal.returns-then-run-right-clause-counted
-returns-then-run-right-clause-counted g c =
+pub returns-then-run-right-clause-count : goal.returns-then-run-right-clause-count
+returns-then-run-right-clause-count g c =
     let a = c.args in
     let l = c.loop-owners in
     let old = g.R.Rows.windows a.rows.now in
@@ -180,21 +180,21 @@ returns-then-run-right-clause-counted g c =
     let from = run.from in
     let standard : (u : ℕ) → l.x ≤ u → u ≤ a.right → holds old.window standard_screen a.y u ≡ true = λ u after upto. c.requires.standard u (omega (arith, begun, after)) upto in
     let rect = c.rect-rect.result in
-    let cells = c.lend-cells.result.now in
-    let lent : IsLent old now ps a.y l.x a.right win last rect cells = record {
+    let cells = c.read-cells.result.now in
+    let is_read : IsRead old now ps a.y l.x a.right win last rect cells = record {
       kept = l.invariant.same;
       run = run;
       standard = standard;
       place = c.rect-rect.ensures.place;
       rectangle = c.rect-rect.ensures.holds;
-      piece = c.lend-cells.ensures.piece;
+      piece = c.read-cells.ensures.piece;
     } in
     let upto = l.invariant.within in
     let sum : a.right + 1 - a.left ≡ a.right - a.left + 1 = omega (arith, begun, upto) in
-    let more : GrewBy (last + 1 - a.left) (g.R.Rows.lent a.rows.now) (g.R.Rows.lent c.lend-cells.new.self) =
-    run-grew old now ps a.y l.x a.right win last rect cells lent a.left (g.R.Rows.lent a.rows.now) (g.R.Rows.lent l.rows)
-    (g.R.Rows.lent c.lend-cells.new.self) begun l.invariant.counted c.lend-cells.ensures.counted in
-    subst (λ n. GrewBy n (g.R.Rows.lent a.rows.now) (g.R.Rows.lent c.lend-cells.new.self)) (ap (λ k. k + 1 - a.left) c.if-run-right.true ∙ sum) more
+    let more : GrewBy (last + 1 - a.left) (g.R.Rows.cells_read a.rows.now) (g.R.Rows.cells_read c.read-cells.new.self) =
+    run-grew old now ps a.y l.x a.right win last rect cells is_read a.left (g.R.Rows.cells_read a.rows.now) (g.R.Rows.cells_read l.rows)
+    (g.R.Rows.cells_read c.read-cells.new.self) begun l.invariant.count c.read-cells.ensures.count in
+    subst (λ n. GrewBy n (g.R.Rows.cells_read a.rows.now) (g.R.Rows.cells_read c.read-cells.new.self)) (ap (λ k. k + 1 - a.left) c.if-run-right.true ∙ sum) more
 
 pub loop-owners-preserved : goal.loop-owners-preserved
 loop-owners-preserved g c =
@@ -210,24 +210,24 @@ loop-owners-preserved g c =
     let from = run.from in
     let standard : (u : ℕ) → l.x ≤ u → u ≤ a.right → holds old.window standard_screen a.y u ≡ true = λ u after upto. c.requires.standard u (omega (arith, begun, after)) upto in
     let rect = c.rect-rect.result in
-    let cells = c.lend-cells.result.now in
-    let lent : IsLent old now ps a.y l.x a.right win last rect cells = record {
+    let cells = c.read-cells.result.now in
+    let is_read : IsRead old now ps a.y l.x a.right win last rect cells = record {
       kept = l.invariant.same;
       run = run;
       standard = standard;
       place = c.rect-rect.ensures.place;
       rectangle = c.rect-rect.ensures.holds;
-      piece = c.lend-cells.ensures.piece;
+      piece = c.read-cells.ensures.piece;
     } in
     let within = run.within in
     let not_last = c.if-run-right.false in
     record {
       from = omega (arith, begun, from);
       within = omega (arith, within, not_last);
-      same = c.lend-cells.ensures.same ∙ l.invariant.same;
+      same = c.read-cells.ensures.same ∙ l.invariant.same;
       known = subst (λ (ws : Windows). KnowsOwners ws.window ps a.y c.run-run.new.self) l.invariant.same c.run-run.ensures.known;
-      counted = run-grew old now ps a.y l.x a.right win last rect cells lent a.left (g.R.Rows.lent a.rows.now) (g.R.Rows.lent l.rows)
-          (g.R.Rows.lent c.lend-cells.new.self) begun l.invariant.counted c.lend-cells.ensures.counted;
-      line = run-line old now ps a.y l.x a.right win last rect cells lent a.pairs.now a.left a.picture.now l.picture c.show_cells.new.picture l.invariant.line begun
+      count = run-grew old now ps a.y l.x a.right win last rect cells is_read a.left (g.R.Rows.cells_read a.rows.now) (g.R.Rows.cells_read l.rows)
+          (g.R.Rows.cells_read c.read-cells.new.self) begun l.invariant.count c.read-cells.ensures.count;
+      line = run-line old now ps a.y l.x a.right win last rect cells is_read a.pairs.now a.left a.picture.now l.picture c.show_cells.new.picture l.invariant.line begun
           c.show_cells.ensures.shown c.show_cells.ensures.size c.show_cells.ensures.height (c.show_cells.ensures.width a.y);
     }

@@ -16,7 +16,7 @@ invariant-loop-owners g l = record {
   from : l.left ≤ l.x;
   within : l.x ≤ l.right;
   same : g.R.Rows.windows l.rows ≡ g.R.Rows.windows l.fn.rows;
-  counted : GrewBy (l.x - l.left) (g.R.Rows.lent l.fn.rows) (g.R.Rows.lent l.rows);
+  count : GrewBy (l.x - l.left) (g.R.Rows.cells_read l.fn.rows) (g.R.Rows.cells_read l.rows);
   known : KnowsOwners (g.R.Rows.windows l.fn.rows).window (panels l.fn.stack) l.fn.y l.owners;
   line : LineShown (λ u. shown l.fn.pairs (found_from_top (g.R.Rows.windows l.fn.rows).window (panels l.fn.stack) l.fn.y u)) l.fn.y l.fn.left l.x l.fn.picture l.picture;
 }

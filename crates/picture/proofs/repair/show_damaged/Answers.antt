@@ -72,7 +72,7 @@ loop-y-init g c =
     record {
       windows = refl;
       read = sym (no-more-to before 0 c.next-y.result (omega arith) none);
-      counted = search rules;
+      count = search rules;
       composed = composed-to f old.lines old.columns before c.args.picture.now c.requires.covered 0 c.next-y.result before c.args.picture.now
           (composed-none f old.lines old.columns before c.args.picture.now c.requires.covered c.requires.height c.requires.size)
           (omega arith) (omega (arith, inside, height)) none;
@@ -90,7 +90,7 @@ loop-y-preserved g c =
     let below : y < old.lines = omega (arith, test, all) in
     let f : ℕ → ℕ → Shown = λ v u. shown c.args.pairs.now (found_from_top old.window ps v u) in
     let before = c.args.damage.now in
-    let lent = g.R.Rows.lent c.args.rows.now in
+    let cells_read = g.R.Rows.cells_read c.args.rows.now in
     let more : cells_above before (y + 1) ≡ cells_above before y + cells_of_line (columns_of before y) = let e : y + 1 ≡ suc y = omega arith in ap (cells_above before) e in
     let composed : ComposedAbove f old.lines old.columns before c.args.picture.now (y + 1) c.match-line.damage c.match-line.picture = elim c.match-line.branch [
       | in-Some s ↦
@@ -134,15 +134,15 @@ loop-y-preserved g c =
             let cells = s.cells-is in
             omega (arith, cells, read, more, line, skipped)
       ];
-      counted = elim c.match-line.branch [
+      count = elim c.match-line.branch [
         | in-Some s ↦
             let r = s.in-Some.field-0 in
             let number = s.from.ensures in
             let cells = s.cells-is in
             let sum : c.loop-y.cells + (r.last - r.first + 1) ≡ c.match-line.cells = omega (arith, number, cells) in
-            rw s.rows-is (subst (λ n. GrewBy n lent (g.R.Rows.lent s.compose_row.new.rows)) sum
-            (grew-more c.loop-y.cells (r.last - r.first + 1) lent (g.R.Rows.lent c.loop-y.rows) (g.R.Rows.lent s.compose_row.new.rows) h.counted s.compose_row.ensures.counted))
-        | in_default s ↦ rw (s.rows-is, s.cells-is) h.counted
+            rw s.rows-is (subst (λ n. GrewBy n cells_read (g.R.Rows.cells_read s.compose_row.new.rows)) sum
+            (grew-more c.loop-y.cells (r.last - r.first + 1) cells_read (g.R.Rows.cells_read c.loop-y.rows) (g.R.Rows.cells_read s.compose_row.new.rows) h.count s.compose_row.ensures.count))
+        | in_default s ↦ rw (s.rows-is, s.cells-is) h.count
       ];
       composed = composed-to f old.lines old.columns before c.args.picture.now c.requires.covered (y + 1) next c.match-line.damage c.match-line.picture composed from
           (omega (arith, inside, height)) none;

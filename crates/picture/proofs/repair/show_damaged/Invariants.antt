@@ -13,7 +13,7 @@ invariant-loop-y g l = record {
   windows : g.R.Rows.windows l.rows ≡ g.R.Rows.windows l.fn.rows;
   inside : l.y ≤ (g.R.Rows.windows l.fn.rows).lines;
   read : l.cells ≡ cells_above l.fn.damage l.y;
-  counted : GrewBy l.cells (g.R.Rows.lent l.fn.rows) (g.R.Rows.lent l.rows);
+  count : GrewBy l.cells (g.R.Rows.cells_read l.fn.rows) (g.R.Rows.cells_read l.rows);
   composed : ComposedAbove (λ v u. shown l.fn.pairs (found_from_top (g.R.Rows.windows l.fn.rows).window (panels l.fn.stack) v u)) (g.R.Rows.windows l.fn.rows).lines
       (g.R.Rows.windows l.fn.rows).columns l.fn.damage l.fn.picture l.y l.damage l.picture;
 }

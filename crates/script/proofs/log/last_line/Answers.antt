@@ -4,8 +4,8 @@ use Rattle.script.specs.Characters.{newline}
 use Rattle.script.proofs.log.last_line.Goals as goal
 
 -- a line, put together piece by piece
-joined : (beginning before sent behind end : List ℕ) → (((beginning ++ before) ++ sent) ++ behind) ++ end ≡ (beginning ++ ((before ++ sent) ++ behind)) ++ end
-joined beginning before sent behind end = rw (append_assoc beginning before sent, append_assoc beginning (before ++ sent) behind) refl
+joined : (beginning before sent after end : List ℕ) → (((beginning ++ before) ++ sent) ++ after) ++ end ≡ (beginning ++ ((before ++ sent) ++ after)) ++ end
+joined beginning before sent after end = rw (append_assoc beginning before sent, append_assoc beginning (before ++ sent) after) refl
 
 pub returns-in-Write : goal.returns-in-Write
 returns-in-Write c =

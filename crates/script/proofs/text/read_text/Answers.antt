@@ -1,7 +1,7 @@
 -- Each round reads one character more.
 use Rattle.std.proofs.Common.{◌≡◌, ◌++◌, Some, arith, ◌∙◌, ap, sym, option_map}
 use Rattle.std.proofs.lemmas.Grind.{common_steps}
-use Rattle.script.proofs.TextLemmas.{nothing_in_front, one_in_front, plain_text}
+use Rattle.script.proofs.TextLemmas.{nothing_before, one_before, plain_text}
 use Rattle.script.proofs.ByteLemmas.{ok_parts}
 use Rattle.script.proofs.text.read_text.Goals as goal
 
@@ -13,8 +13,8 @@ returns-then-not-has_backslash c =
     plain_text piece (sym c.if-not-has_backslash.ensures) ∙ ap Some (sym items)
 
 pub loop-rest-init : goal.loop-rest-init
-loop-rest-init c = (nothing_in_front _ _ c.clear.ensures, grind (arith, common_steps))
+loop-rest-init c = (nothing_before _ _ c.clear.ensures, grind (arith, common_steps))
 
 pub loop-rest-preserved : goal.loop-rest-preserved
 loop-rest-preserved c =
-    (one_in_front _ _ _ _ _ (c.loop-rest.invariant.0 ∙ ap (option_map _) c.in-Some.ensures.text) c.push.ensures.items, grind (arith, common_steps))
+    (one_before _ _ _ _ _ (c.loop-rest.invariant.0 ∙ ap (option_map _) c.in-Some.ensures.text) c.push.ensures.items, grind (arith, common_steps))

@@ -2,7 +2,7 @@
 use Rattle.std.proofs.Common.{refl, ap, is_some, ◌∙◌}
 use Rattle.desk.specs.ScriptEnds.{write_fault}
 use Rattle.script.specs.steps.Bytes.{Held}
-use Rattle.streams.specs.Counts.{counted}
+use Rattle.streams.specs.Counts.{count_after}
 use Rattle.desk.proofs.ScriptLemmas.{ends_in_failed_read, ends_in_last_line, ends_in_line, ends_too_long, no_fault, some_fault, so_far_next, so_far_none}
 use Rattle.desk.proofs.screen.Screen.run_lines.Goals as goal
 
@@ -29,7 +29,7 @@ loop-self-preserved g c =
       so_far = so_far_next g.W.Sink.seen _ _ _ _ _ _ _ _ _ _ _ _ _ _ _
           h.so_far read.line read.ends.ended read.ends.past (rw c.line.ensures.line at c.run_line-end.ensures.line) none;
       reading = read.ends.failures ∙ h.reading;
-      writing = c.run_line-end.ensures.writer ∙ ap (λ f. counted (is_some (write_fault f)) (g.W.Sink.seen c.loop-self.self.writer).failures) none ∙ h.writing;
+      writing = c.run_line-end.ensures.writer ∙ ap (λ f. count_after (is_some (write_fault f)) (g.W.Sink.seen c.loop-self.self.writer).failures) none ∙ h.writing;
       same = c.run_line-end.ensures.same ∙ h.same;
     })
 

@@ -1,10 +1,10 @@
--- `read_digit`: what a reader has after one more byte (`Standing`).
+-- `read_digit`: what a reader has after one more byte (`Readers`).
 use Rattle.std.proofs.Common.{◌≡◌, ◌∙◌, ap, refl, arith, take}
 use Rattle.std.specs.Prelude.{nat_lt}
 use Rattle.std.proofs.lemmas.Bool.{ltb-true, ltb-false}
 use Rattle.ecma.specs.steps.Parameters.{longer}
 use Rattle.ecma.specs.declared.terminal.State.TheVariants.{Parameters, Failed}
-use Rattle.ecma.proofs.Standing.{reader_of, digit-follows, full-follows, Follows-from, some-if, none-if}
+use Rattle.ecma.proofs.Readers.{reader_of, digit-follows, full-follows, Follows-from, some-if, none-if}
 use Rattle.ecma.proofs.terminal.Terminal.read_digit.Goals as goal
 
 pub returns-in-Some : goal.returns-in-Some

@@ -1,8 +1,8 @@
--- `read_escaped`: what a reader has after one more byte (`Standing`).
+-- `read_escaped`: what a reader has after one more byte (`Readers`).
 use Rattle.std.proofs.Common.{◌∙◌, [], ap, refl}
 use Rattle.ecma.specs.declared.terminal.State.TheVariants.{Escape, Parameters, Failed}
 use Rattle.ecma.specs.steps.Parameters.{no_digits}
-use Rattle.ecma.proofs.Standing.{reader_of, escape-follows, bracket-follows, other-follows, Follows-from}
+use Rattle.ecma.proofs.Readers.{reader_of, escape-follows, bracket-follows, other-follows, Follows-from}
 use Rattle.ecma.proofs.terminal.Terminal.read_escaped.Goals as goal
 
 pub returns-then-byte-eq-ESCAPE : goal.returns-then-byte-eq-ESCAPE

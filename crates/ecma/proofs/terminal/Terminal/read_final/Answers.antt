@@ -1,7 +1,7 @@
--- `read_final`: what a reader has after one more byte (`Standing`).
+-- `read_final`: what a reader has after one more byte (`Readers`).
 use Rattle.std.proofs.Common.{◌∙◌, Some, None, ap, cond, refl, sym, take}
 use Rattle.ecma.specs.declared.terminal.State.TheVariants.{Text, Parameters, Failed}
-use Rattle.ecma.proofs.Standing.{reader_of, Ends-along, ending-follows, no_end-follows, Follows-from}
+use Rattle.ecma.proofs.Readers.{reader_of, Ends-along, ending-follows, no_end-follows, Follows-from}
 use Rattle.ecma.proofs.terminal.Terminal.read_final.Goals as goal
 use Rattle.ecma.proofs.terminal.Terminal.read_final.Goals.{then-done, else-done}
 

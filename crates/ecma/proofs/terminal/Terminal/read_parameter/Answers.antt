@@ -1,7 +1,7 @@
--- `read_parameter`: what a reader has after one more byte (`Standing`).
+-- `read_parameter`: what a reader has after one more byte (`Readers`).
 use Rattle.std.proofs.Common.{◌∙◌, ap}
 use Rattle.ecma.specs.declared.terminal.State.TheVariants.{Parameters, Escape}
-use Rattle.ecma.proofs.Standing.{reader_of, broken-follows, Follows-from}
+use Rattle.ecma.proofs.Readers.{reader_of, broken-follows, Follows-from}
 use Rattle.ecma.proofs.terminal.Terminal.read_parameter.Goals as goal
 
 pub returns-then-byte-eq-ESCAPE : goal.returns-then-byte-eq-ESCAPE

@@ -1,9 +1,9 @@
--- `read_separator`: what a reader has after one more byte (`Standing`).
+-- `read_separator`: what a reader has after one more byte (`Readers`).
 use Rattle.std.proofs.Common.{◌<◌, ◌≡◌, ◌≤◌, ◌∙◌, ◌++◌, [], ◌∷◌, ap, refl, arith, length, rules}
 use Rattle.std.proofs.lemmas.List.{take_more_set, length-take}
 use Rattle.ecma.specs.steps.Parameters.{no_digits}
 use Rattle.ecma.specs.declared.terminal.State.TheVariants.{Parameters, Failed}
-use Rattle.ecma.proofs.Standing.{reader_of, separator-follows, too_many-follows, Follows-from}
+use Rattle.ecma.proofs.Readers.{reader_of, separator-follows, too_many-follows, Follows-from}
 use Rattle.ecma.proofs.terminal.Terminal.read_separator.Goals as goal
 
 pub returns-then-self-lt-MOST_ENDED : goal.returns-then-self-lt-MOST_ENDED

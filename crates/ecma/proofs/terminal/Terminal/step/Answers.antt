@@ -1,5 +1,5 @@
 use Rattle.std.proofs.Common.{◌∙◌, ap, sym}
-use Rattle.ecma.proofs.Standing.{failed-follows}
+use Rattle.ecma.proofs.Readers.{failed-follows}
 use Rattle.ecma.proofs.terminal.Terminal.step.Goals as goal
 
 pub returns-in-Failed : goal.returns-in-Failed

@@ -10,7 +10,7 @@ returns c = record {
   refused = search rules;
   written =
       attributes_added (windows c.args.self.now.table) (windows c.set_settings.new.self) c.args.win.0 c.in_ok-state.state
-      c.in_ok-state.ensures.state c.union.result c.known.result (bits_of c.args.attrs) c.known.ensures.value c.known.ensures.of_the_six (c.union.ensures tt)
+      c.in_ok-state.ensures.state c.union.result c.valid_attributes.result (bits_of c.args.attrs) c.valid_attributes.ensures.value c.valid_attributes.ensures.of_the_six (c.union.ensures tt)
       c.set_settings.ensures.set;
   frame = refl;
   unchanged = tt;

@@ -1,0 +1,9 @@
+use Rattle.std.proofs.Common.{length}
+use Rattle.commands.proofs.EscapeLemmas.{IsPartlyEscaped}
+use Rattle.commands.proofs.escapes.put_escaped.Given as goal
+
+abbrev pub invariant-loop-rest : goal.invariant-loop-rest
+invariant-loop-rest g l = IsPartlyEscaped (g.W.Sink.seen l.fn.sink) (g.W.Sink.seen l.sink) l.text l.rest
+
+abbrev pub decreases-loop-rest : goal.decreases-loop-rest
+decreases-loop-rest g l = length l.rest

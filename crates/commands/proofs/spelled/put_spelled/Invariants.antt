@@ -1,9 +1,0 @@
-use Rattle.std.proofs.Common.{length}
-use Rattle.commands.proofs.SpelledLemmas.{IsPartlySpelled}
-use Rattle.commands.proofs.spelled.put_spelled.Given as goal
-
-abbrev pub invariant-loop-rest : goal.invariant-loop-rest
-invariant-loop-rest g l = IsPartlySpelled (g.W.Sink.seen l.fn.sink) (g.W.Sink.seen l.sink) l.text l.rest
-
-abbrev pub decreases-loop-rest : goal.decreases-loop-rest
-decreases-loop-rest g l = length l.rest

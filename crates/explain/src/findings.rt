@@ -1,0 +1,180 @@
+//! What a person reads about a faulty line: where its fault is, what is there, and what is wanted.
+
+ghost use Rattle.std.specs.Prelude.{◌≡◌, ◌≤◌, ◌+◌, ◌++◌, ◌<◌, codes, decimal, length};
+ghost use Rattle.explain.specs.Advice.{call_advice};
+ghost use Rattle.explain.specs.Faults.{IllFormed as Ill};
+ghost use Rattle.explain.specs.Explanations.{bad_byte_text, count_text, explanation, finding, ill_formed_text, number_text, quotation, unknown_text};
+
+use crate::advice::{advice_on, call_after_prefix};
+use crate::arguments::{IllFormed, count, find_ill_formed, forms_of};
+use crate::column::{bad_byte, column_of};
+use crate::reasons::{byte_advice, reason, requirement};
+use arrayvec::ArrayVec;
+use cell::hex_digits;
+use script::{LONGEST_LINE, TextFault, split_at_space};
+use streams::{append, append_decimal};
+
+/// Room for a line about a fault: two words of a line, and 512 bytes more.
+const FINDING_ROOM: usize = 1536;
+
+/// The line about a fault.
+pub type Finding = ArrayVec<u8, FINDING_ROOM>;
+
+/// Appends a text in quotation marks.
+fn append_quoted(text: &mut Finding, piece: &[u8])
+    requires { length text.old.items + length piece.now + 2 ≤ FINDING_ROOM }
+    ensures { text.new.items ≡ text.old.items ++ quotation piece.now }
+{
+    append(text, b"\"");
+    append(text, piece);
+    append(text, b"\"");
+}
+
+/// Appends a number of arguments.
+fn append_count(text: &mut Finding, n: usize)
+    requires { length text.old.items + 30 ≤ FINDING_ROOM }
+    ensures text { text.new.items ≡ text.old.items ++ count_text n }
+    ensures short { length text.new.items ≤ length text.old.items + 30 }
+{
+    append_decimal(text, n as u64);
+    append(
+        text,
+        if n == 1 {
+            b" argument".as_slice()
+        } else {
+            b" arguments"
+        },
+    );
+}
+
+/// Appends what a word wants in place of an argument.
+fn append_ill_formed(text: &mut Finding, word: &[u8], ill: IllFormed<'_>)
+    requires room { length text.old.items ≤ 64 }
+    requires word { length word.now ≤ LONGEST_LINE }
+    requires argument { length ill.argument.now ≤ LONGEST_LINE }
+    ensures text { text.new.items ≡ text.old.items ++ ill_formed_text word.now (record
+        { column = ill.entry.column; form = ill.entry.form; argument = ill.entry.argument.now }) }
+    ensures short { length text.new.items < FINDING_ROOM }
+{
+    append(text, word);
+    append(text, b" wants ");
+    append(text, requirement(ill.form));
+    append(text, b", not ");
+    append_quoted(text, ill.argument);
+    append(text, reason(ill.form, ill.argument));
+}
+
+/// Appends what is said of a bad byte.
+fn append_bad_byte(text: &mut Finding, byte: u8)
+    requires { length text.old.items ≤ 64 }
+    ensures text { text.new.items ≡ text.old.items ++ bad_byte_text byte }
+    ensures short { length text.new.items < FINDING_ROOM }
+{
+    append(text, b"bad byte ");
+    append(text, &hex_digits(byte));
+    append(text, b": ");
+    append(text, byte_advice(byte));
+}
+
+/// Appends a call to write for a word, after what is said of it.
+fn append_call(text: &mut Finding, said: &[u8], call: &[u8])
+    requires { length text.old.items + length said.now + length call.now ≤ FINDING_ROOM }
+    ensures { text.new.items ≡ text.old.items ++ (said.now ++ call.now) }
+{
+    append(text, said);
+    append(text, call);
+}
+
+/// Appends what to write for a word of curses that is no call.
+fn append_advice(text: &mut Finding, word: &[u8])
+    requires room { length text.old.items ≤ 600 }
+    requires word { length word.now ≤ LONGEST_LINE }
+    ensures text { text.new.items ≡ text.old.items ++ call_advice word.now }
+    ensures short { length text.new.items < FINDING_ROOM }
+{
+    if let Some(advice) = advice_on(word) {
+        append_call(text, b": ", advice.text());
+    } else if let Some(call) = call_after_prefix(b"mvw", word) {
+        append_call(text, b": see move, ", call);
+    } else if let Some(call) = call_after_prefix(b"mv", word) {
+        append_call(text, b": see move, ", call);
+    } else if let Some(call) = call_after_prefix(b"w", word) {
+        append_call(text, b": see ", call);
+    }
+}
+
+/// Appends what is said of a word that is no call.
+fn append_unknown(text: &mut Finding, word: &[u8])
+    requires room { length text.old.items ≤ 64 }
+    requires word { length word.now ≤ LONGEST_LINE }
+    ensures text { text.new.items ≡ text.old.items ++ unknown_text word.now }
+    ensures short { length text.new.items < FINDING_ROOM }
+{
+    append(text, b"unknown call ");
+    append_quoted(text, word);
+    append_advice(text, word);
+}
+
+/// Appends what is said of the number of a word's arguments.
+fn append_number(text: &mut Finding, word: &[u8], wanted: usize, given: usize)
+    requires room { length text.old.items ≤ 64 }
+    requires word { length word.now ≤ LONGEST_LINE }
+    ensures text { text.new.items ≡ text.old.items ++ number_text word.now wanted given }
+    ensures short { length text.new.items < FINDING_ROOM }
+{
+    append(text, word);
+    append(text, b" takes ");
+    append_count(text, wanted);
+    append(text, b", ");
+    append_decimal(text, given as u64);
+    append(text, b" given");
+}
+
+/// Appends what is said of a fault.
+fn append_explanation(text: &mut Finding, fault: TextFault, line: &[u8])
+    requires room { length text.old.items ≤ 64 }
+    requires short { length line.now ≤ LONGEST_LINE }
+    ensures text { text.new.items ≡ text.old.items ++ explanation fault line.now }
+    ensures short { length text.new.items < FINDING_ROOM }
+{
+    let (word, arguments) = split_at_space(line);
+    match fault {
+        TextFault::LineTooLong => append(text, b"the line is longer than 512 bytes"),
+        TextFault::BadByte => append_bad_byte(text, bad_byte(line)),
+        TextFault::UnknownCall => append_unknown(text, word),
+        TextFault::WrongNumberOfArguments => {
+            let forms = forms_of(word);
+            append_number(text, word, forms.len(), count(forms, arguments));
+        }
+        TextFault::BadArgument => {
+            if let Some(ill) = find_ill_formed(word.len() + 2, forms_of(word), arguments) {
+                append_ill_formed(text, word, ill);
+            }
+        }
+    }
+}
+
+/// How the line begins about a fault in a line with its number.
+fn beginning(number: u64, column: usize) -> Finding
+    ensures text { result.items ≡ codes "line " ++ decimal number ++ codes ", column " ++ decimal column ++ codes ": " }
+    ensures short { length result.items ≤ 64 }
+{
+    let mut text = Finding::new();
+    append(&mut text, b"line ");
+    append_decimal(&mut text, number);
+    append(&mut text, b", column ");
+    append_decimal(&mut text, column as u64);
+    append(&mut text, b": ");
+    text
+}
+
+/// The line about a fault in a script's line with its number: where it is, what is there, and what is wanted.
+pub fn finding(number: u64, fault: TextFault, line: &[u8]) -> Finding
+    requires { length line.now ≤ LONGEST_LINE }
+    ensures { result.items ≡ finding number fault line.now }
+{
+    let mut text = beginning(number, column_of(fault, line));
+    append_explanation(&mut text, fault, line);
+    append(&mut text, b"\n");
+    text
+}
