@@ -14,6 +14,7 @@ use crate::visible::Visible;
 use cell::{Refusal, WinId};
 use world::PanelId;
 
+#[tactic(auto, using(crate::proofs::Tables::sound_shown))]
 impl Stack {
     /// The panel right above a visible one, or without a panel the bottom one.
     ///
@@ -82,7 +83,6 @@ impl Stack {
         ensures few { length result ≤ MOST_PANELS }
         ensures sound { IsSoundOrder (panels self.now) }
     {
-        prove!(self.is_sound());
         Visible::from_bottom(&self.nodes)
     }
 
@@ -92,7 +92,6 @@ impl Stack {
         ensures few { length result ≤ MOST_PANELS }
         ensures sound { IsSoundOrder (panels self.now) }
     {
-        prove!(self.is_sound());
         Visible::from_top(&self.nodes)
     }
 }
