@@ -50,19 +50,20 @@ pub(crate) fn make(table: &mut Grids, stack: &Stack, making: Making) -> Result<C
     ensures sound { AreSoundWindows (windows_of table.new) }
 {
     match making {
-        Making::Newwin { lines, columns, y, x } => made(table.newwin(lines, columns, y, x)?),
-        Making::Subwin { win, lines, columns, y, x } => made(table.subwin(win, lines, columns, y, x)?),
-        Making::Derwin { win, lines, columns, y, x } => made(table.derwin(win, lines, columns, y, x)?),
-        Making::Newpad { lines, columns } => made(table.newpad(lines, columns)?),
-        Making::Subpad { pad, lines, columns, y, x } => made(table.subpad(pad, lines, columns, y, x)?),
-        Making::Delwin { win } => set(delete_window(table, stack, win)?),
-        Making::Mvwin { win, y, x } => set(move_window(table, stack, win, y, x)?),
-        Making::Mvderwin { win, y, x } => moved(win, table.mvderwin(win, y, x)?),
+        Making::Newwin { lines, columns, y, x } => new_window(table.newwin(lines, columns, y, x)?),
+        Making::Subwin { win, lines, columns, y, x } => new_window(table.subwin(win, lines, columns, y, x)?),
+        Making::Derwin { win, lines, columns, y, x } => new_window(table.derwin(win, lines, columns, y, x)?),
+        Making::Newpad { lines, columns } => new_window(table.newpad(lines, columns)?),
+        Making::Subpad { pad, lines, columns, y, x } => new_window(table.subpad(pad, lines, columns, y, x)?),
+        Making::Delwin { win } => nothing_shown(delete_window(table, stack, win)?),
+        Making::Mvwin { win, y, x } => nothing_shown(move_window(table, stack, win, y, x)?),
+        Making::Mvderwin { win, y, x } => shift(win, table.mvderwin(win, y, x)?),
     }
 }
 
 /// Makes a call of the table of writing.
 #[inline(always)]
+#[rattlefmt::skip]
 pub(crate) fn write(windows: &mut Windows, writing: Writing<'_>) -> Result<Changed, Refusal>
     ensures refused { result_err result ≡ writing_refusal (windows_of windows.old.table) writing.entry }
     ensures reply { IfOk result (λ changed. changed.reply ≡ Reply.Nothing) }
@@ -73,27 +74,27 @@ pub(crate) fn write(windows: &mut Windows, writing: Writing<'_>) -> Result<Chang
     ensures sound { AreSoundWindows (windows_of windows.new.table) }
 {
     match writing {
-        Writing::Move { win, y, x } => set(windows.wmove(win, y, x)?),
-        Writing::Addch { win, ch } => drew(win, windows.waddch(win, ch)?),
-        Writing::Addstr { win, text } => drew(win, windows.waddstr(win, text)?),
-        Writing::Insch { win, ch } => drew(win, windows.winsch(win, ch)?),
-        Writing::Delch { win } => drew(win, windows.wdelch(win)?),
-        Writing::Insertln { win } => drew(win, windows.winsertln(win)?),
-        Writing::Deleteln { win } => drew(win, windows.wdeleteln(win)?),
-        Writing::Erase { win } => drew(win, windows.werase(win)?),
-        Writing::Clear { win } => drew(win, windows.wclear(win)?),
-        Writing::Clrtoeol { win } => drew(win, windows.wclrtoeol(win)?),
-        Writing::Clrtobot { win } => drew(win, windows.wclrtobot(win)?),
-        Writing::Scrl { win, n } => drew(win, windows.wscrl(win, n)?),
-        Writing::Setscrreg { win, top, bottom } => set(windows.wsetscrreg(win, top, bottom)?),
-        Writing::Scrollok { win, flag } => set(windows.scrollok(win, flag)?),
-        Writing::Clearok { win, flag } => set(windows.clearok(win, flag)?),
-        Writing::Attrset { win, attrs } => set(windows.wattrset(win, attrs)?),
-        Writing::Attron { win, attrs } => set(windows.wattron(win, attrs)?),
-        Writing::Attroff { win, attrs } => set(windows.wattroff(win, attrs)?),
-        Writing::Bkgdset { win, attrs, ch } => set(windows.wbkgdset(win, attrs, ch)?),
-        Writing::ColorSet { win, pair } => set(windows.wcolor_set(win, pair)?),
-        Writing::Bkgdpair { win, pair } => set(windows.wbkgdpair(win, pair)?),
+        Writing::Move { win, y, x } => nothing_shown(windows.wmove(win, y, x)?),
+        Writing::Addch { win, ch } => drawing(win, windows.waddch(win, ch)?),
+        Writing::Addstr { win, text } => drawing(win, windows.waddstr(win, text)?),
+        Writing::Insch { win, ch } => drawing(win, windows.winsch(win, ch)?),
+        Writing::Delch { win } => drawing(win, windows.wdelch(win)?),
+        Writing::Insertln { win } => drawing(win, windows.winsertln(win)?),
+        Writing::Deleteln { win } => drawing(win, windows.wdeleteln(win)?),
+        Writing::Erase { win } => drawing(win, windows.werase(win)?),
+        Writing::Clear { win } => drawing(win, windows.wclear(win)?),
+        Writing::Clrtoeol { win } => drawing(win, windows.wclrtoeol(win)?),
+        Writing::Clrtobot { win } => drawing(win, windows.wclrtobot(win)?),
+        Writing::Scrl { win, n } => drawing(win, windows.wscrl(win, n)?),
+        Writing::Setscrreg { win, top, bottom } => nothing_shown(windows.wsetscrreg(win, top, bottom)?),
+        Writing::Scrollok { win, flag } => nothing_shown(windows.scrollok(win, flag)?),
+        Writing::Clearok { win, flag } => nothing_shown(windows.clearok(win, flag)?),
+        Writing::Attrset { win, attrs } => nothing_shown(windows.wattrset(win, attrs)?),
+        Writing::Attron { win, attrs } => nothing_shown(windows.wattron(win, attrs)?),
+        Writing::Attroff { win, attrs } => nothing_shown(windows.wattroff(win, attrs)?),
+        Writing::Bkgdset { win, attrs, ch } => nothing_shown(windows.wbkgdset(win, attrs, ch)?),
+        Writing::ColorSet { win, pair } => nothing_shown(windows.wcolor_set(win, pair)?),
+        Writing::Bkgdpair { win, pair } => nothing_shown(windows.wbkgdpair(win, pair)?),
     }
 }
 
@@ -109,18 +110,18 @@ pub(crate) fn copy(windows: &mut Windows, copying: Copying) -> Result<Changed, R
     ensures sound { AreSoundWindows (windows_of windows.new.table) }
 {
     match copying {
-        Copying::Overlay { src, dst } => drew(dst, windows.overlay(src, dst)?),
-        Copying::Overwrite { src, dst } => drew(dst, windows.overwrite(src, dst)?),
+        Copying::Overlay { src, dst } => drawing(dst, windows.overlay(src, dst)?),
+        Copying::Overwrite { src, dst } => drawing(dst, windows.overwrite(src, dst)?),
         Copying::Copywin { src, dst, sminrow, smincol, dminrow, dmincol, dmaxrow, dmaxcol, overlay } =>
-            drew(dst, windows.copywin(src, dst, sminrow, smincol, dminrow, dmincol, dmaxrow, dmaxcol, overlay)?),
-        Copying::Touchwin { win } => set(windows.table.touchwin(win)?),
-        Copying::Untouchwin { win } => set(windows.table.untouchwin(win)?),
-        Copying::Touchline { win, y, n } => set(windows.table.touchline(win, y, n)?),
-        Copying::Touchln { win, y, n, flag } => set(windows.table.wtouchln(win, y, n, flag)?),
-        Copying::Syncup { win } => set(windows.table.wsyncup(win)?),
-        Copying::Syncdown { win } => set(windows.table.wsyncdown(win)?),
-        Copying::IsLinetouched { win, y } => told(windows.table.is_linetouched(win, y)?),
-        Copying::IsWintouched { win } => told(windows.table.is_wintouched(win)?),
+            drawing(dst, windows.copywin(src, dst, sminrow, smincol, dminrow, dmincol, dmaxrow, dmaxcol, overlay)?),
+        Copying::Touchwin { win } => nothing_shown(windows.table.touchwin(win)?),
+        Copying::Untouchwin { win } => nothing_shown(windows.table.untouchwin(win)?),
+        Copying::Touchline { win, y, n } => nothing_shown(windows.table.touchline(win, y, n)?),
+        Copying::Touchln { win, y, n, flag } => nothing_shown(windows.table.wtouchln(win, y, n, flag)?),
+        Copying::Syncup { win } => nothing_shown(windows.table.wsyncup(win)?),
+        Copying::Syncdown { win } => nothing_shown(windows.table.wsyncdown(win)?),
+        Copying::IsLinetouched { win, y } => flag(windows.table.is_linetouched(win, y)?),
+        Copying::IsWintouched { win } => flag(windows.table.is_wintouched(win)?),
     }
 }
 
@@ -232,7 +233,7 @@ fn nothing<T: Copy>(_answer: T) -> Result<Reply, Refusal>
 
 /// The outcome of a call that drew in a window.
 #[inline(always)]
-fn drew(win: WinId, frame: Option<Rect>) -> Result<Changed, Refusal>
+fn drawing(win: WinId, frame: Option<Rect>) -> Result<Changed, Refusal>
     ensures { result ≡ Ok (record { reply = Reply.Nothing; affected = option_map (λ r. Affected.Written win r) frame }) }
 {
     let affected = match frame {
@@ -245,9 +246,9 @@ fn drew(win: WinId, frame: Option<Rect>) -> Result<Changed, Refusal>
     })
 }
 
-/// The outcome of a call that set something, and affected nothing that windows show.
+/// The outcome of a call that answers nothing, and affected nothing that windows show.
 #[inline(always)]
-fn set<T: Copy>(_answer: T) -> Result<Changed, Refusal>
+fn nothing_shown<T: Copy>(_answer: T) -> Result<Changed, Refusal>
     ensures { result ≡ Ok (record { reply = Reply.Nothing; affected = None }) }
 {
     Ok(Changed {
@@ -257,7 +258,7 @@ fn set<T: Copy>(_answer: T) -> Result<Changed, Refusal>
 }
 
 /// The outcome of a call that moved a window in its parent.
-fn moved<T: Copy>(win: WinId, _answer: T) -> Result<Changed, Refusal>
+fn shift<T: Copy>(win: WinId, _answer: T) -> Result<Changed, Refusal>
     ensures { result ≡ Ok (record { reply = Reply.Nothing; affected = Some (Affected.Moved win) }) }
 {
     Ok(Changed {
@@ -267,7 +268,7 @@ fn moved<T: Copy>(win: WinId, _answer: T) -> Result<Changed, Refusal>
 }
 
 /// The outcome of a call that made a window.
-fn made(win: WinId) -> Result<Changed, Refusal>
+fn new_window(win: WinId) -> Result<Changed, Refusal>
     ensures { result ≡ Ok (record { reply = Reply.Number win; affected = None }) }
 {
     Ok(Changed {
@@ -277,7 +278,7 @@ fn made(win: WinId) -> Result<Changed, Refusal>
 }
 
 /// The outcome of a query on a window.
-fn told(flag: bool) -> Result<Changed, Refusal>
+fn flag(flag: bool) -> Result<Changed, Refusal>
     ensures { result ≡ Ok (record { reply = Reply.Flag flag; affected = None }) }
 {
     Ok(Changed {
