@@ -35,10 +35,8 @@ pub trait Calls {
         requires kind { (world : World) → kind_of world call.now ≡ A.kind }
         ensures { made self.old call.now (told A.reply_of result) self.new }
     {
-        match A::of(self.call(call)?) {
-            Some(answer) => Ok(answer),
-            None => unreachable!(),
-        }
+        let reply = self.call(call)?;
+        Ok(A::of(reply).unwrap())
     }
 
     /// Makes a window at a place of the screen, with a blank grid of its own. A size of 0 reaches to the edge of the

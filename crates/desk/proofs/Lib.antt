@@ -1,4 +1,4 @@
--- What calls do to the writer of a screen; for `call_desk`
+-- What calls do to the writer of a screen; for `make_call`
 pub mod WriterLemmas
 -- States with more lines damaged: the outcomes that calls may have in one, they may have in the other; for `AnswerLemmas`, `MakesLemmas`,
 -- `RunLemmas` and others
@@ -19,5 +19,5 @@ pub mod AnswerLemmas
 pub mod LineEndLemmas
 -- A script is run a line at a time; for `run_lines`, `run_script`
 pub mod ScriptLemmas
--- In which columns calls change the virtual screen; for `call_desk`, `widen_damaged`, `widen_for_refresh` and others
+-- In which columns calls change the virtual screen; for `make_call`, `widen_damaged`, `widen_for_refresh` and others
 pub mod Widening

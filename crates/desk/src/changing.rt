@@ -60,7 +60,7 @@ fn widen_for_refresh(changes: &mut Changes, desk: &Desk, refresh: Refresh)
             };
             widen_rectangle(changes, frame, lines);
         }
-        Refresh::Doupdate | Refresh::InitPair { .. } => {}
+        _ => {}
     }
 }
 

@@ -180,20 +180,11 @@ impl<W: Sink> Screen<W> {
     {
         match *call {
             Call::Refresh(Refresh::Doupdate) => Ok(Reply::Sent(self.send_update()?)),
-            _ => self.call_desk(call),
+            _ => {
+                widen_for(&mut self.changes, &self.desk, call);
+                Ok(self.desk.call(call)?)
+            }
         }
-    }
-
-    /// Makes a call that sends nothing.
-    #[inline(always)]
-    fn call_desk(&mut self, call: &Call<'_>) -> Result<Reply, Fault>
-        requires { is_doupdate call.now ≡ false }
-        ensures call { CallEnds W.seen self.old call.now result self.new }
-        ensures failures { (W.seen self.new.writer).failures ≡ count_after (is_some (cut_of result)) (W.seen self.old.writer).failures }
-        ensures same { W.name self.new.writer ≡ W.name self.old.writer }
-    {
-        widen_for(&mut self.changes, &self.desk, call);
-        Ok(self.desk.call(call)?)
     }
 
     /// Shows the virtual screen.

@@ -13,7 +13,7 @@ use Rattle.world.specs.Panels.{Panels, first_panels}
 use Rattle.world.specs.calls.Stacking.{after_del_panel, after_replace_panel, is_hidden, without, IsSoundEntry, IsSoundOrder, visible_tests}
 use Rattle.world.specs.Effects.{with_panel, given}
 use Rattle.stack.specs.Nodes.{no_node, node_at, window_at, window_in, from_bottom, IsOut, IsPanel, IsThreaded}
-use Rattle.stack.specs.Tables.{panels, table_of, IsPanelTable}
+use Rattle.stack.specs.Tables.{panels, table_of, IsPanelTable, PanelTable}
 use Rattle.stack.specs.steps.Entries.{Entered, IsFree, NodeMade, Windowed}
 use Rattle.stack.specs.steps.Links.{Reordered}
 use Rattle.stack.specs.declared.nodes.Node.{Node}
@@ -62,6 +62,10 @@ module _ (nodes : List Node) (h : IsPanelTable nodes) where
     each = λ p. subst (λ (o : Option ℕ). MatchOption o (Unit {0}) (IsSoundEntry (panels (table_of nodes)) p)) (sym (window-is nodes p))
         (sound-entry p (window_at nodes p) refl);
   }
+
+-- of the table that a stack shows
+pub sound_shown : (nodes : List Node) (t : PanelTable) → table_of nodes ≡ t → IsPanelTable nodes → IsSoundOrder (panels t)
+sound_shown nodes t is h = subst (λ (t : PanelTable). IsSoundOrder (panels t)) is (sound nodes h)
 
 -- ---- a new stack
 

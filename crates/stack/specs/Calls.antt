@@ -1,10 +1,13 @@
 -- A call on panels, made on a table of panels.
-use Rattle.std.specs.Prelude.{◌≡◌, Bool, IfOk, List, OnErr, OnOk, Result, Some}
+use Rattle.std.specs.Prelude.{◌≡◌, ℕ, Bool, IfOk, List, None, OnErr, OnOk, Option, Result, Some}
+use Rattle.std.specs.Result.{result_err}
+use Rattle.cell.specs.declared.window.WinId.{WinId}
 use Rattle.cell.specs.Refusals.{first_of}
 use Rattle.cell.specs.declared.refusal.Refusal.{Refusal}
 use Rattle.world.specs.Effects.{order_reply, order_takes_memory}
 use Rattle.world.specs.calls.Refused.{Refused}
-use Rattle.world.specs.calls.Stacking.{IsSoundOrder, after_stacking, stacking_order}
+use Rattle.world.specs.Windows.{Windows}
+use Rattle.world.specs.calls.Stacking.{IsSoundOrder, after_stacking, stacking_order, stacking_refusal}
 use Rattle.world.specs.declared.call.Reply.{Reply}
 use Rattle.world.specs.declared.call.Reply.TheVariants.{Nothing, Panel}
 use Rattle.world.specs.declared.call.Stacking.{Stacking}
@@ -27,3 +30,19 @@ nothing done = Nothing
 -- of one that answers its panel
 abbrev pub its_panel : PanelId → Reply
 its_panel panel = Panel (Some panel)
+
+-- the tests of a query speak of no window, so they are the same where there is none
+abbrev pub no_windows : Windows
+no_windows = record { lines = 0; columns = 0; window = λ w. None }
+
+-- a query was refused exactly by its tests; else this is what its answer says
+pub record Asked {T A : Type 0} (table : PanelTable) (query : Stacking) (told : A) (said_by : T → A) (r : Result T Refusal) : Type 0 where
+  pub refused : result_err r ≡ stacking_refusal no_windows (panels table) query
+  pub answer : IfOk r (λ t. told ≡ said_by t)
+
+-- an answer says the number of a window, or yes or no
+abbrev pub window_number : WinId → Option ℕ
+window_number win = Some win.0
+
+abbrev pub as_is : Bool → Bool
+as_is flag = flag

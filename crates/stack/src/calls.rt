@@ -11,6 +11,7 @@ use crate::table::Stack;
 use cell::{Refusal, WinId};
 use world::PanelId;
 
+#[tactic(auto, using(crate::proofs::Tables::sound_shown))]
 impl Stack {
     /// Puts a window into a new panel, visible on top. The number is the least free one from 1 on.
     ///
@@ -19,14 +20,12 @@ impl Stack {
     pub fn new_panel(&mut self, win: WinId) -> Result<PanelId, Refusal>
         ensures { Arranged its_panel (new_panel_tests (panels self.old) win.0) self.old (Stacking.NewPanel win) result self.new }
     {
-        prove!(self.is_sound());
         if holder(&self.nodes, win).is_some() {
             return Err(Refusal::InPanel);
         }
         let number = free_number(&self.nodes).ok_or(Refusal::TooMany)?;
         enter(&mut self.nodes, number, win)?;
         put_on_top(&mut self.nodes, number);
-        prove!(self.is_sound());
         Ok(PanelId(number))
     }
 
@@ -37,11 +36,9 @@ impl Stack {
     pub fn del(&mut self, panel: PanelId) -> Result<(), Refusal>
         ensures { Arranged nothing (panel_tests (panels self.old) panel.0) self.old (Stacking.DelPanel panel) result self.new }
     {
-        prove!(self.is_sound());
         require_panel(&self.nodes, panel)?;
         take_out(&mut self.nodes, panel.0);
         self.nodes.set_window(panel.0, None);
-        prove!(self.is_sound());
         Ok(())
     }
 
@@ -52,10 +49,8 @@ impl Stack {
     pub fn show(&mut self, panel: PanelId) -> Result<(), Refusal>
         ensures { Arranged nothing (panel_tests (panels self.old) panel.0) self.old (Stacking.ShowPanel panel) result self.new }
     {
-        prove!(self.is_sound());
         require_panel(&self.nodes, panel)?;
         move_to_top(&mut self.nodes, panel.0);
-        prove!(self.is_sound());
         Ok(())
     }
 
@@ -66,10 +61,8 @@ impl Stack {
     pub fn hide(&mut self, panel: PanelId) -> Result<(), Refusal>
         ensures { Arranged nothing (visible_tests (panels self.old) panel.0) self.old (Stacking.HidePanel panel) result self.new }
     {
-        prove!(self.is_sound());
         require_visible(&self.nodes, panel)?;
         take_out(&mut self.nodes, panel.0);
-        prove!(self.is_sound());
         Ok(())
     }
 
@@ -80,7 +73,6 @@ impl Stack {
     pub fn top(&mut self, panel: PanelId) -> Result<(), Refusal>
         ensures { Arranged nothing (visible_tests (panels self.old) panel.0) self.old (Stacking.TopPanel panel) result self.new }
     {
-        prove!(self.is_sound());
         require_visible(&self.nodes, panel)?;
         self.show(panel)
     }
@@ -92,10 +84,8 @@ impl Stack {
     pub fn bottom(&mut self, panel: PanelId) -> Result<(), Refusal>
         ensures { Arranged nothing (visible_tests (panels self.old) panel.0) self.old (Stacking.BottomPanel panel) result self.new }
     {
-        prove!(self.is_sound());
         require_visible(&self.nodes, panel)?;
         move_to_bottom(&mut self.nodes, panel.0);
-        prove!(self.is_sound());
         Ok(())
     }
 
@@ -106,13 +96,11 @@ impl Stack {
     pub fn replace(&mut self, panel: PanelId, win: WinId) -> Result<(), Refusal>
         ensures { Arranged nothing (replace_panel_tests (panels self.old) panel.0 win.0) self.old (Stacking.ReplacePanel panel win) result self.new }
     {
-        prove!(self.is_sound());
         require_panel(&self.nodes, panel)?;
         if holder(&self.nodes, win).is_some() {
             return Err(Refusal::InPanel);
         }
         self.nodes.set_window(panel.0, Some(win));
-        prove!(self.is_sound());
         Ok(())
     }
 }

@@ -1,11 +1,11 @@
 //! Queries about panels. None changes the stack.
 
-ghost use Rattle.std.specs.Prelude.{◌≡◌, Some, IfOk, IfSome, is_some, reverse, length, ◌≤◌};
-ghost use Rattle.std.specs.Result.{result_err};
+ghost use Rattle.std.specs.Prelude.{◌≡◌, Some, IfSome, is_some, reverse, length, ◌≤◌};
 ghost use Rattle.cell.specs.declared.limits.TheConstants.{MOST_PANELS};
-ghost use Rattle.cell.specs.Refusals.{first_of};
 ghost use Rattle.world.specs.Panels.{is_in_panel};
-ghost use Rattle.world.specs.calls.Stacking.{is_hidden, panel_above, panel_below, panel_number, IsSoundOrder, neighbour_tests, panel_tests};
+ghost use Rattle.world.specs.calls.Stacking.{is_hidden, panel_above, panel_below, panel_number, IsSoundOrder};
+ghost use Rattle.world.specs.declared.call.Stacking.{Stacking};
+ghost use Rattle.stack.specs.Calls.{Asked, as_is, window_number};
 ghost use Rattle.stack.specs.Tables.{panels};
 
 use crate::entries::{holder, panel_at, require_panel, require_visible};
@@ -14,14 +14,14 @@ use crate::visible::Visible;
 use cell::{Refusal, WinId};
 use world::PanelId;
 
+#[tactic(auto, using(crate::proofs::Tables::sound_shown))]
 impl Stack {
     /// The panel right above a visible one, or without a panel the bottom one.
     ///
     /// # Errors
     /// `NoSuchPanel`, `Hidden`.
     pub fn above(&self, panel: Option<PanelId>) -> Result<Option<PanelId>, Refusal>
-        ensures refused { result_err result ≡ first_of (neighbour_tests (panels self.now) panel) }
-        ensures answer { IfOk result (λ q. panel_number q ≡ panel_above (panels self.now) (panel_number panel)) }
+        ensures { Asked self.now (Stacking.PanelAbove panel) (panel_above (panels self.now) (panel_number panel)) panel_number result }
     {
         match panel {
             Some(panel) => {
@@ -37,8 +37,7 @@ impl Stack {
     /// # Errors
     /// `NoSuchPanel`, `Hidden`.
     pub fn below(&self, panel: Option<PanelId>) -> Result<Option<PanelId>, Refusal>
-        ensures refused { result_err result ≡ first_of (neighbour_tests (panels self.now) panel) }
-        ensures answer { IfOk result (λ q. panel_number q ≡ panel_below (panels self.now) (panel_number panel)) }
+        ensures { Asked self.now (Stacking.PanelBelow panel) (panel_below (panels self.now) (panel_number panel)) panel_number result }
     {
         match panel {
             Some(panel) => {
@@ -54,8 +53,7 @@ impl Stack {
     /// # Errors
     /// `NoSuchPanel`.
     pub fn window(&self, panel: PanelId) -> Result<WinId, Refusal>
-        ensures refused { result_err result ≡ first_of (panel_tests (panels self.now) panel.0) }
-        ensures answer { IfOk result (λ w. (panels self.now).window panel.0 ≡ Some w.0) }
+        ensures { Asked self.now (Stacking.PanelWindow panel) ((panels self.now).window panel.0) window_number result }
     {
         self.nodes.get(panel.0).window.ok_or(Refusal::NoSuchPanel)
     }
@@ -65,8 +63,7 @@ impl Stack {
     /// # Errors
     /// `NoSuchPanel`.
     pub fn hidden(&self, panel: PanelId) -> Result<bool, Refusal>
-        ensures refused { result_err result ≡ first_of (panel_tests (panels self.now) panel.0) }
-        ensures answer { IfOk result (λ b. b ≡ is_hidden (panels self.now) panel.0) }
+        ensures { Asked self.now (Stacking.PanelHidden panel) (is_hidden (panels self.now) panel.0) as_is result }
     {
         require_panel(&self.nodes, panel)?;
         Ok(self.nodes.get(panel.0).above == panel.0)
@@ -86,7 +83,6 @@ impl Stack {
         ensures few { length result ≤ MOST_PANELS }
         ensures sound { IsSoundOrder (panels self.now) }
     {
-        prove!(self.is_sound());
         Visible::from_bottom(&self.nodes)
     }
 
@@ -96,7 +92,6 @@ impl Stack {
         ensures few { length result ≤ MOST_PANELS }
         ensures sound { IsSoundOrder (panels self.now) }
     {
-        prove!(self.is_sound());
         Visible::from_top(&self.nodes)
     }
 }

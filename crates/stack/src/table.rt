@@ -1,7 +1,6 @@
 //! The panels of a screen.
 
-ghost use Rattle.std.specs.Prelude.{◌≡◌, true};
-ghost use Rattle.world.specs.calls.Stacking.{IsSoundOrder};
+ghost use Rattle.std.specs.Prelude.{◌≡◌};
 ghost use Rattle.world.specs.Panels.{first_panels};
 ghost use Rattle.stack.specs.Tables.{panels};
 
@@ -33,13 +32,5 @@ impl Stack {
         Stack {
             nodes: Nodes::new(alloc),
         }
-    }
-
-    /// Always true: what it ensures is what is known of each stack.
-    pub(crate) fn is_sound(&self) -> bool
-        ensures yes { result ≡ true }
-        ensures sound { IsSoundOrder (panels self.now) }
-    {
-        self.nodes.len() > 0
     }
 }

@@ -14,7 +14,7 @@ use Rattle.world.specs.Windows.{Drawing, Window, WindowMap, Windows}
 use Rattle.world.specs.Settings.{with_cursor}
 use Rattle.world.specs.Drawings.{written_glyph, character_inserted, character_deleted, to_end_of_line, to_bottom, everywhere, lines_up, lines_down}
 use Rattle.world.specs.Typing.{backspace, carriage_return, newline}
-use Rattle.world.specs.Effects.{Edit, sets, draws, types, after_edit, edit_frame}
+use Rattle.world.specs.Effects.{Edit, sets, draws, types, after_edit, edit_frame, edit_window}
 use Rattle.world.specs.calls.Missing.{missing}
 use Rattle.cell.specs.declared.window.Rect.{Rect}
 use Rattle.cell.specs.declared.refusal.Refusal.{Refusal}
@@ -45,28 +45,18 @@ is_bad_character character = not (is_printable character || (character == backsp
 abbrev pub is_not_scrolling : WindowMap → ℕ → Bool
 is_not_scrolling window w = option_map_or (λ a. not a.settings.scrolling) (window w) false
 
-abbrev pub writing_tests : Windows → Writing → List (Bool × Refusal)
-writing_tests windows (Move win y x) = missing windows win.0 ∷ (lacks_place windows.window win.0 y x, OutsideWindow) ∷ []
-writing_tests windows (Addch win character) = missing windows win.0 ∷ (is_bad_character character, BadCharacter) ∷ []
-writing_tests windows (Addstr win text) = missing windows win.0 ∷ (list_any is_bad_character text.now, BadCharacter) ∷ []
-writing_tests windows (Insch win character) = missing windows win.0 ∷ (not (is_printable character), BadCharacter) ∷ []
-writing_tests windows (Delch win) = missing windows win.0 ∷ []
-writing_tests windows (Insertln win) = missing windows win.0 ∷ []
-writing_tests windows (Deleteln win) = missing windows win.0 ∷ []
-writing_tests windows (Erase win) = missing windows win.0 ∷ []
-writing_tests windows (Clear win) = missing windows win.0 ∷ []
-writing_tests windows (Clrtoeol win) = missing windows win.0 ∷ []
-writing_tests windows (Clrtobot win) = missing windows win.0 ∷ []
-writing_tests windows (Scrl win n) = missing windows win.0 ∷ (is_not_scrolling windows.window win.0, ScrollingOff) ∷ []
-writing_tests windows (Setscrreg win top bottom) = missing windows win.0 ∷ (is_bad_region windows.window win.0 top bottom, BadRegion) ∷ []
-writing_tests windows (Scrollok win flag) = missing windows win.0 ∷ []
-writing_tests windows (Clearok win flag) = missing windows win.0 ∷ []
-writing_tests windows (Attrset win attributes) = missing windows win.0 ∷ []
-writing_tests windows (Attron win attributes) = missing windows win.0 ∷ []
-writing_tests windows (Attroff win attributes) = missing windows win.0 ∷ []
-writing_tests windows (Bkgdset win attributes character) = missing windows win.0 ∷ (not (is_printable character), BadCharacter) ∷ []
-writing_tests windows (ColorSet win pair) = missing windows win.0 ∷ (is_no_pair pair, BadPair) ∷ []
-writing_tests windows (Bkgdpair win pair) = missing windows win.0 ∷ (is_no_pair pair, BadPair) ∷ []
+-- the tests of a call after its first
+abbrev pub further_tests : Windows → Writing → List (Bool × Refusal)
+further_tests windows (Move win y x) = (lacks_place windows.window win.0 y x, OutsideWindow) ∷ []
+further_tests windows (Addch win character) = (is_bad_character character, BadCharacter) ∷ []
+further_tests windows (Addstr win text) = (list_any is_bad_character text.now, BadCharacter) ∷ []
+further_tests windows (Insch win character) = (not (is_printable character), BadCharacter) ∷ []
+further_tests windows (Scrl win n) = (is_not_scrolling windows.window win.0, ScrollingOff) ∷ []
+further_tests windows (Setscrreg win top bottom) = (is_bad_region windows.window win.0 top bottom, BadRegion) ∷ []
+further_tests windows (Bkgdset win attributes character) = (not (is_printable character), BadCharacter) ∷ []
+further_tests windows (ColorSet win pair) = (is_no_pair pair, BadPair) ∷ []
+further_tests windows (Bkgdpair win pair) = (is_no_pair pair, BadPair) ∷ []
+further_tests windows writing = []
 
 -- ---- settings
 
@@ -157,6 +147,10 @@ writing_edit windows (Attroff win attributes) =
 writing_edit windows (Bkgdset win attributes character) = sets win.0 (with_new_background (bits_of attributes) character)
 writing_edit windows (ColorSet win pair) = sets win.0 (with_pair pair)
 writing_edit windows (Bkgdpair win pair) = sets win.0 (with_background_pair pair)
+
+-- its window is there, and then the further ones
+abbrev pub writing_tests : Windows → Writing → List (Bool × Refusal)
+writing_tests windows writing = missing windows (edit_window (writing_edit windows writing)) ∷ further_tests windows writing
 
 abbrev pub writing_refusal : Windows → Writing → Option Refusal
 writing_refusal windows writing = first_of (writing_tests windows writing)

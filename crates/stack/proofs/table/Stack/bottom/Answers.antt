@@ -3,7 +3,7 @@ use Rattle.std.proofs.Common.{◌∷◌, ap, ◌∙◌, rules, refl}
 use Rattle.world.specs.calls.Stacking.{after_bottom_panel, without}
 use Rattle.stack.specs.Nodes.{from_bottom}
 use Rattle.stack.specs.Tables.{panels, PanelTable}
-use Rattle.stack.proofs.Tables.{reordered-panels}
+use Rattle.stack.proofs.Tables.{reordered-panels, reordered-table, sound}
 use Rattle.stack.proofs.table.Stack.bottom.Goals as goal
 
 pub returns : goal.returns
@@ -17,5 +17,5 @@ returns c = record {
       reordered-panels old c.move_to_bottom.new.nodes (p ∷ order) c.move_to_bottom.ensures
       ∙ ap (λ (t : PanelTable). after_bottom_panel (panels t) p) c.self.view_is;
   unchanged = tt;
-  sound = search rules;
+  sound = sound c.move_to_bottom.new.nodes (reordered-table c.self.inside.nodes c.move_to_bottom.new.nodes _ c.self.invariant c.move_to_bottom.ensures);
 }

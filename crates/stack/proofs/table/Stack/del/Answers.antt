@@ -2,7 +2,7 @@
 use Rattle.std.proofs.Common.{ap, ◌∙◌, rules, refl}
 use Rattle.world.specs.calls.Stacking.{after_del_panel}
 use Rattle.stack.specs.Tables.{panels, PanelTable}
-use Rattle.stack.proofs.Tables.{deleted-panels, deleted-table}
+use Rattle.stack.proofs.Tables.{deleted-panels, deleted-table, sound}
 use Rattle.stack.proofs.table.Stack.del.Goals as goal
 
 pub invariant_of-self : goal.invariant_of-self
@@ -19,5 +19,6 @@ returns c = record {
       c.self.invariant c.in_ok-require_panel.ensures.panel c.take_out.ensures.order c.take_out.ensures.out c.set_window.ensures
       ∙ ap (λ (t : PanelTable). after_del_panel (panels t) c.args.panel.0) c.self.view_is;
   unchanged = tt;
-  sound = search rules;
+  sound = sound c.set_window.new.self (deleted-table c.self.inside.nodes c.take_out.new.nodes c.set_window.new.self c.args.panel.0
+      c.self.invariant c.in_ok-require_panel.ensures.panel c.take_out.ensures.order c.take_out.ensures.out c.set_window.ensures);
 }

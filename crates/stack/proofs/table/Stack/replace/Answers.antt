@@ -3,7 +3,7 @@ use Rattle.std.proofs.Common.{ap, arith, ◌∙◌, rules, refl}
 use Rattle.world.specs.calls.Stacking.{after_replace_panel}
 use Rattle.stack.specs.Tables.{panels, PanelTable}
 use Rattle.stack.proofs.Searches.{none-has}
-use Rattle.stack.proofs.Tables.{replaced-panels, replaced-table}
+use Rattle.stack.proofs.Tables.{replaced-panels, replaced-table, sound}
 use Rattle.stack.proofs.table.Stack.replace.Goals as goal
 
 pub set_window-requires-clause-free : goal.set_window-requires-clause-free
@@ -25,5 +25,8 @@ returns c = record {
       c.self.invariant c.in_ok-require_panel.ensures.panel c.set_window.ensures
       ∙ ap (λ (t : PanelTable). after_replace_panel (panels t) c.args.panel.0 c.args.win.0) c.self.view_is;
   unchanged = tt;
-  sound = search rules;
+  sound =
+      let free = none-has c.self.inside.nodes c.self.invariant c.args.win.0 (grind (arith, c.holder.ensures.some)) in
+      sound c.set_window.new.self (replaced-table c.self.inside.nodes c.set_window.new.self c.args.panel.0 c.args.win.0
+      c.self.invariant c.in_ok-require_panel.ensures.panel c.set_window.ensures free);
 }
