@@ -49,6 +49,7 @@ pub(crate) fn damage_affected(
 }
 
 /// Damages what the standard screen and the windows of visible panels show of a write.
+#[inline(never)]
 fn damage_written(damage: &mut Damage, table: &Grids, stack: &Stack, win: WinId, frame: Rect)
     requires height { length damage.old ≡ table.now.lines }
     requires inside { IsPossible (windows_of table.now).window (Affected.Written win frame) }
@@ -74,6 +75,7 @@ fn damage_visible(damage: &mut Damage, table: &Grids, stack: &Stack, affected: A
 }
 
 /// Damages what window `u` shows of a change.
+#[inline(always)]
 fn damage_change(damage: &mut Damage, table: &Grids, affected: Affected, u: WinId)
     requires height { length damage.old ≡ table.now.lines }
     requires possible { IsPossible (windows_of table.now).window affected }
