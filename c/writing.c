@@ -32,7 +32,7 @@ static int add_spelled(WINDOW *win, uint8_t ch) {
 }
 
 /* Writes a character with the attributes that Curspan got last. */
-static int add_character(WINDOW *win, uint8_t ch) {
+static inline int add_character(WINDOW *win, uint8_t ch) {
     curspan_answer answer = curspan_waddch(SCREEN_AND(win), ch);
     return answer.status == CURSPAN_BAD_CHARACTER ? add_spelled(win, ch) : done(answer);
 }
