@@ -13,7 +13,8 @@ enum {
 
 /* What curspan.h doesn't tell back of a window, by its number. */
 struct curspan_window {
-    bool is_there, is_pad, scrolls;
+    uint16_t number; /* its own, and NUMBER where it isn't there */
+    bool is_pad, scrolls;
     attr_t attrs; /* the attributes and the pair that the window has */
     attr_t told;  /* those that Curspan got last */
     chtype background;
@@ -27,8 +28,7 @@ extern struct curspan_window curspan_windows[MOST];
 
 /* The number of a window, and for a pointer to none a number that no window has. */
 static inline uint16_t curspan_number(const WINDOW *win) {
-    uintptr_t from_first = (uintptr_t)win - (uintptr_t)curspan_windows;
-    return from_first < sizeof curspan_windows && win->is_there ? (uint16_t)(from_first / sizeof *win) : NUMBER;
+    return (uintptr_t)win - (uintptr_t)curspan_windows < sizeof curspan_windows ? win->number : NUMBER;
 }
 
 /* The window of an answer that is its number, and NULL of a refusal. */

@@ -10,7 +10,7 @@ struct curspan_window curspan_windows[MOST];
 static struct curspan_window the_terminal;
 
 static void forget(WINDOW *win) {
-    const struct curspan_window none = {.is_there = false, .background = ' '};
+    const struct curspan_window none = {.number = NUMBER, .background = ' '};
     *win = none;
 }
 
@@ -30,7 +30,7 @@ static WINDOW *made(curspan_answer answer, bool is_pad, WINDOW *parent) {
     WINDOW *win = curspan_window_of(answer);
     if (!win) return NULL;
     forget(win);
-    win->is_there = true;
+    win->number = (uint16_t)answer.first;
     win->is_pad = is_pad;
     win->parent = parent;
     win->bottom = getmaxy(win) - 1;

@@ -32,7 +32,7 @@ static int add_spelled(WINDOW *win, uint8_t ch) {
 }
 
 /* Writes a character with the attributes that Curspan got last. */
-static int add_character(WINDOW *win, uint8_t ch) {
+static inline int add_character(WINDOW *win, uint8_t ch) {
     curspan_answer answer = curspan_waddch(SCREEN_AND(win), ch);
     return answer.status == CURSPAN_BAD_CHARACTER ? add_spelled(win, ch) : done(answer);
 }
@@ -56,17 +56,23 @@ static size_t length_of(const char *text, int n) {
     return n < 0 ? strlen(text) : end ? (size_t)(end - text) : (size_t)n;
 }
 
-int waddnstr(WINDOW *win, const char *text, int n) {
-    if (!text || ready(win) == ERR) return ERR;
-    size_t length = length_of(text, n);
-    curspan_answer answer = curspan_waddstr(SCREEN_AND(win), (const uint8_t *)text, length);
-    if (answer.status != CURSPAN_BAD_CHARACTER) return done(answer);
+static int add_characters(WINDOW *win, const char *text, size_t length) {
     for (size_t i = 0; i < length; i++)
         if (add_character(win, (uint8_t)text[i]) == ERR) return ERR;
     return OK;
 }
 
-int waddstr(WINDOW *win, const char *text) { return waddnstr(win, text, -1); }
+/* Writes a text with the attributes that Curspan got last: at once, or where a character of it is spelled each by itself. */
+static inline int add_text(WINDOW *win, const char *text, size_t length) {
+    curspan_answer answer = curspan_waddstr(SCREEN_AND(win), (const uint8_t *)text, length);
+    return answer.status == CURSPAN_BAD_CHARACTER ? add_characters(win, text, length) : done(answer);
+}
+
+int waddnstr(WINDOW *win, const char *text, int n) {
+    return !text || ready(win) == ERR ? ERR : add_text(win, text, length_of(text, n));
+}
+
+int waddstr(WINDOW *win, const char *text) { return !text || ready(win) == ERR ? ERR : add_text(win, text, strlen(text)); }
 
 int waddchnstr(WINDOW *win, const chtype *row, int n) {
     int y = getcury(win), x = getcurx(win), most = getmaxx(win) - x, count;

@@ -49,6 +49,7 @@ pub(crate) fn damage_affected(
 }
 
 /// Damages what the standard screen and the windows of visible panels show of a write.
+#[inline(never)]
 fn damage_written(damage: &mut Damage, table: &Grids, stack: &Stack, win: WinId, frame: Rect)
     requires height { length damage.old ≡ table.now.lines }
     requires inside { IsPossible (windows_of table.now).window (Affected.Written win frame) }
@@ -60,6 +61,7 @@ fn damage_written(damage: &mut Damage, table: &Grids, stack: &Stack, win: WinId,
 }
 
 /// Damages what the windows of visible panels show of a change.
+#[inline(always)]
 fn damage_visible(damage: &mut Damage, table: &Grids, stack: &Stack, affected: Affected)
     requires height { length damage.old ≡ table.now.lines }
     requires possible { IsPossible (windows_of table.now).window affected }
@@ -74,6 +76,7 @@ fn damage_visible(damage: &mut Damage, table: &Grids, stack: &Stack, affected: A
 }
 
 /// Damages what window `u` shows of a change.
+#[inline(always)]
 fn damage_change(damage: &mut Damage, table: &Grids, affected: Affected, u: WinId)
     requires height { length damage.old ≡ table.now.lines }
     requires possible { IsPossible (windows_of table.now).window affected }
@@ -84,6 +87,7 @@ fn damage_change(damage: &mut Damage, table: &Grids, affected: Affected, u: WinI
 }
 
 /// The rectangle of the screen on which window `u` shows something of a change.
+#[inline(always)]
 fn changed_part(table: &Grids, affected: Affected, u: WinId) -> Option<Rect>
     requires { IsPossible (windows_of table.now).window affected }
     ensures holds { (y x : ℕ) → part_holds result y x ≡ affected_shows_at (windows_of table.now).window affected y x u.0 }

@@ -1,5 +1,5 @@
 -- The rectangle of a window in which it shows a part of another.
-use Rattle.std.proofs.Common.{◌≡◌, ℕ, ◌+◌, ◌-◌, ◌<◌, ◌≤◌, true, ◌&&◌, nat_le, Option, Some, None, IsSomeAnd, arith, sym, ◌∙◌, subst}
+use Rattle.std.proofs.Common.{◌≡◌, ℕ, ◌+◌, ◌-◌, ◌<◌, ◌≤◌, true, ◌&&◌, nat_le, Option, Some, None, IsSomeAnd, arith, refl, sym, ◌∙◌, subst}
 use Rattle.std.proofs.lemmas.Bool.{and_from, and_parts, le-leb, leb-true}
 use Rattle.cell.specs.declared.window.Rect.{Rect}
 use Rattle.world.specs.Frames.{AreRectangle}
@@ -93,3 +93,18 @@ module _ (window : WindowMap) (w u : ℕ) (r : Rect) (b : Window) (p q : GridPla
           },
           λ y x in_frame. seen-at y x in_frame.top in_frame.bottom in_frame.left in_frame.right,
         )
+
+-- ---- a window shows a part of itself where that is
+
+clips-itself : (from first last x : ℕ)
+    → (nat_le from (from + x) && has_column (Some (record { first = first; last = last })) (from + x - from)) ≡ has_column (Some (record { first = first; last = last })) x
+clips-itself from first last x =
+    let after : nat_le from (from + x) ≡ true = le-leb from (from + x) (omega arith) in
+    let same : from + x - from ≡ x = omega arith in
+    rw (after, same) refl
+
+pub seen-itself : (window : WindowMap) (w : ℕ) (r : Rect) (b : Window) (p : GridPlace) → window w ≡ Some b → own window w 0 0 ≡ Some p → r.top ≤ r.bottom → r.left ≤ r.right
+    → (r.bottom < b.lines) × (r.right < b.columns) → AreRectangle (SharesPart window w r w) (Some r)
+seen-itself window w r b p there leads lines columns inside =
+    seen-there window w w r b p p there leads leads refl (record { first = r.top; last = r.bottom }) (record { first = r.left; last = r.right })
+    (λ y below. clips-itself p.line r.top r.bottom y) (λ x below. clips-itself p.column r.left r.right x) (lines, inside.0) (columns, inside.1)

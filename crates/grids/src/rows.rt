@@ -14,7 +14,7 @@ use crate::frame::{joined, place};
 use crate::table::Grids;
 use cell::{Cell, Rect, WinId};
 use slots::Place;
-use slots::list::{columns_of, fill_row, origin_of, put_row, row_in, touch_row};
+use slots::list::{columns_of, fill_row, origin_of, print_row, put_row, row_in, touch_row};
 
 impl Grids {
     /// The cells of line `y` of a window, from left to right, without copying them. The line must exist.
@@ -68,6 +68,7 @@ impl Grids {
 
     /// Prints characters from 32 to 126 in line `y` of a window, from column `left` on, each with the attributes and the pair of a
     /// pen; a space becomes the pen itself. The places must exist.
+    #[inline(always)]
     pub fn print(&mut self, win: WinId, y: u16, left: u16, text: &[u8], pen: Cell)
         requires some { 0 < length text.now }
         requires there { HasPlace (windows self.old).window win.0 y (left + length text.now - 1) }
@@ -77,13 +78,13 @@ impl Grids {
     {
         let origin = origin_of(&self.slots, win.0);
         let end = left + text.len() as u16;
-        self.line.write(text, pen);
-        put_row(
+        print_row(
             &mut self.slots,
             origin.grid,
             origin.line + y,
             origin.column + left,
-            self.line.cells(),
+            text,
+            pen,
         );
         touch_row(&mut self.slots, win.0, y, left, end - 1);
         prove!(self.is_sound());

@@ -30,6 +30,9 @@ impl Grids {
     {
         prove!(self.is_sound());
         let source = origin_of(&self.slots, from.0);
+        if from == to {
+            return Some(frame);
+        }
         let target = origin_of(&self.slots, to.0);
         if source.grid != target.grid {
             return None;

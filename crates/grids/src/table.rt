@@ -3,7 +3,7 @@
 ghost use Rattle.std.specs.Prelude.{◌≡◌, ◌<◌, ◌≤◌, None, true, IsSome, IsSomeAnd, MatchResult, IfOk, Some};
 ghost use Rattle.std.specs.Option.{option_map};
 ghost use Rattle.cell.specs.Refusals.{RefusedBy};
-ghost use Rattle.world.specs.Settings.{after_set_settings};
+ghost use Rattle.world.specs.Settings.{after_set_settings, set, with_cursor};
 ghost use Rattle.world.specs.Sound.{AreSoundWindows};
 ghost use Rattle.world.specs.Windows.{HasPlace};
 ghost use Rattle.world.specs.World.{first_world};
@@ -12,7 +12,7 @@ ghost use Rattle.grids.specs.Tables.{windows, WindowTable, IsWindowTable};
 ghost use Rattle.slots.specs.Slots.{slot_at};
 
 use cell::{LARGEST_SCREEN, Refusal, WinId, is_no_size};
-use slots::list::set_slot;
+use slots::list::{set_cursor, set_slot};
 use slots::{Line, Slot};
 use std::alloc::Global;
 use std::marker::Model;
@@ -108,6 +108,15 @@ impl Grids {
         ensures sound { AreSoundWindows (windows self.new) }
     {
         set_slot(&mut self.slots, win.0, settings);
+        prove!(self.is_sound());
+    }
+    /// Moves the cursor of a window, which must hold the place.
+    pub fn set_cursor(&mut self, win: WinId, y: u16, x: u16)
+        requires { HasPlace (windows self.old).window win.0 y x }
+        ensures set { windows self.new ≡ set (windows self.old) win.0 (with_cursor (y, x)) }
+        ensures sound { AreSoundWindows (windows self.new) }
+    {
+        set_cursor(&mut self.slots, win.0, y, x);
         prove!(self.is_sound());
     }
 }

@@ -36,6 +36,7 @@ pub fn window_part(table: &Grids, win: WinId) -> Option<Rect>
 }
 
 /// The rectangle of the screen on which window `u` shows cells that `win` shows in a rectangle of it.
+#[inline(always)]
 pub fn shared_part(table: &Grids, win: WinId, frame: Rect, u: WinId) -> Option<Rect>
     requires ordered_lines { frame.top ≤ frame.bottom }
     requires ordered_columns { frame.left ≤ frame.right }

@@ -1,5 +1,6 @@
 //! What the table of windows keeps: a slot for each window, by number, and the spare line of a copy.
 //!
+//! - `ink`: characters printed with a pen
 //! - `line`: the spare line of a copy
 //! - `list`: the slots by number, and each change of one
 //! - `parents`: from a window to its parent and on, up to the grid
@@ -8,6 +9,7 @@
 //! - `touched`: the touched columns of a line
 #![tactic(auto)]
 
+mod ink;
 mod line;
 pub mod list;
 pub mod parents;

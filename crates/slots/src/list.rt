@@ -1,16 +1,17 @@
 //! The slots of the windows, by number, and changes of one of them.
 
-ghost use Rattle.std.specs.Prelude.{◌≡◌, ◌≢◌, ℕ, ◌<◌, ◌≤◌, ◌+◌, ◌-◌, Some, None, IsSome, IsSomeAnd, MatchOption, ⊤, length, slice_set, OnOk, OnErr, map};
+ghost use Rattle.std.specs.Prelude.{◌≡◌, ◌≢◌, ℕ, ◌<◌, ◌≤◌, ◌+◌, ◌-◌, Some, None, IsSome, IsSomeAnd, MatchOption, ⊤, length, slice_index, slice_set, EachIndex, OnOk, OnErr, map, true};
 ghost use Rattle.std.specs.List.{AllByRecursion, list_any, range_with_len};
-ghost use Rattle.cell.specs.Glyphs.{IsCell};
+ghost use Rattle.cell.specs.Glyphs.{IsCell, is_printable};
 ghost use Rattle.std.specs.Option.{is_none};
 ghost use Rattle.world.specs.Windows.{own, cell_of};
 ghost use Rattle.world.specs.calls.Copying.{lines_marked};
 ghost use Rattle.world.specs.Effects.{unmarked, with_place};
 ghost use Rattle.world.specs.Rows.{filled, listed};
-ghost use Rattle.world.specs.Settings.{with_settings};
+ghost use Rattle.world.specs.Settings.{set_in, with_cursor, with_settings};
 ghost use Rattle.world.specs.calls.Making.{has_derived, new_number};
 ghost use Rattle.slots.specs.Kept.{window_of};
+ghost use Rattle.slots.specs.Inks.{inked};
 ghost use Rattle.slots.specs.Slots.{slot_at, window_map, AreOrigins, IsChained, part_in, lines_at, columns_at, names_parent};
 ghost use Rattle.slots.specs.Changes.{Changed, Shifted, SetAt, IsFree, with_touched, with_drawing};
 
@@ -165,6 +166,26 @@ pub fn put_row(slots: &mut Vec<Option<Slot>>, at: u16, line: u16, left: u16, row
     }
 }
 
+/// Prints characters in a row of the grid of a slot.
+pub fn print_row(
+    slots: &mut Vec<Option<Slot>>,
+    at: u16,
+    line: u16,
+    left: u16,
+    text: &[u8],
+    pen: Cell,
+)
+    requires grid { IsSomeAnd (slot_at slots.old.items at) (λ k. part_in k.cells ≡ None) }
+    requires line_in { line < lines_at slots.old.items at }
+    requires columns_in { left + length text.now ≤ columns_at slots.old.items at }
+    requires printable { EachIndex text.now (λ k. is_printable (slice_index text.now k) ≡ true) }
+    ensures { Changed slots.old.items slots.new.items at (with_drawing (listed line left (map (inked pen) text.now))) }
+{
+    if let Some(slot) = &mut slots[usize::from(at)] {
+        slot.print(line, left, text, pen);
+    }
+}
+
 /// Touches a row of a slot's window.
 pub fn touch_row(slots: &mut Vec<Option<Slot>>, at: u16, line: u16, left: u16, right: u16)
     requires ordered { left ≤ right }
@@ -189,6 +210,18 @@ pub fn set_slot(slots: &mut Vec<Option<Slot>>, at: u16, settings: Settings)
 {
     if let Some(slot) = &mut slots[usize::from(at)] {
         slot.set_settings(settings);
+    }
+}
+
+/// Moves the cursor of a slot's window.
+pub fn set_cursor(slots: &mut Vec<Option<Slot>>, at: u16, y: u16, x: u16)
+    requires taken { IsSome (slot_at slots.old.items at) }
+    requires line { y < lines_at slots.old.items at }
+    requires column { x < columns_at slots.old.items at }
+    ensures { Changed slots.old.items slots.new.items at (set_in (with_cursor (y, x))) }
+{
+    if let Some(slot) = &mut slots[usize::from(at)] {
+        slot.set_cursor(y, x);
     }
 }
 

@@ -1,19 +1,21 @@
 //! What the table keeps of one window.
 
-ghost use Rattle.std.specs.Prelude.{◌≡◌, ℕ, ◌<◌, ◌≤◌, ◌+◌, ◌^◌, ◌&&◌, nat_le, nat_lt, if◌then◌else◌, IfOk, IsSome, is_some, Some, None, length, map, replicate, slice_index_or};
+ghost use Rattle.std.specs.Prelude.{◌≡◌, ℕ, ◌<◌, ◌≤◌, ◌+◌, ◌^◌, ◌&&◌, nat_le, nat_lt, if◌then◌else◌, EachIndex, IfOk, IsSome, is_some, Some, None, length, map, replicate, slice_index, slice_index_or, true};
 ghost use Rattle.std.specs.List.{AllByRecursion, list_any, range_with_len};
-ghost use Rattle.cell.specs.Glyphs.{IsCell};
+ghost use Rattle.cell.specs.Glyphs.{IsCell, is_printable};
 ghost use Rattle.cell.specs.Pictures.{HasSize, AreCells};
 ghost use Rattle.world.specs.calls.Copying.{lines_marked};
 ghost use Rattle.world.specs.Effects.{unmarked, with_place, with_part};
 ghost use Rattle.world.specs.Rows.{filled, listed};
-ghost use Rattle.world.specs.Settings.{with_settings};
+ghost use Rattle.world.specs.Settings.{set_in, with_cursor, with_settings};
 ghost use Rattle.world.specs.World.{new_window, first_settings, blank_grid};
 ghost use Rattle.world.specs.Windows.{any_below, laid_over, cell_of, part_of};
 ghost use Rattle.slots.specs.Kept.{window_of, backing_of, IsGridOf, IsKept, Kept, HasShape};
+ghost use Rattle.slots.specs.Inks.{inked};
 ghost use Rattle.slots.specs.Slots.{part_in, names_parent};
 ghost use Rattle.slots.specs.Changes.{with_touched, with_drawing, SameShape, shifted, StaysInPlace};
 
+use crate::ink::print_in;
 use crate::touched::Touched;
 use cell::{Attr, Cell, Grid, LARGEST_PAD, PairId};
 use std::alloc::{AllocError, Global};
@@ -254,6 +256,16 @@ impl Slot {
         };
     }
 
+    /// Moves the cursor.
+    pub fn set_cursor(&mut self, y: u16, x: u16)
+        requires line { y < self.old.lines }
+        requires column { x < self.old.columns }
+        ensures window { window_of self.new ≡ set_in (with_cursor (y, x)) (window_of self.old) }
+        ensures place { StaysInPlace self.old self.new }
+    {
+        self.settings.cursor = (y, x);
+    }
+
     /// Moves the window to a place of the screen.
     pub fn set_place(&mut self, y: u16, x: u16)
         requires { IsSome self.old.place }
@@ -352,6 +364,20 @@ impl Slot {
     {
         if let Cells::Own(grid) = &mut self.cells {
             grid.put_cells(usize::from(line), usize::from(left), row);
+        }
+    }
+
+    /// Prints characters in a line of the grid, from column `left` on, with a pen.
+    pub fn print(&mut self, line: u16, left: u16, text: &[u8], pen: Cell)
+        requires own { part_in self.old.cells ≡ None }
+        requires line_in { line < self.old.lines }
+        requires columns_in { left + length text.now ≤ self.old.columns }
+        requires printable { EachIndex text.now (λ k. is_printable (slice_index text.now k) ≡ true) }
+        ensures window { window_of self.new ≡ with_drawing (listed line left (map (inked pen) text.now)) (window_of self.old) }
+        ensures place { StaysInPlace self.old self.new }
+    {
+        if let Cells::Own(grid) = &mut self.cells {
+            print_in(grid, usize::from(line), usize::from(left), text, pen);
         }
     }
 

@@ -5,9 +5,8 @@ use mathlib.Core.Path.{fun_ext}
 use Rattle.std.proofs.lemmas.Bool.{eqb-true}
 use Rattle.std.proofs.lemmas.Nat.{and_mask}
 use Rattle.cell.specs.Attributes.{bits_of, valid_attributes}
-use Rattle.cell.specs.Pictures.{Place}
 use Rattle.world.specs.Windows.{Window, WindowMap, Windows, GridPlace, Drawing, own, drawn, put_from, put_windows, put, HasPlace}
-use Rattle.world.specs.Settings.{with_settings, after_set_settings, set_in, set, with_cursor}
+use Rattle.world.specs.Settings.{with_settings, after_set_settings, set_in, set}
 use Rattle.world.specs.Sound.{AreSoundWindows, IsSoundWindow}
 use Rattle.world.specs.calls.Queries.{window_size}
 use Rattle.std.specs.Prelude.{⊤, MatchOption}
@@ -83,12 +82,6 @@ set-is windows w s settings change h e = λ i. record windows {
   window = fun_ext (λ u.
       set-at settings change h.window (u == w) (windows.window u) (λ t. ap windows.window (eqb-true u w t) ∙ h.there) (e ∙ sym (ap change h.settings))) i;
 }
-
-pub set-cursor : (windows new : Windows) (w : ℕ) (s : WindowState) (place : Place) → IsStateOf windows w s
-    → new ≡ after_set_settings windows w (record s.settings { cursor = place }) → new ≡ set windows w (with_cursor place)
-set-cursor windows new w s place h is =
-    let bits = valid_attributes-small (bits_of s.settings.attrs) h.within.attributes in
-    is ∙ set-is windows w s (record s.settings { cursor = place }) (with_cursor place) h (λ i. record s.settings { cursor = place; attrs = record { 0 = bits i } })
 
 -- a window of a sound world has the state that its size and its settings make
 state_from : (windows : Windows) (w : ℕ) (size : ℕ × ℕ) (settings : Settings) (o : Option Window) → windows.window w ≡ o → AreSoundWindows windows

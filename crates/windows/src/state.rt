@@ -41,9 +41,5 @@ pub fn set_cursor(table: &mut Grids, win: WinId, state: &WindowState, y: u16, x:
     ensures set { windows table.new ≡ set (windows table.old) win.0 (with_cursor (y, x)) }
     ensures sound { AreSoundWindows (windows table.new) }
 {
-    let settings = Settings {
-        cursor: (y, x),
-        ..state.settings
-    };
-    table.set_settings(win, settings);
+    table.set_cursor(win, y, x);
 }

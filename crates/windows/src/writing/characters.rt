@@ -35,20 +35,18 @@ impl Windows {
     ///
     /// # Errors
     /// `NoSuchWindow`; `BadCharacter` for another character outside 32 to 126.
+    #[inline(always)]
     pub fn waddch(&mut self, win: WinId, ch: u8) -> Result<Option<Rect>, Refusal>
         ensures { Wrote its_frame self.old.table (Writing.Addch win ch) result self.new.table }
     {
-        let state = state_of(&self.table, win)?;
-        if is_bad_character(ch) {
-            return Err(Refusal::BadCharacter);
-        }
-        Ok(type_character(&mut self.table, win, &state, ch))
+        self.waddstr(win, &[ch])
     }
 
     /// Writes the characters of a text in order, each as `waddch` does. No character of a refused text is written.
     ///
     /// # Errors
     /// `NoSuchWindow`; `BadCharacter` for a character other than 8, 10, 13 and 32 to 126.
+    #[inline(always)]
     pub fn waddstr(&mut self, win: WinId, text: &[u8]) -> Result<Option<Rect>, Refusal>
         ensures { Wrote its_frame self.old.table (Writing.Addstr win text.entry) result self.new.table }
     {
@@ -116,6 +114,7 @@ fn is_one_run(state: &WindowState, text: &[u8]) -> bool
 }
 
 /// Writes an accepted text in a window that is there.
+#[inline(never)]
 fn type_text(table: &mut Grids, win: WinId, text: &[u8]) -> Option<Rect>
     requires there { IsSome ((windows table.old).window win.0) }
     requires accepted { list_any is_bad_character text.now ≡ false }

@@ -1,15 +1,13 @@
 -- `print`: what a change of one slot does to the table and to the windows (`Changes`); a row written through a window is one put
 -- (`Writes`).
-use Rattle.std.proofs.Common.{◌≡◌, ◌+◌, ◌-◌, ◌<◌, List, length, map, arith, refl, ap, sym, subst, ◌∙◌}
+use Rattle.std.proofs.Common.{◌≡◌, ◌+◌, ◌-◌, ◌<◌, length, map, refl, sym, subst}
 use Rattle.std.proofs.lemmas.List.{length-map}
-use Rattle.cell.specs.Glyphs.{Glyph}
 use Rattle.world.specs.Rows.{listed}
-use Rattle.world.specs.Windows.{HasPlace, put}
+use Rattle.world.specs.Windows.{HasPlace}
 use Rattle.slots.specs.Changes.{Changed, with_touched, with_drawing}
 use Rattle.slots.specs.Slots.{window_map}
 use Rattle.slots.specs.Inks.{inked}
 use Rattle.grids.specs.contracts.table.Grids.{the_view}
-use Rattle.grids.specs.Tables.{windows}
 use Rattle.grids.proofs.Changes.{IsWindowTable-changed}
 use Rattle.grids.proofs.Writes.{windows-listed}
 use Rattle.grids.proofs.table.Grids.print.Goals as goal
@@ -19,9 +17,9 @@ invariant_of-self c =
     let a = c.args in
     let o = c.origin_of-origin.result in
     let t = the_view c.self.inside in
-    let s = IsWindowTable-changed t c.put_row.new.slots.items o.grid (with_drawing (listed (o.line + a.y) (o.column + a.left) c.cells.result.now)) c.self.invariant c.put_row.ensures
-    (λ b. refl) in
-    IsWindowTable-changed (record t { slots = c.put_row.new.slots.items }) c.touch_row.new.slots.items a.win.0 (with_touched a.y a.left (a.left + length a.text.now - 1)) s c.touch_row.ensures
+    let s = IsWindowTable-changed t c.print_row.new.slots.items o.grid (with_drawing (listed (o.line + a.y) (o.column + a.left) (map (inked a.pen) a.text.now))) c.self.invariant
+    c.print_row.ensures (λ b. refl) in
+    IsWindowTable-changed (record t { slots = c.print_row.new.slots.items }) c.touch_row.new.slots.items a.win.0 (with_touched a.y a.left (a.left + length a.text.now - 1)) s c.touch_row.ensures
     (λ b. refl)
 
 pub returns-clause-written : goal.returns-clause-written
@@ -29,15 +27,13 @@ returns-clause-written c =
     let a = c.args in
     let o = c.origin_of-origin in
     let t = the_view c.self.inside in
-    let cells = c.cells.result.now in
-    let held : cells ≡ map (inked a.pen) a.text.now = c.cells.ensures ∙ c.write.ensures.written in
-    let all : length a.text.now ≡ length cells = sym (ap (length {A = Glyph}) held ∙ length-map a.text.now (inked a.pen)) in
+    let cells = map (inked a.pen) a.text.now in
+    let all : length a.text.now ≡ length cells = sym (length-map a.text.now (inked a.pen)) in
     let there = rw (← c.self.view_is) at c.requires.there in
     let leads = rw c.deref.ensures.value at o.ensures.leads in
     rw (← c.self.view_is)
-    (subst (λ (row : List Glyph). windows (record t { slots = c.touch_row.new.slots.items }) ≡ put (windows t) a.win.0 (listed a.y a.left row)) held
-    (windows-listed t c.put_row.new.slots.items c.touch_row.new.slots.items a.win.0
+    (windows-listed t c.print_row.new.slots.items c.touch_row.new.slots.items a.win.0
     (record { grid = o.result.grid; line = o.result.line; column = o.result.column }) a.y a.left cells
     (subst (λ n. HasPlace (window_map t.slots) a.win.0 a.y (a.left + n - 1)) all there)
-    (subst (λ n. 0 < n) all c.requires.some) leads c.put_row.ensures
-    (subst (λ n. Changed c.put_row.new.slots.items c.touch_row.new.slots.items a.win.0 (with_touched a.y a.left (a.left + n - 1))) all c.touch_row.ensures)))
+    (subst (λ n. 0 < n) all c.requires.some) leads c.print_row.ensures
+    (subst (λ n. Changed c.print_row.new.slots.items c.touch_row.new.slots.items a.win.0 (with_touched a.y a.left (a.left + n - 1))) all c.touch_row.ensures))

@@ -1,13 +1,26 @@
--- Windows of two grids share no cell; of one grid the shared lines and columns are the rectangle.
-use Rattle.std.proofs.Common.{◌≡◌, Some, subst}
+-- A window shows a part of itself where that is; windows of two grids share no cell; of one grid the shared lines and columns are the rectangle.
+use Rattle.std.proofs.Common.{rules, ◌≡◌, ◌<◌, Some, ℕ, subst}
+use Rattle.world.specs.Frames.{AreRectangle}
+use Rattle.world.specs.Sharing.{SharesPart}
 use Rattle.world.specs.Windows.{GridPlace, own}
 use Rattle.grids.specs.declared.table.Grids.{Grids}
 use Rattle.slots.specs.Slots.{window_map}
 use Rattle.grids.specs.Tables.{windows}
-use Rattle.grids.proofs.Seen.{seen-above, seen-apart, seen-beside, seen-there}
+use Rattle.grids.proofs.Seen.{seen-above, seen-apart, seen-beside, seen-itself, seen-there}
 use Rattle.grids.proofs.Touches.{there-and}
 use Rattle.grids.proofs.Ancestors.{some_window}
 use Rattle.grids.proofs.table.Grids.seen_in.Goals as goal
+
+pub returns-then-eq-clause-seen : goal.returns-then-eq-clause-seen
+returns-then-eq-clause-seen c =
+    let a = c.args in
+    let map = (windows a.self.now).window in
+    let p : GridPlace = record { grid = c.origin_of-source.result.grid; line = c.origin_of-source.result.line; column = c.origin_of-source.result.column } in
+    let leads : own map a.from.0 0 0 ≡ Some p = subst (λ (t : Grids). own (window_map t.slots) a.from.0 0 0 ≡ Some p) c.self.view_is (rw c.deref.ensures.value at c.origin_of-source.ensures.leads) in
+    let b = there-and (map a.from.0) (λ b. (a.frame.bottom < b.lines) × (a.frame.right < b.columns)) c.requires.inside in
+    let same : a.from.0 ≡ a.to.0 = search rules in
+    subst (λ (u : ℕ). AreRectangle (SharesPart map a.from.0 a.frame u) (Some a.frame)) same
+    (seen-itself map a.from.0 a.frame b.0 p b.1 leads c.requires.ordered_lines c.requires.ordered_columns b.2)
 
 pub returns-then-source-target-clause-seen : goal.returns-then-source-target-clause-seen
 returns-then-source-target-clause-seen c =
