@@ -35,7 +35,6 @@ impl Windows {
     ///
     /// # Errors
     /// `NoSuchWindow`; `BadCharacter` for another character outside 32 to 126.
-    #[inline(always)]
     pub fn waddch(&mut self, win: WinId, ch: u8) -> Result<Option<Rect>, Refusal>
         ensures { Wrote its_frame self.old.table (Writing.Addch win ch) result self.new.table }
     {
@@ -46,7 +45,6 @@ impl Windows {
     ///
     /// # Errors
     /// `NoSuchWindow`; `BadCharacter` for a character other than 8, 10, 13 and 32 to 126.
-    #[inline(always)]
     pub fn waddstr(&mut self, win: WinId, text: &[u8]) -> Result<Option<Rect>, Refusal>
         ensures { Wrote its_frame self.old.table (Writing.Addstr win text.entry) result self.new.table }
     {
