@@ -1,3 +1,4 @@
+-- A bit below the place is masked away; one from there on is kept, also past the 64th, where none is set.
 use Rattle.std.proofs.Common.{◌-◌, ◌^◌, inl, inr, arith}
 use Rattle.std.proofs.lemmas.Nat.Bits.{bit_at_and, bit_at-lt, bit_at_above, bit_at_mask_above, bit_at_mask_below, bit_at_mask_inside, ones_shl}
 use Rattle.std.proofs.lemmas.Bool.{cases_lt}
