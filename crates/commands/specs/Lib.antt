@@ -3,6 +3,7 @@ pub mod Printing
 pub mod Written
 pub mod Escapes
 pub mod Statuses
+pub mod RefusedWords
 pub mod Shows
 pub mod Checks
 pub mod steps

@@ -6,9 +6,11 @@
 //! - `escapes`: a usage fault's text
 //! - `printing`: the printed picture
 //! - `put`: what is written, and flushed
+//! - `refused_words`: what is shown of words that are refused
 //! - `requests`: what the words ask for
 //! - `show`: `show`
 //! - `status`: the exit statuses
+
 #![tactic(auto)]
 
 mod check;
@@ -16,15 +18,16 @@ mod command;
 mod escapes;
 mod printing;
 mod put;
+mod refused_words;
 mod requests;
 mod show;
 mod status;
 
 pub use check::check_script;
 pub use command::job;
-pub use escapes::log_escaped;
 pub use printing::print;
-pub use put::{write_log, write_out};
+pub use put::write_log;
+pub use refused_words::usage;
 pub use requests::{Job, Kind, Request};
 pub use show::show_stream;
-pub use status::{ACCEPTED, BAD_TEXT, log_failure, no_memory, status_of};
+pub use status::{log_failure, log_fault, no_memory, status_of};

@@ -1,6 +1,6 @@
 //! The exit statuses, and what is written to the log with them.
 
-ghost use Rattle.std.specs.Prelude.{◌≡◌, ◌<◌, None};
+ghost use Rattle.std.specs.Prelude.{◌≡◌, ◌<◌, MatchOption, None};
 ghost use Rattle.commands.specs.Statuses.{no_memory_line, status_of};
 ghost use Rattle.commands.specs.Written.{TriesToLog};
 ghost use Rattle.script.specs.Log.{last_line};
@@ -36,6 +36,15 @@ pub fn log_failure<L: Sink>(log: &mut L, fault: ScriptFault) -> u8
 {
     write_log(log, last_line(fault).as_slice());
     FAILED
+}
+
+/// Writes to the log the line of the fault that ended a script, if there is one.
+pub fn log_fault<L: Sink>(log: &mut L, fault: Option<ScriptFault>)
+    ensures { MatchOption fault (log.new ≡ log.old) (λ fault. TriesToLog (L.seen log.old) (L.seen log.new) (last_line fault)) }
+{
+    if let Some(fault) = fault {
+        write_log(log, last_line(fault).as_slice());
+    }
 }
 
 /// The status for how a script ended.

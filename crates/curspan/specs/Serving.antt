@@ -2,7 +2,7 @@
 use Rattle.std.specs.Prelude.{◌≡◌, ◌⊎◌, ℕ, List, Some, None, false, is_some, MatchOption}
 use Rattle.clap.specs.Words.{IsAmong, Text, fault_of}
 use Rattle.clap.specs.declared.error.kind.ErrorKind.{ErrorKind}
-use Rattle.clap.specs.declared.error.kind.ErrorKind.TheVariants.{DisplayHelp, DisplayVersion, OutOfMemory}
+use Rattle.clap.specs.declared.error.kind.ErrorKind.TheVariants.{OutOfMemory}
 use Rattle.cell.specs.Shown.{no_rendition}
 use Rattle.cell.specs.Pictures.{picture_of}
 use Rattle.world.specs.World.{World, first_world, picture, topmost_cursor}
@@ -20,35 +20,14 @@ use Rattle.commands.specs.Checks.{Checks}
 use Rattle.commands.specs.CommandLine.{Asks, AsksCheck, curspan}
 use Rattle.commands.specs.Printing.{printed_picture}
 use Rattle.commands.specs.Shows.{Shows}
-use Rattle.commands.specs.Escapes.{escaped_text}
 use Rattle.commands.specs.Statuses.{LacksMemory, status_of}
+use Rattle.commands.specs.RefusedWords.{Explains}
 use Rattle.commands.specs.Written.{IsNotWritten, IsWritten, Outputs, TriesToLog}
 use Rattle.commands.specs.declared.requests.Job.{Job}
 use Rattle.commands.specs.declared.requests.Kind.{Kind}
 use Rattle.commands.specs.declared.requests.Kind.TheVariants.{Run, Paint, Show}
 
 -- ---- words that are refused
-
--- A text was shown: it went to the output; or writing it failed, and the log gets a line.
-abbrev pub ShowsText : List ℕ → Outputs → Outputs → ℕ → Type 0
-ShowsText text old new status =
-    ((status ≡ 0) × IsWritten old.output new.output text × (new.log ≡ old.log))
-    ⊎ ((status ≡ 3) × IsNotWritten old.output new.output text × TriesToLog old.log new.log (last_line Log))
-
--- Help was shown, a text of clap's.
-abbrev pub ShowsHelp : Outputs → Outputs → ℕ → Type 0
-ShowsHelp old new status = (text : List ℕ) × ShowsText text old new status
-
--- A usage fault goes to the log, as a text of clap's with its bytes escaped, and nothing went to the output.
-abbrev pub LogsUsage : Outputs → Outputs → ℕ → Type 0
-LogsUsage old new status = (text : List ℕ) × (status ≡ 2) × (new.output ≡ old.output) × TriesToLog old.log new.log (escaped_text text)
-
--- What is said of an error of that kind. There may be no memory for its text.
-abbrev pub Explains : ErrorKind → Outputs → Outputs → ℕ → Type 0
-Explains OutOfMemory old new status = LacksMemory old new status
-Explains DisplayHelp old new status = ShowsHelp old new status ⊎ LacksMemory old new status
-Explains DisplayVersion old new status = ShowsHelp old new status ⊎ LacksMemory old new status
-Explains kind old new status = LogsUsage old new status ⊎ LacksMemory old new status
 
 -- Memory ran out, or clap refuses the words by a kind, and that is said.
 abbrev pub Refuses : List Text → Outputs → Outputs → ℕ → Type 0

@@ -3,11 +3,10 @@
 ghost use Rattle.std.specs.Prelude.{◌≡◌, ◌<◌, ◌⊎◌, IfOk, None, Some, map};
 ghost use Rattle.cell.specs.Refusals.{RefusedBy};
 ghost use Rattle.cell.specs.Shown.{no_rendition};
-ghost use Rattle.clap.specs.Words.{kind_of};
 ghost use Rattle.commands.specs.CommandLine.{IsSize};
 ghost use Rattle.commands.specs.Printing.{printed_picture};
 ghost use Rattle.curspan.specs.steps.Painting.{PaintsScreen};
-ghost use Rattle.curspan.specs.Serving.{Explains, Paints, Runs, RunsAndLogs, Serves, ShowsText, nothing_seen};
+ghost use Rattle.curspan.specs.Serving.{Paints, Runs, RunsAndLogs, Serves, nothing_seen};
 ghost use Rattle.commands.specs.Statuses.{LacksMemory};
 ghost use Rattle.commands.specs.Written.{WritingEnds, outputs};
 ghost use Rattle.compose.specs.Desks.{world};
@@ -19,50 +18,17 @@ ghost use Rattle.world.specs.declared.call.Call.{Call};
 ghost use Rattle.world.specs.declared.call.Refresh.{Refresh};
 
 use cell::Rendition;
-use clap::Error;
-use clap::error::ErrorKind;
 use commands::{
-    ACCEPTED, BAD_TEXT, Job, Kind, Request, check_script, job, log_escaped, log_failure, no_memory,
-    print, show_stream, status_of, write_log, write_out,
+    Job, Kind, Request, check_script, job, log_failure, log_fault, no_memory, print, show_stream,
+    status_of, usage,
 };
 use desk::{
     Call, Calls, Desk, Refresh, Refusal, Screen, ScriptEnd, ScriptFault, Sink, Source,
     VirtualScreen,
 };
-use script::last_line;
 use std::alloc::Global;
 use std::convert::AsStr;
 use streams::Discard;
-
-/// Prints a text on the output, and answers the status.
-fn show_text<O: Sink, L: Sink>(text: &[u8], out: &mut O, log: &mut L) -> u8
-    ensures shown { ShowsText text.now (outputs (O.seen out.old) (L.seen log.old)) (outputs (O.seen out.new) (L.seen log.new)) result }
-    ensures log { result < 2 → log.new ≡ log.old }
-{
-    if write_out(out, text) {
-        ACCEPTED
-    } else {
-        log_failure(log, ScriptFault::Log)
-    }
-}
-
-/// Prints help on the output, or a usage fault, escaped, on the log, and answers the status.
-fn usage<O: Sink, L: Sink>(alloc: Global, error: &Error, out: &mut O, log: &mut L) -> u8
-    ensures explained { Explains (kind_of error.now) (outputs (O.seen out.old) (L.seen log.old)) (outputs (O.seen out.new) (L.seen log.new)) result }
-    ensures log { result < 2 → log.new ≡ log.old }
-{
-    if error.kind() == ErrorKind::OutOfMemory {
-        return no_memory(log);
-    }
-    match error.to_string(alloc) {
-        Ok(text) if error.use_stderr() => {
-            log_escaped(log, text.as_bytes());
-            BAD_TEXT
-        }
-        Ok(text) => show_text(text.as_bytes(), out, log),
-        Err(_) => no_memory(log),
-    }
-}
 
 /// A screen of the job's size, over a sink that keeps nothing.
 fn blank_screen(alloc: Global, job: Job) -> Result<Screen<Discard>, Refusal>
@@ -86,9 +52,7 @@ fn run_and_log<W: Sink, R: Source, L: Sink>(
     ensures same { W.name screen.new.writer ≡ W.name screen.old.writer }
 {
     let end = screen.run_script(input, log);
-    if let Some(fault) = end.fault {
-        write_log(log, last_line(fault).as_slice());
-    }
+    log_fault(log, end.fault);
     end
 }
 

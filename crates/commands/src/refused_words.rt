@@ -1,0 +1,46 @@
+//! What is shown of words that `clap` refuses: help on the output, or a usage fault on the log.
+
+ghost use Rattle.std.specs.Prelude.{◌≡◌, ◌<◌};
+ghost use Rattle.clap.specs.Words.{kind_of};
+ghost use Rattle.commands.specs.RefusedWords.{Explains, ShowsText};
+ghost use Rattle.commands.specs.Written.{outputs};
+
+use crate::escapes::log_escaped;
+use crate::put::write_out;
+use crate::status::{ACCEPTED, BAD_TEXT, log_failure, no_memory};
+use clap::Error;
+use clap::error::ErrorKind;
+use script::ScriptFault;
+use std::alloc::Global;
+use std::convert::AsStr;
+use streams::Sink;
+
+/// Prints a text on the output, and answers the status.
+fn show_text<O: Sink, L: Sink>(text: &[u8], out: &mut O, log: &mut L) -> u8
+    ensures shown { ShowsText text.now (outputs (O.seen out.old) (L.seen log.old)) (outputs (O.seen out.new) (L.seen log.new)) result }
+    ensures log { result < 2 → log.new ≡ log.old }
+{
+    if write_out(out, text) {
+        ACCEPTED
+    } else {
+        log_failure(log, ScriptFault::Log)
+    }
+}
+
+/// Prints help on the output, or a usage fault, escaped, on the log, and answers the status.
+pub fn usage<O: Sink, L: Sink>(alloc: Global, error: &Error, out: &mut O, log: &mut L) -> u8
+    ensures explained { Explains (kind_of error.now) (outputs (O.seen out.old) (L.seen log.old)) (outputs (O.seen out.new) (L.seen log.new)) result }
+    ensures log { result < 2 → log.new ≡ log.old }
+{
+    if error.kind() == ErrorKind::OutOfMemory {
+        return no_memory(log);
+    }
+    match error.to_string(alloc) {
+        Ok(text) if error.use_stderr() => {
+            log_escaped(log, text.as_bytes());
+            BAD_TEXT
+        }
+        Ok(text) => show_text(text.as_bytes(), out, log),
+        Err(_) => no_memory(log),
+    }
+}
