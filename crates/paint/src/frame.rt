@@ -14,8 +14,8 @@ use cell::{Grid, Shown};
 use streams::{Discard, Sink};
 
 /// Draws the wanted picture over the one that is shown, from which it may differ in some columns only, from where the cursor is, and goes
-/// to a place. It is drawn in passes where that takes fewer bytes. Both ways are drawn into the pen's own room first, and that text is
-/// kept where all of it is there.
+/// to a place. Where passes may take fewer bytes than one walk over all lines, both are drawn into the pen's room first. The shorter text is
+/// drawn again for the sink, unless it is the one of the passes and is still in the room as a whole.
 pub fn draw_frame<W: Sink>(
     pen: &mut Pen,
     sink: &mut W,
@@ -40,28 +40,27 @@ pub fn draw_frame<W: Sink>(
     ensures columns { pen.new.columns ≡ pen.old.columns }
     ensures same { W.name sink.new ≡ W.name sink.old }
 {
-    let at_once = Order::new();
+    let walk = Order::new();
     let order = order_of(shown, wanted, pen.columns(), changes);
     if order.renditions().is_empty() {
-        draw(pen, sink, lines, shown, wanted, changes, from, to, &at_once);
+        draw(pen, sink, lines, shown, wanted, changes, from, to, &walk);
         return;
     }
-    let mut room = Discard::new();
+    let mut discard = Discard::new();
+    let nowhere = &mut discard;
+    draw(pen, nowhere, lines, shown, wanted, changes, from, to, &walk);
+    let bytes = pen.bytes();
     draw(
-        pen, &mut room, lines, shown, wanted, changes, from, to, &at_once,
+        pen, nowhere, lines, shown, wanted, changes, from, to, &order,
     );
-    let most = pen.bytes();
-    draw(
-        pen, &mut room, lines, shown, wanted, changes, from, to, &order,
-    );
-    if pen.bytes() >= most {
-        draw(pen, sink, lines, shown, wanted, changes, from, to, &at_once);
+    if bytes <= pen.bytes() {
+        draw(pen, sink, lines, shown, wanted, changes, from, to, &walk);
     } else if !pen.holds_all() {
         draw(pen, sink, lines, shown, wanted, changes, from, to, &order);
     }
 }
 
-/// Draws it in the passes of an order.
+/// The same in the passes of an order, or, where it has none, in one walk.
 fn draw<W: Sink>(
     pen: &mut Pen,
     sink: &mut W,

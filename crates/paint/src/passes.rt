@@ -68,7 +68,7 @@ fn pass_of(order: &[Rendition], rendition: Rendition) -> usize
     pass
 }
 
-/// Whether a pass draws a rendition. The pass's own, if it has one, tells of most others that it doesn't.
+/// Whether a rendition is drawn in a pass. Where the pass has one of its own, that tells of most others that they aren't.
 fn is_drawn_in(order: &[Rendition], pass: usize, rendition: Rendition) -> bool
     ensures { result ≡ (pass_of order.now rendition == pass) }
 {
