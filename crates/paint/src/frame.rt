@@ -14,8 +14,8 @@ use cell::{Grid, Shown};
 use streams::{Discard, Sink};
 
 /// Draws the wanted picture over the one that is shown, from which it may differ in some columns only, from where the cursor is, and goes
-/// to a place. Where passes may take fewer bytes than one walk over all lines, both are drawn into the pen's room first. The shorter text is
-/// drawn again for the sink, unless it is the one of the passes and is still in the room as a whole.
+/// to a place. Where passes may take fewer bytes than one walk over all lines, both are drawn into the pen's room first. If the passes took
+/// fewer, their text stays where all of it is in the room still, and else they are drawn again for the sink. If not, the walk is.
 pub fn draw_frame<W: Sink>(
     pen: &mut Pen,
     sink: &mut W,

@@ -44,7 +44,7 @@ impl Outbox {
         self.sent.saturating_add(self.room.bytes().len() as u32)
     }
 
-    /// Whether it has all that was gathered still, of which nothing went out: to any sink, then.
+    /// Whether nothing of what was gathered went out, so that all of it may still go to any sink.
     pub fn holds_all(&self) -> bool
         ensures { result ≡ true → (start now seen : Seen) (text : List ℕ) → IsGathered start now self.now text → IsGathered seen seen self.now text }
     {

@@ -68,7 +68,7 @@ fn pass_of(order: &[Rendition], rendition: Rendition) -> usize
     pass
 }
 
-/// Whether a rendition is drawn in a pass. Where the pass has one of its own, that tells of most others that they aren't.
+/// Whether a pass draws what has a rendition. The pass's own rendition, if it has one, rules out most others at once.
 fn is_drawn_in(order: &[Rendition], pass: usize, rendition: Rendition) -> bool
     ensures { result ≡ (pass_of order.now rendition == pass) }
 {

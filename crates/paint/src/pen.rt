@@ -60,9 +60,10 @@ impl Pen {
         self.outbox.bytes()
     }
 
-    /// Whether it has all of its text still, of which nothing went out: to any sink, then.
+    /// Whether nothing of its text went out, so that all of it may still go to any sink.
     pub fn holds_all(&self) -> bool
-        ensures { result ≡ true → (start now seen : Seen) (text : List ℕ) → IsGathered start now self.now.outbox text → IsGathered seen seen self.now.outbox text }
+        ensures { result ≡ true → (start now seen : Seen) (text : List ℕ)
+            → IsGathered start now self.now.outbox text → IsGathered seen seen self.now.outbox text }
     {
         self.outbox.holds_all()
     }

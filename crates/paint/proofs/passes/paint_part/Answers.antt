@@ -117,7 +117,8 @@ loop-x-preserved g c =
     let end : x + length cells ≡ stop = omega (arith, many, some) in
     let new = c.index-wanted-x-in-loop-x.is ∙ get_or_default wanted x c.index-wanted-x-in-loop-x.result shown_blank (omega arith) in
     let drawn_in : pass_in order (get_or wanted x shown_blank).rendition ≡ pass =
-    ap (pass_in order) (sym (c.rendition.ensures.value ∙ ap (λ (cell : Shown). cell.rendition) new)) ∙ eqb-true (pass_in order c.rendition.result) pass (sym c.is_drawn_in.ensures ∙ c.if-not-is_drawn_in.false) in
+    ap (pass_in order) (sym (c.rendition.ensures.value ∙ ap (λ (cell : Shown). cell.rendition) new))
+    ∙ eqb-true (pass_in order c.rendition.result) pass (sym c.is_drawn_in.ensures ∙ c.if-not-is_drawn_in.false) in
     let now = λ (v : ℕ) (from : x ≤ v) (to : v < stop). ap (pass_in order) (c.run_end-stop.ensures.rendition v from to) ∙ drawn_in in
     let before = λ (v : ℕ) (from : x ≤ v) (to : v < stop). get-out p v shown wanted same (omega (arith, to, inside)) (not-yet _ pass (now v from to)) in
     let after = λ (v : ℕ) (from : x ≤ v) (to : v < stop). get-in q v shown wanted same (omega (arith, to, inside)) (now-drawn _ pass (now v from to)) in
