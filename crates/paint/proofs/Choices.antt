@@ -1,7 +1,7 @@
 -- A picture is drawn in passes, and what each may cost.
 use Rattle.std.proofs.Common.{◌≡◌, Bool, ℕ, zero, suc, ◌+◌, ◌-◌, ◌<◌, ◌≤◌, true, false, List, [], ◌∷◌, length, get_or, take, drop, inl, inr, refl, sym, ap, ◌∙◌, arith}
-use Rattle.std.specs.Prelude.{if◌then◌else◌, nat_lt}
-use Rattle.std.proofs.lemmas.Bool.{cases_Bool, cases_lt, le-ltb, lt-ltb, ltb-true}
+use Rattle.std.specs.Prelude.{◌==◌, if◌then◌else◌, nat_lt}
+use Rattle.std.proofs.lemmas.Bool.{cases_Bool, cases_lt, le-ltb, lt-ltb, ltb-true, ne_eqb}
 use Rattle.std.proofs.lemmas.List.{ext_get_or, get_or-drop, length-drop}
 use Rattle.paint.proofs.Alike.{take-same}
 use Rattle.paint.proofs.Walks.{line_bytes-other, line_bytes-same}
@@ -142,6 +142,24 @@ pass-few (first ∷ order) rendition = elim (cases_Bool (same_rendition first re
   | inl h ↦ rw h (omega arith)
   | inr h ↦ rw h (omega (arith, pass-few order rendition))
 ]
+
+-- what a pass with a rendition of its own draws has that
+own-pass : (none : Rendition) (order : List Rendition) (rendition : Rendition) (pass : ℕ) → pass < length order → pass_of order rendition ≡ pass
+    → same_rendition (get_or order pass none) rendition ≡ true
+own-pass none [] rendition pass few is = absurd (omega arith)
+own-pass none (first ∷ order) rendition zero few is = elim (cases_Bool (same_rendition first rendition)) [
+  | inl h ↦ h
+  | inr h ↦ let later = rw h at is in absurd (omega (arith, later))
+]
+own-pass none (first ∷ order) rendition (suc pass) few is = elim (cases_Bool (same_rendition first rendition)) [
+  | inl h ↦ let here = rw h at is in absurd (omega (arith, here))
+  | inr h ↦ let later = rw h at is in own-pass none order rendition pass (omega arith) (omega (arith, later))
+]
+
+-- what has another rendition isn't drawn by it
+pub not-drawn : (none : Rendition) (pass : ℕ) (order : List Rendition) (rendition : Rendition) → pass < length order → same_rendition (get_or order pass none) rendition ≡ false
+    → false ≡ (pass_of order rendition == pass)
+not-drawn none pass order rendition few other = sym (ne_eqb (pass_of order rendition) pass (λ is. let own : true ≡ false = sym (own-pass none order rendition pass few is) ∙ other in absurd cc))
 
 -- what another pass draws
 pub other-pass : (n pass : ℕ) → (n ≡ pass → ⊥) → nat_lt n pass ≡ nat_lt n (pass + 1)

@@ -29,5 +29,5 @@ pub mod LineParts
 pub mod Alike
 -- The columns in which two pictures may differ are copied from one to the other; for `copy_changes`
 pub mod Copying
--- A picture is drawn in passes, and what each may cost; for `paint_part`, `paint_pass`, `paint_passes`
+-- A picture is drawn in passes, and what each may cost; for `is_drawn_in`, `paint_part`, `paint_pass` and others
 pub mod Choices

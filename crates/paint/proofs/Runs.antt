@@ -160,3 +160,7 @@ part-alike x stop k wanted few alike =
 pub not-other : (same : Bool) → not same ≡ false → same ≡ true
 not-other true h = refl
 not-other false h = absurd cc
+
+pub not-same : (same : Bool) → not same ≡ true → same ≡ false
+not-same true h = absurd cc
+not-same false h = refl

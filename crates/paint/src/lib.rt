@@ -1,6 +1,7 @@
 //! Sends pictures to a terminal.
 //!
 //! - `changes`: of each line the columns in which a picture may differ from the last one
+//! - `frame`: a frame, in one walk or in passes
 //! - `gap`: what is printed again between changed cells
 //! - `laws`: laws of agreement
 //! - `line`: the walk over cells
@@ -14,6 +15,7 @@
 #![tactic(auto)]
 
 mod changes;
+mod frame;
 mod gap;
 pub mod laws;
 mod line;

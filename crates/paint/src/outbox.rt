@@ -1,6 +1,6 @@
 //! Gathers a text in a buffer of fixed size, from which it goes out in pieces.
 
-ghost use Rattle.std.specs.Prelude.{◌≡◌, ◌≤◌, ◌+◌, ◌<◌, ◌^◌, ℕ, List, [], ◌∷◌, length, slice_index_or};
+ghost use Rattle.std.specs.Prelude.{◌≡◌, ◌≤◌, ◌+◌, ◌<◌, ◌^◌, ℕ, List, [], ◌∷◌, length, slice_index_or, true};
 ghost use Rattle.cell.specs.Shown.{IsShown, shown_blank};
 ghost use Rattle.streams.specs.Sending.{Sends};
 ghost use Rattle.streams.specs.Sinks.{Seen};
@@ -42,6 +42,13 @@ impl Outbox {
     /// How many bytes were gathered, of a text whose bytes all go out.
     pub fn bytes(&self) -> u32 {
         self.sent.saturating_add(self.room.bytes().len() as u32)
+    }
+
+    /// Whether nothing of what was gathered went out, so that all of it may still go to any sink.
+    pub fn holds_all(&self) -> bool
+        ensures { result ≡ true → (start now seen : Seen) (text : List ℕ) → IsGathered start now self.now text → IsGathered seen seen self.now text }
+    {
+        !self.failed && self.sent == 0
     }
 
     /// Puts a piece after what was gathered.

@@ -1,18 +1,19 @@
 //! A painter: it sends pictures to terminals of one size.
 
 ghost use Rattle.std.specs.Prelude.{◌≡◌, ℕ, ◌<◌, ◌≤◌, ◌↔◌, ⊤, MatchOption, length, ◌⊎◌, ◌||◌, Bool, IfOk, IfErr, IsErrOf, IsTrue, MatchResult, Some, None, is_ok, if◌then◌else◌};
-ghost use Rattle.cell.specs.Pictures.{HasSize};
+ghost use Rattle.cell.specs.Pictures.{HasSize, blank_picture, origin};
 ghost use Rattle.cell.specs.Limits.{is_no_size};
 ghost use Rattle.cell.specs.declared.limits.TheConstants.{LARGEST_SCREEN};
 ghost use Rattle.cell.specs.Shown.{no_rendition};
 ghost use Rattle.streams.specs.Sinks.{Seen};
 ghost use Rattle.paint.specs.Changes.{DifferOnly};
-ghost use Rattle.paint.specs.Updates.{PainterState, ShownPicture, first_painter, known_picture, opening_from, start_from, wanted_of, Updates, BreaksOff};
+ghost use Rattle.paint.specs.Updates.{PainterState, ShownPicture, first_painter, known_picture, opening, start_from, wanted_of, Updates, BreaksOff};
 ghost use Rattle.paint.specs.steps.Gathering.{IsGathered};
 ghost use Rattle.paint.specs.steps.Holding.{HoldsUpdate, last_shown};
 
 use crate::changes::Changes;
-use crate::passes::{best_order, paint};
+use crate::frame::draw_frame;
+use crate::page::paint_picture;
 use crate::pen::Pen;
 use cell::{Grid, LARGEST_SCREEN, Refusal, Shown, VirtualScreen, is_no_size};
 use std::alloc::Global;
@@ -187,10 +188,14 @@ fn draw<W: Sink>(
     ensures same { W.name sink.new ≡ W.name sink.old }
 {
     let (lines, _) = size;
-    let order = best_order(pen, lines, shown, picture, changes, known, cursor);
-    begin(pen, sink, known, shown);
-    paint(pen, sink, lines, shown, picture, changes, &order);
-    pen.end(sink, cursor);
+    match known {
+        Some(from) => draw_frame(pen, sink, lines, shown, picture, changes, from, cursor),
+        None => {
+            open(pen, sink, shown);
+            paint_picture(pen, sink, lines, shown, picture, changes);
+            pen.end(sink, cursor);
+        }
+    }
 }
 
 /// Takes over the columns of a picture, of lines of so many, in which it may differ from another.
@@ -217,25 +222,19 @@ fn known_cursor(cursor: Option<(u16, u16)>, clear: bool) -> Option<(u16, u16)>
     if clear { None } else { cursor }
 }
 
-/// Begins a text where the cursor is known to be. Where it is not, it clears the terminal, which shows a blank picture then.
-fn begin<W: Sink>(pen: &mut Pen, sink: &mut W, known: Option<(u16, u16)>, shown: &mut Grid<Shown>)
-    ensures gathered { IsGathered (W.seen sink.old) (W.seen sink.new) pen.new.outbox (opening_from (last_shown shown.old known)) }
-    ensures cursor { (painter : PainterState) → pen.new.cursor ≡ Some (start_from painter (last_shown shown.old known)).cursor }
-    ensures picture { (painter : PainterState) → HasSize painter.lines painter.columns shown.old
-        → shown.new ≡ (start_from painter (last_shown shown.old known)).picture }
+/// Begins a text that clears the terminal, which shows a blank picture then.
+fn open<W: Sink>(pen: &mut Pen, sink: &mut W, shown: &mut Grid<Shown>)
+    ensures gathered { IsGathered (W.seen sink.old) (W.seen sink.new) pen.new.outbox opening }
+    ensures cursor { pen.new.cursor ≡ Some origin }
+    ensures picture { (lines columns : ℕ) → HasSize lines columns shown.old → shown.new ≡ blank_picture lines columns }
     ensures size { (lines columns : ℕ) → HasSize lines columns shown.old → HasSize lines columns shown.new }
     ensures rendition { pen.new.rendition ≡ no_rendition }
     ensures columns { pen.new.columns ≡ pen.old.columns }
     ensures same { W.name sink.new ≡ W.name sink.old }
 {
-    match known {
-        Some(cursor) => pen.begin(cursor),
-        None => {
-            shown.clear();
-            pen.begin((0, 0));
-            pen.open(sink);
-        }
-    }
+    shown.clear();
+    pen.begin((0, 0));
+    pen.open(sink);
 }
 
 /// Sends what is left of a text, and flushes.

@@ -1,6 +1,6 @@
 //! Drawing in passes: of a picture what has one rendition first, and then what has another, where that takes fewer bytes.
 
-ghost use Rattle.std.specs.Prelude.{◌≡◌, ◌+◌, ◌<◌, ◌≤◌, ⊤, MatchOption, drop, length, slice_set, take};
+ghost use Rattle.std.specs.Prelude.{◌≡◌, ◌+◌, ◌<◌, ◌≤◌, ◌==◌, drop, length, slice_set, take};
 ghost use Rattle.cell.specs.Pictures.{HasSize, Picture, line_of};
 ghost use Rattle.cell.specs.declared.limits.TheConstants.{LARGEST_SCREEN};
 ghost use Rattle.paint.specs.Changes.{DifferOnly};
@@ -8,12 +8,12 @@ ghost use Rattle.paint.specs.steps.Passes.{line_after, pass_of, picture_after};
 ghost use Rattle.paint.specs.steps.Strokes.{Strokes, line_bytes, picture_bytes};
 
 use crate::changes::Changes;
-use crate::line::paint_run;
+use crate::line::{paint_run, run_end};
 use crate::page::paint_picture;
 use crate::pen::Pen;
 use crate::tail::first_changed;
 use cell::{Grid, Rendition, Shown};
-use streams::{Discard, Sink};
+use streams::Sink;
 
 /// The most renditions that have a pass of their own.
 const MOST: usize = 8;
@@ -68,6 +68,16 @@ fn pass_of(order: &[Rendition], rendition: Rendition) -> usize
     pass
 }
 
+/// Whether a pass draws what has a rendition. The pass's own rendition, if it has one, rules out most others at once.
+fn is_drawn_in(order: &[Rendition], pass: usize, rendition: Rendition) -> bool
+    ensures { result ≡ (pass_of order.now rendition == pass) }
+{
+    if pass < order.len() && order[pass] != rendition {
+        return false;
+    }
+    pass_of(order, rendition) == pass
+}
+
 /// Draws what a pass draws of a wanted line, which may differ from the one that is shown from a column on, up to another, only.
 fn paint_part<W: Sink>(
     pen: &mut Pen,
@@ -104,21 +114,22 @@ fn paint_part<W: Sink>(
             x += 1;
             continue;
         }
-        if pass_of(order, wanted[x].rendition()) != pass {
+        if !is_drawn_in(order, pass, wanted[x].rendition()) {
             x += 1;
             gap = x;
             continue;
         }
+        let stop = run_end(shown, wanted, x, end);
         paint_run(
             pen,
             sink,
             line,
             gap as u16,
             &wanted[gap..x],
-            &wanted[x..x + 1],
+            &wanted[x..stop],
         );
-        x += 1;
-        gap = x;
+        gap = stop;
+        x = stop;
     }
 }
 
@@ -291,7 +302,12 @@ fn all_have(rendition: Rendition, cells: &[Shown]) -> bool {
 }
 
 /// An order of passes, where they select renditions of changed cells less often than one walk over all lines, and else none.
-fn order_of(shown: &Grid<Shown>, wanted: &Grid<Shown>, columns: usize, changes: &Changes) -> Order
+pub fn order_of(
+    shown: &Grid<Shown>,
+    wanted: &Grid<Shown>,
+    columns: usize,
+    changes: &Changes,
+) -> Order
     requires shown { HasSize (length changes.now) columns shown.now }
     requires wanted { HasSize (length changes.now) columns wanted.now }
 {
@@ -306,49 +322,6 @@ fn order_of(shown: &Grid<Shown>, wanted: &Grid<Shown>, columns: usize, changes: 
     }
     if renditions.are_saved() {
         renditions.order
-    } else {
-        Order::new()
-    }
-}
-
-/// The order of passes in which drawing from where the cursor is, and then going to a place, takes the fewest bytes. It is empty where one
-/// walk over all lines takes as few, or where the cursor is unknown.
-pub fn best_order(
-    pen: &mut Pen,
-    lines: u16,
-    shown: &Grid<Shown>,
-    wanted: &Grid<Shown>,
-    changes: &Changes,
-    from: Option<(u16, u16)>,
-    to: (u16, u16),
-) -> Order
-    requires few_lines { lines ≤ LARGEST_SCREEN }
-    requires few_columns { pen.old.columns ≤ LARGEST_SCREEN }
-    requires shown { HasSize lines pen.old.columns shown.now }
-    requires wanted { HasSize lines pen.old.columns wanted.now }
-    requires height { length changes.now ≡ lines }
-    requires changes { MatchOption from ⊤ (λ _. DifferOnly changes.now shown.now wanted.now) }
-    requires line { to.0 < lines }
-    requires column { to.1 < pen.old.columns }
-    ensures columns { pen.new.columns ≡ pen.old.columns }
-{
-    let Some(from) = from else {
-        return Order::new();
-    };
-    let order = order_of(shown, wanted, pen.columns(), changes);
-    if order.renditions().is_empty() {
-        return order;
-    }
-    let mut sink = Discard::new();
-    pen.begin(from);
-    paint_picture(pen, &mut sink, lines, shown, wanted, changes);
-    pen.end(&mut sink, to);
-    let at_once = pen.bytes();
-    pen.begin(from);
-    paint_passes(pen, &mut sink, shown, wanted, changes, order.renditions());
-    pen.end(&mut sink, to);
-    if pen.bytes() < at_once {
-        order
     } else {
         Order::new()
     }

@@ -1,6 +1,6 @@
 //! A pen: it knows where a terminal's cursor is and how the terminal prints, and draws there by strokes.
 
-ghost use Rattle.std.specs.Prelude.{◌≡◌, ◌+◌, ◌<◌, ◌≤◌, ⊤, MatchOption, ◌++◌, ◌∷◌, [], ℕ, IfOk, List, length, slice_index_or, Some, ◌^◌};
+ghost use Rattle.std.specs.Prelude.{◌≡◌, ◌+◌, ◌<◌, ◌≤◌, ⊤, MatchOption, ◌++◌, ◌∷◌, [], ℕ, IfOk, List, length, slice_index_or, Some, true, ◌^◌};
 ghost use Rattle.std.specs.Option.{option_map};
 ghost use Rattle.cell.specs.Shown.{no_rendition, shown_blank};
 ghost use Rattle.cell.specs.Pictures.{Picture, line_of, origin, with_shown};
@@ -58,6 +58,14 @@ impl Pen {
     /// How many bytes its text has, where no write failed.
     pub fn bytes(&self) -> u32 {
         self.outbox.bytes()
+    }
+
+    /// Whether nothing of its text went out, so that all of it may still go to any sink.
+    pub fn holds_all(&self) -> bool
+        ensures { result ≡ true → (start now seen : Seen) (text : List ℕ)
+            → IsGathered start now self.now.outbox text → IsGathered seen seen self.now.outbox text }
+    {
+        self.outbox.holds_all()
     }
 
     /// Puts a token after what was gathered.

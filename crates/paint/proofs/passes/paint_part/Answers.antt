@@ -1,6 +1,6 @@
--- `paint_part`: a cell is left where it is shown already, or another pass draws it, and else drawn as a run of one (`Choices`, `Runs`, `Walks`).
-use Rattle.std.proofs.Common.{◌≡◌, ◌+◌, ◌-◌, ◌<◌, ◌∙◌, true, false, length, get_or, take, drop, inl, inr, refl, sym, ap, subst, arith}
-use Rattle.std.proofs.lemmas.Bool.{cases_lt}
+-- `paint_part`: a cell is left where it is shown already, or another pass draws it, and else drawn in a run (`Choices`, `Runs`, `Walks`).
+use Rattle.std.proofs.Common.{◌≡◌, ℕ, ◌+◌, ◌-◌, ◌<◌, ◌≤◌, ◌∙◌, true, length, get_or, take, drop, inl, inr, refl, sym, ap, subst, arith}
+use Rattle.std.proofs.lemmas.Bool.{cases_lt, eqb-false, eqb-true}
 use Rattle.std.proofs.lemmas.List.{get_or_default, length-drop, length-take-le}
 use Rattle.cell.specs.Shown.{Shown, shown_blank}
 use Rattle.cell.specs.EqualityLaws.{same_shown-equal}
@@ -11,7 +11,7 @@ use Rattle.paint.specs.steps.Strokes.{Strokes, run_bytes, with_cells}
 use Rattle.paint.specs.steps.Walks.{IsLinePainted}
 use Rattle.paint.proofs.Choices.{choices-alike, choices-back, choices-prefix, get-alike, get-in, get-kept, get-out, length-choose, not-yet, now-drawn, other-pass, part-kept, same-cells}
 use Rattle.paint.proofs.Prefixes.{drop-later}
-use Rattle.paint.proofs.Runs.{line-run, part-of}
+use Rattle.paint.proofs.Runs.{line-run, part-alike, part-of}
 use Rattle.paint.proofs.Walks.{gap-before, gap-ends, line-begun, line-kept, line-painted}
 use Rattle.paint.proofs.passes.paint_part.Goals as goal
 
@@ -61,8 +61,8 @@ loop-x-preserved-then-eq g c =
       same = c.loop-x.invariant.same;
     }
 
-pub loop-x-preserved-then-pass_of-pass : goal.loop-x-preserved-then-pass_of-pass
-loop-x-preserved-then-pass_of-pass g c =
+pub loop-x-preserved-then-not-is_drawn_in : goal.loop-x-preserved-then-not-is_drawn_in
+loop-x-preserved-then-not-is_drawn_in g c =
     let x = c.loop-x.x in
     let order = c.args.order.now in
     let pass = c.args.pass in
@@ -73,10 +73,11 @@ loop-x-preserved-then-pass_of-pass g c =
     let same : length shown ≡ length wanted = c.requires.shown ∙ sym c.requires.wanted in
     let inside : x < length shown = omega (arith, c.loop-x-test.true, c.requires.inside) in
     let new = c.index-wanted-x-in-loop-x.is ∙ get_or_default wanted x c.index-wanted-x-in-loop-x.result shown_blank (omega arith) in
-    let drawn_in : c.pass_of.result ≡ pass_in order (get_or wanted x shown_blank).rendition =
-    c.pass_of.ensures ∙ ap (pass_in order) (c.rendition.ensures.value ∙ ap (λ (cell : Shown). cell.rendition) new) in
+    let drawn_in : pass_in order c.rendition.result ≡ pass_in order (get_or wanted x shown_blank).rendition =
+    ap (pass_in order) (c.rendition.ensures.value ∙ ap (λ (cell : Shown). cell.rendition) new) in
+    let other = eqb-false (pass_in order c.rendition.result) pass (sym c.is_drawn_in.ensures ∙ c.if-not-is_drawn_in.true) in
     let alike : p (get_or wanted x shown_blank).rendition ≡ q (get_or wanted x shown_blank).rendition =
-    other-pass (pass_in order (get_or wanted x shown_blank).rendition) pass (λ e. c.if-pass_of-pass.true (drawn_in ∙ e)) in
+    other-pass (pass_in order (get_or wanted x shown_blank).rendition) pass (λ e. other (drawn_in ∙ e)) in
     let long = length-choose p shown wanted same in
     record {
       painted = line-kept (long ∙ sym (length-choose q shown wanted same)) (omega (arith, long, inside)) c.loop-x.invariant.painted
@@ -86,10 +87,20 @@ loop-x-preserved-then-pass_of-pass g c =
       same = c.loop-x.invariant.same;
     }
 
+pub paint_run-requires-clause-rendition : goal.paint_run-requires-clause-rendition
+paint_run-requires-clause-rendition g c =
+    let x = c.loop-x.x in
+    let stop = c.run_end-stop.result in
+    let wanted = c.args.wanted.now in
+    let long : length (take (stop - x) (drop x wanted)) ≡ stop - x = length-take-le (stop - x) (drop x wanted)
+    (omega (arith, length-drop x wanted, c.run_end-stop.ensures.within, c.requires.inside)) in
+    λ k few. part-alike x stop k wanted (omega (arith, long)) c.run_end-stop.ensures.rendition
+
 pub loop-x-preserved : goal.loop-x-preserved
 loop-x-preserved g c =
     let x = c.loop-x.x in
     let gap = c.loop-x.gap in
+    let stop = c.run_end-stop.result in
     let order = c.args.order.now in
     let pass = c.args.pass in
     let shown = c.args.shown.now in
@@ -97,39 +108,38 @@ loop-x-preserved g c =
     let p = is_drawn order pass in
     let q = is_drawn order (pass + 1) in
     let same : length shown ≡ length wanted = c.requires.shown ∙ sym c.requires.wanted in
-    let inside : x < length shown = omega (arith, c.loop-x-test.true, c.requires.inside) in
-    let cells = take (x + 1 - x) (drop x wanted) in
-    let one : length cells ≡ 1 = length-take-le (x + 1 - x) (drop x wanted) (omega (arith, length-drop x wanted)) ∙ omega arith in
+    let ordered : gap ≤ x = c.loop-x.invariant.gap in
+    let some : x < stop = c.run_end-stop.ensures.some in
+    let within : stop ≤ c.args.end = c.run_end-stop.ensures.within in
+    let inside : stop ≤ length shown = omega (arith, within, same, c.requires.inside) in
+    let cells = take (stop - x) (drop x wanted) in
+    let many : length cells ≡ stop - x = length-take-le (stop - x) (drop x wanted) (omega (arith, length-drop x wanted, inside, same)) in
+    let end : x + length cells ≡ stop = omega (arith, many, some) in
     let new = c.index-wanted-x-in-loop-x.is ∙ get_or_default wanted x c.index-wanted-x-in-loop-x.result shown_blank (omega arith) in
-    let drawn_in : c.pass_of.result ≡ pass_in order (get_or wanted x shown_blank).rendition =
-    c.pass_of.ensures ∙ ap (pass_in order) (c.rendition.ensures.value ∙ ap (λ (cell : Shown). cell.rendition) new) in
-    let now : pass_in order (get_or wanted x shown_blank).rendition ≡ pass = sym drawn_in ∙ c.if-pass_of-pass.false in
-    let before = get-out p x shown wanted same inside (not-yet _ pass now) in
-    let after = get-in q x shown wanted same inside (now-drawn _ pass now) in
-    let old = c.index-shown-x.is ∙ get_or_default shown x c.index-shown-x.result shown_blank inside in
-    let first = c.index-wanted-x.is ∙ get_or_default wanted x c.index-wanted-x.result shown_blank (omega arith) in
-    let other : same_shown (get_or shown x shown_blank) (get_or wanted x shown_blank) ≡ false = (λ i. same_shown (sym old i) (sym first i)) ∙ sym c.if-eq.ensures in
+    let drawn_in : pass_in order (get_or wanted x shown_blank).rendition ≡ pass =
+    ap (pass_in order) (sym (c.rendition.ensures.value ∙ ap (λ (cell : Shown). cell.rendition) new))
+    ∙ eqb-true (pass_in order c.rendition.result) pass (sym c.is_drawn_in.ensures ∙ c.if-not-is_drawn_in.false) in
+    let now = λ (v : ℕ) (from : x ≤ v) (to : v < stop). ap (pass_in order) (c.run_end-stop.ensures.rendition v from to) ∙ drawn_in in
+    let before = λ (v : ℕ) (from : x ≤ v) (to : v < stop). get-out p v shown wanted same (omega (arith, to, inside)) (not-yet _ pass (now v from to)) in
+    let after = λ (v : ℕ) (from : x ≤ v) (to : v < stop). get-in q v shown wanted same (omega (arith, to, inside)) (now-drawn _ pass (now v from to)) in
     let long = length-choose p shown wanted same in
     let wide = length-choose q shown wanted same in
     let before_line = line_after order pass shown wanted in
     let after_line = line_after order (pass + 1) shown wanted in
     let slice : take (x - gap) (drop gap after_line) ≡ take (x - gap) (drop gap wanted) =
-    part-kept q gap x shown wanted same c.loop-x.invariant.gap (omega arith) c.loop-x.invariant.kept in
+    part-kept q gap x shown wanted same ordered (omega (arith, some, inside)) c.loop-x.invariant.kept in
     let strokes = λ (picture : Picture) (columns : length (line_of picture c.args.line) ≡ c.loop-x.pen.columns)
     (prefix : take x (line_of picture c.args.line) ≡ take x after_line).
-    let there = gap-before gap x after_line (line_of picture c.args.line) c.loop-x.invariant.gap (omega (arith, wide)) prefix in
+    let there = gap-before gap x after_line (line_of picture c.args.line) ordered (omega (arith, wide, some, inside)) prefix in
     subst (λ at. Strokes (run_bytes cells) (g.W.Sink.seen c.loop-x.sink) (g.W.Sink.seen c.paint_run.new.sink) c.loop-x.pen c.paint_run.new.pen picture
-    (with_cells picture (c.args.line, at) cells)) (gap-ends gap x wanted c.loop-x.invariant.gap (omega arith))
+    (with_cells picture (c.args.line, at) cells)) (gap-ends gap x wanted ordered (omega (arith, same, some, inside)))
     (c.paint_run.ensures.strokes picture columns (subst (λ part. take (length part) (drop gap (line_of picture c.args.line)) ≡ part) slice there.shown)) in
-    let end : x + length cells ≡ x + 1 = omega (arith, one) in
     record {
       painted = subst (λ n. IsLinePainted (g.W.Sink.seen c.args.sink.now) (g.W.Sink.seen c.paint_run.new.sink) c.args.pen.now c.paint_run.new.pen c.args.line n
           (line_after order pass shown wanted) after_line) end
-          (line-run cells (long ∙ sym wide) (omega (arith, one)) (omega (arith, one, long)) c.loop-x.invariant.painted (long ∙ c.requires.shown)
-          (λ k few. let at : x ≡ x + k = omega (arith, one) in
-          part-of x (x + 1) k wanted (omega (arith, one)) ∙ subst (λ n. get_or wanted n shown_blank ≡ get_or after_line n shown_blank) at (sym after))
-          (λ v from to. let at : x ≡ v = omega (arith, one) in
-          subst (λ n. same_shown (get_or before_line n shown_blank) (get_or after_line n shown_blank) ≡ false) at ((λ i. same_shown (before i) (after i)) ∙ other))
+          (line-run cells (long ∙ sym wide) (omega (arith, many, some)) (omega (arith, end, inside, long)) c.loop-x.invariant.painted (long ∙ c.requires.shown)
+          (λ k few. part-of x stop k wanted (omega (arith, many)) ∙ sym (after (x + k) (omega arith) (omega (arith, few, many))))
+          (λ v from to. let below : v < stop = omega (arith, to, end) in (λ i. same_shown (before v from below i) (after v from below i)) ∙ c.run_end-stop.ensures.changed v from below)
           strokes c.paint_run.ensures.columns);
       gap = omega arith;
       kept = λ v from to. absurd (omega arith);
