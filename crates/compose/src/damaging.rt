@@ -55,9 +55,40 @@ fn damage_written(damage: &mut Damage, table: &Grids, stack: &Stack, win: WinId,
     requires inside { IsPossible (windows_of table.now).window (Affected.Written win frame) }
     ensures damaged { Damages table.now.columns (frame_shows_at (windows_of table.now).window (panels stack.now) win.0 (Some frame)) damage.old damage.new }
 {
-    let affected = Affected::Written { win, frame };
-    damage_change(damage, table, affected, WinId::STANDARD);
-    damage_visible(damage, table, stack, affected);
+    damage_standard(damage, table, win, frame);
+    damage_panels(damage, table, stack, win, frame);
+}
+
+/// Damages what the standard screen shows of a write: all, where it is written in itself.
+#[inline(always)]
+fn damage_standard(damage: &mut Damage, table: &Grids, win: WinId, frame: Rect)
+    requires height { length damage.old ≡ table.now.lines }
+    requires possible { IsPossible (windows_of table.now).window (Affected.Written win frame) }
+    ensures damaged { Damages table.now.columns (λ y x. affected_shows_at (windows_of table.now).window (Affected.Written win frame) y x 0)
+        damage.old damage.new }
+{
+    if win == WinId::STANDARD {
+        prove!(table.has_window(WinId::STANDARD));
+        damage.rectangle(frame);
+    } else {
+        damage_change(
+            damage,
+            table,
+            Affected::Written { win, frame },
+            WinId::STANDARD,
+        );
+    }
+}
+
+/// Damages what the windows of visible panels show of a write.
+#[inline(never)]
+fn damage_panels(damage: &mut Damage, table: &Grids, stack: &Stack, win: WinId, frame: Rect)
+    requires height { length damage.old ≡ table.now.lines }
+    requires possible { IsPossible (windows_of table.now).window (Affected.Written win frame) }
+    ensures damaged { Damages table.now.columns (λ y x. list_any (affected_shows_at (windows_of table.now).window (Affected.Written win frame) y x)
+        (windows_from_top (panels stack.now))) damage.old damage.new }
+{
+    damage_visible(damage, table, stack, Affected::Written { win, frame });
 }
 
 /// Damages what the windows of visible panels show of a change.

@@ -82,6 +82,10 @@ impl Damage {
         requires ordered { frame.left ≤ frame.right }
         ensures damaged { (columns : ℕ) → frame.right < columns → Damages columns (frame_holds frame) self.old self.new }
     {
+        if frame.top == frame.bottom {
+            self.widen(frame.top, frame.left, frame.right);
+            return;
+        }
         for y in frame.top..frame.bottom + 1 {
             self.widen(y, frame.left, frame.right);
         }

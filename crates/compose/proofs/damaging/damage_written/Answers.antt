@@ -15,5 +15,5 @@ returns c =
     record {
       damaged = damages-then table.columns (λ y x. shows_at window a.win.0 a.frame y x 0)
           (λ y x. list_any (shows_at window a.win.0 a.frame y x) (windows_from_top (panels a.stack.now))) a.damage.now
-          c.damage_change.new.damage c.damage_visible.new.damage c.damage_change.ensures.damaged c.damage_visible.ensures.damaged;
+          c.damage_standard.new.damage c.damage_panels.new.damage c.damage_standard.ensures.damaged c.damage_panels.ensures.damaged;
     }
