@@ -21,7 +21,7 @@ mod AffectedDamages
 mod Reading
 -- The touched columns of a window are damaged line by line; for `damage_touched`
 mod Touching
--- what the standard screen shows of a write in it, for `damage_standard`
+-- What is shown of a write in the standard screen where no panel is visible; for `damage_written`
 mod StandardWrites
 -- A call on panels, made on a desk: the world after it, and what it damaged; for `arrange`, `arrange_damaging`
 mod Arranging

@@ -76,6 +76,7 @@ impl Damage {
     }
 
     /// Damages a rectangle.
+    #[inline(always)]
     pub fn rectangle(&mut self, frame: Rect)
         requires few { length self.old ≤ LARGEST_SCREEN }
         requires inside { frame.bottom < length self.old }
@@ -84,8 +85,19 @@ impl Damage {
     {
         if frame.top == frame.bottom {
             self.widen(frame.top, frame.left, frame.right);
-            return;
+        } else {
+            self.widen_lines(frame);
         }
+    }
+
+    /// Damages a rectangle line by line.
+    #[inline(never)]
+    fn widen_lines(&mut self, frame: Rect)
+        requires few { length self.old ≤ LARGEST_SCREEN }
+        requires inside { frame.bottom < length self.old }
+        requires ordered { frame.left ≤ frame.right }
+        ensures damaged { (columns : ℕ) → frame.right < columns → Damages columns (frame_holds frame) self.old self.new }
+    {
         for y in frame.top..frame.bottom + 1 {
             self.widen(y, frame.left, frame.right);
         }
