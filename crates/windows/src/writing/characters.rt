@@ -35,6 +35,7 @@ impl Windows {
     ///
     /// # Errors
     /// `NoSuchWindow`; `BadCharacter` for another character outside 32 to 126.
+    #[inline(always)]
     pub fn waddch(&mut self, win: WinId, ch: u8) -> Result<Option<Rect>, Refusal>
         ensures { Wrote its_frame self.old.table (Writing.Addch win ch) result self.new.table }
     {
