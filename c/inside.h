@@ -53,6 +53,10 @@ static inline attr_t curspan_with(attr_t attrs, attr_t more) {
     return attrs | (more & A_ATTRIBUTES);
 }
 
+/* Writes a character as waddch does, whatever attributes it has, and however it is spelled. It is a function of its own, so that waddch keeps
+   no registers for it. */
+int curspan_add_any(WINDOW *win, chtype ch);
+
 /* Sets the background, that of the window in `win` or another. */
 int curspan_set_background(WINDOW *win, chtype ch);
 /* Sets the background and what the window's attributes have of it. */

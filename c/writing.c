@@ -7,6 +7,9 @@
 /* Makes a window ready to be written in with its own attributes. */
 static int ready(WINDOW *win) { return is_there(win) == ERR ? ERR : curspan_tell(win, win->attrs); }
 
+/* Whether a window is ready so already. */
+static inline bool is_told(const WINDOW *win) { return is_there(win) == OK && win->told == win->attrs; }
+
 int wmove(WINDOW *win, int y, int x) {
     if (!are_numbers(y, x, 0, 0)) return ERR;
     return done(curspan_wmove(SCREEN_AND(win), (uint16_t)y, (uint16_t)x));
@@ -37,7 +40,7 @@ static inline int add_character(WINDOW *win, uint8_t ch) {
     return answer.status == CURSPAN_BAD_CHARACTER ? add_spelled(win, ch) : done(answer);
 }
 
-int waddch(WINDOW *win, const chtype ch) {
+int curspan_add_any(WINDOW *win, chtype ch) {
     int answer;
     if (is_there(win) == ERR || PAIR_NUMBER(ch) > LAST_PAIR) return ERR;
     if (curspan_tell(win, curspan_with(win->attrs, ch)) == ERR) return ERR;
@@ -48,6 +51,12 @@ int waddch(WINDOW *win, const chtype ch) {
     answer = add_character(win, ' ');
     curspan_set_background(win, win->background);
     return answer;
+}
+
+int waddch(WINDOW *win, const chtype ch) {
+    bool is_plain = ch >= ' ' && ch <= '~'; /* it has no attributes of its own, and is not spelled */
+    if (!is_plain || !is_told(win)) return curspan_add_any(win, ch);
+    return done(curspan_waddch(SCREEN_AND(win), (uint8_t)ch));
 }
 
 /* How many bytes of a text are written, of which at most n where that isn't negative. */

@@ -123,6 +123,7 @@ impl<T: Element> Grid<T> {
     }
 
     /// Puts one cell in the columns of line `y` from `start` on, up to `end`, which it leaves out.
+    #[inline(always)]
     pub fn fill(&mut self, y: usize, start: usize, end: usize, cell: T)
         requires line { y < length self.old }
         requires ordered { start ≤ end }

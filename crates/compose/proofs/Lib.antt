@@ -21,6 +21,8 @@ mod AffectedDamages
 mod Reading
 -- The touched columns of a window are damaged line by line; for `damage_touched`
 mod Touching
+-- What is shown of a write in the standard screen where no panel is visible; for `damage_written`
+mod StandardWrites
 -- A call on panels, made on a desk: the world after it, and what it damaged; for `arrange`, `arrange_damaging`
 mod Arranging
 -- What a call on panels damages: the part of the panel that it names, as it was, and that of the panel that it changed or made, as it is; for

@@ -1,6 +1,6 @@
 //! What a call damages of the screen: a rectangle for each window that shows what it changed.
 
-ghost use Rattle.std.specs.Prelude.{◌≡◌, ◌<◌, ◌≤◌, ◌+◌, ℕ, MatchOption, Some, ⊤, is_some, length, true};
+ghost use Rattle.std.specs.Prelude.{◌≡◌, ◌<◌, ◌≤◌, ◌+◌, ◌==◌, ℕ, MatchOption, Some, ⊤, is_some, length, true};
 ghost use Rattle.std.specs.List.{list_any};
 ghost use Rattle.cell.specs.declared.limits.TheConstants.{LARGEST_SCREEN};
 ghost use Rattle.world.specs.Panels.{windows_from_top};
@@ -48,9 +48,33 @@ pub(crate) fn damage_affected(
     }
 }
 
-/// Damages what the standard screen and the windows of visible panels show of a write.
-#[inline(never)]
+/// Damages what the standard screen and the windows of visible panels show of a write: its frame, where it is in the standard screen and no
+/// panel is visible.
+#[inline(always)]
 fn damage_written(damage: &mut Damage, table: &Grids, stack: &Stack, win: WinId, frame: Rect)
+    requires height { length damage.old ≡ table.now.lines }
+    requires inside { IsPossible (windows_of table.now).window (Affected.Written win frame) }
+    ensures damaged { Damages table.now.columns (frame_shows_at (windows_of table.now).window (panels stack.now) win.0 (Some frame)) damage.old damage.new }
+{
+    if win == WinId::STANDARD && has_no_panel(stack) {
+        prove!(table.has_window(WinId::STANDARD));
+        damage.rectangle(frame);
+    } else {
+        damage_shown(damage, table, stack, win, frame);
+    }
+}
+
+/// Whether no panel is visible.
+#[inline(always)]
+fn has_no_panel(stack: &Stack) -> bool
+    ensures { result ≡ (length (panels stack.now).visible == 0) }
+{
+    stack.visible_from_top().next().is_none()
+}
+
+/// Damages what the standard screen shows of a write, and then what the windows of visible panels show of it.
+#[inline(never)]
+fn damage_shown(damage: &mut Damage, table: &Grids, stack: &Stack, win: WinId, frame: Rect)
     requires height { length damage.old ≡ table.now.lines }
     requires inside { IsPossible (windows_of table.now).window (Affected.Written win frame) }
     ensures damaged { Damages table.now.columns (frame_shows_at (windows_of table.now).window (panels stack.now) win.0 (Some frame)) damage.old damage.new }

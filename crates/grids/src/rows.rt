@@ -66,6 +66,27 @@ impl Grids {
         prove!(self.is_sound());
     }
 
+    /// Sets the cell of a window at line `y` and column `x`. The place must exist.
+    #[inline(always)]
+    pub fn set_cell(&mut self, win: WinId, y: u16, x: u16, cell: Cell)
+        requires { HasPlace (windows self.old).window win.0 y x }
+        ensures written { windows self.new ≡ put (windows self.old) win.0 (filled y x x cell) }
+        ensures sound { AreSoundWindows (windows self.new) }
+    {
+        let origin = origin_of(&self.slots, win.0);
+        let column = origin.column + x;
+        fill_row(
+            &mut self.slots,
+            origin.grid,
+            origin.line + y,
+            column,
+            column,
+            cell,
+        );
+        touch_row(&mut self.slots, win.0, y, x, x);
+        prove!(self.is_sound());
+    }
+
     /// Prints characters from 32 to 126 in line `y` of a window, from column `left` on, each with the attributes and the pair of a
     /// pen; a space becomes the pen itself. The places must exist.
     #[inline(always)]

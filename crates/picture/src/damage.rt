@@ -76,7 +76,23 @@ impl Damage {
     }
 
     /// Damages a rectangle.
+    #[inline(always)]
     pub fn rectangle(&mut self, frame: Rect)
+        requires few { length self.old ≤ LARGEST_SCREEN }
+        requires inside { frame.bottom < length self.old }
+        requires ordered { frame.left ≤ frame.right }
+        ensures damaged { (columns : ℕ) → frame.right < columns → Damages columns (frame_holds frame) self.old self.new }
+    {
+        if frame.top == frame.bottom {
+            self.widen(frame.top, frame.left, frame.right);
+        } else {
+            self.widen_lines(frame);
+        }
+    }
+
+    /// Damages a rectangle line by line.
+    #[inline(never)]
+    fn widen_lines(&mut self, frame: Rect)
         requires few { length self.old ≤ LARGEST_SCREEN }
         requires inside { frame.bottom < length self.old }
         requires ordered { frame.left ≤ frame.right }

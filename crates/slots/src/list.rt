@@ -134,6 +134,7 @@ pub fn free_slot(slots: &mut Vec<Option<Slot>>, at: u16)
 }
 
 /// Sets a row of the grid of a slot.
+#[inline(always)]
 pub fn fill_row(
     slots: &mut Vec<Option<Slot>>,
     at: u16,
@@ -187,6 +188,7 @@ pub fn print_row(
 }
 
 /// Touches a row of a slot's window.
+#[inline(always)]
 pub fn touch_row(slots: &mut Vec<Option<Slot>>, at: u16, line: u16, left: u16, right: u16)
     requires ordered { left ≤ right }
     requires taken { IsSome (slot_at slots.old.items at) }
@@ -214,6 +216,7 @@ pub fn set_slot(slots: &mut Vec<Option<Slot>>, at: u16, settings: Settings)
 }
 
 /// Moves the cursor of a slot's window.
+#[inline(always)]
 pub fn set_cursor(slots: &mut Vec<Option<Slot>>, at: u16, y: u16, x: u16)
     requires taken { IsSome (slot_at slots.old.items at) }
     requires line { y < lines_at slots.old.items at }

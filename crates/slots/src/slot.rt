@@ -297,6 +297,7 @@ impl Slot {
     }
 
     /// Sets the cells of a line of the grid from `left` to `right` to one cell.
+    #[inline(always)]
     pub fn fill(&mut self, line: u16, left: u16, right: u16, cell: Cell)
         requires line_in { line < self.old.lines }
         requires ordered { left ≤ right }
@@ -382,6 +383,7 @@ impl Slot {
     }
 
     /// Touches the columns from `left` to `right` of a line.
+    #[inline(always)]
     pub fn touch(&mut self, line: u16, left: u16, right: u16)
         requires line_in { line < self.old.lines }
         requires ordered { left ≤ right }

@@ -17,7 +17,7 @@ use Rattle.world.specs.Settings.{set_in, set, with_cursor}
 use Rattle.world.specs.Rows.{listed}
 use Rattle.world.specs.Drawings.{written_glyph, at_place}
 use Rattle.world.specs.Frames.{joined, frame_of}
-use Rattle.world.specs.Typing.{newline, carriage_return, backspace, drawn_to, line_ended, line_ended_frame, typed_in, typed_frame, after_character, frame_of_character, after_text, text_frame}
+use Rattle.world.specs.Typing.{newline, carriage_return, backspace, drawn_to, character_printed, character_frame, line_ended, line_ended_frame, typed_in, typed_frame, after_character, frame_of_character, after_text, text_frame}
 use Rattle.world.specs.calls.Writing.{is_bad_character}
 use Rattle.world.specs.declared.settings.Settings.{Settings}
 use Rattle.world.proofs.WindowLaws.{own-put, put-nothing}
@@ -162,35 +162,39 @@ module _ (a : Window) (character : ℕ) (printable : is_printable character ≡ 
   none_of : (code : ℕ) → code < 32 → (character == code) ≡ false
   none_of code below = let h = from_space in ne_eqb character code (λ e. absurd (omega arith))
 
-  typed-printed : (windows : Windows) (w : ℕ) → nat_lt (a.settings.cursor.1 + 1) a.columns ≡ true
-      → typed_in windows w character a ≡ drawn_to windows w (at_place a.settings.cursor (written_glyph a.settings character)) (a.settings.cursor.0, a.settings.cursor.1 + 1)
-  typed-printed windows w inside =
+  pub typed-printed : (windows : Windows) (w : ℕ) → typed_in windows w character a ≡ character_printed windows w character a
+  typed-printed windows w =
       if_false (character == newline) (line_ended windows w a) _ (none_of 10 (omega arith))
       ∙ if_false (character == carriage_return) (set windows w (with_cursor (a.settings.cursor.0, 0))) _ (none_of 13 (omega arith))
       ∙ if_false (character == backspace) (set windows w (with_cursor (a.settings.cursor.0, a.settings.cursor.1 - 1))) _ (none_of 8 (omega arith))
-      ∙ if_true (nat_lt (a.settings.cursor.1 + 1) a.columns) _ _ inside
+
+  typed-inside : (windows : Windows) (w : ℕ) → nat_lt (a.settings.cursor.1 + 1) a.columns ≡ true
+      → typed_in windows w character a ≡ drawn_to windows w (at_place a.settings.cursor (written_glyph a.settings character)) (a.settings.cursor.0, a.settings.cursor.1 + 1)
+  typed-inside windows w inside = typed-printed windows w ∙ if_true (nat_lt (a.settings.cursor.1 + 1) a.columns) _ _ inside
 
   neither : (s t : Bool) → s ≡ false → t ≡ false → (s || t) ≡ false
   neither s t h k = rw (h, k) refl
 
-  frame-printed : (windows : Windows) (w : ℕ) → nat_lt (a.settings.cursor.1 + 1) a.columns ≡ true
-      → typed_frame windows w character a ≡ frame_of a (at_place a.settings.cursor (written_glyph a.settings character))
-  frame-printed windows w inside =
+  pub frame-printed : (windows : Windows) (w : ℕ) → typed_frame windows w character a ≡ character_frame windows w character a
+  frame-printed windows w =
       if_false (character == newline) (line_ended_frame windows w a) _ (none_of 10 (omega arith))
       ∙ if_false (character == carriage_return || character == backspace) None _
       (neither (character == carriage_return) (character == backspace) (none_of 13 (omega arith)) (none_of 8 (omega arith)))
-      ∙ if_true (nat_lt (a.settings.cursor.1 + 1) a.columns) _ _ inside
+
+  frame-inside : (windows : Windows) (w : ℕ) → nat_lt (a.settings.cursor.1 + 1) a.columns ≡ true
+      → typed_frame windows w character a ≡ frame_of a (at_place a.settings.cursor (written_glyph a.settings character))
+  frame-inside windows w inside = frame-printed windows w ∙ if_true (nat_lt (a.settings.cursor.1 + 1) a.columns) _ _ inside
 
 module _ (windows : Windows) (w : ℕ) (a : Window) (there : windows.window w ≡ Some a) (character : ℕ) (printable : is_printable character ≡ true)
     (inside : nat_lt (a.settings.cursor.1 + 1) a.columns ≡ true) where
   after-printed : after_character windows w character
       ≡ drawn_to windows w (at_place a.settings.cursor (written_glyph a.settings character)) (a.settings.cursor.0, a.settings.cursor.1 + 1)
-  after-printed = ap (λ o. option_map_or (typed_in windows w character) o windows) there ∙ typed-printed a character printable windows w inside
+  after-printed = ap (λ o. option_map_or (typed_in windows w character) o windows) there ∙ typed-inside a character printable windows w inside
 
   covered-printed : a.settings.cursor.0 < a.lines → a.settings.cursor.1 < a.columns
       → frame_of_character windows w character ≡ Some (record { top = a.settings.cursor.0; left = a.settings.cursor.1; bottom = a.settings.cursor.0; right = a.settings.cursor.1 })
   covered-printed below left =
-      ap (option_and_then (typed_frame windows w character)) there ∙ frame-printed a character printable windows w inside
+      ap (option_and_then (typed_frame windows w character)) there ∙ frame-inside a character printable windows w inside
       ∙ frame-at_place a a.settings.cursor.0 a.settings.cursor.1 below left (written_glyph a.settings character)
 
 -- ---- a cell and those after it

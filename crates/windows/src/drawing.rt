@@ -21,7 +21,7 @@ pub fn set_cell(table: &mut Grids, win: WinId, state: &WindowState, y: u16, x: u
     ensures written { windows table.new ≡ put (windows table.old) win.0 (at_place (y, x) cell) }
     ensures state { IsStateOf (windows table.new) win.0 state.now }
 {
-    table.fill(win, y, x, x, cell);
+    table.set_cell(win, y, x, cell);
 }
 
 /// Inserts a cell: those from its column on go one column right, and the last is lost.

@@ -35,9 +35,14 @@ impl Windows {
     ///
     /// # Errors
     /// `NoSuchWindow`; `BadCharacter` for another character outside 32 to 126.
+    #[inline(always)]
     pub fn waddch(&mut self, win: WinId, ch: u8) -> Result<Option<Rect>, Refusal>
         ensures { Wrote its_frame self.old.table (Writing.Addch win ch) result self.new.table }
     {
+        let state = state_of(&self.table, win)?;
+        if is_printed_inside(&state, ch) {
+            return Ok(Some(print_inside(&mut self.table, win, &state, ch)));
+        }
         self.waddstr(win, &[ch])
     }
 
@@ -96,6 +101,15 @@ fn has_bad_character(text: &[u8]) -> bool
     ensures { result ≡ list_any is_bad_character text.now }
 {
     !are_printable(text) && text.iter().any(|ch| is_bad_character(*ch))
+}
+
+/// Whether a character is printed before the last column of the cursor's line.
+fn is_printed_inside(state: &WindowState, ch: u8) -> bool
+    requires { state.now.settings.cursor.1 < state.now.columns }
+    ensures printable { result ≡ true → is_printable ch ≡ true }
+    ensures inside { result ≡ true → state.now.settings.cursor.1 + 1 < state.now.columns }
+{
+    is_printable(ch) && state.settings.cursor.1 < state.columns - 1
 }
 
 /// Whether a text has characters, and all are printed in the cursor's line before its last column.
@@ -229,6 +243,22 @@ fn type_character(table: &mut Grids, win: WinId, state: &WindowState, ch: u8) ->
     print(table, win, state, ch)
 }
 
+/// Prints a character at the cursor, which is before the last column.
+#[inline(always)]
+fn print_inside(table: &mut Grids, win: WinId, state: &WindowState, ch: u8) -> Rect
+    requires state { IsStateOf (windows table.old) win.0 state.now }
+    requires printable { is_printable ch ≡ true }
+    requires inside { state.now.settings.cursor.1 + 1 < state.now.columns }
+    ensures written { windows table.new ≡ character_printed (windows table.old) win.0 ch (window_in_state state.now) }
+    ensures frame { Some result ≡ character_frame (windows table.old) win.0 ch (window_in_state state.now) }
+    ensures sound { AreSoundWindows (windows table.new) }
+{
+    let (y, x) = state.settings.cursor;
+    set_cell(table, win, state, y, x, written_cell(&state.settings, ch));
+    set_cursor(table, win, state, y, x + 1);
+    place(y, x)
+}
+
 /// Prints a character at the cursor.
 fn print(table: &mut Grids, win: WinId, state: &WindowState, ch: u8) -> Option<Rect>
     requires state { IsStateOf (windows table.old) win.0 state.now }
@@ -238,12 +268,11 @@ fn print(table: &mut Grids, win: WinId, state: &WindowState, ch: u8) -> Option<R
     ensures sound { AreSoundWindows (windows table.new) }
 {
     let (y, x) = state.settings.cursor;
+    if x + 1 < state.columns {
+        return Some(print_inside(table, win, state, ch));
+    }
     set_cell(table, win, state, y, x, written_cell(&state.settings, ch));
     let one = Some(place(y, x));
-    if x + 1 < state.columns {
-        set_cursor(table, win, state, y, x + 1);
-        return one;
-    }
     joined(one, to_next_line(table, win, state, y, x))
 }
 

@@ -1,19 +1,31 @@
--- `damage_written`: lemmas of std alone.
-use Rattle.std.specs.List.{list_any}
-use Rattle.world.specs.Panels.{windows_from_top}
-use Rattle.world.specs.calls.Affected.{shows_at}
+-- `damage_written`: where no panel is visible, the frame of a write in the standard screen is what is shown of it (`StandardWrites`).
+use Rattle.std.proofs.Common.{rules, ◌≡◌, ℕ, sym, subst, ◌∙◌}
+use Rattle.world.specs.Panels.{standard_screen}
+use Rattle.world.specs.Windows.{HasPlace}
+use Rattle.world.specs.calls.Affected.{frame_shows_at}
+use Rattle.std.specs.Prelude.{Some, length}
 use Rattle.grids.specs.Tables.{windows}
 use Rattle.stack.specs.Tables.{panels}
-use Rattle.picture.proofs.DamageLaws.{damages-then}
+use Rattle.picture.specs.Parts.{frame_holds}
+use Rattle.picture.specs.Damages.{Damages}
+use Rattle.picture.proofs.DamageLaws.{damages-as}
+use Rattle.compose.proofs.StandardWrites.{standard-inside, standard-alone}
 use Rattle.compose.proofs.damaging.damage_written.Goals as goal
 
-pub returns : goal.returns
-returns c =
+pub returns-then-has_no_panel : goal.returns-then-has_no_panel
+returns-then-has_no_panel c =
     let a = c.args in
-    let table = a.table.now in
-    let window = (windows table).window in
+    let ws = windows a.table.now in
+    let ps = panels a.stack.now in
+    let r = a.frame in
+    let same : a.win.0 ≡ standard_screen = search rules in
+    let none : length ps.visible ≡ 0 = search rules in
+    let possible = c.requires.inside in
+    let sound = c.has_window.ensures.sound in
+    let inside = subst (λ (w : ℕ). HasPlace ws.window w r.bottom r.right) same possible.2 in
+    let shows = standard-alone ws r sound inside possible.0 possible.1 ps none in
     record {
-      damaged = damages-then table.columns (λ y x. shows_at window a.win.0 a.frame y x 0)
-          (λ y x. list_any (shows_at window a.win.0 a.frame y x) (windows_from_top (panels a.stack.now))) a.damage.now
-          c.damage_change.new.damage c.damage_visible.new.damage c.damage_change.ensures.damaged c.damage_visible.ensures.damaged;
+      damaged = subst (λ (w : ℕ). Damages ws.columns (frame_shows_at ws.window ps w (Some r)) a.damage.now c.rectangle.new.self) (sym same)
+          (damages-as ws.columns (frame_holds r) (frame_shows_at ws.window ps standard_screen (Some r)) a.damage.now c.rectangle.new.self
+          (c.rectangle.ensures.damaged ws.columns (standard-inside ws r sound inside).1) (λ y x below left is. shows y x ∙ is) (λ y x left is. sym (shows y x) ∙ is));
     }

@@ -7,9 +7,9 @@ use Rattle.windows.proofs.drawing.set_cell.Goals as goal
 
 pub returns-clause-written : goal.returns-clause-written
 returns-clause-written c =
-    one_cell (windows c.args.table.now) c.args.win.0 c.args.state.now c.requires.state (windows c.fill.new.self) c.args.y c.args.x c.args.cell c.fill.ensures.written
+    one_cell (windows c.args.table.now) c.args.win.0 c.args.state.now c.requires.state (windows c.set_cell.new.self) c.args.y c.args.x c.args.cell c.set_cell.ensures.written
 
 pub returns-clause-state : goal.returns-clause-state
 returns-clause-state c =
-    state-written (windows c.args.table.now) (windows c.fill.new.self) c.args.win.0 c.args.state.now (filled c.args.y c.args.x c.args.x c.args.cell)
-    c.requires.state c.fill.ensures.written c.fill.ensures.sound
+    state-written (windows c.args.table.now) (windows c.set_cell.new.self) c.args.win.0 c.args.state.now (filled c.args.y c.args.x c.args.x c.args.cell)
+    c.requires.state c.set_cell.ensures.written c.set_cell.ensures.sound
