@@ -21,7 +21,7 @@ mod AffectedDamages
 mod Reading
 -- The touched columns of a window are damaged line by line; for `damage_touched`
 mod Touching
--- A call on panels, made on a desk: the world after it, and what it damaged; for `arrange`, `arrange_damaging`
+-- A call on panels: what the stack of panels says of it, and the desk on which it is made; for `arrange`, `new_panel`, `move_panel` and others
 mod Arranging
 -- What a call on panels damages: the part of the panel that it names, as it was, and that of the panel that it changed or made, as it is; for
 -- `arrange_damaging`

@@ -66,20 +66,8 @@ module _ (window : WindowMap) where
   pub may-be-in : (w : ℕ) → first_of (window_tests window w) ≡ None → MayBeIn window w
   may-be-in w h = let both = tests-passed (window w) (w == standard_screen) h in (both.1, λ same. let off = both.0 in cc)
 
-  some-is : (w v : ℕ) → MayBeIn window w → Some w ≡ Some v → MayBeIn window v
+  pub some-is : (w v : ℕ) → MayBeIn window w → Some w ≡ Some v → MayBeIn window v
   some-is w v may is = let same : w ≡ v = cc in subst (MayBeIn window) same may
-
-  pub sound-new : (old new : PanelTable) (w : ℕ) (r : Result PanelId Refusal) → AreSoundPanels window (panels old) → IsSoundOrder (panels new) → MayBeIn window w
-      → OnOk r (panels new ≡ with_panel (panels old) (next_panel (panels old)) w) → OnErr r (new ≡ old) → AreSoundPanels window (panels new)
-  sound-new old new w (Ok p) h order may made unchanged =
-      sound-given (panels old) (panels new) (next_panel (panels old)) (Some w) h order (ap (λ ps. ps.window) made) (λ v is. some-is w v may is)
-  sound-new old new w (Err e) h order may made unchanged = subst (λ t. AreSoundPanels window (panels t)) (sym unchanged) h
-
-  pub sound-replaced : {T : Type 0} (old new : PanelTable) (p w : ℕ) (r : Result T Refusal) → AreSoundPanels window (panels old) → IsSoundOrder (panels new) → MayBeIn window w
-      → OnOk r (panels new ≡ after_replace_panel (panels old) p w) → OnErr r (new ≡ old) → AreSoundPanels window (panels new)
-  sound-replaced old new p w (Ok done) h order may replaced unchanged =
-      sound-given (panels old) (panels new) p (Some w) h order (ap (λ ps. ps.window) replaced) (λ v is. some-is w v may is)
-  sound-replaced old new p w (Err e) h order may replaced unchanged = subst (λ t. AreSoundPanels window (panels t)) (sym unchanged) h
 
   -- the same panels with the same windows
   pub sound-kept : {T : Type 0} (old new : PanelTable) (after : Panels) (r : Result T Refusal) → AreSoundPanels window (panels old) → IsSoundOrder (panels new) → after.window ≡ (panels old).window
@@ -87,8 +75,9 @@ module _ (window : WindowMap) where
   sound-kept old new after (Ok done) h order same is unchanged = sound-reordered (panels old) (panels new) h order (ap (λ ps. ps.window) is ∙ same)
   sound-kept old new after (Err e) h order same is unchanged = subst (λ t. AreSoundPanels window (panels t)) (sym unchanged) h
 
-  -- one panel less
-  pub sound-deleted : {T : Type 0} (old new : PanelTable) (p : ℕ) (r : Result T Refusal) → AreSoundPanels window (panels old) → IsSoundOrder (panels new)
-      → OnOk r (panels new ≡ after_del_panel (panels old) p) → OnErr r (new ≡ old) → AreSoundPanels window (panels new)
-  sound-deleted old new p (Ok done) h order is unchanged = sound-given (panels old) (panels new) p None h order (ap (λ ps. ps.window) is) (λ v none. cc)
-  sound-deleted old new p (Err e) h order is unchanged = subst (λ t. AreSoundPanels window (panels t)) (sym unchanged) h
+  -- one panel has another window, or none
+  pub sound-with : {T : Type 0} (old new : PanelTable) (after : Panels) (p : ℕ) (w : Option ℕ) (r : Result T Refusal) → AreSoundPanels window (panels old) → IsSoundOrder (panels new)
+      → after.window ≡ given (panels old).window p w → ((v : ℕ) → w ≡ Some v → MayBeIn window v) → OnOk r (panels new ≡ after) → OnErr r (new ≡ old)
+      → AreSoundPanels window (panels new)
+  sound-with old new after p w (Ok done) h order gives may is unchanged = sound-given (panels old) (panels new) p w h order (ap (λ ps. ps.window) is ∙ gives) may
+  sound-with old new after p w (Err e) h order gives may is unchanged = subst (λ t. AreSoundPanels window (panels t)) (sym unchanged) h
