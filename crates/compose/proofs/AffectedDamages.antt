@@ -8,7 +8,6 @@ use Rattle.world.specs.Panels.{Panels}
 use Rattle.world.specs.Windows.{HasPlace, WindowMap, Windows}
 use Rattle.world.specs.Effects.{Change, after_change, after_edit, asks, change_takes_memory, deletes, edit_frame, edit_window, edits, makes, marks, moves, shifts}
 use Rattle.world.specs.calls.Affected.{change_shows_at, frame_shows_at}
-use Rattle.world.specs.calls.Refused.{Refused}
 use Rattle.world.specs.declared.settings.Columns.{Columns}
 use Rattle.world.proofs.MoveLaws.{move_shows-moved}
 use Rattle.world.proofs.PictureLaws.{SameView, frame_shows-same}
@@ -22,11 +21,7 @@ use Rattle.compose.specs.declared.damaging.Affected.TheVariants.{Written}
 use Rattle.compose.specs.declared.dispatch.Outcome.{Outcome}
 use Rattle.compose.specs.steps.Changes.{IsPossible, affected_by, any_shows_at}
 use Rattle.compose.specs.steps.Outcomes.{Affects, ChangedDamaging}
-
--- an accepted call is accepted whatever it answers
-accepted-as : {T U : Type 0} (takes : Bool) (refusal : Option Refusal) (one : T) (other : U) → Refused takes refusal (Ok one) → Refused takes refusal (Ok other)
-accepted-as true refusal one other h = h
-accepted-as false refusal one other h = h
+use Rattle.compose.proofs.DeskLemmas.{refused-as}
 
 -- a rectangle that lies in the window before an edit lies in it after it
 still-possible : (old new : WindowMap) → SameView new old → (w : ℕ) (frame : Option Rect)
@@ -84,7 +79,7 @@ module _ (old new : WindowTable) (refusal : Option Refusal) (change : Change) (o
       → ChangedDamaging old panels refusal change before (Ok outcome.reply) new after
   damaging panels before after h = record {
     call = record {
-      refused = accepted-as (change_takes_memory change) refusal outcome outcome.reply a.call.refused;
+      refused = refused-as (change_takes_memory change) refusal (λ (o : Outcome). o.reply) (Ok outcome) a.call.refused;
       reply = a.call.reply;
       changed = a.call.changed;
       unchanged = tt;

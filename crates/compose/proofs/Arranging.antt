@@ -1,37 +1,153 @@
--- A call on panels, made on a desk: the world after it, and what it damaged.
-use Rattle.std.proofs.Common.{◌≡◌, ap, ◌∙◌, Result, Ok, Err}
+-- A call on panels: what the stack of panels says of it, and the desk on which it is made.
+use Rattle.std.proofs.Common.{◌≡◌, Bool, true, false, ℕ, Option, Some, None, [], ◌∷◌, ◌++◌, ap, refl, sym, subst, ◌∙◌, Result, Ok, Err, List}
 use Rattle.std.specs.Prelude.{OnErr, OnOk}
-use Rattle.cell.specs.Shown.{Pairs}
+use Rattle.cell.specs.Pictures.{Place}
+use Rattle.cell.specs.Refusals.{first_of}
 use Rattle.cell.specs.declared.refusal.Refusal.{Refusal}
 use Rattle.world.specs.Panels.{Panels}
-use Rattle.world.specs.Sound.{AreSoundPanels, AreSoundWindows, IsSound}
+use Rattle.world.specs.Sound.{AreSoundPanels, AreSoundWindows}
 use Rattle.world.specs.Windows.{Windows}
-use Rattle.cell.specs.VirtualScreens.{VirtualScreen}
-use Rattle.world.specs.Effects.{windows_after}
-use Rattle.world.specs.calls.Dispatch.{world_after}
-use Rattle.world.specs.calls.Stacking.{after_stacking, stacking_order}
+use Rattle.world.specs.Effects.{asks, changes, with_entry, moved_to, order_takes_memory, windows_after}
+use Rattle.world.specs.calls.Dispatch.{refusal, takes_memory, world_after}
+use Rattle.world.specs.calls.Stacking.{after_stacking, numbered_panel, panel_number, stacking_order, stacking_refusal}
 use Rattle.world.specs.declared.call.Call.TheVariants as calls
+use Rattle.world.specs.declared.call.Reply.{Reply}
+use Rattle.world.specs.declared.call.Reply.TheVariants.{Panel}
 use Rattle.world.specs.declared.call.Stacking.{Stacking}
+use Rattle.world.specs.declared.panel.PanelId.{PanelId}
+use Rattle.world.proofs.PlaceLaws.{has_place, keeps-moved, panels-kept}
 use Rattle.world.proofs.Sizes.{SameSize, size-order}
+use Rattle.calls.specs.Methods.{as_reply}
 use Rattle.grids.specs.Tables.{WindowTable, windows}
+use Rattle.stack.specs.Calls.{Arranged, Asked, no_windows}
 use Rattle.stack.specs.Tables.{PanelTable, panels}
+use Rattle.compose.specs.Calling.{Called}
+use Rattle.compose.specs.Covers.{IsDesk}
 use Rattle.compose.specs.Desks.{DeskTable, world}
-use Rattle.compose.proofs.DeskLemmas.{desk_of}
+use Rattle.compose.specs.steps.Outcomes.{Ordered, OrderedDamaging}
+use Rattle.compose.proofs.DamageCovers.{covered-result, few-result}
+use Rattle.compose.proofs.DeskLemmas.{accepted-by, called, err-three, ok-both, refused-as}
+use Rattle.compose.proofs.SoundPanels.{MayBeIn, sound-kept, sound-with}
 
-pub arranged-size : {T : Type 0} (old new : WindowTable) (ps : Panels) (stacking : Stacking) (r : Result T Refusal)
-    → OnOk r (windows new ≡ windows_after (windows old) ps (stacking_order ps stacking)) → OnErr r (new ≡ old) → SameSize (windows new) (windows old)
-arranged-size old new ps stacking (Ok done) is unchanged =
-    let size = size-order (windows old) ps (stacking_order ps stacking) in
-    record { lines = ap (λ (ws : Windows). ws.lines) is ∙ size.lines; columns = ap (λ (ws : Windows). ws.columns) is ∙ size.columns }
-arranged-size old new ps stacking (Err e) is unchanged = record { lines = ap (λ (t : WindowTable). t.lines) unchanged; columns = ap (λ (t : WindowTable). t.columns) unchanged }
+-- ---- what the answer of a method is as that of its call
 
-pub arranged-sound : (old new : WindowTable) (ps new_ps : PanelTable) (pairs : Pairs) (virtual : VirtualScreen) → IsSound (world (desk_of old ps pairs virtual)) → AreSoundWindows (windows new)
-    → AreSoundPanels (windows new).window (panels new_ps) → SameSize (windows new) (windows old) → IsSound (world (desk_of new new_ps pairs virtual))
-arranged-sound old new ps new_ps pairs virtual h sound order size = record { windows = sound; panels = order; pairs = h.pairs; virtual = rw (size.lines, size.columns) h.virtual }
+pub answered : {T : Type 0} (reply_of : T → Reply) (old : WindowTable) (ps : PanelTable) (stacking : Stacking) (r : Result T Refusal) (new : WindowTable) (new_ps : PanelTable)
+    → Ordered reply_of old ps stacking r new new_ps → Ordered (λ reply. reply) old ps stacking (as_reply reply_of r) new new_ps
+answered reply_of old ps stacking (Ok t) new new_ps h = record {
+  refused = refused-as (order_takes_memory (stacking_order (panels ps) stacking)) (stacking_refusal (windows old) (panels ps) stacking) reply_of (Ok t) h.refused;
+  reply = h.reply;
+  changed = h.changed;
+  arranged = h.arranged;
+  unchanged = tt;
+  unordered = tt;
+  sound = h.sound;
+  sound_panels = h.sound_panels;
+}
+answered reply_of old ps stacking (Err e) new new_ps h = record {
+  refused = refused-as (order_takes_memory (stacking_order (panels ps) stacking)) (stacking_refusal (windows old) (panels ps) stacking) reply_of (Err e) h.refused;
+  reply = tt;
+  changed = tt;
+  arranged = tt;
+  unchanged = h.unchanged;
+  unordered = h.unordered;
+  sound = h.sound;
+  sound_panels = h.sound_panels;
+}
 
--- the world after it, from the two
-pub arranged-world : {T : Type 0} (old new : DeskTable) (stacking : Stacking) (r : Result T Refusal) → new.pairs ≡ old.pairs → new.virtual ≡ old.virtual
-    → OnOk r (windows new.windows ≡ windows_after (windows old.windows) (panels old.panels) (stacking_order (panels old.panels) stacking))
-    → OnOk r (panels new.panels ≡ after_stacking (panels old.panels) stacking) → OnOk r (world new ≡ world_after (world old) (calls.Stacking stacking))
-arranged-world old new stacking (Ok done) pairs virtual is are = λ i. record { windows = is i; panels = are i; pairs = pairs i; virtual = virtual i }
-arranged-world old new stacking (Err e) pairs virtual is are = tt
+-- ---- a call that the stack makes alone
+
+-- tests of which none holds, before others
+pub first-after : (tests rest : List (Bool × Refusal)) → first_of tests ≡ None → first_of (tests ++ rest) ≡ first_of rest
+first-after [] rest h = refl
+first-after ((true, e) ∷ tests) rest h = cc
+first-after ((false, e) ∷ tests) rest h = first-after tests rest h
+
+module _ (table : WindowTable) (ps : PanelTable) (sound : AreSoundWindows (windows table)) (h : AreSoundPanels (windows table).window (panels ps)) where
+  -- a panel has another window, or none, or all keep theirs
+  ordered : {T : Type 0} (reply_of : T → Reply) (tests : List (Bool × Refusal)) (stacking : Stacking) (r : Result T Refusal) (new : PanelTable)
+      → Arranged reply_of tests ps stacking r new → first_of tests ≡ stacking_refusal (windows table) (panels ps) stacking
+      → windows_after (windows table) (panels ps) (stacking_order (panels ps) stacking) ≡ windows table → AreSoundPanels (windows table).window (panels new)
+      → Ordered reply_of table ps stacking r table new
+  ordered reply_of tests stacking (Ok t) new a same still sound_panels =
+      record { refused = rw (← same) a.refused; reply = a.reply; changed = sym still; arranged = a.arranged; unchanged = tt; unordered = tt; sound = sound; sound_panels = sound_panels }
+  ordered reply_of tests stacking (Err e) new a same still sound_panels =
+      record { refused = rw (← same) a.refused; reply = tt; changed = tt; arranged = tt; unchanged = refl; unordered = a.unchanged; sound = sound; sound_panels = sound_panels }
+
+  pub ordered-again : {T : Type 0} (reply_of : T → Reply) (tests : List (Bool × Refusal)) (stacking : Stacking) (r : Result T Refusal) (new : PanelTable)
+      → Arranged reply_of tests ps stacking r new → first_of tests ≡ stacking_refusal (windows table) (panels ps) stacking
+      → windows_after (windows table) (panels ps) (stacking_order (panels ps) stacking) ≡ windows table → (after_stacking (panels ps) stacking).window ≡ (panels ps).window
+      → Ordered reply_of table ps stacking r table new
+  ordered-again reply_of tests stacking r new a same still kept =
+      ordered reply_of tests stacking r new a same still
+      (sound-kept (windows table).window ps new (after_stacking (panels ps) stacking) r h a.sound kept a.arranged a.unchanged)
+
+  pub ordered-given : {T : Type 0} (reply_of : T → Reply) (tests : List (Bool × Refusal)) (stacking : Stacking) (r : Result T Refusal) (new : PanelTable) (p : ℕ) (w : Option ℕ)
+      → Arranged reply_of tests ps stacking r new → first_of tests ≡ stacking_refusal (windows table) (panels ps) stacking
+      → windows_after (windows table) (panels ps) (stacking_order (panels ps) stacking) ≡ windows table → (after_stacking (panels ps) stacking).window ≡ with_entry (panels ps).window p w
+      → ((v : ℕ) → w ≡ Some v → MayBeIn (windows table).window v) → Ordered reply_of table ps stacking r table new
+  ordered-given reply_of tests stacking r new p w a same still gives may =
+      ordered reply_of tests stacking r new a same still
+      (sound-with (windows table).window ps new (after_stacking (panels ps) stacking) p w r h a.sound gives may a.arranged a.unchanged)
+
+  -- a query
+  pub asked : {T A : Type 0} (reply_of : T → Reply) (answer : A) (said_by : T → A) (query : Stacking) (reply : Reply) (r : Result T Refusal) → Asked ps query answer said_by r
+      → stacking_order (panels ps) query ≡ changes (asks reply) → stacking_refusal no_windows (panels ps) query ≡ stacking_refusal (windows table) (panels ps) query
+      → ((t : T) → answer ≡ said_by t → reply_of t ≡ reply) → Ordered reply_of table ps query r table ps
+  asked reply_of answer said_by query reply (Ok t) a is same says =
+      record { refused = rw is (a.refused ∙ same); reply = rw is (says t a.answer); changed = rw is refl; arranged = rw is refl; unchanged = tt; unordered = tt; sound = sound; sound_panels = h }
+  asked reply_of answer said_by query reply (Err e) a is same says =
+      record { refused = rw is (a.refused ∙ same); reply = tt; changed = tt; arranged = tt; unchanged = refl; unordered = refl; sound = sound; sound_panels = h }
+
+-- the panel that is answered is that of its number
+pub panel_answered : (n : Option ℕ) (p : Option PanelId) → n ≡ panel_number p → Panel p ≡ Panel (numbered_panel n)
+panel_answered n None is = rw is refl
+panel_answered n (Some p) is = rw is refl
+
+-- ---- a call that moves a window
+
+-- panels stay sound where the window of one is moved
+pub sound-moved : {T : Type 0} (old new : WindowTable) (ps : Panels) (w : ℕ) (place : Place) (r : Result T Refusal) → AreSoundPanels (windows old).window ps
+    → OnOk r (windows new ≡ moved_to (windows old) w place) → OnErr r (new ≡ old) → AreSoundPanels (windows new).window ps
+sound-moved old new ps w place (Ok done) h is unchanged =
+    panels-kept ps (windows old).window (windows new).window
+    (λ p v has other there. subst (λ (ws : Windows). has_place (ws.window v) ≡ true) (sym is) (keeps-moved (windows old) w place v there)) h
+sound-moved old new ps w place (Err e) h is unchanged = subst (λ (t : WindowTable). AreSoundPanels (windows t).window ps) (sym unchanged) h
+
+-- ---- the desk
+
+pub size-ordered : {T : Type 0} (reply_of : T → Reply) (old : WindowTable) (ps : PanelTable) (stacking : Stacking) (r : Result T Refusal) (new : WindowTable) (new_ps : PanelTable)
+    → Ordered reply_of old ps stacking r new new_ps → SameSize (windows new) (windows old)
+size-ordered reply_of old ps stacking (Ok done) new new_ps h =
+    let size = size-order (windows old) (panels ps) (stacking_order (panels ps) stacking) in
+    record { lines = ap (λ (ws : Windows). ws.lines) h.changed ∙ size.lines; columns = ap (λ (ws : Windows). ws.columns) h.changed ∙ size.columns }
+size-ordered reply_of old ps stacking (Err e) new new_ps h = record { lines = ap (λ (t : WindowTable). t.lines) h.unchanged; columns = ap (λ (t : WindowTable). t.columns) h.unchanged }
+
+module _ (old new : DeskTable) (pairs : new.pairs ≡ old.pairs) (virtual : new.virtual ≡ old.virtual) (stacking : Stacking) (r : Result Reply Refusal) (h : IsDesk old)
+    (m : OrderedDamaging old.windows old.panels stacking old.damage r new.windows new.panels new.damage) where
+  accepted : (done : Reply) → r ≡ Ok done → refusal (world old) (calls.Stacking stacking) ≡ None
+  accepted = accepted-by (takes_memory (world old) (calls.Stacking stacking)) (refusal (world old) (calls.Stacking stacking)) r m.call.refused
+
+  left : OnOk r (world new ≡ world_after (world old) (calls.Stacking stacking))
+  left = ok-both r (λ is are i. record { windows = is i; panels = are i; pairs = pairs i; virtual = virtual i }) m.call.changed m.call.arranged
+
+  unchanged : OnErr r (new ≡ old)
+  unchanged =
+      err-three r (λ table order damage i. record { windows = table i; panels = order i; pairs = pairs i; virtual = virtual i; damage = damage i })
+      m.call.unchanged m.call.unordered m.undamaged
+
+  pub ordered-desk : IsDesk new
+  ordered-desk =
+      let size = size-ordered (λ reply. reply) old.windows old.panels stacking r new.windows new.panels m.call in
+      record {
+        sound = record {
+          windows = m.call.sound;
+          panels = m.call.sound_panels;
+          pairs = rw pairs h.sound.pairs;
+          virtual = rw (virtual, size.lines, size.columns) h.sound.virtual;
+        };
+        covered = covered-result old new (calls.Stacking stacking) r h refl accepted left m.damaged unchanged;
+      }
+
+  pub ordered-called : Called old (calls.Stacking stacking) r new
+  ordered-called =
+      called old new (calls.Stacking stacking) r m.call.refused m.call.reply left (few-result old new (calls.Stacking stacking) r h refl accepted left m.damaged) unchanged

@@ -12,6 +12,7 @@ use Rattle.cell.specs.VirtualScreens.{VirtualScreen}
 use Rattle.world.specs.World.{World, first_world}
 use Rattle.world.specs.Sound.{AreSoundPanels, AreSoundWindows, IsSound}
 use Rattle.world.specs.calls.Dispatch.{refusal, takes_memory, world_after}
+use Rattle.world.specs.calls.Refused.{Refused}
 use Rattle.cell.specs.declared.refusal.Refusal.{Refusal}
 use Rattle.cell.specs.declared.refusal.Refusal.TheVariants.{NoMemory}
 use Rattle.grids.specs.Tables.{WindowTable, windows}
@@ -22,6 +23,7 @@ use Rattle.compose.specs.Calling.{Called, DamagesFew, MayLeave, MayRefuse, MayTe
 use Rattle.world.specs.declared.call.Call.{Call}
 use Rattle.world.specs.declared.call.Call.TheVariants as calls
 use Rattle.world.specs.declared.call.Reply.{Reply}
+use Rattle.calls.specs.Methods.{as_reply}
 use Rattle.world.proofs.PlaceLaws.{has_place, panels-kept}
 use Rattle.world.proofs.Sizes.{SameSize, size-call}
 
@@ -36,12 +38,11 @@ KeepsPlaces ps old new = (p w : ℕ) → ps.window p ≡ Some w → w ≢ standa
 no-panels-sound : (ws : Windows) (ps : Panels) → ps ≡ first_panels → AreSoundPanels ws.window ps
 no-panels-sound ws ps none = subst (λ ps. AreSoundPanels ws.window ps) (sym none) (search rules)
 
--- a refusal of a call that may take memory
-may-refuse : (w : World) (call : Call) (e : Refusal) (takes : Bool) → takes ≡ takes_memory w call → (refusal w call ≡ Some e) ⊎ ((refusal w call ≡ None) × (e ≡ NoMemory))
-    → (takes ≡ false → Some e ≡ refusal w call) → MayRefuse w call e
-may-refuse w call e true is (inl h) exact = inl h
-may-refuse w call e true is (inr h) exact = inr (h.0, sym is, h.1)
-may-refuse w call e false is h exact = inl (sym (exact refl))
+-- a refusal of a call, which may take memory
+may-refuse : (w : World) (call : Call) (e : Refusal) (takes : Bool) → takes ≡ takes_memory w call → Refused {T = Reply} takes (refusal w call) (Err e) → MayRefuse w call e
+may-refuse w call e true is (inl h) = inl h
+may-refuse w call e true is (inr h) = inr (h.0, sym is, h.1)
+may-refuse w call e false is h = inl (sym h)
 
 module _ (old new : WindowTable) (ps : PanelTable) (pairs : Pairs) (virtual : VirtualScreen) where
   pub IsSound-desk : IsSound (world (desk_of old ps pairs virtual)) → AreSoundWindows (windows new) → SameSize (windows new) (windows old) → KeepsPlaces (panels ps) (windows old) (windows new)
@@ -97,32 +98,35 @@ size-called old new call (Ok reply) h =
     (ap (λ w. w.windows.lines) left ∙ size.lines, ap (λ w. w.windows.columns) left ∙ size.columns)
 size-called old new call (Err e) h = (ap (λ t. t.windows.lines) h.1, ap (λ t. t.windows.columns) h.1)
 
--- other panels
-pub IsSound-stack : (w : WindowTable) (old new : PanelTable) (pairs : Pairs) (virtual : VirtualScreen) → IsSound (world (desk_of w old pairs virtual)) → AreSoundPanels (windows w).window (panels new)
-    → IsSound (world (desk_of w new pairs virtual))
-IsSound-stack w old new pairs virtual h sound = record { windows = h.windows; panels = sound; pairs = h.pairs; virtual = h.virtual }
-
 -- ---- calls
 
-pub refused-by : {T : Type 0} (t : Option Refusal) (r : Result T Refusal) → result_err r ≡ t → RefusedBy t r
-refused-by t (Ok done) h = sym h
-refused-by t (Err e) h = inl (sym h)
+pub accepted-by : {T : Type 0} (takes : Bool) (t : Option Refusal) (r : Result T Refusal) → Refused takes t r → (done : T) → r ≡ Ok done → t ≡ None
+accepted-by true t (Ok done) h other is = h
+accepted-by false t (Ok done) h other is = sym h
+accepted-by takes t (Err e) h other is = cc
 
-pub accepted-by : {T : Type 0} (t : Option Refusal) (r : Result T Refusal) → RefusedBy t r → (done : T) → r ≡ Ok done → t ≡ None
-accepted-by t (Ok done) h other is = h
-accepted-by t (Err e) h other is = cc
+-- an answer is accepted or refused also where it is that of a call
+pub refused-as : {T : Type 0} (takes : Bool) (t : Option Refusal) (reply_of : T → Reply) (r : Result T Refusal) → Refused takes t r → Refused takes t (as_reply reply_of r)
+refused-as true t reply_of (Ok done) h = h
+refused-as true t reply_of (Err e) h = h
+refused-as false t reply_of (Ok done) h = h
+refused-as false t reply_of (Err e) h = h
 
-pub called : (old new : DeskTable) (call : Call) (r : Result Reply Refusal) → RefusedBy (refusal (world old) call) r
-    → (takes_memory (world old) call ≡ false → result_err r ≡ refusal (world old) call) → IfOk r (λ reply. MayTell (world old) (is_damaged_line old) call reply)
-    → OnOk r (MayLeave old call new) → OnOk r (DamagesFew old call new) → OnErr r (new ≡ old) → Called old call r new
-called old new call (Ok reply) refused exact answers left few unchanged = (refused, answers, left, few)
-called old new call (Err e) refused exact answers left few unchanged = (may-refuse (world old) call e (takes_memory (world old) call) refl refused exact, unchanged)
+pub called : (old new : DeskTable) (call : Call) (r : Result Reply Refusal) → Refused (takes_memory (world old) call) (refusal (world old) call) r
+    → IfOk r (λ reply. MayTell (world old) (is_damaged_line old) call reply) → OnOk r (MayLeave old call new) → OnOk r (DamagesFew old call new) → OnErr r (new ≡ old)
+    → Called old call r new
+called old new call (Ok reply) refused answers left few unchanged = (accepted-by (takes_memory (world old) call) (refusal (world old) call) (Ok reply) refused reply refl, answers, left, few)
+called old new call (Err e) refused answers left few unchanged = (may-refuse (world old) call e (takes_memory (world old) call) refl refused, unchanged)
 
 -- ---- calls that change windows alone
 
 on-ok : {T : Type 0} {P Q : Type 0} (r : Result T Refusal) → (P → Q) → OnOk r P → OnOk r Q
 on-ok (Ok done) to h = to h
 on-ok (Err e) to h = tt
+
+pub ok-both : {T : Type 0} {P Q R : Type 0} (r : Result T Refusal) → (P → Q → R) → OnOk r P → OnOk r Q → OnOk r R
+ok-both (Ok done) to h k = to h k
+ok-both (Err e) to h k = tt
 
 pub err-both : {T : Type 0} {P Q R : Type 0} (r : Result T Refusal) → (P → Q → R) → OnErr r P → OnErr r Q → OnErr r R
 err-both (Ok done) to h k = tt
@@ -133,14 +137,14 @@ err-three (Ok done) to h k l = tt
 err-three (Err e) to h k l = to h k l
 
 module _ (w new_w : WindowTable) (ps : PanelTable) (pairs : Pairs) (virtual : VirtualScreen) (d new_d : List (Option Columns)) where
-  abbrev pub before : DeskTable
-  before = record { windows = w; panels = ps; pairs = pairs; virtual = virtual; damage = d }
+  abbrev pub before_call : DeskTable
+  before_call = record { windows = w; panels = ps; pairs = pairs; virtual = virtual; damage = d }
 
-  abbrev pub behind : DeskTable
-  behind = record { windows = new_w; panels = ps; pairs = pairs; virtual = virtual; damage = new_d }
+  abbrev pub after_call : DeskTable
+  after_call = record { windows = new_w; panels = ps; pairs = pairs; virtual = virtual; damage = new_d }
 
-  pub windows-left : {T : Type 0} (after : Windows) (r : Result T Refusal) → OnOk r (windows new_w ≡ after) → OnOk r (world behind ≡ record (world before) { windows = after })
-  windows-left after r h = on-ok r (λ is. ap (λ (ws : Windows). record (world before) { windows = ws }) is) h
+  pub windows-left : {T : Type 0} (after : Windows) (r : Result T Refusal) → OnOk r (windows new_w ≡ after) → OnOk r (world after_call ≡ record (world before_call) { windows = after })
+  windows-left after r h = on-ok r (λ is. ap (λ (ws : Windows). record (world before_call) { windows = ws }) is) h
 
-  pub windows-unchanged : {T : Type 0} (r : Result T Refusal) → OnErr r (new_w ≡ w) → OnErr r (new_d ≡ d) → OnErr r (behind ≡ before)
+  pub windows-unchanged : {T : Type 0} (r : Result T Refusal) → OnErr r (new_w ≡ w) → OnErr r (new_d ≡ d) → OnErr r (after_call ≡ before_call)
   windows-unchanged r h k = err-both r (λ one other. (λ i. record { windows = one i; panels = ps; pairs = pairs; virtual = virtual; damage = other i })) h k

@@ -10,7 +10,7 @@ use Rattle.world.specs.Windows.{Window, WindowMap}
 use Rattle.world.specs.Panels.{Panels, standard_screen}
 use Rattle.world.specs.Sound.{AreSoundPanels, IsSoundPanel}
 use Rattle.world.specs.calls.Stacking.{IsSoundEntry, IsSoundOrder, after_del_panel, after_replace_panel, next_panel, window_tests}
-use Rattle.world.specs.Effects.{given, with_panel}
+use Rattle.world.specs.Effects.{with_entry, with_panel}
 use Rattle.world.specs.declared.panel.PanelId.{PanelId}
 use Rattle.stack.specs.Tables.{PanelTable, panels}
 
@@ -43,12 +43,12 @@ module _ (window : WindowMap) where
   pub sound-reordered : (old new : Panels) → AreSoundPanels window old → IsSoundOrder new → new.window ≡ old.window → AreSoundPanels window new
   sound-reordered old new h order same = sound-order new order (λ p w is. window-of old p w h (ap (λ (f : ℕ → Option ℕ). f p) (sym same) ∙ is))
 
-  given-case : (b : Bool) (o given : Option ℕ) (v : ℕ) → (if b then given else o) ≡ Some v → (given ≡ Some v → MayBeIn window v) → (o ≡ Some v → MayBeIn window v) → MayBeIn window v
-  given-case true o given v is new old = new is
-  given-case false o given v is new old = old is
+  given-case : (b : Bool) (o w : Option ℕ) (v : ℕ) → (if b then w else o) ≡ Some v → (w ≡ Some v → MayBeIn window v) → (o ≡ Some v → MayBeIn window v) → MayBeIn window v
+  given-case true o w v is new old = new is
+  given-case false o w v is new old = old is
 
   -- the panel p has another window, or none
-  pub sound-given : (old new : Panels) (p : ℕ) (w : Option ℕ) → AreSoundPanels window old → IsSoundOrder new → new.window ≡ given old.window p w
+  pub sound-given : (old new : Panels) (p : ℕ) (w : Option ℕ) → AreSoundPanels window old → IsSoundOrder new → new.window ≡ with_entry old.window p w
       → ((v : ℕ) → w ≡ Some v → MayBeIn window v) → AreSoundPanels window new
   sound-given old new p w h order same may = sound-order new order (λ q v is.
       given-case (q == p) (old.window q) w v (ap (λ (f : ℕ → Option ℕ). f q) (sym same) ∙ is) (may v) (window-of old q v h))
@@ -66,20 +66,8 @@ module _ (window : WindowMap) where
   pub may-be-in : (w : ℕ) → first_of (window_tests window w) ≡ None → MayBeIn window w
   may-be-in w h = let both = tests-passed (window w) (w == standard_screen) h in (both.1, λ same. let off = both.0 in cc)
 
-  some-is : (w v : ℕ) → MayBeIn window w → Some w ≡ Some v → MayBeIn window v
+  pub some-is : (w v : ℕ) → MayBeIn window w → Some w ≡ Some v → MayBeIn window v
   some-is w v may is = let same : w ≡ v = cc in subst (MayBeIn window) same may
-
-  pub sound-new : (old new : PanelTable) (w : ℕ) (r : Result PanelId Refusal) → AreSoundPanels window (panels old) → IsSoundOrder (panels new) → MayBeIn window w
-      → OnOk r (panels new ≡ with_panel (panels old) (next_panel (panels old)) w) → OnErr r (new ≡ old) → AreSoundPanels window (panels new)
-  sound-new old new w (Ok p) h order may made unchanged =
-      sound-given (panels old) (panels new) (next_panel (panels old)) (Some w) h order (ap (λ ps. ps.window) made) (λ v is. some-is w v may is)
-  sound-new old new w (Err e) h order may made unchanged = subst (λ t. AreSoundPanels window (panels t)) (sym unchanged) h
-
-  pub sound-replaced : {T : Type 0} (old new : PanelTable) (p w : ℕ) (r : Result T Refusal) → AreSoundPanels window (panels old) → IsSoundOrder (panels new) → MayBeIn window w
-      → OnOk r (panels new ≡ after_replace_panel (panels old) p w) → OnErr r (new ≡ old) → AreSoundPanels window (panels new)
-  sound-replaced old new p w (Ok done) h order may replaced unchanged =
-      sound-given (panels old) (panels new) p (Some w) h order (ap (λ ps. ps.window) replaced) (λ v is. some-is w v may is)
-  sound-replaced old new p w (Err e) h order may replaced unchanged = subst (λ t. AreSoundPanels window (panels t)) (sym unchanged) h
 
   -- the same panels with the same windows
   pub sound-kept : {T : Type 0} (old new : PanelTable) (after : Panels) (r : Result T Refusal) → AreSoundPanels window (panels old) → IsSoundOrder (panels new) → after.window ≡ (panels old).window
@@ -87,8 +75,9 @@ module _ (window : WindowMap) where
   sound-kept old new after (Ok done) h order same is unchanged = sound-reordered (panels old) (panels new) h order (ap (λ ps. ps.window) is ∙ same)
   sound-kept old new after (Err e) h order same is unchanged = subst (λ t. AreSoundPanels window (panels t)) (sym unchanged) h
 
-  -- one panel less
-  pub sound-deleted : {T : Type 0} (old new : PanelTable) (p : ℕ) (r : Result T Refusal) → AreSoundPanels window (panels old) → IsSoundOrder (panels new)
-      → OnOk r (panels new ≡ after_del_panel (panels old) p) → OnErr r (new ≡ old) → AreSoundPanels window (panels new)
-  sound-deleted old new p (Ok done) h order is unchanged = sound-given (panels old) (panels new) p None h order (ap (λ ps. ps.window) is) (λ v none. cc)
-  sound-deleted old new p (Err e) h order is unchanged = subst (λ t. AreSoundPanels window (panels t)) (sym unchanged) h
+  -- one panel has another window, or none
+  pub sound-with : {T : Type 0} (old new : PanelTable) (after : Panels) (p : ℕ) (w : Option ℕ) (r : Result T Refusal) → AreSoundPanels window (panels old) → IsSoundOrder (panels new)
+      → after.window ≡ with_entry (panels old).window p w → ((v : ℕ) → w ≡ Some v → MayBeIn window v) → OnOk r (panels new ≡ after) → OnErr r (new ≡ old)
+      → AreSoundPanels window (panels new)
+  sound-with old new after p w (Ok done) h order gives may is unchanged = sound-given (panels old) (panels new) p w h order (ap (λ ps. ps.window) is ∙ gives) may
+  sound-with old new after p w (Err e) h order gives may is unchanged = subst (λ t. AreSoundPanels window (panels t)) (sym unchanged) h

@@ -1,12 +1,10 @@
 -- A call on windows, made on a desk: what it answers and leaves, and that the desk is still one.
-use Rattle.std.proofs.Common.{◌≡◌, Bool, true, false, Option, List, Result, Ok, None, sym, ap, subst, ◌∙◌}
+use Rattle.std.proofs.Common.{◌≡◌, false, Option, List, Result, Ok, None, sym, subst}
 use Rattle.std.specs.Prelude.{IfOk, OnErr, OnOk}
-use Rattle.std.specs.Result.{result_err}
-use Rattle.cell.specs.Refusals.{RefusedBy}
 use Rattle.cell.specs.Shown.{Pairs}
 use Rattle.cell.specs.VirtualScreens.{VirtualScreen}
 use Rattle.cell.specs.declared.refusal.Refusal.{Refusal}
-use Rattle.world.specs.Effects.{Change, Effect, after, after_change, arranges, change_takes_memory, changes, effect_takes_memory}
+use Rattle.world.specs.Effects.{Change, Effect, after, after_change, arranges, changes, effect_takes_memory}
 use Rattle.world.specs.calls.Affected.{affects_place, effect_shows_at}
 use Rattle.world.specs.calls.Dispatch.{effect_of, is_update_panels, refusal, takes_memory, world_after}
 use Rattle.world.specs.calls.Refused.{Refused}
@@ -25,33 +23,22 @@ use Rattle.compose.specs.Covers.{IsDesk}
 use Rattle.compose.specs.Desks.{DeskTable, is_damaged_line, world}
 use Rattle.compose.specs.steps.Outcomes.{ChangedDamaging}
 use Rattle.compose.proofs.DamageCovers.{covered-result, few-result}
-use Rattle.compose.proofs.DeskLemmas.{IsSound-after, accepted-by, before, behind, called, refused-by, windows-left, windows-unchanged}
-
-refused-any : (takes : Bool) (t : Option Refusal) (r : Result Reply Refusal) → Refused takes t r → RefusedBy t r
-refused-any true t r h = h
-refused-any false t r h = refused-by t r h
-
-refused-exactly : (takes : Bool) (t : Option Refusal) (r : Result Reply Refusal) → Refused takes t r → takes ≡ false → result_err r ≡ t
-refused-exactly true t r h is = cc
-refused-exactly false t r h is = h
+use Rattle.compose.proofs.DeskLemmas.{IsSound-after, accepted-by, before_call, after_call, called, windows-left, windows-unchanged}
 
 module _ (w new_w : WindowTable) (ps : PanelTable) (pairs : Pairs) (virtual : VirtualScreen) (d new_d : List (Option Columns)) (call : Call) (change : Change)
-    (r : Result Reply Refusal) (h : IsDesk (before w new_w ps pairs virtual d new_d)) (is : effect_of (world (before w new_w ps pairs virtual d new_d)) call ≡ arranges (changes change))
-    (m : ChangedDamaging w (panels ps) (refusal (world (before w new_w ps pairs virtual d new_d)) call) change d r new_w new_d) where
+    (r : Result Reply Refusal) (h : IsDesk (before_call w new_w ps pairs virtual d new_d)) (is : effect_of (world (before_call w new_w ps pairs virtual d new_d)) call ≡ arranges (changes change))
+    (m : ChangedDamaging w (panels ps) (refusal (world (before_call w new_w ps pairs virtual d new_d)) call) change d r new_w new_d) where
   abbrev old : DeskTable
-  old = before w new_w ps pairs virtual d new_d
+  old = before_call w new_w ps pairs virtual d new_d
 
   abbrev new : DeskTable
-  new = behind w new_w ps pairs virtual d new_d
+  new = after_call w new_w ps pairs virtual d new_d
 
-  refused : RefusedBy (refusal (world old) call) r
-  refused = refused-any (change_takes_memory change) (refusal (world old) call) r m.call.refused
+  refused : Refused (takes_memory (world old) call) (refusal (world old) call) r
+  refused = subst (λ (e : Effect). Refused (effect_takes_memory e) (refusal (world old) call) r) (sym is) m.call.refused
 
   accepted : (done : Reply) → r ≡ Ok done → refusal (world old) call ≡ None
-  accepted = accepted-by (refusal (world old) call) r refused
-
-  exact : takes_memory (world old) call ≡ false → result_err r ≡ refusal (world old) call
-  exact none = refused-exactly (change_takes_memory change) (refusal (world old) call) r m.call.refused (sym (ap (λ (e : Effect). effect_takes_memory e) is) ∙ none)
+  accepted = accepted-by (takes_memory (world old) call) (refusal (world old) call) r refused
 
   allowed : (done : Reply) → r ≡ Ok done → IsAllowed (windows w) (panels ps) change
   allowed done ok = subst (λ (e : Effect). IsReady (world old) e) is (ready (world old) call (accepted done ok))
@@ -77,4 +64,4 @@ module _ (w new_w : WindowTable) (ps : PanelTable) (pairs : Pairs) (virtual : Vi
 
   pub is-called : is_update_panels call ≡ false → IfOk r (λ reply. MayTell (world old) (is_damaged_line old) call reply)
       → (OnOk r (world new ≡ record (world old) { windows = after_change (windows w) change }) → OnOk r (MayLeave old call new)) → Called old call r new
-  is-called other tells leaves = called old new call r refused exact tells (leaves left) (few-result old new call r h other accepted follows damages) unchanged
+  is-called other tells leaves = called old new call r refused tells (leaves left) (few-result old new call r h other accepted follows damages) unchanged

@@ -1,23 +1,20 @@
 //! Calls on windows and panels, each with what it damages of the screen.
 
-ghost use Rattle.std.specs.Prelude.{◌≡◌, ◌==◌, ℕ, IfOk, MatchOption, OnErr, OnOk, ⊤, false, length};
+ghost use Rattle.std.specs.Prelude.{◌≡◌, ◌==◌, ℕ, MatchOption, ⊤, false, length};
 ghost use Rattle.std.specs.Option.{option_map, option_map_or};
-ghost use Rattle.std.specs.Result.{result_err};
-ghost use Rattle.cell.specs.Refusals.{RefusedBy};
 ghost use Rattle.world.specs.Panels.{is_in_panel};
-ghost use Rattle.world.specs.Sound.{AreSoundPanels, AreSoundWindows};
+ghost use Rattle.world.specs.Sound.{AreSoundPanels};
 ghost use Rattle.world.specs.calls.Copying.{copying_refusal, copying_change};
 ghost use Rattle.world.specs.calls.Writing.{writing_refusal, writing_edit};
 ghost use Rattle.world.specs.calls.Making.{making_refusal, making_change};
-ghost use Rattle.world.specs.calls.Stacking.{stacking_refusal, panel_number, after_stacking, stacking_order};
-ghost use Rattle.world.specs.calls.Affected.{panel_shows_at, order_shows_at};
-ghost use Rattle.world.specs.Effects.{edits, order_reply, order_takes_memory, windows_after};
+ghost use Rattle.world.specs.calls.Stacking.{panel_number};
+ghost use Rattle.world.specs.calls.Affected.{panel_shows_at};
+ghost use Rattle.world.specs.Effects.{edits};
 ghost use Rattle.grids.specs.Tables.{windows as windows_of};
 ghost use Rattle.stack.specs.Tables.{panels};
 ghost use Rattle.picture.specs.Parts.{IsFrameWithin, part_holds};
-ghost use Rattle.picture.specs.Damages.{Damages};
 ghost use Rattle.compose.specs.steps.Changes.{top_window};
-ghost use Rattle.compose.specs.steps.Outcomes.{ChangedDamaging};
+ghost use Rattle.compose.specs.steps.Outcomes.{ChangedDamaging, OrderedDamaging};
 
 use crate::damaging::{damage_affected, damage_part};
 use crate::dispatch::{arrange, changed_panel, copy, make, named_panel, ordered_panel, write};
@@ -88,20 +85,7 @@ pub(crate) fn arrange_damaging(
 ) -> Result<Reply, Refusal>
     requires panels { AreSoundPanels (windows_of table.old).window (panels stack.old) }
     requires height { length damage.old ≡ table.old.lines }
-    ensures refused { RefusedBy (stacking_refusal (windows_of table.old) (panels stack.old) stacking) result }
-    ensures exact { order_takes_memory (stacking_order (panels stack.old) stacking) ≡ false
-        → result_err result ≡ stacking_refusal (windows_of table.old) (panels stack.old) stacking }
-    ensures reply { IfOk result (λ reply. reply ≡ order_reply (stacking_order (panels stack.old) stacking)) }
-    ensures windows { OnOk result (windows_of table.new ≡ windows_after (windows_of table.old) (panels stack.old)
-        (stacking_order (panels stack.old) stacking)) }
-    ensures panels { OnOk result (panels stack.new ≡ after_stacking (panels stack.old) stacking) }
-    ensures damaged { OnOk result (Damages table.old.columns (order_shows_at (windows_of table.old) (panels stack.old)
-        (stacking_order (panels stack.old) stacking)) damage.old damage.new) }
-    ensures unchanged { OnErr result (table.new ≡ table.old) }
-    ensures unordered { OnErr result (stack.new ≡ stack.old) }
-    ensures undamaged { OnErr result (damage.new ≡ damage.old) }
-    ensures sound { AreSoundWindows (windows_of table.new) }
-    ensures sound_panels { AreSoundPanels (windows_of table.new).window (panels stack.new) }
+    ensures { OrderedDamaging table.old stack.old stacking damage.old result table.new stack.new damage.new }
 {
     let ordered = ordered_panel(stacking);
     let top = window_on_top(stack, ordered);

@@ -1,6 +1,7 @@
 //! The windows and panels under a virtual screen.
 
-ghost use Rattle.std.specs.Prelude.{◌≡◌, ◌<◌, ◌≤◌, ◌-◌, ◌==◌, ◌&&◌, ℕ, None, Ok, Some, IfOk, OnErr, OnOk, false, true, if◌then◌else◌, length, nat_le, nat_lt, slice_index_or};
+ghost use Rattle.std.specs.Prelude.{◌≡◌, ◌<◌, ◌≤◌, ◌-◌, ◌==◌, ◌&&◌, ℕ, None, Ok, Some, IfOk, false, true, if◌then◌else◌, length, nat_le, nat_lt};
+ghost use Rattle.std.specs.Prelude.{slice_index_or};
 ghost use Rattle.std.specs.Result.{result_err};
 ghost use Rattle.cell.specs.Pictures.{AreShown, HasSize, line_of, picture_of, shown_at};
 ghost use Rattle.cell.specs.Glyphs.{blank};
@@ -11,9 +12,6 @@ ghost use Rattle.world.specs.calls.Making.{new_refusal};
 ghost use Rattle.world.specs.calls.Refresh.{among, colour_tests};
 ghost use Rattle.world.specs.Rows.{line_shown};
 ghost use Rattle.world.specs.Windows.{HasPlace};
-ghost use Rattle.world.specs.Effects.{order_reply, order_takes_memory};
-ghost use Rattle.world.specs.calls.Dispatch.{world_after};
-ghost use Rattle.world.specs.calls.Stacking.{stacking_order, stacking_refusal};
 ghost use Rattle.cell.specs.Refusals.{RefusedBy, first_of};
 ghost use Rattle.grids.specs.Tables.{windows as windows_of};
 ghost use Rattle.stack.specs.Tables.{panels};
@@ -22,7 +20,7 @@ ghost use Rattle.world.specs.declared.call.Call.{Call};
 ghost use Rattle.world.specs.declared.call.Refresh.{Refresh};
 ghost use Rattle.world.specs.declared.call.Stacking.{Stacking};
 ghost use Rattle.compose.specs.Desks.{damaged_columns, is_damaged_line, world};
-ghost use Rattle.compose.specs.Calling.{Called, DamagesFew};
+ghost use Rattle.compose.specs.Calling.{Called};
 
 use crate::damaging::damage_part;
 use crate::damaging_calls::{arrange_damaging, copy_damaging, make_damaging, write_damaging};
@@ -130,13 +128,7 @@ impl Desk {
 
     /// Makes a call of the table of panels.
     fn arrange(&mut self, stacking: Stacking) -> Result<Reply, Refusal>
-        ensures refused { RefusedBy (stacking_refusal (world self.old).windows (world self.old).panels stacking) result }
-        ensures exact { order_takes_memory (stacking_order (world self.old).panels stacking) ≡ false
-            → result_err result ≡ stacking_refusal (world self.old).windows (world self.old).panels stacking }
-        ensures reply { IfOk result (λ reply. reply ≡ order_reply (stacking_order (world self.old).panels stacking)) }
-        ensures arranged { OnOk result (world self.new ≡ world_after (world self.old) (Call.Stacking stacking)) }
-        ensures damaged { OnOk result (DamagesFew self.old (Call.Stacking stacking) self.new) }
-        ensures unchanged { OnErr result (self.new ≡ self.old) }
+        ensures { Called self.old (Call.Stacking stacking) result self.new }
     {
         arrange_damaging(
             &mut self.windows.table,

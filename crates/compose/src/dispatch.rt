@@ -1,28 +1,29 @@
 //! The calls on windows, by the group that they are in.
 
-ghost use Rattle.std.specs.Prelude.{◌≡◌, ℕ, IfOk, OnErr, OnOk, Option, None, false};
+ghost use Rattle.std.specs.Prelude.{◌≡◌, ℕ, IfOk, Option, None, false};
 ghost use Rattle.std.specs.Result.{result_err};
 ghost use Rattle.cell.specs.Pictures.{Place};
-ghost use Rattle.cell.specs.Refusals.{RefusedBy};
 ghost use Rattle.cell.specs.declared.refusal.Refusal.{Refusal};
 ghost use Rattle.world.specs.Panels.{is_in_panel, Panels};
-ghost use Rattle.world.specs.Sound.{AreSoundPanels, AreSoundWindows};
+ghost use Rattle.world.specs.Sound.{AreSoundPanels};
 ghost use Rattle.world.specs.calls.Copying.{copying_refusal, copying_change};
 ghost use Rattle.world.specs.calls.Making.{making_refusal, making_change};
-ghost use Rattle.world.specs.calls.Stacking.{after_stacking, stacking_refusal, panel_number, stacking_order};
+ghost use Rattle.world.specs.calls.Stacking.{panel_number, stacking_order};
 ghost use Rattle.world.specs.calls.Dispatch.{is_doupdate};
 ghost use Rattle.world.specs.calls.Writing.{writing_refusal, writing_edit};
 ghost use Rattle.world.specs.calls.Queries.{query_refusal, query_reply};
-ghost use Rattle.world.specs.Effects.{Change, asks, edits, makes, shifts, Edit, edit_window, order_reply, order_takes_memory, windows_after};
+ghost use Rattle.world.specs.Effects.{Change, asks, edits, makes, shifts, Edit, edit_window, order_reply};
 ghost use Rattle.world.specs.Windows.{Window};
 ghost use Rattle.world.specs.declared.call.Call.{Call};
 ghost use Rattle.world.specs.declared.call.Reply.{Reply};
 ghost use Rattle.grids.specs.Calls.{Changed, its_flag, its_number, nothing as no_answer};
+ghost use Rattle.calls.specs.Methods.{as_reply};
 ghost use Rattle.grids.specs.Tables.{WindowTable, windows as windows_of};
 ghost use Rattle.windows.specs.Calls.{Drew, its_frame, no_frame};
+ghost use Rattle.stack.specs.Calls.{its_panel};
 ghost use Rattle.stack.specs.Tables.{panels};
 ghost use Rattle.compose.specs.steps.Changes.{affected_by, named_panel, order_panel, ordered_panel};
-ghost use Rattle.compose.specs.steps.Outcomes.{Affects};
+ghost use Rattle.compose.specs.steps.Outcomes.{Affects, Ordered};
 ghost use Rattle.compose.specs.Calling.{Called};
 
 use crate::damaging::Affected;
@@ -210,32 +211,22 @@ pub(crate) fn query(windows: &Windows, query: Query) -> Result<Reply, Refusal>
 #[rattlefmt::skip]
 pub(crate) fn arrange(table: &mut Grids, stack: &mut Stack, stacking: Stacking) -> Result<Reply, Refusal>
     requires { AreSoundPanels (windows_of table.old).window (panels stack.old) }
-    ensures refused { RefusedBy (stacking_refusal (windows_of table.old) (panels stack.old) stacking) result }
-    ensures exact { order_takes_memory (stacking_order (panels stack.old) stacking) ≡ false
-        → result_err result ≡ stacking_refusal (windows_of table.old) (panels stack.old) stacking }
-    ensures reply { IfOk result (λ reply. reply ≡ order_reply (stacking_order (panels stack.old) stacking)) }
-    ensures windows { OnOk result (windows_of table.new ≡ windows_after (windows_of table.old) (panels stack.old)
-        (stacking_order (panels stack.old) stacking)) }
-    ensures panels { OnOk result (panels stack.new ≡ after_stacking (panels stack.old) stacking) }
-    ensures unchanged { OnErr result (table.new ≡ table.old) }
-    ensures unordered { OnErr result (stack.new ≡ stack.old) }
-    ensures sound { AreSoundWindows (windows_of table.new) }
-    ensures sound_panels { AreSoundPanels (windows_of table.new).window (panels stack.new) }
+    ensures { Ordered (λ reply. reply) table.old stack.old stacking result table.new stack.new }
 {
     prove!(table.has_window(WinId::STANDARD));
     match stacking {
-        Stacking::NewPanel { win } => panel(Some(new_panel(table, stack, win)?)),
-        Stacking::DelPanel { panel } => nothing(stack.del(panel)?),
-        Stacking::ShowPanel { panel } => nothing(stack.show(panel)?),
-        Stacking::HidePanel { panel } => nothing(stack.hide(panel)?),
-        Stacking::TopPanel { panel } => nothing(stack.top(panel)?),
-        Stacking::BottomPanel { panel } => nothing(stack.bottom(panel)?),
-        Stacking::MovePanel { panel, y, x } => nothing(move_panel(table, stack, panel, y, x)?),
-        Stacking::ReplacePanel { panel, win } => nothing(replace_panel(table, stack, panel, win)?),
-        Stacking::PanelAbove { panel: above } => panel(stack.above(above)?),
-        Stacking::PanelBelow { panel: below } => panel(stack.below(below)?),
-        Stacking::PanelWindow { panel } => number(stack.window(panel)?),
-        Stacking::PanelHidden { panel } => Ok(Reply::Flag(stack.hidden(panel)?)),
+        Stacking::NewPanel { win } => new_number(new_panel(table, stack, win)),
+        Stacking::DelPanel { panel } => done(stack.del(panel)),
+        Stacking::ShowPanel { panel } => done(stack.show(panel)),
+        Stacking::HidePanel { panel } => done(stack.hide(panel)),
+        Stacking::TopPanel { panel } => done(stack.top(panel)),
+        Stacking::BottomPanel { panel } => done(stack.bottom(panel)),
+        Stacking::MovePanel { panel, y, x } => done(move_panel(table, stack, panel, y, x)),
+        Stacking::ReplacePanel { panel, win } => done(replace_panel(table, stack, panel, win)),
+        Stacking::PanelAbove { panel: above } => panel(stack.above(above)),
+        Stacking::PanelBelow { panel: below } => panel(stack.below(below)),
+        Stacking::PanelWindow { panel } => number(stack.window(panel)),
+        Stacking::PanelHidden { panel } => flag(stack.hidden(panel)),
     }
 }
 
@@ -282,9 +273,9 @@ pub(crate) fn refresh(desk: &mut Desk, refresh: Refresh) -> Result<Reply, Refusa
     ensures { Called desk.old (Call.Refresh refresh) result desk.new }
 {
     match refresh {
-        Refresh::Noutrefresh { win } => nothing(desk.refresh_window(win)?),
+        Refresh::Noutrefresh { win } => done(desk.refresh_window(win)),
         Refresh::Pnoutrefresh { pad, pminrow, pmincol, sminrow, smincol, smaxrow, smaxcol } =>
-            nothing(desk.refresh_pad(pad, pminrow, pmincol, sminrow, smincol, smaxrow, smaxcol)?),
+            done(desk.refresh_pad(pad, pminrow, pmincol, sminrow, smincol, smaxrow, smaxcol)),
         Refresh::UpdatePanels => Ok(Reply::Composed(desk.compose())),
         Refresh::Doupdate => unreachable!(),
         Refresh::InitPair { pair, foreground, background } => desk.set_colours(pair, foreground, background),
@@ -292,24 +283,39 @@ pub(crate) fn refresh(desk: &mut Desk, refresh: Refresh) -> Result<Reply, Refusa
 }
 
 /// The answer of a call that answers nothing.
-fn nothing<T: Copy>(_answer: T) -> Result<Reply, Refusal>
-    ensures { result ≡ Ok Reply.Nothing }
+fn done(end: Result<(), Refusal>) -> Result<Reply, Refusal>
+    ensures { result ≡ as_reply no_answer end }
 {
+    end?;
     Ok(Reply::Nothing)
 }
 
 /// The answer of a call that asked for a panel's window.
-fn number(win: WinId) -> Result<Reply, Refusal>
-    ensures { result ≡ Ok (Reply.Number win) }
+fn number(win: Result<WinId, Refusal>) -> Result<Reply, Refusal>
+    ensures { result ≡ as_reply Reply.Number win }
 {
-    Ok(Reply::Number(win))
+    Ok(Reply::Number(win?))
 }
 
-/// The answer of a call that made a panel, or asked for one.
-fn panel(panel: Option<PanelId>) -> Result<Reply, Refusal>
-    ensures { result ≡ Ok (Reply.Panel panel) }
+/// The answer of a call that made a panel.
+fn new_number(made: Result<PanelId, Refusal>) -> Result<Reply, Refusal>
+    ensures { result ≡ as_reply its_panel made }
 {
-    Ok(Reply::Panel(panel))
+    Ok(Reply::Panel(Some(made?)))
+}
+
+/// The answer of a call that asked for a panel.
+fn panel(panel: Result<Option<PanelId>, Refusal>) -> Result<Reply, Refusal>
+    ensures { result ≡ as_reply Reply.Panel panel }
+{
+    Ok(Reply::Panel(panel?))
+}
+
+/// The answer of a call that asked whether something is so.
+fn flag(is: Result<bool, Refusal>) -> Result<Reply, Refusal>
+    ensures { result ≡ as_reply Reply.Flag is }
+{
+    Ok(Reply::Flag(is?))
 }
 
 /// The answer of a call that answers two numbers.

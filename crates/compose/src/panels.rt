@@ -1,18 +1,19 @@
 //! The calls for which windows and panels have to be looked at together.
 
-ghost use Rattle.std.specs.Prelude.{◌≡◌, Some, IfOk, OnOk, OnErr};
+ghost use Rattle.std.specs.Prelude.{◌≡◌};
 ghost use Rattle.std.specs.Result.{result_err};
-ghost use Rattle.cell.specs.Refusals.{RefusedBy, first_of};
+ghost use Rattle.cell.specs.Refusals.{first_of};
 ghost use Rattle.world.specs.Panels.{is_in_panel};
-ghost use Rattle.world.specs.Sound.{AreSoundPanels, AreSoundWindows};
-ghost use Rattle.world.specs.calls.Stacking.{new_panel_number, window_tests, after_stacking, stacking_order, stacking_refusal};
+ghost use Rattle.world.specs.Sound.{AreSoundPanels};
+ghost use Rattle.world.specs.calls.Stacking.{window_tests};
 ghost use Rattle.world.specs.calls.Making.{making_change, making_refusal};
-ghost use Rattle.world.specs.Effects.{windows_after};
 ghost use Rattle.world.specs.declared.call.Making.{Making};
 ghost use Rattle.world.specs.declared.call.Stacking.{Stacking};
 ghost use Rattle.grids.specs.Calls.{Changed, nothing};
 ghost use Rattle.grids.specs.Tables.{windows as windows_of};
+ghost use Rattle.stack.specs.Calls.{its_panel};
 ghost use Rattle.stack.specs.Tables.{panels};
+ghost use Rattle.compose.specs.steps.Outcomes.{Ordered};
 
 use cell::{Refusal, WinId};
 use grids::Grids;
@@ -25,12 +26,9 @@ use world::PanelId;
 /// `NoSuchWindow`, `StandardScreen`, `IsPad`, `InPanel`, `TooMany`, `NoMemory`.
 pub(crate) fn new_panel(table: &Grids, stack: &mut Stack, win: WinId) -> Result<PanelId, Refusal>
     requires { AreSoundPanels (windows_of table.now).window (panels stack.old) }
-    ensures refused { RefusedBy (stacking_refusal (windows_of table.now) (panels stack.old) (Stacking.NewPanel win)) result }
-    ensures number { IfOk result (λ p. new_panel_number (panels stack.old) ≡ Some p.0) }
-    ensures made { IfOk result (λ p. panels stack.new ≡ after_stacking (panels stack.old) (Stacking.NewPanel win)) }
-    ensures unchanged { OnErr result (stack.new ≡ stack.old) }
-    ensures sound { AreSoundPanels (windows_of table.now).window (panels stack.new) }
+    ensures { Ordered its_panel table.now stack.old (Stacking.NewPanel win) result table.now stack.new }
 {
+    prove!(table.has_window(WinId::STANDARD));
     require_window(table, win)?;
     stack.new_panel(win)
 }
@@ -46,11 +44,9 @@ pub(crate) fn replace_panel(
     win: WinId,
 ) -> Result<(), Refusal>
     requires { AreSoundPanels (windows_of table.now).window (panels stack.old) }
-    ensures refused { result_err result ≡ stacking_refusal (windows_of table.now) (panels stack.old) (Stacking.ReplacePanel panel win) }
-    ensures replaced { OnOk result (panels stack.new ≡ after_stacking (panels stack.old) (Stacking.ReplacePanel panel win)) }
-    ensures unchanged { OnErr result (stack.new ≡ stack.old) }
-    ensures sound { AreSoundPanels (windows_of table.now).window (panels stack.new) }
+    ensures { Ordered nothing table.now stack.old (Stacking.ReplacePanel panel win) result table.now stack.new }
 {
+    prove!(table.has_window(WinId::STANDARD));
     stack.window(panel)?;
     require_window(table, win)?;
     stack.replace(panel, win)
@@ -68,11 +64,7 @@ pub(crate) fn move_panel(
     x: u16,
 ) -> Result<(), Refusal>
     requires { AreSoundPanels (windows_of table.old).window (panels stack.now) }
-    ensures refused { result_err result ≡ stacking_refusal (windows_of table.old) (panels stack.now) (Stacking.MovePanel panel y x) }
-    ensures moved { OnOk result (windows_of table.new ≡ windows_after (windows_of table.old) (panels stack.now)
-        (stacking_order (panels stack.now) (Stacking.MovePanel panel y x))) }
-    ensures unchanged { OnErr result (table.new ≡ table.old) }
-    ensures sound { AreSoundWindows (windows_of table.new) }
+    ensures { Ordered nothing table.old stack.now (Stacking.MovePanel panel y x) result table.new stack.now }
 {
     prove!(table.has_window(WinId::STANDARD));
     let win = stack.window(panel)?;

@@ -1,13 +1,18 @@
--- A call made on windows, with what it affects of what is shown, and one with what it damages.
+-- A call made on windows, with what it affects of what is shown, and one with what it damages; and a call on panels.
 use Rattle.std.specs.Prelude.{◌≡◌, IfOk, OnErr, OnOk, Option, List, Result}
 use Rattle.cell.specs.declared.refusal.Refusal.{Refusal}
-use Rattle.world.specs.Effects.{Change}
+use Rattle.world.specs.Effects.{Change, order_reply, order_takes_memory, windows_after}
 use Rattle.world.specs.Panels.{Panels}
-use Rattle.world.specs.calls.Affected.{change_shows_at}
+use Rattle.world.specs.Sound.{AreSoundPanels, AreSoundWindows}
+use Rattle.world.specs.calls.Affected.{change_shows_at, order_shows_at}
+use Rattle.world.specs.calls.Refused.{Refused}
+use Rattle.world.specs.calls.Stacking.{after_stacking, stacking_order, stacking_refusal}
 use Rattle.world.specs.declared.call.Reply.{Reply}
+use Rattle.world.specs.declared.call.Stacking.{Stacking}
 use Rattle.world.specs.declared.settings.Columns.{Columns}
 use Rattle.grids.specs.Calls.{Changed}
 use Rattle.grids.specs.Tables.{WindowTable, windows}
+use Rattle.stack.specs.Tables.{PanelTable, panels}
 use Rattle.picture.specs.Damages.{Damages}
 use Rattle.compose.specs.declared.dispatch.Outcome.{Outcome}
 use Rattle.compose.specs.steps.Changes.{affected_by}
@@ -22,4 +27,24 @@ pub record ChangedDamaging (old : WindowTable) (panels : Panels) (refusal : Opti
     (r : Result Reply Refusal) (new : WindowTable) (new_damage : List (Option Columns)) : Type 0 where
   pub call : Changed (λ reply. reply) old refusal change r new
   pub damaged : OnOk r (Damages old.columns (change_shows_at (windows old) panels change) damage new_damage)
+  pub undamaged : OnErr r (new_damage ≡ damage)
+
+-- a call on panels was made: it was refused by its tests, and then nothing changed; else the answer, the windows and the panels are those of its
+-- order
+pub record Ordered {T : Type 0} (reply_of : T → Reply) (old : WindowTable) (old_panels : PanelTable) (stacking : Stacking) (r : Result T Refusal)
+    (new : WindowTable) (new_panels : PanelTable) : Type 0 where
+  pub refused : Refused (order_takes_memory (stacking_order (panels old_panels) stacking)) (stacking_refusal (windows old) (panels old_panels) stacking) r
+  pub reply : IfOk r (λ t. reply_of t ≡ order_reply (stacking_order (panels old_panels) stacking))
+  pub changed : OnOk r (windows new ≡ windows_after (windows old) (panels old_panels) (stacking_order (panels old_panels) stacking))
+  pub arranged : OnOk r (panels new_panels ≡ after_stacking (panels old_panels) stacking)
+  pub unchanged : OnErr r (new ≡ old)
+  pub unordered : OnErr r (new_panels ≡ old_panels)
+  pub sound : AreSoundWindows (windows new)
+  pub sound_panels : AreSoundPanels (windows new).window (panels new_panels)
+
+-- it was made, and what is damaged is what windows show of its order; a refused one damages nothing
+pub record OrderedDamaging (old : WindowTable) (old_panels : PanelTable) (stacking : Stacking) (damage : List (Option Columns)) (r : Result Reply Refusal)
+    (new : WindowTable) (new_panels : PanelTable) (new_damage : List (Option Columns)) : Type 0 where
+  pub call : Ordered (λ reply. reply) old old_panels stacking r new new_panels
+  pub damaged : OnOk r (Damages old.columns (order_shows_at (windows old) (panels old_panels) (stacking_order (panels old_panels) stacking)) damage new_damage)
   pub undamaged : OnErr r (new_damage ≡ damage)

@@ -1,44 +1,68 @@
--- `arrange`: panels stay sound: each has a window that is there, and is neither a pad nor the standard screen (`SoundPanels`).
-use Rattle.std.proofs.Common.{true, Some, refl, sym, ◌≡◌, subst}
-use Rattle.world.specs.Panels.{window_or_standard}
-use Rattle.world.specs.Windows.{Windows}
-use Rattle.world.specs.Effects.{carries, windows_after}
-use Rattle.world.specs.calls.Stacking.{after_bottom_panel, after_hide_panel, after_show_panel}
-use Rattle.world.proofs.PlaceLaws.{has_place, keeps-moved, panels-kept}
-use Rattle.grids.specs.Tables.{windows}
-use Rattle.stack.specs.Tables.{panels}
-use Rattle.compose.proofs.SoundPanels.{sound-deleted, sound-kept}
+-- `arrange`: each call is one that orders a panel, one that gives it another window or none, one that moves its window, or one that asks
+-- (`Arranging`).
+use Rattle.std.proofs.Common.{None, ap, refl, sym}
+use Rattle.std.specs.Prelude.{unwrap_or}
+use Rattle.world.specs.Panels.{standard_screen}
+use Rattle.world.specs.declared.call.Reply.TheVariants.{Flag, Number, Panel}
+use Rattle.stack.specs.Calls.{as_is, its_panel, nothing, window_number}
+use Rattle.world.specs.calls.Stacking.{panel_number}
+use Rattle.compose.proofs.Arranging.{answered, asked, ordered-again, ordered-given, panel_answered}
 use Rattle.compose.proofs.dispatch.arrange.Goals as goal
 
-pub returns-in_ok-del-in-DelPanel-clause-sound_panels : goal.returns-in_ok-del-in-DelPanel-clause-sound_panels
-returns-in_ok-del-in-DelPanel-clause-sound_panels c =
-    sound-deleted (windows c.args.table.now).window c.args.stack.now c.del.new.self c.in-DelPanel.panel.0 c.del.result c.requires c.del.ensures.sound c.del.ensures.arranged c.del.ensures.unchanged
+pub returns-in-NewPanel : goal.returns-in-NewPanel
+returns-in-NewPanel c =
+    rw (c.in-NewPanel.is, c.new_number.ensures) (answered its_panel _ _ _ _ _ _ c.new_panel.ensures)
 
-pub returns-in_ok-show-in-ShowPanel-clause-sound_panels : goal.returns-in_ok-show-in-ShowPanel-clause-sound_panels
-returns-in_ok-show-in-ShowPanel-clause-sound_panels c =
-    sound-kept (windows c.args.table.now).window c.args.stack.now c.show.new.self (after_show_panel (panels c.args.stack.now) c.in-ShowPanel.panel.0) c.show.result c.requires c.show.ensures.sound
-    refl c.show.ensures.arranged c.show.ensures.unchanged
+pub returns-in-DelPanel : goal.returns-in-DelPanel
+returns-in-DelPanel c =
+    rw (c.in-DelPanel.is, c.done.ensures)
+    (answered nothing _ _ _ _ _ _ (ordered-given _ _ c.has_window.ensures.sound c.requires nothing _ _ _ _ c.in-DelPanel.panel.0 None c.del.ensures refl refl refl (λ v is. cc)))
 
-pub returns-in_ok-hide-in-HidePanel-clause-sound_panels : goal.returns-in_ok-hide-in-HidePanel-clause-sound_panels
-returns-in_ok-hide-in-HidePanel-clause-sound_panels c =
-    sound-kept (windows c.args.table.now).window c.args.stack.now c.hide.new.self (after_hide_panel (panels c.args.stack.now) c.in-HidePanel.panel.0) c.hide.result c.requires c.hide.ensures.sound
-    refl c.hide.ensures.arranged c.hide.ensures.unchanged
+pub returns-in-ShowPanel : goal.returns-in-ShowPanel
+returns-in-ShowPanel c =
+    rw (c.in-ShowPanel.is, c.done-in-ShowPanel.ensures)
+    (answered nothing _ _ _ _ _ _ (ordered-again _ _ c.has_window.ensures.sound c.requires nothing _ _ _ _ c.show.ensures refl refl refl))
 
-pub returns-in_ok-top-in-TopPanel-clause-sound_panels : goal.returns-in_ok-top-in-TopPanel-clause-sound_panels
-returns-in_ok-top-in-TopPanel-clause-sound_panels c =
-    sound-kept (windows c.args.table.now).window c.args.stack.now c.top.new.self (after_show_panel (panels c.args.stack.now) c.in-TopPanel.panel.0) c.top.result c.requires c.top.ensures.sound refl
-    c.top.ensures.arranged c.top.ensures.unchanged
+pub returns-in-HidePanel : goal.returns-in-HidePanel
+returns-in-HidePanel c =
+    rw (c.in-HidePanel.is, c.done-in-HidePanel.ensures)
+    (answered nothing _ _ _ _ _ _ (ordered-again _ _ c.has_window.ensures.sound c.requires nothing _ _ _ _ c.hide.ensures refl refl refl))
 
-pub returns-in_ok-bottom-in-BottomPanel-clause-sound_panels : goal.returns-in_ok-bottom-in-BottomPanel-clause-sound_panels
-returns-in_ok-bottom-in-BottomPanel-clause-sound_panels c =
-    sound-kept (windows c.args.table.now).window c.args.stack.now c.bottom.new.self (after_bottom_panel (panels c.args.stack.now) c.in-BottomPanel.panel.0) c.bottom.result c.requires
-    c.bottom.ensures.sound refl c.bottom.ensures.arranged c.bottom.ensures.unchanged
+pub returns-in-TopPanel : goal.returns-in-TopPanel
+returns-in-TopPanel c =
+    rw (c.in-TopPanel.is, c.done-in-TopPanel.ensures)
+    (answered nothing _ _ _ _ _ _ (ordered-again _ _ c.has_window.ensures.sound c.requires nothing _ _ _ _ c.top.ensures refl refl refl))
 
-pub returns-in_ok-move_panel-in-MovePanel-clause-sound_panels : goal.returns-in_ok-move_panel-in-MovePanel-clause-sound_panels
-returns-in_ok-move_panel-in-MovePanel-clause-sound_panels c =
-    let before = windows c.args.table.now in
-    let ps = panels c.args.stack.now in
-    let m = c.in-MovePanel in
-    let is : windows c.move_panel.new.table ≡ windows_after before ps (carries m.panel.0 (m.y, m.x)) = c.in_ok-move_panel-in-MovePanel.ensures.moved in
-    panels-kept ps before.window (windows c.move_panel.new.table).window
-    (λ p w has other there. subst (λ (ws : Windows). has_place (ws.window w) ≡ true) (sym is) (keeps-moved before (window_or_standard ps (Some m.panel.0)) (m.y, m.x) w there)) c.requires
+pub returns-in-BottomPanel : goal.returns-in-BottomPanel
+returns-in-BottomPanel c =
+    rw (c.in-BottomPanel.is, c.done-in-BottomPanel.ensures)
+    (answered nothing _ _ _ _ _ _ (ordered-again _ _ c.has_window.ensures.sound c.requires nothing _ _ _ _ c.bottom.ensures refl refl refl))
+
+pub returns-in-MovePanel : goal.returns-in-MovePanel
+returns-in-MovePanel c =
+    rw (c.in-MovePanel.is, c.done-in-MovePanel.ensures) (answered nothing _ _ _ _ _ _ c.move_panel.ensures)
+
+pub returns-in-ReplacePanel : goal.returns-in-ReplacePanel
+returns-in-ReplacePanel c =
+    rw (c.in-ReplacePanel.is, c.done-in-ReplacePanel.ensures) (answered nothing _ _ _ _ _ _ c.replace_panel.ensures)
+
+pub returns-in-PanelAbove : goal.returns-in-PanelAbove
+returns-in-PanelAbove c =
+    rw (c.in-PanelAbove.is, c.panel.ensures)
+    (answered Panel _ _ _ _ _ _ (asked _ _ c.has_window.ensures.sound c.requires Panel _ panel_number _ _ _ c.above.ensures refl refl (panel_answered _)))
+
+pub returns-in-PanelBelow : goal.returns-in-PanelBelow
+returns-in-PanelBelow c =
+    rw (c.in-PanelBelow.is, c.panel-in-PanelBelow.ensures)
+    (answered Panel _ _ _ _ _ _ (asked _ _ c.has_window.ensures.sound c.requires Panel _ panel_number _ _ _ c.below.ensures refl refl (panel_answered _)))
+
+pub returns-in-PanelWindow : goal.returns-in-PanelWindow
+returns-in-PanelWindow c =
+    rw (c.in-PanelWindow.is, c.number.ensures)
+    (answered Number _ _ _ _ _ _ (asked _ _ c.has_window.ensures.sound c.requires Number _ window_number _ _ _ c.window.ensures refl refl
+    (λ w is. sym (ap (λ o. Number (record { 0 = unwrap_or o standard_screen })) is))))
+
+pub returns-in-PanelHidden : goal.returns-in-PanelHidden
+returns-in-PanelHidden c =
+    rw (c.in-PanelHidden.is, c.flag.ensures)
+    (answered Flag _ _ _ _ _ _ (asked _ _ c.has_window.ensures.sound c.requires Flag _ as_is _ _ _ c.hidden.ensures refl refl (λ hidden is. ap Flag (sym is))))

@@ -1,14 +1,24 @@
--- `replace_panel`: panels stay sound: each has a window that is there, and is neither a pad nor the standard screen (`SoundPanels`).
-use Rattle.std.proofs.Common.{rules, ◌≡◌, None}
+-- `replace_panel`: the stack's call, where the window may be in a panel (`Arranging`).
+use Rattle.std.proofs.Common.{rules, ap, refl, sym, ◌≡◌, ◌∷◌, None, Some, if◌then◌else◌}
+use Rattle.std.specs.Prelude.{[], is_none}
 use Rattle.cell.specs.Refusals.{first_of}
+use Rattle.cell.specs.declared.refusal.Refusal.TheVariants.{InPanel, NoSuchPanel}
+use Rattle.world.specs.Panels.{is_in_panel}
 use Rattle.world.specs.calls.Stacking.{window_tests}
 use Rattle.grids.specs.Tables.{windows}
-use Rattle.compose.proofs.SoundPanels.{may-be-in, sound-replaced}
+use Rattle.stack.specs.Calls.{nothing}
+use Rattle.stack.specs.Tables.{panels}
+use Rattle.compose.proofs.Arranging.{first-after, ordered-given}
+use Rattle.compose.proofs.SoundPanels.{may-be-in, some-is}
 use Rattle.compose.proofs.panels.replace_panel.Goals as goal
 
-pub returns-clause-sound : goal.returns-clause-sound
-returns-clause-sound c =
-    let window = (windows c.args.table.now).window in
-    let passed : first_of (window_tests window c.args.win.0) ≡ None = search rules in
-    sound-replaced window c.args.stack.now c.replace.new.self c.args.panel.0 c.args.win.0 c.replace.result c.requires c.replace.ensures.sound
-    (may-be-in window c.args.win.0 passed) c.replace.ensures.arranged c.replace.ensures.unchanged
+pub returns : goal.returns
+returns c =
+    let a = c.args in
+    let window = (windows a.table.now).window in
+    let ps = panels a.stack.now in
+    let passed : first_of (window_tests window a.win.0) ≡ None = search rules in
+    ordered-given a.table.now a.stack.now c.has_window.ensures.sound c.requires nothing _ _ c.replace.result c.replace.new.self a.panel.0 (Some a.win.0) c.replace.ensures
+    (ap (λ o. if is_none (ps.window a.panel.0) then Some NoSuchPanel else o)
+    (sym (first-after (window_tests window a.win.0) ((is_in_panel ps a.win.0, InPanel) ∷ []) passed)))
+    refl refl (λ v is. some-is window a.win.0 v (may-be-in window a.win.0 passed) is)

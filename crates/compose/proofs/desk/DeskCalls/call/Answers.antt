@@ -1,7 +1,6 @@
--- `call`: a call on windows leaves a desk as its relation says (`WindowCalls`), and one on panels as `arrange` does (`DeskLemmas`).
+-- `call`: a call on windows leaves a desk as its relation says (`WindowCalls`), and one on panels as `arrange` does.
 use Rattle.std.proofs.Common.{refl}
 use Rattle.world.specs.declared.call.Call.TheVariants as calls
-use Rattle.compose.proofs.DeskLemmas.{called}
 use Rattle.compose.proofs.WindowCalls.{is-called, is-desk}
 use Rattle.compose.proofs.desk.DeskCalls.call.Goals as goal
 
@@ -30,9 +29,7 @@ returns-in-Copying c =
     (calls.Copying c.in-Copying.copying) _ m.result c.self-in-Copying.invariant refl m.ensures refl m.ensures.call.reply (λ left. left))
 
 pub returns-in-Stacking : goal.returns-in-Stacking
-returns-in-Stacking c =
-    let e = c.arrange.ensures in
-    rw (c.in-Stacking.is) (called c.args.self.now c.arrange.new.self (calls.Stacking c.in-Stacking.stacking) c.arrange.result e.refused e.exact e.reply e.arranged e.damaged e.unchanged)
+returns-in-Stacking c = rw (c.in-Stacking.is) c.arrange.ensures
 
 pub invariant_of-self : goal.invariant_of-self
 invariant_of-self c =
