@@ -5,9 +5,9 @@ use Rattle.world.specs.declared.call.Reply.TheVariants.{Nothing, Pair, Panel}
 use Rattle.world.specs.declared.panel.PanelId.{PanelId}
 
 -- what a method answers, as an answer of its call
-abbrev pub told : {A E : Type 0} → (A → Reply) → Result A E → Result Reply E
-told reply_of (Ok answer) = Ok (reply_of answer)
-told reply_of (Err e) = Err e
+abbrev pub as_reply : {A E : Type 0} → (A → Reply) → Result A E → Result Reply E
+as_reply reply_of (Ok answer) = Ok (reply_of answer)
+as_reply reply_of (Err e) = Err e
 
 -- of a method that answers nothing, two numbers, or a new panel
 abbrev pub no_answer : Unit {0} → Reply

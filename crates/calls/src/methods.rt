@@ -6,7 +6,7 @@ ghost use Rattle.world.specs.calls.Dispatch.{is_doupdate};
 ghost use Rattle.world.specs.declared.call.Call.{Call};
 ghost use Rattle.world.specs.declared.call.Reply.{Reply};
 ghost use Rattle.calls.specs.Kinds.{IsAnswerTo, kind_of};
-ghost use Rattle.calls.specs.Methods.{no_answer, one_panel, told, two_numbers};
+ghost use Rattle.calls.specs.Methods.{no_answer, one_panel, as_reply, two_numbers};
 
 use crate::answer::Answer;
 use cell::{Attr, Cell, WinId};
@@ -27,13 +27,14 @@ pub trait Calls {
         ensures { made self.old call.now result self.new };
 
     // Each answer is of the kind that the call has.
-    ghost answers: { (old : Self) (call : Call) (reply : Reply) (new : Self) → is_doupdate call ≡ false → made old call (Ok reply) new → IsAnswerTo call reply };
+    ghost answers: { (old : Self) (call : Call) (reply : Reply) (new : Self) → is_doupdate call ≡ false → made old call (Ok reply) new
+        → IsAnswerTo call reply };
 
     /// Makes a call whose answers are of one kind.
     final fn ask<A: Answer>(&mut self, call: &Call<'_>) -> Result<A, Self::Error>
         requires other { is_doupdate call.now ≡ false }
         requires kind { (world : World) → kind_of world call.now ≡ A.kind }
-        ensures { made self.old call.now (told A.reply_of result) self.new }
+        ensures { made self.old call.now (as_reply A.reply_of result) self.new }
     {
         let reply = self.call(call)?;
         Ok(A::of(reply).unwrap())
@@ -46,7 +47,7 @@ pub trait Calls {
     /// `OffScreen`, `TooMany`, `NoMemory`.
     #[rattlefmt::skip]
     final fn newwin(&mut self, lines: u16, columns: u16, y: u16, x: u16) -> Result<WinId, Self::Error>
-        ensures { made self.old (Call.Making (Making.Newwin lines columns y x)) (told Reply.Number result) self.new }
+        ensures { made self.old (Call.Making (Making.Newwin lines columns y x)) (as_reply Reply.Number result) self.new }
     {
         self.ask(&Call::Making(Making::Newwin { lines, columns, y, x }))
     }
@@ -58,7 +59,7 @@ pub trait Calls {
     /// `NoSuchWindow`, `IsPad`, `OutsideParent`, `TooMany`, `NoMemory`.
     #[rattlefmt::skip]
     final fn subwin(&mut self, win: WinId, lines: u16, columns: u16, y: u16, x: u16) -> Result<WinId, Self::Error>
-        ensures { made self.old (Call.Making (Making.Subwin win lines columns y x)) (told Reply.Number result) self.new }
+        ensures { made self.old (Call.Making (Making.Subwin win lines columns y x)) (as_reply Reply.Number result) self.new }
     {
         self.ask(&Call::Making(Making::Subwin { win, lines, columns, y, x }))
     }
@@ -70,7 +71,7 @@ pub trait Calls {
     /// `NoSuchWindow`, `IsPad`, `OutsideParent`, `TooMany`, `NoMemory`.
     #[rattlefmt::skip]
     final fn derwin(&mut self, win: WinId, lines: u16, columns: u16, y: u16, x: u16) -> Result<WinId, Self::Error>
-        ensures { made self.old (Call.Making (Making.Derwin win lines columns y x)) (told Reply.Number result) self.new }
+        ensures { made self.old (Call.Making (Making.Derwin win lines columns y x)) (as_reply Reply.Number result) self.new }
     {
         self.ask(&Call::Making(Making::Derwin { win, lines, columns, y, x }))
     }
@@ -80,7 +81,7 @@ pub trait Calls {
     /// # Errors
     /// `BadSize`, `TooMany`, `NoMemory`.
     final fn newpad(&mut self, lines: u16, columns: u16) -> Result<WinId, Self::Error>
-        ensures { made self.old (Call.Making (Making.Newpad lines columns)) (told Reply.Number result) self.new }
+        ensures { made self.old (Call.Making (Making.Newpad lines columns)) (as_reply Reply.Number result) self.new }
     {
         self.ask(&Call::Making(Making::Newpad { lines, columns }))
     }
@@ -91,7 +92,7 @@ pub trait Calls {
     /// `NoSuchWindow`, `NotPad`, `OutsideParent`, `TooMany`, `NoMemory`.
     #[rattlefmt::skip]
     final fn subpad(&mut self, pad: WinId, lines: u16, columns: u16, y: u16, x: u16) -> Result<WinId, Self::Error>
-        ensures { made self.old (Call.Making (Making.Subpad pad lines columns y x)) (told Reply.Number result) self.new }
+        ensures { made self.old (Call.Making (Making.Subpad pad lines columns y x)) (as_reply Reply.Number result) self.new }
     {
         self.ask(&Call::Making(Making::Subpad { pad, lines, columns, y, x }))
     }
@@ -101,7 +102,7 @@ pub trait Calls {
     /// # Errors
     /// `NoSuchWindow`, `StandardScreen`, `InPanel`, `HasDerived`.
     final fn delwin(&mut self, win: WinId) -> Result<(), Self::Error>
-        ensures { made self.old (Call.Making (Making.Delwin win)) (told no_answer result) self.new }
+        ensures { made self.old (Call.Making (Making.Delwin win)) (as_reply no_answer result) self.new }
     {
         self.ask(&Call::Making(Making::Delwin { win }))
     }
@@ -111,7 +112,7 @@ pub trait Calls {
     /// # Errors
     /// `NoSuchWindow`, `StandardScreen`, `IsPad`, `InPanel`, `OffScreen`.
     final fn mvwin(&mut self, win: WinId, y: u16, x: u16) -> Result<(), Self::Error>
-        ensures { made self.old (Call.Making (Making.Mvwin win y x)) (told no_answer result) self.new }
+        ensures { made self.old (Call.Making (Making.Mvwin win y x)) (as_reply no_answer result) self.new }
     {
         self.ask(&Call::Making(Making::Mvwin { win, y, x }))
     }
@@ -122,7 +123,7 @@ pub trait Calls {
     /// # Errors
     /// `NoSuchWindow`, `NotDerived`, `OutsideParent`.
     final fn mvderwin(&mut self, win: WinId, y: u16, x: u16) -> Result<(), Self::Error>
-        ensures { made self.old (Call.Making (Making.Mvderwin win y x)) (told no_answer result) self.new }
+        ensures { made self.old (Call.Making (Making.Mvderwin win y x)) (as_reply no_answer result) self.new }
     {
         self.ask(&Call::Making(Making::Mvderwin { win, y, x }))
     }
@@ -132,7 +133,7 @@ pub trait Calls {
     /// # Errors
     /// `NoSuchWindow`; `OutsideWindow` for a place that the window hasn't.
     final fn wmove(&mut self, win: WinId, y: u16, x: u16) -> Result<(), Self::Error>
-        ensures { made self.old (Call.Writing (Writing.Move win y x)) (told no_answer result) self.new }
+        ensures { made self.old (Call.Writing (Writing.Move win y x)) (as_reply no_answer result) self.new }
     {
         self.ask(&Call::Writing(Writing::Move { win, y, x }))
     }
@@ -142,7 +143,7 @@ pub trait Calls {
     /// # Errors
     /// `NoSuchWindow`; `BadCharacter` for another character outside 32 to 126.
     final fn waddch(&mut self, win: WinId, ch: u8) -> Result<(), Self::Error>
-        ensures { made self.old (Call.Writing (Writing.Addch win ch)) (told no_answer result) self.new }
+        ensures { made self.old (Call.Writing (Writing.Addch win ch)) (as_reply no_answer result) self.new }
     {
         self.ask(&Call::Writing(Writing::Addch { win, ch }))
     }
@@ -152,7 +153,7 @@ pub trait Calls {
     /// # Errors
     /// `NoSuchWindow`; `BadCharacter` for a character other than 8, 10, 13 and 32 to 126.
     final fn waddstr(&mut self, win: WinId, text: &[u8]) -> Result<(), Self::Error>
-        ensures { made self.old (Call.Writing (Writing.Addstr win text.entry)) (told no_answer result) self.new }
+        ensures { made self.old (Call.Writing (Writing.Addstr win text.entry)) (as_reply no_answer result) self.new }
     {
         self.ask(&Call::Writing(Writing::Addstr { win, text }))
     }
@@ -163,7 +164,7 @@ pub trait Calls {
     /// # Errors
     /// `NoSuchWindow`; `BadCharacter` for a character outside 32 to 126.
     final fn winsch(&mut self, win: WinId, ch: u8) -> Result<(), Self::Error>
-        ensures { made self.old (Call.Writing (Writing.Insch win ch)) (told no_answer result) self.new }
+        ensures { made self.old (Call.Writing (Writing.Insch win ch)) (as_reply no_answer result) self.new }
     {
         self.ask(&Call::Writing(Writing::Insch { win, ch }))
     }
@@ -173,7 +174,7 @@ pub trait Calls {
     /// # Errors
     /// `NoSuchWindow`.
     final fn wdelch(&mut self, win: WinId) -> Result<(), Self::Error>
-        ensures { made self.old (Call.Writing (Writing.Delch win)) (told no_answer result) self.new }
+        ensures { made self.old (Call.Writing (Writing.Delch win)) (as_reply no_answer result) self.new }
     {
         self.ask(&Call::Writing(Writing::Delch { win }))
     }
@@ -183,7 +184,7 @@ pub trait Calls {
     /// # Errors
     /// `NoSuchWindow`.
     final fn winsertln(&mut self, win: WinId) -> Result<(), Self::Error>
-        ensures { made self.old (Call.Writing (Writing.Insertln win)) (told no_answer result) self.new }
+        ensures { made self.old (Call.Writing (Writing.Insertln win)) (as_reply no_answer result) self.new }
     {
         self.ask(&Call::Writing(Writing::Insertln { win }))
     }
@@ -193,7 +194,7 @@ pub trait Calls {
     /// # Errors
     /// `NoSuchWindow`.
     final fn wdeleteln(&mut self, win: WinId) -> Result<(), Self::Error>
-        ensures { made self.old (Call.Writing (Writing.Deleteln win)) (told no_answer result) self.new }
+        ensures { made self.old (Call.Writing (Writing.Deleteln win)) (as_reply no_answer result) self.new }
     {
         self.ask(&Call::Writing(Writing::Deleteln { win }))
     }
@@ -203,7 +204,7 @@ pub trait Calls {
     /// # Errors
     /// `NoSuchWindow`.
     final fn werase(&mut self, win: WinId) -> Result<(), Self::Error>
-        ensures { made self.old (Call.Writing (Writing.Erase win)) (told no_answer result) self.new }
+        ensures { made self.old (Call.Writing (Writing.Erase win)) (as_reply no_answer result) self.new }
     {
         self.ask(&Call::Writing(Writing::Erase { win }))
     }
@@ -213,7 +214,7 @@ pub trait Calls {
     /// # Errors
     /// `NoSuchWindow`.
     final fn wclear(&mut self, win: WinId) -> Result<(), Self::Error>
-        ensures { made self.old (Call.Writing (Writing.Clear win)) (told no_answer result) self.new }
+        ensures { made self.old (Call.Writing (Writing.Clear win)) (as_reply no_answer result) self.new }
     {
         self.ask(&Call::Writing(Writing::Clear { win }))
     }
@@ -223,7 +224,7 @@ pub trait Calls {
     /// # Errors
     /// `NoSuchWindow`.
     final fn wclrtoeol(&mut self, win: WinId) -> Result<(), Self::Error>
-        ensures { made self.old (Call.Writing (Writing.Clrtoeol win)) (told no_answer result) self.new }
+        ensures { made self.old (Call.Writing (Writing.Clrtoeol win)) (as_reply no_answer result) self.new }
     {
         self.ask(&Call::Writing(Writing::Clrtoeol { win }))
     }
@@ -233,7 +234,7 @@ pub trait Calls {
     /// # Errors
     /// `NoSuchWindow`.
     final fn wclrtobot(&mut self, win: WinId) -> Result<(), Self::Error>
-        ensures { made self.old (Call.Writing (Writing.Clrtobot win)) (told no_answer result) self.new }
+        ensures { made self.old (Call.Writing (Writing.Clrtobot win)) (as_reply no_answer result) self.new }
     {
         self.ask(&Call::Writing(Writing::Clrtobot { win }))
     }
@@ -243,7 +244,7 @@ pub trait Calls {
     /// # Errors
     /// `NoSuchWindow`; `ScrollingOff` for a window that doesn't scroll.
     final fn wscrl(&mut self, win: WinId, n: i16) -> Result<(), Self::Error>
-        ensures { made self.old (Call.Writing (Writing.Scrl win n)) (told no_answer result) self.new }
+        ensures { made self.old (Call.Writing (Writing.Scrl win n)) (as_reply no_answer result) self.new }
     {
         self.ask(&Call::Writing(Writing::Scrl { win, n }))
     }
@@ -253,7 +254,7 @@ pub trait Calls {
     /// # Errors
     /// `NoSuchWindow`; `BadRegion` if `top` is after `bottom` or `bottom` outside the window.
     final fn wsetscrreg(&mut self, win: WinId, top: u16, bottom: u16) -> Result<(), Self::Error>
-        ensures { made self.old (Call.Writing (Writing.Setscrreg win top bottom)) (told no_answer result) self.new }
+        ensures { made self.old (Call.Writing (Writing.Setscrreg win top bottom)) (as_reply no_answer result) self.new }
     {
         self.ask(&Call::Writing(Writing::Setscrreg { win, top, bottom }))
     }
@@ -263,7 +264,7 @@ pub trait Calls {
     /// # Errors
     /// `NoSuchWindow`.
     final fn scrollok(&mut self, win: WinId, flag: bool) -> Result<(), Self::Error>
-        ensures { made self.old (Call.Writing (Writing.Scrollok win flag)) (told no_answer result) self.new }
+        ensures { made self.old (Call.Writing (Writing.Scrollok win flag)) (as_reply no_answer result) self.new }
     {
         self.ask(&Call::Writing(Writing::Scrollok { win, flag }))
     }
@@ -273,7 +274,7 @@ pub trait Calls {
     /// # Errors
     /// `NoSuchWindow`.
     final fn clearok(&mut self, win: WinId, flag: bool) -> Result<(), Self::Error>
-        ensures { made self.old (Call.Writing (Writing.Clearok win flag)) (told no_answer result) self.new }
+        ensures { made self.old (Call.Writing (Writing.Clearok win flag)) (as_reply no_answer result) self.new }
     {
         self.ask(&Call::Writing(Writing::Clearok { win, flag }))
     }
@@ -283,7 +284,7 @@ pub trait Calls {
     /// # Errors
     /// `NoSuchWindow`.
     final fn wattrset(&mut self, win: WinId, attrs: Attr) -> Result<(), Self::Error>
-        ensures { made self.old (Call.Writing (Writing.Attrset win attrs)) (told no_answer result) self.new }
+        ensures { made self.old (Call.Writing (Writing.Attrset win attrs)) (as_reply no_answer result) self.new }
     {
         self.ask(&Call::Writing(Writing::Attrset { win, attrs }))
     }
@@ -293,7 +294,7 @@ pub trait Calls {
     /// # Errors
     /// `NoSuchWindow`.
     final fn wattron(&mut self, win: WinId, attrs: Attr) -> Result<(), Self::Error>
-        ensures { made self.old (Call.Writing (Writing.Attron win attrs)) (told no_answer result) self.new }
+        ensures { made self.old (Call.Writing (Writing.Attron win attrs)) (as_reply no_answer result) self.new }
     {
         self.ask(&Call::Writing(Writing::Attron { win, attrs }))
     }
@@ -303,7 +304,7 @@ pub trait Calls {
     /// # Errors
     /// `NoSuchWindow`.
     final fn wattroff(&mut self, win: WinId, attrs: Attr) -> Result<(), Self::Error>
-        ensures { made self.old (Call.Writing (Writing.Attroff win attrs)) (told no_answer result) self.new }
+        ensures { made self.old (Call.Writing (Writing.Attroff win attrs)) (as_reply no_answer result) self.new }
     {
         self.ask(&Call::Writing(Writing::Attroff { win, attrs }))
     }
@@ -313,7 +314,7 @@ pub trait Calls {
     /// # Errors
     /// `NoSuchWindow`; `BadCharacter` for a character outside 32 to 126.
     final fn wbkgdset(&mut self, win: WinId, attrs: Attr, ch: u8) -> Result<(), Self::Error>
-        ensures { made self.old (Call.Writing (Writing.Bkgdset win attrs ch)) (told no_answer result) self.new }
+        ensures { made self.old (Call.Writing (Writing.Bkgdset win attrs ch)) (as_reply no_answer result) self.new }
     {
         self.ask(&Call::Writing(Writing::Bkgdset { win, attrs, ch }))
     }
@@ -323,7 +324,7 @@ pub trait Calls {
     /// # Errors
     /// `NoSuchWindow`; `BadPair` for a number past `LAST_PAIR`.
     final fn wcolor_set(&mut self, win: WinId, pair: u16) -> Result<(), Self::Error>
-        ensures { made self.old (Call.Writing (Writing.ColorSet win pair)) (told no_answer result) self.new }
+        ensures { made self.old (Call.Writing (Writing.ColorSet win pair)) (as_reply no_answer result) self.new }
     {
         self.ask(&Call::Writing(Writing::ColorSet { win, pair }))
     }
@@ -333,7 +334,7 @@ pub trait Calls {
     /// # Errors
     /// `NoSuchWindow`; `BadPair` for a number past `LAST_PAIR`.
     final fn wbkgdpair(&mut self, win: WinId, pair: u16) -> Result<(), Self::Error>
-        ensures { made self.old (Call.Writing (Writing.Bkgdpair win pair)) (told no_answer result) self.new }
+        ensures { made self.old (Call.Writing (Writing.Bkgdpair win pair)) (as_reply no_answer result) self.new }
     {
         self.ask(&Call::Writing(Writing::Bkgdpair { win, pair }))
     }
@@ -343,7 +344,7 @@ pub trait Calls {
     /// # Errors
     /// `NoSuchWindow`, `IsPad`, each for either window.
     final fn overlay(&mut self, src: WinId, dst: WinId) -> Result<(), Self::Error>
-        ensures { made self.old (Call.Copying (Copying.Overlay src dst)) (told no_answer result) self.new }
+        ensures { made self.old (Call.Copying (Copying.Overlay src dst)) (as_reply no_answer result) self.new }
     {
         self.ask(&Call::Copying(Copying::Overlay { src, dst }))
     }
@@ -353,7 +354,7 @@ pub trait Calls {
     /// # Errors
     /// `NoSuchWindow`, `IsPad`, each for either window.
     final fn overwrite(&mut self, src: WinId, dst: WinId) -> Result<(), Self::Error>
-        ensures { made self.old (Call.Copying (Copying.Overwrite src dst)) (told no_answer result) self.new }
+        ensures { made self.old (Call.Copying (Copying.Overwrite src dst)) (as_reply no_answer result) self.new }
     {
         self.ask(&Call::Copying(Copying::Overwrite { src, dst }))
     }
@@ -377,7 +378,7 @@ pub trait Calls {
         overlay: bool,
     ) -> Result<(), Self::Error>
         ensures { made self.old (Call.Copying (Copying.Copywin src dst sminrow smincol dminrow dmincol dmaxrow dmaxcol overlay))
-            (told no_answer result) self.new }
+            (as_reply no_answer result) self.new }
     {
         self.ask(&Call::Copying(Copying::Copywin {
             src,
@@ -397,7 +398,7 @@ pub trait Calls {
     /// # Errors
     /// `NoSuchWindow`.
     final fn touchwin(&mut self, win: WinId) -> Result<(), Self::Error>
-        ensures { made self.old (Call.Copying (Copying.Touchwin win)) (told no_answer result) self.new }
+        ensures { made self.old (Call.Copying (Copying.Touchwin win)) (as_reply no_answer result) self.new }
     {
         self.ask(&Call::Copying(Copying::Touchwin { win }))
     }
@@ -407,7 +408,7 @@ pub trait Calls {
     /// # Errors
     /// `NoSuchWindow`.
     final fn untouchwin(&mut self, win: WinId) -> Result<(), Self::Error>
-        ensures { made self.old (Call.Copying (Copying.Untouchwin win)) (told no_answer result) self.new }
+        ensures { made self.old (Call.Copying (Copying.Untouchwin win)) (as_reply no_answer result) self.new }
     {
         self.ask(&Call::Copying(Copying::Untouchwin { win }))
     }
@@ -417,7 +418,7 @@ pub trait Calls {
     /// # Errors
     /// `NoSuchWindow`; `OutsideWindow` if the window hasn't line `y`, or not `n` lines from it on.
     final fn touchline(&mut self, win: WinId, y: u16, n: u16) -> Result<(), Self::Error>
-        ensures { made self.old (Call.Copying (Copying.Touchline win y n)) (told no_answer result) self.new }
+        ensures { made self.old (Call.Copying (Copying.Touchline win y n)) (as_reply no_answer result) self.new }
     {
         self.ask(&Call::Copying(Copying::Touchline { win, y, n }))
     }
@@ -427,7 +428,7 @@ pub trait Calls {
     /// # Errors
     /// `NoSuchWindow`; `OutsideWindow` if the window hasn't line `y`, or not `n` lines from it on.
     final fn wtouchln(&mut self, win: WinId, y: u16, n: u16, flag: bool) -> Result<(), Self::Error>
-        ensures { made self.old (Call.Copying (Copying.Touchln win y n flag)) (told no_answer result) self.new }
+        ensures { made self.old (Call.Copying (Copying.Touchln win y n flag)) (as_reply no_answer result) self.new }
     {
         self.ask(&Call::Copying(Copying::Touchln { win, y, n, flag }))
     }
@@ -437,7 +438,7 @@ pub trait Calls {
     /// # Errors
     /// `NoSuchWindow`.
     final fn wsyncup(&mut self, win: WinId) -> Result<(), Self::Error>
-        ensures { made self.old (Call.Copying (Copying.Syncup win)) (told no_answer result) self.new }
+        ensures { made self.old (Call.Copying (Copying.Syncup win)) (as_reply no_answer result) self.new }
     {
         self.ask(&Call::Copying(Copying::Syncup { win }))
     }
@@ -447,7 +448,7 @@ pub trait Calls {
     /// # Errors
     /// `NoSuchWindow`.
     final fn wsyncdown(&mut self, win: WinId) -> Result<(), Self::Error>
-        ensures { made self.old (Call.Copying (Copying.Syncdown win)) (told no_answer result) self.new }
+        ensures { made self.old (Call.Copying (Copying.Syncdown win)) (as_reply no_answer result) self.new }
     {
         self.ask(&Call::Copying(Copying::Syncdown { win }))
     }
@@ -457,7 +458,7 @@ pub trait Calls {
     /// # Errors
     /// `NoSuchWindow`; `OutsideWindow` if the window hasn't line `y`.
     final fn is_linetouched(&mut self, win: WinId, y: u16) -> Result<bool, Self::Error>
-        ensures { made self.old (Call.Copying (Copying.IsLinetouched win y)) (told Reply.Flag result) self.new }
+        ensures { made self.old (Call.Copying (Copying.IsLinetouched win y)) (as_reply Reply.Flag result) self.new }
     {
         self.ask(&Call::Copying(Copying::IsLinetouched { win, y }))
     }
@@ -467,7 +468,7 @@ pub trait Calls {
     /// # Errors
     /// `NoSuchWindow`.
     final fn is_wintouched(&mut self, win: WinId) -> Result<bool, Self::Error>
-        ensures { made self.old (Call.Copying (Copying.IsWintouched win)) (told Reply.Flag result) self.new }
+        ensures { made self.old (Call.Copying (Copying.IsWintouched win)) (as_reply Reply.Flag result) self.new }
     {
         self.ask(&Call::Copying(Copying::IsWintouched { win }))
     }
@@ -477,7 +478,7 @@ pub trait Calls {
     /// # Errors
     /// `NoSuchWindow`.
     final fn getyx(&mut self, win: WinId) -> Result<(u16, u16), Self::Error>
-        ensures { made self.old (Call.Query (Query.Getyx win)) (told two_numbers result) self.new }
+        ensures { made self.old (Call.Query (Query.Getyx win)) (as_reply two_numbers result) self.new }
     {
         self.ask(&Call::Query(Query::Getyx { win }))
     }
@@ -487,7 +488,7 @@ pub trait Calls {
     /// # Errors
     /// `NoSuchWindow`, `IsPad`.
     final fn getbegyx(&mut self, win: WinId) -> Result<(u16, u16), Self::Error>
-        ensures { made self.old (Call.Query (Query.Getbegyx win)) (told two_numbers result) self.new }
+        ensures { made self.old (Call.Query (Query.Getbegyx win)) (as_reply two_numbers result) self.new }
     {
         self.ask(&Call::Query(Query::Getbegyx { win }))
     }
@@ -497,7 +498,7 @@ pub trait Calls {
     /// # Errors
     /// `NoSuchWindow`.
     final fn getmaxyx(&mut self, win: WinId) -> Result<(u16, u16), Self::Error>
-        ensures { made self.old (Call.Query (Query.Getmaxyx win)) (told two_numbers result) self.new }
+        ensures { made self.old (Call.Query (Query.Getmaxyx win)) (as_reply two_numbers result) self.new }
     {
         self.ask(&Call::Query(Query::Getmaxyx { win }))
     }
@@ -507,7 +508,7 @@ pub trait Calls {
     /// # Errors
     /// `NoSuchWindow`, `NotDerived`.
     final fn getparyx(&mut self, win: WinId) -> Result<(u16, u16), Self::Error>
-        ensures { made self.old (Call.Query (Query.Getparyx win)) (told two_numbers result) self.new }
+        ensures { made self.old (Call.Query (Query.Getparyx win)) (as_reply two_numbers result) self.new }
     {
         self.ask(&Call::Query(Query::Getparyx { win }))
     }
@@ -517,7 +518,7 @@ pub trait Calls {
     /// # Errors
     /// `NoSuchWindow`.
     final fn winch(&mut self, win: WinId) -> Result<Cell, Self::Error>
-        ensures { made self.old (Call.Query (Query.Inch win)) (told Reply.Cell result) self.new }
+        ensures { made self.old (Call.Query (Query.Inch win)) (as_reply Reply.Cell result) self.new }
     {
         self.ask(&Call::Query(Query::Inch { win }))
     }
@@ -527,7 +528,7 @@ pub trait Calls {
     /// # Errors
     /// `NoSuchWindow`, `StandardScreen`, `IsPad`, `InPanel`, `TooMany`, `NoMemory`.
     final fn new_panel(&mut self, win: WinId) -> Result<PanelId, Self::Error>
-        ensures { made self.old (Call.Stacking (Stacking.NewPanel win)) (told one_panel result) self.new }
+        ensures { made self.old (Call.Stacking (Stacking.NewPanel win)) (as_reply one_panel result) self.new }
     {
         self.ask(&Call::Stacking(Stacking::NewPanel { win }))
     }
@@ -537,7 +538,7 @@ pub trait Calls {
     /// # Errors
     /// `NoSuchPanel`.
     final fn del_panel(&mut self, panel: PanelId) -> Result<(), Self::Error>
-        ensures { made self.old (Call.Stacking (Stacking.DelPanel panel)) (told no_answer result) self.new }
+        ensures { made self.old (Call.Stacking (Stacking.DelPanel panel)) (as_reply no_answer result) self.new }
     {
         self.ask(&Call::Stacking(Stacking::DelPanel { panel }))
     }
@@ -547,7 +548,7 @@ pub trait Calls {
     /// # Errors
     /// `NoSuchPanel`.
     final fn show_panel(&mut self, panel: PanelId) -> Result<(), Self::Error>
-        ensures { made self.old (Call.Stacking (Stacking.ShowPanel panel)) (told no_answer result) self.new }
+        ensures { made self.old (Call.Stacking (Stacking.ShowPanel panel)) (as_reply no_answer result) self.new }
     {
         self.ask(&Call::Stacking(Stacking::ShowPanel { panel }))
     }
@@ -557,7 +558,7 @@ pub trait Calls {
     /// # Errors
     /// `NoSuchPanel`, `Hidden`.
     final fn hide_panel(&mut self, panel: PanelId) -> Result<(), Self::Error>
-        ensures { made self.old (Call.Stacking (Stacking.HidePanel panel)) (told no_answer result) self.new }
+        ensures { made self.old (Call.Stacking (Stacking.HidePanel panel)) (as_reply no_answer result) self.new }
     {
         self.ask(&Call::Stacking(Stacking::HidePanel { panel }))
     }
@@ -567,7 +568,7 @@ pub trait Calls {
     /// # Errors
     /// `NoSuchPanel`, `Hidden`.
     final fn top_panel(&mut self, panel: PanelId) -> Result<(), Self::Error>
-        ensures { made self.old (Call.Stacking (Stacking.TopPanel panel)) (told no_answer result) self.new }
+        ensures { made self.old (Call.Stacking (Stacking.TopPanel panel)) (as_reply no_answer result) self.new }
     {
         self.ask(&Call::Stacking(Stacking::TopPanel { panel }))
     }
@@ -577,7 +578,7 @@ pub trait Calls {
     /// # Errors
     /// `NoSuchPanel`, `Hidden`.
     final fn bottom_panel(&mut self, panel: PanelId) -> Result<(), Self::Error>
-        ensures { made self.old (Call.Stacking (Stacking.BottomPanel panel)) (told no_answer result) self.new }
+        ensures { made self.old (Call.Stacking (Stacking.BottomPanel panel)) (as_reply no_answer result) self.new }
     {
         self.ask(&Call::Stacking(Stacking::BottomPanel { panel }))
     }
@@ -587,7 +588,7 @@ pub trait Calls {
     /// # Errors
     /// `NoSuchPanel`, `OffScreen`.
     final fn move_panel(&mut self, panel: PanelId, y: u16, x: u16) -> Result<(), Self::Error>
-        ensures { made self.old (Call.Stacking (Stacking.MovePanel panel y x)) (told no_answer result) self.new }
+        ensures { made self.old (Call.Stacking (Stacking.MovePanel panel y x)) (as_reply no_answer result) self.new }
     {
         self.ask(&Call::Stacking(Stacking::MovePanel { panel, y, x }))
     }
@@ -597,7 +598,7 @@ pub trait Calls {
     /// # Errors
     /// `NoSuchPanel`, `NoSuchWindow`, `StandardScreen`, `IsPad`, `InPanel`.
     final fn replace_panel(&mut self, panel: PanelId, win: WinId) -> Result<(), Self::Error>
-        ensures { made self.old (Call.Stacking (Stacking.ReplacePanel panel win)) (told no_answer result) self.new }
+        ensures { made self.old (Call.Stacking (Stacking.ReplacePanel panel win)) (as_reply no_answer result) self.new }
     {
         self.ask(&Call::Stacking(Stacking::ReplacePanel { panel, win }))
     }
@@ -607,7 +608,7 @@ pub trait Calls {
     /// # Errors
     /// `NoSuchPanel`, `Hidden`.
     final fn panel_above(&mut self, panel: Option<PanelId>) -> Result<Option<PanelId>, Self::Error>
-        ensures { made self.old (Call.Stacking (Stacking.PanelAbove panel)) (told Reply.Panel result) self.new }
+        ensures { made self.old (Call.Stacking (Stacking.PanelAbove panel)) (as_reply Reply.Panel result) self.new }
     {
         self.ask(&Call::Stacking(Stacking::PanelAbove { panel }))
     }
@@ -617,7 +618,7 @@ pub trait Calls {
     /// # Errors
     /// `NoSuchPanel`, `Hidden`.
     final fn panel_below(&mut self, panel: Option<PanelId>) -> Result<Option<PanelId>, Self::Error>
-        ensures { made self.old (Call.Stacking (Stacking.PanelBelow panel)) (told Reply.Panel result) self.new }
+        ensures { made self.old (Call.Stacking (Stacking.PanelBelow panel)) (as_reply Reply.Panel result) self.new }
     {
         self.ask(&Call::Stacking(Stacking::PanelBelow { panel }))
     }
@@ -627,7 +628,7 @@ pub trait Calls {
     /// # Errors
     /// `NoSuchPanel`.
     final fn panel_window(&mut self, panel: PanelId) -> Result<WinId, Self::Error>
-        ensures { made self.old (Call.Stacking (Stacking.PanelWindow panel)) (told Reply.Number result) self.new }
+        ensures { made self.old (Call.Stacking (Stacking.PanelWindow panel)) (as_reply Reply.Number result) self.new }
     {
         self.ask(&Call::Stacking(Stacking::PanelWindow { panel }))
     }
@@ -637,7 +638,7 @@ pub trait Calls {
     /// # Errors
     /// `NoSuchPanel`.
     final fn panel_hidden(&mut self, panel: PanelId) -> Result<bool, Self::Error>
-        ensures { made self.old (Call.Stacking (Stacking.PanelHidden panel)) (told Reply.Flag result) self.new }
+        ensures { made self.old (Call.Stacking (Stacking.PanelHidden panel)) (as_reply Reply.Flag result) self.new }
     {
         self.ask(&Call::Stacking(Stacking::PanelHidden { panel }))
     }
@@ -648,7 +649,7 @@ pub trait Calls {
     /// # Errors
     /// `NoSuchWindow`, `IsPad`.
     final fn wnoutrefresh(&mut self, win: WinId) -> Result<(), Self::Error>
-        ensures { made self.old (Call.Refresh (Refresh.Noutrefresh win)) (told no_answer result) self.new }
+        ensures { made self.old (Call.Refresh (Refresh.Noutrefresh win)) (as_reply no_answer result) self.new }
     {
         self.ask(&Call::Refresh(Refresh::Noutrefresh { win }))
     }
@@ -671,7 +672,7 @@ pub trait Calls {
         smaxcol: u16,
     ) -> Result<(), Self::Error>
         ensures { made self.old (Call.Refresh (Refresh.Pnoutrefresh pad pminrow pmincol sminrow smincol smaxrow smaxcol))
-            (told no_answer result) self.new }
+            (as_reply no_answer result) self.new }
     {
         self.ask(&Call::Refresh(Refresh::Pnoutrefresh {
             pad,
@@ -687,7 +688,7 @@ pub trait Calls {
     /// Takes the picture of windows and panels, and the topmost's cursor, into the virtual screen. It answers how many
     /// cells it read.
     final fn update_panels(&mut self) -> Result<Composed, Self::Error>
-        ensures { made self.old (Call.Refresh Refresh.UpdatePanels) (told Reply.Composed result) self.new }
+        ensures { made self.old (Call.Refresh Refresh.UpdatePanels) (as_reply Reply.Composed result) self.new }
     {
         self.ask(&Call::Refresh(Refresh::UpdatePanels))
     }
@@ -702,7 +703,7 @@ pub trait Calls {
         foreground: u16,
         background: u16,
     ) -> Result<(), Self::Error>
-        ensures { made self.old (Call.Refresh (Refresh.InitPair pair foreground background)) (told no_answer result) self.new }
+        ensures { made self.old (Call.Refresh (Refresh.InitPair pair foreground background)) (as_reply no_answer result) self.new }
     {
         self.ask(&Call::Refresh(Refresh::InitPair {
             pair,

@@ -7,7 +7,7 @@ use Rattle.cell.specs.declared.refusal.Refusal.{Refusal}
 use Rattle.world.specs.Panels.{Panels}
 use Rattle.world.specs.Sound.{AreSoundPanels, AreSoundWindows}
 use Rattle.world.specs.Windows.{Windows}
-use Rattle.world.specs.Effects.{asks, changes, given, moved_to, order_takes_memory, windows_after}
+use Rattle.world.specs.Effects.{asks, changes, with_entry, moved_to, order_takes_memory, windows_after}
 use Rattle.world.specs.calls.Dispatch.{refusal, takes_memory, world_after}
 use Rattle.world.specs.calls.Stacking.{after_stacking, numbered_panel, panel_number, stacking_order, stacking_refusal}
 use Rattle.world.specs.declared.call.Call.TheVariants as calls
@@ -17,7 +17,7 @@ use Rattle.world.specs.declared.call.Stacking.{Stacking}
 use Rattle.world.specs.declared.panel.PanelId.{PanelId}
 use Rattle.world.proofs.PlaceLaws.{has_place, keeps-moved, panels-kept}
 use Rattle.world.proofs.Sizes.{SameSize, size-order}
-use Rattle.calls.specs.Methods.{told}
+use Rattle.calls.specs.Methods.{as_reply}
 use Rattle.grids.specs.Tables.{WindowTable, windows}
 use Rattle.stack.specs.Calls.{Arranged, Asked, no_windows}
 use Rattle.stack.specs.Tables.{PanelTable, panels}
@@ -32,7 +32,7 @@ use Rattle.compose.proofs.SoundPanels.{MayBeIn, sound-kept, sound-with}
 -- ---- what the answer of a method is as that of its call
 
 pub answered : {T : Type 0} (reply_of : T → Reply) (old : WindowTable) (ps : PanelTable) (stacking : Stacking) (r : Result T Refusal) (new : WindowTable) (new_ps : PanelTable)
-    → Ordered reply_of old ps stacking r new new_ps → Ordered (λ reply. reply) old ps stacking (told reply_of r) new new_ps
+    → Ordered reply_of old ps stacking r new new_ps → Ordered (λ reply. reply) old ps stacking (as_reply reply_of r) new new_ps
 answered reply_of old ps stacking (Ok t) new new_ps h = record {
   refused = refused-as (order_takes_memory (stacking_order (panels ps) stacking)) (stacking_refusal (windows old) (panels ps) stacking) reply_of (Ok t) h.refused;
   reply = h.reply;
@@ -83,7 +83,7 @@ module _ (table : WindowTable) (ps : PanelTable) (sound : AreSoundWindows (windo
 
   pub ordered-given : {T : Type 0} (reply_of : T → Reply) (tests : List (Bool × Refusal)) (stacking : Stacking) (r : Result T Refusal) (new : PanelTable) (p : ℕ) (w : Option ℕ)
       → Arranged reply_of tests ps stacking r new → first_of tests ≡ stacking_refusal (windows table) (panels ps) stacking
-      → windows_after (windows table) (panels ps) (stacking_order (panels ps) stacking) ≡ windows table → (after_stacking (panels ps) stacking).window ≡ given (panels ps).window p w
+      → windows_after (windows table) (panels ps) (stacking_order (panels ps) stacking) ≡ windows table → (after_stacking (panels ps) stacking).window ≡ with_entry (panels ps).window p w
       → ((v : ℕ) → w ≡ Some v → MayBeIn (windows table).window v) → Ordered reply_of table ps stacking r table new
   ordered-given reply_of tests stacking r new p w a same still gives may =
       ordered reply_of tests stacking r new a same still

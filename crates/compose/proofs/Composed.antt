@@ -6,12 +6,12 @@ use Rattle.std.specs.Option.{option_map_or}
 use Rattle.cell.specs.Pictures.{Picture, Place, origin, AreShown, picture_of}
 use Rattle.cell.specs.Shown.{Pairs, Shown}
 use Rattle.cell.proofs.PictureLemmas.{HasSize-lines_from}
-use Rattle.world.specs.Windows.{Window, Windows, changed}
+use Rattle.world.specs.Windows.{Window, Windows, with_change}
 use Rattle.world.specs.Panels.{Panels, cursor_from, cursor_of_topmost, cursor_on_screen, screen_place, standard_screen, topmost, window_or_standard}
 use Rattle.cell.specs.VirtualScreens.{VirtualScreen}
 use Rattle.world.specs.Sound.{AreSoundPanels, AreSoundWindows, IsSound, IsSoundPanel, IsSoundWindow, IsStandardScreen}
 use Rattle.world.specs.calls.Queries.{place_on_screen}
-use Rattle.world.specs.Effects.{unmarked_lines, unmarked, with_unmarked}
+use Rattle.world.specs.Effects.{unmarked_lines, without_marks, with_unmarked}
 use Rattle.world.proofs.PlaceLaws.{has_place, panels-kept, places-changed, same_if, there-true}
 use Rattle.world.proofs.Sizes.{SameSize}
 use Rattle.grids.specs.Tables.{WindowTable, windows}
@@ -83,18 +83,18 @@ pub IsSound-composed : (old new : WindowTable) (ps : PanelTable) (pairs : Pairs)
     → IsSound (world (desk_of new ps pairs (record { picture = picture; cursor = cursor; clear = clear })))
 IsSound-composed old new ps pairs virtual picture f cursor clear composed h sound are shown cells cursor_is =
     IsSound-shown old new ps pairs virtual picture f cursor clear h sound (record { lines = ap (λ ws. ws.lines) are; columns = ap (λ ws. ws.columns) are })
-    (λ p w is other there. ap (λ ws. has_place (ws.window w)) are ∙ same_if (list_any (λ v. v == w) composed) ((windows old).window w) unmarked (λ a. refl) ∙ there)
+    (λ p w is other there. ap (λ ws. has_place (ws.window w)) are ∙ same_if (list_any (λ v. v == w) composed) ((windows old).window w) without_marks (λ a. refl) ∙ there)
     shown cells (rw cursor_is (cursor-within (windows old) (panels ps) h.windows h.panels))
 
 -- one window that is on the screen was taken into the virtual screen, with its cursor
 pub IsSound-refreshed : (old new : WindowTable) (ps : PanelTable) (pairs : Pairs) (virtual : VirtualScreen) (w : ℕ) (place : Place) (picture : Picture) (f : ℕ → ℕ → Shown) (cursor : Place)
     (clear : Bool)
-    → IsSound (world (desk_of old ps pairs virtual)) → AreSoundWindows (windows new) → windows new ≡ record (windows old) { window = changed (windows old).window w unmarked }
+    → IsSound (world (desk_of old ps pairs virtual)) → AreSoundWindows (windows new) → windows new ≡ record (windows old) { window = with_change (windows old).window w without_marks }
     → place_on_screen (windows old).window w ≡ Some place → picture ≡ picture_of old.lines old.columns f → AreShown picture → cursor ≡ cursor_on_screen (windows old).window w
     → IsSound (world (desk_of new ps pairs (record { picture = picture; cursor = cursor; clear = clear })))
 IsSound-refreshed old new ps pairs virtual w place picture f cursor clear h sound are place_is shown cells cursor_is =
     IsSound-shown old new ps pairs virtual picture f cursor clear h sound (record { lines = ap (λ ws. ws.lines) are; columns = ap (λ ws. ws.columns) are })
-    (λ p u is other there. ap (λ ws. has_place (ws.window u)) are ∙ places-changed (windows old) w unmarked (λ a. refl) u ∙ there)
+    (λ p u is other there. ap (λ ws. has_place (ws.window u)) are ∙ places-changed (windows old) w without_marks (λ a. refl) u ∙ there)
     shown cells (rw cursor_is (window-cursor-within (windows old) w h.windows (placed ((windows old).window w) place place_is))) where
       placed : (o : Option Window) (place : Place) → option_and_then (λ (a : Window). a.place) o ≡ Some place → has_place o ≡ true
       placed None place e = cc
@@ -102,7 +102,7 @@ IsSound-refreshed old new ps pairs virtual w place picture f cursor clear h soun
 
 -- a rectangle of a pad was, and the cursor stayed
 pub IsSound-pad : (old new : WindowTable) (ps : PanelTable) (pairs : Pairs) (virtual : VirtualScreen) (w : ℕ) (test : ℕ → Bool) (picture : Picture) (f : ℕ → ℕ → Shown) (clear : Bool)
-    → IsSound (world (desk_of old ps pairs virtual)) → AreSoundWindows (windows new) → windows new ≡ record (windows old) { window = changed (windows old).window w (unmarked_lines test) }
+    → IsSound (world (desk_of old ps pairs virtual)) → AreSoundWindows (windows new) → windows new ≡ record (windows old) { window = with_change (windows old).window w (unmarked_lines test) }
     → picture ≡ picture_of old.lines old.columns f → AreShown picture
     → IsSound (world (desk_of new ps pairs (record { picture = picture; cursor = virtual.cursor; clear = clear })))
 IsSound-pad old new ps pairs virtual w test picture f clear h sound are shown cells =

@@ -23,7 +23,7 @@ use Rattle.compose.specs.Calling.{Called, DamagesFew, MayLeave, MayRefuse, MayTe
 use Rattle.world.specs.declared.call.Call.{Call}
 use Rattle.world.specs.declared.call.Call.TheVariants as calls
 use Rattle.world.specs.declared.call.Reply.{Reply}
-use Rattle.calls.specs.Methods.{told}
+use Rattle.calls.specs.Methods.{as_reply}
 use Rattle.world.proofs.PlaceLaws.{has_place, panels-kept}
 use Rattle.world.proofs.Sizes.{SameSize, size-call}
 
@@ -106,7 +106,7 @@ accepted-by false t (Ok done) h other is = sym h
 accepted-by takes t (Err e) h other is = cc
 
 -- an answer is accepted or refused also where it is that of a call
-pub refused-as : {T : Type 0} (takes : Bool) (t : Option Refusal) (reply_of : T → Reply) (r : Result T Refusal) → Refused takes t r → Refused takes t (told reply_of r)
+pub refused-as : {T : Type 0} (takes : Bool) (t : Option Refusal) (reply_of : T → Reply) (r : Result T Refusal) → Refused takes t r → Refused takes t (as_reply reply_of r)
 refused-as true t reply_of (Ok done) h = h
 refused-as true t reply_of (Err e) h = h
 refused-as false t reply_of (Ok done) h = h
@@ -137,14 +137,14 @@ err-three (Ok done) to h k l = tt
 err-three (Err e) to h k l = to h k l
 
 module _ (w new_w : WindowTable) (ps : PanelTable) (pairs : Pairs) (virtual : VirtualScreen) (d new_d : List (Option Columns)) where
-  abbrev pub before : DeskTable
-  before = record { windows = w; panels = ps; pairs = pairs; virtual = virtual; damage = d }
+  abbrev pub before_call : DeskTable
+  before_call = record { windows = w; panels = ps; pairs = pairs; virtual = virtual; damage = d }
 
-  abbrev pub behind : DeskTable
-  behind = record { windows = new_w; panels = ps; pairs = pairs; virtual = virtual; damage = new_d }
+  abbrev pub after_call : DeskTable
+  after_call = record { windows = new_w; panels = ps; pairs = pairs; virtual = virtual; damage = new_d }
 
-  pub windows-left : {T : Type 0} (after : Windows) (r : Result T Refusal) → OnOk r (windows new_w ≡ after) → OnOk r (world behind ≡ record (world before) { windows = after })
-  windows-left after r h = on-ok r (λ is. ap (λ (ws : Windows). record (world before) { windows = ws }) is) h
+  pub windows-left : {T : Type 0} (after : Windows) (r : Result T Refusal) → OnOk r (windows new_w ≡ after) → OnOk r (world after_call ≡ record (world before_call) { windows = after })
+  windows-left after r h = on-ok r (λ is. ap (λ (ws : Windows). record (world before_call) { windows = ws }) is) h
 
-  pub windows-unchanged : {T : Type 0} (r : Result T Refusal) → OnErr r (new_w ≡ w) → OnErr r (new_d ≡ d) → OnErr r (behind ≡ before)
+  pub windows-unchanged : {T : Type 0} (r : Result T Refusal) → OnErr r (new_w ≡ w) → OnErr r (new_d ≡ d) → OnErr r (after_call ≡ before_call)
   windows-unchanged r h k = err-both r (λ one other. (λ i. record { windows = one i; panels = ps; pairs = pairs; virtual = virtual; damage = other i })) h k

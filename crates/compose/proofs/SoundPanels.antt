@@ -10,7 +10,7 @@ use Rattle.world.specs.Windows.{Window, WindowMap}
 use Rattle.world.specs.Panels.{Panels, standard_screen}
 use Rattle.world.specs.Sound.{AreSoundPanels, IsSoundPanel}
 use Rattle.world.specs.calls.Stacking.{IsSoundEntry, IsSoundOrder, after_del_panel, after_replace_panel, next_panel, window_tests}
-use Rattle.world.specs.Effects.{given, with_panel}
+use Rattle.world.specs.Effects.{with_entry, with_panel}
 use Rattle.world.specs.declared.panel.PanelId.{PanelId}
 use Rattle.stack.specs.Tables.{PanelTable, panels}
 
@@ -43,12 +43,12 @@ module _ (window : WindowMap) where
   pub sound-reordered : (old new : Panels) → AreSoundPanels window old → IsSoundOrder new → new.window ≡ old.window → AreSoundPanels window new
   sound-reordered old new h order same = sound-order new order (λ p w is. window-of old p w h (ap (λ (f : ℕ → Option ℕ). f p) (sym same) ∙ is))
 
-  given-case : (b : Bool) (o given : Option ℕ) (v : ℕ) → (if b then given else o) ≡ Some v → (given ≡ Some v → MayBeIn window v) → (o ≡ Some v → MayBeIn window v) → MayBeIn window v
-  given-case true o given v is new old = new is
-  given-case false o given v is new old = old is
+  given-case : (b : Bool) (o w : Option ℕ) (v : ℕ) → (if b then w else o) ≡ Some v → (w ≡ Some v → MayBeIn window v) → (o ≡ Some v → MayBeIn window v) → MayBeIn window v
+  given-case true o w v is new old = new is
+  given-case false o w v is new old = old is
 
   -- the panel p has another window, or none
-  pub sound-given : (old new : Panels) (p : ℕ) (w : Option ℕ) → AreSoundPanels window old → IsSoundOrder new → new.window ≡ given old.window p w
+  pub sound-given : (old new : Panels) (p : ℕ) (w : Option ℕ) → AreSoundPanels window old → IsSoundOrder new → new.window ≡ with_entry old.window p w
       → ((v : ℕ) → w ≡ Some v → MayBeIn window v) → AreSoundPanels window new
   sound-given old new p w h order same may = sound-order new order (λ q v is.
       given-case (q == p) (old.window q) w v (ap (λ (f : ℕ → Option ℕ). f q) (sym same) ∙ is) (may v) (window-of old q v h))
@@ -77,7 +77,7 @@ module _ (window : WindowMap) where
 
   -- one panel has another window, or none
   pub sound-with : {T : Type 0} (old new : PanelTable) (after : Panels) (p : ℕ) (w : Option ℕ) (r : Result T Refusal) → AreSoundPanels window (panels old) → IsSoundOrder (panels new)
-      → after.window ≡ given (panels old).window p w → ((v : ℕ) → w ≡ Some v → MayBeIn window v) → OnOk r (panels new ≡ after) → OnErr r (new ≡ old)
+      → after.window ≡ with_entry (panels old).window p w → ((v : ℕ) → w ≡ Some v → MayBeIn window v) → OnOk r (panels new ≡ after) → OnErr r (new ≡ old)
       → AreSoundPanels window (panels new)
   sound-with old new after p w (Ok done) h order gives may is unchanged = sound-given (panels old) (panels new) p w h order (ap (λ ps. ps.window) is ∙ gives) may
   sound-with old new after p w (Err e) h order gives may is unchanged = subst (λ t. AreSoundPanels window (panels t)) (sym unchanged) h

@@ -6,19 +6,19 @@ use Rattle.std.specs.List.{list_any}
 use mathlib.Core.Path.{fun_ext}
 use Rattle.cell.specs.declared.window.WinId.{WinId}
 use Rattle.world.specs.Settings.{set_in}
-use Rattle.world.specs.Windows.{Window, WindowMap, Windows, changed}
+use Rattle.world.specs.Windows.{Window, WindowMap, Windows, with_change}
 use Rattle.world.specs.calls.Copying.{after_copying, lines_marked}
 use Rattle.world.specs.calls.Refresh.{among_lines}
 use Rattle.world.specs.calls.Writing.{after_writing, with_clear, writing_refusal}
 use Rattle.world.specs.declared.call.Copying.TheVariants.{Touchln}
 use Rattle.world.specs.declared.call.Writing.TheVariants.{Clearok}
-use Rattle.world.specs.Effects.{unmarked, unmarked_lines, with_unmarked}
+use Rattle.world.specs.Effects.{without_marks, unmarked_lines, with_unmarked}
 use Rattle.cell.specs.Refusals.{first_of}
 use Rattle.cell.specs.declared.refusal.Refusal.TheVariants.{NoSuchWindow}
 
 twice : (first others : Bool) (o : Option Window)
-    → (if first || others then option_map unmarked o else o)
-    ≡ (if others then option_map unmarked (if first || false then option_map unmarked o else o) else (if first || false then option_map unmarked o else o))
+    → (if first || others then option_map without_marks o else o)
+    ≡ (if others then option_map without_marks (if first || false then option_map without_marks o else o) else (if first || false then option_map without_marks o else o))
 twice true true None = refl
 twice true true (Some a) = refl
 twice true false o = refl
@@ -65,5 +65,5 @@ both-changed true first n (Some a) = refl
 both-changed false first n o = refl
 
 pub lines-unmarked : (windows : Windows) (win : WinId) (first n : ℕ) → after_writing (after_copying windows (Touchln win first n false)) (Clearok win false)
-    ≡ record windows { window = changed windows.window win.0 (unmarked_lines (among_lines first n)) }
+    ≡ record windows { window = with_change windows.window win.0 (unmarked_lines (among_lines first n)) }
 lines-unmarked windows win first n = λ i. record windows { window = fun_ext (λ u. both-changed (u == win.0) first n (windows.window u)) i }

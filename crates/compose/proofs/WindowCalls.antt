@@ -23,16 +23,16 @@ use Rattle.compose.specs.Covers.{IsDesk}
 use Rattle.compose.specs.Desks.{DeskTable, is_damaged_line, world}
 use Rattle.compose.specs.steps.Outcomes.{ChangedDamaging}
 use Rattle.compose.proofs.DamageCovers.{covered-result, few-result}
-use Rattle.compose.proofs.DeskLemmas.{IsSound-after, accepted-by, before, behind, called, windows-left, windows-unchanged}
+use Rattle.compose.proofs.DeskLemmas.{IsSound-after, accepted-by, before_call, after_call, called, windows-left, windows-unchanged}
 
 module _ (w new_w : WindowTable) (ps : PanelTable) (pairs : Pairs) (virtual : VirtualScreen) (d new_d : List (Option Columns)) (call : Call) (change : Change)
-    (r : Result Reply Refusal) (h : IsDesk (before w new_w ps pairs virtual d new_d)) (is : effect_of (world (before w new_w ps pairs virtual d new_d)) call ≡ arranges (changes change))
-    (m : ChangedDamaging w (panels ps) (refusal (world (before w new_w ps pairs virtual d new_d)) call) change d r new_w new_d) where
+    (r : Result Reply Refusal) (h : IsDesk (before_call w new_w ps pairs virtual d new_d)) (is : effect_of (world (before_call w new_w ps pairs virtual d new_d)) call ≡ arranges (changes change))
+    (m : ChangedDamaging w (panels ps) (refusal (world (before_call w new_w ps pairs virtual d new_d)) call) change d r new_w new_d) where
   abbrev old : DeskTable
-  old = before w new_w ps pairs virtual d new_d
+  old = before_call w new_w ps pairs virtual d new_d
 
   abbrev new : DeskTable
-  new = behind w new_w ps pairs virtual d new_d
+  new = after_call w new_w ps pairs virtual d new_d
 
   refused : Refused (takes_memory (world old) call) (refusal (world old) call) r
   refused = subst (λ (e : Effect). Refused (effect_takes_memory e) (refusal (world old) call) r) (sym is) m.call.refused

@@ -1,7 +1,7 @@
 -- A call that sends nothing, made on a desk: what it answers, and what it leaves.
 use Rattle.std.specs.Prelude.{◌≡◌, ◌≤◌, ◌⊎◌, ℕ, Bool, true, Some, None, Result, Ok, Err}
 use Rattle.world.specs.World.{World}
-use Rattle.world.specs.calls.Affected.{affected_after, owed}
+use Rattle.world.specs.calls.Affected.{affected_after, most_cells}
 use Rattle.world.specs.calls.Dispatch.{refusal, reply_of, takes_memory, world_after}
 use Rattle.cell.specs.Differences.{difference}
 use Rattle.cell.specs.declared.refusal.Refusal.{Refusal}
@@ -17,7 +17,7 @@ use Rattle.world.specs.declared.call.Reply.TheVariants.{Composed}
 -- it changes, and at most all of these lines.
 pub record MayRead (world : World) (damaged : ℕ → Bool) (cells : ℕ) : Type 0 where
   pub at_least : difference world.virtual.picture (world_after world (calls.Refresh UpdatePanels)).virtual.picture ≤ cells
-  pub at_most : cells ≤ owed world damaged (calls.Refresh UpdatePanels)
+  pub at_most : cells ≤ most_cells world damaged (calls.Refresh UpdatePanels)
 
 -- What an accepted call may answer that sends nothing: update_panels how many cells it read, another what the tables say.
 abbrev pub MayTell : World → (ℕ → Bool) → Call → Reply → Type 0

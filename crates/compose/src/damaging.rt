@@ -8,7 +8,7 @@ ghost use Rattle.world.specs.Sound.{AreSoundWindows};
 ghost use Rattle.world.specs.calls.Affected.{frame_shows_at};
 ghost use Rattle.world.specs.calls.Refresh.{touched_cells};
 ghost use Rattle.world.specs.calls.Queries.{place_on_screen};
-ghost use Rattle.world.specs.Windows.{changed};
+ghost use Rattle.world.specs.Windows.{with_change};
 ghost use Rattle.grids.specs.Tables.{windows as windows_of};
 ghost use Rattle.stack.specs.Tables.{panels};
 ghost use Rattle.picture.specs.Parts.{IsFrameWithin, part_holds};
@@ -121,7 +121,7 @@ pub(crate) fn damage_touched(damage: &mut Damage, table: &Grids, win: WinId, top
         unreachable!();
     };
     for y in 0..lines {
-        if let Some(columns) = table.touched(win, y) {
+        if let Some(columns) = table.touched_columns(win, y) {
             damage.rectangle(Rect {
                 top: top + y,
                 left: left + columns.first,

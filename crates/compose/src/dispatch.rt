@@ -17,7 +17,7 @@ ghost use Rattle.world.specs.Windows.{Window};
 ghost use Rattle.world.specs.declared.call.Call.{Call};
 ghost use Rattle.world.specs.declared.call.Reply.{Reply};
 ghost use Rattle.grids.specs.Calls.{Changed, its_flag, its_number, nothing as no_answer};
-ghost use Rattle.calls.specs.Methods.{told};
+ghost use Rattle.calls.specs.Methods.{as_reply};
 ghost use Rattle.grids.specs.Tables.{WindowTable, windows as windows_of};
 ghost use Rattle.windows.specs.Calls.{Drew, its_frame, no_frame};
 ghost use Rattle.stack.specs.Calls.{its_panel};
@@ -284,7 +284,7 @@ pub(crate) fn refresh(desk: &mut Desk, refresh: Refresh) -> Result<Reply, Refusa
 
 /// The answer of a call that answers nothing.
 fn done(end: Result<(), Refusal>) -> Result<Reply, Refusal>
-    ensures { result ≡ told no_answer end }
+    ensures { result ≡ as_reply no_answer end }
 {
     end?;
     Ok(Reply::Nothing)
@@ -292,28 +292,28 @@ fn done(end: Result<(), Refusal>) -> Result<Reply, Refusal>
 
 /// The answer of a call that asked for a panel's window.
 fn number(win: Result<WinId, Refusal>) -> Result<Reply, Refusal>
-    ensures { result ≡ told Reply.Number win }
+    ensures { result ≡ as_reply Reply.Number win }
 {
     Ok(Reply::Number(win?))
 }
 
 /// The answer of a call that made a panel.
 fn new_number(made: Result<PanelId, Refusal>) -> Result<Reply, Refusal>
-    ensures { result ≡ told its_panel made }
+    ensures { result ≡ as_reply its_panel made }
 {
     Ok(Reply::Panel(Some(made?)))
 }
 
 /// The answer of a call that asked for a panel.
 fn panel(panel: Result<Option<PanelId>, Refusal>) -> Result<Reply, Refusal>
-    ensures { result ≡ told Reply.Panel panel }
+    ensures { result ≡ as_reply Reply.Panel panel }
 {
     Ok(Reply::Panel(panel?))
 }
 
 /// The answer of a call that asked whether something is so.
 fn flag(is: Result<bool, Refusal>) -> Result<Reply, Refusal>
-    ensures { result ≡ told Reply.Flag is }
+    ensures { result ≡ as_reply Reply.Flag is }
 {
     Ok(Reply::Flag(is?))
 }

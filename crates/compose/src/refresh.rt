@@ -9,7 +9,7 @@ ghost use Rattle.world.specs.calls.Copying.{copywin_drawing};
 ghost use Rattle.world.specs.calls.Queries.{place_on_screen};
 ghost use Rattle.world.specs.calls.Refresh.{touched_cells, among_lines, refresh_refusal};
 ghost use Rattle.world.specs.Effects.{shown_over, unmarked_lines};
-ghost use Rattle.world.specs.Windows.{changed};
+ghost use Rattle.world.specs.Windows.{with_change};
 ghost use Rattle.world.specs.calls.Dispatch.{world_after};
 ghost use Rattle.grids.specs.Tables.{windows as windows_of};
 ghost use Rattle.world.specs.declared.call.Call.{Call};
@@ -124,7 +124,7 @@ fn show_touched(
         unreachable!();
     };
     for y in 0..lines {
-        if let Some(columns) = table.touched(win, y) {
+        if let Some(columns) = table.touched_columns(win, y) {
             let source = Place {
                 win,
                 line: y,
@@ -209,7 +209,7 @@ fn require_rectangle(table: &Grids, source: Place, frame: Rect) -> Result<(), Re
 fn unmark_lines(windows: &mut Windows, win: WinId, first: u16, n: u16)
     requires { IsSomeAnd ((windows_of windows.old.table).window win.0) (λ a. (first < a.lines) × (first + n ≤ a.lines)) }
     ensures unmarked { windows_of windows.new.table ≡ record (windows_of windows.old.table)
-        { window = changed (windows_of windows.old.table).window win.0 (unmarked_lines (among_lines first n)) } }
+        { window = with_change (windows_of windows.old.table).window win.0 (unmarked_lines (among_lines first n)) } }
     ensures sound { AreSoundWindows (windows_of windows.new.table) }
 {
     match windows.table.wtouchln(win, first, n, false) {

@@ -7,7 +7,7 @@ use Rattle.cell.specs.Glyphs.{Glyph}
 use Rattle.cell.specs.Pictures.{Place}
 use Rattle.cell.specs.declared.refusal.Refusal.{Refusal}
 use Rattle.world.specs.World.{World}
-use Rattle.world.specs.calls.Affected.{owed}
+use Rattle.world.specs.calls.Affected.{most_cells}
 use Rattle.world.specs.calls.Dispatch.{is_update_panels, reply_of}
 use Rattle.world.specs.calls.Queries.{pair, cell_at_cursor}
 use Rattle.desk.specs.States.{State}
@@ -48,7 +48,7 @@ reply_of-no_cells w call = refl
 -- what one call read is between these
 pub record CallReads (s : State) (call : Call) (cells : ℕ) : Type 0 where
   pub least : places_redrawn s.world call ≤ cells
-  pub most : cells ≤ owed s.world s.damaged call
+  pub most : cells ≤ most_cells s.world s.damaged call
 
 reads-nothing : (s : State) (call : Call) (cells : ℕ) → is_update_panels call ≡ false → cells ≡ 0 → CallReads s call cells
 reads-nothing s call cells other none = rw none (record { least = rw other (omega arith); most = omega arith })

@@ -98,7 +98,7 @@ fn widen_touched(changes: &mut Changes, table: &Grids, win: WinId)
         return;
     };
     for y in 0..lines {
-        if let Some(columns) = table.touched(win, y) {
+        if let Some(columns) = table.touched_columns(win, y) {
             changes.widen(top.saturating_add(y), stretch(left, columns));
         }
     }

@@ -133,7 +133,7 @@ impl<W: Sink> Screen<W> {
     ghost use Rattle.desk.specs.Ends.{CallEnds, RunEnds, cut_of};
     ghost use Rattle.desk.specs.Showing.{RunShows};
     ghost use Rattle.desk.specs.Methods.{CallMade};
-    ghost use Rattle.calls.specs.Methods.{told};
+    ghost use Rattle.calls.specs.Methods.{as_reply};
 
     /// The windows and the virtual screen.
     pub fn desk(&self) -> &Desk
@@ -155,7 +155,7 @@ impl<W: Sink> Screen<W> {
     /// A `WriteFault`, with how many bytes were taken: what is on the terminal is unknown then, and the next one clears
     /// it.
     pub fn doupdate(&mut self) -> Result<Sent, Fault>
-        ensures { CallMade W.seen W.name self.old (Call.Refresh Refresh.Doupdate) (told Reply.Sent result) self.new }
+        ensures { CallMade W.seen W.name self.old (Call.Refresh Refresh.Doupdate) (as_reply Reply.Sent result) self.new }
     {
         prove!(self.is_sound());
         let end = self.send_update();
@@ -189,8 +189,8 @@ impl<W: Sink> Screen<W> {
 
     /// Shows the virtual screen.
     fn send_update(&mut self) -> Result<Sent, Fault>
-        ensures call { CallEnds W.seen self.old (Call.Refresh Refresh.Doupdate) (told Reply.Sent result) self.new }
-        ensures failures { (W.seen self.new.writer).failures ≡ count_after (is_some (cut_of (told Reply.Sent result))) (W.seen self.old.writer).failures }
+        ensures call { CallEnds W.seen self.old (Call.Refresh Refresh.Doupdate) (as_reply Reply.Sent result) self.new }
+        ensures failures { (W.seen self.new.writer).failures ≡ count_after (is_some (cut_of (as_reply Reply.Sent result))) (W.seen self.old.writer).failures }
         ensures same { W.name self.new.writer ≡ W.name self.old.writer }
     {
         prove!(self.is_sound());

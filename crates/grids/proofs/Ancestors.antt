@@ -9,9 +9,9 @@ use Rattle.world.specs.Sound.{AreSoundWindows, HasCells, IsPartOf, IsSoundWindow
 use Rattle.slots.specs.declared.slot.Part.{Part}
 use Rattle.slots.specs.declared.place.Place.{Place}
 use Rattle.slots.specs.Slots.{in_parent}
-use Rattle.grids.specs.steps.Syncs.{part_behind}
+use Rattle.grids.specs.steps.Syncs.{part_in_parent}
 use Rattle.slots.proofs.Chain.{from_parent, no_parent}
-use Rattle.slots.proofs.LongerWalks.{own_behind, own-parent, some_place}
+use Rattle.slots.proofs.LongerWalks.{own_of_part, own-parent, some_place}
 
 -- ---- ancestors
 
@@ -33,16 +33,16 @@ anc-same zero m le window u y x s h = cc
 anc-same (suc n) zero le window u y x s h = absurd (omega (arith, le))
 anc-same (suc n) (suc m) le window u y x s h = anc-at n m window s (λ v z t k. anc-same n m (omega (arith, le)) window v z t s k) u y x (window u) h
 
-anc_behind : (n : ℕ) (window : WindowMap) (u : ℕ) (b : Window) (part : Part) → window u ≡ Some b → b.backing ≡ part_of part.parent part.line part.column
+anc_of_part : (n : ℕ) (window : WindowMap) (u : ℕ) (b : Window) (part : Part) → window u ≡ Some b → b.backing ≡ part_of part.parent part.line part.column
     → ancestors_within (suc n) window u ≡ part.parent ∷ ancestors_within n window part.parent
-anc_behind n window u b part e is = rw (e, is) refl
+anc_of_part n window u b part e is = rw (e, is) refl
 
 anc_parent : (limit : ℕ) (window : WindowMap) (u : ℕ) (b : Window) (part : Part) (s : GridPlace) → window u ≡ Some b → b.backing ≡ part_of part.parent part.line part.column
     → own_within limit window u 0 0 ≡ Some s → ancestors_within limit window u ≡ part.parent ∷ ancestors_within limit window part.parent
 anc_parent zero window u b part s e is h = cc
 anc_parent (suc n) window u b part s e is h =
-    anc_behind n window u b part e is
-    ∙ ap (λ (l : List ℕ). part.parent ∷ l) (sym (anc-same n (suc n) (omega arith) window part.parent (0 + part.line) (0 + part.column) s (sym (own_behind n window u b part 0 0 e is) ∙ h)))
+    anc_of_part n window u b part e is
+    ∙ ap (λ (l : List ℕ). part.parent ∷ l) (sym (anc-same n (suc n) (omega arith) window part.parent (0 + part.line) (0 + part.column) s (sym (own_of_part n window u b part 0 0 e is) ∙ h)))
 
 pub ancestors-parent : (window : WindowMap) (u : ℕ) (b : Window) (part : Part) → window u ≡ Some b → b.backing ≡ part_of part.parent part.line part.column → IsSome (own window u 0 0)
     → ancestors window u ≡ part.parent ∷ ancestors window part.parent
@@ -59,15 +59,15 @@ ancestors-none window u b cells e is = anc_none window_limit window u b cells e 
 
 -- ---- the parent that a backing names
 
-pub behind-some : (s : Backing) (part : Part) → part_behind s ≡ Some part → s ≡ part_of part.parent part.line part.column
-behind-some (own_grid cells) part h = cc
-behind-some (part_of parent line column) part h =
+pub part-some : (s : Backing) (part : Part) → part_in_parent s ≡ Some part → s ≡ part_of part.parent part.line part.column
+part-some (own_grid cells) part h = cc
+part-some (part_of parent line column) part h =
     let same : record { parent = parent; line = line; column = column } ≡ part = cc in
     ap (λ (q : Part). part_of q.parent q.line q.column) same
 
-pub behind-none : (s : Backing) → part_behind s ≡ None → (cells : ℕ → ℕ → Glyph) × (s ≡ own_grid cells)
-behind-none (own_grid cells) h = (cells, refl)
-behind-none (part_of parent line column) h = cc
+pub part-none : (s : Backing) → part_in_parent s ≡ None → (cells : ℕ → ℕ → Glyph) × (s ≡ own_grid cells)
+part-none (own_grid cells) h = (cells, refl)
+part-none (part_of parent line column) h = cc
 
 -- ---- window w begins at this line and column of window u, which is it or an ancestor
 
@@ -137,16 +137,16 @@ first-there windows u sound h =
 -- ---- a window derives from its parent, and from what that derives from
 
 module _ (windows : Windows) (sound : AreSoundWindows windows) (w : ℕ) (at : Place) where
-  pub derives-next : (next : Place) → IsSomeAnd (windows.window at.win.0) (λ a. Some next ≡ option_map (in_parent at) (part_behind a.backing))
+  pub derives-next : (next : Place) → IsSomeAnd (windows.window at.win.0) (λ a. Some next ≡ option_map (in_parent at) (part_in_parent a.backing))
       → derives windows.window w at.win.0 ≡ ((next.win.0 == w) || derives windows.window w next.win.0)
   derives-next next h =
-      let a = parent_there (windows.window at.win.0) (λ a. Some next ≡ option_map (in_parent at) (part_behind a.backing)) h in
-      let part = from_parent at next (part_behind a.0.backing) a.2 in
-      ap (list_any (λ v. v == w)) (ancestors-parent windows.window at.win.0 a.0 part.0 a.1 (behind-some a.0.backing part.0 part.1) (sound-there windows at.win.0 a.0 sound a.1).chain_ends)
+      let a = parent_there (windows.window at.win.0) (λ a. Some next ≡ option_map (in_parent at) (part_in_parent a.backing)) h in
+      let part = from_parent at next (part_in_parent a.0.backing) a.2 in
+      ap (list_any (λ v. v == w)) (ancestors-parent windows.window at.win.0 a.0 part.0 a.1 (part-some a.0.backing part.0 part.1) (sound-there windows at.win.0 a.0 sound a.1).chain_ends)
       ∙ ap (λ (p : Place). (p.win.0 == w) || derives windows.window w p.win.0) (sym part.2)
 
-  pub derives-none : IsSomeAnd (windows.window at.win.0) (λ a. None ≡ option_map (in_parent at) (part_behind a.backing)) → derives windows.window w at.win.0 ≡ false
+  pub derives-none : IsSomeAnd (windows.window at.win.0) (λ a. None ≡ option_map (in_parent at) (part_in_parent a.backing)) → derives windows.window w at.win.0 ≡ false
   derives-none h =
-      let a = parent_there (windows.window at.win.0) (λ a. None ≡ option_map (in_parent at) (part_behind a.backing)) h in
-      let grid = behind-none a.0.backing (no_parent at (part_behind a.0.backing) a.2) in
+      let a = parent_there (windows.window at.win.0) (λ a. None ≡ option_map (in_parent at) (part_in_parent a.backing)) h in
+      let grid = part-none a.0.backing (no_parent at (part_in_parent a.0.backing) a.2) in
       ap (list_any (λ v. v == w)) (ancestors-none windows.window at.win.0 a.0 grid.0 a.1 grid.1)

@@ -3,20 +3,20 @@ use Rattle.std.proofs.Common.{◌≡◌, ℕ, ◌<◌, ◌≢◌, ◌==◌, Opti
 use Rattle.std.specs.Option.{option_map}
 use mathlib.Core.Path.{fun_ext}
 use Rattle.std.proofs.lemmas.Bool.{cases_eq, cond-true, cond-false}
-use Rattle.world.specs.Windows.{Window, WindowMap, changed, replaced}
+use Rattle.world.specs.Windows.{Window, WindowMap, with_change, with_window}
 use Rattle.world.specs.Sound.{IsOnScreen, IsStandardScreen}
-use Rattle.world.specs.Effects.{numbered}
+use Rattle.world.specs.Effects.{under_number}
 use Rattle.slots.specs.Kept.{Kept, IsKept, window_of}
 use Rattle.grids.specs.Tables.{WindowTable, IsWindowTable, windows}
-use Rattle.slots.specs.Slots.{slot_at, window_map, AreOrigins, StandsIn, IsChained}
+use Rattle.slots.specs.Slots.{slot_at, window_map, AreOrigins, HasParentIn, IsChained}
 use Rattle.slots.specs.Changes.{Changed, SetAt}
 use Rattle.slots.proofs.Chain.{each_at, some_and, own_source, own_alone}
-use Rattle.slots.proofs.OneSlot.{SetAt-set, slot_below, each_set, KeepsShape, chained_set, stands_too}
+use Rattle.slots.proofs.OneSlot.{SetAt-set, slot_below, each_set, KeepsShape, chained_set, parent_too}
 use Rattle.slots.proofs.Origins.{HasOrigin, origins-changed, origins-filled}
 
 -- the windows after it
 pub windows-set : (t : WindowTable) (new : List (Option Kept)) (at : ℕ) (o : Option Kept) → SetAt t.slots new at o
-    → windows (record t { slots = new }) ≡ numbered (windows t) at (option_map window_of o)
+    → windows (record t { slots = new }) ≡ under_number (windows t) at (option_map window_of o)
 windows-set t new at o set = ap (λ (map : WindowMap). record (windows t) { window = map }) (fun_ext (λ u.
     elim (cases_eq u at) [
       | inl same ↦
@@ -41,8 +41,8 @@ standard-still t new None s = s
 standard-still t new (Some k) s = standard-kept t new k s
 
 pub IsWindowTable-set : (t : WindowTable) (new : List (Option Kept)) (at : ℕ) (k : Kept) → IsWindowTable t → SetAt t.slots new at (Some k) → KeepsShape (slot_at t.slots at) (Some k)
-    → IsKept k → StandsIn t.slots k k.cells → IsOnScreen t.lines t.columns (window_of k) → (at ≡ 0 → IsStandardOf t k) → (IsChained new → AreOrigins new) → IsWindowTable (record t { slots = new })
-IsWindowTable-set t new at k s set shape kept stands placed standard origins = record {
+    → IsKept k → HasParentIn t.slots k k.cells → IsOnScreen t.lines t.columns (window_of k) → (at ≡ 0 → IsStandardOf t k) → (IsChained new → AreOrigins new) → IsWindowTable (record t { slots = new })
+IsWindowTable-set t new at k s set shape kept chained placed standard origins = record {
   some_slot = omega (arith, s.some_slot, set.size);
   few_slots = set.few;
   has_line = s.has_line;
@@ -53,16 +53,16 @@ IsWindowTable-set t new at k s set shape kept stands placed standard origins = r
     | inl same ↦ subst (λ o. IsSomeAnd o (IsStandardOf (record t { slots = new }))) (sym (ap (slot_at new) same ∙ set.here)) (standard-kept t new k (standard (sym same)))
     | inr other ↦ subst (λ o. IsSomeAnd o (IsStandardOf (record t { slots = new }))) (sym (set.others 0 other)) (standard-still t new (slot_at t.slots 0) s.standard)
   ];
-  chained = chained_set t.slots new at k s.chained set shape kept stands;
-  origins = origins (chained_set t.slots new at k s.chained set shape kept stands);
+  chained = chained_set t.slots new at k s.chained set shape kept chained;
+  origins = origins (chained_set t.slots new at k s.chained set shape kept chained);
   placed = each_set (λ q. IsOnScreen t.lines t.columns (window_of q)) t.slots new at (Some k) set s.placed placed;
 }
 
 -- a free slot is filled
 pub IsWindowTable-filled : (t : WindowTable) (new : List (Option Kept)) (at : ℕ) (k : Kept) → IsWindowTable t → SetAt t.slots new at (Some k) → slot_at t.slots at ≡ None
-    → IsKept k → StandsIn t.slots k k.cells → IsOnScreen t.lines t.columns (window_of k) → 0 < at → (IsChained new → HasOrigin new at k) → IsWindowTable (record t { slots = new })
-IsWindowTable-filled t new at k s set free kept stands placed from_one origin =
-    IsWindowTable-set t new at k s set (subst (λ o. KeepsShape o (Some k)) (sym free) tt) kept stands placed (λ same. absurd (omega arith))
+    → IsKept k → HasParentIn t.slots k k.cells → IsOnScreen t.lines t.columns (window_of k) → 0 < at → (IsChained new → HasOrigin new at k) → IsWindowTable (record t { slots = new })
+IsWindowTable-filled t new at k s set free kept chained placed from_one origin =
+    IsWindowTable-set t new at k s set (subst (λ o. KeepsShape o (Some k)) (sym free) tt) kept chained placed (λ same. absurd (omega arith))
     (λ chained. origins-filled t.slots new at k s.chained set free s.origins (origin chained))
 
 -- ---- one slot's window was changed
@@ -74,7 +74,7 @@ module _ (t : WindowTable) (new : List (Option Kept)) (at : ℕ) (change : Windo
   IsWindowTable-change : IsOnScreen t.lines t.columns (window_of h.after) → (at ≡ 0 → IsStandardOf t h.after) → IsWindowTable (record t { slots = new })
   IsWindowTable-change placed standard =
       IsWindowTable-set t new at h.after s set_at (subst (λ o. KeepsShape o (Some h.after)) (sym h.was) h.stays.shape) h.stays.kept
-      (stands_too t.slots h.before h.after h.stays.shape h.before.cells h.after.cells h.stays.part.part (each_at t.slots s.chained at h.before h.was).1) placed standard
+      (parent_too t.slots h.before h.after h.stays.shape h.before.cells h.after.cells h.stays.part.part (each_at t.slots s.chained at h.before h.was).1) placed standard
       (λ chained. origins-changed t.slots new at h.before h.after set_at h.was h.stays.part s.origins)
 
   same_place : ((a : Window) → (change a).place ≡ a.place) → h.after.place ≡ h.before.place
@@ -110,7 +110,7 @@ module _ (t : WindowTable) (new : List (Option Kept)) (at : ℕ) (change : Windo
   pub IsWindowTable-moved : IsOnScreen t.lines t.columns (change (window_of h.before)) → at ≢ 0 → IsWindowTable (record t { slots = new })
   IsWindowTable-moved placed other = IsWindowTable-change (subst (IsOnScreen t.lines t.columns) (sym h.window) placed) (λ same. absurd (other same))
 
-pub replaced-changed : (window : WindowMap) (w : ℕ) (change : Window → Window) (a : Window) → window w ≡ Some a → replaced window w (Some (change a)) ≡ changed window w change
+pub replaced-changed : (window : WindowMap) (w : ℕ) (change : Window → Window) (a : Window) → window w ≡ Some a → with_window window w (Some (change a)) ≡ with_change window w change
 replaced-changed window w change a e = fun_ext (λ u.
     elim (cases_eq u w) [
       | inl same ↦
@@ -124,8 +124,8 @@ replaced-changed window w change a e = fun_ext (λ u.
 
 -- the windows after it, as the definitions say it
 pub windows-changed : (t : WindowTable) (new : List (Option Kept)) (at : ℕ) (change : Window → Window) → IsWindowTable t → Changed t.slots new at change
-    → windows (record t { slots = new }) ≡ record (windows t) { window = changed (window_map t.slots) at change }
+    → windows (record t { slots = new }) ≡ record (windows t) { window = with_change (window_map t.slots) at change }
 windows-changed t new at change s h =
     windows-set t new at (Some h.after) (set_at t new at change s h)
     ∙ ap (λ (map : WindowMap). record (windows t) { window = map })
-    (ap (λ a. replaced (window_map t.slots) at (Some a)) h.window ∙ replaced-changed (window_map t.slots) at change (window_of h.before) (ap (option_map window_of) h.was))
+    (ap (λ a. with_window (window_map t.slots) at (Some a)) h.window ∙ replaced-changed (window_map t.slots) at change (window_of h.before) (ap (option_map window_of) h.was))

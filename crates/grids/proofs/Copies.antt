@@ -6,9 +6,9 @@ use mathlib.Core.Path.{fun_ext}
 use Rattle.std.proofs.lemmas.Bool.{cases_eq, cases_lt, cases_order}
 use Rattle.std.proofs.lemmas.Bool.Decides.{nat_tests}
 use Rattle.cell.specs.Glyphs.{Glyph}
-use Rattle.world.specs.Windows.{Window, WindowMap, Windows, GridPlace, Drawing, own, onward, over, cell_at, within, moved, put_windows, put, HasPlace}
-use Rattle.world.specs.Rows.{filled, overlaid, copied}
-use Rattle.world.specs.Frames.{joined}
+use Rattle.world.specs.Windows.{Window, WindowMap, Windows, GridPlace, Drawing, own, onward, over, cell_at, within, grid_drawing, put_windows, put, HasPlace}
+use Rattle.world.specs.Rows.{filled_cells, overlaid_cell, copied_cells}
+use Rattle.world.specs.Frames.{frame_of_two}
 use Rattle.world.specs.Effects.{drawing_frame}
 use Rattle.cell.specs.declared.window.Rect.{Rect}
 use Rattle.world.proofs.FrameLaws.{drawing_frame-over, drawing_frame-put}
@@ -22,12 +22,12 @@ pub either_none : (t : Bool) → (let o : Option Glyph = None in if t then o els
 either_none true = refl
 either_none false = refl
 
-shown-some : (overlay : Bool) (c : Glyph) → is_some (overlaid overlay c) ≡ true → overlaid overlay c ≡ Some c
+shown-some : (overlay : Bool) (c : Glyph) → is_some (overlaid_cell overlay c) ≡ true → overlaid_cell overlay c ≡ Some c
 shown-some overlay c h = by_space (overlay && (c.character == 32)) c h
 
 -- one cell that is copied is a row of one column
-one-shown-at : (window : WindowMap) (src sy sx dy dx : ℕ) (overlay : Bool) → is_some (overlaid overlay (cell_at window src sy sx)) ≡ true → (y x : ℕ)
-    → filled dy dx dx (cell_at window src sy sx) y x ≡ copied window src sy sx dy dx 1 overlay y x
+one-shown-at : (window : WindowMap) (src sy sx dy dx : ℕ) (overlay : Bool) → is_some (overlaid_cell overlay (cell_at window src sy sx)) ≡ true → (y x : ℕ)
+    → filled_cells dy dx dx (cell_at window src sy sx) y x ≡ copied_cells window src sy sx dy dx 1 overlay y x
 one-shown-at window src sy sx dy dx overlay h y x =
     let v = shown-some overlay (cell_at window src sy sx) h in
     elim (cases_eq x dx) [
@@ -35,8 +35,8 @@ one-shown-at window src sy sx dy dx overlay h y x =
       | inr other ↦ (let ne : x ≡ dx → ⊥ = other in grind (arith, nat_tests))
     ]
 
-pub one-shown : (window : WindowMap) (src sy sx dy dx : ℕ) (overlay : Bool) → is_some (overlaid overlay (cell_at window src sy sx)) ≡ true
-    → filled dy dx dx (cell_at window src sy sx) ≡ copied window src sy sx dy dx 1 overlay
+pub one-shown : (window : WindowMap) (src sy sx dy dx : ℕ) (overlay : Bool) → is_some (overlaid_cell overlay (cell_at window src sy sx)) ≡ true
+    → filled_cells dy dx dx (cell_at window src sy sx) ≡ copied_cells window src sy sx dy dx 1 overlay
 one-shown window src sy sx dy dx overlay h = fun_ext (λ y. fun_ext (λ x. one-shown-at window src sy sx dy dx overlay h y x))
 
 -- one cell that is left out
@@ -44,10 +44,10 @@ none_of : (o : Option Glyph) → is_some o ≡ false → o ≡ None
 none_of None h = refl
 none_of (Some c) h = cc
 
-pub one-hidden : (window : WindowMap) (src sy sx dy dx : ℕ) (overlay : Bool) → is_some (overlaid overlay (cell_at window src sy sx)) ≡ false → (y x : ℕ)
-    → copied window src sy sx dy dx 1 overlay y x ≡ None
+pub one-hidden : (window : WindowMap) (src sy sx dy dx : ℕ) (overlay : Bool) → is_some (overlaid_cell overlay (cell_at window src sy sx)) ≡ false → (y x : ℕ)
+    → copied_cells window src sy sx dy dx 1 overlay y x ≡ None
 one-hidden window src sy sx dy dx overlay h y x =
-    let v = none_of (overlaid overlay (cell_at window src sy sx)) h in
+    let v = none_of (overlaid_cell overlay (cell_at window src sy sx)) h in
     elim (cases_eq x dx) [
       | inl same ↦ (let e : sx + (x - dx) ≡ sx = omega (arith, same) in rw (e, v) (either_none ((y == dy) && (nat_le dx x && nat_lt x (dx + 1)))))
       | inr other ↦ (let ne : x ≡ dx → ⊥ = other in grind (arith, nat_tests))
@@ -73,13 +73,14 @@ pick_old false t2 t3 v u e f = ap (λ (t : Bool). if t then u else None) f
 pick_old true t2 t3 v u e f = cc
 
 -- one more cell after those that were copied
-more-after-at : (window : WindowMap) (src sy sx dy dx k : ℕ) (overlay : Bool) (y x : ℕ) → over (copied window src sy (sx + k) dy (dx + k) 1 overlay) (copied window src sy sx dy dx k overlay) y x
-    ≡ copied window src sy sx dy dx (k + 1) overlay y x
+more-after-at : (window : WindowMap) (src sy sx dy dx k : ℕ) (overlay : Bool) (y x : ℕ)
+    → over (copied_cells window src sy (sx + k) dy (dx + k) 1 overlay) (copied_cells window src sy sx dy dx k overlay) y x
+    ≡ copied_cells window src sy sx dy dx (k + 1) overlay y x
 more-after-at window src sy sx dy dx k overlay y x =
     let t1 = (y == dy) && (nat_le (dx + k) x && nat_lt x (dx + k + 1)) in
     let t2 = (y == dy) && (nat_le dx x && nat_lt x (dx + k)) in
     let t3 = (y == dy) && (nat_le dx x && nat_lt x (dx + (k + 1))) in
-    let at : ℕ → Option Glyph = λ j. overlaid overlay (cell_at window src sy j) in
+    let at : ℕ → Option Glyph = λ j. overlaid_cell overlay (cell_at window src sy j) in
     elim (cases_eq x (dx + k)) [
       | inl same ↦
           let e1 : sx + k + (x - (dx + k)) ≡ sx + (x - dx) = omega (arith, same) in
@@ -89,19 +90,19 @@ more-after-at window src sy sx dy dx k overlay y x =
           (let ne : x ≡ dx + k → ⊥ = other in grind (arith, nat_tests))
     ]
 
-pub more-after : (window : WindowMap) (src sy sx dy dx k : ℕ) (overlay : Bool) → over (copied window src sy (sx + k) dy (dx + k) 1 overlay) (copied window src sy sx dy dx k overlay)
-    ≡ copied window src sy sx dy dx (k + 1) overlay
+pub more-after : (window : WindowMap) (src sy sx dy dx k : ℕ) (overlay : Bool) → over (copied_cells window src sy (sx + k) dy (dx + k) 1 overlay) (copied_cells window src sy sx dy dx k overlay)
+    ≡ copied_cells window src sy sx dy dx (k + 1) overlay
 more-after window src sy sx dy dx k overlay = fun_ext (λ y. fun_ext (λ x. more-after-at window src sy sx dy dx k overlay y x))
 
 -- one more cell before those that were copied
 more-before-at : (window : WindowMap) (src sy sx dy dx k n : ℕ) (overlay : Bool) → k < n → (y x : ℕ)
-    → over (copied window src sy (sx + k) dy (dx + k) 1 overlay) (copied window src sy (sx + (k + 1)) dy (dx + (k + 1)) (n - (k + 1)) overlay) y x
-    ≡ copied window src sy (sx + k) dy (dx + k) (n - k) overlay y x
+    → over (copied_cells window src sy (sx + k) dy (dx + k) 1 overlay) (copied_cells window src sy (sx + (k + 1)) dy (dx + (k + 1)) (n - (k + 1)) overlay) y x
+    ≡ copied_cells window src sy (sx + k) dy (dx + k) (n - k) overlay y x
 more-before-at window src sy sx dy dx k n overlay h y x =
     let t1 = (y == dy) && (nat_le (dx + k) x && nat_lt x (dx + k + 1)) in
     let t2 = (y == dy) && (nat_le (dx + (k + 1)) x && nat_lt x (dx + (k + 1) + (n - (k + 1)))) in
     let t3 = (y == dy) && (nat_le (dx + k) x && nat_lt x (dx + k + (n - k))) in
-    let at : ℕ → Option Glyph = λ j. overlaid overlay (cell_at window src sy j) in
+    let at : ℕ → Option Glyph = λ j. overlaid_cell overlay (cell_at window src sy j) in
     let new = sx + k + (x - (dx + k)) in
     let old = sx + (k + 1) + (x - (dx + (k + 1))) in
     elim (cases_order x (dx + k)) [
@@ -116,13 +117,14 @@ more-before-at window src sy sx dy dx k n overlay h y x =
       ]
     ]
 
-pub more-before : (window : WindowMap) (src sy sx dy dx k n : ℕ) (overlay : Bool) → k < n → over (copied window src sy (sx + k) dy (dx + k) 1 overlay)
-    (copied window src sy (sx + (k + 1)) dy (dx + (k + 1)) (n - (k + 1)) overlay) ≡ copied window src sy (sx + k) dy (dx + k) (n - k) overlay
+pub more-before : (window : WindowMap) (src sy sx dy dx k n : ℕ) (overlay : Bool) → k < n → over (copied_cells window src sy (sx + k) dy (dx + k) 1 overlay)
+    (copied_cells window src sy (sx + (k + 1)) dy (dx + (k + 1)) (n - (k + 1)) overlay) ≡ copied_cells window src sy (sx + k) dy (dx + k) (n - k) overlay
 more-before window src sy sx dy dx k n overlay h = fun_ext (λ y. fun_ext (λ x. more-before-at window src sy sx dy dx k n overlay h y x))
 
 -- the first state of a copy, of no cell
-pub copied-none : (window : WindowMap) (src sy sx dy dx n : ℕ) (overlay : Bool) → n ≡ 0 → (y x : ℕ) → copied window src sy sx dy dx n overlay y x ≡ None
-copied-none window src sy sx dy dx n overlay h y x = off ((y == dy) && (nat_le dx x && nat_lt x (dx + n))) (overlaid overlay (cell_at window src sy (sx + (x - dx)))) None (grind (arith, nat_tests))
+pub copied-none : (window : WindowMap) (src sy sx dy dx n : ℕ) (overlay : Bool) → n ≡ 0 → (y x : ℕ) → copied_cells window src sy sx dy dx n overlay y x ≡ None
+copied-none window src sy sx dy dx n overlay h y x = off ((y == dy) && (nat_le dx x && nat_lt x (dx + n))) (overlaid_cell overlay (cell_at window src sy (sx + (x - dx)))) None (grind
+    (arith, nat_tests))
     ∙ either_none ((y == dy) && (nat_le dx x && nat_lt x (dx + n)))
 
 out_test : (y x dy dx n : ℕ) → (x < dx) ⊎ (dx + n ≤ x) → ((y == dy) && (nat_le dx x && nat_lt x (dx + n))) ≡ false
@@ -140,12 +142,12 @@ place_below None y x z h le = h
 place_below (Some a) y x z h le = (h.0, omega (arith, h.1))
 
 -- places that a drawing leaves out
-copied-out : (window : WindowMap) (src sy sx dy dx n : ℕ) (overlay : Bool) (y x : ℕ) → (x < dx) ⊎ (dx + n ≤ x) → copied window src sy sx dy dx n overlay y x ≡ None
+copied-out : (window : WindowMap) (src sy sx dy dx n : ℕ) (overlay : Bool) (y x : ℕ) → (x < dx) ⊎ (dx + n ≤ x) → copied_cells window src sy sx dy dx n overlay y x ≡ None
 copied-out window src sy sx dy dx n overlay y x h =
-    off ((y == dy) && (nat_le dx x && nat_lt x (dx + n))) (overlaid overlay (cell_at window src sy (sx + (x - dx)))) None (out_test y x dy dx n h)
+    off ((y == dy) && (nat_le dx x && nat_lt x (dx + n))) (overlaid_cell overlay (cell_at window src sy (sx + (x - dx)))) None (out_test y x dy dx n h)
     ∙ either_none ((y == dy) && (nat_le dx x && nat_lt x (dx + n)))
 
-missed : (to : GridPlace) (a : Window) (f : Drawing) (line col : ℕ) → ((y : ℕ) → to.column ≤ col → f y (col - to.column) ≡ None) → moved to (within a f) line col ≡ None
+missed : (to : GridPlace) (a : Window) (f : Drawing) (line col : ℕ) → ((y : ℕ) → to.column ≤ col → f y (col - to.column) ≡ None) → grid_drawing to (within a f) line col ≡ None
 missed to a f line col h =
     elim (cases_lt col to.column) [
       | inl below ↦ off (nat_le to.line line && nat_le to.column col) (within a f (line - to.line) (col - to.column)) None (left_test to.line line to.column col below)
@@ -164,15 +166,15 @@ read-kept window src dst from to a f sy sx e leads_to leads_from h =
 
 -- what is copied depends on the cells that are read
 pub copied-same : (v w : WindowMap) (src sy sx dy dx n : ℕ) (overlay : Bool) → ((j : ℕ) → j < n → cell_at v src sy (sx + j) ≡ cell_at w src sy (sx + j))
-    → copied v src sy sx dy dx n overlay ≡ copied w src sy sx dy dx n overlay
+    → copied_cells v src sy sx dy dx n overlay ≡ copied_cells w src sy sx dy dx n overlay
 copied-same v w src sy sx dy dx n overlay h = fun_ext (λ y. fun_ext (λ x.
     let t = (y == dy) && (nat_le dx x && nat_lt x (dx + n)) in
     elim (cases_lt (x - dx) n) [
-      | inl read ↦ ap (λ (c : Glyph). if t then overlaid overlay c else None) (h (x - dx) read)
+      | inl read ↦ ap (λ (c : Glyph). if t then overlaid_cell overlay c else None) (h (x - dx) read)
       | inr past ↦
-          off t (overlaid overlay (cell_at v src sy (sx + (x - dx)))) (overlaid overlay (cell_at w src sy (sx + (x - dx)))) (elim (cases_lt x dx) [
+          off t (overlaid_cell overlay (cell_at v src sy (sx + (x - dx)))) (overlaid_cell overlay (cell_at w src sy (sx + (x - dx)))) (elim (cases_lt x dx) [
             | inl before ↦ out_test y x dy dx n (inl before)
-            | inr behind ↦ out_test y x dy dx n (inr (omega arith))
+            | inr beyond ↦ out_test y x dy dx n (inr (omega arith))
           ])
     ]))
 
@@ -186,17 +188,18 @@ copy-step w v next dst f now h g is same join step =
 
 -- and its rectangle is the smallest that holds both
 pub frame-step : (w v : Windows) (dst : ℕ) (f now h g : Drawing) (before one next : Option Rect) → v ≡ put w dst f → now ≡ h → over h f ≡ g → before ≡ drawing_frame w dst (λ a. f)
-    → one ≡ drawing_frame v dst (λ a. now) → next ≡ joined before one → next ≡ drawing_frame w dst (λ a. g)
+    → one ≡ drawing_frame v dst (λ a. now) → next ≡ frame_of_two before one → next ≡ drawing_frame w dst (λ a. g)
 frame-step w v dst f now h g before one next is same join first second both =
     both
-    ∙ ap (λ (o : Option Rect). joined o one) first
-    ∙ ap (λ (o : Option Rect). joined (drawing_frame w dst (λ a. f)) o)
+    ∙ ap (λ (o : Option Rect). frame_of_two o one) first
+    ∙ ap (λ (o : Option Rect). frame_of_two (drawing_frame w dst (λ a. f)) o)
     (second ∙ ap (λ (u : Windows). drawing_frame u dst (λ a. now)) is ∙ drawing_frame-put w dst f now ∙ ap (λ (d : Drawing). drawing_frame w dst (λ a. d)) same)
     ∙ sym (drawing_frame-over w dst f h)
     ∙ ap (λ (d : Drawing). drawing_frame w dst (λ a. d)) join
 
 -- one cell
-pub one-same : (v w : WindowMap) (src sy sx dy dx : ℕ) (overlay : Bool) → cell_at v src sy sx ≡ cell_at w src sy sx → copied v src sy sx dy dx 1 overlay ≡ copied w src sy sx dy dx 1 overlay
+pub one-same : (v w : WindowMap) (src sy sx dy dx : ℕ) (overlay : Bool) → cell_at v src sy sx ≡ cell_at w src sy sx → copied_cells v src sy sx dy dx 1 overlay
+    ≡ copied_cells w src sy sx dy dx 1 overlay
 one-same v w src sy sx dy dx overlay h = copied-same v w src sy sx dy dx 1 overlay (λ j first. let e : sx + j ≡ sx = omega arith in rw e h)
 
 pub HasPlace-below : (w : Windows) (u y x z : ℕ) → HasPlace w.window u y x → z ≤ x → HasPlace w.window u y z
@@ -204,16 +207,16 @@ HasPlace-below w u y x z h le = place_below (w.window u) y x z h le
 
 pub forward-read : (window : WindowMap) (src dst : ℕ) (from to : GridPlace) (a : Window) (sy sx dy dx k : ℕ) (overlay : Bool) → window dst ≡ Some a → own window dst 0 0 ≡ Some to
     → own window src 0 0 ≡ Some from →
-    to.column + dx ≤ from.column + sx → cell_at (put_windows window dst (copied window src sy sx dy dx k overlay)) src sy (sx + k) ≡ cell_at window src sy (sx + k)
+    to.column + dx ≤ from.column + sx → cell_at (put_windows window dst (copied_cells window src sy sx dy dx k overlay)) src sy (sx + k) ≡ cell_at window src sy (sx + k)
 forward-read window src dst from to a sy sx dy dx k overlay e leads_to leads_from le =
-    read-kept window src dst from to a (copied window src sy sx dy dx k overlay) sy (sx + k) e leads_to leads_from
+    read-kept window src dst from to a (copied_cells window src sy sx dy dx k overlay) sy (sx + k) e leads_to leads_from
     (λ y up. copied-out window src sy sx dy dx k overlay y (from.column + (sx + k) - to.column) (inr (omega arith)))
 
 pub backward-read : (window : WindowMap) (src dst : ℕ) (from to : GridPlace) (a : Window) (sy sx dy dx k n : ℕ) (overlay : Bool) → window dst ≡ Some a → own window dst 0 0 ≡ Some to
     → own window src 0 0 ≡ Some from →
-    from.column + sx < to.column + dx → cell_at (put_windows window dst (copied window src sy (sx + (k + 1)) dy (dx + (k + 1)) n overlay)) src sy (sx + k) ≡ cell_at window src sy (sx + k)
+    from.column + sx < to.column + dx → cell_at (put_windows window dst (copied_cells window src sy (sx + (k + 1)) dy (dx + (k + 1)) n overlay)) src sy (sx + k) ≡ cell_at window src sy (sx + k)
 backward-read window src dst from to a sy sx dy dx k n overlay e leads_to leads_from lt =
-    read-kept window src dst from to a (copied window src sy (sx + (k + 1)) dy (dx + (k + 1)) n overlay) sy (sx + k) e leads_to leads_from
+    read-kept window src dst from to a (copied_cells window src sy (sx + (k + 1)) dy (dx + (k + 1)) n overlay) sy (sx + k) e leads_to leads_from
     (λ y up. copied-out window src sy (sx + (k + 1)) dy (dx + (k + 1)) n overlay y (from.column + (sx + k) - to.column) (inl (omega arith)))
 
 some_there : (o : Option Window) (y x : ℕ) → IsSomeAnd o (λ a. (y < a.lines) × (x < a.columns)) → (a : Window) × (o ≡ Some a)
@@ -227,6 +230,6 @@ window_there w u y x h = some_there (w.window u) y x h
 pub place_after : (w v : Windows) (dst : ℕ) (f : Drawing) (u y x z : ℕ) → v ≡ put w dst f → HasPlace w.window u y x → z ≤ x → HasPlace v.window u y z
 place_after w v dst f u y x z is h le = subst (λ (s : Windows). HasPlace s.window u y z) (sym is) (HasPlace-put w.window dst f u y z (HasPlace-below w u y x z h le))
 
-pub start-copy : (w : Windows) (src dst sy sx dy dx n : ℕ) (overlay : Bool) → n ≡ 0 → w ≡ put w dst (copied w.window src sy sx dy dx n overlay)
+pub start-copy : (w : Windows) (src dst sy sx dy dx n : ℕ) (overlay : Bool) → n ≡ 0 → w ≡ put w dst (copied_cells w.window src sy sx dy dx n overlay)
 start-copy w src dst sy sx dy dx n overlay h =
-    ap (λ (ws : WindowMap). record w { window = ws }) (sym (put-nothing w.window dst (copied w.window src sy sx dy dx n overlay) (copied-none w.window src sy sx dy dx n overlay h)))
+    ap (λ (ws : WindowMap). record w { window = ws }) (sym (put-nothing w.window dst (copied_cells w.window src sy sx dy dx n overlay) (copied-none w.window src sy sx dy dx n overlay h)))

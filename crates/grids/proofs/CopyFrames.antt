@@ -5,7 +5,7 @@ use Rattle.std.proofs.lemmas.Bool.{and_parts, and_from, eqb-true, eq-eqb, leb-tr
 use Rattle.std.specs.Prelude.{option_and_then}
 use Rattle.cell.specs.Glyphs.{Glyph}
 use Rattle.world.specs.Windows.{Window, Windows, Drawing, HasPlace, cell_at}
-use Rattle.world.specs.Rows.{filled, copied}
+use Rattle.world.specs.Rows.{filled_cells, copied_cells}
 use Rattle.world.specs.Frames.{Covers, frame_at, frame_of}
 use Rattle.world.specs.Effects.{drawing_frame}
 use Rattle.world.proofs.FrameLaws.{frame_of-only, frame_of-none}
@@ -15,14 +15,14 @@ record IsInLine (f : Drawing) (y left right : ℕ) : Type 0 where
   taken : (v x : ℕ) → is_some (f v x) ≡ ((v == y) && (nat_le left x && nat_le x right))
 
 in_line : (y left right : ℕ) (x : ℕ) → left ≤ x → x ≤ right → ((y == y) && (nat_le left x && nat_le x right)) ≡ true
-in_line y left right x before behind =
-    and_from (y == y) (nat_le left x && nat_le x right) (eq-eqb y y refl) (and_from (nat_le left x) (nat_le x right) (le-leb left x before) (le-leb x right behind))
+in_line y left right x before beyond =
+    and_from (y == y) (nat_le left x && nat_le x right) (eq-eqb y y refl) (and_from (nat_le left x) (nat_le x right) (le-leb left x before) (le-leb x right beyond))
 
 line-frame : (a : Window) (f : Drawing) (y left right : ℕ) → IsInLine f y left right → y < a.lines → left ≤ right → right < a.columns
     → frame_of a f ≡ Some (record { top = y; left = left; bottom = y; right = right })
 line-frame a f y left right h below ordered on =
     let covers : (x : ℕ) → left ≤ x → x ≤ right → Covers f a.columns a.lines y x =
-    λ x before behind. record { below = below; left = omega arith; some = h.taken y x ∙ in_line y left right x before behind } in
+    λ x before beyond. record { below = below; left = omega arith; some = h.taken y x ∙ in_line y left right x before beyond } in
     frame_of-only a f (record { top = y; left = left; bottom = y; right = right })
     (record {
       holds = λ v x there.
@@ -58,9 +58,9 @@ within_columns true dx n x some = grind (arith, nat_tests)
 within_columns false dx n x some = refl
 
 pub whole-frame : (w : Windows) (src dst sy sx dy dx n : ℕ) → HasPlace w.window dst dy (dx + n - 1) → 0 < n
-    → drawing_frame w dst (λ a. copied w.window src sy sx dy dx n false) ≡ Some (record { top = dy; left = dx; bottom = dy; right = dx + n - 1 })
+    → drawing_frame w dst (λ a. copied_cells w.window src sy sx dy dx n false) ≡ Some (record { top = dy; left = dx; bottom = dy; right = dx + n - 1 })
 whole-frame w src dst sy sx dy dx n there some =
-    there_frame (w.window dst) (copied w.window src sy sx dy dx n false) dy dx (dx + n - 1)
+    there_frame (w.window dst) (copied_cells w.window src sy sx dy dx n false) dy dx (dx + n - 1)
     (record {
       taken = λ v x.
           some_if ((v == dy) && (nat_le dx x && nat_lt x (dx + n))) (cell_at w.window src sy (sx + (x - dx)))
@@ -69,9 +69,9 @@ whole-frame w src dst sy sx dy dx n there some =
 
 -- ---- one cell
 
-pub shown-frame : (w : Windows) (dst dy dx : ℕ) (c : Glyph) → HasPlace w.window dst dy dx → drawing_frame w dst (λ a. filled dy dx dx c) ≡ frame_at dy dx
+pub shown-frame : (w : Windows) (dst dy dx : ℕ) (c : Glyph) → HasPlace w.window dst dy dx → drawing_frame w dst (λ a. filled_cells dy dx dx c) ≡ frame_at dy dx
 shown-frame w dst dy dx c there =
-    there_frame (w.window dst) (filled dy dx dx c) dy dx dx (record { taken = λ v x. some_if ((v == dy) && (nat_le dx x && nat_le x dx)) c }) (omega arith) there
+    there_frame (w.window dst) (filled_cells dy dx dx c) dy dx dx (record { taken = λ v x. some_if ((v == dy) && (nat_le dx x && nat_le x dx)) c }) (omega arith) there
 
 pub nothing-frame : (w : Windows) (dst : ℕ) (f : Drawing) → ((y x : ℕ) → f y x ≡ None) → drawing_frame w dst (λ a. f) ≡ None
 nothing-frame w dst f h = none_frame (w.window dst) f h

@@ -11,22 +11,22 @@ use Rattle.slots.specs.declared.slot.Cells.{Cells}
 use Rattle.slots.specs.declared.slot.Cells.TheVariants.{Own, Shared}
 use Rattle.slots.specs.Kept.{Kept, IsKept, window_of}
 use Rattle.grids.specs.Tables.{WindowTable, IsWindowTable}
-use Rattle.slots.specs.Slots.{slot_at, window_map, StandsIn, IsChained, names_parent}
+use Rattle.slots.specs.Slots.{slot_at, window_map, HasParentIn, IsChained, names_parent}
 use Rattle.slots.specs.Changes.{SetAt}
 use Rattle.slots.proofs.Chain.{limit-is}
 use Rattle.slots.proofs.OneSlot.{slot_below}
 use Rattle.grids.proofs.Changes.{IsStandardOf, standard-still}
 use Rattle.slots.proofs.Origins.{origins-without}
 
-stands_without : (old new : List (Option Kept)) (at : ℕ) → SetAt old new at None → (k : Kept) (cells : Cells) → ((part : Part) → cells ≡ Shared part → part.parent ≢ at) → StandsIn old k cells
-    → StandsIn new k cells
-stands_without old new at set k (Own a) apart h = h
-stands_without old new at set k (Shared p) apart h = rw (set.others p.parent (apart p refl)) h
+parent_without : (old new : List (Option Kept)) (at : ℕ) → SetAt old new at None → (k : Kept) (cells : Cells) → ((part : Part) → cells ≡ Shared part → part.parent ≢ at) → HasParentIn old k cells
+    → HasParentIn new k cells
+parent_without old new at set k (Own a) apart h = h
+parent_without old new at set k (Shared p) apart h = rw (set.others p.parent (apart p refl)) h
 
 each_without : (old new : List (Option Kept)) (at : ℕ) → SetAt old new at None → (o : Option Kept) → ((k : Kept) (part : Part) → o ≡ Some k → k.cells ≡ Shared part → part.parent ≢ at)
-    → MatchOption o ⊤ (λ k. IsKept k × StandsIn old k k.cells) → MatchOption o ⊤ (λ k. IsKept k × StandsIn new k k.cells)
+    → MatchOption o ⊤ (λ k. IsKept k × HasParentIn old k k.cells) → MatchOption o ⊤ (λ k. IsKept k × HasParentIn new k k.cells)
 each_without old new at set None apart h = h
-each_without old new at set (Some k) apart h = (h.0, stands_without old new at set k k.cells (λ part is. apart k part refl is) h.1)
+each_without old new at set (Some k) apart h = (h.0, parent_without old new at set k k.cells (λ part is. apart k part refl is) h.1)
 
 any_below-at : (n : ℕ) (test : ℕ → Bool) (k : ℕ) → any_below n test ≡ false → k < n → test k ≡ false
 any_below-at zero test k h lt = absurd (omega arith)

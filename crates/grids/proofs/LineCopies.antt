@@ -5,8 +5,8 @@ use mathlib.Core.Path.{fun_ext}
 use Rattle.std.proofs.lemmas.Bool.{cases_eq, cases_lt, cases_order}
 use Rattle.std.proofs.lemmas.Bool.Decides.{nat_tests}
 use Rattle.cell.specs.Glyphs.{Glyph}
-use Rattle.world.specs.Windows.{Window, WindowMap, Windows, GridPlace, Drawing, own, onward, over, cell_at, within, moved, put_windows, put, HasPlace}
-use Rattle.world.specs.Rows.{overlaid, copied}
+use Rattle.world.specs.Windows.{Window, WindowMap, Windows, GridPlace, Drawing, own, onward, over, cell_at, within, grid_drawing, put_windows, put, HasPlace}
+use Rattle.world.specs.Rows.{overlaid_cell, copied_cells}
 use Rattle.world.specs.calls.Copying.{rectangle_copied}
 use Rattle.world.proofs.WindowLaws.{own-onward, cell_at-kept, put-nothing, HasPlace-put}
 use Rattle.grids.proofs.Copies.{either_none, off, pick_new, pick_old, none_either, copied-same}
@@ -19,7 +19,7 @@ rectangle-out : (window : WindowMap) (src sy sx dy dx lines columns : ℕ) (over
     → rectangle_copied window src sy sx dy dx lines columns overlay y x ≡ None
 rectangle-out window src sy sx dy dx lines columns overlay y x h =
     let t = (nat_le dy y && nat_lt y (dy + lines)) && (nat_le dx x && nat_lt x (dx + columns)) in
-    off t (overlaid overlay (cell_at window src (sy + (y - dy)) (sx + (x - dx)))) None (rectangle_out y x dy dx lines columns h) ∙ either_none t
+    off t (overlaid_cell overlay (cell_at window src (sy + (y - dy)) (sx + (x - dx)))) None (rectangle_out y x dy dx lines columns h) ∙ either_none t
 
 -- ---- no line yet
 
@@ -31,13 +31,13 @@ no-lines window src sy sx dy dx lines columns overlay h y x =
 columns_none : (t : Bool) (dx x columns : ℕ) → columns ≡ 0 → (t && (nat_le dx x && nat_lt x (dx + columns))) ≡ false
 columns_none t dx x columns h = elim (cases_lt x dx) [
   | inl before ↦ (let lt : x < dx = before in grind (arith, nat_tests))
-  | inr behind ↦ (let le : dx ≤ x = behind in grind (arith, nat_tests))
+  | inr beyond ↦ (let le : dx ≤ x = beyond in grind (arith, nat_tests))
 ]
 
 pub no-columns : (window : WindowMap) (src sy sx dy dx lines columns : ℕ) (overlay : Bool) → columns ≡ 0 → (y x : ℕ) → rectangle_copied window src sy sx dy dx lines columns overlay y x ≡ None
 no-columns window src sy sx dy dx lines columns overlay h y x =
     let t = (nat_le dy y && nat_lt y (dy + lines)) && (nat_le dx x && nat_lt x (dx + columns)) in
-    off t (overlaid overlay (cell_at window src (sy + (y - dy)) (sx + (x - dx)))) None (columns_none (nat_le dy y && nat_lt y (dy + lines)) dx x columns h) ∙ either_none t
+    off t (overlaid_cell overlay (cell_at window src (sy + (y - dy)) (sx + (x - dx)))) None (columns_none (nat_le dy y && nat_lt y (dy + lines)) dx x columns h) ∙ either_none t
 
 pub put-none : (w : Windows) (dst : ℕ) (f : Drawing) → ((y x : ℕ) → f y x ≡ None) → w ≡ put w dst f
 put-none w dst f h = ap (λ (ws : WindowMap). record w { window = ws }) (sym (put-nothing w.window dst f h))
@@ -46,9 +46,9 @@ put-none w dst f h = ap (λ (ws : WindowMap). record w { window = ws }) (sym (pu
 
 module _ (window : WindowMap) (src sx dx columns : ℕ) (overlay : Bool) where
   line : ℕ → ℕ → Option Glyph
-  line v x = overlaid overlay (cell_at window src v (sx + (x - dx)))
+  line v x = overlaid_cell overlay (cell_at window src v (sx + (x - dx)))
 
-  after-at : (sy dy k y x : ℕ) → over (copied window src (sy + k) sx (dy + k) dx columns overlay) (rectangle_copied window src sy sx dy dx k columns overlay) y x
+  after-at : (sy dy k y x : ℕ) → over (copied_cells window src (sy + k) sx (dy + k) dx columns overlay) (rectangle_copied window src sy sx dy dx k columns overlay) y x
       ≡ rectangle_copied window src sy sx dy dx (k + 1) columns overlay y x
   unfolding line
   after-at sy dy k y x =
@@ -65,11 +65,11 @@ module _ (window : WindowMap) (src sx dx columns : ℕ) (overlay : Bool) where
             (let ne : y ≡ dy + k → ⊥ = other in grind (arith, nat_tests))
       ]
 
-  pub line-after : (sy dy k : ℕ) → over (copied window src (sy + k) sx (dy + k) dx columns overlay) (rectangle_copied window src sy sx dy dx k columns overlay)
+  pub line-after : (sy dy k : ℕ) → over (copied_cells window src (sy + k) sx (dy + k) dx columns overlay) (rectangle_copied window src sy sx dy dx k columns overlay)
       ≡ rectangle_copied window src sy sx dy dx (k + 1) columns overlay
   line-after sy dy k = fun_ext (λ y. fun_ext (λ x. after-at sy dy k y x))
 
-  before-at : (sy dy k n y x : ℕ) → k < n → over (copied window src (sy + k) sx (dy + k) dx columns overlay)
+  before-at : (sy dy k n y x : ℕ) → k < n → over (copied_cells window src (sy + k) sx (dy + k) dx columns overlay)
       (rectangle_copied window src (sy + (k + 1)) sx (dy + (k + 1)) dx (n - (k + 1)) columns overlay) y x
       ≡ rectangle_copied window src (sy + k) sx (dy + k) dx (n - k) columns overlay y x
   unfolding line
@@ -94,14 +94,14 @@ module _ (window : WindowMap) (src sx dx columns : ℕ) (overlay : Bool) where
         ]
       ]
 
-  pub line-before : (sy dy k n : ℕ) → k < n → over (copied window src (sy + k) sx (dy + k) dx columns overlay)
+  pub line-before : (sy dy k n : ℕ) → k < n → over (copied_cells window src (sy + k) sx (dy + k) dx columns overlay)
       (rectangle_copied window src (sy + (k + 1)) sx (dy + (k + 1)) dx (n - (k + 1)) columns overlay)
       ≡ rectangle_copied window src (sy + k) sx (dy + k) dx (n - k) columns overlay
   line-before sy dy k n h = fun_ext (λ y. fun_ext (λ x. before-at sy dy k n y x h))
 
 -- ---- a line of the source that isn't written yet is read as it was
 
-missed_line : (to : GridPlace) (a : Window) (f : Drawing) (y x : ℕ) → ((z : ℕ) → to.line ≤ y → f (y - to.line) z ≡ None) → moved to (within a f) y x ≡ None
+missed_line : (to : GridPlace) (a : Window) (f : Drawing) (y x : ℕ) → ((z : ℕ) → to.line ≤ y → f (y - to.line) z ≡ None) → grid_drawing to (within a f) y x ≡ None
 missed_line to a f y x h =
     elim (cases_lt y to.line) [
       | inl above ↦ off (nat_le to.line y && nat_le to.column x) (within a f (y - to.line) (x - to.column)) None (grind (arith, nat_tests)) ∙ either_none (nat_le to.line y && nat_le to.column x)
@@ -119,8 +119,8 @@ module _ (window : WindowMap) (src dst : ℕ) (from to : GridPlace) (a : Window)
 
   -- below the lines that were written
   pub downward-same : (sy sx dy dx k columns : ℕ) (overlay : Bool) → to.line + dy ≤ from.line + sy
-      → copied (put_windows window dst (rectangle_copied window src sy sx dy dx k columns overlay)) src (sy + k) sx (dy + k) dx columns overlay
-      ≡ copied window src (sy + k) sx (dy + k) dx columns overlay
+      → copied_cells (put_windows window dst (rectangle_copied window src sy sx dy dx k columns overlay)) src (sy + k) sx (dy + k) dx columns overlay
+      ≡ copied_cells window src (sy + k) sx (dy + k) dx columns overlay
   downward-same sy sx dy dx k columns overlay le =
       let f = rectangle_copied window src sy sx dy dx k columns overlay in
       copied-same (put_windows window dst f) window src (sy + k) sx (dy + k) dx columns overlay
@@ -128,8 +128,8 @@ module _ (window : WindowMap) (src dst : ℕ) (from to : GridPlace) (a : Window)
 
   -- above them
   pub upward-same : (sy sx dy dx k n columns : ℕ) (overlay : Bool) → from.line + sy < to.line + dy
-      → copied (put_windows window dst (rectangle_copied window src (sy + (k + 1)) sx (dy + (k + 1)) dx n columns overlay)) src (sy + k) sx (dy + k) dx columns overlay
-      ≡ copied window src (sy + k) sx (dy + k) dx columns overlay
+      → copied_cells (put_windows window dst (rectangle_copied window src (sy + (k + 1)) sx (dy + (k + 1)) dx n columns overlay)) src (sy + k) sx (dy + k) dx columns overlay
+      ≡ copied_cells window src (sy + k) sx (dy + k) dx columns overlay
   upward-same sy sx dy dx k n columns overlay lt =
       let f = rectangle_copied window src (sy + (k + 1)) sx (dy + (k + 1)) dx n columns overlay in
       copied-same (put_windows window dst f) window src (sy + k) sx (dy + k) dx columns overlay

@@ -7,22 +7,22 @@ use Rattle.cell.specs.Pictures.{Place}
 use Rattle.world.specs.Windows.{Backing, part_of, Window, WindowMap}
 use Rattle.world.specs.Sound.{IsOnScreen}
 use Rattle.world.specs.calls.Making.{is_inside, extent, derived_window, place_from}
-use Rattle.world.specs.Effects.{numbered}
+use Rattle.world.specs.Effects.{under_number}
 use Rattle.world.specs.World.{new_window}
 use Rattle.slots.specs.declared.slot.Part.{Part}
 use Rattle.slots.specs.declared.slot.Cells.{Cells}
 use Rattle.slots.specs.declared.slot.Cells.TheVariants.{Own, Shared}
 use Rattle.slots.specs.Kept.{Kept, IsKept, window_of}
 use Rattle.grids.specs.Tables.{WindowTable, IsWindowTable, windows}
-use Rattle.slots.specs.Slots.{slot_at, FitsIn, IsChained, StandsIn, part_in}
+use Rattle.slots.specs.Slots.{slot_at, FitsIn, IsChained, HasParentIn, part_in}
 use Rattle.slots.specs.Changes.{SetAt, IsFree}
 use Rattle.slots.proofs.Chain.{shared_of}
 use Rattle.grids.proofs.Changes.{windows-set, IsWindowTable-filled}
 use Rattle.slots.proofs.Origins.{HasOrigin}
 
-pub stands_alone : (slots : List (Option Kept)) (k : Kept) (cells : Cells) → part_in cells ≡ None → k.depth ≡ 0 → StandsIn slots k cells
-stands_alone slots k (Own picture) e h = h
-stands_alone slots k (Shared part) e h = cc
+pub alone_in : (slots : List (Option Kept)) (k : Kept) (cells : Cells) → part_in cells ≡ None → k.depth ≡ 0 → HasParentIn slots k cells
+alone_in slots k (Own picture) e h = h
+alone_in slots k (Shared part) e h = cc
 
 -- a size that is inside ends before the edge
 given_if : (t : Bool) (m r : ℕ) → (if t then Some m else None) ≡ Some r → (t ≡ true) × (r ≡ m)
@@ -52,12 +52,12 @@ placed_pad lines columns n m src k e = subst (λ (a : Window). IsOnScreen lines 
 -- it is put under a free number
 
 module _ (t : WindowTable) (new : List (Option Kept)) (m : ℕ) (k : Kept) (set : SetAt t.slots new m (Some k)) where
-  pub IsWindowTable-added : IsWindowTable t → IsFree t.slots m → IsKept k → StandsIn t.slots k k.cells → IsOnScreen t.lines t.columns (window_of k) → (IsChained new → HasOrigin new m k)
+  pub IsWindowTable-added : IsWindowTable t → IsFree t.slots m → IsKept k → HasParentIn t.slots k k.cells → IsOnScreen t.lines t.columns (window_of k) → (IsChained new → HasOrigin new m k)
       → IsWindowTable (record t { slots = new })
-  IsWindowTable-added s free kept stands placed origin = IsWindowTable-filled t new m k s set free.free kept stands placed free.from_one origin
+  IsWindowTable-added s free kept chained placed origin = IsWindowTable-filled t new m k s set free.free kept chained placed free.from_one origin
 
-  pub windows-added : (a : Window) → window_of k ≡ a → windows (record t { slots = new }) ≡ numbered (windows t) m (Some a)
-  windows-added a e = windows-set t new m (Some k) set ∙ ap (λ (b : Window). numbered (windows t) m (Some b)) e
+  pub windows-added : (a : Window) → window_of k ≡ a → windows (record t { slots = new }) ≡ under_number (windows t) m (Some a)
+  windows-added a e = windows-set t new m (Some k) set ∙ ap (λ (b : Window). under_number (windows t) m (Some b)) e
 
 -- a new derived window lies in its parent
 
@@ -65,10 +65,10 @@ kind_from : (o : Option Place) (y x : ℕ) → is_some (place_from o y x) ≡ is
 kind_from None y x = refl
 kind_from (Some p) y x = refl
 
-pub stands_derived : (slots : List (Option Kept)) (k p : Kept) (part : Part) (n m : ℕ) → part_in k.cells ≡ Some part → slot_at slots part.parent ≡ Some p → k.depth ≡ p.depth + 1
+pub derived_in : (slots : List (Option Kept)) (k p : Kept) (part : Part) (n m : ℕ) → part_in k.cells ≡ Some part → slot_at slots part.parent ≡ Some p → k.depth ≡ p.depth + 1
     → window_of k ≡ new_window n m (place_from p.place part.line part.column) (part_of part.parent part.line part.column) → part.line + n ≤ p.lines → part.column + m ≤ p.columns
-    → StandsIn slots k k.cells
-stands_derived slots k p part n m is e depth made lines columns =
+    → HasParentIn slots k k.cells
+derived_in slots k p part n m is e depth made lines columns =
     let fits : FitsIn k part p = record {
       depth = depth;
       within = record {
@@ -77,7 +77,7 @@ stands_derived slots k p part n m is e depth made lines columns =
         kind = ap (λ (a : Window). is_some a.place) made ∙ kind_from p.place part.line part.column;
       };
     } in
-    subst (λ c. StandsIn slots k c) (sym (shared_of k.cells part is)) (rw e fits)
+    subst (λ c. HasParentIn slots k c) (sym (shared_of k.cells part is)) (rw e fits)
 
 -- and on the screen, where its parent does
 

@@ -3,15 +3,15 @@ use Rattle.std.proofs.Common.{◌≡◌, ◌≢◌, ℕ, ◌+◌, ◌≤◌, Opt
 use Rattle.std.specs.Option.{option_map}
 use Rattle.std.specs.Prelude.{⊤}
 use Rattle.cell.specs.declared.limits.TheConstants.{MOST_WINDOWS}
-use Rattle.world.specs.Windows.{Window, WindowMap, changed, replaced}
+use Rattle.world.specs.Windows.{Window, WindowMap, with_change, with_window}
 use Rattle.world.specs.Sound.{IsOnScreen, IsStandardScreen}
 use Rattle.world.specs.Effects.{with_part}
 use Rattle.slots.specs.declared.slot.Part.{Part}
 use Rattle.slots.specs.declared.slot.Cells.TheVariants.{Shared}
 use Rattle.slots.specs.Kept.{Kept, window_of}
 use Rattle.grids.specs.Tables.{WindowTable, IsWindowTable, windows}
-use Rattle.slots.specs.Slots.{slot_at, window_map, FitsIn, StandsIn, IsChained, part_in}
-use Rattle.slots.specs.Changes.{Settled, Shifted, SetAt, shifted}
+use Rattle.slots.specs.Slots.{slot_at, window_map, FitsIn, HasParentIn, IsChained, part_in}
+use Rattle.slots.specs.Changes.{Settled, Shifted, SetAt, with_new_offset}
 use Rattle.slots.proofs.Chain.{parent_at, some_and, shared_of, own_alone}
 use Rattle.slots.proofs.OneSlot.{SetAt-set, slot_below, each_set, chained_set, KeepsShape}
 use Rattle.grids.proofs.Changes.{windows-set, IsStandardOf, standard-still, replaced-changed}
@@ -42,14 +42,14 @@ module _ (t : WindowTable) (mid : List (Option Kept)) (at y x : ℕ) (s : IsWind
   set_at : SetAt t.slots mid at (Some h.after)
   set_at = rw h.set (SetAt-set t.slots at (Some h.after) s.few_slots (slot_below t.slots at h.before h.was))
 
-  windows-mid : windows (record t { slots = mid }) ≡ record (windows t) { window = changed (window_map t.slots) at (with_part y x) }
+  windows-mid : windows (record t { slots = mid }) ≡ record (windows t) { window = with_change (window_map t.slots) at (with_part y x) }
   windows-mid =
       windows-set t mid at (Some h.after) set_at
       ∙ ap (λ (map : WindowMap). record (windows t) { window = map })
-      (ap (λ a. replaced (window_map t.slots) at (Some a)) h.window
+      (ap (λ a. with_window (window_map t.slots) at (Some a)) h.window
       ∙ replaced-changed (window_map t.slots) at (with_part y x) (window_of h.before) (ap (option_map window_of) h.was))
 
-  pub windows-shifted : (new : List (Option Kept)) → Settled mid new → windows (record t { slots = new }) ≡ record (windows t) { window = changed (window_map t.slots) at (with_part y x) }
+  pub windows-shifted : (new : List (Option Kept)) → Settled mid new → windows (record t { slots = new }) ≡ record (windows t) { window = with_change (window_map t.slots) at (with_part y x) }
   windows-shifted new settled = ap (λ (map : WindowMap). record (windows t) { window = map }) settled.windows ∙ windows-mid
 
   pub few-shifted : length mid ≤ MOST_WINDOWS + 1
@@ -58,11 +58,11 @@ module _ (t : WindowTable) (mid : List (Option Kept)) (at y x : ℕ) (s : IsWind
   -- a derived window's offset may be any at which it fits
   module _ (k p : Kept) (part : Part) (e : slot_at t.slots at ≡ Some k) (in_part : part_in k.cells ≡ Some part) (parent : slot_at t.slots part.parent ≡ Some p)
       (lines : y + k.lines ≤ p.lines) (columns : x + k.columns ≤ p.columns) where
-    stands : StandsIn t.slots h.after h.after.cells
-    stands =
+    chained : HasParentIn t.slots h.after h.after.cells
+    chained =
         let one : k ≡ h.before = let both = sym e ∙ h.was in cc in
         let cells_are : h.before.cells ≡ Shared part = ap (λ (q : Kept). q.cells) (sym one) ∙ shared_of k.cells part in_part in
-        let after_are : h.after.cells ≡ Shared (record part { line = y; column = x }) = h.cells ∙ ap (shifted y x) cells_are in
+        let after_are : h.after.cells ≡ Shared (record part { line = y; column = x }) = h.cells ∙ ap (with_new_offset y x) cells_are in
         let fit = fits_at t.slots s.chained at k p part e in_part parent in
         let fits : FitsIn h.after (record part { line = y; column = x }) p = record {
           depth = h.shape.depth ∙ (rw one at fit.depth);
@@ -72,10 +72,10 @@ module _ (t : WindowTable) (mid : List (Option Kept)) (at y x : ℕ) (s : IsWind
             kind = h.shape.place ∙ (rw one at fit.within.kind);
           };
         } in
-        subst (λ c. StandsIn t.slots h.after c) (sym after_are) (rw parent fits)
+        subst (λ c. HasParentIn t.slots h.after c) (sym after_are) (rw parent fits)
 
     pub chained-shifted : IsChained mid
-    chained-shifted = chained_set t.slots mid at h.after s.chained set_at (subst (λ o. KeepsShape o (Some h.after)) (sym h.was) h.shape) h.kept stands
+    chained-shifted = chained_set t.slots mid at h.after s.chained set_at (subst (λ o. KeepsShape o (Some h.after)) (sym h.was) h.shape) h.kept chained
 
     -- the standard screen is no derived window
     other : 0 ≢ at

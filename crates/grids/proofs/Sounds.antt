@@ -13,7 +13,7 @@ use Rattle.slots.specs.declared.slot.Cells.{Cells}
 use Rattle.slots.specs.declared.slot.Cells.TheVariants.{Own, Shared}
 use Rattle.slots.specs.Kept.{Kept, IsGridOf, window_of, backing_of}
 use Rattle.grids.specs.Tables.{WindowTable, IsWindowTable, windows}
-use Rattle.slots.specs.Slots.{slot_at, window_map, FitsIn, StandsIn}
+use Rattle.slots.specs.Slots.{slot_at, window_map, FitsIn, HasParentIn}
 use Rattle.slots.proofs.Chain.{each_at, chain_ends}
 use Rattle.slots.proofs.OneSlot.{slot_below}
 use Rattle.grids.proofs.Changes.{IsStandardOf}
@@ -28,9 +28,9 @@ parent_fits : (k : Kept) (part : Part) (o : Option Kept) → MatchOption o ⊥ (
 parent_fits k part None h = absurd h
 parent_fits k part (Some p) h = h.within
 
-cells_of : (slots : List (Option Kept)) (k : Kept) (cells : Cells) → IsGridOf k.lines k.columns cells → StandsIn slots k cells → HasCells (window_map slots) (window_of k) (backing_of cells)
-cells_of slots k (Own picture) grid stands = λ y x below left. cell_in picture k.lines k.columns y x grid.0 grid.1 below left
-cells_of slots k (Shared part) grid stands = parent_fits k part (slot_at slots part.parent) stands
+cells_of : (slots : List (Option Kept)) (k : Kept) (cells : Cells) → IsGridOf k.lines k.columns cells → HasParentIn slots k cells → HasCells (window_map slots) (window_of k) (backing_of cells)
+cells_of slots k (Own picture) grid chained = λ y x below left. cell_in picture k.lines k.columns y x grid.0 grid.1 below left
+cells_of slots k (Shared part) grid chained = parent_fits k part (slot_at slots part.parent) chained
 
 sound_at : (t : WindowTable) → IsWindowTable t → (w : ℕ) (o : Option Kept) → slot_at t.slots w ≡ o → MatchOption (option_map window_of o) ⊤ (IsSoundWindow (windows t) w)
 sound_at t s w None e = tt

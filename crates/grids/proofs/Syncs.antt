@@ -7,10 +7,10 @@ use mathlib.Core.Path.{fun_ext}
 use Rattle.std.proofs.lemmas.Bool.{and_from, and_parts, cases_eq, cases_lt, le-leb, leb-true, lt-ltb, le-ltb}
 use Rattle.std.proofs.lemmas.Bool.Decides.{nat_tests}
 use Rattle.cell.specs.declared.limits.TheConstants.{LARGEST_PAD}
-use Rattle.world.specs.Windows.{part_of, GridPlace, HasPlace, Window, WindowMap, Windows, ancestors, any_below, changed, onward, own, touched_below}
+use Rattle.world.specs.Windows.{part_of, GridPlace, HasPlace, Window, WindowMap, Windows, ancestors, any_below, with_change, onward, own, touched_below}
 use Rattle.world.specs.Sharing.{shows_part_of}
 use Rattle.world.specs.Sound.{AreSoundWindows}
-use Rattle.world.specs.calls.Copying.{after_copying, in_line, shows_touched_of, touching}
+use Rattle.world.specs.calls.Copying.{after_copying, in_line, shows_touched_of, with_touches}
 use Rattle.world.specs.declared.call.Copying.TheVariants.{Syncdown, Syncup}
 use Rattle.world.specs.declared.settings.Columns.{Columns}
 use Rattle.world.proofs.Below.{any_below-some, any_below-true}
@@ -18,11 +18,11 @@ use Rattle.world.proofs.WindowLaws.{own-onward, touched-touched}
 use Rattle.slots.specs.declared.place.Place.{Place}
 use Rattle.slots.specs.declared.slot.Part.{Part}
 use Rattle.slots.specs.Slots.{in_parent}
-use Rattle.grids.specs.steps.Syncs.{EndsWithin, has_column, is_touched_at, part_behind, shows_touched, touched_shown}
+use Rattle.grids.specs.steps.Syncs.{EndsWithin, has_column, is_touched_at, part_in_parent, shows_touched, touched_shown}
 use Rattle.slots.proofs.Chain.{from_parent, no_parent}
 use Rattle.grids.proofs.Shared.{shared-in, from-shared}
 use Rattle.grids.proofs.Touches.{changed-here, changed-nothing, changed-other, changed-same, changed-twice, touching-is, touching-none}
-use Rattle.grids.proofs.Ancestors.{Walk, Walk-start, Walk-step, ancestors-none, ancestors-parent, behind-none, behind-some, sound-there}
+use Rattle.grids.proofs.Ancestors.{Walk, Walk-start, Walk-step, ancestors-none, ancestors-parent, part-none, part-some, sound-there}
 
 -- ---- the test by numbers
 
@@ -112,7 +112,7 @@ module _ (windows : Windows) (w u line column : ℕ) (sound : AreSoundWindows wi
 
 -- ---- touching twice
 
-touching-twice : (a : Window) (s t : ℕ → ℕ → Bool) → touching s (touching t a) ≡ touching (λ y x. s y x || t y x) a
+touching-twice : (a : Window) (s t : ℕ → ℕ → Bool) → with_touches s (with_touches t a) ≡ with_touches (λ y x. s y x || t y x) a
 touching-twice a s t =
     touching-is a (λ z. if nat_lt z a.lines then touched_below a.columns (s z) (if nat_lt z a.lines then touched_below a.columns (t z) (a.touched z) else a.touched z) else
     (if nat_lt z a.lines then touched_below a.columns (t z) (a.touched z) else a.touched z))
@@ -132,10 +132,10 @@ or-swap true false = refl
 or-swap false true = refl
 or-swap false false = refl
 
-touching-again : (a : Window) (t : ℕ → ℕ → Bool) → touching t (touching t a) ≡ touching t a
-touching-again a t = touching-twice a t t ∙ ap (λ (s : ℕ → ℕ → Bool). touching s a) (fun_ext (λ y. fun_ext (λ x. or-same (t y x))))
+touching-again : (a : Window) (t : ℕ → ℕ → Bool) → with_touches t (with_touches t a) ≡ with_touches t a
+touching-again a t = touching-twice a t t ∙ ap (λ (s : ℕ → ℕ → Bool). with_touches s a) (fun_ext (λ y. fun_ext (λ x. or-same (t y x))))
 
-again : (o : Option Window) (t : ℕ → ℕ → Bool) → option_map (touching t) (option_map (touching t) o) ≡ option_map (touching t) o
+again : (o : Option Window) (t : ℕ → ℕ → Bool) → option_map (with_touches t) (option_map (with_touches t) o) ≡ option_map (with_touches t) o
 again None t = refl
 again (Some a) t = ap Some (touching-again a t)
 
@@ -166,7 +166,7 @@ same-window (Some a) (Some c) b h e =
       backing = ap (λ (w : Window). w.backing) same ∙ ap (λ (w : Window). w.backing) is;
     }
 
-untouched_if : (t : Bool) (o : Option Window) (test : ℕ → ℕ → Bool) → option_map untouched (if t then option_map (touching test) o else o) ≡ option_map untouched o
+untouched_if : (t : Bool) (o : Option Window) (test : ℕ → ℕ → Bool) → option_map untouched (if t then option_map (with_touches test) o else o) ≡ option_map untouched o
 untouched_if true None test = refl
 untouched_if true (Some a) test = refl
 untouched_if false o test = refl
@@ -182,7 +182,7 @@ pub record IsHandedTo (old cur : Windows) (w u line column : ℕ) : Type 0 where
   pub size : cur ≡ record old { window = cur.window }
   pub same : (v : ℕ) → option_map untouched (cur.window v) ≡ option_map untouched (old.window v)
   pub source : cur.window w ≡ old.window w
-  pub rest : (v : ℕ) → (if list_any (λ p. p == v) (ancestors old.window u) then option_map (touching (shows_touched_of old.window w v)) (cur.window v) else cur.window v)
+  pub rest : (v : ℕ) → (if list_any (λ p. p == v) (ancestors old.window u) then option_map (with_touches (shows_touched_of old.window w v)) (cur.window v) else cur.window v)
       ≡ (after_copying old (Syncup (record { 0 = w }))).window v
 
 -- what the reached window is
@@ -193,23 +193,23 @@ reached old cur w u line column walk same = same-window (cur.window u) (old.wind
 -- the next one, and which part of it the reached one is
 pub record NextPart (reached : Window) (at next : Place) : Type 0 where
   pub part : Part
-  pub behind : part_behind reached.backing ≡ Some part
+  pub part_is : part_in_parent reached.backing ≡ Some part
   pub is : next ≡ in_parent at part
 
 module _ (old cur : Windows) (w : ℕ) (at : Place) (walk : Walk old.window w at.win.0 at.line at.column)
     (same : (v : ℕ) → option_map untouched (cur.window v) ≡ option_map untouched (old.window v)) where
-  pub next-part : (next : Place) → IsSomeAnd (cur.window at.win.0) (λ a. Some next ≡ option_map (in_parent at) (part_behind a.backing)) → NextPart walk.above at next
+  pub next-part : (next : Place) → IsSomeAnd (cur.window at.win.0) (λ a. Some next ≡ option_map (in_parent at) (part_in_parent a.backing)) → NextPart walk.above at next
   next-part next h =
       let now = reached old cur w at.win.0 at.line at.column walk same in
-      let here : Some next ≡ option_map (in_parent at) (part_behind now.window.backing) = rw now.there at h in
-      let part = from_parent at next (part_behind now.window.backing) here in
-      record { part = part.0; behind = sym (ap part_behind now.backing) ∙ part.1; is = part.2 }
+      let here : Some next ≡ option_map (in_parent at) (part_in_parent now.window.backing) = rw now.there at h in
+      let part = from_parent at next (part_in_parent now.window.backing) here in
+      record { part = part.0; part_is = sym (ap part_in_parent now.backing) ∙ part.1; is = part.2 }
 
-  pub no-part : IsSomeAnd (cur.window at.win.0) (λ a. None ≡ option_map (in_parent at) (part_behind a.backing)) → part_behind walk.above.backing ≡ None
+  pub no-part : IsSomeAnd (cur.window at.win.0) (λ a. None ≡ option_map (in_parent at) (part_in_parent a.backing)) → part_in_parent walk.above.backing ≡ None
   no-part h =
       let now = reached old cur w at.win.0 at.line at.column walk same in
-      let here : None ≡ option_map (in_parent at) (part_behind now.window.backing) = rw now.there at h in
-      sym (ap part_behind now.backing) ∙ no_parent at (part_behind now.window.backing) here
+      let here : None ≡ option_map (in_parent at) (part_in_parent now.window.backing) = rw now.there at h in
+      sym (ap part_in_parent now.backing) ∙ no_parent at (part_in_parent now.window.backing) here
 
 -- a place of it is there
 pub place-reached : (old cur : Windows) (w u line column : ℕ) → AreSoundWindows old → (walk : Walk old.window w u line column)
@@ -235,9 +235,9 @@ agree None f g h = refl
 agree (Some a) f g h = ap Some (h a)
 
 module _ (old : Windows) (sound : AreSoundWindows old) (w u line column : ℕ) (part : Part) (walk : Walk old.window w u line column)
-    (behind : part_behind walk.above.backing ≡ Some part) where
+    (part_is : part_in_parent walk.above.backing ≡ Some part) where
   backing_is : walk.above.backing ≡ part_of part.parent part.line part.column
-  backing_is = behind-some walk.above.backing part behind
+  backing_is = part-some walk.above.backing part part_is
 
   pub next-walk : Walk old.window w part.parent (line + part.line) (column + part.column)
   next-walk = Walk-step old w u line column part sound walk backing_is
@@ -258,7 +258,7 @@ module _ (old : Windows) (sound : AreSoundWindows old) (w u line column : ℕ) (
 
   -- one window further up
   module _ (cur next : Windows) (h : IsHandedTo old cur w u line column) (other : part.parent ≢ w)
-      (step : next ≡ record cur { window = changed cur.window part.parent (touching (touched_shown cur.window w (line + part.line, column + part.column) (0, 0))) }) where
+      (step : next ≡ record cur { window = with_change cur.window part.parent (with_touches (touched_shown cur.window w (line + part.line, column + part.column) (0, 0))) }) where
     test : ℕ → ℕ → Bool
     test = touched_shown cur.window w (line + part.line, column + part.column) (0, 0)
 
@@ -268,31 +268,31 @@ module _ (old : Windows) (sound : AreSoundWindows old) (w u line column : ℕ) (
         ap (λ (o : Option Window). option_map_or (λ (a : Window). shows_touched a (line + part.line, column + part.column) (0, 0) y x) o false) (h.source ∙ next-walk.from_is)
         ∙ sym (shows-up old w part.parent (line + part.line) (column + part.column) sound next-walk y x)))
 
-    next_at : (v : ℕ) → next.window v ≡ changed cur.window part.parent (touching test) v
+    next_at : (v : ℕ) → next.window v ≡ with_change cur.window part.parent (with_touches test) v
     unfolding test
     next_at v = ap (λ (ws : Windows). ws.window v) step
 
-    rest-next : (v : ℕ) → (if list_any (λ p. p == v) (ancestors old.window part.parent) then option_map (touching (shows_touched_of old.window w v)) (next.window v) else next.window v)
+    rest-next : (v : ℕ) → (if list_any (λ p. p == v) (ancestors old.window part.parent) then option_map (with_touches (shows_touched_of old.window w v)) (next.window v) else next.window v)
         ≡ (after_copying old (Syncup (record { 0 = w }))).window v
     rest-next v =
         let further = list_any (λ p. p == v) (ancestors old.window part.parent) in
-        let f = touching (shows_touched_of old.window w v) in
+        let f = with_touches (shows_touched_of old.window w v) in
         let all : list_any (λ p. p == v) (ancestors old.window u) ≡ ((part.parent == v) || further) = ap (list_any (λ p. p == v)) next-ancestors in
         let target : (if (part.parent == v) || further then option_map f (cur.window v) else cur.window v) ≡ (after_copying old (Syncup (record { 0 = w }))).window v =
         ap (λ (t : Bool). if t then option_map f (cur.window v) else cur.window v) (sym all) ∙ h.rest v in
         elim (cases_eq v part.parent) [
           | inl same ↦
               let here : next.window v ≡ option_map f (cur.window v) =
-              next_at v ∙ ap (changed cur.window part.parent (touching test)) same ∙ changed-here cur.window part.parent (touching test)
-              ∙ ap (λ (t : ℕ → ℕ → Bool). option_map (touching t) (cur.window part.parent)) test-is
-              ∙ ap (λ k. option_map (touching (shows_touched_of old.window w k)) (cur.window k)) (sym same) in
+              next_at v ∙ ap (with_change cur.window part.parent (with_touches test)) same ∙ changed-here cur.window part.parent (with_touches test)
+              ∙ ap (λ (t : ℕ → ℕ → Bool). option_map (with_touches t) (cur.window part.parent)) test-is
+              ∙ ap (λ k. option_map (with_touches (shows_touched_of old.window w k)) (cur.window k)) (sym same) in
               let on : (part.parent == v) ≡ true = eq-eqb part.parent v (sym same) in
               ap (λ (o : Option Window). if further then option_map f o else o) here
               ∙ either_way further f (cur.window v) (again (cur.window v) (shows_touched_of old.window w v))
               ∙ sym (ap (λ (t : Bool). if t || further then option_map f (cur.window v) else cur.window v) on)
               ∙ target
           | inr apart ↦
-              let here : next.window v ≡ cur.window v = next_at v ∙ changed-other cur.window part.parent (touching test) v apart in
+              let here : next.window v ≡ cur.window v = next_at v ∙ changed-other cur.window part.parent (with_touches test) v apart in
               let off : (part.parent == v) ≡ false = ne_eqb part.parent v (λ e. apart (sym e)) in
               ap (λ (o : Option Window). if further then option_map f o else o) here
               ∙ sym (ap (λ (t : Bool). if t || further then option_map f (cur.window v) else cur.window v) off)
@@ -307,21 +307,21 @@ module _ (old : Windows) (sound : AreSoundWindows old) (w u line column : ℕ) (
     unfolding test
     handed-on = record {
       walk = next-walk;
-      size = step ∙ ap (λ (ws : Windows). record ws { window = changed cur.window part.parent (touching test) }) h.size
+      size = step ∙ ap (λ (ws : Windows). record ws { window = with_change cur.window part.parent (with_touches test) }) h.size
           ∙ ap (λ (ws : WindowMap). record old { window = ws }) (sym (ap (λ (ws : Windows). ws.window) step));
       same = λ v. ap (option_map untouched) (next_at v) ∙ untouched_if (v == part.parent) (cur.window v) test ∙ h.same v;
-      source = next_at w ∙ changed-other cur.window part.parent (touching test) w (λ e. other (sym e)) ∙ h.source;
+      source = next_at w ∙ changed-other cur.window part.parent (with_touches test) w (λ e. other (sym e)) ∙ h.source;
       rest = rest-next;
     }
 
 -- ---- at the last window
 
-pub handed-all : (old cur : Windows) (w u line column : ℕ) → (h : IsHandedTo old cur w u line column) → part_behind h.walk.above.backing ≡ None → cur ≡ after_copying old (Syncup (record { 0 = w }))
+pub handed-all : (old cur : Windows) (w u line column : ℕ) → (h : IsHandedTo old cur w u line column) → part_in_parent h.walk.above.backing ≡ None → cur ≡ after_copying old (Syncup (record { 0 = w }))
 handed-all old cur w u line column h last =
-    let grid = behind-none h.walk.above.backing last in
+    let grid = part-none h.walk.above.backing last in
     let none = ancestors-none old.window u h.walk.above grid.0 h.walk.at_is grid.1 in
     h.size ∙ ap (λ (ws : WindowMap). record old { window = ws }) (fun_ext (λ v.
-    sym (ap (λ (l : List ℕ). if list_any (λ p. p == v) l then option_map (touching (shows_touched_of old.window w v)) (cur.window v) else cur.window v) none) ∙ h.rest v))
+    sym (ap (λ (l : List ℕ). if list_any (λ p. p == v) l then option_map (with_touches (shows_touched_of old.window w v)) (cur.window v) else cur.window v) none) ∙ h.rest v))
 
 -- ---- taken down: what is touched of window u and of all on the way was taken
 
@@ -330,19 +330,19 @@ pub record IsTakenFrom (old cur : Windows) (w u line column : ℕ) : Type 0 wher
   pub size : cur ≡ record old { window = cur.window }
   pub same : (v : ℕ) → option_map untouched (cur.window v) ≡ option_map untouched (old.window v)
   pub others : (v : ℕ) → v ≢ w → cur.window v ≡ old.window v
-  pub rest : changed cur.window w (touching (λ y x. list_any (λ v. shows_touched_of old.window v w y x) (ancestors old.window u))) ≡ (after_copying old (Syncdown (record { 0 = w }))).window
+  pub rest : with_change cur.window w (with_touches (λ y x. list_any (λ v. shows_touched_of old.window v w y x) (ancestors old.window u))) ≡ (after_copying old (Syncdown (record { 0 = w }))).window
 
 pub taken-none : (windows : Windows) (w : ℕ) → IsSome (windows.window w) → IsTakenFrom windows windows w w 0 0
 taken-none windows w there = record { walk = Walk-start windows.window w there; size = refl; same = λ v. refl; others = λ v other. refl; rest = refl }
 
 module _ (old : Windows) (sound : AreSoundWindows old) (w u line column : ℕ) (part : Part) (walk : Walk old.window w u line column)
-    (behind : part_behind walk.above.backing ≡ Some part) (cur next : Windows) (h : IsTakenFrom old cur w u line column) (other : part.parent ≢ w)
-    (step : next ≡ record cur { window = changed cur.window w (touching (touched_shown cur.window part.parent (0, 0) (line + part.line, column + part.column))) }) where
+    (part_is : part_in_parent walk.above.backing ≡ Some part) (cur next : Windows) (h : IsTakenFrom old cur w u line column) (other : part.parent ≢ w)
+    (step : next ≡ record cur { window = with_change cur.window w (with_touches (touched_shown cur.window part.parent (0, 0) (line + part.line, column + part.column))) }) where
   taken : ℕ → ℕ → Bool
   taken = touched_shown cur.window part.parent (0, 0) (line + part.line, column + part.column)
 
   further-walk : Walk old.window w part.parent (line + part.line) (column + part.column)
-  further-walk = next-walk old sound w u line column part walk behind
+  further-walk = next-walk old sound w u line column part walk part_is
 
   taken-is : taken ≡ shows_touched_of old.window part.parent w
   unfolding taken further-walk
@@ -362,35 +362,36 @@ module _ (old : Windows) (sound : AreSoundWindows old) (w u line column : ℕ) (
   all-further : of_any ≡ or_further
   unfolding further of_any or_further
   all-further = fun_ext (λ y. fun_ext (λ x.
-      ap (list_any (λ v. shows_touched_of old.window v w y x)) (next-ancestors old sound w u line column part walk behind)
+      ap (list_any (λ v. shows_touched_of old.window v w y x)) (next-ancestors old sound w u line column part walk part_is)
       ∙ or-swap (shows_touched_of old.window part.parent w y x) (list_any (λ v. shows_touched_of old.window v w y x) (ancestors old.window part.parent))))
 
-  taken_at : next.window ≡ changed cur.window w (touching taken)
+  taken_at : next.window ≡ with_change cur.window w (with_touches taken)
   unfolding taken
   taken_at = ap (λ (ws : Windows). ws.window) step
 
   pub taken-on : IsTakenFrom old next w part.parent (line + part.line) (column + part.column)
   unfolding taken further further-walk of_any or_further
   taken-on = record {
-    walk = next-walk old sound w u line column part walk behind;
-    size = step ∙ ap (λ (ws : Windows). record ws { window = changed cur.window w (touching taken) }) h.size ∙ ap (λ (ws : WindowMap). record old { window = ws }) (sym taken_at);
+    walk = next-walk old sound w u line column part walk part_is;
+    size = step ∙ ap (λ (ws : Windows). record ws { window = with_change cur.window w (with_touches taken) }) h.size ∙ ap (λ (ws : WindowMap). record old { window = ws }) (sym taken_at);
     same = λ v. ap (λ (ws : WindowMap). option_map untouched (ws v)) taken_at ∙ untouched_if (v == w) (cur.window v) taken ∙ h.same v;
-    others = λ v apart. ap (λ (ws : WindowMap). ws v) taken_at ∙ changed-other cur.window w (touching taken) v apart ∙ h.others v apart;
+    others = λ v apart. ap (λ (ws : WindowMap). ws v) taken_at ∙ changed-other cur.window w (with_touches taken) v apart ∙ h.others v apart;
     rest =
-        ap (λ (ws : WindowMap). changed ws w (touching further)) taken_at
-        ∙ changed-twice cur.window w (touching taken) (touching further)
-        ∙ changed-same cur.window w (λ a. touching further (touching taken a)) (touching (λ y x. list_any (λ v. shows_touched_of old.window v w y x) (ancestors old.window u)))
+        ap (λ (ws : WindowMap). with_change ws w (with_touches further)) taken_at
+        ∙ changed-twice cur.window w (with_touches taken) (with_touches further)
+        ∙ changed-same cur.window w (λ a. with_touches further (with_touches taken a)) (with_touches (λ y x. list_any (λ v. shows_touched_of old.window v w y x) (ancestors old.window u)))
         (λ a is. touching-twice a further taken
-        ∙ ap (λ (t : ℕ → ℕ → Bool). touching (λ y x. further y x || t y x) a) taken-is
-        ∙ ap (λ (t : ℕ → ℕ → Bool). touching t a) (sym all-further))
+        ∙ ap (λ (t : ℕ → ℕ → Bool). with_touches (λ y x. further y x || t y x) a) taken-is
+        ∙ ap (λ (t : ℕ → ℕ → Bool). with_touches t a) (sym all-further))
         ∙ h.rest;
   }
 
-pub taken-all : (old cur : Windows) (w u line column : ℕ) → (h : IsTakenFrom old cur w u line column) → part_behind h.walk.above.backing ≡ None → cur ≡ after_copying old (Syncdown (record { 0 = w }))
+pub taken-all : (old cur : Windows) (w u line column : ℕ) → (h : IsTakenFrom old cur w u line column) → part_in_parent h.walk.above.backing ≡ None → cur
+    ≡ after_copying old (Syncdown (record { 0 = w }))
 taken-all old cur w u line column h last =
-    let grid = behind-none h.walk.above.backing last in
+    let grid = part-none h.walk.above.backing last in
     let none = ancestors-none old.window u h.walk.above grid.0 h.walk.at_is grid.1 in
     let nothing : ℕ → ℕ → Bool = λ y x. list_any (λ v. shows_touched_of old.window v w y x) (ancestors old.window u) in
     h.size ∙ ap (λ (ws : WindowMap). record old { window = ws })
-    (sym (changed-nothing cur.window w (touching nothing) (λ a is. touching-none a nothing (λ y x below on. ap (list_any (λ v. shows_touched_of old.window v w y x)) none)))
+    (sym (changed-nothing cur.window w (with_touches nothing) (λ a is. touching-none a nothing (λ y x below on. ap (list_any (λ v. shows_touched_of old.window v w y x)) none)))
     ∙ h.rest)

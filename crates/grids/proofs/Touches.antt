@@ -7,8 +7,8 @@ use Rattle.std.proofs.lemmas.Bool.{cases_eq, cases_lt, cond-true, cond-false, lt
 use Rattle.std.proofs.lemmas.Iterator.Adapters.{option_map_id}
 use Rattle.cell.specs.Pictures.{Place}
 use Rattle.cell.specs.declared.limits.TheConstants.{LARGEST_PAD}
-use Rattle.world.specs.Windows.{Window, WindowMap, Windows, changed, touched_below, joined_columns}
-use Rattle.world.specs.calls.Copying.{touching}
+use Rattle.world.specs.Windows.{Window, WindowMap, Windows, with_change, touched_below, joined_columns}
+use Rattle.world.specs.calls.Copying.{with_touches}
 use Rattle.world.specs.declared.settings.Columns.{Columns}
 use Rattle.slots.specs.Changes.{with_touched}
 use Rattle.grids.specs.steps.Syncs.{EndsWithin}
@@ -25,14 +25,14 @@ both_if : (t : Bool) (o : Option Window) (f g : Window → Window) → (if t the
 both_if true o f g = both o f g
 both_if false o f g = refl
 
-pub changed-twice : (window : WindowMap) (w : ℕ) (f g : Window → Window) → changed (changed window w f) w g ≡ changed window w (λ a. g (f a))
+pub changed-twice : (window : WindowMap) (w : ℕ) (f g : Window → Window) → with_change (with_change window w f) w g ≡ with_change window w (λ a. g (f a))
 changed-twice window w f g = fun_ext (λ u. both_if (u == w) (window u) f g)
 
 agrees_at : (o : Option Window) (f g : Window → Window) → ((a : Window) → o ≡ Some a → f a ≡ g a) → option_map f o ≡ option_map g o
 agrees_at None f g h = refl
 agrees_at (Some a) f g h = ap Some (h a refl)
 
-pub changed-same : (window : WindowMap) (w : ℕ) (f g : Window → Window) → ((a : Window) → window w ≡ Some a → f a ≡ g a) → changed window w f ≡ changed window w g
+pub changed-same : (window : WindowMap) (w : ℕ) (f g : Window → Window) → ((a : Window) → window w ≡ Some a → f a ≡ g a) → with_change window w f ≡ with_change window w g
 changed-same window w f g h = fun_ext (λ u. elim (cases_eq u w) [
   | inl same ↦
       let on = eq-eqb u w same in
@@ -48,13 +48,13 @@ same_if : (t : Bool) (o : Option Window) → (if t then option_map (λ a. a) o e
 same_if true o = option_map_id o
 same_if false o = refl
 
-pub changed-nothing : (window : WindowMap) (w : ℕ) (f : Window → Window) → ((a : Window) → window w ≡ Some a → f a ≡ a) → changed window w f ≡ window
+pub changed-nothing : (window : WindowMap) (w : ℕ) (f : Window → Window) → ((a : Window) → window w ≡ Some a → f a ≡ a) → with_change window w f ≡ window
 changed-nothing window w f h = changed-same window w f (λ a. a) h ∙ fun_ext (λ u. same_if (u == w) (window u))
 
-pub changed-other : (window : WindowMap) (w : ℕ) (f : Window → Window) (u : ℕ) → u ≢ w → changed window w f u ≡ window u
+pub changed-other : (window : WindowMap) (w : ℕ) (f : Window → Window) (u : ℕ) → u ≢ w → with_change window w f u ≡ window u
 changed-other window w f u other = cond-false (u == w) (option_map f (window u)) (window u) (ne_eqb u w other)
 
-pub changed-here : (window : WindowMap) (w : ℕ) (f : Window → Window) → changed window w f w ≡ option_map f (window w)
+pub changed-here : (window : WindowMap) (w : ℕ) (f : Window → Window) → with_change window w f w ≡ option_map f (window w)
 changed-here window w f = cond-true (w == w) (option_map f (window w)) (window w) (eq-eqb w w refl)
 
 -- ---- touching
@@ -68,10 +68,10 @@ touched-same (suc n) s t r h =
 
 -- what touches each line of a window in the same way
 pub touching-is : (a : Window) (touched : ℕ → Option Columns) (test : ℕ → ℕ → Bool)
-    → ((z : ℕ) → touched z ≡ (if nat_lt z a.lines then touched_below a.columns (test z) (a.touched z) else a.touched z)) → record a { touched = touched } ≡ touching test a
+    → ((z : ℕ) → touched z ≡ (if nat_lt z a.lines then touched_below a.columns (test z) (a.touched z) else a.touched z)) → record a { touched = touched } ≡ with_touches test a
 touching-is a touched test h = λ i. record a { touched = λ z. h z i }
 
-pub touching-same : (a : Window) (s t : ℕ → ℕ → Bool) → ((y x : ℕ) → y < a.lines → x < a.columns → s y x ≡ t y x) → touching s a ≡ touching t a
+pub touching-same : (a : Window) (s t : ℕ → ℕ → Bool) → ((y x : ℕ) → y < a.lines → x < a.columns → s y x ≡ t y x) → with_touches s a ≡ with_touches t a
 touching-same a s t h = touching-is a (λ z. if nat_lt z a.lines then touched_below a.columns (s z) (a.touched z) else a.touched z) t (λ z.
     elim (cases_lt z a.lines) [
       | inl below ↦
@@ -86,7 +86,7 @@ touching-same a s t h = touching-is a (λ z. if nat_lt z a.lines then touched_be
     ])
 
 -- nothing
-pub touching-none : (a : Window) (test : ℕ → ℕ → Bool) → ((y x : ℕ) → y < a.lines → x < a.columns → test y x ≡ false) → touching test a ≡ a
+pub touching-none : (a : Window) (test : ℕ → ℕ → Bool) → ((y x : ℕ) → y < a.lines → x < a.columns → test y x ≡ false) → with_touches test a ≡ a
 touching-none a test h = sym (touching-is a a.touched test (λ z. elim (cases_lt z a.lines) [
   | inl below ↦
       let on = lt-ltb z a.lines below in
@@ -132,7 +132,7 @@ module _ (a : Window) (test : ℕ → ℕ → Bool) (y : ℕ) (below : y < a.lin
       ∙ touched-same a.columns (λ x. nat_lt y (y + 1) && test y x) (test y) (a.touched y) (λ x lt. before-on (y + 1) y (test y x) (omega arith))
 
   -- no column of the line passes
-  pub line-none : ((x : ℕ) → x < a.columns → test y x ≡ false) → touching (before y test) a ≡ touching (before (y + 1) test) a
+  pub line-none : ((x : ℕ) → x < a.columns → test y x ≡ false) → with_touches (before y test) a ≡ with_touches (before (y + 1) test) a
   unfolding on_line
   line-none h = touching-is a (on_line y) (before (y + 1) test) (λ z. elim (cases_eq z y) [
     | inl same ↦
@@ -142,7 +142,7 @@ module _ (a : Window) (test : ℕ → ℕ → Bool) (y : ℕ) (below : y < a.lin
 
   -- those from first to last pass
   pub line-some : (first last : ℕ) → first ≤ last → last < a.columns → ((x : ℕ) → x < a.columns → test y x ≡ (nat_le first x && nat_le x last))
-      → with_touched y first last (touching (before y test) a) ≡ touching (before (y + 1) test) a
+      → with_touched y first last (with_touches (before y test) a) ≡ with_touches (before (y + 1) test) a
   unfolding on_line
   line-some first last ordered within h = touching-is a (λ z. if z == y then joined_columns (on_line y z) first last else on_line y z) (before (y + 1) test) (λ z. elim (cases_eq z y) [
     | inl same ↦
@@ -161,37 +161,37 @@ module _ (a : Window) (test : ℕ → ℕ → Bool) (y : ℕ) (below : y < a.lin
 
 module _ (w : Windows) (win : ℕ) (test : ℕ → ℕ → Bool) where
   abbrev pub touched_before : ℕ → Windows
-  touched_before k = record w { window = changed w.window win (touching (before k test)) }
+  touched_before k = record w { window = with_change w.window win (with_touches (before k test)) }
 
   pub none-before : w ≡ touched_before 0
-  none-before = ap (λ (ws : WindowMap). record w { window = ws }) (sym (changed-nothing w.window win (touching (before 0 test))
+  none-before = ap (λ (ws : WindowMap). record w { window = ws }) (sym (changed-nothing w.window win (with_touches (before 0 test))
       (λ a is. touching-none a (before 0 test) (λ y x below on. before-off 0 y (test y x) (omega arith)))))
 
-  pub all-before : (a : Window) → w.window win ≡ Some a → (k : ℕ) → a.lines ≤ k → touched_before k ≡ record w { window = changed w.window win (touching test) }
-  all-before a there k all = ap (λ (ws : WindowMap). record w { window = ws }) (changed-same w.window win (touching (before k test)) (touching test)
+  pub all-before : (a : Window) → w.window win ≡ Some a → (k : ℕ) → a.lines ≤ k → touched_before k ≡ record w { window = with_change w.window win (with_touches test) }
+  all-before a there k all = ap (λ (ws : WindowMap). record w { window = ws }) (changed-same w.window win (with_touches (before k test)) (with_touches test)
       (λ b is. touching-same b (before k test) test (λ y x below on. before-on k y (test y x) (let same : b ≡ a = cc in let lines = ap (λ (c : Window). c.lines) same in omega arith))))
 
   pub next-none : (a : Window) → w.window win ≡ Some a → (y : ℕ) → y < a.lines → ((x : ℕ) → x < a.columns → test y x ≡ false) → touched_before y ≡ touched_before (y + 1)
-  next-none a there y below h = ap (λ (ws : WindowMap). record w { window = ws }) (changed-same w.window win (touching (before y test)) (touching (before (y + 1) test))
-      (λ b is. let same : b ≡ a = cc in subst (λ (c : Window). touching (before y test) c ≡ touching (before (y + 1) test) c) (sym same) (line-none a test y below h)))
+  next-none a there y below h = ap (λ (ws : WindowMap). record w { window = ws }) (changed-same w.window win (with_touches (before y test)) (with_touches (before (y + 1) test))
+      (λ b is. let same : b ≡ a = cc in subst (λ (c : Window). with_touches (before y test) c ≡ with_touches (before (y + 1) test) c) (sym same) (line-none a test y below h)))
 
   pub next-some : (a : Window) → w.window win ≡ Some a → (y first last : ℕ) → y < a.lines → first ≤ last → last < a.columns → ((x : ℕ) → x < a.columns → test y x ≡ (nat_le first x && nat_le x last))
-      → (now next : Windows) → now ≡ touched_before y → next ≡ record now { window = changed now.window win (with_touched y first last) } → next ≡ touched_before (y + 1)
+      → (now next : Windows) → now ≡ touched_before y → next ≡ record now { window = with_change now.window win (with_touched y first last) } → next ≡ touched_before (y + 1)
   next-some a there y first last below ordered within h now next is step =
       step
-      ∙ ap (λ (u : Windows). record u { window = changed u.window win (with_touched y first last) }) is
+      ∙ ap (λ (u : Windows). record u { window = with_change u.window win (with_touched y first last) }) is
       ∙ ap (λ (ws : WindowMap). record w { window = ws })
-      (changed-twice w.window win (touching (before y test)) (with_touched y first last)
-      ∙ changed-same w.window win (λ b. with_touched y first last (touching (before y test) b)) (touching (before (y + 1) test))
-      (λ b is. let same : b ≡ a = cc in subst (λ (c : Window). with_touched y first last (touching (before y test) c) ≡ touching (before (y + 1) test) c) (sym same)
+      (changed-twice w.window win (with_touches (before y test)) (with_touched y first last)
+      ∙ changed-same w.window win (λ b. with_touched y first last (with_touches (before y test) b)) (with_touches (before (y + 1) test))
+      (λ b is. let same : b ≡ a = cc in subst (λ (c : Window). with_touched y first last (with_touches (before y test) c) ≡ with_touches (before (y + 1) test) c) (sym same)
       (line-some a test y below first last ordered within h)))
 
   -- the window keeps its size, and the others are as they were
-  pub touched-here : (k : ℕ) (cur : Windows) (a : Window) → cur ≡ touched_before k → w.window win ≡ Some a → cur.window win ≡ Some (touching (before k test) a)
-  touched-here k cur a is there = ap (λ (u : Windows). u.window win) is ∙ changed-here w.window win (touching (before k test)) ∙ ap (option_map (touching (before k test))) there
+  pub touched-here : (k : ℕ) (cur : Windows) (a : Window) → cur ≡ touched_before k → w.window win ≡ Some a → cur.window win ≡ Some (with_touches (before k test) a)
+  touched-here k cur a is there = ap (λ (u : Windows). u.window win) is ∙ changed-here w.window win (with_touches (before k test)) ∙ ap (option_map (with_touches (before k test))) there
 
   pub touched-other : (k : ℕ) (cur : Windows) (u : ℕ) → cur ≡ touched_before k → u ≢ win → cur.window u ≡ w.window u
-  touched-other k cur u is other = ap (λ (v : Windows). v.window u) is ∙ changed-other w.window win (touching (before k test)) u other
+  touched-other k cur u is other = ap (λ (v : Windows). v.window u) is ∙ changed-other w.window win (with_touches (before k test)) u other
 
 -- a window that is there
 pub there-and : (o : Option Window) (P : Window → Type 0) → IsSomeAnd o P → (a : Window) × (o ≡ Some a) × P a
@@ -206,7 +206,7 @@ pub record IsAtLine (w cur : Windows) (win source : ℕ) (at : Place) (test : �
   pub there : w.window win ≡ Some window
   pub fits : (at.0 + window.lines ≤ LARGEST_PAD) × (at.1 + window.columns ≤ LARGEST_PAD)
   pub below : y < window.lines
-  pub here : cur.window win ≡ Some (touching (before y test) window)
+  pub here : cur.window win ≡ Some (with_touches (before y test) window)
   pub same : cur.window source ≡ w.window source
 
 pub at-line : (w cur : Windows) (win source : ℕ) (at size : Place) (test : ℕ → ℕ → Bool) (y : ℕ) → win ≢ source → EndsWithin w.window win at

@@ -7,8 +7,9 @@ use Rattle.std.proofs.lemmas.Bool.{cases_eq, cases_lt, eqb-true, cond-true, cond
 use Rattle.std.proofs.lemmas.Iterator.Adapters.{option_map_id}
 use Rattle.std.proofs.lemmas.Bool.Decides.{nat_tests}
 use Rattle.cell.specs.Glyphs.{Glyph, blank}
-use Rattle.world.specs.Windows.{GridPlace, Window, WindowMap, Drawing, within, moved, laid_over, joined_columns, touched_below, touched_by, drawn, put_from, put_windows, put, HasPlace, own, cell_at}
-use Rattle.world.specs.Rows.{filled, listed, copied}
+use Rattle.world.specs.Windows.{GridPlace, Window, WindowMap, Drawing, within, grid_drawing, laid_over, joined_columns, touched_below, touched_by, after_drawing, put_from, put_windows, put}
+use Rattle.world.specs.Windows.{HasPlace, own, cell_at}
+use Rattle.world.specs.Rows.{filled_cells, listed_cells, copied_cells}
 use Rattle.world.specs.declared.settings.Columns.{Columns}
 use Rattle.slots.specs.Kept.{Kept, window_of}
 use Rattle.grids.specs.Tables.{WindowTable, windows}
@@ -55,17 +56,17 @@ touched-past left right test r h l (suc d) =
     let past : test (suc right + d) ≡ false = grind (arith, nat_tests, h (suc right + d)) in
     rw (add-suc, past) (touched-past left right test r h l d)
 
-row_test : (a : Window) (y left right : ℕ) (c : Glyph) → y < a.lines → right < a.columns → (z x : ℕ) → z ≡ y → is_some (within a (filled y left right c) z x) ≡ (nat_le left x && nat_le x right)
+row_test : (a : Window) (y left right : ℕ) (c : Glyph) → y < a.lines → right < a.columns → (z x : ℕ) → z ≡ y → is_some (within a (filled_cells y left right c) z x) ≡ (nat_le left x && nat_le x right)
 row_test a y left right c in_lines in_cols z x same = grind (arith, nat_tests)
 
-row_test_off : (a : Window) (y left right : ℕ) (c : Glyph) (z x : ℕ) → (z ≡ y → ⊥) → is_some (within a (filled y left right c) z x) ≡ false
+row_test_off : (a : Window) (y left right : ℕ) (c : Glyph) (z x : ℕ) → (z ≡ y → ⊥) → is_some (within a (filled_cells y left right c) z x) ≡ false
 row_test_off a y left right c z x other = grind (arith, nat_tests)
 
 -- a row that was written touches its columns
 touched-row : (a : Window) (y left right : ℕ) (c : Glyph) → y < a.lines → left ≤ right → right < a.columns → (z : ℕ)
-    → touched_by (filled y left right c) a z ≡ (if z == y then joined_columns (a.touched z) left right else a.touched z)
+    → touched_by (filled_cells y left right c) a z ≡ (if z == y then joined_columns (a.touched z) left right else a.touched z)
 touched-row a y left right c in_lines l in_cols z =
-    let test : ℕ → Bool = λ x. is_some (within a (filled y left right c) z x) in
+    let test : ℕ → Bool = λ x. is_some (within a (filled_cells y left right c) z x) in
     elim (cases_eq z y) [
       | inl same ↦
           let on : (z == y) ≡ true = eq-eqb z y same in
@@ -79,11 +80,11 @@ touched-row a y left right c in_lines l in_cols z =
     ]
 
 moved_row_at : (place : GridPlace) (a : Window) (y left right : ℕ) (c : Glyph) → y < a.lines → right < a.columns → (z x : ℕ)
-    → moved place (within a (filled y left right c)) z x ≡ filled (place.line + y) (place.column + left) (place.column + right) c z x
+    → grid_drawing place (within a (filled_cells y left right c)) z x ≡ filled_cells (place.line + y) (place.column + left) (place.column + right) c z x
 moved_row_at place a y left right c in_lines in_cols z x = grind (arith, nat_tests)
 
 moved-row : (place : GridPlace) (a : Window) (y left right : ℕ) (c : Glyph) → y < a.lines → right < a.columns
-    → moved place (within a (filled y left right c)) ≡ filled (place.line + y) (place.column + left) (place.column + right) c
+    → grid_drawing place (within a (filled_cells y left right c)) ≡ filled_cells (place.line + y) (place.column + left) (place.column + right) c
 moved-row place a y left right c in_lines in_cols = fun_ext (λ z. fun_ext (λ x. moved_row_at place a y left right c in_lines in_cols z x))
 
 -- the windows after one slot was changed
@@ -126,7 +127,7 @@ merged_by false false b f1 f2 touched y left right e h = refl
 
 -- what is written in a line through a window, which touches its columns from left to right, is one put
 pub put-any : (a0 a1 a2 : List (Option Kept)) (win : ℕ) (place : GridPlace) (k : Kept) (f g : Drawing) (y left right : ℕ) →
-    slot_at a0 win ≡ Some k → own (window_map a0) win 0 0 ≡ Some place → moved place (within (window_of k) f) ≡ g →
+    slot_at a0 win ≡ Some k → own (window_map a0) win 0 0 ≡ Some place → grid_drawing place (within (window_of k) f) ≡ g →
     ((z : ℕ) → touched_by f (window_of k) z ≡ (if z == y then joined_columns ((window_of k).touched z) left right else (window_of k).touched z)) →
     Changed a0 a1 place.grid (with_drawing g) → Changed a1 a2 win (with_touched y left right) → window_map a2 ≡ put_windows (window_map a0) win f
 put-any a0 a1 a2 win place k f g y left right e leads moved_is touched h1 h2 =
@@ -135,10 +136,10 @@ put-any a0 a1 a2 win place k f g y left right e leads moved_is touched h1 h2 =
     fun_ext (λ u.
     let both : window_map a2 u ≡ option_map (changed_at win (with_touched y left right) u) (option_map (changed_at place.grid (with_drawing g) u) (window_map a0 u)) =
     map-changed a1 a2 win (with_touched y left right) h2 u ∙ ap (option_map (changed_at win (with_touched y left right) u)) (map-changed a0 a1 place.grid (with_drawing g) h1 u) in
-    let put_is : put_windows (window_map a0) win f u ≡ option_map (drawn win a place f u) (window_map a0 u) =
+    let put_is : put_windows (window_map a0) win f u ≡ option_map (after_drawing win a place f u) (window_map a0 u) =
     ap (λ o. put_from (window_map a0) win o (own (window_map a0) win 0 0) f u) here ∙ ap (λ o. put_from (window_map a0) win (Some a) o f u) leads in
-    both ∙ option_map_both (window_map a0 u) (changed_at place.grid (with_drawing g) u) (changed_at win (with_touched y left right) u) (drawn win a place f u)
-    (λ b is. merged_by (u == place.grid) (u == win) b g (moved place (within a f)) (touched_by f b) y left right moved_is
+    both ∙ option_map_both (window_map a0 u) (changed_at place.grid (with_drawing g) u) (changed_at win (with_touched y left right) u) (after_drawing win a place f u)
+    (λ b is. merged_by (u == place.grid) (u == win) b g (grid_drawing place (within a f)) (touched_by f b) y left right moved_is
     (λ on. let same : b ≡ a = window_at a0 u win b a is here (eqb-true u win on) in rw same (fun_ext touched)))
     ∙ sym put_is)
 
@@ -148,14 +149,14 @@ some_and (Some k) y x h = (k, refl, h.0, h.1)
 
 pub windows-put_row : (t : WindowTable) (a1 a2 : List (Option Kept)) (win : ℕ) (place : GridPlace) (y left right : ℕ) (c : Glyph) →
     HasPlace (window_map t.slots) win y right → left ≤ right → own (window_map t.slots) win 0 0 ≡ Some place →
-    Changed t.slots a1 place.grid (with_drawing (filled (place.line + y) (place.column + left) (place.column + right) c)) →
+    Changed t.slots a1 place.grid (with_drawing (filled_cells (place.line + y) (place.column + left) (place.column + right) c)) →
     Changed a1 a2 win (with_touched y left right) →
-    windows (record t { slots = a2 }) ≡ put (windows t) win (filled y left right c)
+    windows (record t { slots = a2 }) ≡ put (windows t) win (filled_cells y left right c)
 windows-put_row t a1 a2 win place y left right c there l leads h1 h2 =
     let k = some_and (slot_at t.slots win) y right there in
     let a = window_of k.0 in
     ap (λ (ws : WindowMap). record (windows t) { window = ws })
-    (put-any t.slots a1 a2 win place k.0 (filled y left right c) (filled (place.line + y) (place.column + left) (place.column + right) c) y left right k.1 leads
+    (put-any t.slots a1 a2 win place k.0 (filled_cells y left right c) (filled_cells (place.line + y) (place.column + left) (place.column + right) c) y left right k.1 leads
     (moved-row place a y left right c k.2 k.3) (touched-row a y left right c k.2 l k.3) h1 h2)
 
 -- cells of a line, in columns side by side
@@ -164,7 +165,7 @@ abbrev side_by_side : ℕ → ℕ → ℕ → (ℕ → Glyph) → Drawing
 side_by_side dy dx n shown y x = if (y == dy) && (nat_le dx x && nat_lt x (dx + n)) then Some (shown (x - dx)) else None
 
 beside_test : (a : Window) (dy dx n : ℕ) (shown : ℕ → Glyph) (z x : ℕ) → 0 < n →
-    is_some (within a (side_by_side dy dx n shown) z x) ≡ is_some (within a (filled dy dx (dx + n - 1) blank) z x)
+    is_some (within a (side_by_side dy dx n shown) z x) ≡ is_some (within a (filled_cells dy dx (dx + n - 1) blank) z x)
 beside_test a dy dx n shown z x some = grind (arith, nat_tests)
 
 -- they touch their columns
@@ -190,19 +191,19 @@ beside_away : (place : GridPlace) (a : Window) (dy dx n z x : ℕ) (c1 c2 : Glyp
 beside_away place a dy dx n z x c1 c2 away = grind (arith, nat_tests)
 
 moved-beside : (place : GridPlace) (a : Window) (dy dx n : ℕ) (shown : ℕ → Glyph) (cells : List Glyph) → dy < a.lines → dx + n ≤ a.columns → length cells ≡ n →
-    ((k : ℕ) → k < n → get_or cells k blank ≡ shown k) → moved place (within a (side_by_side dy dx n shown)) ≡ listed (place.line + dy) (place.column + dx) cells
+    ((k : ℕ) → k < n → get_or cells k blank ≡ shown k) → grid_drawing place (within a (side_by_side dy dx n shown)) ≡ listed_cells (place.line + dy) (place.column + dx) cells
 moved-beside place a dy dx n shown cells in_lines in_columns all read = fun_ext (λ z. fun_ext (λ x.
     let was = shown (x - place.column - dx) in
     let held = get_or cells (x - (place.column + dx)) blank in
-    let away : ((z ≡ place.line + dy) → (place.column + dx ≤ x) → (x < place.column + dx + n) → ⊥) → moved place (within a (side_by_side dy dx n shown)) z x
-    ≡ listed (place.line + dy) (place.column + dx) cells z x =
+    let away : ((z ≡ place.line + dy) → (place.column + dx ≤ x) → (x < place.column + dx + n) → ⊥) → grid_drawing place (within a (side_by_side dy dx n shown)) z x
+    ≡ listed_cells (place.line + dy) (place.column + dx) cells z x =
     λ other. rw all (beside_away place a dy dx n z x was held other) in
     elim (cases_eq z (place.line + dy)) [
       | inr line ↦ away (λ e _ _. line e)
       | inl line ↦ elim (cases_lt x (place.column + dx)) [
         | inl before ↦ away (λ _ from _. omega arith)
         | inr from ↦ elim (cases_lt x (place.column + dx + n)) [
-          | inr behind ↦ away (λ _ _ to. omega arith)
+          | inr beyond ↦ away (λ _ _ to. omega arith)
           | inl to ↦
               let same : was ≡ held =
               ap shown (let e : x - place.column - dx ≡ x - (place.column + dx) = omega arith in e)
@@ -215,7 +216,7 @@ moved-beside place a dy dx n shown cells in_lines in_columns all read = fun_ext 
 windows-beside : (t : WindowTable) (a1 a2 : List (Option Kept)) (dst : ℕ) (place : GridPlace) (dy dx n : ℕ) (shown : ℕ → Glyph) (cells : List Glyph) →
     HasPlace (window_map t.slots) dst dy (dx + n - 1) → 0 < n → own (window_map t.slots) dst 0 0 ≡ Some place → length cells ≡ n →
     ((k : ℕ) → k < n → get_or cells k blank ≡ shown k) →
-    Changed t.slots a1 place.grid (with_drawing (listed (place.line + dy) (place.column + dx) cells)) →
+    Changed t.slots a1 place.grid (with_drawing (listed_cells (place.line + dy) (place.column + dx) cells)) →
     Changed a1 a2 dst (with_touched dy dx (dx + n - 1)) →
     windows (record t { slots = a2 }) ≡ put (windows t) dst (side_by_side dy dx n shown)
 windows-beside t a1 a2 dst place dy dx n shown cells there some leads all read h1 h2 =
@@ -223,7 +224,7 @@ windows-beside t a1 a2 dst place dy dx n shown cells there some leads all read h
     let a = window_of k.0 in
     let in_columns : dx + n ≤ a.columns = omega (arith, k.3) in
     ap (λ (ws : WindowMap). record (windows t) { window = ws })
-    (put-any t.slots a1 a2 dst place k.0 (side_by_side dy dx n shown) (listed (place.line + dy) (place.column + dx) cells) dy dx (dx + n - 1) k.1 leads
+    (put-any t.slots a1 a2 dst place k.0 (side_by_side dy dx n shown) (listed_cells (place.line + dy) (place.column + dx) cells) dy dx (dx + n - 1) k.1 leads
     (moved-beside place a dy dx n shown cells k.2 in_columns all read)
     (touched-beside a dy dx n shown k.2 k.3 some) h1 h2)
 
@@ -231,17 +232,17 @@ windows-beside t a1 a2 dst place dy dx n shown cells there some leads all read h
 pub windows-copied : (t : WindowTable) (a1 a2 : List (Option Kept)) (src dst : ℕ) (place : GridPlace) (sy sx dy dx n : ℕ) (cells : List Glyph) →
     HasPlace (window_map t.slots) dst dy (dx + n - 1) → 0 < n → own (window_map t.slots) dst 0 0 ≡ Some place → length cells ≡ n →
     ((k : ℕ) → k < n → get_or cells k blank ≡ cell_at (window_map t.slots) src sy (sx + k)) →
-    Changed t.slots a1 place.grid (with_drawing (listed (place.line + dy) (place.column + dx) cells)) →
+    Changed t.slots a1 place.grid (with_drawing (listed_cells (place.line + dy) (place.column + dx) cells)) →
     Changed a1 a2 dst (with_touched dy dx (dx + n - 1)) →
-    windows (record t { slots = a2 }) ≡ put (windows t) dst (copied (window_map t.slots) src sy sx dy dx n false)
+    windows (record t { slots = a2 }) ≡ put (windows t) dst (copied_cells (window_map t.slots) src sy sx dy dx n false)
 windows-copied t a1 a2 src dst place sy sx dy dx n cells there some leads all read h1 h2 =
     windows-beside t a1 a2 dst place dy dx n (λ k. cell_at (window_map t.slots) src sy (sx + k)) cells there some leads all read h1 h2
 
 -- cells of a list
 pub windows-listed : (t : WindowTable) (a1 a2 : List (Option Kept)) (win : ℕ) (place : GridPlace) (y left : ℕ) (cells : List Glyph) →
     HasPlace (window_map t.slots) win y (left + length cells - 1) → 0 < length cells → own (window_map t.slots) win 0 0 ≡ Some place →
-    Changed t.slots a1 place.grid (with_drawing (listed (place.line + y) (place.column + left) cells)) →
+    Changed t.slots a1 place.grid (with_drawing (listed_cells (place.line + y) (place.column + left) cells)) →
     Changed a1 a2 win (with_touched y left (left + length cells - 1)) →
-    windows (record t { slots = a2 }) ≡ put (windows t) win (listed y left cells)
+    windows (record t { slots = a2 }) ≡ put (windows t) win (listed_cells y left cells)
 windows-listed t a1 a2 win place y left cells there some leads h1 h2 =
     windows-beside t a1 a2 win place y left (length cells) (λ k. get_or cells k blank) cells there some leads refl (λ k below. refl) h1 h2

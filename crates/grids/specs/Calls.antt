@@ -44,7 +44,7 @@ abbrev pub its_flag : Bool → Reply
 its_flag flag = Flag flag
 
 -- a query was refused exactly by its tests; else this is its answer
-pub record Asked {T : Type 0} (table : WindowTable) (query : Query) (told : Option T) (r : Result T Refusal) : Type 0 where
+pub record Asked {T : Type 0} (table : WindowTable) (query : Query) (value : Option T) (r : Result T Refusal) : Type 0 where
   pub refused : result_err r ≡ query_refusal (windows table) query
-  pub answer : IfOk r (λ t. told ≡ Some t)
+  pub answer : IfOk r (λ t. value ≡ Some t)
   pub sound : AreSoundWindows (windows table)

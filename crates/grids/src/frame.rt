@@ -1,7 +1,7 @@
 //! Rectangles of a window.
 
 ghost use Rattle.std.specs.Prelude.{◌≡◌};
-ghost use Rattle.world.specs.Frames.{joined};
+ghost use Rattle.world.specs.Frames.{frame_of_two};
 
 use cell::Rect;
 
@@ -18,8 +18,8 @@ pub fn place(y: u16, x: u16) -> Rect
 }
 
 /// The smallest rectangle that holds two.
-pub fn joined(one: Option<Rect>, other: Option<Rect>) -> Option<Rect>
-    ensures { result ≡ joined one other }
+pub fn frame_of_two(one: Option<Rect>, other: Option<Rect>) -> Option<Rect>
+    ensures { result ≡ frame_of_two one other }
 {
     match (one, other) {
         (None, _) => other,

@@ -2,10 +2,10 @@
 
 ghost use Rattle.std.specs.Prelude.{◌≡◌, ◌≤◌, ◌+◌, IsSome, IsSomeAnd};
 ghost use Rattle.world.specs.Sound.{AreSoundWindows};
-ghost use Rattle.world.specs.Windows.{HasPlace, changed};
+ghost use Rattle.world.specs.Windows.{HasPlace, with_change};
 ghost use Rattle.world.specs.calls.Copying.{lines_marked};
 ghost use Rattle.world.specs.calls.Queries.{touched_columns};
-ghost use Rattle.world.specs.Effects.{unmarked};
+ghost use Rattle.world.specs.Effects.{without_marks};
 ghost use Rattle.world.specs.declared.call.Copying.{Copying};
 ghost use Rattle.grids.specs.Calls.{Marked, its_flag, nothing};
 ghost use Rattle.grids.specs.Tables.{windows};
@@ -17,14 +17,14 @@ use world::Columns;
 
 impl Grids {
     /// The touched columns of line `y` of a window. The line must exist.
-    pub fn touched(&self, win: WinId, y: u16) -> Option<Columns>
+    pub fn touched_columns(&self, win: WinId, y: u16) -> Option<Columns>
         requires { HasPlace (windows self.now).window win.0 y 0 }
         ensures columns { result ≡ touched_columns (windows self.now).window win.0 y }
         ensures sound { AreSoundWindows (windows self.now) }
     {
         prove!(self.is_sound());
         match self.slot(win) {
-            Ok(slot) => slot.touched(y),
+            Ok(slot) => slot.touched_columns(y),
             Err(_) => None,
         }
     }
@@ -32,7 +32,7 @@ impl Grids {
     /// Untouches all of a window, which asks for a clear screen no more. The window must exist.
     pub fn unmark(&mut self, win: WinId)
         requires { IsSome ((windows self.old).window win.0) }
-        ensures unmarked { windows self.new ≡ record (windows self.old) { window = changed (windows self.old).window win.0 unmarked } }
+        ensures unmarked { windows self.new ≡ record (windows self.old) { window = with_change (windows self.old).window win.0 without_marks } }
         ensures sound { AreSoundWindows (windows self.new) }
     {
         unmark_slot(&mut self.slots, win.0);
@@ -94,7 +94,7 @@ impl Grids {
     /// Touches lines, or untouches them. They must exist.
     fn mark(&mut self, win: WinId, first: u16, n: u16, flag: bool)
         requires { IsSomeAnd ((windows self.old).window win.0) (λ a. first + n ≤ a.lines) }
-        ensures touched { windows self.new ≡ record (windows self.old) { window = changed (windows self.old).window win.0 (lines_marked first n flag) } }
+        ensures touched { windows self.new ≡ record (windows self.old) { window = with_change (windows self.old).window win.0 (lines_marked first n flag) } }
         ensures sound { AreSoundWindows (windows self.new) }
     {
         mark_slot(&mut self.slots, win.0, first, n, flag);
@@ -113,7 +113,7 @@ impl Grids {
         if y >= slot.lines() {
             return Err(Refusal::OutsideWindow);
         }
-        Ok(slot.touched(y).is_some())
+        Ok(slot.touched_columns(y).is_some())
     }
 
     /// Whether some line of a window is touched.

@@ -7,7 +7,7 @@ ghost use Rattle.world.specs.calls.Copying.{rectangle_copied};
 ghost use Rattle.world.specs.Effects.{drawing_frame};
 ghost use Rattle.grids.specs.Tables.{windows};
 
-use crate::frame::joined;
+use crate::frame::frame_of_two;
 use crate::table::Grids;
 use cell::{Rect, WinId};
 use slots::Place;
@@ -79,12 +79,12 @@ impl Grids {
         if target.line + to.line <= source.line + from.line {
             'downward: for k in 0..lines {
                 let copied = self.copy_line(from.down_by(k), to.down_by(k), columns, overlay);
-                frame = joined(frame, copied);
+                frame = frame_of_two(frame, copied);
             }
         } else {
             'upward: for k in (0..lines).rev() {
                 let copied = self.copy_line(from.down_by(k), to.down_by(k), columns, overlay);
-                frame = joined(frame, copied);
+                frame = frame_of_two(frame, copied);
             }
         }
         frame

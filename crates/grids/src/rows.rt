@@ -3,14 +3,14 @@
 ghost use Rattle.std.specs.Prelude.{◌≡◌, ℕ, ◌<◌, ◌≤◌, ◌+◌, ◌-◌, is_some, length, map, slice_index, EachIndex, true, false};
 ghost use Rattle.std.specs.List.{AllByRecursion};
 ghost use Rattle.cell.specs.Glyphs.{IsCell, is_printable};
-ghost use Rattle.slots.specs.Inks.{inked};
+ghost use Rattle.slots.specs.Inks.{printed_cell};
 ghost use Rattle.world.specs.Windows.{HasPlace, cell_at, put};
 ghost use Rattle.world.specs.Sound.{AreSoundWindows};
-ghost use Rattle.world.specs.Rows.{filled, listed, overlaid, copied, line_shown};
+ghost use Rattle.world.specs.Rows.{filled_cells, listed_cells, overlaid_cell, copied_cells, line_shown};
 ghost use Rattle.world.specs.Effects.{drawing_frame};
 ghost use Rattle.grids.specs.Tables.{windows};
 
-use crate::frame::{joined, place};
+use crate::frame::{frame_of_two, place};
 use crate::table::Grids;
 use cell::{Cell, Rect, WinId};
 use slots::Place;
@@ -50,7 +50,7 @@ impl Grids {
     pub fn fill(&mut self, win: WinId, y: u16, left: u16, right: u16, cell: Cell)
         requires ordered { left ≤ right }
         requires there { HasPlace (windows self.old).window win.0 y right }
-        ensures written { windows self.new ≡ put (windows self.old) win.0 (filled y left right cell) }
+        ensures written { windows self.new ≡ put (windows self.old) win.0 (filled_cells y left right cell) }
         ensures sound { AreSoundWindows (windows self.new) }
     {
         let origin = origin_of(&self.slots, win.0);
@@ -73,7 +73,7 @@ impl Grids {
         requires some { 0 < length text.now }
         requires there { HasPlace (windows self.old).window win.0 y (left + length text.now - 1) }
         requires printable { EachIndex text.now (λ k. is_printable (slice_index text.now k) ≡ true) }
-        ensures written { windows self.new ≡ put (windows self.old) win.0 (listed y left (map (inked pen) text.now)) }
+        ensures written { windows self.new ≡ put (windows self.old) win.0 (listed_cells y left (map (printed_cell pen) text.now)) }
         ensures sound { AreSoundWindows (windows self.new) }
     {
         let origin = origin_of(&self.slots, win.0);
@@ -105,7 +105,7 @@ impl Grids {
     )
         requires from { 0 < n → HasPlace (windows self.old).window src.0 sy (sx + n - 1) }
         requires to { 0 < n → HasPlace (windows self.old).window dst.0 dy (dx + n - 1) }
-        ensures written { windows self.new ≡ put (windows self.old) dst.0 (copied (windows self.old).window src.0 sy sx dy dx n overlay) }
+        ensures written { windows self.new ≡ put (windows self.old) dst.0 (copied_cells (windows self.old).window src.0 sy sx dy dx n overlay) }
         ensures sound { AreSoundWindows (windows self.new) }
     {
         let from = Place {
@@ -135,9 +135,9 @@ impl Grids {
         requires some { 0 < n }
         requires from { HasPlace (windows self.old).window from.win.0 from.line (from.column + n - 1) }
         requires to { HasPlace (windows self.old).window to.win.0 to.line (to.column + n - 1) }
-        ensures written { windows self.new ≡ put (windows self.old) to.win.0 (copied
+        ensures written { windows self.new ≡ put (windows self.old) to.win.0 (copied_cells
             (windows self.old).window from.win.0 from.line from.column to.line to.column n overlay) }
-        ensures frame { result ≡ drawing_frame (windows self.old) to.win.0 (λ a. copied
+        ensures frame { result ≡ drawing_frame (windows self.old) to.win.0 (λ a. copied_cells
             (windows self.old).window from.win.0 from.line from.column to.line to.column n overlay) }
     {
         if overlay {
@@ -152,9 +152,9 @@ impl Grids {
         requires some { 0 < n }
         requires from { HasPlace (windows self.old).window from.win.0 from.line (from.column + n - 1) }
         requires to { HasPlace (windows self.old).window to.win.0 to.line (to.column + n - 1) }
-        ensures frame { result ≡ drawing_frame (windows self.old) to.win.0 (λ a. copied
+        ensures frame { result ≡ drawing_frame (windows self.old) to.win.0 (λ a. copied_cells
             (windows self.old).window from.win.0 from.line from.column to.line to.column n false) }
-        ensures written { windows self.new ≡ put (windows self.old) to.win.0 (copied
+        ensures written { windows self.new ≡ put (windows self.old) to.win.0 (copied_cells
             (windows self.old).window from.win.0 from.line from.column to.line to.column n false) }
     {
         let source = origin_of(&self.slots, from.win.0);
@@ -188,9 +188,9 @@ impl Grids {
         requires some { 0 < n }
         requires from { HasPlace (windows self.old).window from.win.0 from.line (from.column + n - 1) }
         requires to { HasPlace (windows self.old).window to.win.0 to.line (to.column + n - 1) }
-        ensures written { windows self.new ≡ put (windows self.old) to.win.0 (copied
+        ensures written { windows self.new ≡ put (windows self.old) to.win.0 (copied_cells
             (windows self.old).window from.win.0 from.line from.column to.line to.column n true) }
-        ensures frame { result ≡ drawing_frame (windows self.old) to.win.0 (λ a. copied
+        ensures frame { result ≡ drawing_frame (windows self.old) to.win.0 (λ a. copied_cells
             (windows self.old).window from.win.0 from.line from.column to.line to.column n true) }
     {
         let source = origin_of(&self.slots, from.win.0);
@@ -199,12 +199,12 @@ impl Grids {
         if target.column + to.column <= source.column + from.column {
             'forward: for k in 0..n {
                 let copied = self.overlay_cell(from.right_by(k), to.right_by(k));
-                frame = joined(frame, copied);
+                frame = frame_of_two(frame, copied);
             }
         } else {
             'backward: for k in (0..n).rev() {
                 let copied = self.overlay_cell(from.right_by(k), to.right_by(k));
-                frame = joined(frame, copied);
+                frame = frame_of_two(frame, copied);
             }
         }
         frame
@@ -214,9 +214,9 @@ impl Grids {
     fn overlay_cell(&mut self, from: Place, to: Place) -> Option<Rect>
         requires from { HasPlace (windows self.old).window from.win.0 from.line from.column }
         requires to { HasPlace (windows self.old).window to.win.0 to.line to.column }
-        ensures written { windows self.new ≡ put (windows self.old) to.win.0 (copied
+        ensures written { windows self.new ≡ put (windows self.old) to.win.0 (copied_cells
             (windows self.old).window from.win.0 from.line from.column to.line to.column 1 true) }
-        ensures frame { result ≡ drawing_frame (windows self.old) to.win.0 (λ a. copied
+        ensures frame { result ≡ drawing_frame (windows self.old) to.win.0 (λ a. copied_cells
             (windows self.old).window from.win.0 from.line from.column to.line to.column 1 true) }
     {
         let cell = self.cell(from.win, from.line, from.column);
@@ -231,7 +231,7 @@ impl Grids {
 
 /// Whether a cell isn't a space.
 fn is_visible(cell: Cell) -> bool
-    ensures { result ≡ is_some (overlaid true cell) }
+    ensures { result ≡ is_some (overlaid_cell true cell) }
 {
     cell.ch() != b' '
 }

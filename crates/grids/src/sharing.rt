@@ -7,7 +7,7 @@ ghost use Rattle.world.specs.Sound.{AreSoundWindows};
 ghost use Rattle.world.specs.Windows.{HasPlace, derives};
 ghost use Rattle.grids.specs.Tables.{windows};
 ghost use Rattle.slots.specs.Slots.{depth_at, in_parent};
-ghost use Rattle.grids.specs.steps.Syncs.{part_behind};
+ghost use Rattle.grids.specs.steps.Syncs.{part_in_parent};
 
 use crate::sync::clip;
 use crate::table::Grids;
@@ -76,7 +76,7 @@ impl Grids {
     /// The place of the parent that a derived window shows at a place of it. The place must exist.
     pub(crate) fn place_above(&self, at: Place) -> Option<Place>
         requires { HasPlace (windows self.now).window at.win.0 at.line at.column }
-        ensures next { IsSomeAnd ((windows self.now).window at.win.0) (λ a. result ≡ option_map (in_parent at) (part_behind a.backing)) }
+        ensures next { IsSomeAnd ((windows self.now).window at.win.0) (λ a. result ≡ option_map (in_parent at) (part_in_parent a.backing)) }
         ensures inside { MatchOption result ⊤ (λ next. HasPlace (windows self.now).window next.win.0 next.line next.column) }
         ensures depth { MatchOption result ⊤ (λ next. depth_at self.now.slots next.win.0 < depth_at self.now.slots at.win.0) }
     {

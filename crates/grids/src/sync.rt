@@ -3,8 +3,8 @@
 ghost use Rattle.std.specs.Prelude.{◌≡◌, ◌≢◌, ℕ, ◌<◌, ◌≤◌, ◌+◌, ◌-◌, ◌&&◌, nat_le, ⊤, IsSome, IsSomeAnd, MatchOption};
 ghost use Rattle.cell.specs.declared.limits.TheConstants.{LARGEST_PAD};
 ghost use Rattle.world.specs.Sound.{AreColumnsWithin};
-ghost use Rattle.world.specs.Windows.{HasPlace, changed};
-ghost use Rattle.world.specs.calls.Copying.{touching, after_copying};
+ghost use Rattle.world.specs.Windows.{HasPlace, with_change};
+ghost use Rattle.world.specs.calls.Copying.{with_touches, after_copying};
 ghost use Rattle.world.specs.declared.call.Copying.{Copying};
 ghost use Rattle.grids.specs.Calls.{Marked, nothing};
 ghost use Rattle.grids.specs.Tables.{windows};
@@ -79,8 +79,8 @@ impl Grids {
         requires window { EndsWithin (windows self.old).window win at }
         requires source { EndsWithin (windows self.old).window source source_at }
         ensures touched { windows self.new ≡ record (windows self.old) {
-          window = changed (windows self.old).window win
-              (touching (touched_shown (windows self.old).window source source_at at));
+          window = with_change (windows self.old).window win
+              (with_touches (touched_shown (windows self.old).window source source_at at));
         } }
         ensures depths { (u : ℕ) → depth_at self.new.slots u ≡ depth_at self.old.slots u }
     {
@@ -115,18 +115,18 @@ impl Grids {
         if line < source_at.0 || line - source_at.0 >= lines {
             return None;
         }
-        let touched = self.touched_columns(source, line - source_at.0);
+        let touched = self.touched_columns_of(source, line - source_at.0);
         clip(touched, source_at.1, at.1, columns)
     }
 
     /// The touched columns of a line of a window. The line must exist.
-    fn touched_columns(&self, win: u16, y: u16) -> Option<Columns>
+    fn touched_columns_of(&self, win: u16, y: u16) -> Option<Columns>
         requires { IsSomeAnd ((windows self.now).window win) (λ a. y < a.lines) }
         ensures columns { IsSomeAnd ((windows self.now).window win) (λ a. result ≡ a.touched y) }
         ensures within { IsSomeAnd ((windows self.now).window win) (λ a. AreColumnsWithin a.columns result) }
     {
         match &self.slots[usize::from(win)] {
-            Some(slot) => slot.touched(y),
+            Some(slot) => slot.touched_columns(y),
             None => None,
         }
     }
@@ -147,7 +147,7 @@ impl Grids {
         requires ordered { columns.first ≤ columns.last }
         requires there { HasPlace (windows self.old).window win y columns.last }
         ensures touched { windows self.new ≡ record (windows self.old) {
-          window = changed (windows self.old).window win
+          window = with_change (windows self.old).window win
               (with_touched y columns.first columns.last);
         } }
         ensures depths { (u : ℕ) → depth_at self.new.slots u ≡ depth_at self.old.slots u }

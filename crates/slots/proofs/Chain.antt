@@ -12,7 +12,7 @@ use Rattle.slots.specs.declared.slot.Part.{Part}
 use Rattle.slots.specs.declared.slot.Cells.{Cells}
 use Rattle.slots.specs.declared.slot.Cells.TheVariants.{Own, Shared}
 use Rattle.slots.specs.Kept.{Kept, IsKept, backing_of}
-use Rattle.slots.specs.Slots.{slot_at, window_map, FitsIn, StandsIn, IsChained, part_in, in_parent, depth_at, lines_at, columns_at}
+use Rattle.slots.specs.Slots.{slot_at, window_map, FitsIn, HasParentIn, IsChained, part_in, in_parent, depth_at, lines_at, columns_at}
 
 from_match : (o : Option Kept) (P : Kept → Type 0) → MatchOption o ⊥ P → (k : Kept) × (o ≡ Some k) × P k
 from_match None P h = absurd h
@@ -26,17 +26,17 @@ pub some_and : (o : Option Kept) (P : Kept → Type 0) → IsSomeAnd o P → (k 
 some_and None P h = absurd h
 some_and (Some k) P h = (k, refl, h)
 
-pub each_at : (slots : List (Option Kept)) → IsChained slots → (w : ℕ) (k : Kept) → slot_at slots w ≡ Some k → IsKept k × StandsIn slots k k.cells
+pub each_at : (slots : List (Option Kept)) → IsChained slots → (w : ℕ) (k : Kept) → slot_at slots w ≡ Some k → IsKept k × HasParentIn slots k k.cells
 each_at slots s w k e = rw e at (s.each w)
 
 -- the slot of a parent
 pub parent_at : (slots : List (Option Kept)) → IsChained slots → (w : ℕ) (k : Kept) (part : Part) → slot_at slots w ≡ Some k → k.cells ≡ Shared part
     → (p : Kept) × (slot_at slots part.parent ≡ Some p) × FitsIn k part p
 parent_at slots s w k part e is =
-    from_match (slot_at slots part.parent) (FitsIn k part) (subst (λ c. StandsIn slots k c) is (each_at slots s w k e).1)
+    from_match (slot_at slots part.parent) (FitsIn k part) (subst (λ c. HasParentIn slots k c) is (each_at slots s w k e).1)
 
 -- a slot with a grid is at the end of its chain
-depth_of_grid : (slots : List (Option Kept)) (k : Kept) (cells : Cells) → StandsIn slots k cells → 0 < k.depth → (part : Part) × (cells ≡ Shared part)
+depth_of_grid : (slots : List (Option Kept)) (k : Kept) (cells : Cells) → HasParentIn slots k cells → 0 < k.depth → (part : Part) × (cells ≡ Shared part)
 depth_of_grid slots k (Own sheet) h up = absurd (omega (arith, h))
 depth_of_grid slots k (Shared part) h up = (part, refl)
 

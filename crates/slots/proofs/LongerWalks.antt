@@ -23,15 +23,15 @@ own-more (suc n) (suc m) le window w y x s h =
     then-more (own_within n window) (own_within m window) s (λ v z u k. own-more n m (omega (arith, le)) window v z u s k) w y x (window w) h
 
 -- the place of the parent to which a place leads
-pub own_behind : (n : ℕ) (window : WindowMap) (u : ℕ) (b : Window) (part : Part) (y x : ℕ) → window u ≡ Some b → b.backing ≡ part_of part.parent part.line part.column
+pub own_of_part : (n : ℕ) (window : WindowMap) (u : ℕ) (b : Window) (part : Part) (y x : ℕ) → window u ≡ Some b → b.backing ≡ part_of part.parent part.line part.column
     → own_within (suc n) window u y x ≡ own_within n window part.parent (y + part.line) (x + part.column)
-own_behind n window u b part y x e is = rw (e, is) refl
+own_of_part n window u b part y x e is = rw (e, is) refl
 
 own_parent : (limit : ℕ) (window : WindowMap) (u : ℕ) (b : Window) (part : Part) (y x : ℕ) (s : GridPlace) → window u ≡ Some b → b.backing ≡ part_of part.parent part.line part.column
     → own_within limit window u y x ≡ Some s → own_within limit window part.parent (y + part.line) (x + part.column) ≡ Some s
 own_parent zero window u b part y x s e is h = cc
 own_parent (suc n) window u b part y x s e is h =
-    own-more n (suc n) (omega arith) window part.parent (y + part.line) (x + part.column) s (sym (own_behind n window u b part y x e is) ∙ h)
+    own-more n (suc n) (omega arith) window part.parent (y + part.line) (x + part.column) s (sym (own_of_part n window u b part y x e is) ∙ h)
 
 pub some_place : (o : Option GridPlace) → IsSome o → (p : GridPlace) × (o ≡ Some p)
 some_place None h = cc

@@ -40,8 +40,8 @@ module _ (slots : List (Option Kept)) where
       ∙ found (window_limit - (k + 1)) k (window_map slots) (window_map slots k) (is_none-window (slot_at slots k) ∙ h)
 
   -- the number after the last slot
-  pub search-behind : length slots < MOST_WINDOWS + 1 → search_from (length slots) ≡ Some (length slots)
-  search-behind lt = search-here (length slots) lt (ap (λ (o : Option Kept). is_none o) (get_or_past slots (length slots) None (omega arith)))
+  pub search-past : length slots < MOST_WINDOWS + 1 → search_from (length slots) ≡ Some (length slots)
+  search-past lt = search-here (length slots) lt (ap (λ (o : Option Kept). is_none o) (get_or_past slots (length slots) None (omega arith)))
 
   pub search-end : (k : ℕ) → MOST_WINDOWS + 1 ≤ k → search_from k ≡ None
   search-end k le = ap (λ m. free_among m k (window_map slots)) (let e : window_limit - k ≡ 0 = omega (arith, limit-is, le) in e)

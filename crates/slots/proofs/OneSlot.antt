@@ -8,7 +8,7 @@ use Rattle.slots.specs.declared.slot.Part.{Part}
 use Rattle.slots.specs.declared.slot.Cells.{Cells}
 use Rattle.slots.specs.declared.slot.Cells.TheVariants.{Own, Shared}
 use Rattle.slots.specs.Kept.{Kept, IsKept}
-use Rattle.slots.specs.Slots.{slot_at, part_in, FitsIn, StandsIn, IsChained}
+use Rattle.slots.specs.Slots.{slot_at, part_in, FitsIn, HasParentIn, IsChained}
 use Rattle.slots.specs.Changes.{SameShape, SetAt}
 
 pub SetAt-set : (slots : List (Option Kept)) (at : ℕ) (o : Option Kept) → length slots ≤ MOST_WINDOWS + 1 → at < length slots → SetAt slots (slice_set slots at o) at o
@@ -59,19 +59,19 @@ fits_more k part (Some p) (Some q) same h = record {
 }
 fits_more k part (Some p) None same h = absurd same
 
-stands_more : (old new : List (Option Kept)) → ((w : ℕ) → KeepsShape (slot_at old w) (slot_at new w)) → (k : Kept) (cells : Cells) → StandsIn old k cells → StandsIn new k cells
-stands_more old new same k (Own picture) h = h
-stands_more old new same k (Shared p) h = fits_more k p (slot_at old p.parent) (slot_at new p.parent) (same p.parent) h
+parent_more : (old new : List (Option Kept)) → ((w : ℕ) → KeepsShape (slot_at old w) (slot_at new w)) → (k : Kept) (cells : Cells) → HasParentIn old k cells → HasParentIn new k cells
+parent_more old new same k (Own picture) h = h
+parent_more old new same k (Shared p) h = fits_more k p (slot_at old p.parent) (slot_at new p.parent) (same p.parent) h
 
 each_more : (old new : List (Option Kept)) → ((w : ℕ) → KeepsShape (slot_at old w) (slot_at new w)) → (n : Option Kept)
-    → MatchOption n ⊤ (λ k. IsKept k × StandsIn old k k.cells) → MatchOption n ⊤ (λ k. IsKept k × StandsIn new k k.cells)
+    → MatchOption n ⊤ (λ k. IsKept k × HasParentIn old k k.cells) → MatchOption n ⊤ (λ k. IsKept k × HasParentIn new k k.cells)
 each_more old new same None h = h
-each_more old new same (Some k) h = (h.0, stands_more old new same k k.cells h.1)
+each_more old new same (Some k) h = (h.0, parent_more old new same k k.cells h.1)
 
 -- one slot is filled, with a window whose parent is there
 pub chained_set : (old new : List (Option Kept)) (at : ℕ) (j : Kept) → IsChained old → SetAt old new at (Some j) → KeepsShape (slot_at old at) (Some j)
-    → IsKept j → StandsIn old j j.cells → IsChained new
-chained_set old new at j s set shape kept stands =
+    → IsKept j → HasParentIn old j j.cells → IsChained new
+chained_set old new at j s set shape kept chained =
     let shapes : (w : ℕ) → KeepsShape (slot_at old w) (slot_at new w) = λ w. elim (cases_eq w at) [
       | inl same ↦ (let b = ap (slot_at new) same ∙ set.here in
           subst (λ n. KeepsShape (slot_at old w) n) (sym b) (subst (λ (v : ℕ). KeepsShape (slot_at old v) (Some j)) (sym same) shape))
@@ -79,7 +79,7 @@ chained_set old new at j s set shape kept stands =
     ] in
     record {
       each = λ w. each_more old new shapes (slot_at new w)
-          (each_set (λ k. IsKept k × StandsIn old k k.cells) old new at (Some j) set s.each (kept, stands) w);
+          (each_set (λ k. IsKept k × HasParentIn old k k.cells) old new at (Some j) set s.each (kept, chained) w);
     }
 
 -- ---- one slot has a window of the same shape
@@ -96,10 +96,10 @@ fits_too k j part s (Some p) h = record {
 }
 
 -- a window of the same shape and offset is where the other was
-pub stands_too : (slots : List (Option Kept)) (k j : Kept) → SameShape k j → (before after : Cells) → part_in after ≡ part_in before → StandsIn slots k before → StandsIn slots j after
-stands_too slots k j s (Own a) (Own b) e h = s.depth ∙ h
-stands_too slots k j s (Shared p) (Shared q) e h =
+pub parent_too : (slots : List (Option Kept)) (k j : Kept) → SameShape k j → (before after : Cells) → part_in after ≡ part_in before → HasParentIn slots k before → HasParentIn slots j after
+parent_too slots k j s (Own a) (Own b) e h = s.depth ∙ h
+parent_too slots k j s (Shared p) (Shared q) e h =
     let one : p ≡ q = cc in
     subst (λ (r : Part). MatchOption (slot_at slots r.parent) ⊥ (FitsIn j r)) one (fits_too k j p s (slot_at slots p.parent) h)
-stands_too slots k j s (Own a) (Shared q) e h = cc
-stands_too slots k j s (Shared p) (Own b) e h = cc
+parent_too slots k j s (Own a) (Shared q) e h = cc
+parent_too slots k j s (Shared p) (Own b) e h = cc

@@ -13,7 +13,7 @@ use Rattle.slots.specs.Slots.{IsChained, grid_place, slot_at, window_map}
 use Rattle.slots.specs.steps.Origins.{Led}
 use Rattle.slots.specs.Changes.{SameShape, SetAt, Settled}
 use Rattle.slots.proofs.Chain.{each_at}
-use Rattle.slots.proofs.OneSlot.{SetAt-set, chained_set, slot_below, stands_too, KeepsShape}
+use Rattle.slots.proofs.OneSlot.{SetAt-set, chained_set, slot_below, parent_too, KeepsShape}
 use Rattle.slots.proofs.Origins.{HasOrigin}
 
 -- those below this number are set
@@ -79,7 +79,7 @@ module _ (old cur new : List (Option Kept)) (n : ℕ) (origin : Origin) (few : l
         size = ap (λ (slots : List (Option Kept)). length slots) led.set ∙ length-set cur n (Some after) ∙ h.size;
         windows = windows-led ∙ h.windows;
         chained = chained_set cur new n after h.chained set_at (subst (λ o. KeepsShape o (Some after)) (sym led.was) shape) each.0
-            (stands_too cur led.before after shape led.before.cells led.before.cells refl each.1);
+            (parent_too cur led.before after shape led.before.cells led.before.cells refl each.1);
         below = λ w lt. elim (cases_eq w n) [
           | inl same ↦
               subst (λ (v : ℕ). MatchOption (slot_at new v) ⊤ (HasOrigin new v)) (sym same)

@@ -37,9 +37,9 @@ pub record Changed (old new : List (Option Kept)) (at : ℕ) (change : Window �
   pub stays : StaysInPlace before after
 
 -- another offset of a derived window in its parent
-abbrev pub shifted : ℕ → ℕ → Cells → Cells
-shifted y x (Own sheet) = Own sheet
-shifted y x (Shared part) = Shared (record part { line = y; column = x })
+abbrev pub with_new_offset : ℕ → ℕ → Cells → Cells
+with_new_offset y x (Own sheet) = Own sheet
+with_new_offset y x (Shared part) = Shared (record part { line = y; column = x })
 
 -- one derived window's offset was changed, and nothing else
 pub record Shifted (old new : List (Option Kept)) (at y x : ℕ) : Type 0 where
@@ -49,7 +49,7 @@ pub record Shifted (old new : List (Option Kept)) (at y x : ℕ) : Type 0 where
   pub set : new ≡ slice_set old at (Some after)
   pub window : window_of after ≡ with_part y x (window_of before)
   pub shape : SameShape before after
-  pub cells : after.cells ≡ shifted y x before.cells
+  pub cells : after.cells ≡ with_new_offset y x before.cells
   pub origin : after.origin ≡ before.origin
   pub kept : IsKept after
 

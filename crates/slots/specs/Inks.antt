@@ -3,5 +3,5 @@ use Rattle.std.specs.Prelude.{ℕ, if◌then◌else◌, ◌==◌}
 use Rattle.cell.specs.Glyphs.{Glyph}
 
 -- A character has the attributes and the pair of a pen; a space becomes the pen itself.
-abbrev pub inked : Glyph → ℕ → Glyph
-inked pen character = if character == 32 then pen else record pen { character = character }
+abbrev pub printed_cell : Glyph → ℕ → Glyph
+printed_cell pen character = if character == 32 then pen else record pen { character = character }

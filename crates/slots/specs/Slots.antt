@@ -45,13 +45,13 @@ pub record FitsIn (k : Kept) (part : Part) (parent : Kept) : Type 0 where
   pub depth : k.depth ≡ parent.depth + 1
   pub within : IsPartOf part.line part.column (window_of k) (window_of parent)
 
-abbrev pub StandsIn : List (Option Kept) → Kept → Cells → Type 0
-StandsIn slots k (Own sheet) = k.depth ≡ 0
-StandsIn slots k (Shared part) = MatchOption (slot_at slots part.parent) ⊥ (FitsIn k part)
+abbrev pub HasParentIn : List (Option Kept) → Kept → Cells → Type 0
+HasParentIn slots k (Own sheet) = k.depth ≡ 0
+HasParentIn slots k (Shared part) = MatchOption (slot_at slots part.parent) ⊥ (FitsIn k part)
 
 -- each slot has its shape, and each derived window its parent
 pub record IsChained (slots : List (Option Kept)) : Type 0 where
-  pub each : (w : ℕ) → MatchOption (slot_at slots w) ⊤ (λ k. IsKept k × StandsIn slots k k.cells)
+  pub each : (w : ℕ) → MatchOption (slot_at slots w) ⊤ (λ k. IsKept k × HasParentIn slots k k.cells)
 
 -- the place of a grid that it names
 abbrev pub grid_place : Origin → GridPlace

@@ -1,10 +1,11 @@
 //! Characters printed with a pen.
 
-ghost use Rattle.std.specs.Prelude.{◌≡◌, ℕ, ◌+◌, ◌-◌, ◌<◌, ◌≤◌, ◌==◌, ◌&&◌, nat_le, nat_lt, if◌then◌else◌, length, map, slice_index, slice_index_or, EachIndex, true};
+ghost use Rattle.std.specs.Prelude.{◌≡◌, ℕ, ◌+◌, ◌-◌, ◌<◌, ◌≤◌, ◌==◌, ◌&&◌, nat_le, nat_lt, if◌then◌else◌, length, map, slice_index, slice_index_or};
+ghost use Rattle.std.specs.Prelude.{EachIndex, true};
 ghost use Rattle.cell.specs.Glyphs.{IsCell, blank, is_printable};
 ghost use Rattle.cell.specs.declared.limits.TheConstants.{LARGEST_PAD};
 ghost use Rattle.cell.specs.Pictures.{EachCell, HasSize, cell_or, line_of};
-ghost use Rattle.slots.specs.Inks.{inked};
+ghost use Rattle.slots.specs.Inks.{printed_cell};
 
 use cell::{Cell, Element, Grid};
 
@@ -15,20 +16,20 @@ pub(crate) fn print_in(grid: &mut Grid<Cell>, y: usize, x: usize, text: &[u8], p
     requires short { x + length text.now ≤ LARGEST_PAD }
     requires printable { EachIndex text.now (λ k. is_printable (slice_index text.now k) ≡ true) }
     ensures shown { (v u : ℕ) → cell_or blank grid.new (v, u) ≡ (if (v == y) &&
-        (nat_le x u && nat_lt u (x + length text.now)) then slice_index_or (map (inked pen) text.now) (u - x) blank else cell_or blank grid.old (v, u)) }
+        (nat_le x u && nat_lt u (x + length text.now)) then slice_index_or (map (printed_cell pen) text.now) (u - x) blank else cell_or blank grid.old (v, u)) }
     ensures height { length grid.new ≡ length grid.old }
     ensures size { (lines columns : ℕ) → HasSize lines columns grid.old → HasSize lines columns grid.new }
     ensures cells { EachCell IsCell grid.old → EachCell IsCell grid.new }
 {
     for k in 0..text.len() {
-        grid.set(y, x + k, inked(pen, text[k]));
+        grid.set(y, x + k, printed_cell(pen, text[k]));
     }
 }
 
 /// The cell of a printed character.
-fn inked(pen: Cell, ch: u8) -> Cell
+fn printed_cell(pen: Cell, ch: u8) -> Cell
     requires { is_printable ch ≡ true }
-    ensures value { result ≡ inked pen ch }
+    ensures value { result ≡ printed_cell pen ch }
     ensures sound { IsCell result }
 {
     prove!(pen.is_sound());

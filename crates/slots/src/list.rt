@@ -1,17 +1,18 @@
 //! The slots of the windows, by number, and changes of one of them.
 
-ghost use Rattle.std.specs.Prelude.{◌≡◌, ◌≢◌, ℕ, ◌<◌, ◌≤◌, ◌+◌, ◌-◌, Some, None, IsSome, IsSomeAnd, MatchOption, ⊤, length, slice_index, slice_set, EachIndex, OnOk, OnErr, map, true};
+ghost use Rattle.std.specs.Prelude.{◌≡◌, ◌≢◌, ℕ, ◌<◌, ◌≤◌, ◌+◌, ◌-◌, Some, None, IsSome, IsSomeAnd, MatchOption, ⊤, length, slice_index, slice_set};
+ghost use Rattle.std.specs.Prelude.{EachIndex, OnOk, OnErr, map, true};
 ghost use Rattle.std.specs.List.{AllByRecursion, list_any, range_with_len};
 ghost use Rattle.cell.specs.Glyphs.{IsCell, is_printable};
 ghost use Rattle.std.specs.Option.{is_none};
 ghost use Rattle.world.specs.Windows.{own, cell_of};
 ghost use Rattle.world.specs.calls.Copying.{lines_marked};
-ghost use Rattle.world.specs.Effects.{unmarked, with_place};
-ghost use Rattle.world.specs.Rows.{filled, listed};
+ghost use Rattle.world.specs.Effects.{without_marks, with_place};
+ghost use Rattle.world.specs.Rows.{filled_cells, listed_cells};
 ghost use Rattle.world.specs.Settings.{set_in, with_cursor, with_settings};
 ghost use Rattle.world.specs.calls.Making.{has_derived, new_number};
 ghost use Rattle.slots.specs.Kept.{window_of};
-ghost use Rattle.slots.specs.Inks.{inked};
+ghost use Rattle.slots.specs.Inks.{printed_cell};
 ghost use Rattle.slots.specs.Slots.{slot_at, window_map, AreOrigins, IsChained, part_in, lines_at, columns_at, names_parent};
 ghost use Rattle.slots.specs.Changes.{Changed, Shifted, SetAt, IsFree, with_touched, with_drawing};
 
@@ -146,7 +147,7 @@ pub fn fill_row(
     requires taken { IsSome (slot_at slots.old.items at) }
     requires line_in { line < lines_at slots.old.items at }
     requires right_in { right < columns_at slots.old.items at }
-    ensures { Changed slots.old.items slots.new.items at (with_drawing (filled line left right cell)) }
+    ensures { Changed slots.old.items slots.new.items at (with_drawing (filled_cells line left right cell)) }
 {
     if let Some(slot) = &mut slots[usize::from(at)] {
         slot.fill(line, left, right, cell);
@@ -159,7 +160,7 @@ pub fn put_row(slots: &mut Vec<Option<Slot>>, at: u16, line: u16, left: u16, row
     requires line_in { line < lines_at slots.old.items at }
     requires columns_in { left + length row.now ≤ columns_at slots.old.items at }
     requires cells { AllByRecursion IsCell row.now }
-    ensures { Changed slots.old.items slots.new.items at (with_drawing (listed line left row.now)) }
+    ensures { Changed slots.old.items slots.new.items at (with_drawing (listed_cells line left row.now)) }
 {
     if let Some(slot) = &mut slots[usize::from(at)] {
         slot.put_row(line, left, row);
@@ -179,7 +180,7 @@ pub fn print_row(
     requires line_in { line < lines_at slots.old.items at }
     requires columns_in { left + length text.now ≤ columns_at slots.old.items at }
     requires printable { EachIndex text.now (λ k. is_printable (slice_index text.now k) ≡ true) }
-    ensures { Changed slots.old.items slots.new.items at (with_drawing (listed line left (map (inked pen) text.now))) }
+    ensures { Changed slots.old.items slots.new.items at (with_drawing (listed_cells line left (map (printed_cell pen) text.now))) }
 {
     if let Some(slot) = &mut slots[usize::from(at)] {
         slot.print(line, left, text, pen);
@@ -228,7 +229,7 @@ pub fn set_cursor(slots: &mut Vec<Option<Slot>>, at: u16, y: u16, x: u16)
 /// Untouches all of a slot's window, which asks for a clear screen no more.
 pub fn unmark_slot(slots: &mut Vec<Option<Slot>>, at: u16)
     requires { IsSome (slot_at slots.old.items at) }
-    ensures { Changed slots.old.items slots.new.items at unmarked }
+    ensures { Changed slots.old.items slots.new.items at without_marks }
 {
     if let Some(slot) = &mut slots[usize::from(at)] {
         slot.unmark();

@@ -1,19 +1,20 @@
 //! What the table keeps of one window.
 
-ghost use Rattle.std.specs.Prelude.{◌≡◌, ℕ, ◌<◌, ◌≤◌, ◌+◌, ◌^◌, ◌&&◌, nat_le, nat_lt, if◌then◌else◌, EachIndex, IfOk, IsSome, is_some, Some, None, length, map, replicate, slice_index, slice_index_or, true};
+ghost use Rattle.std.specs.Prelude.{◌≡◌, ℕ, ◌<◌, ◌≤◌, ◌+◌, ◌^◌, ◌&&◌, nat_le, nat_lt, if◌then◌else◌, EachIndex, IfOk, IsSome, is_some, Some, None, length};
+ghost use Rattle.std.specs.Prelude.{map, replicate, slice_index, slice_index_or, true};
 ghost use Rattle.std.specs.List.{AllByRecursion, list_any, range_with_len};
 ghost use Rattle.cell.specs.Glyphs.{IsCell, is_printable};
 ghost use Rattle.cell.specs.Pictures.{HasSize, AreCells};
 ghost use Rattle.world.specs.calls.Copying.{lines_marked};
-ghost use Rattle.world.specs.Effects.{unmarked, with_place, with_part};
-ghost use Rattle.world.specs.Rows.{filled, listed};
+ghost use Rattle.world.specs.Effects.{without_marks, with_place, with_part};
+ghost use Rattle.world.specs.Rows.{filled_cells, listed_cells};
 ghost use Rattle.world.specs.Settings.{set_in, with_cursor, with_settings};
 ghost use Rattle.world.specs.World.{new_window, first_settings, blank_grid};
 ghost use Rattle.world.specs.Windows.{any_below, laid_over, cell_of, part_of};
 ghost use Rattle.slots.specs.Kept.{window_of, backing_of, IsGridOf, IsKept, Kept, HasShape};
-ghost use Rattle.slots.specs.Inks.{inked};
+ghost use Rattle.slots.specs.Inks.{printed_cell};
 ghost use Rattle.slots.specs.Slots.{part_in, names_parent};
-ghost use Rattle.slots.specs.Changes.{with_touched, with_drawing, SameShape, shifted, StaysInPlace};
+ghost use Rattle.slots.specs.Changes.{with_touched, with_drawing, SameShape, with_new_offset, StaysInPlace};
 
 use crate::ink::print_in;
 use crate::touched::Touched;
@@ -182,7 +183,7 @@ impl Slot {
     }
 
     /// The touched columns of a line.
-    pub fn touched(&self, line: u16) -> Option<Columns>
+    pub fn touched_columns(&self, line: u16) -> Option<Columns>
         requires { line < self.now.lines }
         ensures { result ≡ (window_of self.now).touched line }
     {
@@ -279,7 +280,7 @@ impl Slot {
     pub fn shift(&mut self, y: u16, x: u16)
         ensures window { window_of self.new ≡ with_part y x (window_of self.old) }
         ensures shape { SameShape self.old self.new }
-        ensures cells { self.new.cells ≡ shifted y x self.old.cells }
+        ensures cells { self.new.cells ≡ with_new_offset y x self.old.cells }
         ensures origin { self.new.origin ≡ self.old.origin }
         ensures kept { IsKept self.new }
     {
@@ -301,7 +302,7 @@ impl Slot {
         requires line_in { line < self.old.lines }
         requires ordered { left ≤ right }
         requires right_in { right < self.old.columns }
-        ensures window { window_of self.new ≡ with_drawing (filled line left right cell) (window_of self.old) }
+        ensures window { window_of self.new ≡ with_drawing (filled_cells line left right cell) (window_of self.old) }
         ensures place { StaysInPlace self.old self.new }
     {
         if let Cells::Own(grid) = &mut self.cells {
@@ -316,7 +317,7 @@ impl Slot {
 
     /// Untouches all lines, and asks for a clear screen no more.
     pub fn unmark(&mut self)
-        ensures window { window_of self.new ≡ unmarked (window_of self.old) }
+        ensures window { window_of self.new ≡ without_marks (window_of self.old) }
         ensures place { StaysInPlace self.old self.new }
     {
         self.touched.fill(Touched::none());
@@ -359,7 +360,7 @@ impl Slot {
         requires line_in { line < self.old.lines }
         requires columns_in { left + length row.now ≤ self.old.columns }
         requires cells { AllByRecursion IsCell row.now }
-        ensures window { window_of self.new ≡ with_drawing (listed line left row.now) (window_of self.old) }
+        ensures window { window_of self.new ≡ with_drawing (listed_cells line left row.now) (window_of self.old) }
         ensures place { StaysInPlace self.old self.new }
     {
         if let Cells::Own(grid) = &mut self.cells {
@@ -373,7 +374,7 @@ impl Slot {
         requires line_in { line < self.old.lines }
         requires columns_in { left + length text.now ≤ self.old.columns }
         requires printable { EachIndex text.now (λ k. is_printable (slice_index text.now k) ≡ true) }
-        ensures window { window_of self.new ≡ with_drawing (listed line left (map (inked pen) text.now)) (window_of self.old) }
+        ensures window { window_of self.new ≡ with_drawing (listed_cells line left (map (printed_cell pen) text.now)) (window_of self.old) }
         ensures place { StaysInPlace self.old self.new }
     {
         if let Cells::Own(grid) = &mut self.cells {

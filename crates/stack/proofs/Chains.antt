@@ -4,14 +4,14 @@ use mathlib.Core.List.{reverse_aux}
 use Rattle.std.specs.List.{AllByRecursion}
 use Rattle.std.proofs.lemmas.Bool.{ne_eqb}
 use Rattle.stack.specs.Nodes.{AreOnce, IsChain, IsOut, way}
-use Rattle.stack.proofs.Orders.{out-back, out-front}
+use Rattle.stack.proofs.Orders.{out-back, out-prefix}
 
 -- ---- a chain alone
 
 module _ (above below : ℕ → ℕ) where
-  pub chain-front : (a p : ℕ) (xs ys : List ℕ) (z : ℕ) → IsChain above below a (xs ++ p ∷ ys) z → IsChain above below a xs p
-  chain-front a p [] ys z h = h.0
-  chain-front a p (x ∷ xs) ys z h = (h.0, chain-front x p xs ys z h.1)
+  pub chain-prefix : (a p : ℕ) (xs ys : List ℕ) (z : ℕ) → IsChain above below a (xs ++ p ∷ ys) z → IsChain above below a xs p
+  chain-prefix a p [] ys z h = h.0
+  chain-prefix a p (x ∷ xs) ys z h = (h.0, chain-prefix x p xs ys z h.1)
 
   pub chain-back : (a p : ℕ) (xs ys : List ℕ) (z : ℕ) → IsChain above below a (xs ++ p ∷ ys) z → IsChain above below p ys z
   chain-back a p [] ys z h = h.1
@@ -103,12 +103,12 @@ module _ (above below above' below' : ℕ → ℕ) where
             last h.1.1,
       )
   chain-removed p r a (x ∷ xs) ys z h once oa oz =
-      let front = chain-front above below x p xs ys z h.1 in
+      let prefix = chain-prefix above below x p xs ys z h.1 in
       let back = chain-back above below x p xs ys z h.1 in
       let oap = out-back a xs (p ∷ ys) oa.1 in
       let oxp = out-back x xs (p ∷ ys) once.0 in (
         (
-          r.aboves a oap.0 (not-last above below a x xs p front oa.0 (out-front a xs (p ∷ ys) oa.1)) ∙ h.0.0,
+          r.aboves a oap.0 (not-last above below a x xs p prefix oa.0 (out-prefix a xs (p ∷ ys) oa.1)) ∙ h.0.0,
           r.belows x oxp.0 (not-first above below x p ys z back (λ e. oz.0 (sym e)) oxp.1) ∙ h.0.1,
         ),
         chain-removed p r x xs ys z h.1 once.1 once.0 oz.1,

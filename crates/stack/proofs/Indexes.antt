@@ -7,7 +7,7 @@ use Rattle.std.proofs.lemmas.List.{length_push, take_all}
 use Rattle.cell.specs.declared.limits.TheConstants.{MOST_PANELS}
 use Rattle.cell.specs.declared.window.WinId.{WinId}
 use Rattle.std.specs.Option.{option_map}
-use Rattle.world.specs.Effects.{given}
+use Rattle.world.specs.Effects.{with_entry}
 use Rattle.stack.specs.Indexes.{held_by, holder_at, is_taken, window_limit, IsIndexed}
 use Rattle.stack.specs.Nodes.{no_node, node_at, above_at, below_at, window_at, window_in}
 use Rattle.stack.specs.steps.Entries.{Windowed}
@@ -57,9 +57,9 @@ module _ (nodes : List Node) (p : ℕ) (node : Node) (lt : p < length nodes) whe
   }
 
 -- as the code writes it, which has the end beside the others
-pub set-behind : (end : Node) (nodes : List Node) (p : ℕ) (node : Node) → 0 < p → set (end ∷ nodes) p node ≡ end ∷ set nodes (p - 1) node
-set-behind end nodes zero node some = absurd (omega arith)
-set-behind end nodes (suc p) node some = let e : p ≡ suc p - 1 = omega arith in ap (λ (k : ℕ). end ∷ set nodes k node) e
+pub set-past : (end : Node) (nodes : List Node) (p : ℕ) (node : Node) → 0 < p → set (end ∷ nodes) p node ≡ end ∷ set nodes (p - 1) node
+set-past end nodes zero node some = absurd (omega arith)
+set-past end nodes (suc p) node some = let e : p ≡ suc p - 1 = omega arith in ap (λ (k : ℕ). end ∷ set nodes k node) e
 
 -- a node that no panel has
 pub indexed-pushed : (nodes : List Node) (node : Node) (numbers holders holders' : List ℕ) → IsIndexed nodes numbers holders → length nodes ≤ MOST_PANELS → window_in node ≡ None
@@ -100,7 +100,7 @@ held-other : (o : Option ℕ) (p : ℕ) (holder : ℕ → ℕ) (w : ℕ) → (o 
 held-other None p holder w other = refl
 held-other (Some u) p holder w other = rw (ne_eqb w u (λ e. other (ap Some (sym e)))) refl
 
-taken-given : (window : ℕ → Option ℕ) (p : ℕ) (o : Option ℕ) (q : ℕ) → 0 < p → is_taken q (given window p o q) ≡ (if q == p then is_some o else is_taken q (window q))
+taken-given : (window : ℕ → Option ℕ) (p : ℕ) (o : Option ℕ) (q : ℕ) → 0 < p → is_taken q (with_entry window p o q) ≡ (if q == p then is_some o else is_taken q (window q))
 taken-given window p o q positive = elim (cases_eq q p) [
   | inl same ↦ rw (eq-eqb q p same) (rw (ne_eqb q 0 (λ e. omega arith)) refl)
   | inr other ↦ rw (ne_eqb q p other) refl
@@ -108,7 +108,7 @@ taken-given window p o q positive = elim (cases_eq q p) [
 
 -- the panel p has the window o now, which was in none
 module _ (old new : List Node) (numbers numbers' holders middle holders' : List ℕ) (p : ℕ) (o : Option ℕ) (h : IsIndexed old numbers holders) (positive : 0 < p) (lt : p < length old) where
-  module _ (len : length new ≡ length old) (windows : (q : ℕ) → window_at new q ≡ given (window_at old) p o q) (free : (q w : ℕ) → o ≡ Some w → window_at old q ≡ Some w → ⊥) where
+  module _ (len : length new ≡ length old) (windows : (q : ℕ) → window_at new q ≡ with_entry (window_at old) p o q) (free : (q w : ℕ) → o ≡ Some w → window_at old q ≡ Some w → ⊥) where
     module _ (released : (w : ℕ) → holder_at middle w ≡ held_by (window_at old p) 0 (holder_at holders) w) (held : (w : ℕ) → holder_at holders' w ≡ held_by o p (holder_at middle) w) where
       held-new : (w : ℕ) → o ≡ Some w → holder_at holders' w ≡ p
       held-new w is = held w ∙ held-same o p (holder_at middle) w is

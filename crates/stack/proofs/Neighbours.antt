@@ -7,8 +7,8 @@ use Rattle.std.proofs.lemmas.List.{append_assoc, reverse-append}
 use Rattle.world.specs.calls.Stacking.{first_in, next_in}
 use Rattle.stack.specs.Nodes.{above_at, below_at, AreOnce, IsChain, IsPanel, IsThreaded}
 use Rattle.stack.specs.declared.nodes.Node.{Node}
-use Rattle.stack.proofs.Chains.{chain-back, chain-front, chain-reverse, not-first}
-use Rattle.stack.proofs.Orders.{Split, any-split, any_is-out, each-back, each-front, each-reverse, next_in-split, once-after, once-before, out-reverse, out_or_in}
+use Rattle.stack.proofs.Chains.{chain-back, chain-prefix, chain-reverse, not-first}
+use Rattle.stack.proofs.Orders.{Split, any-split, any_is-out, each-back, each-prefix, each-reverse, next_in-split, once-after, once-before, out-reverse, out_or_in}
 use Rattle.stack.proofs.Threads.{panel-below, positive}
 
 -- a node's number, but for the end
@@ -79,8 +79,8 @@ module _ (nodes : List Node) (order : List ℕ) (h : IsThreaded nodes order) whe
       let once = subst AreOnce split.is h.once in
       let each = subst (λ (l : List ℕ). AllByRecursion (λ q. 0 < q) l) split.is (positive nodes order h) in
       chain-first (below_at nodes) (above_at nodes) p (reverse xs)
-      (chain-reverse (above_at nodes) (below_at nodes) 0 xs p (chain-front (above_at nodes) (below_at nodes) 0 p xs ys 0 chain))
-      (each-reverse (λ q. 0 < q) xs (each-front (λ q. 0 < q) xs (p ∷ ys) each))
+      (chain-reverse (above_at nodes) (below_at nodes) 0 xs p (chain-prefix (above_at nodes) (below_at nodes) 0 p xs ys 0 chain))
+      (each-reverse (λ q. 0 < q) xs (each-prefix (λ q. 0 < q) xs (p ∷ ys) each))
       ∙ sym (ap (λ l. next_in p (reverse l)) split.is ∙ ap (next_in p) (reverse-split p xs ys)
       ∙ next_in-split p (reverse ys) (reverse xs) (out-reverse p ys (once-after p xs ys once)))
 

@@ -13,9 +13,9 @@ pub out-append : (p : ℕ) (xs ys : List ℕ) → IsOut p xs → IsOut p ys → 
 out-append p [] ys h k = k
 out-append p (x ∷ xs) ys h k = (h.0, out-append p xs ys h.1 k)
 
-pub out-front : (p : ℕ) (xs ys : List ℕ) → IsOut p (xs ++ ys) → IsOut p xs
-out-front p [] ys h = tt
-out-front p (x ∷ xs) ys h = (h.0, out-front p xs ys h.1)
+pub out-prefix : (p : ℕ) (xs ys : List ℕ) → IsOut p (xs ++ ys) → IsOut p xs
+out-prefix p [] ys h = tt
+out-prefix p (x ∷ xs) ys h = (h.0, out-prefix p xs ys h.1)
 
 pub out-back : (p : ℕ) (xs ys : List ℕ) → IsOut p (xs ++ ys) → IsOut p ys
 out-back p [] ys h = h
@@ -53,7 +53,7 @@ once-after p xs ys h = (once-back xs (p ∷ ys) h).0
 pub once-without : (p : ℕ) (xs ys : List ℕ) → AreOnce (xs ++ p ∷ ys) → AreOnce (xs ++ ys)
 once-without p [] ys h = h.1
 once-without p (x ∷ xs) ys h =
-    (out-append x xs ys (out-front x xs (p ∷ ys) h.0) (out-back x xs (p ∷ ys) h.0).1, once-without p xs ys h.1)
+    (out-append x xs ys (out-prefix x xs (p ∷ ys) h.0) (out-back x xs (p ∷ ys) h.0).1, once-without p xs ys h.1)
 
 pub once-push : (p : ℕ) (xs : List ℕ) → AreOnce xs → IsOut p xs → AreOnce (xs ++ p ∷ [])
 once-push p [] h out = (tt, tt)
@@ -65,9 +65,9 @@ pub each-append : (P : ℕ → Type 0) (xs ys : List ℕ) → AllByRecursion P x
 each-append P [] ys h k = k
 each-append P (x ∷ xs) ys h k = (h.0, each-append P xs ys h.1 k)
 
-pub each-front : (P : ℕ → Type 0) (xs ys : List ℕ) → AllByRecursion P (xs ++ ys) → AllByRecursion P xs
-each-front P [] ys h = tt
-each-front P (x ∷ xs) ys h = (h.0, each-front P xs ys h.1)
+pub each-prefix : (P : ℕ → Type 0) (xs ys : List ℕ) → AllByRecursion P (xs ++ ys) → AllByRecursion P xs
+each-prefix P [] ys h = tt
+each-prefix P (x ∷ xs) ys h = (h.0, each-prefix P xs ys h.1)
 
 pub each-back : (P : ℕ → Type 0) (xs ys : List ℕ) → AllByRecursion P (xs ++ ys) → AllByRecursion P ys
 each-back P [] ys h = h

@@ -11,7 +11,7 @@ use Rattle.cell.specs.declared.window.WinId.{WinId}
 use Rattle.cell.specs.Refusals.{first_of}
 use Rattle.world.specs.Panels.{Panels, first_panels}
 use Rattle.world.specs.calls.Stacking.{after_del_panel, after_replace_panel, is_hidden, without, IsSoundEntry, IsSoundOrder, visible_tests}
-use Rattle.world.specs.Effects.{with_panel, given}
+use Rattle.world.specs.Effects.{with_panel, with_entry}
 use Rattle.stack.specs.Nodes.{no_node, node_at, window_at, window_in, from_bottom, IsOut, IsPanel, IsThreaded}
 use Rattle.stack.specs.Tables.{panels, table_of, IsPanelTable, PanelTable}
 use Rattle.stack.specs.steps.Entries.{Entered, IsFree, NodeMade, Windowed}
@@ -146,9 +146,9 @@ module _ (old new : List Node) (p : ℕ) (o : Option ℕ) (table : IsPanelTable 
         threaded = subst (λ (l : List ℕ). IsThreaded new l) (sym (windowed-is some)) (windowed-threaded some);
       }
 
-  pub windowed-panels : IsSome o ⊎ IsOut p (from_bottom old) → panels (table_of new) ≡ record { visible = from_bottom old; window = given ((panels (table_of old)).window) p o }
+  pub windowed-panels : IsSome o ⊎ IsOut p (from_bottom old) → panels (table_of new) ≡ record { visible = from_bottom old; window = with_entry ((panels (table_of old)).window) p o }
   windowed-panels some =
-      panels-are new (from_bottom old) (given ((panels (table_of old)).window) p o) (windowed-is some)
+      panels-are new (from_bottom old) (with_entry ((panels (table_of old)).window) p o) (windowed-is some)
       (λ q. windowed.window q ∙ ap (λ (w : Option ℕ). if q == p then o else w) (sym (window-is old q)))
 
 -- ---- the calls
@@ -168,7 +168,7 @@ module _ (old mid new : List Node) (p : ℕ) (table : IsPanelTable old) (panel :
   pub deleted-panels : panels (table_of new) ≡ after_del_panel (panels (table_of old)) p
   deleted-panels =
       windowed-panels mid new p None mid-table mid-panel windowed (inr out)
-      ∙ ap (λ (a : Panels). record { visible = a.visible; window = given a.window p None }) (reordered-panels old mid (without p (from_bottom old)) order)
+      ∙ ap (λ (a : Panels). record { visible = a.visible; window = with_entry a.window p None }) (reordered-panels old mid (without p (from_bottom old)) order)
 
 -- a panel's window is another
 module _ (old new : List Node) (p w : ℕ) (table : IsPanelTable old) (panel : IsPanel old p) (windowed : Windowed old new p (Some w)) where
@@ -198,7 +198,7 @@ module _ (old mid new : List Node) (p w : ℕ) (table : IsPanelTable old) (free 
   made-panels =
       reordered-panels mid new (from_bottom mid ++ p ∷ []) order
       ∙ ap (λ (a : Panels). record { visible = a.visible ++ p ∷ []; window = a.window })
-      (panels-are mid (from_bottom old) (given ((panels (table_of old)).window) p (Some w)) entered.is
+      (panels-are mid (from_bottom old) (with_entry ((panels (table_of old)).window) p (Some w)) entered.is
       (λ q. entered.window q ∙ ap (λ (o : Option ℕ). if q == p then Some w else o) (sym (window-is old q))))
 
 -- a number is a panel's

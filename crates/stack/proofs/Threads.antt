@@ -8,9 +8,9 @@ use Rattle.world.specs.calls.Stacking.{without}
 use Rattle.stack.specs.Nodes.{no_node, node_at, above_at, below_at, window_in, IsAlone, IsChain, IsOut, IsPanel, IsThreaded, from_bottom, from_top}
 use Rattle.stack.specs.steps.Links.{Linked, Reordered, SameWindows}
 use Rattle.stack.specs.declared.nodes.Node.{Node}
-use Rattle.stack.proofs.Chains.{Inserted, Removed, chain-back, chain-front, chain-pushed, chain-put, chain-removed, chain-reverse, first-each, last-each, not-first, not-last, way-chain}
-use Rattle.stack.proofs.Orders.{each-append, each-back, each-front, each-reverse, each-weaker, length-once, once-after, once-before, once-push, once-without, out-append, out-back, out-each}
-use Rattle.stack.proofs.Orders.{out-front, out_or_in, without-out, without-split}
+use Rattle.stack.proofs.Chains.{Inserted, Removed, chain-back, chain-prefix, chain-pushed, chain-put, chain-removed, chain-reverse, first-each, last-each, not-first, not-last, way-chain}
+use Rattle.stack.proofs.Orders.{each-append, each-back, each-prefix, each-reverse, each-weaker, length-once, once-after, once-before, once-push, once-without, out-append, out-back, out-each}
+use Rattle.stack.proofs.Orders.{out-prefix, out_or_in, without-out, without-split}
 
 -- ---- the order is what is threaded
 
@@ -82,8 +82,8 @@ module _ (nodes : List Node) (order : List ℕ) (h : IsThreaded nodes order) (so
         let chain = subst (λ (l : List ℕ). IsChain (above_at nodes) (below_at nodes) 0 l 0) split.is h.chain in
         let each = subst (λ (l : List ℕ). AllByRecursion (λ q. q < length nodes) l) split.is each-node in
         last-each (above_at nodes) (below_at nodes) (λ q. q < length nodes) 0 xs p
-        (chain-front (above_at nodes) (below_at nodes) 0 p xs split.after 0 chain)
-        (each-front (λ q. q < length nodes) xs (p ∷ split.after) each) some
+        (chain-prefix (above_at nodes) (below_at nodes) 0 p xs split.after 0 chain)
+        (each-prefix (λ q. q < length nodes) xs (p ∷ split.after) each) some
   ]
 
   pub top-below : below_at nodes 0 < length nodes
@@ -200,24 +200,24 @@ module _ (old new : List Node) (p : ℕ) (windows : SameWindows old new) (t : Tw
   left-split : (xs ys : List ℕ) → IsThreaded old (xs ++ p ∷ ys) → IsThreaded new (xs ++ ys)
   left-split xs ys h =
       let out_0 = out-end old (xs ++ p ∷ ys) h in
-      let front = chain-front (above_at old) (below_at old) 0 p xs ys 0 h.chain in
+      let prefix = chain-prefix (above_at old) (below_at old) 0 p xs ys 0 h.chain in
       let back = chain-back (above_at old) (below_at old) 0 p xs ys 0 h.chain in
       let r = removed (above_at old) (below_at old) (above_at new) (below_at new) p t
-      (not-last (above_at old) (below_at old) p 0 xs p front not-end (once-before p xs ys h.once))
+      (not-last (above_at old) (below_at old) p 0 xs p prefix not-end (once-before p xs ys h.once))
       (not-first (above_at old) (below_at old) p p ys 0 back not-end (once-after p xs ys h.once)) in
       record {
         chain = chain-removed (above_at old) (below_at old) (above_at new) (below_at new) p r 0 xs ys 0 h.chain h.once out_0 out_0;
         once = once-without p xs ys h.once;
         panels = panels-same old new windows (xs ++ ys)
-            (each-append (IsPanel old) xs ys (each-front (IsPanel old) xs (p ∷ ys) h.panels) (each-back (IsPanel old) xs (p ∷ ys) h.panels).1);
+            (each-append (IsPanel old) xs ys (each-prefix (IsPanel old) xs (p ∷ ys) h.panels) (each-back (IsPanel old) xs (p ∷ ys) h.panels).1);
         others = λ q lt few out. elim (cases_eq q p) [
           | inl same ↦ subst (λ (k : ℕ). IsAlone new k) (sym same) alone
           | inr other ↦
-              let out_xs = out-front q xs ys out in
+              let out_xs = out-prefix q xs ys out in
               let out_ys = out-back q xs ys out in
               let was = h.others q lt (subst (λ (n : ℕ). q < n) windows.length few) (out-append q xs (p ∷ ys) out_xs (other, out_ys)) in
               let q_0 : q ≡ 0 → ⊥ = λ e. omega arith in (
-                r.aboves q other (not-last (above_at old) (below_at old) q 0 xs p front q_0 out_xs) ∙ was.0,
+                r.aboves q other (not-last (above_at old) (below_at old) q 0 xs p prefix q_0 out_xs) ∙ was.0,
                 r.belows q other (not-first (above_at old) (below_at old) q p ys 0 back q_0 out_ys) ∙ was.1,
               )
         ];
@@ -254,7 +254,7 @@ module _ (old new : List Node) (p : ℕ) (windows : SameWindows old new) (panel 
         once = once-push p order h.once out;
         panels = panels-same old new windows (order ++ p ∷ []) (each-append (IsPanel old) order (p ∷ []) h.panels (panel, tt));
         others = λ q lt few out_q.
-            let out_order = out-front q order (p ∷ []) out_q in
+            let out_order = out-prefix q order (p ∷ []) out_q in
             let other = (out-back q order (p ∷ []) out_q).0 in
             let was = h.others q lt (subst (λ (n : ℕ). q < n) windows.length few) out_order in
             let q_0 : q ≡ 0 → ⊥ = λ e. omega arith in (

@@ -4,7 +4,7 @@ use mathlib.Core.Path.{fun_ext}
 use Rattle.std.specs.List.{AllByRecursion}
 use Rattle.std.proofs.lemmas.Bool.{cases_eq, cases_order, eq-eqb, ne_eqb}
 use Rattle.std.proofs.lemmas.List.{get_or_append_left, get_or_past, get_or_push, length_push}
-use Rattle.world.specs.Effects.{given}
+use Rattle.world.specs.Effects.{with_entry}
 use Rattle.stack.specs.Nodes.{no_node, node_at, above_at, below_at, window_at, window_in, from_bottom, IsChain, IsOut, IsPanel, IsThreaded}
 use Rattle.stack.specs.Tables.{panels, table_of}
 use Rattle.stack.specs.steps.Entries.{Windowed}
@@ -27,10 +27,10 @@ panels-are nodes visible window e f =
 
 -- ---- one window changes
 
-pub given-same : (window : ℕ → Option ℕ) (p : ℕ) (o : Option ℕ) (q : ℕ) → q ≡ p → given window p o q ≡ o
+pub given-same : (window : ℕ → Option ℕ) (p : ℕ) (o : Option ℕ) (q : ℕ) → q ≡ p → with_entry window p o q ≡ o
 given-same window p o q e = rw (eq-eqb q p e) refl
 
-pub given-other : (window : ℕ → Option ℕ) (p : ℕ) (o : Option ℕ) (q : ℕ) → (q ≡ p → ⊥) → given window p o q ≡ window q
+pub given-other : (window : ℕ → Option ℕ) (p : ℕ) (o : Option ℕ) (q : ℕ) → (q ≡ p → ⊥) → with_entry window p o q ≡ window q
 given-other window p o q e = rw (ne_eqb q p e) refl
 
 -- no window is in two panels
@@ -38,7 +38,7 @@ abbrev pub AreApart : (ℕ → Option ℕ) → Type 0
 AreApart window = (p q w : ℕ) → window p ≡ Some w → window q ≡ Some w → p ≡ q
 
 -- nor is it where a panel's window was in none
-pub apart-given : (window : ℕ → Option ℕ) (p : ℕ) (o : Option ℕ) → AreApart window → ((q w : ℕ) → o ≡ Some w → window q ≡ Some w → ⊥) → AreApart (given window p o)
+pub apart-given : (window : ℕ → Option ℕ) (p : ℕ) (o : Option ℕ) → AreApart window → ((q w : ℕ) → o ≡ Some w → window q ≡ Some w → ⊥) → AreApart (with_entry window p o)
 apart-given window p o apart new a b w ha hb = elim (cases_eq a p) [
   | inl same_a ↦ elim (cases_eq b p) [
     | inl same_b ↦ same_a ∙ sym same_b
@@ -53,13 +53,13 @@ apart-given window p o apart new a b w ha hb = elim (cases_eq a p) [
 -- ---- the order stays
 
 -- each of the order still has a window
-given-panel : (old new : List Node) (p : ℕ) (o : Option ℕ) → ((q : ℕ) → window_at new q ≡ given (window_at old) p o q) → (q : ℕ) → (q ≡ p → IsSome o) → IsPanel old q → IsPanel new q
+given-panel : (old new : List Node) (p : ℕ) (o : Option ℕ) → ((q : ℕ) → window_at new q ≡ with_entry (window_at old) p o q) → (q : ℕ) → (q ≡ p → IsSome o) → IsPanel old q → IsPanel new q
 given-panel old new p o windows q some h = elim (cases_eq q p) [
   | inl same ↦ (h.0, subst (λ (w : Option ℕ). IsSome w) (sym (windows q ∙ given-same (window_at old) p o q same)) (some same))
   | inr other ↦ (h.0, subst (λ (w : Option ℕ). IsSome w) (sym (windows q ∙ given-other (window_at old) p o q other)) h.1)
 ]
 
-given-panels : (old new : List Node) (p : ℕ) (o : Option ℕ) → ((q : ℕ) → window_at new q ≡ given (window_at old) p o q) → (order : List ℕ) → IsSome o ⊎ IsOut p order
+given-panels : (old new : List Node) (p : ℕ) (o : Option ℕ) → ((q : ℕ) → window_at new q ≡ with_entry (window_at old) p o q) → (order : List ℕ) → IsSome o ⊎ IsOut p order
     → AllByRecursion (IsPanel old) order → AllByRecursion (IsPanel new) order
 given-panels old new p o windows [] some h = tt
 given-panels old new p o windows (x ∷ order) (inl some) h =
@@ -94,7 +94,7 @@ module _ (nodes : List Node) (node : Node) where
       get_or_past (nodes ++ node ∷ []) q no_node (omega (arith, length_push nodes node))
       ∙ sym (get_or_past nodes q no_node (omega arith))
 
-  pub window-pushed : (q : ℕ) → window_at (nodes ++ node ∷ []) q ≡ given (window_at nodes) (length nodes) (window_in node) q
+  pub window-pushed : (q : ℕ) → window_at (nodes ++ node ∷ []) q ≡ with_entry (window_at nodes) (length nodes) (window_in node) q
   window-pushed q = elim (cases_order q (length nodes)) [
     | inl same ↦ ap window_in (node-last q same) ∙ sym (given-same (window_at nodes) (length nodes) (window_in node) q same)
     | inr differ ↦ elim differ [

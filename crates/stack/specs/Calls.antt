@@ -36,9 +36,9 @@ abbrev pub no_windows : Windows
 no_windows = record { lines = 0; columns = 0; window = λ w. None }
 
 -- a query was refused exactly by its tests; else this is what its answer says
-pub record Asked {T A : Type 0} (table : PanelTable) (query : Stacking) (told : A) (said_by : T → A) (r : Result T Refusal) : Type 0 where
+pub record Asked {T A : Type 0} (table : PanelTable) (query : Stacking) (value : A) (said_by : T → A) (r : Result T Refusal) : Type 0 where
   pub refused : result_err r ≡ stacking_refusal no_windows (panels table) query
-  pub answer : IfOk r (λ t. told ≡ said_by t)
+  pub answer : IfOk r (λ t. value ≡ said_by t)
 
 -- an answer says the number of a window, or yes or no
 abbrev pub window_number : WinId → Option ℕ

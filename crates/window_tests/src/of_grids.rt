@@ -10,7 +10,7 @@ fn touched(grids: &Grids, win: WinId, y: u16) -> Result<Option<(u16, u16)>, Fail
     if lines <= y {
         return Err("no such line".into());
     }
-    match grids.touched(win, y) {
+    match grids.touched_columns(win, y) {
         Some(columns) => Ok(Some((columns.first, columns.last))),
         None => Ok(None),
     }

@@ -8,7 +8,7 @@ use Rattle.world.specs.Settings.{set, with_cursor}
 use Rattle.world.specs.Drawings.{written_glyph, everywhere, lines_up, lines_down}
 use Rattle.world.specs.Frames.{frame_of}
 use Rattle.world.specs.Typing.{frame_if_there, drawn_to}
-use Rattle.world.specs.calls.Writing.{insch_drawing, delch_drawing, erase_drawing, clrtoeol_drawing, clrtobot_drawing, insertln_drawing, deleteln_drawing, cleared}
+use Rattle.world.specs.calls.Writing.{insch_drawing, delch_drawing, erase_drawing, clrtoeol_drawing, clrtobot_drawing, insertln_drawing, deleteln_drawing, after_clear}
 use Rattle.world.specs.Effects.{drawing_frame, after_edit, draws}
 use Rattle.cell.specs.declared.window.Rect.{Rect}
 use Rattle.windows.specs.steps.State.{IsStateOf, window_in_state}
@@ -43,9 +43,9 @@ module _ (windows : Windows) (w : ℕ) (s : WindowState) (h : IsStateOf windows 
   erased now new drawn moved =
       moved ∙ ap (λ v. set v w (with_cursor origin)) drawn ∙ sym (call-is (λ a. drawn_to windows w (erase_drawing a) origin) refl)
 
-  pub cleared-is : (now new : Windows) → now ≡ put windows w (everywhere s.settings.background) → new ≡ set now w cleared → new ≡ after_edit windows (draws w erase_drawing (Some cleared))
+  pub cleared-is : (now new : Windows) → now ≡ put windows w (everywhere s.settings.background) → new ≡ set now w after_clear → new ≡ after_edit windows (draws w erase_drawing (Some after_clear))
   cleared-is now new drawn settings =
-      settings ∙ ap (λ v. set v w cleared) drawn ∙ sym (call-is (λ a. set (put windows w (erase_drawing a)) w cleared) refl)
+      settings ∙ ap (λ v. set v w after_clear) drawn ∙ sym (call-is (λ a. set (put windows w (erase_drawing a)) w after_clear) refl)
 
   pub erased_frame : (r : Rect) → r ≡ record { top = 0; left = 0; bottom = s.lines - 1; right = s.columns - 1 } → Some r ≡ drawing_frame windows w erase_drawing
   erased_frame r e =

@@ -6,9 +6,9 @@ use Rattle.std.proofs.lemmas.Bool.Decides.{nat_tests}
 use Rattle.cell.specs.Glyphs.{Glyph}
 use Rattle.cell.specs.Pictures.{Place}
 use Rattle.world.specs.Windows.{Window, WindowMap, Windows, Drawing, cell_at, put}
-use Rattle.world.specs.Rows.{overlaid}
+use Rattle.world.specs.Rows.{overlaid_cell}
 use Rattle.world.specs.Frames.{Covers, frame_of}
-use Rattle.world.specs.calls.Copying.{common_copied, rectangle_copied}
+use Rattle.world.specs.calls.Copying.{common_cells, rectangle_copied}
 use Rattle.world.specs.calls.Queries.{place_on_screen}
 use Rattle.world.specs.Effects.{drawing_frame}
 use Rattle.world.proofs.PutLaws.{AreSame, put-same}
@@ -51,9 +51,9 @@ by_tests true false true true v u e f h = cc
 
 module _ (window : WindowMap) (src dst : ℕ) (a b : Window) (p q : Place) (there_src : window src ≡ Some a) (there_dst : window dst ≡ Some b)
     (place_src : a.place ≡ Some p) (place_dst : b.place ≡ Some q) (overlay : Bool) where
-  common-is : (y x : ℕ) → common_copied window src dst overlay y x
+  common-is : (y x : ℕ) → common_cells window src dst overlay y x
       ≡ (if (nat_le p.0 (q.0 + y) && nat_lt (q.0 + y) (p.0 + a.lines)) && (nat_le p.1 (q.1 + x) && nat_lt (q.1 + x) (p.1 + a.columns))
-      then overlaid overlay (cell_at window src (q.0 + y - p.0) (q.1 + x - p.1)) else None)
+      then overlaid_cell overlay (cell_at window src (q.0 + y - p.0) (q.1 + x - p.1)) else None)
   common-is y x = rw (there_dst, place_dst, there_src, place_src) refl
 
   -- the rectangle of the source, and that of the destination
@@ -61,16 +61,16 @@ module _ (window : WindowMap) (src dst : ℕ) (a b : Window) (p q : Place) (ther
   common_rectangle = rectangle_copied window src (max p.0 q.0 - p.0) (max p.1 q.1 - p.1) (max p.0 q.0 - q.0) (max p.1 q.1 - q.1)
       (min (p.0 + a.lines) (q.0 + b.lines) - max p.0 q.0) (min (p.1 + a.columns) (q.1 + b.columns) - max p.1 q.1) overlay
 
-  pub common-same : AreSame b (common_copied window src dst overlay) common_rectangle
+  pub common-same : AreSame b (common_cells window src dst overlay) common_rectangle
   common-same y x below on =
       common-is y x
       ∙ by_tests (nat_le p.0 (q.0 + y) && nat_lt (q.0 + y) (p.0 + a.lines)) (nat_le p.1 (q.1 + x) && nat_lt (q.1 + x) (p.1 + a.columns))
       (nat_le (max p.0 q.0 - q.0) y && nat_lt y (max p.0 q.0 - q.0 + (min (p.0 + a.lines) (q.0 + b.lines) - max p.0 q.0)))
       (nat_le (max p.1 q.1 - q.1) x && nat_lt x (max p.1 q.1 - q.1 + (min (p.1 + a.columns) (q.1 + b.columns) - max p.1 q.1)))
-      (overlaid overlay (cell_at window src (q.0 + y - p.0) (q.1 + x - p.1)))
-      (overlaid overlay (cell_at window src (max p.0 q.0 - p.0 + (y - (max p.0 q.0 - q.0))) (max p.1 q.1 - p.1 + (x - (max p.1 q.1 - q.1)))))
+      (overlaid_cell overlay (cell_at window src (q.0 + y - p.0) (q.1 + x - p.1)))
+      (overlaid_cell overlay (cell_at window src (max p.0 q.0 - p.0 + (y - (max p.0 q.0 - q.0))) (max p.1 q.1 - p.1 + (x - (max p.1 q.1 - q.1)))))
       (axis p.0 a.lines q.0 b.lines y below) (axis p.1 a.columns q.1 b.columns x on)
-      (λ lines columns. λ i. overlaid overlay (cell_at window src (axis_index p.0 a.lines q.0 b.lines y lines i) (axis_index p.1 a.columns q.1 b.columns x columns i)))
+      (λ lines columns. λ i. overlaid_cell overlay (cell_at window src (axis_index p.0 a.lines q.0 b.lines y lines i) (axis_index p.1 a.columns q.1 b.columns x columns i)))
 
 -- ---- the write of that rectangle
 
@@ -80,7 +80,7 @@ placed (Some b) a p e h = let same : b ≡ a = cc in subst (λ (w : Window). w.p
 
 module _ (w : Windows) (src dst : ℕ) (a b : Window) (p q : Place) (there_src : w.window src ≡ Some a) (there_dst : w.window dst ≡ Some b)
     (place_src : place_on_screen w.window src ≡ Some p) (place_dst : place_on_screen w.window dst ≡ Some q) (overlay : Bool) where
-  same_there : AreSame b (common_copied w.window src dst overlay) (common_rectangle w.window src dst a b p q there_src there_dst (placed (w.window src) a p there_src place_src)
+  same_there : AreSame b (common_cells w.window src dst overlay) (common_rectangle w.window src dst a b p q there_src there_dst (placed (w.window src) a p there_src place_src)
       (placed (w.window dst) b q there_dst place_dst) overlay)
   same_there = common-same w.window src dst a b p q there_src there_dst (placed (w.window src) a p there_src place_src) (placed (w.window dst) b q there_dst place_dst) overlay
 
@@ -88,11 +88,11 @@ module _ (w : Windows) (src dst : ℕ) (a b : Window) (p q : Place) (there_src :
   shared = rectangle_copied w.window src (max p.0 q.0 - p.0) (max p.1 q.1 - p.1) (max p.0 q.0 - q.0) (max p.1 q.1 - q.1)
       (min (p.0 + a.lines) (q.0 + b.lines) - max p.0 q.0) (min (p.1 + a.columns) (q.1 + b.columns) - max p.1 q.1) overlay
 
-  pub common-put : (next : Windows) → next ≡ put w dst shared → next ≡ put w dst (common_copied w.window src dst overlay)
-  common-put next h = h ∙ ap (λ (ws : WindowMap). record w { window = ws }) (sym (put-same w.window dst b (common_copied w.window src dst overlay) shared there_dst same_there))
+  pub common-put : (next : Windows) → next ≡ put w dst shared → next ≡ put w dst (common_cells w.window src dst overlay)
+  common-put next h = h ∙ ap (λ (ws : WindowMap). record w { window = ws }) (sym (put-same w.window dst b (common_cells w.window src dst overlay) shared there_dst same_there))
 
-  pub common-frame : drawing_frame w dst (λ c. shared) ≡ drawing_frame w dst (λ c. common_copied w.window src dst overlay)
+  pub common-frame : drawing_frame w dst (λ c. shared) ≡ drawing_frame w dst (λ c. common_cells w.window src dst overlay)
   common-frame =
       ap (λ (o : Option Window). option_and_then (λ c. frame_of c shared) o) there_dst
-      ∙ sym (frame-agrees b (common_copied w.window src dst overlay) shared same_there)
-      ∙ sym (ap (λ (o : Option Window). option_and_then (λ c. frame_of c (common_copied w.window src dst overlay)) o) there_dst)
+      ∙ sym (frame-agrees b (common_cells w.window src dst overlay) shared same_there)
+      ∙ sym (ap (λ (o : Option Window). option_and_then (λ c. frame_of c (common_cells w.window src dst overlay)) o) there_dst)

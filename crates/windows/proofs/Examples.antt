@@ -4,7 +4,7 @@ use Rattle.std.proofs.Common.{◌≡◌, ◌++◌, ◌+◌, ◌*◌, ℕ, List, 
 use Rattle.std.specs.Prelude.{is_some, negsuc, pos}
 use Rattle.cell.specs.Glyphs.{Glyph}
 use Rattle.cell.specs.Pictures.{origin}
-use Rattle.world.specs.Windows.{Window, WindowMap, Windows, no_windows, own_grid, put, replaced, window_limit}
+use Rattle.world.specs.Windows.{Window, WindowMap, Windows, no_windows, own_grid, put, with_window, window_limit}
 use Rattle.world.specs.World.{first_settings}
 use Rattle.world.specs.Rows.{line_shown}
 use Rattle.world.specs.Drawings.{at_place, character_deleted, character_inserted, everywhere, lines_down, lines_up, to_bottom, to_end_of_line}
@@ -31,7 +31,7 @@ lettered first = record {
 
 small : Windows
 unfolding lettered
-small = record { lines = 3; columns = 3; window = replaced (replaced no_windows 0 (Some (lettered 97))) 1 (Some (lettered 65)) }
+small = record { lines = 3; columns = 3; window = with_window (with_window no_windows 0 (Some (lettered 97))) 1 (Some (lettered 65)) }
 
 text : WindowMap → ℕ → List ℕ
 text window w =

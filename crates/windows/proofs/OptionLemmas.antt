@@ -9,7 +9,7 @@ use Rattle.cell.specs.declared.limits.TheConstants.{LAST_PAIR}
 use Rattle.std.specs.Prelude.{◌&&◌, nat_le}
 use Rattle.world.specs.Windows.{Windows}
 use Rattle.world.specs.Settings.{after_set_settings, set}
-use Rattle.world.specs.calls.Writing.{with_attributes, with_background, with_background_pair, with_pair, with_region, with_clear, with_scrolling, cleared, with_new_background}
+use Rattle.world.specs.calls.Writing.{with_attributes, with_background, with_background_pair, with_pair, with_region, with_clear, with_scrolling, after_clear, with_new_background}
 use Rattle.cell.specs.Attributes.{without}
 use Rattle.cell.specs.declared.attr.Attr.{Attr}
 use Rattle.world.specs.declared.settings.Settings.{Settings}
@@ -32,8 +32,8 @@ module _ (windows new : Windows) (w : ℕ) (s : WindowState) (h : IsStateOf wind
   clear_set flag is = set-known (record s.settings { clear = flag }) (with_clear flag) h.within.attributes refl is
 
   -- what clear sets
-  pub cleared_set : new ≡ after_set_settings windows w (record s.settings { cursor = origin; clear = true }) → new ≡ set windows w cleared
-  cleared_set is = set-known (record s.settings { cursor = origin; clear = true }) cleared h.within.attributes refl is
+  pub cleared_set : new ≡ after_set_settings windows w (record s.settings { cursor = origin; clear = true }) → new ≡ set windows w after_clear
+  cleared_set is = set-known (record s.settings { cursor = origin; clear = true }) after_clear h.within.attributes refl is
 
   pub region_set : (top bottom : ℕ) → new ≡ after_set_settings windows w (record s.settings { region = (top, bottom) }) → new ≡ set windows w (with_region top bottom)
   region_set top bottom is = set-known (record s.settings { region = (top, bottom) }) (with_region top bottom) h.within.attributes refl is

@@ -41,7 +41,7 @@ line_facts top left y x h = elim (cases_eq y top) [
   | inl same ↦ elim (cases_lt x left) [
     | inl before ↦ let o : nat_le left x ≡ false = grind (arith, nat_tests) in let e = eq-eqb y top same in
         let off : ((y == top) && nat_le left x) ≡ false = rw (e, o) refl in let apart : true ≡ false = sym h ∙ off in cc
-    | inr behind ↦ (omega arith, omega arith, omega arith)
+    | inr beyond ↦ (omega arith, omega arith, omega arith)
   ]
   | inr other ↦ let e = ne_eqb y top other in
       let off : ((y == top) && nat_le left x) ≡ false = rw e refl in let apart : true ≡ false = sym h ∙ off in cc
@@ -93,10 +93,10 @@ module _ (a : Window) (y x : ℕ) (below : y < a.lines) (on : x < a.columns) whe
 
   -- from a place on to the last line's end
   bottom-has : (v u : ℕ) (c : Glyph) → (y < v) ⊎ ((v ≡ y) × (x ≤ u)) → v < a.lines → u < a.columns → Covers (to_bottom (y, x) c) a.columns a.lines v u
-  bottom-has v u c (inl behind) h k = record {
+  bottom-has v u c (inl beyond) h k = record {
     below = h;
     left = k;
-    some = some-if (nat_lt y v || ((v == y) && nat_le x u)) c ∙ (let o = lt-ltb y v behind in rw o refl);
+    some = some-if (nat_lt y v || ((v == y) && nat_le x u)) c ∙ (let o = lt-ltb y v beyond in rw o refl);
   }
   bottom-has v u c (inr here) h k = record {
     below = h;
@@ -107,7 +107,7 @@ module _ (a : Window) (y x : ℕ) (below : y < a.lines) (on : x < a.columns) whe
 
   bottom-facts : (v u : ℕ) → (nat_lt y v || ((v == y) && nat_le x u)) ≡ true → (y < v) ⊎ ((y ≤ v) × (x ≤ u))
   bottom-facts v u h = elim (cases_lt y v) [
-    | inl behind ↦ inl behind
+    | inl beyond ↦ inl beyond
     | inr before ↦
         let o : nat_lt y v ≡ false = grind (arith, nat_tests) in
         let line : ((v == y) && nat_le x u) ≡ (nat_lt y v || ((v == y) && nat_le x u)) = rw o refl in
@@ -123,7 +123,7 @@ module _ (a : Window) (y x : ℕ) (below : y < a.lines) (on : x < a.columns) whe
             let row = there.below in let column = there.left in
             let facts : (y < v) ⊎ ((y ≤ v) × (x ≤ u)) = bottom-facts v u (sym (some-if (nat_lt y v || ((v == y) && nat_le x u)) c) ∙ there.some) in
             elim facts [
-              | inl behind ↦ absurd (omega arith)
+              | inl beyond ↦ absurd (omega arith)
               | inr here ↦ let k = here.0 in let l = here.1 in record { top = omega arith; bottom = omega arith; left = omega arith; right = omega arith }
             ];
         top = (x, bottom-has y x c (inr (refl, omega arith)) below on);
@@ -140,7 +140,7 @@ module _ (a : Window) (y x : ℕ) (below : y < a.lines) (on : x < a.columns) whe
             let row = there.below in let column = there.left in
             let facts : (y < v) ⊎ ((y ≤ v) × (x ≤ u)) = bottom-facts v u (sym (some-if (nat_lt y v || ((v == y) && nat_le x u)) c) ∙ there.some) in
             elim facts [
-              | inl behind ↦ record { top = omega arith; bottom = omega arith; left = omega arith; right = omega arith }
+              | inl beyond ↦ record { top = omega arith; bottom = omega arith; left = omega arith; right = omega arith }
               | inr here ↦ let k = here.0 in let l = here.1 in record { top = omega arith; bottom = omega arith; left = omega arith; right = omega arith }
             ];
         top = (x, bottom-has y x c (inr (refl, omega arith)) below on);

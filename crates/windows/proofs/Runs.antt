@@ -12,17 +12,17 @@ use Rattle.std.proofs.lemmas.List.Folds.{list_any-append}
 use Rattle.cell.specs.Glyphs.{Glyph, blank, is_printable}
 use Rattle.cell.specs.Pictures.{Place}
 use Rattle.cell.specs.declared.window.Rect.{Rect}
-use Rattle.world.specs.Windows.{Window, WindowMap, Windows, GridPlace, Drawing, leads, own, own_within, window_limit, over, changed, drawn, put_from, put_windows, put}
+use Rattle.world.specs.Windows.{Window, WindowMap, Windows, GridPlace, Drawing, leads, own, own_within, window_limit, over, with_change, after_drawing, put_from, put_windows, put}
 use Rattle.world.specs.Settings.{set_in, set, with_cursor}
-use Rattle.world.specs.Rows.{listed}
+use Rattle.world.specs.Rows.{listed_cells}
 use Rattle.world.specs.Drawings.{written_glyph, at_place}
-use Rattle.world.specs.Frames.{joined, frame_of}
+use Rattle.world.specs.Frames.{frame_of_two, frame_of}
 use Rattle.world.specs.Typing.{newline, carriage_return, backspace, drawn_to, line_ended, line_ended_frame, typed_in, typed_frame, after_character, frame_of_character, after_text, text_frame}
 use Rattle.world.specs.calls.Writing.{is_bad_character}
 use Rattle.world.specs.declared.settings.Settings.{Settings}
 use Rattle.world.proofs.WindowLaws.{own-put, put-nothing}
 use Rattle.world.proofs.PutLaws.{AreSame, put-then}
-use Rattle.grids.specs.Inks.{inked}
+use Rattle.grids.specs.Inks.{printed_cell}
 use Rattle.windows.specs.steps.State.{IsStateOf}
 use Rattle.windows.specs.declared.state.WindowState.{WindowState}
 use Rattle.windows.proofs.Calls.{with_state}
@@ -39,10 +39,10 @@ after-append [] two windows w = refl
 after-append (first ∷ one) two windows w = after-append one two (after_character windows w first) w
 
 frame-append : (one two : List ℕ) (windows : Windows) (w : ℕ)
-    → text_frame windows w (one ++ two) ≡ joined (text_frame windows w one) (text_frame (after_text windows w one) w two)
+    → text_frame windows w (one ++ two) ≡ frame_of_two (text_frame windows w one) (text_frame (after_text windows w one) w two)
 frame-append [] two windows w = refl
 frame-append (first ∷ one) two windows w =
-    ap (λ o. joined (frame_of_character windows w first) o) (frame-append one two (after_character windows w first) w)
+    ap (λ o. frame_of_two (frame_of_character windows w first) o) (frame-append one two (after_character windows w first) w)
     ∙ sym (joined-joined (frame_of_character windows w first) (text_frame (after_character windows w first) w one)
     (text_frame (after_text (after_character windows w first) w one) w two))
 
@@ -53,13 +53,13 @@ module _ (windows now new : Windows) (w : ℕ) (text rest : List ℕ) (count : �
       ap (λ v. after_text v w (drop count rest)) written ∙ sym (after-append (take count rest) (drop count rest) now w)
       ∙ ap (after_text now w) (take-append-drop count rest) ∙ before
 
-  pub frame_goes_on : (frame one next : Option Rect) → joined frame (text_frame now w rest) ≡ text_frame windows w text → one ≡ text_frame now w (take count rest)
-      → next ≡ joined frame one → joined next (text_frame new w (drop count rest)) ≡ text_frame windows w text
+  pub frame_goes_on : (frame one next : Option Rect) → frame_of_two frame (text_frame now w rest) ≡ text_frame windows w text → one ≡ text_frame now w (take count rest)
+      → next ≡ frame_of_two frame one → frame_of_two next (text_frame new w (drop count rest)) ≡ text_frame windows w text
   frame_goes_on frame one next before covered is =
-      ap (λ o. joined o (text_frame new w (drop count rest))) (is ∙ ap (joined frame) covered)
-      ∙ ap (λ v. joined (joined frame (text_frame now w (take count rest))) (text_frame v w (drop count rest))) written
+      ap (λ o. frame_of_two o (text_frame new w (drop count rest))) (is ∙ ap (frame_of_two frame) covered)
+      ∙ ap (λ v. frame_of_two (frame_of_two frame (text_frame now w (take count rest))) (text_frame v w (drop count rest))) written
       ∙ joined-joined frame (text_frame now w (take count rest)) (text_frame (after_text now w (take count rest)) w (drop count rest))
-      ∙ ap (joined frame) (sym (frame-append (take count rest) (drop count rest) now w) ∙ ap (text_frame now w) (take-append-drop count rest))
+      ∙ ap (frame_of_two frame) (sym (frame-append (take count rest) (drop count rest) now w) ∙ ap (text_frame now w) (take-append-drop count rest))
       ∙ before
 
 either-false : (s t : Bool) → (s || t) ≡ false → t ≡ false
@@ -117,23 +117,23 @@ leads-set change true (Some a) further u y x = refl
 leads-set change false o further u y x = refl
 
 own_within-set : (n : ℕ) (window : WindowMap) (w : ℕ) (change : Settings → Settings) (u y x : ℕ)
-    → own_within n (changed window w (set_in change)) u y x ≡ own_within n window u y x
+    → own_within n (with_change window w (set_in change)) u y x ≡ own_within n window u y x
 own_within-set zero window w change u y x = refl
 own_within-set (suc n) window w change u y x =
-    leads-set change (u == w) (window u) (own_within n (changed window w (set_in change))) u y x
+    leads-set change (u == w) (window u) (own_within n (with_change window w (set_in change))) u y x
     ∙ ap (λ (further : ℕ → ℕ → ℕ → Option GridPlace). option_and_then (λ (a : Window). leads further u y x a.backing) (window u))
     (fun_ext (λ v. fun_ext (λ z. fun_ext (λ k. own_within-set n window w change v z k))))
 
-own-set : (window : WindowMap) (w : ℕ) (change : Settings → Settings) (u y x : ℕ) → own (changed window w (set_in change)) u y x ≡ own window u y x
+own-set : (window : WindowMap) (w : ℕ) (change : Settings → Settings) (u y x : ℕ) → own (with_change window w (set_in change)) u y x ≡ own window u y x
 own-set window w change u y x = own_within-set window_limit window w change u y x
 
-window-set : (window : WindowMap) (w : ℕ) (change : Settings → Settings) (a : Window) → window w ≡ Some a → changed window w (set_in change) w ≡ Some (set_in change a)
+window-set : (window : WindowMap) (w : ℕ) (change : Settings → Settings) (a : Window) → window w ≡ Some a → with_change window w (set_in change) w ≡ Some (set_in change a)
 window-set window w change a there =
     if_true (w == w) (option_map (set_in change) (window w)) (window w) (eq-eqb w w refl) ∙ ap (option_map (set_in change)) there
 
 put_set-at : (w : ℕ) (a : Window) (p : GridPlace) (f : Drawing) (u : ℕ) (place : Place) (t : Bool) (o : Option Window)
-    → option_map (drawn w (set_in (with_cursor place) a) p f u) (if t then option_map (set_in (with_cursor place)) o else o)
-    ≡ (let d = option_map (drawn w a p f u) o in if t then option_map (set_in (with_cursor place)) d else d)
+    → option_map (after_drawing w (set_in (with_cursor place) a) p f u) (if t then option_map (set_in (with_cursor place)) o else o)
+    ≡ (let d = option_map (after_drawing w a p f u) o in if t then option_map (set_in (with_cursor place)) d else d)
 put_set-at w a p f u place true None = refl
 put_set-at w a p f u place true (Some b) = refl
 put_set-at w a p f u place false None = refl
@@ -144,7 +144,7 @@ put-set : (windows : Windows) (w : ℕ) (a : Window) (p : GridPlace) (f : Drawin
     → put (set windows w (with_cursor place)) w f ≡ set (put windows w f) w (with_cursor place)
 put-set windows w a p f place there spot =
     let map = windows.window in
-    let moved = changed map w (set_in (with_cursor place)) in
+    let moved = with_change map w (set_in (with_cursor place)) in
     let here : moved w ≡ Some (set_in (with_cursor place) a) = window-set map w (with_cursor place) a there in
     let at : own moved w 0 0 ≡ Some p = own-set map w (with_cursor place) w 0 0 ∙ spot in
     ap (λ (m : WindowMap). record windows { window = m }) (fun_ext (λ u.
@@ -195,10 +195,10 @@ module _ (windows : Windows) (w : ℕ) (a : Window) (there : windows.window w �
 
 -- ---- a cell and those after it
 
-listed-at : (y x : ℕ) (cells : List Glyph) (v u : ℕ) → ((v == y) && (nat_le x u && nat_lt u (x + length cells))) ≡ true → listed y x cells v u ≡ Some (get_or cells (u - x) blank)
+listed-at : (y x : ℕ) (cells : List Glyph) (v u : ℕ) → ((v == y) && (nat_le x u && nat_lt u (x + length cells))) ≡ true → listed_cells y x cells v u ≡ Some (get_or cells (u - x) blank)
 listed-at y x cells v u h = rw h refl
 
-listed-none : (y x : ℕ) (cells : List Glyph) (v u : ℕ) → ((v == y) && (nat_le x u && nat_lt u (x + length cells))) ≡ false → listed y x cells v u ≡ None
+listed-none : (y x : ℕ) (cells : List Glyph) (v u : ℕ) → ((v == y) && (nat_le x u && nat_lt u (x + length cells))) ≡ false → listed_cells y x cells v u ≡ None
 listed-none y x cells v u h = rw h refl
 
 place-at : (y x : ℕ) (g : Glyph) (v u : ℕ) → (v == y && u == x) ≡ true → at_place (y, x) g v u ≡ Some g
@@ -207,9 +207,9 @@ place-at y x g v u h = rw h refl
 place-none : (y x : ℕ) (g : Glyph) (v u : ℕ) → (v == y && u == x) ≡ false → at_place (y, x) g v u ≡ None
 place-none y x g v u h = rw h refl
 
-listed-more : (a : Window) (y x : ℕ) (g : Glyph) (cells : List Glyph) → AreSame a (over (listed y (x + 1) cells) (at_place (y, x) g)) (listed y x (g ∷ cells))
+listed-more : (a : Window) (y x : ℕ) (g : Glyph) (cells : List Glyph) → AreSame a (over (listed_cells y (x + 1) cells) (at_place (y, x) g)) (listed_cells y x (g ∷ cells))
 listed-more a y x g cells v u below on =
-    let more = listed y (x + 1) cells in
+    let more = listed_cells y (x + 1) cells in
     let one = at_place (y, x) g in
     elim (cases_eq v y) [
       | inr other ↦
@@ -245,7 +245,7 @@ listed-more a y x g cells v u below on =
                             let next : u - x ≡ suc (u - (x + 1)) = omega arith in
                             over-some more one v u (get_or cells (u - (x + 1)) blank) (listed-at y (x + 1) cells v u (rw (l, one_on, to) refl))
                             ∙ sym (listed-at y x (g ∷ cells) v u (rw (l, from, to_end) refl) ∙ ap (λ i. Some (get_or (g ∷ cells) i blank)) next)
-                        | inr behind ↦
+                        | inr beyond ↦
                             let none : nat_lt u (x + 1 + length cells) ≡ false = grind (arith, nat_tests) in
                             let none_more : nat_lt u (x + length (g ∷ cells)) ≡ false = grind (arith, nat_tests) in
                             over-none more one v u (listed-none y (x + 1) cells v u (rw (l, one_on, none) refl)) ∙ place-none y x g v u (rw (l, k) refl)
@@ -263,17 +263,17 @@ EachPrinted run = (k : ℕ) → k < length run → is_printable (get_or run k 0)
 -- a write, and then the cursor at a place, and another write of the same line that ends in it
 written-more : (windows : Windows) (w : ℕ) (a : Window) (p : GridPlace) (y x : ℕ) (g : Glyph) (cells : List Glyph) (one last : Place) → windows.window w ≡ Some a
     → own windows.window w 0 0 ≡ Some p
-    → set (put (drawn_to windows w (at_place (y, x) g) one) w (listed y (x + 1) cells)) w (with_cursor last)
-    ≡ set (put windows w (listed y x (g ∷ cells))) w (with_cursor last)
+    → set (put (drawn_to windows w (at_place (y, x) g) one) w (listed_cells y (x + 1) cells)) w (with_cursor last)
+    ≡ set (put windows w (listed_cells y x (g ∷ cells))) w (with_cursor last)
 written-more windows w a p y x g cells one last there spot =
     let f = at_place (y, x) g in
-    let h = listed y (x + 1) cells in
+    let h = listed_cells y (x + 1) cells in
     let first = put windows w f in
     ap (λ v. set v w (with_cursor last))
-    (put-set first w (drawn w a p f w a) p h one (window-put windows.window w a p f there spot) (own-put windows.window w f w 0 0 ∙ spot))
+    (put-set first w (after_drawing w a p f w a) p h one (window-put windows.window w a p f there spot) (own-put windows.window w f w 0 0 ∙ spot))
     ∙ set-twice (put first w h) w one last
     ∙ ap (λ (map : WindowMap). set (record windows { window = map }) w (with_cursor last))
-    (put-then windows.window w a f h (listed y x (g ∷ cells)) there (listed-more a y x g cells))
+    (put-then windows.window w a f h (listed_cells y x (g ∷ cells)) there (listed-more a y x g cells))
 
 set_nothing-at : (a : Window) (place : Place) (t : Bool) (o : Option Window) → (t ≡ true → o ≡ Some a) → place ≡ a.settings.cursor
     → (if t then option_map (set_in (with_cursor place)) o else o) ≡ o
@@ -289,10 +289,10 @@ empty_test y x v u = elim (cases_lt u x) [
 ]
 
 nothing-written : (windows : Windows) (w : ℕ) (a : Window) (y x : ℕ) (place : Place) → windows.window w ≡ Some a → place ≡ a.settings.cursor
-    → windows ≡ set (put windows w (listed y x [])) w (with_cursor place)
+    → windows ≡ set (put windows w (listed_cells y x [])) w (with_cursor place)
 nothing-written windows w a y x place there same =
-    let none : (v u : ℕ) → listed y x [] v u ≡ None = λ v u. listed-none y x [] v u (empty_test y x v u) in
-    sym (ap (λ (map : WindowMap). set (record windows { window = map }) w (with_cursor place)) (put-nothing windows.window w (listed y x []) none)
+    let none : (v u : ℕ) → listed_cells y x [] v u ≡ None = λ v u. listed-none y x [] v u (empty_test y x v u) in
+    sym (ap (λ (map : WindowMap). set (record windows { window = map }) w (with_cursor place)) (put-nothing windows.window w (listed_cells y x []) none)
     ∙ ap (λ (map : WindowMap). record windows { window = map })
     (fun_ext (λ u. set_nothing-at a place (u == w) (windows.window u) (λ t. ap windows.window (eqb-true u w t) ∙ there) same)))
 
@@ -300,7 +300,7 @@ nothing-written windows w a y x place there same =
 run_written : (run : List ℕ) (windows : Windows) (w : ℕ) (a : Window) (p : GridPlace) → windows.window w ≡ Some a → own windows.window w 0 0 ≡ Some p → EachPrinted run
     → a.settings.cursor.1 + length run < a.columns
     → after_text windows w run
-    ≡ set (put windows w (listed a.settings.cursor.0 a.settings.cursor.1 (map (written_glyph a.settings) run))) w (with_cursor (a.settings.cursor.0, a.settings.cursor.1 + length run))
+    ≡ set (put windows w (listed_cells a.settings.cursor.0 a.settings.cursor.1 (map (written_glyph a.settings) run))) w (with_cursor (a.settings.cursor.0, a.settings.cursor.1 + length run))
 unfolding EachPrinted
 run_written [] windows w a p there spot printed inside =
     nothing-written windows w a a.settings.cursor.0 a.settings.cursor.1 (a.settings.cursor.0, a.settings.cursor.1 + 0) there
@@ -311,9 +311,9 @@ run_written (first ∷ run) windows w a p there spot printed inside =
     let g = written_glyph a.settings first in
     let cells = map (written_glyph a.settings) run in
     let one = drawn_to windows w (at_place (y, x) g) (y, x + 1) in
-    let next = set_in (with_cursor (y, x + 1)) (drawn w a p (at_place (y, x) g) w a) in
+    let next = set_in (with_cursor (y, x + 1)) (after_drawing w a p (at_place (y, x) g) w a) in
     let here : one.window w ≡ Some next =
-    window-set (put_windows windows.window w (at_place (y, x) g)) w (with_cursor (y, x + 1)) (drawn w a p (at_place (y, x) g) w a)
+    window-set (put_windows windows.window w (at_place (y, x) g)) w (with_cursor (y, x + 1)) (after_drawing w a p (at_place (y, x) g) w a)
     (window-put windows.window w a p (at_place (y, x) g) there spot) in
     let at : own one.window w 0 0 ≡ Some p =
     own-set (put_windows windows.window w (at_place (y, x) g)) w (with_cursor (y, x + 1)) w 0 0 ∙ own-put windows.window w (at_place (y, x) g) w 0 0 ∙ spot in
@@ -322,7 +322,7 @@ run_written (first ∷ run) windows w a p there spot printed inside =
     ap (λ v. after_text v w run) (after-printed windows w a there first (printed 0 (omega arith)) fits)
     ∙ run_written run one w next p here at (λ k below. printed (suc k) (omega arith)) (omega arith)
     ∙ written-more windows w a p y x g cells (y, x + 1) (y, x + 1 + length run) there spot
-    ∙ ap (λ n. set (put windows w (listed y x (g ∷ cells))) w (with_cursor (y, n))) on
+    ∙ ap (λ n. set (put windows w (listed_cells y x (g ∷ cells))) w (with_cursor (y, n))) on
 
 -- what it covers
 run_covered : (run : List ℕ) (first : ℕ) (windows : Windows) (w : ℕ) (a : Window) (p : GridPlace) → windows.window w ≡ Some a → own windows.window w 0 0 ≡ Some p
@@ -340,9 +340,9 @@ run_covered (second ∷ run) first windows w a p there spot printed below inside
     let x = a.settings.cursor.1 in
     let g = written_glyph a.settings first in
     let one = drawn_to windows w (at_place (y, x) g) (y, x + 1) in
-    let next = set_in (with_cursor (y, x + 1)) (drawn w a p (at_place (y, x) g) w a) in
+    let next = set_in (with_cursor (y, x + 1)) (after_drawing w a p (at_place (y, x) g) w a) in
     let here : one.window w ≡ Some next =
-    window-set (put_windows windows.window w (at_place (y, x) g)) w (with_cursor (y, x + 1)) (drawn w a p (at_place (y, x) g) w a)
+    window-set (put_windows windows.window w (at_place (y, x) g)) w (with_cursor (y, x + 1)) (after_drawing w a p (at_place (y, x) g) w a)
     (window-put windows.window w a p (at_place (y, x) g) there spot) in
     let at : own one.window w 0 0 ≡ Some p =
     own-set (put_windows windows.window w (at_place (y, x) g)) w (with_cursor (y, x + 1)) w 0 0 ∙ own-put windows.window w (at_place (y, x) g) w 0 0 ∙ spot in
@@ -351,16 +351,16 @@ run_covered (second ∷ run) first windows w a p there spot printed below inside
     let left : min x (x + 1) ≡ x = omega arith in
     let bottom : max y y ≡ y = omega arith in
     let right : max x (x + 1 + length run) ≡ x + suc (length run) = omega arith in
-    ap (λ v. joined (frame_of_character windows w first) (text_frame v w (second ∷ run))) (after-printed windows w a there first (printed 0 (omega arith)) fits)
-    ∙ ap (joined (frame_of_character windows w first))
+    ap (λ v. frame_of_two (frame_of_character windows w first) (text_frame v w (second ∷ run))) (after-printed windows w a there first (printed 0 (omega arith)) fits)
+    ∙ ap (frame_of_two (frame_of_character windows w first))
     (run_covered run second one w next p here at (λ k in_run. printed (suc k) (omega arith)) below (omega arith))
-    ∙ ap (λ o. joined o (Some (record { top = y; left = x + 1; bottom = y; right = x + 1 + length run })))
+    ∙ ap (λ o. frame_of_two o (Some (record { top = y; left = x + 1; bottom = y; right = x + 1 + length run })))
     (covered-printed windows w a there first (printed 0 (omega arith)) fits below (omega arith))
     ∙ (λ i. Some (record { top = top i; left = left i; bottom = bottom i; right = right i }))
 
 -- ---- as the code has it
 
-inked-is : (settings : Settings) (character : ℕ) → inked (written_glyph settings 32) character ≡ written_glyph settings character
+inked-is : (settings : Settings) (character : ℕ) → printed_cell (written_glyph settings 32) character ≡ written_glyph settings character
 inked-is settings character = elim (cases_eq character 32) [
   | inl same ↦ let e = eq-eqb character 32 same in rw e refl
   | inr other ↦ let e = ne_eqb character 32 other in rw e refl
@@ -371,18 +371,18 @@ module _ (windows : Windows) (w : ℕ) (s : WindowState) (h : IsStateOf windows 
   known : windows.window w ≡ Some (with_state s h.window)
   known = h.there ∙ (λ i. Some (record h.window { lines = h.lines i; columns = h.columns i; settings = h.settings i }))
 
-  inked-run : (pen : Glyph) → pen ≡ written_glyph s.settings 32 → map (inked pen) run ≡ map (written_glyph s.settings) run
-  inked-run pen is = ap (λ g. map (inked g) run) is ∙ ap (λ (f : ℕ → Glyph). map f run) (fun_ext (inked-is s.settings))
+  inked-run : (pen : Glyph) → pen ≡ written_glyph s.settings 32 → map (printed_cell pen) run ≡ map (written_glyph s.settings) run
+  inked-run pen is = ap (λ g. map (printed_cell g) run) is ∙ ap (λ (f : ℕ → Glyph). map f run) (fun_ext (inked-is s.settings))
 
   pub run_printed : (pen : Glyph) (now new : Windows) (x : ℕ) → pen ≡ written_glyph s.settings 32 → x ≡ s.settings.cursor.1 + length run
-      → now ≡ put windows w (listed s.settings.cursor.0 s.settings.cursor.1 (map (inked pen) run)) → new ≡ set now w (with_cursor (s.settings.cursor.0, x))
+      → now ≡ put windows w (listed_cells s.settings.cursor.0 s.settings.cursor.1 (map (printed_cell pen) run)) → new ≡ set now w (with_cursor (s.settings.cursor.0, x))
       → new ≡ after_text windows w run
   unfolding EachPrinted
-  run_printed pen now new x pen_is end drawn moved =
+  run_printed pen now new x pen_is end after_drawing moved =
       let spot = spot-of windows w s h in
-      moved ∙ ap (λ v. set v w (with_cursor (s.settings.cursor.0, x))) drawn
-      ∙ ap (λ cells. set (put windows w (listed s.settings.cursor.0 s.settings.cursor.1 cells)) w (with_cursor (s.settings.cursor.0, x))) (inked-run pen pen_is)
-      ∙ ap (λ n. set (put windows w (listed s.settings.cursor.0 s.settings.cursor.1 (map (written_glyph s.settings) run))) w (with_cursor (s.settings.cursor.0, n))) end
+      moved ∙ ap (λ v. set v w (with_cursor (s.settings.cursor.0, x))) after_drawing
+      ∙ ap (λ cells. set (put windows w (listed_cells s.settings.cursor.0 s.settings.cursor.1 cells)) w (with_cursor (s.settings.cursor.0, x))) (inked-run pen pen_is)
+      ∙ ap (λ n. set (put windows w (listed_cells s.settings.cursor.0 s.settings.cursor.1 (map (written_glyph s.settings) run))) w (with_cursor (s.settings.cursor.0, n))) end
       ∙ sym (run_written run windows w (with_state s h.window) spot.0 known spot.1 printed inside)
 
 pub run_frame : (windows : Windows) (w : ℕ) (s : WindowState) (h : IsStateOf windows w s) (run : List ℕ) → ((k : ℕ) → k < length run → is_printable (get_or run k 0) ≡ true)

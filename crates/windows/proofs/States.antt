@@ -5,7 +5,7 @@ use mathlib.Core.Path.{fun_ext}
 use Rattle.std.proofs.lemmas.Bool.{eqb-true}
 use Rattle.std.proofs.lemmas.Nat.{and_mask}
 use Rattle.cell.specs.Attributes.{bits_of, valid_attributes}
-use Rattle.world.specs.Windows.{Window, WindowMap, Windows, GridPlace, Drawing, own, drawn, put_from, put_windows, put, HasPlace}
+use Rattle.world.specs.Windows.{Window, WindowMap, Windows, GridPlace, Drawing, own, after_drawing, put_from, put_windows, put, HasPlace}
 use Rattle.world.specs.Settings.{with_settings, after_set_settings, set_in, set}
 use Rattle.world.specs.Sound.{AreSoundWindows, IsSoundWindow}
 use Rattle.world.specs.calls.Queries.{window_size}
@@ -25,15 +25,15 @@ pub spot-of : (windows : Windows) (w : ℕ) (s : WindowState) → IsStateOf wind
 spot-of windows w s h = some-place (own windows.window w 0 0) h.chain_ends
 
 pub window-put : (window : WindowMap) (w : ℕ) (a : Window) (p : GridPlace) (f : Drawing) → window w ≡ Some a → own window w 0 0 ≡ Some p
-    → put_windows window w f w ≡ Some (drawn w a p f w a)
+    → put_windows window w f w ≡ Some (after_drawing w a p f w a)
 window-put window w a p f there leads =
-    ap (λ o. put_from window w o (own window w 0 0) f w) there ∙ ap (λ o. put_from window w (Some a) o f w) leads ∙ ap (option_map (drawn w a p f w)) there
+    ap (λ o. put_from window w o (own window w 0 0) f w) there ∙ ap (λ o. put_from window w (Some a) o f w) leads ∙ ap (option_map (after_drawing w a p f w)) there
 
 pub state-put : (windows : Windows) (w : ℕ) (s : WindowState) (f : Drawing) → IsStateOf windows w s → AreSoundWindows (put windows w f) → IsStateOf (put windows w f) w s
 state-put windows w s f h sound =
     let spot = spot-of windows w s h in
     record {
-      window = drawn w h.window spot.0 f w h.window;
+      window = after_drawing w h.window spot.0 f w h.window;
       there = window-put windows.window w h.window spot.0 f h.there spot.1;
       lines = h.lines;
       columns = h.columns;

@@ -5,7 +5,7 @@ use Rattle.std.proofs.lemmas.Bool.{cases_eq, cases_lt, eq-eqb, ne_eqb, lt-ltb, l
 use Rattle.std.proofs.lemmas.Bool.Decides.{nat_tests}
 use Rattle.cell.specs.Glyphs.{Glyph}
 use Rattle.world.specs.Windows.{Window, WindowMap, GridPlace, Drawing, own, cell_at, put_windows, over}
-use Rattle.world.specs.Rows.{filled, copied}
+use Rattle.world.specs.Rows.{filled_cells, copied_cells}
 use Rattle.world.specs.Drawings.{at_place, character_inserted, character_deleted, to_end_of_line, to_bottom, lines_up, lines_down}
 use Rattle.world.proofs.WindowLaws.{put-nothing}
 use Rattle.world.proofs.PutLaws.{AreSame, put-same, put-then, shown-put}
@@ -72,13 +72,13 @@ module _ (window : WindowMap) (w : ℕ) (a : Window) (there : window w ≡ Some 
   pub put-none_above : (f : Drawing) (k : ℕ) → ((y x : ℕ) → y < k → f y x ≡ None) → put_windows window w (above k f) ≡ window
   put-none_above f k none = put-nothing window w (above k f) (λ y x. elim (cases_lt y k) [
     | inl before ↦ let e = none y x before in let t = lt-ltb y k before in rw t e
-    | inr behind ↦ nothing-below (f y x) (nat_lt y k) (grind (arith, nat_tests))
+    | inr beyond ↦ nothing-below (f y x) (nat_lt y k) (grind (arith, nat_tests))
   ])
 
   pub put-all_above : (f : Drawing) (k : ℕ) → ((y x : ℕ) → k ≤ y → y < a.lines → f y x ≡ None) → put_windows window w (above k f) ≡ put_windows window w f
   put-all_above f k none = put-same window w a (above k f) f there (λ y x below left. elim (cases_lt y k) [
     | inl before ↦ kept-above (f y x) (nat_lt y k) (lt-ltb y k before)
-    | inr behind ↦ nothing-below (f y x) (nat_lt y k) (grind (arith, nat_tests)) ∙ sym (none y x (omega arith) below)
+    | inr beyond ↦ nothing-below (f y x) (nat_lt y k) (grind (arith, nat_tests)) ∙ sym (none y x (omega arith) below)
   ])
 
   -- line k of a drawing was written after those above it
@@ -93,14 +93,14 @@ module _ (window : WindowMap) (w : ℕ) (a : Window) (there : window w ≡ Some 
   put-none_from f k none =
       put-same window w a (from k f) (λ y x. None) there (λ y x below left. elim (cases_lt y k) [
         | inl before ↦ nothing-below (f y x) (nat_le k y) (grind (arith, nat_tests))
-        | inr behind ↦ kept-above (f y x) (nat_le k y) (grind (arith, nat_tests)) ∙ none y x (omega arith) below
+        | inr beyond ↦ kept-above (f y x) (nat_le k y) (grind (arith, nat_tests)) ∙ none y x (omega arith) below
       ])
       ∙ put-nothing window w (λ y x. None) (λ y x. refl)
 
   pub put-all_from : (f : Drawing) (k : ℕ) → ((y x : ℕ) → y < k → f y x ≡ None) → put_windows window w (from k f) ≡ put_windows window w f
   put-all_from f k none = put-same window w a (from k f) f there (λ y x below left. elim (cases_lt y k) [
     | inl before ↦ nothing-below (f y x) (nat_le k y) (grind (arith, nat_tests)) ∙ sym (none y x before)
-    | inr behind ↦ kept-above (f y x) (nat_le k y) (grind (arith, nat_tests))
+    | inr beyond ↦ kept-above (f y x) (nat_le k y) (grind (arith, nat_tests))
   ])
 
   pub put-line_before : (f g : Drawing) (k : ℕ) → AreSame a g (on_line k f)
@@ -119,16 +119,16 @@ same-columns y k left last x ends = elim (cases_eq y k) [
 if-test : (s t : Bool) (c : Glyph) → s ≡ t → (if s then Some c else None) ≡ (if t then Some c else None)
 if-test s t c e = ap (λ (t : Bool). let o : Option Glyph = if t then Some c else None in o) e
 
-pub filled-rest : (a : Window) (y left : ℕ) (c : Glyph) → AreSame a (filled y left (a.columns - 1) c) (to_end_of_line (y, left) c)
+pub filled-rest : (a : Window) (y left : ℕ) (c : Glyph) → AreSame a (filled_cells y left (a.columns - 1) c) (to_end_of_line (y, left) c)
 filled-rest a y left c v x below on = if-test ((v == y) && (nat_le left x && nat_le x (a.columns - 1))) ((v == y) && nat_le left x) c
     (same-columns v y left (a.columns - 1) x (omega arith))
 
 pub put-filled_rest : (window : WindowMap) (w : ℕ) (a : Window) (y left : ℕ) (c : Glyph) → window w ≡ Some a
-    → put_windows window w (filled y left (a.columns - 1) c) ≡ put_windows window w (to_end_of_line (y, left) c)
-put-filled_rest window w a y left c there = put-same window w a (filled y left (a.columns - 1) c) (to_end_of_line (y, left) c) there (filled-rest a y left c)
+    → put_windows window w (filled_cells y left (a.columns - 1) c) ≡ put_windows window w (to_end_of_line (y, left) c)
+put-filled_rest window w a y left c there = put-same window w a (filled_cells y left (a.columns - 1) c) (to_end_of_line (y, left) c) there (filled-rest a y left c)
 
 -- a line of one cell
-pub filled-line : (a : Window) (f : Drawing) (y : ℕ) (c : Glyph) → ((x : ℕ) → f y x ≡ Some c) → AreSame a (filled y 0 (a.columns - 1) c) (on_line y f)
+pub filled-line : (a : Window) (f : Drawing) (y : ℕ) (c : Glyph) → ((x : ℕ) → f y x ≡ Some c) → AreSame a (filled_cells y 0 (a.columns - 1) c) (on_line y f)
 filled-line a f y c is v x below on = elim (cases_eq v y) [
   | inl same ↦
       let e = eq-eqb v y same in
@@ -143,17 +143,17 @@ filled-line a f y c is v x below on = elim (cases_eq v y) [
 -- ---- a line copied within the window
 
 copied-at : (window : WindowMap) (w sy sx dy dx n y x : ℕ) → ((y == dy) && (nat_le dx x && nat_lt x (dx + n))) ≡ true
-    → copied window w sy sx dy dx n false y x ≡ Some (cell_at window w sy (sx + (x - dx)))
+    → copied_cells window w sy sx dy dx n false y x ≡ Some (cell_at window w sy (sx + (x - dx)))
 copied-at window w sy sx dy dx n y x h = rw h refl
 
 copied-none : (window : WindowMap) (w sy sx dy dx n y x : ℕ) → ((y == dy) && (nat_le dx x && nat_lt x (dx + n))) ≡ false
-    → copied window w sy sx dy dx n false y x ≡ None
+    → copied_cells window w sy sx dy dx n false y x ≡ None
 copied-none window w sy sx dy dx n y x h = rw h refl
 
 -- a whole line, from a line that shows what it showed before
 pub copied-line : (window now : WindowMap) (w : ℕ) (a : Window) (f : Drawing) (sy y : ℕ)
     → ((x : ℕ) → x < a.columns → cell_at now w sy x ≡ cell_at window w sy x) → ((x : ℕ) → f y x ≡ Some (cell_at window w sy x))
-    → AreSame a (copied now w sy 0 y 0 a.columns false) (on_line y f)
+    → AreSame a (copied_cells now w sy 0 y 0 a.columns false) (on_line y f)
 copied-line window now w a f sy y kept is v x below on = elim (cases_eq v y) [
   | inl same ↦
       let e = eq-eqb v y same in
@@ -178,10 +178,10 @@ module _ (window : WindowMap) (w : ℕ) (a : Window) (spot : GridPlace) (there :
 
   -- line y takes line sy, which is written later
   pub put-line_up : (f : Drawing) (sy y : ℕ) → y ≤ sy → sy < a.lines → ((x : ℕ) → f y x ≡ Some (cell_at window w sy x))
-      → (let now = put_windows window w (above y f) in put_windows now w (copied now w sy 0 y 0 a.columns false)) ≡ put_windows window w (above (y + 1) f)
+      → (let now = put_windows window w (above y f) in put_windows now w (copied_cells now w sy 0 y 0 a.columns false)) ≡ put_windows window w (above (y + 1) f)
   put-line_up f sy y ordered below is =
       let now = put_windows window w (above y f) in
-      put-line window w a there f (copied now w sy 0 y 0 a.columns false) y
+      put-line window w a there f (copied_cells now w sy 0 y 0 a.columns false) y
       (copied-line window now w a f sy y (λ x on. unchanged f y sy x ordered below on) is)
 
   -- and upwards: a line that is above those written so far
@@ -192,28 +192,28 @@ module _ (window : WindowMap) (w : ℕ) (a : Window) (spot : GridPlace) (there :
       ∙ ap (λ o. unwrap_or o (cell_at window w y x)) (nothing-below (f y x) (nat_le k y) (grind (arith, nat_tests)))
 
   pub put-line_down : (f : Drawing) (sy y : ℕ) → sy ≤ y → sy < a.lines → ((x : ℕ) → f y x ≡ Some (cell_at window w sy x))
-      → (let now = put_windows window w (from (y + 1) f) in put_windows now w (copied now w sy 0 y 0 a.columns false)) ≡ put_windows window w (from y f)
+      → (let now = put_windows window w (from (y + 1) f) in put_windows now w (copied_cells now w sy 0 y 0 a.columns false)) ≡ put_windows window w (from y f)
   put-line_down f sy y ordered below is =
       let now = put_windows window w (from (y + 1) f) in
-      put-line_before window w a there f (copied now w sy 0 y 0 a.columns false) y
+      put-line_before window w a there f (copied_cells now w sy 0 y 0 a.columns false) y
       (copied-line window now w a f sy y (λ x on. unwritten f (y + 1) sy x (omega arith) below on) is)
 
 -- ---- one cell
 
-pub filled-place : (a : Window) (y x : ℕ) (c : Glyph) → AreSame a (filled y x x c) (at_place (y, x) c)
+pub filled-place : (a : Window) (y x : ℕ) (c : Glyph) → AreSame a (filled_cells y x x c) (at_place (y, x) c)
 filled-place a y x c v u below on = if-test ((v == y) && (nat_le x u && nat_le u x)) (v == y && u == x) c (elim (cases_eq u x) [
   | inl same ↦ let e = eq-eqb u x same in rw e (grind (arith, nat_tests))
   | inr other ↦ let e = ne_eqb u x other in rw e (grind (arith, nat_tests))
 ])
 
 pub put-filled_place : (window : WindowMap) (w : ℕ) (a : Window) (y x : ℕ) (c : Glyph) → window w ≡ Some a
-    → put_windows window w (filled y x x c) ≡ put_windows window w (at_place (y, x) c)
-put-filled_place window w a y x c there = put-same window w a (filled y x x c) (at_place (y, x) c) there (filled-place a y x c)
+    → put_windows window w (filled_cells y x x c) ≡ put_windows window w (at_place (y, x) c)
+put-filled_place window w a y x c there = put-same window w a (filled_cells y x x c) (at_place (y, x) c) there (filled-place a y x c)
 
 -- ---- a character inserted, a character deleted
 
 filled-at : (y left right v u : ℕ) (c : Glyph) (t : Bool) → ((v == y) && (nat_le left u && nat_le u right)) ≡ t
-    → filled y left right c v u ≡ (if t then Some c else None)
+    → filled_cells y left right c v u ≡ (if t then Some c else None)
 filled-at y left right v u c t h = ap (λ (t : Bool). let o : Option Glyph = if t then Some c else None in o) h
 
 pub over-some : (g f : Drawing) (v u : ℕ) (c : Glyph) → g v u ≡ Some c → over g f v u ≡ Some c
@@ -229,17 +229,17 @@ module _ (window : WindowMap) (w : ℕ) (a : Window) (y x : ℕ) (c : Glyph) (le
       rw (l, o, k) refl
 
   inserted-right : (v u : ℕ) → v ≡ y → x < u → character_inserted window w (y, x) c v u ≡ Some (cell_at window w y (u - 1))
-  inserted-right v u line behind =
+  inserted-right v u line beyond =
       let l = eq-eqb v y line in let k = ne_eqb u x (λ e. omega arith) in let o = le-leb x u (omega arith) in
       rw (l, o, k) (ap (λ k. Some (cell_at window w k (u - 1))) line)
 
   inserted-none : (v u : ℕ) → ((v == y) && nat_le x u) ≡ false → character_inserted window w (y, x) c v u ≡ None
   inserted-none v u h = rw h refl
 
-  inserted-same : AreSame a (over (filled y x x c) (copied window w y x y (x + 1) (a.columns - 1 - x) false)) (character_inserted window w (y, x) c)
+  inserted-same : AreSame a (over (filled_cells y x x c) (copied_cells window w y x y (x + 1) (a.columns - 1 - x) false)) (character_inserted window w (y, x) c)
   inserted-same v u below on =
-      let f = copied window w y x y (x + 1) (a.columns - 1 - x) false in
-      let g = filled y x x c in
+      let f = copied_cells window w y x y (x + 1) (a.columns - 1 - x) false in
+      let g = filled_cells y x x c in
       elim (cases_eq v y) [
         | inr other ↦
             let l = ne_eqb v y other in
@@ -257,7 +257,7 @@ module _ (window : WindowMap) (w : ℕ) (a : Window) (y x : ℕ) (c : Glyph) (le
                 | inl here ↦
                     over-some g f v u c (filled-at y x x v u c true (rw l (grind (arith, nat_tests))))
                     ∙ sym (inserted-here v u line here)
-                | inr behind ↦
+                | inr beyond ↦
                     let column : x + (u - (x + 1)) ≡ u - 1 = omega arith in
                     over-none g f v u (filled-at y x x v u c false (rw l (grind (arith, nat_tests))))
                     ∙ copied-at window w y x y (x + 1) (a.columns - 1 - x) v u (rw l (grind (arith, nat_tests)))
@@ -268,9 +268,9 @@ module _ (window : WindowMap) (w : ℕ) (a : Window) (y x : ℕ) (c : Glyph) (le
       ]
 
   pub put-inserted : window w ≡ Some a
-      → put_windows (put_windows window w (copied window w y x y (x + 1) (a.columns - 1 - x) false)) w (filled y x x c)
+      → put_windows (put_windows window w (copied_cells window w y x y (x + 1) (a.columns - 1 - x) false)) w (filled_cells y x x c)
       ≡ put_windows window w (character_inserted window w (y, x) c)
-  put-inserted there = put-then window w a (copied window w y x y (x + 1) (a.columns - 1 - x) false) (filled y x x c)
+  put-inserted there = put-then window w a (copied_cells window w y x y (x + 1) (a.columns - 1 - x) false) (filled_cells y x x c)
       (character_inserted window w (y, x) c) there inserted-same
 
   deleted-last : (v u : ℕ) → v ≡ y → u ≡ a.columns - 1 → character_deleted window w (y, x) (a.columns - 1) c v u ≡ Some c
@@ -286,11 +286,11 @@ module _ (window : WindowMap) (w : ℕ) (a : Window) (y x : ℕ) (c : Glyph) (le
   deleted-none : (v u : ℕ) → ((v == y) && nat_le x u) ≡ false → character_deleted window w (y, x) (a.columns - 1) c v u ≡ None
   deleted-none v u h = rw h refl
 
-  deleted-same : AreSame a (over (filled y (a.columns - 1) (a.columns - 1) c) (copied window w y (x + 1) y x (a.columns - 1 - x) false))
+  deleted-same : AreSame a (over (filled_cells y (a.columns - 1) (a.columns - 1) c) (copied_cells window w y (x + 1) y x (a.columns - 1 - x) false))
       (character_deleted window w (y, x) (a.columns - 1) c)
   deleted-same v u below on =
-      let f = copied window w y (x + 1) y x (a.columns - 1 - x) false in
-      let g = filled y (a.columns - 1) (a.columns - 1) c in
+      let f = copied_cells window w y (x + 1) y x (a.columns - 1 - x) false in
+      let g = filled_cells y (a.columns - 1) (a.columns - 1) c in
       elim (cases_eq v y) [
         | inr other ↦
             let l = ne_eqb v y other in
@@ -319,14 +319,14 @@ module _ (window : WindowMap) (w : ℕ) (a : Window) (y x : ℕ) (c : Glyph) (le
       ]
 
   pub put-deleted : window w ≡ Some a
-      → put_windows (put_windows window w (copied window w y (x + 1) y x (a.columns - 1 - x) false)) w (filled y (a.columns - 1) (a.columns - 1) c)
+      → put_windows (put_windows window w (copied_cells window w y (x + 1) y x (a.columns - 1 - x) false)) w (filled_cells y (a.columns - 1) (a.columns - 1) c)
       ≡ put_windows window w (character_deleted window w (y, x) (a.columns - 1) c)
-  put-deleted there = put-then window w a (copied window w y (x + 1) y x (a.columns - 1 - x) false) (filled y (a.columns - 1) (a.columns - 1) c)
+  put-deleted there = put-then window w a (copied_cells window w y (x + 1) y x (a.columns - 1 - x) false) (filled_cells y (a.columns - 1) (a.columns - 1) c)
       (character_deleted window w (y, x) (a.columns - 1) c) there deleted-same
 
 -- ---- the lines of the drawings
 
-pub to_bottom-first : (a : Window) (y x : ℕ) (c : Glyph) → AreSame a (filled y x (a.columns - 1) c) (on_line y (to_bottom (y, x) c))
+pub to_bottom-first : (a : Window) (y x : ℕ) (c : Glyph) → AreSame a (filled_cells y x (a.columns - 1) c) (on_line y (to_bottom (y, x) c))
 to_bottom-first a y x c v u below on = elim (cases_eq v y) [
   | inr other ↦
       let l = ne_eqb v y other in
@@ -339,7 +339,7 @@ to_bottom-first a y x c v u below on = elim (cases_eq v y) [
 ]
 
 pub to_bottom-below : (y x k u : ℕ) (c : Glyph) → y < k → to_bottom (y, x) c k u ≡ Some c
-to_bottom-below y x k u c behind = let o = lt-ltb y k behind in rw o refl
+to_bottom-below y x k u c beyond = let o = lt-ltb y k beyond in rw o refl
 
 pub to_bottom-above : (y x k u : ℕ) (c : Glyph) → k < y → to_bottom (y, x) c k u ≡ None
 to_bottom-above y x k u c before =

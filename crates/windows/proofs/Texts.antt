@@ -7,10 +7,10 @@ use Rattle.std.proofs.lemmas.Bool.{and_parts}
 use Rattle.std.proofs.lemmas.List.Folds.{list_all_at}
 use Rattle.cell.specs.Glyphs.{is_printable}
 use Rattle.cell.specs.Pictures.{Place}
-use Rattle.world.specs.Windows.{Window, WindowMap, Windows, GridPlace, Drawing, own, drawn, put_from, put}
+use Rattle.world.specs.Windows.{Window, WindowMap, Windows, GridPlace, Drawing, own, after_drawing, put_from, put}
 use Rattle.world.specs.Settings.{set_in, set, with_cursor}
 use Rattle.world.specs.Drawings.{written_glyph, at_place, to_end_of_line}
-use Rattle.world.specs.Frames.{joined}
+use Rattle.world.specs.Frames.{frame_of_two}
 use Rattle.world.specs.Typing.{newline, carriage_return, backspace, drawn_to, region_up, scrolls, is_last_line, to_next_line, character_printed, line_ended, typed_in}
 use Rattle.cell.specs.declared.window.Rect.{Rect}
 use Rattle.world.specs.calls.Writing.{is_bad_character}
@@ -28,7 +28,7 @@ some-mapped change (Some a) = refl
 some-put_from : (window : WindowMap) (w : ℕ) (o : Option Window) (s : Option GridPlace) (f : Drawing) (u : ℕ) → is_some (put_from window w o s f u) ≡ is_some (window u)
 some-put_from window w None s f u = refl
 some-put_from window w (Some a) None f u = refl
-some-put_from window w (Some a) (Some p) f u = some-mapped (drawn w a p f u) (window u)
+some-put_from window w (Some a) (Some p) f u = some-mapped (after_drawing w a p f u) (window u)
 
 same-put : (windows : Windows) (w : ℕ) (f : Drawing) → HasSame windows (put windows w f)
 same-put windows w f u = some-put_from windows.window w (windows.window w) (own windows.window w 0 0) f u
@@ -71,11 +71,11 @@ same-typed windows w character a =
 
 -- ---- rectangles one after another
 
-pub joined-none : (o : Option Rect) → joined o None ≡ o
+pub joined-none : (o : Option Rect) → frame_of_two o None ≡ o
 joined-none None = refl
 joined-none (Some a) = refl
 
-pub joined-joined : (o p q : Option Rect) → joined (joined o p) q ≡ joined o (joined p q)
+pub joined-joined : (o p q : Option Rect) → frame_of_two (frame_of_two o p) q ≡ frame_of_two o (frame_of_two p q)
 joined-joined None p q = refl
 joined-joined (Some a) None None = refl
 joined-joined (Some a) None (Some c) = refl

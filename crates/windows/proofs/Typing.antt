@@ -10,7 +10,7 @@ use Rattle.cell.specs.Pictures.{Place}
 use Rattle.world.specs.Windows.{Windows, put}
 use Rattle.world.specs.Settings.{set, with_cursor}
 use Rattle.world.specs.Drawings.{written_glyph, at_place, to_end_of_line, lines_up}
-use Rattle.world.specs.Frames.{joined, frame_of}
+use Rattle.world.specs.Frames.{frame_of_two, frame_of}
 use Rattle.world.specs.Typing.{scrolls, region_up, to_next_line, next_line_frame, character_printed, character_frame, line_ended, line_ended_frame, typed_in, typed_frame, after_character}
 use Rattle.world.specs.Typing.{frame_of_character}
 use Rattle.cell.specs.declared.window.Rect.{Rect}
@@ -90,10 +90,10 @@ module _ (windows : Windows) (w : ℕ) (s : WindowState) (h : IsStateOf windows 
     pub printed_at_end_frame : (now : Windows) (r : Rect) (below o : Option Rect) → s.columns ≤ s.settings.cursor.1 + 1
         → now ≡ put windows w (at_place s.settings.cursor (written_glyph s.settings character))
         → r ≡ record { top = s.settings.cursor.0; left = s.settings.cursor.1; bottom = s.settings.cursor.0; right = s.settings.cursor.1 }
-        → below ≡ next_line_frame now.window w (window_in_state s) → o ≡ joined (Some r) below → o ≡ character_frame windows w character (window_in_state s)
+        → below ≡ next_line_frame now.window w (window_in_state s) → o ≡ frame_of_two (Some r) below → o ≡ character_frame windows w character (window_in_state s)
     printed_at_end_frame now r below o past drawn e next is =
-        is ∙ (λ i. joined (one_place r e i) (next i))
-        ∙ ap (λ (v : Windows). joined (frame_of (window_in_state s) (at_place s.settings.cursor (written_glyph s.settings character))) (next_line_frame v.window w (window_in_state s))) drawn
+        is ∙ (λ i. frame_of_two (one_place r e i) (next i))
+        ∙ ap (λ (v : Windows). frame_of_two (frame_of (window_in_state s) (at_place s.settings.cursor (written_glyph s.settings character))) (next_line_frame v.window w (window_in_state s))) drawn
         ∙ sym (if_false (nat_lt (s.settings.cursor.1 + 1) s.columns) _ _ (grind (arith, nat_tests)))
 
   -- ---- a newline
@@ -104,12 +104,12 @@ module _ (windows : Windows) (w : ℕ) (s : WindowState) (h : IsStateOf windows 
 
   pub ended_frame : (now : Windows) (r : Rect) (below o : Option Rect) → now ≡ put windows w (to_end_of_line s.settings.cursor s.settings.background)
       → r ≡ record { top = s.settings.cursor.0; left = s.settings.cursor.1; bottom = s.settings.cursor.0; right = s.columns - 1 }
-      → below ≡ next_line_frame now.window w (window_in_state s) → o ≡ joined (Some r) below → o ≡ line_ended_frame windows w (window_in_state s)
+      → below ≡ next_line_frame now.window w (window_in_state s) → o ≡ frame_of_two (Some r) below → o ≡ line_ended_frame windows w (window_in_state s)
   ended_frame now r below o drawn e next is =
       let rest = to_end_of_line s.settings.cursor s.settings.background in
       let here : Some r ≡ frame_of (window_in_state s) rest = ap Some e
       ∙ sym (frame-to_end_of_line (window_in_state s) s.settings.cursor.0 s.settings.cursor.1 h.within.cursor_line h.within.cursor_column s.settings.background) in
-      is ∙ (λ i. joined (here i) (next i)) ∙ ap (λ (v : Windows). joined (frame_of (window_in_state s) rest) (next_line_frame v.window w (window_in_state s))) drawn
+      is ∙ (λ i. frame_of_two (here i) (next i)) ∙ ap (λ (v : Windows). frame_of_two (frame_of (window_in_state s) rest) (next_line_frame v.window w (window_in_state s))) drawn
 
   -- ---- any character
 

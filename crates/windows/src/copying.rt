@@ -2,7 +2,7 @@
 
 ghost use Rattle.std.specs.Prelude.{◌≡◌, None, ◌+◌, ◌-◌, ◌<◌, ◌^◌, max, min, nat_lt};
 ghost use Rattle.cell.specs.Refusals.{first_of};
-ghost use Rattle.world.specs.calls.Copying.{common_copied, overlay_tests};
+ghost use Rattle.world.specs.calls.Copying.{common_cells, overlay_tests};
 ghost use Rattle.world.specs.Effects.{draws, edits};
 ghost use Rattle.world.specs.declared.call.Copying.{Copying};
 ghost use Rattle.grids.specs.Tables.{windows};
@@ -64,8 +64,8 @@ impl Windows {
         let more_columns = dmaxcol - dmincol;
         if dmaxrow >= target.lines
             || dmaxcol >= target.columns
-            || !has_behind(source.lines, sminrow, more_lines)
-            || !has_behind(source.columns, smincol, more_columns)
+            || !has_after(source.lines, sminrow, more_lines)
+            || !has_after(source.columns, smincol, more_columns)
         {
             return Err(Refusal::OutsideWindow);
         }
@@ -86,7 +86,7 @@ impl Windows {
 }
 
 /// Whether of so many lines or columns there are some more after one.
-fn has_behind(all: u16, first: u16, more: u16) -> bool
+fn has_after(all: u16, first: u16, more: u16) -> bool
     ensures { result ≡ nat_lt (first + more) all }
 {
     more < all && first < all - more
@@ -100,7 +100,7 @@ fn copy_common(
     overlay: bool,
 ) -> Result<Option<Rect>, Refusal>
     ensures { Drew its_frame table.old (first_of (overlay_tests (windows table.old) src.0 dst.0))
-        (edits (draws dst.0 (λ a. common_copied (windows table.old).window src.0 dst.0 overlay) None)) result table.new }
+        (edits (draws dst.0 (λ a. common_cells (windows table.old).window src.0 dst.0 overlay) None)) result table.new }
 {
     let source = state_of(table, src)?;
     let target = state_of(table, dst)?;

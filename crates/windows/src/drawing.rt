@@ -2,10 +2,10 @@
 
 ghost use Rattle.std.specs.Prelude.{◌≡◌, ◌<◌, ◌≤◌, ◌+◌, ◌-◌, false};
 ghost use Rattle.world.specs.Windows.{put};
-ghost use Rattle.world.specs.Rows.{copied, filled};
+ghost use Rattle.world.specs.Rows.{copied_cells, filled_cells};
 ghost use Rattle.world.specs.Sound.{AreSoundWindows};
 ghost use Rattle.world.specs.Drawings.{at_place, character_deleted, character_inserted, everywhere, lines_down, lines_up, to_bottom, to_end_of_line};
-ghost use Rattle.world.specs.calls.Writing.{cleared};
+ghost use Rattle.world.specs.calls.Writing.{after_clear};
 ghost use Rattle.grids.specs.Tables.{windows};
 ghost use Rattle.windows.specs.steps.State.{IsStateOf};
 
@@ -121,9 +121,9 @@ fn take_below(table: &mut Grids, win: WinId, state: &WindowState, line: u16, bot
     requires ordered { line ≤ bottom }
     requires lines { bottom < state.now.lines }
     ensures taken { line + n ≤ bottom → windows table.new ≡ put (windows table.old) win.0
-        (copied (windows table.old).window win.0 (line + n) 0 line 0 state.now.columns false) }
+        (copied_cells (windows table.old).window win.0 (line + n) 0 line 0 state.now.columns false) }
     ensures cleared { bottom < line + n → windows table.new ≡ put (windows table.old) win.0
-        (filled line 0 (state.now.columns - 1) state.now.settings.background) }
+        (filled_cells line 0 (state.now.columns - 1) state.now.settings.background) }
     ensures state { IsStateOf (windows table.new) win.0 state.now }
 {
     if n <= bottom - line {
@@ -139,8 +139,9 @@ fn take_above(table: &mut Grids, win: WinId, state: &WindowState, top: u16, line
     requires ordered { top ≤ line }
     requires lines { line < state.now.lines }
     ensures taken { top + n ≤ line → windows table.new ≡ put (windows table.old) win.0
-        (copied (windows table.old).window win.0 (line - n) 0 line 0 state.now.columns false) }
-    ensures cleared { line < top + n → windows table.new ≡ put (windows table.old) win.0 (filled line 0 (state.now.columns - 1) state.now.settings.background) }
+        (copied_cells (windows table.old).window win.0 (line - n) 0 line 0 state.now.columns false) }
+    ensures cleared { line < top + n → windows table.new ≡ put (windows table.old) win.0
+        (filled_cells line 0 (state.now.columns - 1) state.now.settings.background) }
     ensures state { IsStateOf (windows table.new) win.0 state.now }
 {
     if n <= line - top {

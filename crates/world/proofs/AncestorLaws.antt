@@ -6,15 +6,15 @@ use Rattle.std.specs.List.{list_any}
 use mathlib.Core.Path.{fun_ext}
 use Rattle.std.proofs.lemmas.Bool.{eqb-false, ne_eqb, or_parts}
 use Rattle.cell.specs.Glyphs.{blank}
-use Rattle.world.specs.Windows.{Backing, own_grid, part_of, Window, WindowMap, Windows, GridPlace, ancestors_within, cell_at, cell_in_grid, cell_of, changed, derives, leads, own, own_within}
-use Rattle.world.specs.Windows.{parent_number, parent_of, replaced, window_limit}
+use Rattle.world.specs.Windows.{Backing, own_grid, part_of, Window, WindowMap, Windows, GridPlace, ancestors_within, cell_at, cell_in_grid, cell_of, with_change, derives, leads, own, own_within}
+use Rattle.world.specs.Windows.{parent_number, parent_of, with_window, window_limit}
 use Rattle.world.proofs.ViewLaws.{same-if}
 use Rattle.world.specs.Effects.{shifted_to, with_offset, with_part}
 
-pub changed-off : (window : WindowMap) (w : ℕ) (change : Window → Window) (v : ℕ) → (v ≡ w → ⊥) → changed window w change v ≡ window v
+pub changed-off : (window : WindowMap) (w : ℕ) (change : Window → Window) (v : ℕ) → (v ≡ w → ⊥) → with_change window w change v ≡ window v
 changed-off window w change v other = let apart = ne_eqb v w other in rw apart refl
 
-pub replaced-off : (window : WindowMap) (w : ℕ) (o : Option Window) (v : ℕ) → (v ≡ w → ⊥) → replaced window w o v ≡ window v
+pub replaced-off : (window : WindowMap) (w : ℕ) (o : Option Window) (v : ℕ) → (v ≡ w → ⊥) → with_window window w o v ≡ window v
 replaced-off window w o v other = let apart = ne_eqb v w other in rw apart refl
 
 module _ (new old : WindowMap) (w : ℕ) (same : (v : ℕ) → (v ≡ w → ⊥) → new v ≡ old v) where

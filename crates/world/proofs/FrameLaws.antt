@@ -3,8 +3,8 @@ use Rattle.std.proofs.Common.{◌≡◌, ℕ, zero, suc, ◌<◌, ◌≤◌, min
 use Rattle.std.specs.Prelude.{option_and_then}
 use Rattle.std.specs.Option.{option_map}
 use Rattle.std.proofs.lemmas.Bool.{cases_lt}
-use Rattle.world.specs.Windows.{GridPlace, Window, Windows, Drawing, drawn, over, own, put, put_from}
-use Rattle.world.specs.Frames.{joined, frame_at, frame_in_line, frame_above, frame_of, Covers, IsIn, IsSmallest, IsFrameOf}
+use Rattle.world.specs.Windows.{GridPlace, Window, Windows, Drawing, after_drawing, over, own, put, put_from}
+use Rattle.world.specs.Frames.{frame_of_two, frame_at, frame_in_line, frame_above, frame_of, Covers, IsIn, IsSmallest, IsFrameOf}
 use Rattle.world.specs.Effects.{drawing_frame}
 use Rattle.cell.specs.Glyphs.{Glyph}
 use Rattle.cell.specs.declared.window.Rect.{Rect}
@@ -62,7 +62,7 @@ module _ (Has Other : ℕ → ℕ → Type 0) where
       let in_s = k.holds y x there in
       record { top = omega arith; bottom = omega arith; left = omega arith; right = omega arith }
 
-  pub frame-joined : (o p : Option Rect) → IsFrameOf Has o → IsFrameOf Other p → IsFrameOf (λ y x. Has y x ⊎ Other y x) (joined o p)
+  pub frame-joined : (o p : Option Rect) → IsFrameOf Has o → IsFrameOf Other p → IsFrameOf (λ y x. Has y x ⊎ Other y x) (frame_of_two o p)
   frame-joined None None h k = λ y x there. elim there [ inl a ↦ h y x a | inr b ↦ k y x b ]
   frame-joined None (Some s) h k = record {
     holds = λ y x there. elim there [ inl a ↦ absurd (h y x a) | inr b ↦ k.holds y x b ];
@@ -115,7 +115,7 @@ unfolding frame_in_line
 in_line-is f line zero = λ y x there. let left = there.left in omega arith
 in_line-is f line (suc n) =
     frame-same (λ y x. HasInLine f line n y x ⊎ IsAt f line n y x) (HasInLine f line (suc n))
-    (joined (frame_in_line f line n) (if is_some (f line n) then frame_at line n else None))
+    (frame_of_two (frame_in_line f line n) (if is_some (f line n) then frame_at line n else None))
     (λ y x there. elim there [
       | inl before ↦ let left = before.left in record { on = before.on; left = omega arith; some = before.some }
       | inr here ↦ let at = here.at in record { on = here.on; left = omega arith; some = here.some }
@@ -132,7 +132,7 @@ unfolding frame_above
 above-is f columns zero = λ y x there. let below = there.below in omega arith
 above-is f columns (suc n) =
     frame-same (λ y x. Covers f columns n y x ⊎ HasInLine f n columns y x) (Covers f columns (suc n))
-    (joined (frame_above f columns n) (frame_in_line f n columns))
+    (frame_of_two (frame_above f columns n) (frame_in_line f n columns))
     (λ y x there. elim there [
       | inl before ↦ let below = before.below in record { below = omega arith; left = before.left; some = before.some }
       | inr here ↦ let on = here.on in record { below = omega arith; left = here.left; some = here.some }
@@ -168,10 +168,10 @@ over-second : (g f : Option Glyph) → is_some g ≡ true → is_some (if is_som
 over-second None f h = cc
 over-second (Some c) f h = refl
 
-pub frame-over : (a : Window) (f g : Drawing) → frame_of a (over g f) ≡ joined (frame_of a f) (frame_of a g)
+pub frame-over : (a : Window) (f g : Drawing) → frame_of a (over g f) ≡ frame_of_two (frame_of a f) (frame_of a g)
 frame-over a f g =
-    only_frame (Covers (over g f) a.columns a.lines) (frame_of a (over g f)) (joined (frame_of a f) (frame_of a g)) (frame_of-is a (over g f))
-    (frame-same (λ y x. Covers f a.columns a.lines y x ⊎ Covers g a.columns a.lines y x) (Covers (over g f) a.columns a.lines) (joined (frame_of a f) (frame_of a g))
+    only_frame (Covers (over g f) a.columns a.lines) (frame_of a (over g f)) (frame_of_two (frame_of a f) (frame_of a g)) (frame_of-is a (over g f))
+    (frame-same (λ y x. Covers f a.columns a.lines y x ⊎ Covers g a.columns a.lines y x) (Covers (over g f) a.columns a.lines) (frame_of_two (frame_of a f) (frame_of a g))
     (λ y x there. elim there [
       | inl first ↦ record { below = first.below; left = first.left; some = over-first (g y x) (f y x) first.some }
       | inr second ↦ record { below = second.below; left = second.left; some = over-second (g y x) (f y x) second.some }
@@ -184,17 +184,17 @@ frame-over a f g =
 
 -- the rectangle in the window under a number, if there is one
 drawing_frame-some : (w : ℕ) (o : Option Window) (f g : Drawing)
-    → option_and_then (λ a. frame_of a (over g f)) o ≡ joined (option_and_then (λ a. frame_of a f) o) (option_and_then (λ a. frame_of a g) o)
+    → option_and_then (λ a. frame_of a (over g f)) o ≡ frame_of_two (option_and_then (λ a. frame_of a f) o) (option_and_then (λ a. frame_of a g) o)
 drawing_frame-some w None f g = refl
 drawing_frame-some w (Some a) f g = frame-over a f g
 
 pub drawing_frame-over : (windows : Windows) (w : ℕ) (f g : Drawing)
-    → drawing_frame windows w (λ a. over g f) ≡ joined (drawing_frame windows w (λ a. f)) (drawing_frame windows w (λ a. g))
+    → drawing_frame windows w (λ a. over g f) ≡ frame_of_two (drawing_frame windows w (λ a. f)) (drawing_frame windows w (λ a. g))
 drawing_frame-over windows w f g = drawing_frame-some w (windows.window w) f g
 
 -- no write changes it
 frame-drawn : (w u : ℕ) (a : Window) (p : GridPlace) (f g : Drawing) (o : Option Window)
-    → option_and_then (λ b. frame_of b g) (option_map (drawn w a p f u) o) ≡ option_and_then (λ b. frame_of b g) o
+    → option_and_then (λ b. frame_of b g) (option_map (after_drawing w a p f u) o) ≡ option_and_then (λ b. frame_of b g) o
 frame-drawn w u a p f g None = refl
 frame-drawn w u a p f g (Some b) = refl
 

@@ -10,7 +10,7 @@ use Rattle.cell.specs.declared.limits.TheConstants.{MOST_WINDOWS}
 use Rattle.world.specs.Windows.{Backing, own_grid, part_of, GridPlace, Window, WindowMap, Windows, ancestors_within, derives, leads, own, own_within, parent_number, parent_of, window_limit}
 use Rattle.world.specs.Panels.{Panels, cell_on_screen, found_from_top, holds, place_of, standard_screen, windows_from_top}
 use Rattle.world.specs.Sound.{AreSoundPanels, AreSoundWindows, IsSoundWindow, IsStandardScreen}
-use Rattle.world.specs.Effects.{Change, after_change, asks, deletes, edits, makes, marked, marks, moved_to, moves, numbered, shifted_to, shifts, with_part, with_place, touched_by_change}
+use Rattle.world.specs.Effects.{Change, after_change, asks, deletes, edits, makes, after_marks, marks, moved_to, moves, under_number, shifted_to, shifts, with_part, with_place, touched_by_change}
 use Rattle.world.specs.calls.Making.{has_derived, has_no_parent, is_own, is_part_of}
 use Rattle.world.specs.calls.Affected.{change_shows_at, follows_at, move_shows_at}
 use Rattle.world.proofs.Allowed.{IsAllowed, not-in-panel, sound-panel}
@@ -135,10 +135,10 @@ no-part windows w sound none v a is = false_from_ne_true (is_part_of w a.backing
     cc)
 
 found-deleted : (windows : Windows) (panels : Panels) (w y x : ℕ) → AreSoundWindows windows → AreSoundPanels windows.window panels
-    → IsAllowed windows panels (deletes w) → found_from_top (numbered windows w None).window panels y x ≡ found_from_top windows.window panels y x
+    → IsAllowed windows panels (deletes w) → found_from_top (under_number windows w None).window panels y x ≡ found_from_top windows.window panels y x
 found-deleted windows panels w y x sound panels_sound allowed =
     let none : (u : ℕ) → derives windows.window w u ≡ false = λ u. underived windows.window w (no-part windows w sound allowed.2) window_limit u in
-    found-apart (numbered windows w None).window windows.window panels w (replaced-off windows.window w None)
+    found-apart (under_number windows w None).window windows.window panels w (replaced-off windows.window w None)
     (λ p u is. (not-in-panel windows.window panels w panels_sound allowed.1 p u is, none u))
     (λ same. eqb-false w standard_screen allowed.0 (sym same), none standard_screen) y x
 
@@ -183,9 +183,9 @@ chain-ends windows u None h some = cc
 chain-ends windows u (Some a) h some = h.chain_ends
 
 found-new : (windows : Windows) (panels : Panels) (n : ℕ) (o : Option Window) (y x : ℕ) → AreSoundWindows windows → AreSoundPanels windows.window panels → windows.window n ≡ None
-    → found_from_top (numbered windows n o).window panels y x ≡ found_from_top windows.window panels y x
+    → found_from_top (under_number windows n o).window panels y x ≡ found_from_top windows.window panels y x
 found-new windows panels n o y x sound panels_sound free =
-    found-apart (numbered windows n o).window windows.window panels n (replaced-off windows.window n o)
+    found-apart (under_number windows n o).window windows.window panels n (replaced-off windows.window n o)
     (λ p u is. there u (there-some (windows.window u) _ (sound-panel windows.window panels panels_sound p u is).window_is))
     (there standard_screen (there-some (windows.window standard_screen) _ sound.standard)) y x where
       there : (u : ℕ) → IsSome (windows.window u) → (u ≡ n → ⊥) × (derives windows.window n u ≡ false)
@@ -224,7 +224,7 @@ found-placed windows panels w v z y x sound allowed =
 
 -- ---- marks
 
-marked-cells : (windows : Windows) (test : ℕ → Bool) (change : ℕ → Window → Window) → SameCells (marked windows test change).window windows.window
+marked-cells : (windows : Windows) (test : ℕ → Bool) (change : ℕ → Window → Window) → SameCells (after_marks windows test change).window windows.window
 marked-cells windows test change = record {
   outlines = λ u. same-if (λ o. outline_of o) (touched_by_change (change u)) (λ a. refl) (test u) (windows.window u);
   backings = λ u. same-if (λ o. backing_of o) (touched_by_change (change u)) (λ a. refl) (test u) (windows.window u);
@@ -238,7 +238,7 @@ pub found-change : (windows : Windows) (panels : Panels) (change : Change) (y x 
 found-change windows panels (asks reply) y x sound panels_sound below left allowed free = refl
 found-change windows panels (edits edit) y x sound panels_sound below left allowed free = found-edit windows panels edit y x sound below left free
 found-change windows panels (marks test change) y x sound panels_sound below left allowed free =
-    found-dressed (marked windows test change).window windows.window (marked-cells windows test change) panels y x
+    found-dressed (after_marks windows test change).window windows.window (marked-cells windows test change) panels y x
 found-change windows panels (makes n a) y x sound panels_sound below left allowed free = found-new windows panels n a y x sound panels_sound allowed
 found-change windows panels (deletes w) y x sound panels_sound below left allowed free = found-deleted windows panels w y x sound panels_sound allowed
 found-change windows panels (moves w place) y x sound panels_sound below left allowed free = found-placed windows panels w place.0 place.1 y x panels_sound allowed

@@ -6,8 +6,8 @@ use Rattle.std.specs.List.{list_any}
 use mathlib.Core.Path.{fun_ext}
 use Rattle.std.proofs.lemmas.Bool.{and_parts, and_from, false_from_ne_true, le-leb, lt-ltb, or_cases, or_left, or_parts, or_right}
 use Rattle.cell.specs.Pictures.{Place}
-use Rattle.world.specs.Windows.{Drawing, GridPlace, HasPlace, Window, WindowMap, Windows, cell_at, cell_in_grid, drawn, own, put_from, put_windows}
-use Rattle.world.specs.Frames.{Covers, IsFrameOf, IsIn, frame_of, joined}
+use Rattle.world.specs.Windows.{Drawing, GridPlace, HasPlace, Window, WindowMap, Windows, cell_at, cell_in_grid, after_drawing, own, put_from, put_windows}
+use Rattle.world.specs.Frames.{Covers, IsFrameOf, IsIn, frame_of, frame_of_two}
 use Rattle.world.specs.Panels.{Panels, cell_on_screen, found_from_top, holds, holds_place, place_of, standard_screen, windows_from_top, windows_of_picture}
 use Rattle.world.specs.Sharing.{any_in, is_same_place, shows_part_of}
 use Rattle.world.specs.Sound.{AreSoundWindows, IsStandardScreen}
@@ -22,7 +22,7 @@ use Rattle.cell.specs.declared.window.Rect.{Rect}
 -- ---- a write leaves sizes and places
 
 module _ (window : WindowMap) (w : ℕ) (f : Drawing) where
-  outline-drawn : (a : Window) (p : GridPlace) (u : ℕ) (o : Option Window) → outline_of (option_map (drawn w a p f u) o) ≡ outline_of o
+  outline-drawn : (a : Window) (p : GridPlace) (u : ℕ) (o : Option Window) → outline_of (option_map (after_drawing w a p f u) o) ≡ outline_of o
   outline-drawn a p u None = refl
   outline-drawn a p u (Some b) = refl
 
@@ -76,7 +76,7 @@ module _ (window : WindowMap) (panels : Panels) (w y x : ℕ) where
       let never : true ≡ false = sym more ∙ free in
       cc)
 
-  pub joined-free : (o p : Option Rect) → frame_shows_at window panels w (joined o p) y x ≡ false
+  pub joined-free : (o p : Option Rect) → frame_shows_at window panels w (frame_of_two o p) y x ≡ false
       → (frame_shows_at window panels w o y x ≡ false) × (frame_shows_at window panels w p y x ≡ false)
   joined-free None p free = (refl, free)
   joined-free (Some r) None free = (free, refl)

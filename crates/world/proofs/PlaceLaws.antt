@@ -4,10 +4,10 @@ use Rattle.std.specs.Prelude.{IsSome, IsSomeAnd, MatchOption, is_some, ⊤}
 use Rattle.std.specs.Option.{option_map, option_map_or}
 use Rattle.std.proofs.lemmas.Bool.{ne_eqb}
 use Rattle.cell.specs.Pictures.{Place}
-use Rattle.world.specs.Windows.{Window, WindowMap, Windows, changed}
+use Rattle.world.specs.Windows.{Window, WindowMap, Windows, with_change}
 use Rattle.world.specs.Panels.{Panels, standard_screen}
 use Rattle.world.specs.Sound.{AreSoundPanels, IsSoundPanel}
-use Rattle.world.specs.Effects.{Change, Edit, after_change, after_edit, asks, deletes, edits, makes, marks, moved_to, moves, numbered, shifts, with_part, with_place, touched_by_change}
+use Rattle.world.specs.Effects.{Change, Edit, after_change, after_edit, asks, deletes, edits, makes, marks, moved_to, moves, under_number, shifts, with_part, with_place, touched_by_change}
 use Rattle.world.proofs.Allowed.{IsAllowed, not-in-panel}
 use Rattle.world.proofs.PictureLaws.{SameView}
 use Rattle.world.proofs.ViewLaws.{Outline, outline_of}
@@ -32,7 +32,7 @@ same_if false o change h = refl
 -- ---- one change
 
 pub places-changed : (windows : Windows) (w : ℕ) (change : Window → Window) → ((a : Window) → is_some (change a).place ≡ is_some a.place)
-    → SamePlaces (record windows { window = changed windows.window w change }) windows
+    → SamePlaces (record windows { window = with_change windows.window w change }) windows
 places-changed windows w change h u = same_if (u == w) (windows.window u) change h
 
 -- ---- edits and marks
@@ -51,7 +51,7 @@ places-edit windows edit = places-view (after_edit windows edit) windows (view-e
 
 -- ---- changes
 
-pub keeps-other : (windows : Windows) (n : ℕ) (o : Option Window) (w : ℕ) → w ≢ n → has_place (windows.window w) ≡ true → has_place ((numbered windows n o).window w) ≡ true
+pub keeps-other : (windows : Windows) (n : ℕ) (o : Option Window) (w : ℕ) → w ≢ n → has_place (windows.window w) ≡ true → has_place ((under_number windows n o).window w) ≡ true
 keeps-other windows n o w other h =
     let test : (w == n) ≡ false = ne_eqb w n other in
     rw test h

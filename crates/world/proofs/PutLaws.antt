@@ -5,7 +5,7 @@ use mathlib.Core.Path.{fun_ext}
 use Rattle.std.proofs.lemmas.Bool.{cases_eq, ne_eqb}
 use Rattle.std.proofs.lemmas.Bool.Decides.{nat_tests}
 use Rattle.cell.specs.Glyphs.{Glyph}
-use Rattle.world.specs.Windows.{Window, WindowMap, GridPlace, Drawing, own, cell_at, within, moved, laid_over, touched_below, touched_by, drawn, put_from, put_windows, onward, over}
+use Rattle.world.specs.Windows.{Window, WindowMap, GridPlace, Drawing, own, cell_at, within, grid_drawing, laid_over, touched_below, touched_by, after_drawing, put_from, put_windows, onward, over}
 use Rattle.world.proofs.WindowLaws.{own-onward, put-put, put-takes, cell_at-kept}
 
 -- ---- only what is in the window is drawn
@@ -31,31 +31,31 @@ within-same a f g same = fun_ext (λ y. fun_ext (λ x. if-same (nat_lt y a.lines
 
 drawn_as : (w : ℕ) (a : Window) (p : GridPlace) (u : ℕ) → Drawing → Window
 drawn_as w a p u d = record a {
-  backing = (if u == p.grid then laid_over (moved p d) a.backing else a.backing);
+  backing = (if u == p.grid then laid_over (grid_drawing p d) a.backing else a.backing);
   touched = (if u == w then (λ y. touched_below a.columns (λ x. is_some (d y x)) (a.touched y)) else a.touched);
 }
 
-drawn-itself : (w : ℕ) (a : Window) (p : GridPlace) (f g : Drawing) (u : ℕ) → within a f ≡ within a g → drawn w a p f u a ≡ drawn w a p g u a
+drawn-itself : (w : ℕ) (a : Window) (p : GridPlace) (f g : Drawing) (u : ℕ) → within a f ≡ within a g → after_drawing w a p f u a ≡ after_drawing w a p g u a
 unfolding drawn_as
 drawn-itself w a p f g u e = ap (drawn_as w a p u) e
 
 drawn-other : (t q : Bool) (a b : Window) (p : GridPlace) (f g : Drawing) → q ≡ false → within a f ≡ within a g
-    → record b { backing = (if t then laid_over (moved p (within a f)) b.backing else b.backing); touched = (if q then touched_by f b else b.touched) }
-    ≡ record b { backing = (if t then laid_over (moved p (within a g)) b.backing else b.backing); touched = (if q then touched_by g b else b.touched) }
+    → record b { backing = (if t then laid_over (grid_drawing p (within a f)) b.backing else b.backing); touched = (if q then touched_by f b else b.touched) }
+    ≡ record b { backing = (if t then laid_over (grid_drawing p (within a g)) b.backing else b.backing); touched = (if q then touched_by g b else b.touched) }
 drawn-other t true a b p f g apart e = cc
-drawn-other t false a b p f g apart e = ap (λ (d : Drawing). record b { backing = (if t then laid_over (moved p d) b.backing else b.backing) }) e
+drawn-other t false a b p f g apart e = ap (λ (d : Drawing). record b { backing = (if t then laid_over (grid_drawing p d) b.backing else b.backing) }) e
 
 option-other : (w : ℕ) (a : Window) (p : GridPlace) (f g : Drawing) (u : ℕ) (o : Option Window) → (u == w) ≡ false → within a f ≡ within a g
-    → option_map (drawn w a p f u) o ≡ option_map (drawn w a p g u) o
+    → option_map (after_drawing w a p f u) o ≡ option_map (after_drawing w a p g u) o
 option-other w a p f g u None apart e = refl
 option-other w a p f g u (Some b) apart e = ap Some (drawn-other (u == p.grid) (u == w) a b p f g apart e)
 
 same-at : (window : WindowMap) (w : ℕ) (a : Window) (p : GridPlace) (f g : Drawing) → window w ≡ Some a → within a f ≡ within a g
-    → (u : ℕ) → option_map (drawn w a p f u) (window u) ≡ option_map (drawn w a p g u) (window u)
+    → (u : ℕ) → option_map (after_drawing w a p f u) (window u) ≡ option_map (after_drawing w a p g u) (window u)
 same-at window w a p f g there e u = elim (cases_eq u w) [
   | inl same ↦
       let here : window u ≡ Some a = ap window same ∙ there in
-      ap (option_map (drawn w a p f u)) here ∙ ap Some (drawn-itself w a p f g u e) ∙ sym (ap (option_map (drawn w a p g u)) here)
+      ap (option_map (after_drawing w a p f u)) here ∙ ap Some (drawn-itself w a p f g u e) ∙ sym (ap (option_map (after_drawing w a p g u)) here)
   | inr other ↦ option-other w a p f g u (window u) (ne_eqb u w other) e
 ]
 
@@ -77,7 +77,7 @@ put-then window w a f g h there same = put-put window w f g ∙ put-same window 
 
 -- ---- what the window shows after a write
 
-drawn-nothing : (spot : GridPlace) (a : Window) (f : Drawing) (y x : ℕ) → f y x ≡ None → moved spot (within a f) (spot.line + y) (spot.column + x) ≡ None
+drawn-nothing : (spot : GridPlace) (a : Window) (f : Drawing) (y x : ℕ) → f y x ≡ None → grid_drawing spot (within a f) (spot.line + y) (spot.column + x) ≡ None
 drawn-nothing spot a f y x h =
     let lines : spot.line + y - spot.line ≡ y = omega arith in
     let columns : spot.column + x - spot.column ≡ x = omega arith in

@@ -166,7 +166,7 @@ module _ (window : WindowMap) (w : ℕ) (r : Rect) (u : ℕ) where
                   let above = range.top_is in
                   let under = range.bottom_is in
                   let before = range.left_is in
-                  let behind = range.right_is in
+                  let beyond = range.right_is in
                   record { top = above; bottom = omega arith; left = before; right = omega arith };
               top = (first_column, shared-at first_line first_column grid high lines near columns);
               bottom = (first_column, shared-at (end_line - 1) first_column grid low last near columns);
@@ -175,7 +175,7 @@ module _ (window : WindowMap) (w : ℕ) (r : Rect) (u : ℕ) where
             },
             λ y x inside.
                 let under = inside.bottom in
-                let behind = inside.right in
+                let beyond = inside.right in
                 shared-at y x grid inside.top (omega arith) inside.left (omega arith),
           ),
         )

@@ -13,7 +13,7 @@ use Rattle.std.proofs.lemmas.List.Elements.{filter-append}
 use Rattle.world.specs.Windows.{WindowMap, Windows}
 use Rattle.world.specs.Panels.{Panels, cell_on_screen, found_from_top, holds, owner, panel_holds, standard_screen, topmost, window_or_standard}
 use Rattle.world.specs.Sound.{AreSoundPanels, AreSoundWindows}
-use Rattle.world.specs.Effects.{Order, adds, carries, changes, given, moved_to, orders, panels_after, windows_after, with_panel}
+use Rattle.world.specs.Effects.{Order, adds, carries, changes, with_entry, moved_to, orders, panels_after, windows_after, with_panel}
 use Rattle.world.specs.calls.Affected.{order_shows_at, panel_shows_at, stays_on_top, window_on_top}
 use Rattle.world.specs.calls.Stacking.{stacking_order, stacking_refusal, without}
 use Rattle.world.proofs.Allowed.{IsAllowed, passed, sound-panel}
@@ -185,7 +185,7 @@ module _ (p : ℕ) where
   shown-order : (qs : List ℕ) → without p (without p qs ++ p ∷ []) ≡ without p qs
   shown-order qs = without-last (without p qs) ∙ without-twice qs
 
-  given-other : (window : ℕ → Option ℕ) (w : Option ℕ) (q : ℕ) → q ≢ p → given window p w q ≡ window q
+  given-other : (window : ℕ → Option ℕ) (w : Option ℕ) (q : ℕ) → q ≢ p → with_entry window p w q ≡ window q
   given-other window w q other = let apart = ne_eqb q p other in rw apart refl
 
 -- ---- move_panel

@@ -8,7 +8,7 @@ use mathlib.Core.Path.{fun_ext}
 use Rattle.std.proofs.lemmas.Bool.{or_parts}
 use Rattle.cell.specs.Glyphs.{blank}
 use Rattle.cell.specs.Pictures.{Place, origin}
-use Rattle.world.specs.Windows.{Backing, GridPlace, Window, WindowMap, Windows, cell_at, cell_in_grid, cell_of, changed, leads, own, own_within, window_limit}
+use Rattle.world.specs.Windows.{Backing, GridPlace, Window, WindowMap, Windows, cell_at, cell_in_grid, cell_of, with_change, leads, own, own_within, window_limit}
 use Rattle.world.specs.Settings.{set, set_in}
 use Rattle.world.specs.Panels.{Panels, cell_on_screen, found_from_top, holds, holds_place, owner, panel_holds, place_of, screen_place, standard_screen, window_or_standard, windows_from_top}
 use Rattle.world.specs.declared.settings.Settings.{Settings}
@@ -170,7 +170,7 @@ found-dressed new old same panels y x =
       kept u = on_screen-same new old u (same.outlines u) y x (cell_at-same new old same.backings u (y - (place_of old u).0) (x - (place_of old u).1))
 
 pub changed-cells : (window : WindowMap) (w : ℕ) (change : Window → Window) → ((a : Window) → outline_of (Some (change a)) ≡ outline_of (Some a))
-    → ((a : Window) → backing_of (Some (change a)) ≡ backing_of (Some a)) → SameCells (changed window w change) window
+    → ((a : Window) → backing_of (Some (change a)) ≡ backing_of (Some a)) → SameCells (with_change window w change) window
 changed-cells window w change outlines backings = record {
   outlines = λ u. same-if (λ o. outline_of o) change outlines (u == w) (window u);
   backings = λ u. same-if (λ o. backing_of o) change backings (u == w) (window u);

@@ -7,8 +7,8 @@ use mathlib.Core.Path.{fun_ext}
 use Rattle.std.proofs.lemmas.Bool.{cases_lt, lt-ltb, le-ltb, le-leb, lt-leb, eqb-true}
 use Rattle.std.proofs.lemmas.Bool.Decides.{nat_tests}
 use Rattle.cell.specs.Glyphs.{Glyph, blank}
-use Rattle.world.specs.Windows.{Backing, own_grid, part_of, Window, WindowMap, GridPlace, Drawing, leads, own_within, own, cell_of, cell_in_grid, cell_at, within, moved, laid_over}
-use Rattle.world.specs.Windows.{joined_columns, touched_below, touched_by, drawn, put_from, put_windows, HasPlace, window_limit, onward, over}
+use Rattle.world.specs.Windows.{Backing, own_grid, part_of, Window, WindowMap, GridPlace, Drawing, leads, own_within, own, cell_of, cell_in_grid, cell_at, within, grid_drawing, laid_over}
+use Rattle.world.specs.Windows.{joined_columns, touched_below, touched_by, after_drawing, put_from, put_windows, HasPlace, window_limit, onward, over}
 use Rattle.world.specs.declared.settings.Columns.{Columns}
 
 -- a window's places lead to the places of one rectangle of a grid: own is own of (0, 0), moved
@@ -43,9 +43,9 @@ leads-more f g h w y x (own_grid cells) = refl
 leads-more f g h w y x (part_of parent line column) = h parent (y + line) (x + column)
 
 step-drawn : (f g : ℕ → ℕ → ℕ → Option GridPlace) → ((w y x : ℕ) → f w y x ≡ g w y x) → (w : ℕ) (a : Window) (spot : GridPlace) (d : Drawing) (u y x : ℕ) (o : Option Window) →
-    option_and_then (λ c. leads f u y x c.backing) (option_map (drawn w a spot d u) o) ≡ option_and_then (λ c. leads g u y x c.backing) o
+    option_and_then (λ c. leads f u y x c.backing) (option_map (after_drawing w a spot d u) o) ≡ option_and_then (λ c. leads g u y x c.backing) o
 step-drawn f g h w a spot d u y x None = refl
-step-drawn f g h w a spot d u y x (Some c) = leads-laid f u y x (u == spot.grid) (moved spot (within a d)) c.backing ∙ leads-more f g h u y x c.backing
+step-drawn f g h w a spot d u y x (Some c) = leads-laid f u y x (u == spot.grid) (grid_drawing spot (within a d)) c.backing ∙ leads-more f g h u y x c.backing
 
 own_within-put_from : (n : ℕ) (window : WindowMap) (w : ℕ) (a : Option Window) (spot : Option GridPlace) (d : Drawing) (u y x : ℕ)
     → own_within n (put_from window w a spot d) u y x ≡ own_within n window u y x
@@ -96,7 +96,8 @@ laid-point true true None f c = refl
 laid-point true false g f c = refl
 laid-point false t2 g f c = refl
 
-laid-laid : (spot : GridPlace) (a : Window) (f g : Drawing) (s : Backing) → laid_over (moved spot (within a g)) (laid_over (moved spot (within a f)) s) ≡ laid_over (moved spot (within a (over g f))) s
+laid-laid : (spot : GridPlace) (a : Window) (f g : Drawing) (s : Backing) → laid_over (grid_drawing spot (within a g)) (laid_over (grid_drawing spot (within a f)) s)
+    ≡ laid_over (grid_drawing spot (within a (over g f))) s
 laid-laid spot a f g (own_grid cells) = ap own_grid (fun_ext (λ y. fun_ext (λ x.
     let v = y - spot.line in let u = x - spot.column in
     laid-point (nat_le spot.line y && nat_le spot.column x) (nat_lt v a.lines && nat_lt u a.columns) (g v u) (f v u) (cells y x))))
@@ -122,10 +123,11 @@ drawn-by true false b f2 g2 h2 f g e = λ i. record b { backing = e i }
 drawn-by false true b f2 g2 h2 f g e = λ i. record b { touched = λ y. touched_by-twice b f g y i }
 drawn-by false false b f2 g2 h2 f g e = refl
 
-twice-at : (w : ℕ) (a : Window) (spot : GridPlace) (f g : Drawing) (u : ℕ) (o : Option Window) → option_map (drawn w (drawn w a spot f w a) spot g u) (option_map (drawn w a spot f u) o)
-    ≡ option_map (drawn w a spot (over g f) u) o
+twice-at : (w : ℕ) (a : Window) (spot : GridPlace) (f g : Drawing) (u : ℕ) (o : Option Window)
+    → option_map (after_drawing w (after_drawing w a spot f w a) spot g u) (option_map (after_drawing w a spot f u) o)
+    ≡ option_map (after_drawing w a spot (over g f) u) o
 twice-at w a spot f g u None = refl
-twice-at w a spot f g u (Some b) = ap Some (drawn-by (u == spot.grid) (u == w) b (moved spot (within a f)) (moved spot (within a g)) (moved spot (within a (over g f))) f g
+twice-at w a spot f g u (Some b) = ap Some (drawn-by (u == spot.grid) (u == w) b (grid_drawing spot (within a f)) (grid_drawing spot (within a g)) (grid_drawing spot (within a (over g f))) f g
     (laid-laid spot a f g b.backing))
 
 twice : (window : WindowMap) (w : ℕ) (o : Option Window) → window w ≡ o → (s : Option GridPlace) (f g : Drawing)
@@ -146,17 +148,17 @@ kept-point true f (own_grid cells) y x h = ap (λ o. unwrap_or o (cells y x)) h
 kept-point true f (part_of parent line column) y x h = refl
 kept-point false f s y x h = refl
 
-kept-at : (w : ℕ) (a : Window) (spot : GridPlace) (f : Drawing) (s : GridPlace) (o : Option Window) → moved spot (within a f) s.line s.column ≡ None →
-    option_map_or (λ c. cell_of c.backing s.line s.column) (option_map (drawn w a spot f s.grid) o) blank ≡ option_map_or (λ c. cell_of c.backing s.line s.column) o blank
+kept-at : (w : ℕ) (a : Window) (spot : GridPlace) (f : Drawing) (s : GridPlace) (o : Option Window) → grid_drawing spot (within a f) s.line s.column ≡ None →
+    option_map_or (λ c. cell_of c.backing s.line s.column) (option_map (after_drawing w a spot f s.grid) o) blank ≡ option_map_or (λ c. cell_of c.backing s.line s.column) o blank
 kept-at w a spot f s None h = refl
-kept-at w a spot f s (Some b) h = kept-point (s.grid == spot.grid) (moved spot (within a f)) b.backing s.line s.column h
+kept-at w a spot f s (Some b) h = kept-point (s.grid == spot.grid) (grid_drawing spot (within a f)) b.backing s.line s.column h
 
 pub cell_at-kept : (window : WindowMap) (w : ℕ) (a : Window) (spot : GridPlace) (f : Drawing) (u y x : ℕ) (s : GridPlace) → window w ≡ Some a → own window w 0 0 ≡ Some spot
     → own window u y x ≡ Some s →
-    moved spot (within a f) s.line s.column ≡ None → cell_at (put_windows window w f) u y x ≡ cell_at window u y x
+    grid_drawing spot (within a f) s.line s.column ≡ None → cell_at (put_windows window w f) u y x ≡ cell_at window u y x
 cell_at-kept window w a spot f u y x s e leads_w leads_u h =
     let p = put_windows window w f in
-    let here : p s.grid ≡ option_map (drawn w a spot f s.grid) (window s.grid) = ap (λ o. put_from window w o (own window w 0 0) f s.grid) e
+    let here : p s.grid ≡ option_map (after_drawing w a spot f s.grid) (window s.grid) = ap (λ o. put_from window w o (own window w 0 0) f s.grid) e
     ∙ ap (λ o. put_from window w (Some a) o f s.grid) leads_w in
     ap (cell_in_grid p) (own-put window w f u y x ∙ leads_u)
     ∙ ap (λ o. option_map_or (λ c. cell_of c.backing s.line s.column) o blank) here
@@ -184,10 +186,10 @@ run-nothing : (t : Bool) (f : Drawing) (b : Window) → ((y x : ℕ) → f y x �
 run-nothing true f b h = fun_ext (λ y. touched-nothing b.columns (λ x. is_some (within b f y x)) (b.touched y) (λ x. ap (λ (o : Option Glyph). is_some o) (nothing-within b f h y x)))
 run-nothing false f b h = refl
 
-nothing-at : (w : ℕ) (a : Window) (spot : GridPlace) (f : Drawing) (u : ℕ) (o : Option Window) → ((y x : ℕ) → f y x ≡ None) → option_map (drawn w a spot f u) o ≡ o
+nothing-at : (w : ℕ) (a : Window) (spot : GridPlace) (f : Drawing) (u : ℕ) (o : Option Window) → ((y x : ℕ) → f y x ≡ None) → option_map (after_drawing w a spot f u) o ≡ o
 nothing-at w a spot f u None h = refl
 nothing-at w a spot f u (Some b) h =
-    let e = laid-nothing (u == spot.grid) (moved spot (within a f)) b.backing (λ y x. none_either (nat_le spot.line y && nat_le spot.column x) (within a f (y - spot.line) (x - spot.column))
+    let e = laid-nothing (u == spot.grid) (grid_drawing spot (within a f)) b.backing (λ y x. none_either (nat_le spot.line y && nat_le spot.column x) (within a f (y - spot.line) (x - spot.column))
     (nothing-within a f h (y - spot.line) (x - spot.column))) in
     let r = run-nothing (u == w) f b h in
     λ i. Some (record b { backing = e i; touched = r i })
@@ -202,7 +204,7 @@ put-nothing window w f h = nothing-from window w (window w) (own window w 0 0) f
 
 -- a write leaves each window its size
 size-at : (w : ℕ) (a : Window) (spot : GridPlace) (f : Drawing) (u : ℕ) (o : Option Window) (y x : ℕ) → IsSomeAnd o (λ b. (y < b.lines) × (x < b.columns))
-    → IsSomeAnd (option_map (drawn w a spot f u) o) (λ b. (y < b.lines) × (x < b.columns))
+    → IsSomeAnd (option_map (after_drawing w a spot f u) o) (λ b. (y < b.lines) × (x < b.columns))
 size-at w a spot f u None y x h = h
 size-at w a spot f u (Some b) y x h = h
 
@@ -243,7 +245,8 @@ onward-spot : (o : Option GridPlace) (spot s : GridPlace) (y x : ℕ) → o ≡ 
 onward-spot None spot s y x e h = cc
 onward-spot (Some p) spot s y x e h = let same : p ≡ spot = cc in let there : onward y x p ≡ s = cc in sym there ∙ ap (onward y x) same
 
-drawn-point : (spot : GridPlace) (a : Window) (f : Drawing) (y x : ℕ) (c : Glyph) → y < a.lines → x < a.columns → f y x ≡ Some c → moved spot (within a f) (spot.line + y) (spot.column + x) ≡ Some c
+drawn-point : (spot : GridPlace) (a : Window) (f : Drawing) (y x : ℕ) (c : Glyph) → y < a.lines → x < a.columns → f y x ≡ Some c → grid_drawing spot (within a f) (spot.line + y) (spot.column + x)
+    ≡ Some c
 drawn-point spot a f y x c in_lines in_cols h =
     let lines : spot.line + y - spot.line ≡ y = omega arith in
     let columns : spot.column + x - spot.column ≡ x = omega arith in
@@ -256,11 +259,11 @@ put-takes window w a spot f y x c u v z e leads_w in_lines in_cols is same =
     let there : own window u v z ≡ Some s = same ∙ own-onward window w y x ∙ ap (option_map (onward y x)) leads_w in
     let end = own-ends window_limit window u v z s there in
     let p = put_windows window w f in
-    let here : p s.grid ≡ option_map (drawn w a spot f s.grid) (window s.grid) = ap (λ o. put_from window w o (own window w 0 0) f s.grid) e
+    let here : p s.grid ≡ option_map (after_drawing w a spot f s.grid) (window s.grid) = ap (λ o. put_from window w o (own window w 0 0) f s.grid) e
     ∙ ap (λ o. put_from window w (Some a) o f s.grid) leads_w in
     ap (cell_in_grid p) (own-put window w f u v z ∙ there)
-    ∙ ap (λ o. option_map_or (λ b. cell_of b.backing s.line s.column) o blank) (here ∙ ap (option_map (drawn w a spot f s.grid)) end.2)
-    ∙ taken-point (s.grid == spot.grid) (moved spot (within a f)) (end.0).backing s.line s.column end.1 c (eq-eqb s.grid spot.grid refl) end.3 (drawn-point spot a f y x c in_lines in_cols is)
+    ∙ ap (λ o. option_map_or (λ b. cell_of b.backing s.line s.column) o blank) (here ∙ ap (option_map (after_drawing w a spot f s.grid)) end.2)
+    ∙ taken-point (s.grid == spot.grid) (grid_drawing spot (within a f)) (end.0).backing s.line s.column end.1 c (eq-eqb s.grid spot.grid refl) end.3 (drawn-point spot a f y x c in_lines in_cols is)
 
 -- ---- a place that no written place of the window shares keeps its cell
 
@@ -268,10 +271,10 @@ kept-if : (t : Bool) (f : Drawing) (s : Backing) (y x : ℕ) → (t ≡ true →
 kept-if true f s y x h = kept-point true f s y x (h refl)
 kept-if false f s y x h = refl
 
-kept-grid : (w : ℕ) (a : Window) (p : GridPlace) (f : Drawing) (s : GridPlace) (o : Option Window) → ((s.grid == p.grid) ≡ true → moved p (within a f) s.line s.column ≡ None)
-    → option_map_or (λ c. cell_of c.backing s.line s.column) (option_map (drawn w a p f s.grid) o) blank ≡ option_map_or (λ c. cell_of c.backing s.line s.column) o blank
+kept-grid : (w : ℕ) (a : Window) (p : GridPlace) (f : Drawing) (s : GridPlace) (o : Option Window) → ((s.grid == p.grid) ≡ true → grid_drawing p (within a f) s.line s.column ≡ None)
+    → option_map_or (λ c. cell_of c.backing s.line s.column) (option_map (after_drawing w a p f s.grid) o) blank ≡ option_map_or (λ c. cell_of c.backing s.line s.column) o blank
 kept-grid w a p f s None h = refl
-kept-grid w a p f s (Some b) h = kept-if (s.grid == p.grid) (moved p (within a f)) b.backing s.line s.column h
+kept-grid w a p f s (Some b) h = kept-if (s.grid == p.grid) (grid_drawing p (within a f)) b.backing s.line s.column h
 
 -- the drawing leaves out what the premise rules out
 left-out : (a : Window) (f : Drawing) (y x : ℕ) → (y < a.lines → x < a.columns → IsSome (f y x) → ⊥) → within a f y x ≡ None
@@ -289,7 +292,7 @@ left-out a f y x h = elim (cases_lt y a.lines) [
 module _ (window : WindowMap) (w : ℕ) (f : Drawing) (u v z : ℕ)
     (apart : (y x : ℕ) → HasPlace window w y x → IsSome (f y x) → own window w y x ≡ own window u v z → ⊥) where
   moved-left_out : (a : Window) (p s : GridPlace) → window w ≡ Some a → own window w 0 0 ≡ Some p → own window u v z ≡ Some s → (s.grid == p.grid) ≡ true
-      → moved p (within a f) s.line s.column ≡ None
+      → grid_drawing p (within a f) s.line s.column ≡ None
   moved-left_out a p s e leads_w leads_u same = elim (cases_lt s.line p.line) [
     | inl above ↦ let l = lt-leb p.line s.line above in rw l refl
     | inr line ↦ elim (cases_lt s.column p.column) [

@@ -6,7 +6,7 @@ use Rattle.cell.specs.Pictures.{Place}
 use Rattle.world.specs.Windows.{Drawing, HasPlace, Window, WindowMap, Windows, put, put_windows}
 use Rattle.world.specs.Settings.{set, with_cursor}
 use Rattle.world.specs.Drawings.{at_place, to_end_of_line, written_glyph}
-use Rattle.world.specs.Frames.{Covers, IsFrameOf, frame_of, joined}
+use Rattle.world.specs.Frames.{Covers, IsFrameOf, frame_of, frame_of_two}
 use Rattle.world.specs.Panels.{Panels, first_panels, found_from_top, holds, standard_screen}
 use Rattle.world.specs.Sound.{AreSoundWindows}
 use Rattle.world.specs.Typing.{after_character, after_text, backspace, carriage_return, character_frame, character_printed, drawn_to, frame_of_character, is_last_line, line_ended}
@@ -50,7 +50,7 @@ both-sizes : (y x v z : ℕ) (o : Option Window) → IsSomeAnd o (λ b. (y < b.l
     → IsSomeAnd o (λ b. (max y v < b.lines) × (max x z < b.columns))
 both-sizes y x v z None h k = h
 both-sizes y x v z (Some b) h k =
-    let above = h.0 in let before = h.1 in let below = k.0 in let behind = k.1 in
+    let above = h.0 in let before = h.1 in let below = k.0 in let beyond = k.1 in
     (omega arith, omega arith)
 
 drawing-inside : (window : WindowMap) (w : ℕ) (a : Window) (f : Drawing) → outline_of (window w) ≡ Some (outline a)
@@ -67,7 +67,7 @@ drawing-inside window w a f size (Some r) frame =
     }
 
 joined-inside : (window : WindowMap) (w : ℕ) (o p : Option Rect) → MatchOption o ⊤ (IsInside window w) → MatchOption p ⊤ (IsInside window w)
-    → MatchOption (joined o p) ⊤ (IsInside window w)
+    → MatchOption (frame_of_two o p) ⊤ (IsInside window w)
 joined-inside window w None p h k = k
 joined-inside window w (Some r) None h k = h
 joined-inside window w (Some r) (Some s) h k =
@@ -112,7 +112,7 @@ module _ (panels : Panels) (w y x : ℕ) where
   }
 
   -- one frame and then another
-  and-then : (old middle new : Windows) (one other : Option Rect) → Writes old one middle → Writes middle other new → Writes old (joined one other) new
+  and-then : (old middle new : Windows) (one other : Option Rect) → Writes old one middle → Writes middle other new → Writes old (frame_of_two one other) new
   and-then old middle new one other first second = record {
     view = record {
       outlines = λ u. second.view.outlines u ∙ first.view.outlines u;
@@ -177,7 +177,7 @@ module _ (panels : Panels) (w y x : ℕ) where
     printed windows character size =
         let glyph : Drawing = at_place a.settings.cursor (written_glyph a.settings character) in
         chosen (nat_lt (a.settings.cursor.1 + 1) a.columns) windows (drawn_to windows w glyph (a.settings.cursor.0, a.settings.cursor.1 + 1))
-        (to_next_line (put windows w glyph) w a a.settings.cursor) (frame_of a glyph) (joined (frame_of a glyph) (next_line_frame (put windows w glyph).window w a))
+        (to_next_line (put windows w glyph) w a a.settings.cursor) (frame_of a glyph) (frame_of_two (frame_of a glyph) (next_line_frame (put windows w glyph).window w a))
         (and-set windows (put windows w glyph) (frame_of a glyph) (with_cursor (a.settings.cursor.0, a.settings.cursor.1 + 1)) (drawn windows a glyph size))
         (and-then windows (put windows w glyph) (to_next_line (put windows w glyph) w a a.settings.cursor) (frame_of a glyph)
         (next_line_frame (put windows w glyph).window w a) (drawn windows a glyph size)

@@ -5,7 +5,7 @@ use Rattle.std.specs.List.{list_any}
 use Rattle.std.specs.Option.{option_map, option_map_or}
 use Rattle.cell.specs.Pictures.{Picture, Place, picture_of, shown_at}
 use Rattle.cell.specs.Shown.{Pairs, Shown, shown}
-use Rattle.world.specs.Windows.{Backing, own_grid, part_of, Drawing, Window, WindowMap, Windows, changed, if_there, put, replaced}
+use Rattle.world.specs.Windows.{Backing, own_grid, part_of, Drawing, Window, WindowMap, Windows, with_change, if_there, put, with_window}
 use Rattle.world.specs.Settings.{set}
 use Rattle.world.specs.Panels.{Panels, window_or_standard, windows_of_picture}
 use Rattle.world.specs.Frames.{frame_of}
@@ -67,19 +67,19 @@ pub data Change : Type 0 where
 abbrev pub touched_by_change : (Window → Window) → Window → Window
 touched_by_change change a = record a { touched = (change a).touched }
 
-abbrev pub marked : Windows → (ℕ → Bool) → (ℕ → Window → Window) → Windows
-marked windows test change =
+abbrev pub after_marks : Windows → (ℕ → Bool) → (ℕ → Window → Window) → Windows
+after_marks windows test change =
     record windows { window = λ u. if test u then option_map (touched_by_change (change u)) (windows.window u) else windows.window u }
 
 -- another window, or none, under the number n
-abbrev pub numbered : Windows → ℕ → Option Window → Windows
-numbered windows n a = record windows { window = replaced windows.window n a }
+abbrev pub under_number : Windows → ℕ → Option Window → Windows
+under_number windows n a = record windows { window = with_window windows.window n a }
 
 abbrev pub with_place : ℕ → ℕ → Window → Window
 with_place y x a = record a { place = Some (y, x) }
 
 abbrev pub moved_to : Windows → ℕ → Place → Windows
-moved_to windows w place = record windows { window = changed windows.window w (with_place place.0 place.1) }
+moved_to windows w place = record windows { window = with_change windows.window w (with_place place.0 place.1) }
 
 abbrev pub with_offset : ℕ → ℕ → Backing → Backing
 with_offset y x (own_grid cells) = own_grid cells
@@ -89,14 +89,14 @@ abbrev pub with_part : ℕ → ℕ → Window → Window
 with_part y x a = record a { backing = with_offset y x a.backing }
 
 abbrev pub shifted_to : Windows → ℕ → Place → Windows
-shifted_to windows w place = record windows { window = changed windows.window w (with_part place.0 place.1) }
+shifted_to windows w place = record windows { window = with_change windows.window w (with_part place.0 place.1) }
 
 abbrev pub after_change : Windows → Change → Windows
 after_change windows (asks reply) = windows
 after_change windows (edits edit) = after_edit windows edit
-after_change windows (marks test change) = marked windows test change
-after_change windows (makes n a) = numbered windows n a
-after_change windows (deletes w) = numbered windows w None
+after_change windows (marks test change) = after_marks windows test change
+after_change windows (makes n a) = under_number windows n a
+after_change windows (deletes w) = under_number windows w None
 after_change windows (moves w place) = moved_to windows w place
 after_change windows (shifts w place) = shifted_to windows w place
 
@@ -144,11 +144,11 @@ windows_after windows panels (orders p order) = windows
 windows_after windows panels (carries p place) = moved_to windows (window_or_standard panels (Some p)) place
 
 -- another window, or none, for the panel p
-abbrev pub given : (ℕ → Option ℕ) → ℕ → Option ℕ → ℕ → Option ℕ
-given window p w q = if q == p then w else window q
+abbrev pub with_entry : (ℕ → Option ℕ) → ℕ → Option ℕ → ℕ → Option ℕ
+with_entry window p w q = if q == p then w else window q
 
 abbrev pub with_panel : Panels → ℕ → ℕ → Panels
-with_panel panels p w = record { visible = panels.visible ++ p ∷ []; window = given panels.window p (Some w) }
+with_panel panels p w = record { visible = panels.visible ++ p ∷ []; window = with_entry panels.window p (Some w) }
 
 abbrev pub panels_after : Panels → Order → Panels
 panels_after panels (changes change) = panels
@@ -191,12 +191,12 @@ abbrev pub unmarked_lines : (ℕ → Bool) → Window → Window
 unmarked_lines test a = record a { touched = λ y. if test y then None else a.touched y; settings = record a.settings { clear = false } }
 
 -- all lines
-abbrev pub unmarked : Window → Window
-unmarked a = unmarked_lines (λ y. true) a
+abbrev pub without_marks : Window → Window
+without_marks a = unmarked_lines (λ y. true) a
 
 -- the windows of a list, unmarked
 abbrev pub with_unmarked : WindowMap → List ℕ → WindowMap
-with_unmarked window ws u = if list_any (λ w. w == u) ws then option_map unmarked (window u) else window u
+with_unmarked window ws u = if list_any (λ w. w == u) ws then option_map without_marks (window u) else window u
 
 abbrev pub asks_for_clear : WindowMap → ℕ → Bool
 asks_for_clear window w = option_map_or (λ a. a.settings.clear) (window w) false
@@ -235,7 +235,7 @@ after world (arranges order) = record world {
   panels = panels_after world.panels order;
 }
 after world (refreshes w test drawing cursor) = record world {
-  windows = record world.windows { window = changed world.windows.window w (unmarked_lines test) };
+  windows = record world.windows { window = with_change world.windows.window w (unmarked_lines test) };
   virtual = virtual_with world w drawing cursor;
 }
 after world composes = record world {

@@ -5,10 +5,10 @@ use Rattle.world.specs.Windows.{Drawing, Window}
 use Rattle.cell.specs.declared.window.Rect.{Rect}
 
 -- the smallest rectangle that holds two
-abbrev pub joined : Option Rect → Option Rect → Option Rect
-joined None b = b
-joined (Some a) None = Some a
-joined (Some a) (Some b) = Some (record { top = min a.top b.top; left = min a.left b.left; bottom = max a.bottom b.bottom; right = max a.right b.right })
+abbrev pub frame_of_two : Option Rect → Option Rect → Option Rect
+frame_of_two None b = b
+frame_of_two (Some a) None = Some a
+frame_of_two (Some a) (Some b) = Some (record { top = min a.top b.top; left = min a.left b.left; bottom = max a.bottom b.bottom; right = max a.right b.right })
 
 -- one place
 abbrev pub frame_at : ℕ → ℕ → Option Rect
@@ -17,12 +17,12 @@ frame_at y x = Some (record { top = y; left = x; bottom = y; right = x })
 -- of what a drawing has on line y before column n
 unfoldable pub frame_in_line : Drawing → ℕ → ℕ → Option Rect
 frame_in_line f y zero = None
-frame_in_line f y (suc n) = joined (frame_in_line f y n) (if is_some (f y n) then frame_at y n else None)
+frame_in_line f y (suc n) = frame_of_two (frame_in_line f y n) (if is_some (f y n) then frame_at y n else None)
 
 -- of what a drawing has in so many columns before line n
 unfoldable pub frame_above : Drawing → ℕ → ℕ → Option Rect
 frame_above f columns zero = None
-frame_above f columns (suc n) = joined (frame_above f columns n) (frame_in_line f n columns)
+frame_above f columns (suc n) = frame_of_two (frame_above f columns n) (frame_in_line f n columns)
 
 -- the rectangle of a drawing, or none if it has no cell for the window
 abbrev pub frame_of : Window → Drawing → Option Rect

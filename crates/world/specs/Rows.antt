@@ -11,18 +11,18 @@ abbrev pub line_shown : WindowMap → ℕ → ℕ → List Glyph
 line_shown window w y = option_map_or (λ a. map (λ x. cell_at window w y x) (range_with_len 0 a.columns)) (window w) []
 
 -- one cell in the columns from left to right of a line, both ends inclusive
-abbrev pub filled : ℕ → ℕ → ℕ → Glyph → Drawing
-filled line left right glyph y x = if (y == line) && (nat_le left x && nat_le x right) then Some glyph else None
+abbrev pub filled_cells : ℕ → ℕ → ℕ → Glyph → Drawing
+filled_cells line left right glyph y x = if (y == line) && (nat_le left x && nat_le x right) then Some glyph else None
 
 -- the cells of a list, in a line from column left on
-abbrev pub listed : ℕ → ℕ → List Glyph → Drawing
-listed line left cells y x = if (y == line) && (nat_le left x && nat_lt x (left + length cells)) then Some (slice_index_or cells (x - left) blank) else None
+abbrev pub listed_cells : ℕ → ℕ → List Glyph → Drawing
+listed_cells line left cells y x = if (y == line) && (nat_le left x && nat_lt x (left + length cells)) then Some (slice_index_or cells (x - left) blank) else None
 
 -- the cell, unless it is a space and spaces are left out
-abbrev pub overlaid : Bool → Glyph → Option Glyph
-overlaid overlay glyph = if overlay && (glyph.character == 32) then None else Some glyph
+abbrev pub overlaid_cell : Bool → Glyph → Option Glyph
+overlaid_cell overlay glyph = if overlay && (glyph.character == 32) then None else Some glyph
 
 -- n cells of line sy of window src from column sx on, for line dy from column dx on
-abbrev pub copied : WindowMap → ℕ → ℕ → ℕ → ℕ → ℕ → ℕ → Bool → Drawing
-copied window src sy sx dy dx n overlay y x =
-    if (y == dy) && (nat_le dx x && nat_lt x (dx + n)) then overlaid overlay (cell_at window src sy (sx + (x - dx))) else None
+abbrev pub copied_cells : WindowMap → ℕ → ℕ → ℕ → ℕ → ℕ → ℕ → Bool → Drawing
+copied_cells window src sy sx dy dx n overlay y x =
+    if (y == dy) && (nat_le dx x && nat_lt x (dx + n)) then overlaid_cell overlay (cell_at window src sy (sx + (x - dx))) else None

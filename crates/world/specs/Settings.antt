@@ -3,7 +3,7 @@
 use Rattle.std.specs.Prelude.{ℕ}
 use Rattle.cell.specs.Attributes.{bits_of, valid_attributes}
 use Rattle.cell.specs.Pictures.{Place}
-use Rattle.world.specs.Windows.{Window, Windows, changed}
+use Rattle.world.specs.Windows.{Window, Windows, with_change}
 use Rattle.world.specs.declared.settings.Settings.{Settings}
 
 -- other settings, without bits beyond the six attributes
@@ -11,14 +11,14 @@ abbrev pub with_settings : Settings → Window → Window
 with_settings settings a = record a { settings = record settings { attrs = record { 0 = valid_attributes (bits_of settings.attrs) } } }
 
 abbrev pub after_set_settings : Windows → ℕ → Settings → Windows
-after_set_settings windows w settings = record windows { window = changed windows.window w (with_settings settings) }
+after_set_settings windows w settings = record windows { window = with_change windows.window w (with_settings settings) }
 
 -- a window's settings changed
 abbrev pub set_in : (Settings → Settings) → Window → Window
 set_in change a = record a { settings = change a.settings }
 
 abbrev pub set : Windows → ℕ → (Settings → Settings) → Windows
-set windows w change = record windows { window = changed windows.window w (set_in change) }
+set windows w change = record windows { window = with_change windows.window w (set_in change) }
 
 abbrev pub with_cursor : Place → Settings → Settings
 with_cursor place settings = record settings { cursor = place }

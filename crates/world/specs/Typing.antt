@@ -7,7 +7,7 @@ use Rattle.cell.specs.Pictures.{Place}
 use Rattle.world.specs.Windows.{Drawing, Window, WindowMap, Windows, if_there, put}
 use Rattle.world.specs.Settings.{set, with_cursor}
 use Rattle.world.specs.Drawings.{written_glyph, at_place, to_end_of_line, lines_up}
-use Rattle.world.specs.Frames.{joined, frame_of}
+use Rattle.world.specs.Frames.{frame_of_two, frame_of}
 use Rattle.cell.specs.declared.window.Rect.{Rect}
 
 -- ---- characters
@@ -68,7 +68,7 @@ abbrev pub character_frame : Windows → ℕ → ℕ → Window → Option Rect
 character_frame windows w character a =
     let glyph = at_place a.settings.cursor (written_glyph a.settings character) in
     if nat_lt (a.settings.cursor.1 + 1) a.columns then frame_of a glyph
-    else joined (frame_of a glyph) (next_line_frame (put windows w glyph).window w a)
+    else frame_of_two (frame_of a glyph) (next_line_frame (put windows w glyph).window w a)
 
 -- a newline clears the line from the cursor on; at the end of a last line the cursor goes to column 0
 abbrev pub line_ended : Windows → ℕ → Window → Windows
@@ -78,7 +78,7 @@ line_ended windows w a =
 abbrev pub line_ended_frame : Windows → ℕ → Window → Option Rect
 line_ended_frame windows w a =
     let rest = to_end_of_line a.settings.cursor a.settings.background in
-    joined (frame_of a rest) (next_line_frame (put windows w rest).window w a)
+    frame_of_two (frame_of a rest) (next_line_frame (put windows w rest).window w a)
 
 abbrev pub typed_in : Windows → ℕ → ℕ → Window → Windows
 typed_in windows w character a =
@@ -106,4 +106,4 @@ after_text windows w text = fold (λ before character. after_character before w 
 
 abbrev pub text_frame : Windows → ℕ → List ℕ → Option Rect
 text_frame windows w [] = None
-text_frame windows w (character ∷ text) = joined (frame_of_character windows w character) (text_frame (after_character windows w character) w text)
+text_frame windows w (character ∷ text) = frame_of_two (frame_of_character windows w character) (text_frame (after_character windows w character) w text)

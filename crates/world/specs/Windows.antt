@@ -113,8 +113,8 @@ abbrev pub within : Window → Drawing → Drawing
 within a f y x = if nat_lt y a.lines && nat_lt x a.columns then f y x else None
 
 -- the drawing as a grid has it, where the drawing's (0, 0) leads to this place
-abbrev pub moved : GridPlace → Drawing → Drawing
-moved p f y x = if nat_le p.line y && nat_le p.column x then f (y - p.line) (x - p.column) else None
+abbrev pub grid_drawing : GridPlace → Drawing → Drawing
+grid_drawing p f y x = if nat_le p.line y && nat_le p.column x then f (y - p.line) (x - p.column) else None
 
 -- a grid with a drawing laid over it
 abbrev pub laid_over : Drawing → Backing → Backing
@@ -136,14 +136,14 @@ abbrev pub touched_by : Drawing → Window → ℕ → Option Columns
 touched_by f a y = touched_below a.columns (λ x. is_some (within a f y x)) (a.touched y)
 
 -- window u, which is b, after the drawing f was written through window w, which is a and begins at this place
-abbrev pub drawn : ℕ → Window → GridPlace → Drawing → ℕ → Window → Window
-drawn w a p f u b = record b {
-  backing = (if u == p.grid then laid_over (moved p (within a f)) b.backing else b.backing);
+abbrev pub after_drawing : ℕ → Window → GridPlace → Drawing → ℕ → Window → Window
+after_drawing w a p f u b = record b {
+  backing = (if u == p.grid then laid_over (grid_drawing p (within a f)) b.backing else b.backing);
   touched = (if u == w then touched_by f b else b.touched);
 }
 
 abbrev pub put_from : WindowMap → ℕ → Option Window → Option GridPlace → Drawing → WindowMap
-put_from window w (Some a) (Some p) f u = option_map (drawn w a p f u) (window u)
+put_from window w (Some a) (Some p) f u = option_map (after_drawing w a p f u) (window u)
 put_from window w (Some a) None f u = window u
 put_from window w None p f u = window u
 
@@ -171,12 +171,12 @@ abbrev pub HasPlace : WindowMap → ℕ → ℕ → ℕ → Type 0
 HasPlace window w y x = IsSomeAnd (window w) (λ a. (y < a.lines) × (x < a.columns))
 
 -- one window changed
-abbrev pub changed : WindowMap → ℕ → (Window → Window) → WindowMap
-changed window w change u = if u == w then option_map change (window u) else window u
+abbrev pub with_change : WindowMap → ℕ → (Window → Window) → WindowMap
+with_change window w change u = if u == w then option_map change (window u) else window u
 
 -- another window, or none, under a number
-abbrev pub replaced : WindowMap → ℕ → Option Window → WindowMap
-replaced window w a u = if u == w then a else window u
+abbrev pub with_window : WindowMap → ℕ → Option Window → WindowMap
+with_window window w a u = if u == w then a else window u
 
 abbrev pub no_windows : WindowMap
 no_windows w = None

@@ -5,7 +5,7 @@ use Rattle.cell.specs.Glyphs.{blank}
 use Rattle.cell.specs.Pictures.{Place, origin, blank_picture}
 use Rattle.cell.specs.Shown.{Shown, Pairs, shown, first_pairs}
 use Rattle.cell.specs.VirtualScreens.{VirtualScreen}
-use Rattle.world.specs.Windows.{Backing, own_grid, Window, Windows, no_windows, replaced}
+use Rattle.world.specs.Windows.{Backing, own_grid, Window, Windows, no_windows, with_window}
 use Rattle.world.specs.Panels.{Panels, first_panels, standard_screen, found_from_top, cursor_of_topmost}
 use Rattle.world.specs.declared.settings.Settings.{Settings}
 
@@ -39,7 +39,7 @@ new_window lines columns place backing = record { lines = lines; columns = colum
 -- the standard screen alone, under a blank virtual screen
 abbrev pub first_world : ℕ → ℕ → World
 first_world lines columns = record {
-  windows = record { lines = lines; columns = columns; window = replaced no_windows standard_screen (Some (new_window lines columns (Some origin) blank_grid)) };
+  windows = record { lines = lines; columns = columns; window = with_window no_windows standard_screen (Some (new_window lines columns (Some origin) blank_grid)) };
   panels = first_panels;
   pairs = first_pairs;
   virtual = record { picture = blank_picture lines columns; cursor = origin; clear = false };

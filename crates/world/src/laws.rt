@@ -2,7 +2,7 @@
 
 ghost use Rattle.std.specs.Prelude.{◌≡◌, ◌<◌, ◌≤◌, ℕ, true, false, List, Option, Some, None, IsSome, option_map, ◌⊎◌};
 ghost use Rattle.cell.specs.declared.window.Rect.{Rect};
-ghost use Rattle.world.specs.Frames.{AreRectangle, Covers, IsFrameOf, frame_of, joined};
+ghost use Rattle.world.specs.Frames.{AreRectangle, Covers, IsFrameOf, frame_of, frame_of_two};
 ghost use Rattle.world.specs.Panels.{Panels, cursor_of_topmost, found_from_top, is_in_panel};
 ghost use Rattle.world.specs.Sharing.{SharesPart};
 ghost use Rattle.world.specs.Sound.{AreSoundPanels, AreSoundWindows, IsSound};
@@ -142,7 +142,7 @@ pub fn frame_is_smallest()
 /// The rectangle of two drawings is the smallest that holds what either covers.
 pub fn joined_frames()
     ensures { (a : Window) (f g : Drawing)
-        → IsFrameOf (λ y x. Covers f a.columns a.lines y x ⊎ Covers g a.columns a.lines y x) (joined (frame_of a f) (frame_of a g)) }
+        → IsFrameOf (λ y x. Covers f a.columns a.lines y x ⊎ Covers g a.columns a.lines y x) (frame_of_two (frame_of a f) (frame_of a g)) }
 {}
 
 /// Untouching windows and clearing their clear flags changes neither what a search from the top finds nor the topmost's cursor.

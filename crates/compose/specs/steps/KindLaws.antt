@@ -109,12 +109,12 @@ of_effect shows h = cc
 of_effect (colours p foreground background) h = refl
 
 -- what an accepted call answers that sends nothing
-pub kind-told : (w : World) (damaged : ℕ → Bool) (call : Call) (reply : Reply) → is_doupdate call ≡ false → refusal w call ≡ None → MayTell w damaged call reply
+pub kind-of-answer : (w : World) (damaged : ℕ → Bool) (call : Call) (reply : Reply) → is_doupdate call ≡ false → refusal w call ≡ None → MayTell w damaged call reply
     → IsOfKind (kind_of w call) reply
-kind-told w damaged (calls.Query query) reply other h is = subst (IsOfKind (kind_of_query query)) (sym is) (of_query w.windows query h)
-kind-told w damaged (calls.Refresh UpdatePanels) reply other h is = (record { cells = is.0 }, is.2)
-kind-told w damaged (calls.Refresh Doupdate) reply other h is = cc
-kind-told w damaged call reply other h is = subst (IsOfKind (kind_of w call)) (sym is) (of_effect (effect_of w call) refl)
+kind-of-answer w damaged (calls.Query query) reply other h is = subst (IsOfKind (kind_of_query query)) (sym is) (of_query w.windows query h)
+kind-of-answer w damaged (calls.Refresh UpdatePanels) reply other h is = (record { cells = is.0 }, is.2)
+kind-of-answer w damaged (calls.Refresh Doupdate) reply other h is = cc
+kind-of-answer w damaged call reply other h is = subst (IsOfKind (kind_of w call)) (sym is) (of_effect (effect_of w call) refl)
 
 pub answers-called : (old : DeskTable) (call : Call) (reply : Reply) (new : DeskTable) → is_doupdate call ≡ false → Called old call (Ok reply) new → IsAnswerTo call reply
-answers-called old call reply new other h = (world old, kind-told (world old) (is_damaged_line old) call reply other h.0 h.1)
+answers-called old call reply new other h = (world old, kind-of-answer (world old) (is_damaged_line old) call reply other h.0 h.1)

@@ -6,7 +6,7 @@ use Rattle.world.specs.declared.call.Call.{Call}
 use Rattle.world.specs.declared.call.Reply.{Reply}
 use Rattle.compose.specs.Desks.{is_damaged_line, world}
 use Rattle.calls.specs.Kinds.{IsAnswerTo}
-use Rattle.compose.specs.steps.KindLaws.{kind-told}
+use Rattle.compose.specs.steps.KindLaws.{kind-of-answer}
 use Rattle.desk.specs.Methods.{CallMade}
 use Rattle.desk.specs.States.{ScreenOver, state_of}
 use Rattle.desk.specs.steps.Quiet.{quiet-reply}
@@ -17,4 +17,4 @@ answers-made seen name old call reply new other made =
     let sent = made.ends.1.0 in
     let may = made.ends.1.1 in
     let quiet = (quiet-reply (state_of old) reply sent call other).0 may.1 in
-    (world old.desk, kind-told (world old.desk) (is_damaged_line old.desk) call reply other may.0 quiet.1)
+    (world old.desk, kind-of-answer (world old.desk) (is_damaged_line old.desk) call reply other may.0 quiet.1)

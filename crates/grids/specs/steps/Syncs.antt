@@ -27,6 +27,6 @@ abbrev pub EndsWithin : WindowMap → ℕ → Place → Type 0
 EndsWithin window w p = IsSomeAnd (window w) (λ a. (p.0 + a.lines ≤ LARGEST_PAD) × (p.1 + a.columns ≤ LARGEST_PAD))
 
 -- the parent and the offset into it, of a derived window
-abbrev pub part_behind : Backing → Option Part
-part_behind (own_grid cells) = None
-part_behind (part_of parent line column) = Some (record { parent = parent; line = line; column = column })
+abbrev pub part_in_parent : Backing → Option Part
+part_in_parent (own_grid cells) = None
+part_in_parent (part_of parent line column) = Some (record { parent = parent; line = line; column = column })

@@ -1,7 +1,7 @@
 -- What changes where a number becomes a panel's, and where a panel's window changes.
 use Rattle.std.specs.Prelude.{◌≡◌, ℕ, ◌+◌, ◌<◌, ◌≤◌, Option, Some, None, List, length}
 use Rattle.cell.specs.declared.limits.TheConstants.{MOST_PANELS}
-use Rattle.world.specs.Effects.{given}
+use Rattle.world.specs.Effects.{with_entry}
 use Rattle.stack.specs.Nodes.{above_at, below_at, window_at, from_bottom, IsOut, IsThreaded}
 use Rattle.stack.specs.Tables.{IsPanelTable}
 use Rattle.stack.specs.declared.nodes.Node.{Node}
@@ -23,7 +23,7 @@ pub record NodeMade (old new : List Node) (p : ℕ) : Type 0 where
 -- the panel p has another window, or is none any more, and nothing else changed
 pub record Windowed (old new : List Node) (p : ℕ) (w : Option ℕ) : Type 0 where
   pub length : length new ≡ length old
-  pub window : (q : ℕ) → window_at new q ≡ given (window_at old) p w q
+  pub window : (q : ℕ) → window_at new q ≡ with_entry (window_at old) p w q
   pub above : (q : ℕ) → above_at new q ≡ above_at old q
   pub below : (q : ℕ) → below_at new q ≡ below_at old q
 
@@ -31,7 +31,7 @@ pub record Windowed (old new : List Node) (p : ℕ) (w : Option ℕ) : Type 0 wh
 pub record Entered (old new : List Node) (p w : ℕ) : Type 0 where
   pub some : 0 < length new
   pub few : length new ≤ MOST_PANELS + 1
-  pub window : (q : ℕ) → window_at new q ≡ given (window_at old) p (Some w) q
+  pub window : (q : ℕ) → window_at new q ≡ with_entry (window_at old) p (Some w) q
   pub threaded : IsThreaded new (from_bottom new)
   pub is : from_bottom new ≡ from_bottom old
   pub out : IsOut p (from_bottom new)

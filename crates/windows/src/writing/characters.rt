@@ -1,13 +1,15 @@
 //! The calls that write characters.
 
-ghost use Rattle.std.specs.Prelude.{◌≡◌, ℕ, ◌+◌, ◌<◌, ◌≤◌, ◌==◌, if◌then◌else◌, length, slice_index, take, EachIndex, IsSome, Some, IfOk, OnOk, OnErr, false, true};
+ghost use Rattle.std.specs.Prelude.{◌≡◌, ℕ, ◌+◌, ◌<◌, ◌≤◌, ◌==◌, if◌then◌else◌, length, slice_index, take, EachIndex, IsSome, Some, IfOk, OnOk, OnErr, false};
+ghost use Rattle.std.specs.Prelude.{true};
 ghost use Rattle.std.specs.List.{list_any};
 ghost use Rattle.std.specs.Result.{result_err};
 ghost use Rattle.cell.specs.Attributes.{bits_of};
 ghost use Rattle.world.specs.Drawings.{written_glyph};
 ghost use Rattle.world.specs.Sound.{AreSoundWindows};
 ghost use Rattle.world.specs.calls.Writing.{is_bad_character, after_writing, writing_frame, writing_refusal};
-ghost use Rattle.world.specs.Typing.{to_next_line, next_line_frame, character_printed, character_frame, line_ended, line_ended_frame, typed_in, typed_frame, after_text, text_frame};
+ghost use Rattle.world.specs.Typing.{to_next_line, next_line_frame, character_printed, character_frame, line_ended, line_ended_frame, typed_in, typed_frame};
+ghost use Rattle.world.specs.Typing.{after_text, text_frame};
 ghost use Rattle.world.specs.declared.call.Writing.{Writing};
 ghost use Rattle.cell.specs.Glyphs.{is_printable};
 ghost use Rattle.grids.specs.Tables.{windows};
@@ -21,7 +23,7 @@ use crate::table::Windows;
 use bitflags::Flags;
 use cell::{Cell, PairId, Rect, Refusal, WinId, are_printable, is_printable};
 use grids::Grids;
-use grids::frame::{joined, place};
+use grids::frame::{frame_of_two, place};
 use world::Settings;
 
 const BACKSPACE: u8 = 8;
@@ -125,7 +127,7 @@ fn type_text(table: &mut Grids, win: WinId, text: &[u8]) -> Option<Rect>
     let mut rest = text;
     while !rest.is_empty() {
         let (count, written) = type_first(table, win, rest);
-        frame = joined(frame, written);
+        frame = frame_of_two(frame, written);
         rest = rest.split_at(count).1;
     }
     frame
@@ -244,7 +246,7 @@ fn print(table: &mut Grids, win: WinId, state: &WindowState, ch: u8) -> Option<R
         set_cursor(table, win, state, y, x + 1);
         return one;
     }
-    joined(one, to_next_line(table, win, state, y, x))
+    frame_of_two(one, to_next_line(table, win, state, y, x))
 }
 
 /// Clears the rest of the cursor's line and goes to the next.
@@ -257,7 +259,7 @@ fn end_line(table: &mut Grids, win: WinId, state: &WindowState) -> Option<Rect>
     let (y, x) = state.settings.cursor;
     clear_rest(table, win, state, y, x);
     let rest = Some(lines_from(state, y, y, x));
-    joined(rest, to_next_line(table, win, state, y, 0))
+    frame_of_two(rest, to_next_line(table, win, state, y, 0))
 }
 
 /// Goes to the next line, or scrolls the region; at the end of a last line the cursor goes to the place (y, x) instead.

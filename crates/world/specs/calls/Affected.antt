@@ -104,15 +104,15 @@ abbrev pub affected_after : World → (ℕ → Bool) → Call → ℕ → Bool
 affected_after world affected call line = if is_update_panels call then false else affected line || affected_lines world call line
 
 -- the most cells that a call may read: an update_panels the columns of each of these lines, the others none
-abbrev pub owed : World → (ℕ → Bool) → Call → ℕ
-owed world affected call = if is_update_panels call then count_by affected (range_with_len 0 world.windows.lines) * world.windows.columns else 0
+abbrev pub most_cells : World → (ℕ → Bool) → Call → ℕ
+most_cells world affected call = if is_update_panels call then count_by affected (range_with_len 0 world.windows.lines) * world.windows.columns else 0
 
 -- The bound on reads: what all update_panels of a run may read, from a world with lines affected before it. A run's calls are listed with
 -- whether each was accepted.
 abbrev pub bound_on_reads : World → (ℕ → Bool) → List (Call × Bool) → ℕ
 bound_on_reads world affected [] = 0
 bound_on_reads world affected (call ∷ calls) =
-    if call.1 then owed world affected call.0 + bound_on_reads (world_after world call.0) (affected_after world affected call.0) calls
+    if call.1 then most_cells world affected call.0 + bound_on_reads (world_after world call.0) (affected_after world affected call.0) calls
     else bound_on_reads world affected calls
 
 -- as at the start of a run on a new screen

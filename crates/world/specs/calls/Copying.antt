@@ -8,11 +8,11 @@ use Rattle.std.specs.Option.{option_map_or}
 use Rattle.cell.specs.Refusals.{first_of}
 use Rattle.world.specs.Windows.{Drawing, Window, WindowMap, Windows, ancestors, any_below, cell_at, derives, is_missing, touched_below}
 use Rattle.world.specs.Panels.{cell_on_screen, holds, place_of}
-use Rattle.world.specs.Rows.{overlaid}
+use Rattle.world.specs.Rows.{overlaid_cell}
 use Rattle.world.specs.Sharing.{shows_part_of}
 use Rattle.world.specs.Effects.{Change, asks, edits, draws, marks, after_change, change_frame}
 use Rattle.world.specs.calls.Making.{is_pad}
-use Rattle.world.specs.calls.Missing.{missing}
+use Rattle.world.specs.calls.Missing.{missing_window}
 use Rattle.world.specs.calls.Writing.{lacks_place}
 use Rattle.cell.specs.declared.window.Rect.{Rect}
 use Rattle.cell.specs.declared.refusal.Refusal.{Refusal}
@@ -27,14 +27,14 @@ use Rattle.world.specs.declared.settings.Columns.{Columns}
 -- so many lines and columns of window src, from (sy, sx) on, for those from (dy, dx) on
 abbrev pub rectangle_copied : WindowMap → ℕ → ℕ → ℕ → ℕ → ℕ → ℕ → ℕ → Bool → Drawing
 rectangle_copied window src sy sx dy dx lines columns overlay y x =
-    if (nat_le dy y && nat_lt y (dy + lines)) && (nat_le dx x && nat_lt x (dx + columns)) then overlaid overlay (cell_at window src (sy + (y - dy)) (sx + (x - dx))) else None
+    if (nat_le dy y && nat_lt y (dy + lines)) && (nat_le dx x && nat_lt x (dx + columns)) then overlaid_cell overlay (cell_at window src (sy + (y - dy)) (sx + (x - dx))) else None
 
 -- the cells of window src, for the places of window dst at which both cover the screen
-abbrev pub common_copied : WindowMap → ℕ → ℕ → Bool → Drawing
-common_copied window src dst overlay y x =
+abbrev pub common_cells : WindowMap → ℕ → ℕ → Bool → Drawing
+common_cells window src dst overlay y x =
     let line = (place_of window dst).0 + y in
     let column = (place_of window dst).1 + x in
-    if holds window src line column then overlaid overlay (cell_on_screen window src line column) else None
+    if holds window src line column then overlaid_cell overlay (cell_on_screen window src line column) else None
 
 -- the rectangle of window src for one of another, both ends inclusive
 abbrev pub copywin_drawing : WindowMap → ℕ → ℕ → ℕ → ℕ → ℕ → ℕ → ℕ → Bool → Drawing
@@ -63,8 +63,8 @@ shows_touched_of window w u y x =
     option_map_or (λ a. any_below a.lines (λ v. option_map_or (λ r. shows_part_of window w (in_line v r) u y x) (a.touched v) false)) (window w) false
 
 -- the places of a window that pass a test are touched too
-abbrev pub touching : (ℕ → ℕ → Bool) → Window → Window
-touching test a = record a { touched = λ y. if nat_lt y a.lines then touched_below a.columns (test y) (a.touched y) else a.touched y }
+abbrev pub with_touches : (ℕ → ℕ → Bool) → Window → Window
+with_touches test a = record a { touched = λ y. if nat_lt y a.lines then touched_below a.columns (test y) (a.touched y) else a.touched y }
 
 -- a window is touched where it shows what is touched of an ancestor
 abbrev pub shows_touched_of_ancestor : WindowMap → ℕ → ℕ → ℕ → Bool
@@ -101,29 +101,29 @@ copying_tests windows (Overlay src dst) = overlay_tests windows src.0 dst.0
 copying_tests windows (Overwrite src dst) = overlay_tests windows src.0 dst.0
 copying_tests windows (Copywin src dst sminrow smincol dminrow dmincol dmaxrow dmaxcol overlay) =
     copywin_tests windows src.0 dst.0 sminrow smincol dminrow dmincol dmaxrow dmaxcol
-copying_tests windows (Touchwin win) = missing windows win.0 ∷ []
-copying_tests windows (Untouchwin win) = missing windows win.0 ∷ []
-copying_tests windows (Touchline win y n) = missing windows win.0 ∷ (lacks_lines windows.window win.0 y n, OutsideWindow) ∷ []
-copying_tests windows (Touchln win y n flag) = missing windows win.0 ∷ (lacks_lines windows.window win.0 y n, OutsideWindow) ∷ []
-copying_tests windows (Syncup win) = missing windows win.0 ∷ []
-copying_tests windows (Syncdown win) = missing windows win.0 ∷ []
-copying_tests windows (IsLinetouched win y) = missing windows win.0 ∷ (lacks_lines windows.window win.0 y 0, OutsideWindow) ∷ []
-copying_tests windows (IsWintouched win) = missing windows win.0 ∷ []
+copying_tests windows (Touchwin win) = missing_window windows win.0 ∷ []
+copying_tests windows (Untouchwin win) = missing_window windows win.0 ∷ []
+copying_tests windows (Touchline win y n) = missing_window windows win.0 ∷ (lacks_lines windows.window win.0 y n, OutsideWindow) ∷ []
+copying_tests windows (Touchln win y n flag) = missing_window windows win.0 ∷ (lacks_lines windows.window win.0 y n, OutsideWindow) ∷ []
+copying_tests windows (Syncup win) = missing_window windows win.0 ∷ []
+copying_tests windows (Syncdown win) = missing_window windows win.0 ∷ []
+copying_tests windows (IsLinetouched win y) = missing_window windows win.0 ∷ (lacks_lines windows.window win.0 y 0, OutsideWindow) ∷ []
+copying_tests windows (IsWintouched win) = missing_window windows win.0 ∷ []
 
 -- ---- effects
 
 -- a copy is a drawing in its destination
 abbrev pub copying_change : Windows → Copying → Change
-copying_change windows (Overlay src dst) = edits (draws dst.0 (λ a. common_copied windows.window src.0 dst.0 true) None)
-copying_change windows (Overwrite src dst) = edits (draws dst.0 (λ a. common_copied windows.window src.0 dst.0 false) None)
+copying_change windows (Overlay src dst) = edits (draws dst.0 (λ a. common_cells windows.window src.0 dst.0 true) None)
+copying_change windows (Overwrite src dst) = edits (draws dst.0 (λ a. common_cells windows.window src.0 dst.0 false) None)
 copying_change windows (Copywin src dst sminrow smincol dminrow dmincol dmaxrow dmaxcol overlay) =
     edits (draws dst.0 (λ a. copywin_drawing windows.window src.0 sminrow smincol dminrow dmincol dmaxrow dmaxcol overlay) None)
 copying_change windows (Touchwin win) = marks (λ u. u == win.0) (λ u. all_marked true)
 copying_change windows (Untouchwin win) = marks (λ u. u == win.0) (λ u. all_marked false)
 copying_change windows (Touchline win y n) = marks (λ u. u == win.0) (λ u. lines_marked y n true)
 copying_change windows (Touchln win y n flag) = marks (λ u. u == win.0) (λ u. lines_marked y n flag)
-copying_change windows (Syncup win) = marks (λ u. derives windows.window u win.0) (λ u. touching (shows_touched_of windows.window win.0 u))
-copying_change windows (Syncdown win) = marks (λ u. u == win.0) (λ u. touching (shows_touched_of_ancestor windows.window win.0))
+copying_change windows (Syncup win) = marks (λ u. derives windows.window u win.0) (λ u. with_touches (shows_touched_of windows.window win.0 u))
+copying_change windows (Syncdown win) = marks (λ u. u == win.0) (λ u. with_touches (shows_touched_of_ancestor windows.window win.0))
 copying_change windows (IsLinetouched win y) = asks (Flag (is_linetouched windows.window win.0 y))
 copying_change windows (IsWintouched win) = asks (Flag (is_wintouched windows.window win.0))
 

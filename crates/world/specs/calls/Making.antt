@@ -11,7 +11,7 @@ use Rattle.world.specs.Windows.{Backing, own_grid, part_of, Window, WindowMap, W
 use Rattle.world.specs.Panels.{standard_screen, place_of}
 use Rattle.world.specs.World.{new_window, blank_grid}
 use Rattle.world.specs.Effects.{Change, makes, deletes, moves, shifts, after_change}
-use Rattle.world.specs.calls.Missing.{missing}
+use Rattle.world.specs.calls.Missing.{missing_window}
 use Rattle.cell.specs.declared.refusal.Refusal.{Refusal}
 use Rattle.cell.specs.declared.refusal.Refusal.TheVariants.{OffScreen, OutsideParent, HasDerived, InPanel, IsPad, NotPad, NotDerived, BadSize, StandardScreen, TooMany}
 use Rattle.world.specs.declared.call.Making.{Making}
@@ -143,12 +143,12 @@ making_tests windows in_panel (Newwin nlines ncols y x) =
     ∷ (is_full windows.window, TooMany)
     ∷ []
 making_tests windows in_panel (Subwin win nlines ncols y x) =
-    missing windows win.0
+    missing_window windows win.0
     ∷ (is_pad windows.window win.0, IsPad)
     ∷ (is_before windows.window win.0 y x, OutsideParent)
     ∷ part_tests windows win.0 nlines ncols (lines_from windows.window win.0 y) (columns_from windows.window win.0 x)
 making_tests windows in_panel (Derwin win nlines ncols y x) =
-    missing windows win.0
+    missing_window windows win.0
     ∷ (is_pad windows.window win.0, IsPad)
     ∷ part_tests windows win.0 nlines ncols y x
 making_tests windows in_panel (Newpad nlines ncols) =
@@ -156,24 +156,24 @@ making_tests windows in_panel (Newpad nlines ncols) =
     ∷ (is_full windows.window, TooMany)
     ∷ []
 making_tests windows in_panel (Subpad pad nlines ncols y x) =
-    missing windows pad.0
+    missing_window windows pad.0
     ∷ (is_no_pad windows.window pad.0, NotPad)
     ∷ part_tests windows pad.0 nlines ncols y x
 making_tests windows in_panel (Delwin win) =
-    missing windows win.0
+    missing_window windows win.0
     ∷ (win.0 == standard_screen, StandardScreen)
     ∷ (in_panel win.0, InPanel)
     ∷ (has_derived windows.window win.0, HasDerived)
     ∷ []
 making_tests windows in_panel (Mvwin win y x) =
-    missing windows win.0
+    missing_window windows win.0
     ∷ (win.0 == standard_screen, StandardScreen)
     ∷ (is_pad windows.window win.0, IsPad)
     ∷ (in_panel win.0, InPanel)
     ∷ (is_off_screen windows win.0 y x, OffScreen)
     ∷ []
 making_tests windows in_panel (Mvderwin win y x) =
-    missing windows win.0
+    missing_window windows win.0
     ∷ (has_no_parent windows.window win.0, NotDerived)
     ∷ (leaves_parent windows.window win.0 y x, OutsideParent)
     ∷ []

@@ -4,5 +4,5 @@ use Rattle.cell.specs.declared.refusal.Refusal.{Refusal}
 use Rattle.cell.specs.declared.refusal.Refusal.TheVariants.{NoSuchWindow}
 use Rattle.world.specs.Windows.{Windows, is_missing}
 
-abbrev pub missing : Windows → ℕ → Bool × Refusal
-missing windows w = (is_missing windows.window w, NoSuchWindow)
+abbrev pub missing_window : Windows → ℕ → Bool × Refusal
+missing_window windows w = (is_missing windows.window w, NoSuchWindow)

@@ -7,7 +7,7 @@ use Rattle.cell.specs.Pictures.{Place}
 use Rattle.cell.specs.Refusals.{first_of}
 use Rattle.world.specs.Windows.{Backing, own_grid, part_of, WindowMap, Windows, cell_at}
 use Rattle.world.specs.calls.Making.{is_pad, has_no_parent}
-use Rattle.world.specs.calls.Missing.{missing}
+use Rattle.world.specs.calls.Missing.{missing_window}
 use Rattle.cell.specs.declared.refusal.Refusal.{Refusal}
 use Rattle.cell.specs.declared.refusal.Refusal.TheVariants.{IsPad, NotDerived}
 use Rattle.world.specs.declared.call.Query.{Query}
@@ -41,11 +41,11 @@ touched_columns window w y = option_and_then (λ a. a.touched y) (window w)
 -- ---- calls
 
 abbrev pub query_tests : Windows → Query → List (Bool × Refusal)
-query_tests windows (Getyx win) = missing windows win.0 ∷ []
-query_tests windows (Getbegyx win) = missing windows win.0 ∷ (is_pad windows.window win.0, IsPad) ∷ []
-query_tests windows (Getmaxyx win) = missing windows win.0 ∷ []
-query_tests windows (Getparyx win) = missing windows win.0 ∷ (has_no_parent windows.window win.0, NotDerived) ∷ []
-query_tests windows (Inch win) = missing windows win.0 ∷ []
+query_tests windows (Getyx win) = missing_window windows win.0 ∷ []
+query_tests windows (Getbegyx win) = missing_window windows win.0 ∷ (is_pad windows.window win.0, IsPad) ∷ []
+query_tests windows (Getmaxyx win) = missing_window windows win.0 ∷ []
+query_tests windows (Getparyx win) = missing_window windows win.0 ∷ (has_no_parent windows.window win.0, NotDerived) ∷ []
+query_tests windows (Inch win) = missing_window windows win.0 ∷ []
 
 abbrev pub pair : Option Place → Reply
 pair place = option_map_or (λ p. Pair p.0 p.1) place Nothing

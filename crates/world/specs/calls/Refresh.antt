@@ -14,7 +14,7 @@ use Rattle.world.specs.World.{World}
 use Rattle.world.specs.Effects.{Effect, refreshes, composes, shows, colours}
 use Rattle.world.specs.calls.Copying.{copywin_drawing}
 use Rattle.world.specs.calls.Making.{is_pad}
-use Rattle.world.specs.calls.Missing.{missing}
+use Rattle.world.specs.calls.Missing.{missing_window}
 use Rattle.world.specs.calls.Writing.{is_no_pair, lacks_place}
 use Rattle.world.specs.declared.call.Refresh.{Refresh}
 use Rattle.world.specs.declared.call.Refresh.TheVariants.{Noutrefresh, Pnoutrefresh, UpdatePanels, Doupdate, InitPair}
@@ -49,9 +49,9 @@ abbrev pub colour_tests : ℕ → ℕ → ℕ → List (Bool × Refusal)
 colour_tests pair foreground background = (pair == 0 || (is_no_pair pair || (is_no_colour foreground || is_no_colour background)), BadPair) ∷ []
 
 abbrev pub refresh_tests : Windows → Refresh → List (Bool × Refusal)
-refresh_tests windows (Noutrefresh win) = missing windows win.0 ∷ (is_pad windows.window win.0, IsPad) ∷ []
+refresh_tests windows (Noutrefresh win) = missing_window windows win.0 ∷ (is_pad windows.window win.0, IsPad) ∷ []
 refresh_tests windows (Pnoutrefresh pad pminrow pmincol sminrow smincol smaxrow smaxcol) =
-    missing windows pad.0
+    missing_window windows pad.0
     ∷ (not (is_pad windows.window pad.0), NotPad)
     ∷ (nat_lt smaxrow sminrow || nat_lt smaxcol smincol, BadRectangle)
     ∷ (lacks_place windows.window pad.0 (pminrow + (smaxrow - sminrow)) (pmincol + (smaxcol - smincol)), OutsideWindow)

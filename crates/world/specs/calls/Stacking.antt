@@ -12,7 +12,7 @@ use Rattle.cell.specs.declared.refusal.Refusal.{Refusal}
 use Rattle.cell.specs.declared.refusal.Refusal.TheVariants.{NoSuchWindow, NoSuchPanel, OffScreen, IsPad, InPanel, Hidden, StandardScreen, TooMany}
 use Rattle.world.specs.Windows.{WindowMap, Windows, is_missing}
 use Rattle.world.specs.Panels.{Panels, panel_limit, is_in_panel, standard_screen, topmost, window_or_standard}
-use Rattle.world.specs.Effects.{Order, changes, adds, orders, carries, asks, given, panels_after}
+use Rattle.world.specs.Effects.{Order, changes, adds, orders, carries, asks, with_entry, panels_after}
 use Rattle.world.specs.calls.Making.{is_off_screen, is_pad}
 use Rattle.world.specs.declared.call.Reply.TheVariants.{Flag, Number, Panel}
 use Rattle.world.specs.declared.call.Stacking.{Stacking}
@@ -98,7 +98,7 @@ stacking_tests windows panels (PanelHidden panel) = panel_tests panels panel.0
 -- ---- effects
 
 abbrev pub after_del_panel : Panels → ℕ → Panels
-after_del_panel panels p = record { visible = without p panels.visible; window = given panels.window p None }
+after_del_panel panels p = record { visible = without p panels.visible; window = with_entry panels.window p None }
 
 -- on top, whether it was visible or hidden
 abbrev pub after_show_panel : Panels → ℕ → Panels
@@ -112,7 +112,7 @@ after_bottom_panel panels p = record panels { visible = p ∷ without p panels.v
 
 -- another window, and the same depth
 abbrev pub after_replace_panel : Panels → ℕ → ℕ → Panels
-after_replace_panel panels p w = record panels { window = given panels.window p (Some w) }
+after_replace_panel panels p w = record panels { window = with_entry panels.window p (Some w) }
 
 -- the panel right above, or without a panel the bottom one
 abbrev pub panel_above : Panels → Option ℕ → Option ℕ

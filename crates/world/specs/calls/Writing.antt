@@ -15,7 +15,7 @@ use Rattle.world.specs.Settings.{with_cursor}
 use Rattle.world.specs.Drawings.{written_glyph, character_inserted, character_deleted, to_end_of_line, to_bottom, everywhere, lines_up, lines_down}
 use Rattle.world.specs.Typing.{backspace, carriage_return, newline}
 use Rattle.world.specs.Effects.{Edit, sets, draws, types, after_edit, edit_frame, edit_window}
-use Rattle.world.specs.calls.Missing.{missing}
+use Rattle.world.specs.calls.Missing.{missing_window}
 use Rattle.cell.specs.declared.window.Rect.{Rect}
 use Rattle.cell.specs.declared.refusal.Refusal.{Refusal}
 use Rattle.cell.specs.declared.refusal.Refusal.TheVariants.{OutsideWindow, BadRegion, BadCharacter, BadPair, ScrollingOff}
@@ -88,8 +88,8 @@ abbrev pub with_clear : Bool → Settings → Settings
 with_clear flag settings = record settings { clear = flag }
 
 -- clear asks for a clear screen too
-abbrev pub cleared : Settings → Settings
-cleared settings = with_clear true (with_cursor origin settings)
+abbrev pub after_clear : Settings → Settings
+after_clear settings = with_clear true (with_cursor origin settings)
 
 -- ---- drawings
 
@@ -132,7 +132,7 @@ writing_edit windows (Delch win) = draws win.0 (delch_drawing windows.window win
 writing_edit windows (Insertln win) = draws win.0 (insertln_drawing windows.window win.0) None
 writing_edit windows (Deleteln win) = draws win.0 (deleteln_drawing windows.window win.0) None
 writing_edit windows (Erase win) = draws win.0 erase_drawing (Some (with_cursor origin))
-writing_edit windows (Clear win) = draws win.0 erase_drawing (Some cleared)
+writing_edit windows (Clear win) = draws win.0 erase_drawing (Some after_clear)
 writing_edit windows (Clrtoeol win) = draws win.0 clrtoeol_drawing None
 writing_edit windows (Clrtobot win) = draws win.0 clrtobot_drawing None
 writing_edit windows (Scrl win n) = draws win.0 (scrl_drawing windows.window win.0 n) None
@@ -150,7 +150,7 @@ writing_edit windows (Bkgdpair win pair) = sets win.0 (with_background_pair pair
 
 -- its window is there, and then the further ones
 abbrev pub writing_tests : Windows → Writing → List (Bool × Refusal)
-writing_tests windows writing = missing windows (edit_window (writing_edit windows writing)) ∷ further_tests windows writing
+writing_tests windows writing = missing_window windows (edit_window (writing_edit windows writing)) ∷ further_tests windows writing
 
 abbrev pub writing_refusal : Windows → Writing → Option Refusal
 writing_refusal windows writing = first_of (writing_tests windows writing)

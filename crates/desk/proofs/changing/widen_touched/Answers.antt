@@ -5,7 +5,7 @@ use Rattle.grids.specs.Tables.{windows}
 use Rattle.paint.specs.Changes.{join, stretch_of}
 use Rattle.paint.proofs.Changed.{not-before}
 use Rattle.desk.proofs.Widening.{no-wider, untouched, wider}
-use Rattle.desk.proofs.changing.widen_touched.Goals.{in-Some, in_default-touched}
+use Rattle.desk.proofs.changing.widen_touched.Goals.{in-Some, in_default-touched_columns}
 use Rattle.desk.proofs.changing.widen_touched.Goals as goal
 
 pub loop-y-preserved : goal.loop-y-preserved
@@ -16,7 +16,7 @@ loop-y-preserved c =
     let w = c.args.win.0 in
     let top = c.in-Ok.top in
     let left = c.in-Ok.left in
-    elim c.match-touched.branch [
+    elim c.match-touched_columns.branch [
       | in-Some b ↦
           let changes = c.loop-y.changes in
           let s = b.stretch.result in
@@ -34,12 +34,12 @@ loop-y-preserved c =
                 (λ from. ap (λ o. among o (u - left)) (sym b.in-Some.ensures.columns) ∙ b.stretch.ensures u slim from out)))
                 v u (omega (arith, few, small, sum)) (omega (arith, below, long)) slim none (omega (arith, below, long)) small;
           })
-      | in_default-touched b ↦ rw b.changes-is (record {
+      | in_default-touched_columns b ↦ rw b.changes-is (record {
         height = h.height;
         keeps = h.keeps;
         none = λ v u few below small slim none. no-wider {Q = λ v u. v < length c.loop-y.changes → v < 65535 → touched_cells window w v u ≡ None} c.loop-y.changes (top + y) 65535
             (λ v u before slim none below small. h.none v u before below small slim none)
-            (λ u slim below small. untouched window w top left y u c.in-Ok.ensures.answer (λ from. ap (λ o. among o (u - left)) (sym b.in_default-touched.ensures.columns)))
+            (λ u slim below small. untouched window w top left y u c.in-Ok.ensures.answer (λ from. ap (λ o. among o (u - left)) (sym b.in_default-touched_columns.ensures.columns)))
             v u (omega (arith, few)) slim none below small;
       })
     ]

@@ -2,13 +2,13 @@ use Rattle.std.proofs.Common.{◌≡◌, ℕ, ◌+◌, ◌-◌, ◌==◌, ◌&&�
 use Rattle.std.specs.Prelude.{slice_index_or}
 use Rattle.cell.specs.Glyphs.{IsCell, blank}
 use Rattle.cell.specs.Pictures.{EachCell, HasSize, cell_or, line_of}
-use Rattle.slots.specs.Inks.{inked}
+use Rattle.slots.specs.Inks.{printed_cell}
 use Rattle.slots.proofs.ink.print_in.Given as goal
 
 -- the first k characters are printed
 abbrev pub invariant-loop-k : goal.invariant-loop-k
 invariant-loop-k l = record {
-  shown : (v u : ℕ) → cell_or blank l.grid (v, u) ≡ (if (v == l.y) && (nat_le l.x u && nat_lt u (l.x + l.k)) then slice_index_or (map (inked l.pen) l.text) (u - l.x) blank
+  shown : (v u : ℕ) → cell_or blank l.grid (v, u) ≡ (if (v == l.y) && (nat_le l.x u && nat_lt u (l.x + l.k)) then slice_index_or (map (printed_cell l.pen) l.text) (u - l.x) blank
       else cell_or blank l.fn.grid (v, u));
   size : (lines columns : ℕ) → HasSize lines columns l.fn.grid → HasSize lines columns l.grid;
   cells : EachCell IsCell l.fn.grid → EachCell IsCell l.grid;

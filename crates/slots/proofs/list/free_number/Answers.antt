@@ -4,7 +4,7 @@ use Rattle.std.specs.Option.{is_none}
 use Rattle.std.proofs.lemmas.Grind.{common_steps}
 use Rattle.std.proofs.lemmas.List.{get_or_read}
 use Rattle.slots.specs.Slots.{slot_at}
-use Rattle.slots.proofs.Numbers.{search_from, search-more, search-here, search-behind, search-end}
+use Rattle.slots.proofs.Numbers.{search_from, search-more, search-here, search-past, search-end}
 use Rattle.slots.proofs.list.free_number.Goals as goal
 
 pub returns-then-is_none-clause-number : goal.returns-then-is_none-clause-number
@@ -27,7 +27,7 @@ pub returns-then-slots-from-clause-number : goal.returns-then-slots-from-clause-
 returns-then-slots-from-clause-number c =
     let slots = c.args.slots.now in
     let last : c.loop-n.n ≡ length slots = omega arith in
-    sym (search-behind slots (omega arith)) ∙ ap (search_from slots) (sym last) ∙ c.loop-n.invariant
+    sym (search-past slots (omega arith)) ∙ ap (search_from slots) (sym last) ∙ c.loop-n.invariant
 
 pub returns-else-slots-from-clause-number : goal.returns-else-slots-from-clause-number
 returns-else-slots-from-clause-number c = sym (search-end c.args.slots.now c.loop-n.n (omega arith)) ∙ c.loop-n.invariant

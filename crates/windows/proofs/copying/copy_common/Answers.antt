@@ -1,7 +1,7 @@
 -- The rectangle that is copied is where both windows cover the screen.
 use Rattle.std.proofs.Common.{◌∙◌, sym, rules}
 use Rattle.grids.specs.Tables.{windows}
-use Rattle.world.specs.calls.Copying.{common_copied}
+use Rattle.world.specs.calls.Copying.{common_cells}
 use Rattle.windows.proofs.Calls.{drawn-there}
 use Rattle.windows.proofs.CommonParts.{common-put, common-frame}
 use Rattle.windows.proofs.copying.copy_common.Goals as goal
@@ -27,7 +27,7 @@ returns c = record {
         ← c.overlap-columns.ensures.target,
         ← c.overlap-columns.ensures.len,
       ) c.copy_rectangle.ensures.written)
-      ∙ sym (drawn-there (windows a.table.now) a.dst.0 t.ensures.state.window (common_copied (windows a.table.now).window a.src.0 a.dst.0 a.overlay) t.ensures.state.there);
+      ∙ sym (drawn-there (windows a.table.now) a.dst.0 t.ensures.state.window (common_cells (windows a.table.now).window a.src.0 a.dst.0 a.overlay) t.ensures.state.there);
   frame =
       let a = c.args in
       let s = c.in_ok-source in

@@ -1,6 +1,6 @@
 -- Each round clears one line more.
 use Rattle.std.proofs.Common.{◌-◌, arith, refl}
-use Rattle.world.specs.Rows.{filled}
+use Rattle.world.specs.Rows.{filled_cells}
 use Rattle.world.specs.Drawings.{everywhere}
 use Rattle.grids.specs.Tables.{windows}
 use Rattle.windows.proofs.States.{state-written}
@@ -19,7 +19,7 @@ loop-line-preserved c = record {
       c.args.state.now.settings.background
       (windows c.loop-line.table) (windows c.fill.new.self) (λ x. refl) c.loop-line.invariant.cleared c.fill.ensures.written;
   state = state-written (windows c.loop-line.table) (windows c.fill.new.self) c.args.win.0 c.args.state.now
-      (filled c.loop-line.line 0 (c.args.state.now.columns - 1) c.args.state.now.settings.background) c.loop-line.invariant.state c.fill.ensures.written c.fill.ensures.sound;
+      (filled_cells c.loop-line.line 0 (c.args.state.now.columns - 1) c.args.state.now.settings.background) c.loop-line.invariant.state c.fill.ensures.written c.fill.ensures.sound;
 }
 
 pub returns-clause-written : goal.returns-clause-written

@@ -1,6 +1,6 @@
 -- Each round clears one line more of those below.
 use Rattle.std.proofs.Common.{◌-◌, arith}
-use Rattle.world.specs.Rows.{filled}
+use Rattle.world.specs.Rows.{filled_cells}
 use Rattle.world.specs.Drawings.{to_bottom}
 use Rattle.grids.specs.Tables.{windows}
 use Rattle.windows.proofs.States.{state-written}
@@ -13,7 +13,7 @@ loop-line-init c = record {
   cleared = bottom_started (windows c.args.table.now) c.args.win.0 c.args.state.now c.requires.state c.args.y c.args.left c.args.state.now.settings.background
       (windows c.fill.new.self) c.fill.ensures.written;
   state = state-written (windows c.args.table.now) (windows c.fill.new.self) c.args.win.0 c.args.state.now
-      (filled c.args.y c.args.left (c.args.state.now.columns - 1) c.args.state.now.settings.background) c.requires.state c.fill.ensures.written c.fill.ensures.sound;
+      (filled_cells c.args.y c.args.left (c.args.state.now.columns - 1) c.args.state.now.settings.background) c.requires.state c.fill.ensures.written c.fill.ensures.sound;
 }
 
 pub loop-line-preserved : goal.loop-line-preserved
@@ -23,7 +23,7 @@ loop-line-preserved c = record {
       (λ x. to_bottom-below c.args.y c.args.left c.loop-line.line x c.args.state.now.settings.background (omega arith))
       c.loop-line.invariant.cleared c.fill-in-loop-line.ensures.written;
   state = state-written (windows c.loop-line.table) (windows c.fill-in-loop-line.new.self) c.args.win.0 c.args.state.now
-      (filled c.loop-line.line 0 (c.args.state.now.columns - 1) c.args.state.now.settings.background) c.loop-line.invariant.state c.fill-in-loop-line.ensures.written
+      (filled_cells c.loop-line.line 0 (c.args.state.now.columns - 1) c.args.state.now.settings.background) c.loop-line.invariant.state c.fill-in-loop-line.ensures.written
       c.fill-in-loop-line.ensures.sound;
 }
 

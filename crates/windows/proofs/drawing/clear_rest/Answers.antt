@@ -1,6 +1,6 @@
 -- The rest of a line is one write.
 use Rattle.std.proofs.Common.{◌-◌}
-use Rattle.world.specs.Rows.{filled}
+use Rattle.world.specs.Rows.{filled_cells}
 use Rattle.grids.specs.Tables.{windows}
 use Rattle.windows.proofs.States.{state-written}
 use Rattle.windows.proofs.NextWrites.{rest_of_line}
@@ -14,4 +14,4 @@ returns-clause-written c =
 pub returns-clause-state : goal.returns-clause-state
 returns-clause-state c =
     state-written (windows c.args.table.now) (windows c.fill.new.self) c.args.win.0 c.args.state.now
-    (filled c.args.y c.args.left (c.args.state.now.columns - 1) c.args.state.now.settings.background) c.requires.state c.fill.ensures.written c.fill.ensures.sound
+    (filled_cells c.args.y c.args.left (c.args.state.now.columns - 1) c.args.state.now.settings.background) c.requires.state c.fill.ensures.written c.fill.ensures.sound

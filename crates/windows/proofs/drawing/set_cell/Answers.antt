@@ -1,5 +1,5 @@
 -- A cell is one write.
-use Rattle.world.specs.Rows.{filled}
+use Rattle.world.specs.Rows.{filled_cells}
 use Rattle.grids.specs.Tables.{windows}
 use Rattle.windows.proofs.States.{state-written}
 use Rattle.windows.proofs.NextWrites.{one_cell}
@@ -11,5 +11,5 @@ returns-clause-written c =
 
 pub returns-clause-state : goal.returns-clause-state
 returns-clause-state c =
-    state-written (windows c.args.table.now) (windows c.fill.new.self) c.args.win.0 c.args.state.now (filled c.args.y c.args.x c.args.x c.args.cell)
+    state-written (windows c.args.table.now) (windows c.fill.new.self) c.args.win.0 c.args.state.now (filled_cells c.args.y c.args.x c.args.x c.args.cell)
     c.requires.state c.fill.ensures.written c.fill.ensures.sound

@@ -2,7 +2,7 @@
 use Rattle.world.specs.declared.call.Call.TheVariants.{Refresh}
 use Rattle.world.specs.declared.call.Refresh.TheVariants.{Doupdate}
 use Rattle.world.specs.declared.call.Reply.TheVariants.{Sent}
-use Rattle.calls.specs.Methods.{told}
+use Rattle.calls.specs.Methods.{as_reply}
 use Rattle.desk.proofs.ShowingLemmas.{call-keeps_size, call-shows}
 use Rattle.desk.proofs.screen.Screen.doupdate.Goals as goal
 
@@ -10,7 +10,7 @@ pub returns : goal.returns
 returns g c =
     let old = c.args.self.now in
     let new = c.send_update-end.new.self in
-    let end = told Sent c.send_update-end.result in
+    let end = as_reply Sent c.send_update-end.result in
     let made = c.send_update-end.ensures in
     record {
       ends = made.call;

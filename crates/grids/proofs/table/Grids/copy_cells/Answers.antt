@@ -1,7 +1,7 @@
 -- The row that was read is one write in the other window, which touches the columns written.
 use Rattle.std.proofs.Common.{◌≡◌, ◌+◌, ◌-◌, length, arith, refl, ap, sym, ◌∙◌}
 use Rattle.cell.specs.Glyphs.{Glyph}
-use Rattle.world.specs.Rows.{listed}
+use Rattle.world.specs.Rows.{listed_cells}
 use Rattle.grids.specs.contracts.table.Grids.{the_view}
 use Rattle.slots.specs.Slots.{window_map}
 use Rattle.grids.specs.Tables.{windows}
@@ -45,7 +45,7 @@ invariant_of-self c =
     let a = c.args in
     let o = c.origin_of-target.result in
     let t = the_view c.self.inside in
-    let s = IsWindowTable-changed t c.put_row.new.slots.items o.grid (with_drawing (listed (o.line + a.to.line) (o.column + a.to.column) c.cells.result.now)) c.self.invariant c.put_row.ensures
+    let s = IsWindowTable-changed t c.put_row.new.slots.items o.grid (with_drawing (listed_cells (o.line + a.to.line) (o.column + a.to.column) c.cells.result.now)) c.self.invariant c.put_row.ensures
     (λ b. refl) in
     IsWindowTable-changed (record t { slots = c.put_row.new.slots.items }) c.touch_row.new.slots.items a.to.win.0 (with_touched a.to.line a.to.column (a.to.column + a.n - 1)) s c.touch_row.ensures
     (λ b. refl)

@@ -1,7 +1,7 @@
 -- Each round copies one line more, upwards or downwards, so that no line is read after it was written.
 use Rattle.std.proofs.Common.{◌≡◌, ◌+◌, ◌-◌, ◌<◌, Some, refl, sym, ap, arith, subst, ◌∙◌}
 use Rattle.world.specs.Windows.{GridPlace, Windows, own, put}
-use Rattle.world.specs.Rows.{copied}
+use Rattle.world.specs.Rows.{copied_cells}
 use Rattle.world.specs.calls.Copying.{rectangle_copied}
 use Rattle.world.specs.Effects.{drawing_frame}
 use Rattle.grids.specs.declared.table.Grids.{Grids}
@@ -51,18 +51,18 @@ downward-preserved c =
     (rw c.deref-2.ensures.value at c.origin_of-target.ensures.leads) in
     let there = window_there w a.to.win.0 (a.to.line + a.lines - 1) (a.to.column + a.columns - 1) c.requires.to in
     let f = rectangle_copied w.window a.from.win.0 a.from.line a.from.column a.to.line a.to.column k a.columns a.overlay in
-    let now = copied v.window a.from.win.0 (a.from.line + k) a.from.column (a.to.line + k) a.to.column a.columns a.overlay in
-    let h = copied w.window a.from.win.0 (a.from.line + k) a.from.column (a.to.line + k) a.to.column a.columns a.overlay in
+    let now = copied_cells v.window a.from.win.0 (a.from.line + k) a.from.column (a.to.line + k) a.to.column a.columns a.overlay in
+    let h = copied_cells w.window a.from.win.0 (a.from.line + k) a.from.column (a.to.line + k) a.to.column a.columns a.overlay in
     let g = rectangle_copied w.window a.from.win.0 a.from.line a.from.column a.to.line a.to.column (k + 1) a.columns a.overlay in
     let same : now ≡ h =
-    ap (λ (u : Windows). copied u.window a.from.win.0 (a.from.line + k) a.from.column (a.to.line + k) a.to.column a.columns a.overlay) c.downward.invariant.written
+    ap (λ (u : Windows). copied_cells u.window a.from.win.0 (a.from.line + k) a.from.column (a.to.line + k) a.to.column a.columns a.overlay) c.downward.invariant.written
     ∙ downward-same w.window a.from.win.0 a.to.win.0 from to there.0 there.1 leads_to leads_from a.from.line a.from.column a.to.line a.to.column k a.columns a.overlay c.if-target-to.true in
     let join = line-after w.window a.from.win.0 a.from.column a.to.column a.columns a.overlay a.from.line a.to.line k in
     let written : windows c.copy_line-copied.new.self ≡ put v a.to.win.0 now = rw (c.down_by.ensures, c.down_by-in-downward.ensures) at c.copy_line-copied.ensures.written in
     record {
       written = copy-step w v (windows c.copy_line-copied.new.self) a.to.win.0 f now h g c.downward.invariant.written same join written;
-      frame = frame-step w v a.to.win.0 f now h g c.downward.frame c.copy_line-copied.result c.joined-frame.result c.downward.invariant.written same join c.downward.invariant.frame
-          (rw (c.down_by.ensures, c.down_by-in-downward.ensures) at c.copy_line-copied.ensures.frame) c.joined-frame.ensures;
+      frame = frame-step w v a.to.win.0 f now h g c.downward.frame c.copy_line-copied.result c.frame_of_two-frame.result c.downward.invariant.written same join c.downward.invariant.frame
+          (rw (c.down_by.ensures, c.down_by-in-downward.ensures) at c.copy_line-copied.ensures.frame) c.frame_of_two-frame.ensures;
     }
 
 pub upward-init : goal.upward-init
@@ -106,8 +106,8 @@ upward-preserved c =
     (rw c.deref-2.ensures.value at c.origin_of-target.ensures.leads) in
     let there = window_there w a.to.win.0 (a.to.line + a.lines - 1) (a.to.column + a.columns - 1) c.requires.to in
     let f = rectangle_copied w.window a.from.win.0 (a.from.line + (k + 1)) a.from.column (a.to.line + (k + 1)) a.to.column (a.lines - (k + 1)) a.columns a.overlay in
-    let now = copied v.window a.from.win.0 (a.from.line + k) a.from.column (a.to.line + k) a.to.column a.columns a.overlay in
-    let h = copied w.window a.from.win.0 (a.from.line + k) a.from.column (a.to.line + k) a.to.column a.columns a.overlay in
+    let now = copied_cells v.window a.from.win.0 (a.from.line + k) a.from.column (a.to.line + k) a.to.column a.columns a.overlay in
+    let h = copied_cells w.window a.from.win.0 (a.from.line + k) a.from.column (a.to.line + k) a.to.column a.columns a.overlay in
     let g = rectangle_copied w.window a.from.win.0 (a.from.line + k) a.from.column (a.to.line + k) a.to.column (a.lines - k) a.columns a.overlay in
     let before : v ≡ put w a.to.win.0 f =
     subst (λ j. v ≡ put w a.to.win.0 (rectangle_copied w.window a.from.win.0 (a.from.line + j) a.from.column (a.to.line + j) a.to.column (a.lines - j) a.columns a.overlay)) one
@@ -116,7 +116,7 @@ upward-preserved c =
     subst (λ j. c.upward.frame ≡ drawing_frame w a.to.win.0 (λ b. rectangle_copied w.window a.from.win.0 (a.from.line + j) a.from.column (a.to.line + j) a.to.column
     (a.lines - j) a.columns a.overlay)) one c.upward.invariant.frame in
     let same : now ≡ h =
-    ap (λ (u : Windows). copied u.window a.from.win.0 (a.from.line + k) a.from.column (a.to.line + k) a.to.column a.columns a.overlay) before
+    ap (λ (u : Windows). copied_cells u.window a.from.win.0 (a.from.line + k) a.from.column (a.to.line + k) a.to.column a.columns a.overlay) before
     ∙ upward-same w.window a.from.win.0 a.to.win.0 from to there.0 there.1 leads_to leads_from a.from.line a.from.column a.to.line a.to.column k
     (a.lines - (k + 1)) a.columns a.overlay c.if-target-to.false in
     let join = line-before w.window a.from.win.0 a.from.column a.to.column a.columns a.overlay a.from.line a.to.line k a.lines lt in
@@ -124,6 +124,6 @@ upward-preserved c =
     c.copy_line-copied-in-upward.ensures.written in
     record {
       written = copy-step w v (windows c.copy_line-copied-in-upward.new.self) a.to.win.0 f now h g before same join written;
-      frame = frame-step w v a.to.win.0 f now h g c.upward.frame c.copy_line-copied-in-upward.result c.joined-frame-in-upward.result before same join framed
-          (rw (c.down_by-in-upward.ensures, c.down_by-in-upward-2.ensures) at c.copy_line-copied-in-upward.ensures.frame) c.joined-frame-in-upward.ensures;
+      frame = frame-step w v a.to.win.0 f now h g c.upward.frame c.copy_line-copied-in-upward.result c.frame_of_two-frame-in-upward.result before same join framed
+          (rw (c.down_by-in-upward.ensures, c.down_by-in-upward-2.ensures) at c.copy_line-copied-in-upward.ensures.frame) c.frame_of_two-frame-in-upward.ensures;
     }

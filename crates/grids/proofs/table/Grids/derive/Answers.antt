@@ -5,7 +5,7 @@ use Rattle.std.specs.Option.{option_map}
 use Rattle.std.proofs.lemmas.Grind.{common_steps}
 use Rattle.world.specs.Windows.{part_of}
 use Rattle.world.specs.calls.Making.{next_window, place_from}
-use Rattle.world.specs.Effects.{numbered}
+use Rattle.world.specs.Effects.{under_number}
 use Rattle.world.specs.World.{new_window}
 use Rattle.world.specs.Panels.{standard_screen}
 use Rattle.grids.specs.contracts.table.Grids.{the_view}
@@ -13,7 +13,7 @@ use Rattle.slots.specs.Kept.{window_of}
 use Rattle.slots.specs.Slots.{slot_at, window_map}
 use Rattle.grids.specs.Tables.{windows}
 use Rattle.slots.proofs.Chain.{depth_below}
-use Rattle.grids.proofs.NewWindows.{IsWindowTable-added, windows-added, extent-is, stands_derived, placed_derived, made_derived}
+use Rattle.grids.proofs.NewWindows.{IsWindowTable-added, windows-added, extent-is, derived_in, placed_derived, made_derived}
 use Rattle.slots.proofs.Origins.{origin-derived}
 use Rattle.grids.proofs.table.Grids.derive.Goals as goal
 
@@ -39,7 +39,7 @@ invariant_of-self-2 c =
     let o = c.origin_of in
     let leads = rw c.deref.ensures.value at o.ensures.leads in
     IsWindowTable-added t c.fill_slot_at.new.slots.items c.in_ok-number.number k c.in_ok-fill_slot_at.ensures.set c.self.invariant free kept.0
-    (stands_derived t.slots k p (record { parent = a.win.0; line = a.y; column = a.x }) c.in_ok-lines.lines c.in_ok-columns.columns kept.2 e (kept.1 ∙ ap (λ d. d + 1) c.depth-depth.ensures)
+    (derived_in t.slots k p (record { parent = a.win.0; line = a.y; column = a.x }) c.in_ok-lines.lines c.in_ok-columns.columns kept.2 e (kept.1 ∙ ap (λ d. d + 1) c.depth-depth.ensures)
     made lines.inside columns.inside)
     (placed_derived t c.self.invariant a.win.0 k p c.in_ok-lines.lines c.in_ok-columns.columns a.y a.x (part_of a.win.0 a.y a.x) e made lines.inside columns.inside)
     (λ chained. origin-derived t.slots c.fill_slot_at.new.slots.items c.in_ok-number.number k c.self.invariant.chained c.in_ok-fill_slot_at.ensures.set free.free
@@ -64,7 +64,7 @@ returns c = record {
       rw (← c.self.view_is, next)
       (windows-added t c.fill_slot_at.new.slots.items n c.in_ok-slot.slot c.in_ok-fill_slot_at.ensures.set
       (new_window c.in_ok-lines.lines c.in_ok-columns.columns (place_from p.place a.y a.x) (part_of a.win.0 a.y a.x)) made
-      ∙ ap (numbered (windows t) n) (made_derived (window_map t.slots) p a.win.0 a.nlines a.ncols a.y a.x c.in_ok-lines.lines c.in_ok-columns.columns
+      ∙ ap (under_number (windows t) n) (made_derived (window_map t.slots) p a.win.0 a.nlines a.ncols a.y a.x c.in_ok-lines.lines c.in_ok-columns.columns
       (ap (option_map window_of) e) lines.given columns.given));
   unchanged = tt;
   sound = search rules;

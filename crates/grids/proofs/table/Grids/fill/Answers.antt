@@ -1,6 +1,6 @@
 -- The filled line is one write, which touches the columns written.
 use Rattle.std.proofs.Common.{◌+◌, refl}
-use Rattle.world.specs.Rows.{filled}
+use Rattle.world.specs.Rows.{filled_cells}
 use Rattle.grids.specs.contracts.table.Grids.{the_view}
 use Rattle.slots.specs.Changes.{with_touched, with_drawing}
 use Rattle.grids.proofs.Changes.{IsWindowTable-changed}
@@ -12,7 +12,7 @@ invariant_of-self c =
     let a = c.args in
     let o = c.origin_of-origin.result in
     let t = the_view c.self.inside in
-    let s = IsWindowTable-changed t c.fill_row.new.slots.items o.grid (with_drawing (filled (o.line + a.y) (o.column + a.left) (o.column + a.right) a.cell)) c.self.invariant c.fill_row.ensures
+    let s = IsWindowTable-changed t c.fill_row.new.slots.items o.grid (with_drawing (filled_cells (o.line + a.y) (o.column + a.left) (o.column + a.right) a.cell)) c.self.invariant c.fill_row.ensures
     (λ b. refl) in
     IsWindowTable-changed (record t { slots = c.fill_row.new.slots.items }) c.touch_row.new.slots.items a.win.0 (with_touched a.y a.left a.right) s c.touch_row.ensures (λ b. refl)
 

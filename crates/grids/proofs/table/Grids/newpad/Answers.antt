@@ -6,7 +6,7 @@ use Rattle.world.specs.calls.Making.{next_window}
 use Rattle.world.specs.Panels.{standard_screen}
 use Rattle.grids.specs.Tables.{windows}
 use Rattle.grids.specs.contracts.table.Grids.{the_view}
-use Rattle.grids.proofs.NewWindows.{IsWindowTable-added, windows-added, stands_alone, placed_pad}
+use Rattle.grids.proofs.NewWindows.{IsWindowTable-added, windows-added, alone_in, placed_pad}
 use Rattle.slots.proofs.Origins.{origin-alone}
 use Rattle.grids.proofs.table.Grids.newpad.Goals as goal
 
@@ -16,7 +16,7 @@ invariant_of-self-2 c =
     let k = c.in_ok-slot.slot in
     let kept = c.in_ok-slot.ensures.kept in
     let free = rw (c.deref.ensures.value, c.in_ok-number.ensures.ok_part) at c.free_number.ensures.free in
-    IsWindowTable-added t c.fill_slot_at.new.slots.items c.in_ok-number.number k c.in_ok-fill_slot_at.ensures.set c.self.invariant free kept.0 (stands_alone t.slots k k.cells kept.2 kept.1)
+    IsWindowTable-added t c.fill_slot_at.new.slots.items c.in_ok-number.number k c.in_ok-fill_slot_at.ensures.set c.self.invariant free kept.0 (alone_in t.slots k k.cells kept.2 kept.1)
     (placed_pad t.lines t.columns c.args.nlines c.args.ncols blank_grid k c.in_ok-slot.ensures.window)
     (λ chained. origin-alone t.slots c.fill_slot_at.new.slots.items c.in_ok-number.number k c.self.invariant.chained c.in_ok-fill_slot_at.ensures.set free.free kept.2 c.in_ok-slot.ensures.origin)
 

@@ -7,7 +7,7 @@ use Rattle.world.specs.calls.Making.{extent, next_window}
 use Rattle.world.specs.Panels.{standard_screen}
 use Rattle.grids.specs.Tables.{windows}
 use Rattle.grids.specs.contracts.table.Grids.{the_view}
-use Rattle.grids.proofs.NewWindows.{IsWindowTable-added, windows-added, stands_alone, extent-is, placed_new}
+use Rattle.grids.proofs.NewWindows.{IsWindowTable-added, windows-added, alone_in, extent-is, placed_new}
 use Rattle.slots.proofs.Origins.{origin-alone}
 use Rattle.grids.proofs.table.Grids.newwin.Goals as goal
 
@@ -20,7 +20,7 @@ invariant_of-self-2 c =
     let free = rw (c.deref.ensures.value, c.in_ok-number.ensures.ok_part) at c.free_number.ensures.free in
     let lines = extent-is a.nlines t.lines a.begin_y c.in_ok-lines.lines (sym c.extent_inside.ensures ∙ c.in_ok-lines.ensures.ok_part) in
     let columns = extent-is a.ncols t.columns a.begin_x c.in_ok-columns.columns (sym c.extent_inside-2.ensures ∙ c.in_ok-columns.ensures.ok_part) in
-    IsWindowTable-added t c.fill_slot_at.new.slots.items c.in_ok-number.number k c.in_ok-fill_slot_at.ensures.set c.self.invariant free kept.0 (stands_alone t.slots k k.cells kept.2 kept.1)
+    IsWindowTable-added t c.fill_slot_at.new.slots.items c.in_ok-number.number k c.in_ok-fill_slot_at.ensures.set c.self.invariant free kept.0 (alone_in t.slots k k.cells kept.2 kept.1)
     (placed_new t.lines t.columns c.in_ok-lines.lines c.in_ok-columns.columns a.begin_y a.begin_x blank_grid k c.in_ok-slot.ensures.window lines.inside columns.inside)
     (λ chained. origin-alone t.slots c.fill_slot_at.new.slots.items c.in_ok-number.number k c.self.invariant.chained c.in_ok-fill_slot_at.ensures.set free.free kept.2 c.in_ok-slot.ensures.origin)
 

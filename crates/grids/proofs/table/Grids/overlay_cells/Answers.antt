@@ -1,7 +1,7 @@
 -- Each round lays one cell more over the line, in the direction in which none is read after it was written.
 use Rattle.std.proofs.Common.{◌≡◌, ◌+◌, ◌-◌, ◌<◌, true, Some, refl, sym, ap, arith, subst, ◌∙◌}
 use Rattle.world.specs.Windows.{GridPlace, Windows, cell_at, own, put}
-use Rattle.world.specs.Rows.{copied}
+use Rattle.world.specs.Rows.{copied_cells}
 use Rattle.world.specs.Effects.{drawing_frame}
 use Rattle.grids.specs.declared.table.Grids.{Grids}
 use Rattle.grids.specs.Tables.{windows}
@@ -16,7 +16,7 @@ forward-init c =
     let w = windows a.self.now in
     record {
       written = start-copy w a.from.win.0 a.to.win.0 a.from.line a.from.column a.to.line a.to.column 0 true refl;
-      frame = sym (nothing-frame w a.to.win.0 (copied w.window a.from.win.0 a.from.line a.from.column a.to.line a.to.column 0 true)
+      frame = sym (nothing-frame w a.to.win.0 (copied_cells w.window a.from.win.0 a.from.line a.from.column a.to.line a.to.column 0 true)
           (copied-none w.window a.from.win.0 a.from.line a.from.column a.to.line a.to.column 0 true refl));
     }
 
@@ -25,7 +25,7 @@ overlay_cell-copied-requires-clause-from c =
     let a = c.args in let k = c.forward.k in
     let lt : k < a.n = omega (arith, c.forward-test.true) in
     rw c.right_by.ensures
-    (place_after (windows a.self.now) (windows c.forward.self) a.to.win.0 (copied (windows a.self.now).window a.from.win.0 a.from.line a.from.column a.to.line a.to.column k true) a.from.win.0
+    (place_after (windows a.self.now) (windows c.forward.self) a.to.win.0 (copied_cells (windows a.self.now).window a.from.win.0 a.from.line a.from.column a.to.line a.to.column k true) a.from.win.0
     a.from.line (a.from.column + a.n - 1) (a.from.column + k)
     c.forward.invariant.written c.requires.from (omega (arith, lt)))
 
@@ -34,7 +34,7 @@ overlay_cell-copied-requires-clause-to c =
     let a = c.args in let k = c.forward.k in
     let lt : k < a.n = omega (arith, c.forward-test.true) in
     rw c.right_by-in-forward.ensures
-    (place_after (windows a.self.now) (windows c.forward.self) a.to.win.0 (copied (windows a.self.now).window a.from.win.0 a.from.line a.from.column a.to.line a.to.column k true) a.to.win.0
+    (place_after (windows a.self.now) (windows c.forward.self) a.to.win.0 (copied_cells (windows a.self.now).window a.from.win.0 a.from.line a.from.column a.to.line a.to.column k true) a.to.win.0
     a.to.line (a.to.column + a.n - 1) (a.to.column + k)
     c.forward.invariant.written c.requires.to (omega (arith, lt)))
 
@@ -51,10 +51,10 @@ forward-preserved c =
     let leads_to : own w.window a.to.win.0 0 0 ≡ Some to = subst (λ (t : Grids). own (window_map t.slots) a.to.win.0 0 0 ≡ Some to) c.self.view_is
     (rw c.deref-2.ensures.value at c.origin_of-target.ensures.leads) in
     let there = window_there w a.to.win.0 a.to.line (a.to.column + a.n - 1) c.requires.to in
-    let f = copied w.window a.from.win.0 a.from.line a.from.column a.to.line a.to.column k true in
-    let now = copied v.window a.from.win.0 a.from.line (a.from.column + k) a.to.line (a.to.column + k) 1 true in
-    let h = copied w.window a.from.win.0 a.from.line (a.from.column + k) a.to.line (a.to.column + k) 1 true in
-    let g = copied w.window a.from.win.0 a.from.line a.from.column a.to.line a.to.column (k + 1) true in
+    let f = copied_cells w.window a.from.win.0 a.from.line a.from.column a.to.line a.to.column k true in
+    let now = copied_cells v.window a.from.win.0 a.from.line (a.from.column + k) a.to.line (a.to.column + k) 1 true in
+    let h = copied_cells w.window a.from.win.0 a.from.line (a.from.column + k) a.to.line (a.to.column + k) 1 true in
+    let g = copied_cells w.window a.from.win.0 a.from.line a.from.column a.to.line a.to.column (k + 1) true in
     let same : now ≡ h = one-same v.window w.window a.from.win.0 a.from.line (a.from.column + k) a.to.line (a.to.column + k) true
     (ap (λ (u : Windows). cell_at u.window a.from.win.0 a.from.line (a.from.column + k)) c.forward.invariant.written
     ∙ forward-read w.window a.from.win.0 a.to.win.0 from to there.0 a.from.line a.from.column a.to.line a.to.column k true there.1 leads_to leads_from c.if-target-to.true) in
@@ -62,8 +62,8 @@ forward-preserved c =
     let written : windows c.overlay_cell-copied.new.self ≡ put v a.to.win.0 now = rw (c.right_by.ensures, c.right_by-in-forward.ensures) at c.overlay_cell-copied.ensures.written in
     record {
       written = copy-step w v (windows c.overlay_cell-copied.new.self) a.to.win.0 f now h g c.forward.invariant.written same join written;
-      frame = frame-step w v a.to.win.0 f now h g c.forward.frame c.overlay_cell-copied.result c.joined-frame.result c.forward.invariant.written same join c.forward.invariant.frame
-          (rw (c.right_by.ensures, c.right_by-in-forward.ensures) at c.overlay_cell-copied.ensures.frame) c.joined-frame.ensures;
+      frame = frame-step w v a.to.win.0 f now h g c.forward.frame c.overlay_cell-copied.result c.frame_of_two-frame.result c.forward.invariant.written same join c.forward.invariant.frame
+          (rw (c.right_by.ensures, c.right_by-in-forward.ensures) at c.overlay_cell-copied.ensures.frame) c.frame_of_two-frame.ensures;
     }
 
 pub backward-init : goal.backward-init
@@ -72,7 +72,7 @@ backward-init c =
     let w = windows a.self.now in
     record {
       written = start-copy w a.from.win.0 a.to.win.0 a.from.line (a.from.column + a.n) a.to.line (a.to.column + a.n) (a.n - a.n) true (omega arith);
-      frame = sym (nothing-frame w a.to.win.0 (copied w.window a.from.win.0 a.from.line (a.from.column + a.n) a.to.line (a.to.column + a.n) (a.n - a.n) true)
+      frame = sym (nothing-frame w a.to.win.0 (copied_cells w.window a.from.win.0 a.from.line (a.from.column + a.n) a.to.line (a.to.column + a.n) (a.n - a.n) true)
           (copied-none w.window a.from.win.0 a.from.line (a.from.column + a.n) a.to.line (a.to.column + a.n) (a.n - a.n) true (omega arith)));
     }
 
@@ -81,7 +81,7 @@ overlay_cell-copied-requires-in-backward-clause-from c =
     let a = c.args in let k = c.backward.k in
     let lt : k - 1 < a.n = omega (arith, c.backward-test.true, c.backward.auto.k) in
     rw c.right_by-in-backward.ensures
-    (place_after (windows a.self.now) (windows c.backward.self) a.to.win.0 (copied (windows a.self.now).window a.from.win.0 a.from.line (a.from.column + k) a.to.line (a.to.column + k)
+    (place_after (windows a.self.now) (windows c.backward.self) a.to.win.0 (copied_cells (windows a.self.now).window a.from.win.0 a.from.line (a.from.column + k) a.to.line (a.to.column + k)
     (a.n - k) true) a.from.win.0 a.from.line (a.from.column + a.n - 1) (a.from.column + (k - 1))
     c.backward.invariant.written c.requires.from (omega (arith, lt)))
 
@@ -90,7 +90,7 @@ overlay_cell-copied-requires-in-backward-clause-to c =
     let a = c.args in let k = c.backward.k in
     let lt : k - 1 < a.n = omega (arith, c.backward-test.true, c.backward.auto.k) in
     rw c.right_by-in-backward-2.ensures
-    (place_after (windows a.self.now) (windows c.backward.self) a.to.win.0 (copied (windows a.self.now).window a.from.win.0 a.from.line (a.from.column + k) a.to.line (a.to.column + k)
+    (place_after (windows a.self.now) (windows c.backward.self) a.to.win.0 (copied_cells (windows a.self.now).window a.from.win.0 a.from.line (a.from.column + k) a.to.line (a.to.column + k)
     (a.n - k) true) a.to.win.0 a.to.line (a.to.column + a.n - 1) (a.to.column + (k - 1))
     c.backward.invariant.written c.requires.to (omega (arith, lt)))
 
@@ -108,14 +108,14 @@ backward-preserved c =
     let leads_to : own w.window a.to.win.0 0 0 ≡ Some to = subst (λ (t : Grids). own (window_map t.slots) a.to.win.0 0 0 ≡ Some to) c.self.view_is
     (rw c.deref-2.ensures.value at c.origin_of-target.ensures.leads) in
     let there = window_there w a.to.win.0 a.to.line (a.to.column + a.n - 1) c.requires.to in
-    let f = copied w.window a.from.win.0 a.from.line (a.from.column + (k + 1)) a.to.line (a.to.column + (k + 1)) (a.n - (k + 1)) true in
-    let now = copied v.window a.from.win.0 a.from.line (a.from.column + k) a.to.line (a.to.column + k) 1 true in
-    let h = copied w.window a.from.win.0 a.from.line (a.from.column + k) a.to.line (a.to.column + k) 1 true in
-    let g = copied w.window a.from.win.0 a.from.line (a.from.column + k) a.to.line (a.to.column + k) (a.n - k) true in
+    let f = copied_cells w.window a.from.win.0 a.from.line (a.from.column + (k + 1)) a.to.line (a.to.column + (k + 1)) (a.n - (k + 1)) true in
+    let now = copied_cells v.window a.from.win.0 a.from.line (a.from.column + k) a.to.line (a.to.column + k) 1 true in
+    let h = copied_cells w.window a.from.win.0 a.from.line (a.from.column + k) a.to.line (a.to.column + k) 1 true in
+    let g = copied_cells w.window a.from.win.0 a.from.line (a.from.column + k) a.to.line (a.to.column + k) (a.n - k) true in
     let before : v ≡ put w a.to.win.0 f =
-    subst (λ j. v ≡ put w a.to.win.0 (copied w.window a.from.win.0 a.from.line (a.from.column + j) a.to.line (a.to.column + j) (a.n - j) true)) one c.backward.invariant.written in
+    subst (λ j. v ≡ put w a.to.win.0 (copied_cells w.window a.from.win.0 a.from.line (a.from.column + j) a.to.line (a.to.column + j) (a.n - j) true)) one c.backward.invariant.written in
     let framed : c.backward.frame ≡ drawing_frame w a.to.win.0 (λ b. f) =
-    subst (λ j. c.backward.frame ≡ drawing_frame w a.to.win.0 (λ b. copied w.window a.from.win.0 a.from.line (a.from.column + j) a.to.line (a.to.column + j) (a.n - j) true)) one
+    subst (λ j. c.backward.frame ≡ drawing_frame w a.to.win.0 (λ b. copied_cells w.window a.from.win.0 a.from.line (a.from.column + j) a.to.line (a.to.column + j) (a.n - j) true)) one
     c.backward.invariant.frame in
     let same : now ≡ h = one-same v.window w.window a.from.win.0 a.from.line (a.from.column + k) a.to.line (a.to.column + k) true
     (ap (λ (u : Windows). cell_at u.window a.from.win.0 a.from.line (a.from.column + k)) before
@@ -125,6 +125,6 @@ backward-preserved c =
     c.overlay_cell-copied-in-backward.ensures.written in
     record {
       written = copy-step w v (windows c.overlay_cell-copied-in-backward.new.self) a.to.win.0 f now h g before same join written;
-      frame = frame-step w v a.to.win.0 f now h g c.backward.frame c.overlay_cell-copied-in-backward.result c.joined-frame-in-backward.result before same join framed
-          (rw (c.right_by-in-backward.ensures, c.right_by-in-backward-2.ensures) at c.overlay_cell-copied-in-backward.ensures.frame) c.joined-frame-in-backward.ensures;
+      frame = frame-step w v a.to.win.0 f now h g c.backward.frame c.overlay_cell-copied-in-backward.result c.frame_of_two-frame-in-backward.result before same join framed
+          (rw (c.right_by-in-backward.ensures, c.right_by-in-backward-2.ensures) at c.overlay_cell-copied-in-backward.ensures.frame) c.frame_of_two-frame-in-backward.ensures;
     }

@@ -2,11 +2,11 @@
 -- (`Writes`).
 use Rattle.std.proofs.Common.{◌≡◌, ◌+◌, ◌-◌, ◌<◌, length, map, refl, sym, subst}
 use Rattle.std.proofs.lemmas.List.{length-map}
-use Rattle.world.specs.Rows.{listed}
+use Rattle.world.specs.Rows.{listed_cells}
 use Rattle.world.specs.Windows.{HasPlace}
 use Rattle.slots.specs.Changes.{Changed, with_touched, with_drawing}
 use Rattle.slots.specs.Slots.{window_map}
-use Rattle.slots.specs.Inks.{inked}
+use Rattle.slots.specs.Inks.{printed_cell}
 use Rattle.grids.specs.contracts.table.Grids.{the_view}
 use Rattle.grids.proofs.Changes.{IsWindowTable-changed}
 use Rattle.grids.proofs.Writes.{windows-listed}
@@ -17,7 +17,7 @@ invariant_of-self c =
     let a = c.args in
     let o = c.origin_of-origin.result in
     let t = the_view c.self.inside in
-    let s = IsWindowTable-changed t c.print_row.new.slots.items o.grid (with_drawing (listed (o.line + a.y) (o.column + a.left) (map (inked a.pen) a.text.now))) c.self.invariant
+    let s = IsWindowTable-changed t c.print_row.new.slots.items o.grid (with_drawing (listed_cells (o.line + a.y) (o.column + a.left) (map (printed_cell a.pen) a.text.now))) c.self.invariant
     c.print_row.ensures (λ b. refl) in
     IsWindowTable-changed (record t { slots = c.print_row.new.slots.items }) c.touch_row.new.slots.items a.win.0 (with_touched a.y a.left (a.left + length a.text.now - 1)) s c.touch_row.ensures
     (λ b. refl)
@@ -27,8 +27,8 @@ returns-clause-written c =
     let a = c.args in
     let o = c.origin_of-origin in
     let t = the_view c.self.inside in
-    let cells = map (inked a.pen) a.text.now in
-    let all : length a.text.now ≡ length cells = sym (length-map a.text.now (inked a.pen)) in
+    let cells = map (printed_cell a.pen) a.text.now in
+    let all : length a.text.now ≡ length cells = sym (length-map a.text.now (printed_cell a.pen)) in
     let there = rw (← c.self.view_is) at c.requires.there in
     let leads = rw c.deref.ensures.value at o.ensures.leads in
     rw (← c.self.view_is)

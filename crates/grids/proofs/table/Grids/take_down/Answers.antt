@@ -29,7 +29,7 @@ loop-next-preserved c =
     let deeper : depth_at c.loop-next.self.slots next.win.0 < depth_at c.loop-next.self.slots at.win.0 = c.in-Some.ensures.depth in
     let other : on.part.parent ≢ a.win = λ e. (let same = ap (depth_at c.loop-next.self.slots) (ap (λ (p : Place). p.win.0) on.is ∙ e) in omega (arith, same, deeper, c.loop-next.invariant.depth)) in
     record {
-      so_far = rw on.is (taken-on old c.is_sound.ensures.sound a.win at.win.0 at.line at.column on.part so_far.walk on.behind cur (windows c.touch_shown.new.self) so_far other
+      so_far = rw on.is (taken-on old c.is_sound.ensures.sound a.win at.win.0 at.line at.column on.part so_far.walk on.part_is cur (windows c.touch_shown.new.self) so_far other
           (rw on.is at c.touch_shown.ensures.touched));
       depth = omega (arith, c.touch_shown.ensures.depths next.win.0, c.touch_shown.ensures.depths a.win, deeper, c.loop-next.invariant.depth);
     }

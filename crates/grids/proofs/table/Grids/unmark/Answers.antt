@@ -1,14 +1,14 @@
 -- One slot has no touched columns any more, and asks for no clear screen.
 use Rattle.std.proofs.Common.{refl}
-use Rattle.world.specs.Effects.{unmarked}
+use Rattle.world.specs.Effects.{without_marks}
 use Rattle.grids.specs.contracts.table.Grids.{the_view}
 use Rattle.grids.proofs.Changes.{IsWindowTable-changed, windows-changed}
 use Rattle.grids.proofs.table.Grids.unmark.Goals as goal
 
 pub invariant_of-self : goal.invariant_of-self
 invariant_of-self c =
-    IsWindowTable-changed (the_view c.self.inside) c.unmark_slot.new.slots.items c.args.win.0 unmarked c.self.invariant c.unmark_slot.ensures (λ a. refl)
+    IsWindowTable-changed (the_view c.self.inside) c.unmark_slot.new.slots.items c.args.win.0 without_marks c.self.invariant c.unmark_slot.ensures (λ a. refl)
 
 pub returns-clause-unmarked : goal.returns-clause-unmarked
 returns-clause-unmarked c =
-    rw (← c.self.view_is) (windows-changed (the_view c.self.inside) c.unmark_slot.new.slots.items c.args.win.0 unmarked c.self.invariant c.unmark_slot.ensures)
+    rw (← c.self.view_is) (windows-changed (the_view c.self.inside) c.unmark_slot.new.slots.items c.args.win.0 without_marks c.self.invariant c.unmark_slot.ensures)

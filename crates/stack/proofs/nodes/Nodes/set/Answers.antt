@@ -3,7 +3,7 @@ use Rattle.std.proofs.Common.{◌∷◌, ◌<◌, List, sym, ap, subst, ◌∙�
 use Rattle.stack.specs.Indexes.{IsIndexed}
 use Rattle.stack.specs.Nodes.{window_at}
 use Rattle.stack.specs.declared.nodes.Node.{Node}
-use Rattle.stack.proofs.Indexes.{indexed-set, set-behind}
+use Rattle.stack.proofs.Indexes.{indexed-set, set-past}
 use Rattle.stack.proofs.nodes.Nodes.set.Goals as goal
 
 pub invariant_of-self : goal.invariant_of-self
@@ -21,5 +21,5 @@ invariant_of-self-else-at-eq0 c =
     let same = c.requires.window ∙ ap (λ (l : List Node). window_at l p) (sym c.self.view_is) in
     let within = subst (λ (l : List Node). p < length l) (sym c.self.view_is) c.requires.within in
     rw c.from.ensures
-    (subst (λ (l : List Node). IsIndexed l a.numbers a.holders) (set-behind a.end a.panels.items p c.args.node (omega arith))
+    (subst (λ (l : List Node). IsIndexed l a.numbers a.holders) (set-past a.end a.panels.items p c.args.node (omega arith))
     (indexed-set nodes p c.args.node within a.numbers a.holders c.self.invariant same))

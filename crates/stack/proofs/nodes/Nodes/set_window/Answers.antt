@@ -7,7 +7,7 @@ use Rattle.stack.specs.Nodes.{node_at, window_in}
 use Rattle.stack.specs.steps.Entries.{Windowed}
 use Rattle.stack.specs.declared.nodes.Node.{Node}
 use Rattle.small_set.specs.Sets.{contains}
-use Rattle.stack.proofs.Indexes.{free-window, indexed-windowed, set-behind, some-window, windowed-set}
+use Rattle.stack.proofs.Indexes.{free-window, indexed-windowed, set-past, some-window, windowed-set}
 use Rattle.stack.proofs.nodes.Nodes.set_window.Goals as goal
 
 pub invariant_of-self : goal.invariant_of-self
@@ -22,7 +22,7 @@ invariant_of-self c =
     let win = option_map (λ (w : WinId). w.0) c.args.win in
     let free = rw (← c.self.view_is) at c.requires.free in
     rw c.from.ensures
-    (subst (λ (l : List Node). IsIndexed l c.set_taken.new.numbers c.set-2.new.self) (set-behind a.end a.panels.items p node c.requires.panel)
+    (subst (λ (l : List Node). IsIndexed l c.set_taken.new.numbers c.set-2.new.self) (set-past a.end a.panels.items p node c.requires.panel)
     (indexed-windowed nodes (set nodes p node) a.numbers c.set_taken.new.numbers a.holders c.set.new.self c.set-2.new.self p win
     c.self.invariant c.requires.panel within windowed.length windowed.window (free-window nodes c.args.win free)
     (λ w. c.set.ensures.panel w ∙ ap (λ (n : Node). held_by (window_in n) 0 (holder_at a.holders) w) got)
@@ -39,4 +39,4 @@ returns c =
     let got : c.get-node.result ≡ node_at nodes p = c.get-node.ensures ∙ ap (λ (l : List Node). node_at l p) (sym c.self.view_is) in
     let windowed = windowed-set nodes p node within (ap (λ (n : Node). n.above) got) (ap (λ (n : Node). n.below) got) in
     rw c.from.ensures (rw (← c.self.view_is)
-    (subst (λ (l : List Node). Windowed nodes l p (window_in node)) (set-behind a.end a.panels.items p node c.requires.panel) windowed))
+    (subst (λ (l : List Node). Windowed nodes l p (window_in node)) (set-past a.end a.panels.items p node c.requires.panel) windowed))

@@ -11,4 +11,4 @@ returns-clause-written c =
 pub returns-clause-frame : goal.returns-clause-frame
 returns-clause-frame c =
     ended_frame (windows c.args.table.now) c.args.win.0 c.args.state.now c.requires.state (windows c.clear_rest.new.table) c.lines_from.result
-    c.to_next_line.result c.joined.result c.clear_rest.ensures.written c.lines_from.ensures c.to_next_line.ensures.frame c.joined.ensures
+    c.to_next_line.result c.frame_of_two.result c.clear_rest.ensures.written c.lines_from.ensures c.to_next_line.ensures.frame c.frame_of_two.ensures

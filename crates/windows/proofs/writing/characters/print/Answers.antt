@@ -29,4 +29,4 @@ returns-clause-frame c =
     let s = c.args.state.now in
     let drawn = c.set_cell.ensures.written ∙ ap (λ g. put (windows c.args.table.now) c.args.win.0 (at_place s.settings.cursor g)) c.written_cell.ensures in
     printed_at_end_frame (windows c.args.table.now) c.args.win.0 s c.requires.state c.args.ch (windows c.set_cell.new.table) c.place.result c.to_next_line.result
-    c.joined.result c.if-x-state.false drawn c.place.ensures c.to_next_line.ensures.frame c.joined.ensures
+    c.frame_of_two.result c.if-x-state.false drawn c.place.ensures c.to_next_line.ensures.frame c.frame_of_two.ensures

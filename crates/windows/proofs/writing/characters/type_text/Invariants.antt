@@ -1,7 +1,7 @@
 use Rattle.std.proofs.Common.{◌≡◌, IsSome, false, length}
 use Rattle.std.specs.List.{list_any}
 use Rattle.world.specs.Sound.{AreSoundWindows}
-use Rattle.world.specs.Frames.{joined}
+use Rattle.world.specs.Frames.{frame_of_two}
 use Rattle.world.specs.Typing.{after_text, text_frame}
 use Rattle.world.specs.calls.Writing.{is_bad_character}
 use Rattle.grids.specs.Tables.{windows}
@@ -11,7 +11,7 @@ use Rattle.windows.proofs.writing.characters.type_text.Given as goal
 abbrev pub invariant-loop-rest : goal.invariant-loop-rest
 invariant-loop-rest l = record {
   written : after_text (windows l.table) l.win.0 l.rest ≡ after_text (windows l.fn.table) l.win.0 l.text;
-  frame : joined l.frame (text_frame (windows l.table) l.win.0 l.rest) ≡ text_frame (windows l.fn.table) l.win.0 l.text;
+  frame : frame_of_two l.frame (text_frame (windows l.table) l.win.0 l.rest) ≡ text_frame (windows l.fn.table) l.win.0 l.text;
   accepted : list_any is_bad_character l.rest ≡ false;
   there : IsSome ((windows l.table).window l.win.0);
   sound : AreSoundWindows (windows l.table);
