@@ -21,13 +21,9 @@ mod AffectedDamages
 mod Reading
 -- The touched columns of a window are damaged line by line; for `damage_touched`
 mod Touching
-<<<<<<< HEAD
 -- What is shown of a write in the standard screen where no panel is visible; for `damage_written`
 mod StandardWrites
--- A call on panels, made on a desk: the world after it, and what it damaged; for `arrange`, `arrange_damaging`
-=======
 -- A call on panels: what the stack of panels says of it, and the desk on which it is made; for `arrange`, `new_panel`, `move_panel` and others
->>>>>>> 17a3032
 mod Arranging
 -- What a call on panels damages: the part of the panel that it names, as it was, and that of the panel that it changed or made, as it is; for
 -- `arrange_damaging`
