@@ -1,6 +1,6 @@
 -- one slot changed, for set_settings, mvwin, fill, mark and unmark
 pub mod Changes
--- that windows are sound, for is_sound
+-- that windows are sound
 pub mod Sounds
 -- that a row is one write, for fill and copy_cells
 pub mod Writes

@@ -1,5 +1,5 @@
 -- The windows of a table are sound.
-use Rattle.std.proofs.Common.{◌≡◌, ℕ, ◌<◌, Option, Some, None, IsSomeAnd, MatchOption, List, arith, refl}
+use Rattle.std.proofs.Common.{◌≡◌, ℕ, ◌<◌, Option, Some, None, IsSomeAnd, MatchOption, List, arith, refl, subst}
 use Rattle.std.specs.Option.{option_map}
 use Rattle.std.specs.Prelude.{⊤}
 use Rattle.std.specs.List.{AllByRecursion}
@@ -62,3 +62,7 @@ sound t s = record {
   standard = standard_at t (slot_at t.slots 0) s.standard;
   each = λ w. sound_at t s w (slot_at t.slots w) refl;
 }
+
+-- of the table that is shown
+pub sound_shown : (t u : WindowTable) → t ≡ u → IsWindowTable t → AreSoundWindows (windows u)
+sound_shown t u is h = subst (λ (t : WindowTable). AreSoundWindows (windows t)) is (sound t h)

@@ -30,13 +30,13 @@ impl Grids {
     ) -> Result<WinId, Refusal>
         ensures { Made its_number self.old (Making.Newwin nlines ncols begin_y begin_x) result self.new }
     {
-        prove!(self.is_sound());
+        prove!(self.has_window(WinId::STANDARD));
         let lines = extent_inside(nlines, self.lines, begin_y).ok_or(Refusal::OffScreen)?;
         let columns = extent_inside(ncols, self.columns, begin_x).ok_or(Refusal::OffScreen)?;
         let number = free_number(&self.slots).ok_or(Refusal::TooMany)?;
         let slot = Slot::with_grid(self.alloc, number, lines, columns, Some((begin_y, begin_x)))?;
         fill_slot_at(&mut self.slots, number, slot)?;
-        prove!(self.is_sound());
+        prove!(self.has_window(WinId::STANDARD));
         Ok(WinId(number))
     }
 
@@ -47,14 +47,14 @@ impl Grids {
     pub fn newpad(&mut self, nlines: u16, ncols: u16) -> Result<WinId, Refusal>
         ensures { Made its_number self.old (Making.Newpad nlines ncols) result self.new }
     {
-        prove!(self.is_sound());
+        prove!(self.has_window(WinId::STANDARD));
         if is_no_size(LARGEST_PAD, nlines) || is_no_size(LARGEST_PAD, ncols) {
             return Err(Refusal::BadSize);
         }
         let number = free_number(&self.slots).ok_or(Refusal::TooMany)?;
         let slot = Slot::with_grid(self.alloc, number, nlines, ncols, None)?;
         fill_slot_at(&mut self.slots, number, slot)?;
-        prove!(self.is_sound());
+        prove!(self.has_window(WinId::STANDARD));
         Ok(WinId(number))
     }
 
@@ -72,7 +72,6 @@ impl Grids {
     ) -> Result<WinId, Refusal>
         ensures { Made its_number self.old (Making.Derwin win nlines ncols begin_y begin_x) result self.new }
     {
-        prove!(self.is_sound());
         if self.slot(win)?.place().is_none() {
             return Err(Refusal::IsPad);
         }
@@ -93,7 +92,6 @@ impl Grids {
     ) -> Result<WinId, Refusal>
         ensures { Made its_number self.old (Making.Subwin win nlines ncols begin_y begin_x) result self.new }
     {
-        prove!(self.is_sound());
         let (top, left) = self.slot(win)?.place().ok_or(Refusal::IsPad)?;
         if begin_y < top || begin_x < left {
             return Err(Refusal::OutsideParent);
@@ -115,7 +113,6 @@ impl Grids {
     ) -> Result<WinId, Refusal>
         ensures { Made its_number self.old (Making.Subpad pad nlines ncols begin_y begin_x) result self.new }
     {
-        prove!(self.is_sound());
         if self.slot(pad)?.place().is_some() {
             return Err(Refusal::NotPad);
         }
@@ -135,7 +132,6 @@ impl Grids {
         ensures { Changed its_number self.old (first_of (part_tests (windows self.old) win.0 nlines ncols y x))
             (makes (next_window (windows self.old)) (derived_from (windows self.old) win.0 nlines ncols y x)) result self.new }
     {
-        prove!(self.is_sound());
         let parent = self.slot(win)?;
         let lines = extent_inside(nlines, parent.lines(), y).ok_or(Refusal::OutsideParent)?;
         let columns = extent_inside(ncols, parent.columns(), x).ok_or(Refusal::OutsideParent)?;
@@ -150,7 +146,7 @@ impl Grids {
         };
         let slot = Slot::with_parent(self.alloc, lines, columns, place, part, depth, origin)?;
         fill_slot_at(&mut self.slots, number, slot)?;
-        prove!(self.is_sound());
+        prove!(self.has_window(WinId::STANDARD));
         Ok(WinId(number))
     }
 
@@ -161,7 +157,6 @@ impl Grids {
     pub fn mvwin(&mut self, win: WinId, y: u16, x: u16) -> Result<(), Refusal>
         ensures { Made nothing self.old (Making.Mvwin win y x) result self.new }
     {
-        prove!(self.is_sound());
         let slot = self.slot(win)?;
         if win.0 == 0 {
             return Err(Refusal::StandardScreen);
@@ -173,7 +168,7 @@ impl Grids {
             return Err(Refusal::OffScreen);
         }
         place_slot(&mut self.slots, win.0, y, x);
-        prove!(self.is_sound());
+        prove!(self.has_window(WinId::STANDARD));
         Ok(())
     }
 
@@ -185,7 +180,6 @@ impl Grids {
     pub fn mvderwin(&mut self, win: WinId, par_y: u16, par_x: u16) -> Result<(), Refusal>
         ensures { Made nothing self.old (Making.Mvderwin win par_y par_x) result self.new }
     {
-        prove!(self.is_sound());
         let slot = self.slot(win)?;
         let part = slot.part().ok_or(Refusal::NotDerived)?;
         let parent = self.slot(WinId(part.parent))?;
@@ -196,7 +190,7 @@ impl Grids {
         }
         shift_slot(&mut self.slots, win.0, par_y, par_x);
         settle(&mut self.slots);
-        prove!(self.is_sound());
+        prove!(self.has_window(WinId::STANDARD));
         Ok(())
     }
 
@@ -207,7 +201,6 @@ impl Grids {
     pub fn delwin(&mut self, win: WinId) -> Result<(), Refusal>
         ensures { Made nothing self.old (Making.Delwin win) result self.new }
     {
-        prove!(self.is_sound());
         self.slot(win)?;
         if win.0 == 0 {
             return Err(Refusal::StandardScreen);
@@ -216,7 +209,7 @@ impl Grids {
             return Err(Refusal::HasDerived);
         }
         free_slot(&mut self.slots, win.0);
-        prove!(self.is_sound());
+        prove!(self.has_window(WinId::STANDARD));
         Ok(())
     }
 }

@@ -22,7 +22,6 @@ impl Grids {
         ensures columns { result ≡ touched_columns (windows self.now).window win.0 y }
         ensures sound { AreSoundWindows (windows self.now) }
     {
-        prove!(self.is_sound());
         match self.slot(win) {
             Ok(slot) => slot.touched_columns(y),
             Err(_) => None,
@@ -36,7 +35,6 @@ impl Grids {
         ensures sound { AreSoundWindows (windows self.new) }
     {
         unmark_slot(&mut self.slots, win.0);
-        prove!(self.is_sound());
     }
 
     /// Touches all of a window.
@@ -46,7 +44,6 @@ impl Grids {
     pub fn touchwin(&mut self, win: WinId) -> Result<(), Refusal>
         ensures { Marked nothing self.old (Copying.Touchwin win) result self.new }
     {
-        prove!(self.is_sound());
         let lines = self.slot(win)?.lines();
         self.mark(win, 0, lines, true);
         Ok(())
@@ -59,7 +56,6 @@ impl Grids {
     pub fn untouchwin(&mut self, win: WinId) -> Result<(), Refusal>
         ensures { Marked nothing self.old (Copying.Untouchwin win) result self.new }
     {
-        prove!(self.is_sound());
         let lines = self.slot(win)?.lines();
         self.mark(win, 0, lines, false);
         Ok(())
@@ -82,7 +78,6 @@ impl Grids {
     pub fn wtouchln(&mut self, win: WinId, y: u16, n: u16, flag: bool) -> Result<(), Refusal>
         ensures { Marked nothing self.old (Copying.Touchln win y n flag) result self.new }
     {
-        prove!(self.is_sound());
         let lines = self.slot(win)?.lines();
         if y >= lines || n > lines - y {
             return Err(Refusal::OutsideWindow);
@@ -98,7 +93,6 @@ impl Grids {
         ensures sound { AreSoundWindows (windows self.new) }
     {
         mark_slot(&mut self.slots, win.0, first, n, flag);
-        prove!(self.is_sound());
     }
 
     /// Whether line `y` of a window is touched.
@@ -108,7 +102,6 @@ impl Grids {
     pub fn is_linetouched(&self, win: WinId, y: u16) -> Result<bool, Refusal>
         ensures { Marked its_flag self.now (Copying.IsLinetouched win y) result self.now }
     {
-        prove!(self.is_sound());
         let slot = self.slot(win)?;
         if y >= slot.lines() {
             return Err(Refusal::OutsideWindow);
@@ -123,7 +116,6 @@ impl Grids {
     pub fn is_wintouched(&self, win: WinId) -> Result<bool, Refusal>
         ensures { Marked its_flag self.now (Copying.IsWintouched win) result self.now }
     {
-        prove!(self.is_sound());
         let slot = self.slot(win)?;
         Ok(slot.is_touched())
     }

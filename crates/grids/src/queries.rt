@@ -23,7 +23,6 @@ impl Grids {
         ensures value { result ≡ is_some ((windows self.now).window win.0) }
         ensures sound { AreSoundWindows (windows self.now) }
     {
-        prove!(self.is_sound());
         self.slot(win).is_ok()
     }
 
@@ -34,7 +33,6 @@ impl Grids {
     pub fn getyx(&self, win: WinId) -> Result<(u16, u16), Refusal>
         ensures { Asked self.now (Query.Getyx win) (cursor_of (windows self.now).window win.0) result }
     {
-        prove!(self.is_sound());
         let slot = self.slot(win)?;
         Ok(slot.settings().cursor)
     }
@@ -46,7 +44,6 @@ impl Grids {
     pub fn getbegyx(&self, win: WinId) -> Result<(u16, u16), Refusal>
         ensures { Asked self.now (Query.Getbegyx win) (place_on_screen (windows self.now).window win.0) result }
     {
-        prove!(self.is_sound());
         let slot = self.slot(win)?;
         slot.place().ok_or(Refusal::IsPad)
     }
@@ -58,7 +55,6 @@ impl Grids {
     pub fn getmaxyx(&self, win: WinId) -> Result<(u16, u16), Refusal>
         ensures { Asked self.now (Query.Getmaxyx win) (window_size (windows self.now).window win.0) result }
     {
-        prove!(self.is_sound());
         let slot = self.slot(win)?;
         Ok((slot.lines(), slot.columns()))
     }
@@ -70,7 +66,6 @@ impl Grids {
     pub fn getparyx(&self, win: WinId) -> Result<(u16, u16), Refusal>
         ensures { Asked self.now (Query.Getparyx win) (offset_in_parent (windows self.now).window win.0) result }
     {
-        prove!(self.is_sound());
         let slot = self.slot(win)?;
         let part = slot.part().ok_or(Refusal::NotDerived)?;
         Ok((part.line, part.column))

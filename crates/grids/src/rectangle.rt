@@ -51,7 +51,7 @@ impl Grids {
         } else {
             None
         };
-        prove!(self.is_sound());
+        prove!(self.has_window(WinId::STANDARD));
         frame
     }
 

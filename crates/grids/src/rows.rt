@@ -24,7 +24,6 @@ impl Grids {
         ensures cells { AllByRecursion IsCell result.now }
         ensures sound { AreSoundWindows (windows self.now) }
     {
-        prove!(self.is_sound());
         let origin = origin_of(&self.slots, win.0);
         let columns = columns_of(&self.slots, win.0);
         row_in(
@@ -63,7 +62,6 @@ impl Grids {
             cell,
         );
         touch_row(&mut self.slots, win.0, y, left, right);
-        prove!(self.is_sound());
     }
 
     /// Sets the cell of a window at line `y` and column `x`. The place must exist.
@@ -108,7 +106,6 @@ impl Grids {
             pen,
         );
         touch_row(&mut self.slots, win.0, y, left, end - 1);
-        prove!(self.is_sound());
     }
 
     /// Sets `n` cells of line `dy` of `dst` from column `dx` on to those that line `sy` of `src` has from column `sx` on, as if all
@@ -142,7 +139,7 @@ impl Grids {
         if n > 0 {
             self.copy_line(from, to, n, overlay);
         }
-        prove!(self.is_sound());
+        prove!(self.has_window(WinId::STANDARD));
     }
 
     /// Copies some cells of a line, and answers the smallest rectangle of the destination that holds what it wrote.

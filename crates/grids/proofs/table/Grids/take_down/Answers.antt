@@ -15,7 +15,7 @@ pub place_above-requires : goal.place_above-requires
 place_above-requires c =
     let at = c.loop-next.at in
     let so_far = c.loop-next.invariant.so_far in
-    place-reached (windows c.args.self.now) (windows c.loop-next.self) c.args.win at.win.0 at.line at.column c.is_sound.ensures.sound so_far.walk so_far.same
+    place-reached (windows c.args.self.now) (windows c.loop-next.self) c.args.win at.win.0 at.line at.column c.has_window.ensures.sound so_far.walk so_far.same
 
 pub loop-next-preserved : goal.loop-next-preserved
 loop-next-preserved c =
@@ -29,7 +29,7 @@ loop-next-preserved c =
     let deeper : depth_at c.loop-next.self.slots next.win.0 < depth_at c.loop-next.self.slots at.win.0 = c.in-Some.ensures.depth in
     let other : on.part.parent ≢ a.win = λ e. (let same = ap (depth_at c.loop-next.self.slots) (ap (λ (p : Place). p.win.0) on.is ∙ e) in omega (arith, same, deeper, c.loop-next.invariant.depth)) in
     record {
-      so_far = rw on.is (taken-on old c.is_sound.ensures.sound a.win at.win.0 at.line at.column on.part so_far.walk on.part_is cur (windows c.touch_shown.new.self) so_far other
+      so_far = rw on.is (taken-on old c.has_window.ensures.sound a.win at.win.0 at.line at.column on.part so_far.walk on.part_is cur (windows c.touch_shown.new.self) so_far other
           (rw on.is at c.touch_shown.ensures.touched));
       depth = omega (arith, c.touch_shown.ensures.depths next.win.0, c.touch_shown.ensures.depths a.win, deeper, c.loop-next.invariant.depth);
     }

@@ -20,7 +20,7 @@ loop-y-init c =
 pub shown_columns-requires-clause-line : goal.shown_columns-requires-clause-line
 shown_columns-requires-clause-line c =
     let l = at-line _ _ _ _ _ _ _ _ c.requires.other c.requires.window c.size-lines.ensures c.loop-y-test.true c.loop-y.invariant.touched in
-    let sound = rw l.there at (c.is_sound.ensures.sound.each c.args.win) in
+    let sound = rw l.there at (c.has_window.ensures.sound.each c.args.win) in
     rw l.here (l.below, sound.has_column)
 
 pub shown_columns-requires-clause-window : goal.shown_columns-requires-clause-window

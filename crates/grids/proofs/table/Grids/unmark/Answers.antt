@@ -3,6 +3,7 @@ use Rattle.std.proofs.Common.{refl}
 use Rattle.world.specs.Effects.{without_marks}
 use Rattle.grids.specs.contracts.table.Grids.{the_view}
 use Rattle.grids.proofs.Changes.{IsWindowTable-changed, windows-changed}
+use Rattle.grids.proofs.Sounds.{sound}
 use Rattle.grids.proofs.table.Grids.unmark.Goals as goal
 
 pub invariant_of-self : goal.invariant_of-self
@@ -12,3 +13,8 @@ invariant_of-self c =
 pub returns-clause-unmarked : goal.returns-clause-unmarked
 returns-clause-unmarked c =
     rw (← c.self.view_is) (windows-changed (the_view c.self.inside) c.unmark_slot.new.slots.items c.args.win.0 without_marks c.self.invariant c.unmark_slot.ensures)
+
+pub returns-clause-sound : goal.returns-clause-sound
+returns-clause-sound c =
+    sound _
+    (IsWindowTable-changed (the_view c.self.inside) c.unmark_slot.new.slots.items c.args.win.0 without_marks c.self.invariant c.unmark_slot.ensures (λ a. refl))
