@@ -91,6 +91,23 @@ impl Handle {
         replace(self, Handle::of(Loose::of(surface))).free(alloc);
     }
 
+    /// Puts a surface into a closed handle.
+    #[inline(always)]
+    fn put_back(&mut self, surface: Box<Surface>)
+        requires { self.old.value ≡ None }
+        ensures { self.new.value ≡ Some surface.value }
+    {
+        replace(self, Handle::of(Loose::of(surface))).discard();
+    }
+
+    /// Consumes a closed handle, which owns nothing.
+    #[inline(always)]
+    fn discard(self)
+        requires { self.value ≡ None }
+    {
+        let Handle { at: _ } = self;
+    }
+
     /// Frees what the handle owns, and closes it.
     pub fn close(&mut self, alloc: Global)
         ensures { self.new.value ≡ None }
@@ -119,7 +136,7 @@ impl Handle {
         match self.lift(alloc) {
             Some(mut surface) => {
                 let answer = surface.call(call);
-                self.put(alloc, surface);
+                self.put_back(surface);
                 answer
             }
             None => Answer::closed(),

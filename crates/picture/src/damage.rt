@@ -98,12 +98,19 @@ impl Damage {
         requires ordered { frame.left ≤ frame.right }
         ensures damaged { (columns : ℕ) → frame.right < columns → Damages columns (frame_holds frame) self.old self.new }
     {
-        for y in frame.top..frame.bottom + 1 {
-            self.widen(y, frame.left, frame.right);
+        let Rect {
+            top,
+            left,
+            bottom,
+            right,
+        } = frame;
+        for y in top..bottom + 1 {
+            self.widen(y, left, right);
         }
     }
 
     /// Damages some columns of a line, from a first to a last, and those between them and the ones that were damaged.
+    #[inline(always)]
     fn widen(&mut self, y: u16, first: u16, last: u16)
         requires { y < length self.old }
         ensures { self.new ≡ slice_set self.old y (joined_columns (columns_of self.old y) first last) }
