@@ -82,7 +82,6 @@ impl Grids {
             cell,
         );
         touch_row(&mut self.slots, win.0, y, x, x);
-        prove!(self.is_sound());
     }
 
     /// Prints characters from 32 to 126 in line `y` of a window, from column `left` on, each with the attributes and the pair of a
