@@ -43,10 +43,10 @@ int wattr_get(WINDOW *win, attr_t *attrs, short *pair, void *none) {
 int wcolor_set(WINDOW *win, short pair, void *none) { return is_there(win) == ERR ? ERR : wattr_set(win, win->attrs, pair, none); }
 
 int curspan_tell_other(WINDOW *win, attr_t attrs) {
-    attr_t changed = win->told ^ attrs;
+    attr_t changed = win->given ^ attrs;
     if (changed & ~A_COLOR && done(curspan_wattrset(SCREEN_AND(win), bits_of(attrs))) == ERR) return ERR;
     if (changed & A_COLOR && done(curspan_wcolor_set(SCREEN_AND(win), (uint16_t)PAIR_NUMBER(attrs))) == ERR) return ERR;
-    win->told = attrs;
+    win->given = attrs;
     return OK;
 }
 

@@ -16,7 +16,7 @@ struct curspan_window {
     uint16_t number; /* its own, and NUMBER where it isn't there */
     bool is_pad, scrolls;
     attr_t attrs; /* the attributes and the pair that the window has */
-    attr_t told;  /* those that Curspan got last */
+    attr_t given;  /* those that Curspan got last */
     chtype background;
     int top, bottom; /* the scroll region */
     WINDOW *parent;
@@ -45,7 +45,7 @@ void curspan_forget_all(void);
 int curspan_tell_other(WINDOW *win, attr_t attrs);
 
 /* Says to Curspan with which attributes a window writes next. */
-static inline int curspan_tell(WINDOW *win, attr_t attrs) { return win->told == attrs ? OK : curspan_tell_other(win, attrs); }
+static inline int curspan_tell(WINDOW *win, attr_t attrs) { return win->given == attrs ? OK : curspan_tell_other(win, attrs); }
 
 /* One set of attributes with another added, whose pair goes before where it has one. */
 static inline attr_t curspan_with(attr_t attrs, attr_t more) {

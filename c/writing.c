@@ -8,7 +8,7 @@
 static int ready(WINDOW *win) { return is_there(win) == ERR ? ERR : curspan_tell(win, win->attrs); }
 
 /* Whether a window is ready so already. */
-static inline bool is_told(const WINDOW *win) { return is_there(win) == OK && win->told == win->attrs; }
+static inline bool is_ready(const WINDOW *win) { return is_there(win) == OK && win->given == win->attrs; }
 
 int wmove(WINDOW *win, int y, int x) {
     if (!are_numbers(y, x, 0, 0)) return ERR;
@@ -55,7 +55,7 @@ int curspan_add_any(WINDOW *win, chtype ch) {
 
 int waddch(WINDOW *win, const chtype ch) {
     bool is_plain = ch >= ' ' && ch <= '~'; /* it has no attributes of its own, and is not spelled */
-    if (!is_plain || !is_told(win)) return curspan_add_any(win, ch);
+    if (!is_plain || !is_ready(win)) return curspan_add_any(win, ch);
     return done(curspan_waddch(SCREEN_AND(win), (uint8_t)ch));
 }
 
@@ -108,7 +108,7 @@ int vw_printw(WINDOW *win, const char *format, va_list arguments) {
 /* Whether a character can be inserted: those that move the cursor can't. */
 static bool is_spelled(uint8_t ch) { return ch <= 127 && ch != '\n' && ch != '\r' && ch != '\b'; }
 
-/* Inserts the characters of a text, as they are spelled and as far as the line goes, with the attributes that were told. */
+/* Inserts the characters of a text, as they are spelled and as far as the line goes, with the attributes that were given. */
 static int insert(WINDOW *win, const uint8_t *text, size_t length) {
     uint8_t row[LONGEST + 8];
     int from = getcurx(win), columns = getmaxx(win), to = from;
