@@ -1,6 +1,6 @@
 # Runs the program on a case that was read, and compares what comes with what the case wants. It needs
 #   program, has_show   the program, and whether it has the subcommand show
-#   tally, has_tally    the program that counts composed cells, and whether it is there
+#   probe, has_probe    the program that counts composed cells, and whether it is there
 #   work                a folder for files
 #   is_writing          whether what came of a case that failed is written, to a file that begins with `place`
 #   name                the case's name
@@ -191,12 +191,12 @@ take_in_ranges() {
 try_tally() {
     local text counts
     [[ " ${order[*]} " == *' cells '* ]] || return 0
-    if ! $has_tally; then
+    if ! $has_probe; then
         skipped=$((skipped + 1))
         is_whole=false
         return
     fi
-    "$tally" "${words[2]}" "${words[4]}" < "$input" > "$work/out" 2> "$work/log"
+    "$probe" "${words[2]}" "${words[4]}" < "$input" > "$work/out" 2> "$work/log"
     compare_status 0 "$?"
     take "$work/out"
     take_behind "$text" "$tallied"
@@ -206,7 +206,7 @@ try_tally() {
     want cells
     take_in_ranges "$text" "$counts"
     compare cells "$text"
-    judge tally
+    judge probe
 }
 
 # Runs a script, up to each of its steps.

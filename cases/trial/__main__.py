@@ -24,7 +24,7 @@ def read_words():
     parser.add_argument('count', metavar='COUNT', type=int, help='how many seeds are tried')
     parser.add_argument('seed', metavar='SEED', type=int, nargs='?', help='the first seed; the time if left out')
     parser.add_argument('--program', required=True, metavar='FILE', help='the program, in place of the one that was built')
-    parser.add_argument('--tally', required=True, metavar='FILE', help='the program that counts composed cells, likewise')
+    parser.add_argument('--probe', required=True, metavar='FILE', help='the program that counts composed cells, likewise')
     parser.add_argument('--print', action='store_true', help='print the scripts and the streams, and try nothing')
     parser.add_argument('--whole', action='store_true', help='print what fails as it is, and make nothing smaller')
     return parser.parse_args()
@@ -49,12 +49,12 @@ class Trial:
 
     def __init__(self, words, work):
         self.program = Program(words.program, work)
-        self.tally = Program(words.tally, work) if os.access(words.tally, os.X_OK) else None
+        self.probe = Program(words.probe, work) if os.access(words.probe, os.X_OK) else None
         self.makes_smaller = not words.whole
 
     def checks(self):
         """Each check of a script, and the program that it is of."""
-        counting = [(reads_few_cells, self.tally)] if self.tally else []
+        counting = [(reads_few_cells, self.probe)] if self.probe else []
         return [(check, self.program) for check in SCRIPT_CHECKS] + counting
 
     def try_seed(self, seed):
@@ -116,7 +116,7 @@ def try_seeds(words, first):
             if time.monotonic() - told > SECONDS_BETWEEN:
                 told = time.monotonic()
                 print(f'random: {seed - first + 1} of {words.count} passed', file=sys.stderr)
-    counted = '' if trial.tally else ', and no cells were counted: there is no tally'
+    counted = '' if trial.probe else ', and no cells were counted: there is no probe'
     print(f'random: {words.count} passed, from seed {first} on{counted}; go on by cases/random 1000 {first + words.count}')
     return 0
 

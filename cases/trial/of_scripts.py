@@ -135,13 +135,13 @@ def updates_rightly(program, script):
         before = after
 
 
-def reads_few_cells(tally, script):
+def reads_few_cells(probe, script):
     """Each update_panels reads no fewer cells than it changes, and no more than the lines have that were affected. A script with a fault
     is counted up to it."""
     fault = script.wanted.fault
     text = script.first_lines(fault[0] - 1) if fault else script.text
-    came = tally.run([str(script.lines), str(script.columns)], text)
-    want('the status of tally', 0, came.status)
+    came = probe.run([str(script.lines), str(script.columns)], text)
+    want('the status of probe', 0, came.status)
     counts = [int(line) for line in came.out.split()]
     bounds = script.wanted.world.counts
     want('how many update_panels are counted', len(bounds), len(counts))

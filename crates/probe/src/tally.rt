@@ -1,33 +1,14 @@
-//! Makes the calls of a script on a screen, and prints how many cells each `update_panels` of it read.
-#![tactic(auto)]
+//! The calls of a script on a screen, and how many cells each `update_panels` of it read.
 
 use cell::Refusal;
 use desk::{Calls, Reply, Screen};
 use script::{Arguments, LONGEST_LINE, read_line};
-use std::env;
+use std::alloc::Global;
 use std::io::{self, ErrorKind, Read, Write};
-use std::process::ExitCode;
 use streams::Discard;
 
-fn main(rt: HostRuntime) -> ExitCode {
-    match run(&rt) {
-        Ok(()) => ExitCode::SUCCESS,
-        Err(_) => {
-            let usage =
-                b"usage: tally LINES COLUMNS < SCRIPT\nThe size, the script or a stream has a fault.\n";
-            let _ = rt.stderr().write_all(usage.as_slice());
-            ExitCode::FAILURE
-        }
-    }
-}
-
-/// A blank screen of the size that the words give, over a sink that keeps nothing.
-fn screen_of(rt: &HostRuntime) -> io::Result<Screen<Discard>> {
-    let alloc = rt.alloc();
-    let words: Vec<String> = env::args(rt)?.collect(alloc)?;
-    let [_, lines, columns] = words.as_slice() else {
-        return Err(ErrorKind::InvalidInput.into());
-    };
+/// A blank screen of the size that two words give, over a sink that keeps nothing.
+fn screen_of(alloc: Global, lines: &str, columns: &str) -> io::Result<Screen<Discard>> {
     let (Ok(lines), Ok(columns)) = (lines.parse::<u16>(), columns.parse::<u16>()) else {
         return Err(ErrorKind::InvalidInput.into());
     };
@@ -61,8 +42,8 @@ fn composed(
 }
 
 /// Makes the calls of the script on standard input, up to its first fault, and prints each count in a line.
-fn run(rt: &HostRuntime) -> io::Result<()> {
-    let mut screen = screen_of(rt)?;
+pub fn run(rt: &HostRuntime, lines: &str, columns: &str) -> io::Result<()> {
+    let mut screen = screen_of(rt.alloc(), lines, columns)?;
     let mut text = Vec::new(rt.alloc());
     rt.stdin().read_to_end(&mut text)?;
     let mut out = rt.stdout();

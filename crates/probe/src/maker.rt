@@ -1,5 +1,4 @@
-//! Makes what each word of its command line names, and prints a line on how each ended: for tests that refuse allocations.
-#![tactic(auto)]
+//! What takes memory where it is made, by its name: for tests that refuse allocations.
 
 use cell::Refusal;
 use compose::Desk;
@@ -8,18 +7,9 @@ use ecma::Terminal;
 use grids::Grids;
 use paint::Painter;
 use std::alloc::Global;
-use std::env;
-use std::io::{self, ErrorKind, Write};
-use std::process::ExitCode;
+use std::io::{self, Write};
 use streams::Discard;
 use windows::Windows;
-
-fn main(rt: HostRuntime) -> ExitCode {
-    match run(&rt) {
-        Ok(()) => ExitCode::SUCCESS,
-        Err(_) => ExitCode::FAILURE,
-    }
-}
 
 /// Why a thing of 4 lines and 10 columns isn't made, and none where it is, or where there is no such thing.
 fn refusal(alloc: Global, name: &str) -> Option<Refusal> {
@@ -34,14 +24,9 @@ fn refusal(alloc: Global, name: &str) -> Option<Refusal> {
     }
 }
 
-/// Makes what the one word names.
-fn run(rt: &HostRuntime) -> io::Result<()> {
-    let alloc = rt.alloc();
-    let words: Vec<String> = env::args(rt)?.collect(alloc)?;
-    let [_, name] = words.as_slice() else {
-        return Err(ErrorKind::InvalidInput.into());
-    };
-    let text = match refusal(alloc, name.as_str()) {
+/// Makes what a word names, and prints how this ended.
+pub fn run(rt: &HostRuntime, name: &str) -> io::Result<()> {
+    let text = match refusal(rt.alloc(), name) {
         Some(refusal) => refusal.text(),
         None => "made",
     };
