@@ -97,7 +97,7 @@ provers() {
 # Ends with status 125 where `rt` is missing.
 want_rt() {
     if ! command -v rt > /dev/null; then
-        echo "$1: the command rt of the Rattle kit is not on the path, and nothing is proved without it: see README.md" >&2
+        echo "$1: the command rt of the Rattle kit is not on the path, and nothing is built without it: see README.md" >&2
         exit 125
     fi
 }
