@@ -50,7 +50,4 @@ returns-clause-cells g c =
     (c.args.y * grid.columns + c.args.x + length c.args.cells.now) c.args.cells.now) after)
 
 pub returns-clause-height : goal.returns-clause-height
-returns-clause-height g c =
-    let grid = c.self.inside in
-    rw (← c.self.view_is)
-    (length-rows grid.lines grid.columns c.put_piece.new.cells.items ∙ sym (length-rows grid.lines grid.columns grid.cells.items))
+returns-clause-height g c = grind (arith, length-rows)
