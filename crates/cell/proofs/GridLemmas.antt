@@ -1,6 +1,5 @@
 -- The lines of a grid whose cells are one after another: each line, a change of one cell, and equal sizes.
 use Rattle.std.proofs.Common.{◌≡◌, ℕ, ◌<◌, ◌≤◌, ◌+◌, ◌*◌, ◌∙◌, List, [], length, take, drop, replicate, set, sym, ap, inl, inr, ◌-◌, arith, zero-add}
-use Rattle.std.specs.List.{AllByRecursion, range_with_len}
 use Rattle.std.proofs.Math.Seq.{take-set-lt}
 use Rattle.std.proofs.lemmas.Bool.{cases_eq, cases_lt}
 use Rattle.std.proofs.lemmas.List.{length-set, length-take-le, length-drop, length-replicate, drop-set-add, drop-set-lt, take-set-le, take-replicate, drop-replicate, get_or-replicate}
@@ -10,7 +9,7 @@ use Rattle.std.proofs.lemmas.List.FromFn.{length-map-range_with_len, get_or-map-
 use Rattle.std.proofs.lemmas.Nat.{mul-le, row_fits}
 use Rattle.cell.specs.Pictures.{line_of, with_cell, EachCell, size_of, all_of}
 use Rattle.cell.specs.Grids.{rows, IsGrid}
-use Rattle.cell.proofs.PictureLemmas.{each-set, each-map}
+use Rattle.cell.proofs.PictureLemmas.{each-map}
 
 abbrev line_at : {A : Type 0} → ℕ → List A → ℕ → List A
 line_at columns cells y = take columns (drop (y * columns) cells)
@@ -73,9 +72,6 @@ rows-set lines columns cells y x cell below left =
           ∙ sym (line_of-rows lines columns cells k above)
           ∙ sym (get_or-set_other old y k (set (line_of old y) x cell) [] other)
     ])
-
-pub IsGrid-set : {A : Type 0} {Is : A → Type 0} (lines columns : ℕ) (cells : List A) (i : ℕ) (cell : A) → IsGrid Is lines columns cells → Is cell → IsGrid Is lines columns (set cells i cell)
-IsGrid-set {Is = Is} lines columns cells i cell grid sound = grind (arith, length-set, each-set)
 
 -- cells
 

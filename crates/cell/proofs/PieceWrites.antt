@@ -1,11 +1,10 @@
 -- A piece of a line of a grid that is written at once.
-use Rattle.std.proofs.Common.{◌≡◌, ℕ, suc, ◌∷◌, ◌+◌, ◌-◌, ◌*◌, ◌<◌, ◌≤◌, ◌==◌, ◌&&◌, nat_le, nat_lt, if◌then◌else◌, true, false, List, [], ◌++◌, length}
-use Rattle.std.proofs.Common.{map, take, drop, get_or, ap, subst, sym, ◌∙◌, refl}
+use Rattle.std.proofs.Common.{◌≡◌, ℕ, suc, ◌∷◌, ◌+◌, ◌-◌, ◌*◌, ◌<◌, ◌≤◌, ◌==◌, ◌&&◌, nat_le, nat_lt, if◌then◌else◌, true, false, List, [], ◌++◌, length, map, take, drop, get_or, ap, subst, sym, ◌∙◌}
 use Rattle.std.proofs.Common.{arith, inl, inr, ◌⊎◌, length-append, eq-eqb, ne_eqb}
 use Rattle.std.specs.List.{AllByRecursion, splice}
 use Rattle.std.proofs.Math.ListN.{get_or-append}
 use Rattle.std.proofs.Math.Seq.{get_or-append_right}
-use Rattle.std.proofs.lemmas.Bool.{cases_lt, cases_eq, cases_order, cond-true, cond-false}
+use Rattle.std.proofs.lemmas.Bool.{cases_lt, cases_order, cond-true, cond-false}
 use Rattle.std.proofs.lemmas.Bool.Decides.{nat_tests}
 use Rattle.std.proofs.lemmas.List.{get_or-map, get_or-take, get_or-drop, get_or_past, length-map, length-take-le, length-drop}
 use Rattle.std.proofs.lemmas.List.Elements.{All-from_recursion, recursion_from_All, All-take, All-drop, All-append}

@@ -1,4 +1,4 @@
-use Rattle.std.proofs.Common.{arith, ◌+◌}
+use Rattle.std.proofs.Common.{arith}
 use Rattle.cell.proofs.Ranges.{same_take}
 use Rattle.cell.proofs.difference.first_diff.Goals as goal
 

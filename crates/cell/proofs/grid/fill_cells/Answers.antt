@@ -1,4 +1,4 @@
-use Rattle.std.proofs.Common.{◌<◌, length, ap, ◌∙◌, set, arith}
+use Rattle.std.proofs.Common.{arith}
 use Rattle.cell.proofs.Clearing.{replicate-more}
 use Rattle.cell.proofs.grid.fill_cells.Goals as goal
 

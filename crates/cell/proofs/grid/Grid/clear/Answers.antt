@@ -1,5 +1,4 @@
-use Rattle.std.proofs.Common.{ap, ◌∙◌, sym, subst, arith}
-use Rattle.cell.specs.Pictures.{HasSize, all_of}
+use Rattle.std.proofs.Common.{arith}
 use Rattle.cell.proofs.Clearing.{cleared}
 use Rattle.cell.proofs.grid.Grid.clear.Goals as goal
 

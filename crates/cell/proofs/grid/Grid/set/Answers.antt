@@ -1,6 +1,6 @@
 -- `set`: the lines of a grid whose cells are one after another: each line, a change of one cell, and equal sizes (`GridLemmas`).
-use Rattle.std.proofs.Common.{◌+◌, ◌*◌, arith}
-use Rattle.cell.proofs.GridLemmas.{HasLine-from_length, column_below, rows-set, IsGrid-set}
+use Rattle.std.proofs.Common.{arith}
+use Rattle.cell.proofs.GridLemmas.{HasLine-from_length, column_below, rows-set}
 use Rattle.cell.proofs.grid.Grid.set.Goals as goal
 
 pub overflow_mul-y : goal.overflow_mul-y
@@ -14,6 +14,3 @@ index_mut-requires g c = grind (arith, HasLine-from_length, column_below)
 
 pub returns : goal.returns
 returns g c = grind (arith, HasLine-from_length, column_below, rows-set)
-
-pub invariant_of-self : goal.invariant_of-self
-invariant_of-self g c = search (arith, IsGrid-set)
