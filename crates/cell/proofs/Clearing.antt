@@ -12,9 +12,7 @@ replicate-next cell (gone ∷ cells) (suc x) h = ap (λ rest. cell ∷ rest) (re
 
 -- the next cell is put
 pub replicate-more : {A : Type 0} (cell : A) (cells : List A) (x : ℕ) → x < length cells → set (replicate x cell ++ drop x cells) x cell ≡ replicate (x + 1) cell ++ drop (x + 1) cells
-replicate-more cell cells x h =
-    let next : suc x ≡ x + 1 = omega arith in
-    replicate-next cell cells x h ∙ ap (λ n. replicate n cell ++ drop n cells) next
+replicate-more cell cells x h = grind (arith, replicate-next)
 
 all_of-size : {A : Type 0} (cell : A) (lines columns height width : ℕ) → lines ≡ height → (0 < lines → columns ≡ width) → all_of cell lines columns ≡ all_of cell height width
 all_of-size cell zero columns height width high wide = ap (λ n. all_of cell n width) high

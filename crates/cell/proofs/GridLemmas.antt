@@ -1,6 +1,5 @@
 -- The lines of a grid whose cells are one after another: each line, a change of one cell, and equal sizes.
 use Rattle.std.proofs.Common.{◌≡◌, ℕ, ◌<◌, ◌≤◌, ◌+◌, ◌*◌, ◌∙◌, List, [], length, take, drop, replicate, set, sym, ap, inl, inr, ◌-◌, arith, zero-add}
-use Rattle.std.specs.List.{AllByRecursion, range_with_len}
 use Rattle.std.proofs.Math.Seq.{take-set-lt}
 use Rattle.std.proofs.lemmas.Bool.{cases_eq, cases_lt}
 use Rattle.std.proofs.lemmas.List.{length-set, length-take-le, length-drop, length-replicate, drop-set-add, drop-set-lt, take-set-le, take-replicate, drop-replicate, get_or-replicate}
@@ -10,7 +9,7 @@ use Rattle.std.proofs.lemmas.List.FromFn.{length-map-range_with_len, get_or-map-
 use Rattle.std.proofs.lemmas.Nat.{mul-le, row_fits}
 use Rattle.cell.specs.Pictures.{line_of, with_cell, EachCell, size_of, all_of}
 use Rattle.cell.specs.Grids.{rows, IsGrid}
-use Rattle.cell.proofs.PictureLemmas.{each-set, each-map}
+use Rattle.cell.proofs.PictureLemmas.{each-map}
 
 abbrev line_at : {A : Type 0} → ℕ → List A → ℕ → List A
 line_at columns cells y = take columns (drop (y * columns) cells)
@@ -50,18 +49,11 @@ line_at-set columns cells y x k cell left other = elim (cases_lt k y) [
 
 line_at-set_same : {A : Type 0} (columns : ℕ) (cells : List A) (y x : ℕ) (cell : A) → x < columns
     → line_at columns (set cells (y * columns + x) cell) y ≡ set (line_at columns cells y) x cell
-line_at-set_same columns cells y x cell left =
-    ap (take columns) (drop-set-add (y * columns) cells x cell) ∙ take-set-lt columns (drop (y * columns) cells) x cell left
+line_at-set_same columns cells y x cell left = grind (arith, drop-set-add, take-set-lt)
 
 line-set_same : {A : Type 0} (lines columns : ℕ) (cells : List A) (y x : ℕ) (cell : A) → y < lines → x < columns
     → line_of (rows lines columns (set cells (y * columns + x) cell)) y ≡ line_of (with_cell (rows lines columns cells) (y, x) cell) y
-line-set_same lines columns cells y x cell below left =
-    let old = rows lines columns cells in
-    let height = length-rows lines columns cells in
-    line_of-rows lines columns (set cells (y * columns + x) cell) y below
-    ∙ line_at-set_same columns cells y x cell left
-    ∙ ap (λ line. set line x cell) (sym (line_of-rows lines columns cells y below))
-    ∙ sym (get_or-set_same old y (set (line_of old y) x cell) [] (rw height below))
+line-set_same lines columns cells y x cell below left = grind (arith, length-rows, line_of-rows, below, line_at-set_same, get_or-set_same)
 
 pub rows-set : {A : Type 0} (lines columns : ℕ) (cells : List A) (y x : ℕ) (cell : A) → y < lines → x < columns
     → rows lines columns (set cells (y * columns + x) cell) ≡ with_cell (rows lines columns cells) (y, x) cell
@@ -81,21 +73,10 @@ rows-set lines columns cells y x cell below left =
           ∙ sym (get_or-set_other old y k (set (line_of old y) x cell) [] other)
     ])
 
-pub IsGrid-set : {A : Type 0} {Is : A → Type 0} (lines columns : ℕ) (cells : List A) (i : ℕ) (cell : A) → IsGrid Is lines columns cells → Is cell → IsGrid Is lines columns (set cells i cell)
-IsGrid-set {Is = Is} lines columns cells i cell grid sound = record {
-  few_lines = grid.few_lines;
-  few_columns = grid.few_columns;
-  whole = length-set cells i cell ∙ grid.whole;
-  each = each-set Is cells i cell sound grid.each;
-}
-
 -- cells
 
 pub EachCell-rows : {A : Type 0} {Is : A → Type 0} (lines columns : ℕ) (cells : List A) → IsGrid Is lines columns cells → EachCell Is (rows lines columns cells)
-EachCell-rows {Is = Is} lines columns cells grid = each-map (AllByRecursion Is) (line_at columns cells)
-    (λ y. recursion_from_All Is (line_at columns cells y)
-    (All-take Is columns (drop (y * columns) cells) (All-drop Is (y * columns) cells (All-from_recursion Is cells grid.each))))
-    (range_with_len 0 lines)
+EachCell-rows {Is = Is} lines columns cells grid = search (arith, each-map, recursion_from_All, All-take, All-drop, All-from_recursion)
 
 -- a blank grid
 
@@ -124,21 +105,7 @@ pub same_grid_size : {A : Type 0} {Is : A → Type 0} {lines columns lines' colu
     → IsGrid Is lines' columns' cells'
     → rows lines columns cells ≡ picture → rows lines' columns' cells' ≡ picture' → size_of picture ≡ size_of picture'
     → (length cells ≡ length cells') × (rows lines columns cells' ≡ picture')
-same_grid_size {lines} {columns} {lines'} {columns'} {cells} {cells'} grid other is other_is same =
-    let sizes : size_of (rows lines columns cells) ≡ size_of (rows lines' columns' cells') = ap size_of is ∙ same ∙ sym (ap size_of other_is) in
-    let height : lines ≡ lines' = sym (length-rows lines columns cells) ∙ ap (λ size. size.0) sizes ∙ length-rows lines' columns' cells' in
-    elim (cases_lt 0 lines) [
-      | inl some ↦
-          let width : columns ≡ columns' = sym (length-line_of-rows lines columns cells 0 grid some) ∙ ap (λ size. size.1) sizes
-          ∙ length-line_of-rows lines' columns' cells' 0 other (omega arith) in
-          (grid.whole ∙ (λ i. height i * width i) ∙ sym other.whole, (λ i. rows (height i) (width i) cells') ∙ other_is)
-      | inr none ↦
-          let zero_lines : lines ≡ 0 = omega arith in
-          let zero_others : lines' ≡ 0 = omega arith in (
-            no_cells lines columns cells grid zero_lines ∙ sym (no_cells lines' columns' cells' other zero_others),
-            no_lines lines columns cells' zero_lines ∙ sym (no_lines lines' columns' cells' zero_others) ∙ other_is,
-          )
-    ]
+same_grid_size {lines} {columns} {lines'} {columns'} {cells} {cells'} grid other is other_is same = grind (arith, length-rows, length-line_of-rows, no_cells, no_lines)
 
 -- a line of the picture is a line of the grid, and a column of it a column
 
@@ -160,6 +127,4 @@ HasLine-from_length {lines} {columns} {y} {cells} grid is within =
 
 pub column_below : {A : Type 0} {Is : A → Type 0} {lines columns y x : ℕ} {cells : List A} {picture : List (List A)} → IsGrid Is lines columns cells → rows lines columns cells ≡ picture
     → y < length picture → x < length (line_of picture y) → x < columns
-column_below {lines} {columns} {y} {x} {cells} grid is within left =
-    let line = HasLine-from_length grid is within in
-    rw (length-line_of-rows lines columns cells y grid line.below) at (rw (← is) at left)
+column_below {lines} {columns} {y} {x} {cells} grid is within left = grind (arith, HasLine-from_length, length-line_of-rows)

@@ -1,7 +1,6 @@
 -- Pictures of a known size: what each line has, what a change of one cell keeps, and when two are equal.
-use Rattle.std.proofs.Common.{◌≡◌, ℕ, ◌+◌, ◌<◌, ◌∙◌, List, [], ◌∷◌, length, map, replicate, get_or, set, sym, ap, refl, zero, suc, arith, zero-add, lit≤, lit<, inl, inr, subst}
-use Rattle.std.specs.List.{AllByRecursion, range_with_len}
-use Rattle.std.proofs.lemmas.Bool.{cases_eq}
+use Rattle.std.proofs.Common.{◌≡◌, ℕ, ◌+◌, ◌<◌, ◌∙◌, List, [], ◌∷◌, length, map, replicate, get_or, set, sym, ap, refl, zero, suc, arith, zero-add, lit≤, lit<}
+use Rattle.std.specs.List.{AllByRecursion}
 use Rattle.std.proofs.lemmas.List.{length-set, length-replicate, ext_get_or, get_or-set_same, get_or-set_other}
 use Rattle.std.proofs.lemmas.List.Elements.{All-from_recursion, recursion_from_All, All-get_or, All-map, All-replicate, All-set}
 use Rattle.std.proofs.lemmas.List.FromFn.{length-map-range_with_len, get_or-map-range_with_len}
@@ -24,24 +23,13 @@ each-set P xs i x h each = recursion_from_All P (set xs i x) (All-set P xs i x h
 -- sizes
 
 pub length-line : {A : Type 0} {lines columns : ℕ} {picture : List (List A)} (y : ℕ) → HasSize lines columns picture → y < lines → length (line_of picture y) ≡ columns
-length-line {A = A} {lines} {columns} {picture} y size h =
-    let P : List A → Type 0 = λ line. length line ≡ columns in
-    let e : length picture ≡ lines = size.height in
-    All-get_or P picture y [] (omega arith) (All-from_recursion P picture size.width)
+length-line {A = A} {lines} {columns} {picture} y size h = grind (arith, All-get_or, All-from_recursion)
 
 pub HasSize-all_of : {A : Type 0} (cell : A) (lines columns : ℕ) → HasSize lines columns (all_of cell lines columns)
-HasSize-all_of cell lines columns = record {
-  height = length-replicate lines (replicate columns cell);
-  width = each-replicate (λ line. length line ≡ columns) lines (replicate columns cell) (length-replicate columns cell);
-}
+HasSize-all_of cell lines columns = search (arith, length-replicate, each-replicate)
 
 pub HasSize-lines_from : {A : Type 0} (lines columns : ℕ) (shown : ℕ → ℕ → A) → HasSize lines columns (lines_from lines columns shown)
-HasSize-lines_from {A = A} lines columns shown =
-    let line : ℕ → List A = λ y. map (λ x. shown y x) (range_with_len 0 columns) in
-    record {
-      height = length-map-range_with_len line 0 lines;
-      width = each-map (λ cells. length cells ≡ columns) line (λ y. length-map-range_with_len (λ x. shown y x) 0 columns) (range_with_len 0 lines);
-    }
+HasSize-lines_from {A = A} lines columns shown = search (arith, length-map-range_with_len, each-map)
 
 width-with_cell : {A : Type 0} (columns : ℕ) (picture : List (List A)) (y x : ℕ) (shown : A) → AllByRecursion (λ line. length line ≡ columns) picture
     → AllByRecursion (λ line. length line ≡ columns) (with_cell picture (y, x) shown)
@@ -51,10 +39,7 @@ width-with_cell columns (line ∷ lines) (suc y) x shown wide = (wide.0, width-w
 
 pub HasSize-with_cell : {A : Type 0} {lines columns : ℕ} {picture : List (List A)} (place : Place) (shown : A) → HasSize lines columns picture
     → HasSize lines columns (with_cell picture place shown)
-HasSize-with_cell {lines} {columns} {picture} place shown size = record {
-  height = length-set picture place.0 (set (line_of picture place.0) place.1 shown) ∙ size.height;
-  width = width-with_cell columns picture place.0 place.1 shown size.width;
-}
+HasSize-with_cell {lines} {columns} {picture} place shown size = grind (arith, length-set, width-with_cell)
 
 -- cells
 
@@ -71,8 +56,7 @@ pub ArePairs-first : ArePairs first_pairs
 ArePairs-first = record { all = length-replicate (LAST_PAIR + 1) default_pair; each = each-replicate IsPair (LAST_PAIR + 1) default_pair (tt, tt) }
 
 pub EachCell-all_of : {A : Type 0} (Is : A → Type 0) (cell : A) (lines columns : ℕ) → Is cell → EachCell Is (all_of cell lines columns)
-EachCell-all_of Is cell lines columns is =
-    each-replicate (AllByRecursion Is) lines (replicate columns cell) (each-replicate Is columns cell is)
+EachCell-all_of Is cell lines columns is = search (arith, each-replicate)
 
 are_cells-with : {A : Type 0} (Is : A → Type 0) (picture : List (List A)) (y x : ℕ) (shown : A) → EachCell Is picture → Is shown → EachCell Is (with_cell picture (y, x) shown)
 are_cells-with Is [] y x shown cells cell = tt
@@ -86,10 +70,7 @@ EachCell-with_cell Is picture place shown cells cell = are_cells-with Is picture
 
 pub cell_or-lines_from : {A : Type 0} (none : A) (lines columns : ℕ) (shown : ℕ → ℕ → A) (y x : ℕ) → y < lines → x < columns
     → cell_or none (lines_from lines columns shown) (y, x) ≡ shown y x
-cell_or-lines_from {A = A} none lines columns shown y x below left =
-    let line : ℕ → List A = λ y. map (λ x. shown y x) (range_with_len 0 columns) in
-    ap (λ cells. get_or cells x none) (get_or-map-range_with_len line 0 lines y y [] below (zero-add y))
-    ∙ get_or-map-range_with_len (λ x. shown y x) 0 columns x x none left (zero-add x)
+cell_or-lines_from {A = A} none lines columns shown y x below left = grind (arith, get_or-map-range_with_len, zero-add)
 
 pub same_pictures : {A : Type 0} (none : A) {lines columns : ℕ} {one other : List (List A)} → HasSize lines columns one → HasSize lines columns other
     → ((y x : ℕ) → y < lines → x < columns → cell_or none one (y, x) ≡ cell_or none other (y, x)) → one ≡ other
@@ -109,10 +90,7 @@ first_width lines columns (line ∷ others) [] size other_size = absurd (omega (
 first_width lines columns (line ∷ more) (other ∷ others) size other_size = size.width.0 ∙ sym other_size.width.0
 
 pub same_size : {A : Type 0} {lines columns : ℕ} {one other : List (List A)} → HasSize lines columns one → HasSize lines columns other → size_of one ≡ size_of other
-same_size {lines} {columns} {one} {other} size other_size =
-    let height = size.height ∙ sym other_size.height in
-    let width = first_width lines columns one other size other_size in
-    λ i. (height i, width i)
+same_size {lines} {columns} {one} {other} size other_size = grind (arith, first_width)
 
 -- one other cell
 
@@ -124,9 +102,4 @@ module _ {A : Type 0} (none : A) (picture : List (List A)) (y x : ℕ) (glyph : 
   shown-here = ap (λ (l : List A). get_or l x none) line_now ∙ get_or-set_same (line_of picture y) x glyph none in_columns
 
   pub shown-elsewhere : (v u : ℕ) → ((v ≡ y) → (u ≡ x) → ⊥) → cell_or none (with_cell picture (y, x) glyph) (v, u) ≡ cell_or none picture (v, u)
-  shown-elsewhere v u h = elim (cases_eq v y) [
-    | inl same ↦
-        subst (λ k. cell_or none (with_cell picture (y, x) glyph) (k, u) ≡ cell_or none picture (k, u)) (sym same)
-        (ap (λ (l : List A). get_or l u none) line_now ∙ get_or-set_other (line_of picture y) x u glyph none (h same))
-    | inr other ↦ ap (λ (l : List A). get_or l u none) (get_or-set_other picture y v (set (line_of picture y) x glyph) [] other)
-  ]
+  shown-elsewhere v u h = grind (arith, line_now, get_or-set_other)

@@ -1,11 +1,10 @@
 -- A piece of a line of a grid that is written at once.
-use Rattle.std.proofs.Common.{◌≡◌, ℕ, suc, ◌∷◌, ◌+◌, ◌-◌, ◌*◌, ◌<◌, ◌≤◌, ◌==◌, ◌&&◌, nat_le, nat_lt, if◌then◌else◌, true, false, List, [], ◌++◌, length}
-use Rattle.std.proofs.Common.{map, take, drop, get_or, ap, subst, sym, ◌∙◌, refl}
+use Rattle.std.proofs.Common.{◌≡◌, ℕ, suc, ◌∷◌, ◌+◌, ◌-◌, ◌*◌, ◌<◌, ◌≤◌, ◌==◌, ◌&&◌, nat_le, nat_lt, if◌then◌else◌, true, false, List, [], ◌++◌, length, map, take, drop, get_or, ap, subst, sym, ◌∙◌}
 use Rattle.std.proofs.Common.{arith, inl, inr, ◌⊎◌, length-append, eq-eqb, ne_eqb}
 use Rattle.std.specs.List.{AllByRecursion, splice}
 use Rattle.std.proofs.Math.ListN.{get_or-append}
 use Rattle.std.proofs.Math.Seq.{get_or-append_right}
-use Rattle.std.proofs.lemmas.Bool.{cases_lt, cases_eq, cases_order, cond-true, cond-false}
+use Rattle.std.proofs.lemmas.Bool.{cases_lt, cases_order, cond-true, cond-false}
 use Rattle.std.proofs.lemmas.Bool.Decides.{nat_tests}
 use Rattle.std.proofs.lemmas.List.{get_or-map, get_or-take, get_or-drop, get_or_past, length-map, length-take-le, length-drop}
 use Rattle.std.proofs.lemmas.List.Elements.{All-from_recursion, recursion_from_All, All-take, All-drop, All-append}
@@ -21,36 +20,22 @@ module _ {A : Type 0} (none : A) (old piece : List A) (start : ℕ) (fits : star
   before n below = get_or-append (take start old) (piece ++ drop (start + length piece) old) none n (omega (arith, prefix)) ∙ get_or-take start old n none below
 
   within : (n : ℕ) → start ≤ n → n < start + length piece → get_or (splice old start (start + length piece) piece) n none ≡ get_or piece (n - start) none
-  within n from to =
-      get_or-append_right (take start old) (piece ++ drop (start + length piece) old) n none (omega (arith, prefix))
-      ∙ ap (λ k. get_or (piece ++ drop (start + length piece) old) (n - k) none) prefix
-      ∙ get_or-append piece (drop (start + length piece) old) none (n - start) (omega arith)
+  within n from to = grind (arith, get_or-append_right, prefix, get_or-append)
 
   beyond : (n : ℕ) → start + length piece ≤ n → get_or (splice old start (start + length piece) piece) n none ≡ get_or old n none
-  beyond n from =
-      get_or-append_right (take start old) (piece ++ drop (start + length piece) old) n none (omega (arith, prefix))
-      ∙ ap (λ k. get_or (piece ++ drop (start + length piece) old) (n - k) none) prefix
-      ∙ get_or-append_right piece (drop (start + length piece) old) (n - start) none (omega arith)
-      ∙ get_or-drop (start + length piece) old (n - start - length piece) none
-      ∙ ap (λ k. get_or old k none) (let e : start + length piece + (n - start - length piece) ≡ n = omega arith in e)
+  beyond n from = grind (arith, get_or-append_right, prefix, get_or-drop)
 
   pub length-splice : length (splice old start (start + length piece) piece) ≡ length old
-  length-splice =
-      length-append (take start old) (piece ++ drop (start + length piece) old)
-      ∙ omega (arith, prefix, length-append piece (drop (start + length piece) old), length-drop (start + length piece) old, fits)
+  length-splice = grind (arith, length-append, prefix, length-drop, fits)
 
 -- what a grid shows at a place
 
 shown-rows : {A : Type 0} (none : A) (lines columns : ℕ) (cells : List A) (v u : ℕ) → v < lines → u < columns → cell_or none (rows lines columns cells) (v, u) ≡ get_or cells (v * columns + u) none
-shown-rows {A = A} none lines columns cells v u below left =
-    ap (λ (line : List A). get_or line u none) (line_of-rows lines columns cells v below)
-    ∙ get_or-take columns (drop (v * columns) cells) u none left
-    ∙ get_or-drop (v * columns) cells u none
+shown-rows {A = A} none lines columns cells v u below left = grind (arith, line_of-rows, below, get_or-take, get_or-drop)
 
 shown-outside : {A : Type 0} (none : A) {Is : A → Type 0} (lines columns : ℕ) (cells : List A) → IsGrid Is lines columns cells → (v u : ℕ) → (lines ≤ v) ⊎ (columns ≤ u)
     → cell_or none (rows lines columns cells) (v, u) ≡ none
-shown-outside {A = A} none lines columns cells grid v u (inl past) =
-    ap (λ (line : List A). get_or line u none) (get_or_past (rows lines columns cells) v [] (omega (arith, length-rows lines columns cells)))
+shown-outside {A = A} none lines columns cells grid v u (inl past) = grind (arith, get_or_past, length-rows)
 shown-outside {A = A} none lines columns cells grid v u (inr past) = elim (cases_lt v lines) [
   | inl below ↦ get_or_past (line_of (rows lines columns cells) v) u none (omega (arith, length-line_of-rows lines columns cells v grid below))
   | inr out ↦ shown-outside-line out
@@ -62,18 +47,7 @@ inside : (v u y x n : ℕ) → v ≡ y → x ≤ u → u < x + n → ((v == y) &
 inside v u y x n line from to = grind (arith, nat_tests)
 
 outside : (v u y x n : ℕ) → ((v ≡ y) → (x ≤ u) → (u < x + n) → ⊥) → ((v == y) && (nat_le x u && nat_lt u (x + n))) ≡ false
-outside v u y x n other = elim (cases_eq v y) [
-  | inl line ↦
-      let on = eq-eqb v y line in
-      elim (cases_lt u x) [
-        | inl before ↦ let off : nat_le x u ≡ false = grind (arith, nat_tests) in rw (on, off) refl
-        | inr from ↦ elim (cases_lt u (x + n)) [
-          | inl to ↦ absurd (other line from to)
-          | inr past ↦ let off : nat_lt u (x + n) ≡ false = grind (arith, nat_tests) in let at : nat_le x u ≡ true = grind (arith, nat_tests) in rw (on, at, off) refl
-        ]
-      ]
-  | inr line ↦ let off = ne_eqb v y line in rw off refl
-]
+outside v u y x n other = grind (arith, eq-eqb, before, nat_tests, ne_eqb)
 
 pub piece_end : {A B : Type 0} {Is : A → Type 0} (lines columns : ℕ) (cells : List A) (piece : List B) (y x : ℕ) → IsGrid Is lines columns cells → y < lines → x + length piece ≤ columns
     → y * columns + x + length piece ≤ length cells
@@ -86,15 +60,7 @@ module _ {A : Type 0} (none : A) {Is : A → Type 0} (lines columns : ℕ) (cell
   after = splice cells (y * columns + x) (y * columns + x + length piece) piece
 
   pub IsGrid-piece : AllByRecursion Is piece → IsGrid Is lines columns after
-  IsGrid-piece sound = record {
-    few_lines = grid.few_lines;
-    few_columns = grid.few_columns;
-    whole = length-splice none cells piece (y * columns + x) (piece_end lines columns cells piece y x grid below fits) ∙ grid.whole;
-    each = recursion_from_All Is after
-        (All-append Is (take (y * columns + x) cells) (piece ++ drop (y * columns + x + length piece) cells) (All-take Is (y * columns + x) cells (All-from_recursion Is cells grid.each))
-        (All-append Is piece (drop (y * columns + x + length piece) cells) (All-from_recursion Is piece sound)
-        (All-drop Is (y * columns + x + length piece) cells (All-from_recursion Is cells grid.each))));
-  }
+  IsGrid-piece sound = search (arith, length-splice, piece_end, below, fits, recursion_from_All, All-append, All-take, All-from_recursion, All-drop)
 
   at_place : (v u : ℕ) → v < lines → u < columns → get_or after (v * columns + u) none ≡ (if (v == y) && (nat_le x u && nat_lt u (x + length piece)) then get_or piece (u - x) none else get_or cells
       (v * columns + u) none)
@@ -126,23 +92,7 @@ module _ {A : Type 0} (none : A) {Is : A → Type 0} (lines columns : ℕ) (cell
 
   pub shown-piece : AllByRecursion Is piece → (v u : ℕ)
       → cell_or none (rows lines columns after) (v, u) ≡ (if (v == y) && (nat_le x u && nat_lt u (x + length piece)) then get_or piece (u - x) none else cell_or none (rows lines columns cells) (v, u))
-  shown-piece sound v u =
-      let new = IsGrid-piece sound in
-      let inner = get_or piece (u - x) none in
-      let test = (v == y) && (nat_le x u && nat_lt u (x + length piece)) in
-      elim (cases_lt v lines) [
-        | inl above ↦ elim (cases_lt u columns) [
-          | inl left ↦
-              shown-rows none lines columns after v u above left ∙ at_place v u above left
-              ∙ ap (λ (g : A). if test then inner else g) (sym (shown-rows none lines columns cells v u above left))
-          | inr right ↦
-              shown-outside none lines columns after new v u (inr right) ∙ sym (shown-outside none lines columns cells grid v u (inr right))
-              ∙ sym (cond-false test inner (cell_or none (rows lines columns cells) (v, u)) (outside v u y x (length piece) (λ _ from to. omega (arith, fits))))
-        ]
-        | inr low ↦
-            shown-outside none lines columns after new v u (inl low) ∙ sym (shown-outside none lines columns cells grid v u (inl low))
-            ∙ sym (cond-false test inner (cell_or none (rows lines columns cells) (v, u)) (outside v u y x (length piece) (λ e from to. omega (arith, below))))
-      ]
+  shown-piece sound v u = grind (arith, IsGrid-piece, shown-rows, at_place, shown-outside, cond-false, outside, fits, below)
 
 -- a piece made of another one by a function
 
@@ -161,22 +111,11 @@ module _ {A B : Type 0} (f : A → B) (none : A) (other : B) {Is : B → Type 0}
   -- the made cells, also past their end
   made : (v u : ℕ) → cell_or other (rows lines columns (splice cells (y * columns + x) (y * columns + x + length piece) (map f piece))) (v, u)
       ≡ (if (v == y) && (nat_le x u && nat_lt u (x + length piece)) then get_or (map f piece) (u - x) other else cell_or other (rows lines columns cells) (v, u))
-  made v u = subst (λ n. cell_or other (rows lines columns (splice cells (y * columns + x) (y * columns + x + n) (map f piece))) (v, u)
-      ≡ (if (v == y) && (nat_le x u && nat_lt u (x + n)) then get_or (map f piece) (u - x) other else cell_or other (rows lines columns cells) (v, u))) same_length
-      (shown-piece other lines columns cells (map f piece) y x grid below made_fits sound v u)
+  made v u = grind (arith, same_length, shown-piece, below, made_fits)
 
   pub shown-made : (v u : ℕ) → cell_or other (rows lines columns (splice cells (y * columns + x) (y * columns + x + length piece) (map f piece))) (v, u)
       ≡ (if (v == y) && (nat_le x u && nat_lt u (x + length piece)) then f (get_or piece (u - x) none) else cell_or other (rows lines columns cells) (v, u))
-  shown-made v u =
-      let test = (v == y) && (nat_le x u && nat_lt u (x + length piece)) in
-      let outer = cell_or other (rows lines columns cells) (v, u) in
-      made v u
-      ∙ elim (cases_lt (u - x) (length piece)) [
-        | inl within ↦ ap (λ (g : B). if test then g else outer) (get_or-map f piece (u - x) none other within)
-        | inr past ↦
-            let off : test ≡ false = outside v u y x (length piece) (λ _ from to. omega arith) in
-            cond-false test (get_or (map f piece) (u - x) other) outer off ∙ sym (cond-false test (f (get_or piece (u - x) none)) outer off)
-      ]
+  shown-made v u = grind (arith, made, within, get_or-map, outside, cond-false)
 
 -- grids of one size
 
@@ -198,12 +137,7 @@ line_width {A = A} lines columns one other grid grid' k = elim (cases_lt k lines
 
 pub HasSize-same : {A : Type 0} {Is : A → Type 0} {height width lines columns : ℕ} {one other : List A} → IsGrid Is lines columns one → IsGrid Is lines columns other
     → HasSize height width (rows lines columns one) → HasSize height width (rows lines columns other)
-HasSize-same {height} {width} {lines} {columns} {one} {other} grid grid' size =
-    let same = length-rows lines columns one ∙ sym (length-rows lines columns other) in
-    record {
-      height = sym same ∙ size.height;
-      width = widths width (rows lines columns one) (rows lines columns other) same (line_width lines columns one other grid grid') size.width;
-    }
+HasSize-same {height} {width} {lines} {columns} {one} {other} grid grid' size = grind (arith, length-rows, widths, line_width)
 
 -- a piece that fits into a line of the picture fits into the line of the grid
 pub record PieceFits {A B : Type 0} (lines columns : ℕ) (cells : List A) (piece : List B) (y x : ℕ) : Type 0 where

@@ -9,15 +9,6 @@ use Rattle.cell.specs.Glyphs.{Glyph, same_glyph}
 use Rattle.cell.specs.Shown.{Rendition, Shown}
 use Rattle.cell.specs.Differences.{same_colour, same_rendition, same_shown}
 
-pub same_glyph-equal : (a b : Glyph) → same_glyph a b ≡ true → a ≡ b
-same_glyph-equal a b h =
-    let parts = and_parts (a.character == b.character) (a.attributes == b.attributes && a.pair == b.pair) h in
-    let rest = and_parts (a.attributes == b.attributes) (a.pair == b.pair) parts.1 in
-    let character = eqb-true a.character b.character parts.0 in
-    let attributes = eqb-true a.attributes b.attributes rest.0 in
-    let pair = eqb-true a.pair b.pair rest.1 in
-    λ i. record { character = character i; attributes = attributes i; pair = pair i }
-
 same_colour-equal : (a b : Option ℕ) → same_colour a b ≡ true → a ≡ b
 same_colour-equal None None h = refl
 same_colour-equal (Some a) (Some b) h = ap Some (eqb-true a b h)

@@ -1,7 +1,6 @@
 -- The numbers of a set by its words: where one is added, and where the least one from another on is searched for.
 use Rattle.std.proofs.Common.{◌≡◌, ◌≢◌, ℕ, ◌+◌, ◌-◌, ◌*◌, ◌/◌, ◌%◌, ◌^◌, ◌<◌, ◌≤◌, ◌==◌, ◌||◌, List, length, Bool}
-use Rattle.std.proofs.Common.{get_or, set, bit_and, bit_or, w64, if◌then◌else◌, true, false, refl, sym, subst, ap, ◌∙◌, inl, inr, arith}
-use Rattle.std.proofs.Common.{get_or-set_same, get_or-set_other}
+use Rattle.std.proofs.Common.{get_or, set, bit_and, bit_or, w64, if◌then◌else◌, true, false, refl, sym, subst, ap, ◌∙◌, inl, inr, arith, get_or-set_same, get_or-set_other}
 use Rattle.std.specs.Int.{bit_at, bit_not, trailing_ones}
 use Rattle.std.proofs.lemmas.Bool.{cases_eq, cases_lt, eq-eqb, ne_eqb}
 use Rattle.std.proofs.lemmas.Nat.Bits.{bit_at-zero, bit_at_set_same, bit_at_set_other, bit_at_clear_same, bit_at_clear_other, bit_at_ones, bit_at-trailing_ones}
@@ -50,16 +49,6 @@ module _ (words : List ℕ) (from : ℕ) where
   abbrev first : ℕ
   first = from / 64
 
-  -- the bits of the first word
-  pub looked-at-first : (word : ℕ) → ((i : ℕ) → i < from % 64 → bit_at word i ≡ 0) → ((i : ℕ) → from % 64 ≤ i → bit_at word i ≡ bit_at (get_or words first 0) i)
-      → IsLookedAt words from first word
-  looked-at-first word low others = record {
-    reached = omega arith;
-    before = λ n on before. absurd (omega (arith, on, before));
-    below = λ i inside out. low i (omega (arith, out));
-    kept = λ i inside on. others i (omega (arith, on));
-  }
-
   module _ (at : ℕ) where
     -- a number of a word is in the set as its bit is set
     of-word : (i : ℕ) → i < 64 → (bit : ℕ) → bit_at (get_or words at 0) i ≡ bit → contains words (at * 64 + i) ≡ (bit == 1)
@@ -94,15 +83,6 @@ module _ (words : List ℕ) (from : ℕ) where
         }
 
       module _ (bit : ℕ) (inside : bit < 64) (set : bit_at word bit ≡ 1) (low : (i : ℕ) → i < bit → bit_at word i ≡ 0) where
-        pub found-from : from ≤ at * 64 + bit
-        found-from = elim (cases_lt (at * 64 + bit) from) [
-          | inl out ↦ absurd (omega (arith, h.below bit inside out, set))
-          | inr on ↦ on
-        ]
-
-        pub found-contained : contains words (at * 64 + bit) ≡ true
-        found-contained = of-word bit inside 1 (sym (h.kept bit inside found-from) ∙ set)
-
         pub none-before : (n : ℕ) → from ≤ n → n < at * 64 + bit → contains words n ≡ false
         none-before n on end = elim (cases_lt n (at * 64)) [
           | inl before ↦ h.before n on before

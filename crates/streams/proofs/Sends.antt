@@ -82,27 +82,3 @@ pub failures-some : (failures n : ℕ) (piece : List ℕ) → (n ≡ 0 → ⊥) 
 failures-some failures n piece h = rw (ne_eqb n 0 h) refl
 
 -- ---- a text in pieces
-
-pub IsPartlySent-none : {old : Seen} {sent : ℕ} {text : List ℕ} → IsPartlySent old old sent text text sent
-IsPartlySent-none {old} {sent} {text} = record { prefix = []; whole = refl; count = omega arith; bytes = Appends-nothing old.taken; failures = refl; flushes = refl }
-
-pub IsPartlySent-then : {old mid new : Seen} {sent : ℕ} {whole piece rest : List ℕ} {total n : ℕ} → IsPartlySent old mid sent whole (piece ++ rest) total
-    → Sends mid new total piece (Ok n) → IsPartlySent old new sent whole rest n
-IsPartlySent-then {old} {mid} {new} {sent} {whole} {piece} {rest} {total} {n} h k = record {
-  prefix = h.prefix ++ piece;
-  whole = rw append_assoc h.whole;
-  count = omega (arith, h.count, k.ends.0, length-append h.prefix piece);
-  bytes = Appends-append old.taken mid.taken new.taken h.prefix piece h.bytes k.ends.1;
-  failures = k.ends.2 ∙ h.failures;
-  flushes = k.flushes ∙ h.flushes;
-}
-
-Sends-partly : {old mid : Seen} {sent : ℕ} {whole rest : List ℕ} {total : ℕ} (h : IsPartlySent old mid sent whole rest total) → Sends old mid sent h.prefix (Ok total)
-Sends-partly h = record { ends = (h.count, h.bytes, h.failures); flushes = h.flushes }
-
-pub IsPartlySent-fails : {old mid new : Seen} {sent : ℕ} {whole piece : List ℕ} {total : ℕ} {fault : WriteFault} (rest : List ℕ) → IsPartlySent old mid sent whole (piece ++ rest) total
-    → Sends mid new total piece (Err fault) → Sends old new sent whole (Err fault)
-IsPartlySent-fails rest h k = rw h.whole (Sends-then (Sends-partly h) (Sends-prefix rest k))
-
-pub IsPartlySent-all : {old new : Seen} {sent : ℕ} {whole : List ℕ} {total : ℕ} → IsPartlySent old new sent whole [] total → Sends old new sent whole (Ok total)
-IsPartlySent-all h = rw (h.whole, append-nil) (Sends-partly h)

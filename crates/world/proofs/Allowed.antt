@@ -1,5 +1,5 @@
 -- What each effect requires of windows and panels, and that the tests of its call ensure it.
-use Rattle.std.proofs.Common.{◌≡◌, ◌⊎◌, ℕ, zero, suc, ◌+◌, ◌-◌, Bool, true, false, if◌then◌else◌, ◌==◌, Option, Some, None, inl, inr, subst, ap, refl, sym, ◌∙◌, arith}
+use Rattle.std.proofs.Common.{◌≡◌, ◌⊎◌, ℕ, zero, suc, ◌+◌, ◌-◌, Bool, true, false, if◌then◌else◌, ◌==◌, Option, Some, None, inl, inr, subst, refl, arith}
 use Rattle.std.specs.Prelude.{MatchOption, is_none, unwrap_or, ⊤}
 use Rattle.cell.specs.declared.refusal.Refusal.{Refusal}
 use Rattle.world.specs.Windows.{Window, WindowMap, Windows, window_limit}
@@ -56,11 +56,7 @@ sound-panel window panels sound p u is = panel-sound window panels p u (panels.w
 
 pub not-in-panel : (window : WindowMap) (panels : Panels) (w : ℕ) → AreSoundPanels window panels → is_in_panel panels w ≡ false
     → (p u : ℕ) → panels.window p ≡ Some u → u ≡ w → ⊥
-not-in-panel window panels w sound none p u is same =
-    let panel = sound-panel window panels sound p u is in
-    let some = in_panel-some panels w p panel.number (is ∙ ap Some same) in
-    let never : true ≡ false = sym some ∙ none in
-    cc
+not-in-panel window panels w sound none p u is same = grind (arith, sound-panel, in_panel-some)
 
 -- ---- the calls that make, move and delete
 

@@ -1,5 +1,5 @@
 -- Where all windows but one are as they were: what each window shows that neither is that one nor derives from it.
-use Rattle.std.proofs.Common.{◌≡◌, ℕ, zero, suc, ◌+◌, false, ◌==◌, Option, Some, None, [], ◌∷◌, ap, refl, ◌∙◌}
+use Rattle.std.proofs.Common.{◌≡◌, ℕ, zero, suc, false, ◌==◌, Option, Some, None, [], ◌∷◌, ap, refl, ◌∙◌, arith}
 use Rattle.std.specs.Prelude.{option_and_then}
 use Rattle.std.specs.Option.{option_map_or}
 use Rattle.std.specs.List.{list_any}
@@ -28,9 +28,7 @@ module _ (new old : WindowMap) (w : ℕ) (same : (v : ℕ) → (v ≡ w → ⊥)
   leads-kept : (n : ℕ) → Kept n → (u y x : ℕ) (s : Backing) → list_any (λ v. v == w) (option_map_or (λ parent. parent ∷ ancestors_within n old parent) (parent_number s) []) ≡ false
       → leads (own_within n new) u y x s ≡ leads (own_within n old) u y x s
   leads-kept n kept u y x (own_grid cells) h = refl
-  leads-kept n kept u y x (part_of parent line column) h =
-      let parts = or_parts (parent == w) (list_any (λ v. v == w) (ancestors_within n old parent)) h in
-      kept parent (y + line) (x + column) (eqb-false parent w parts.0) parts.1
+  leads-kept n kept u y x (part_of parent line column) h = grind (arith, or_parts, eqb-false)
 
   then-kept : (n : ℕ) → Kept n → (u y x : ℕ) (o : Option Window)
       → list_any (λ v. v == w) (option_map_or (λ parent. parent ∷ ancestors_within n old parent) (option_and_then (λ a. parent_number a.backing) o) []) ≡ false
@@ -40,8 +38,7 @@ module _ (new old : WindowMap) (w : ℕ) (same : (v : ℕ) → (v ≡ w → ⊥)
 
   own_within-kept : (n u y x : ℕ) → (u ≡ w → ⊥) → Beside n u → own_within n new u y x ≡ own_within n old u y x
   own_within-kept zero u y x other h = refl
-  own_within-kept (suc n) u y x other h =
-      ap (λ o. option_and_then (λ a. leads (own_within n new) u y x a.backing) o) (same u other) ∙ then-kept n (own_within-kept n) u y x (old u) h
+  own_within-kept (suc n) u y x other h = grind (arith, then-kept, (own_within-kept n))
 
   -- the grid isn't that window's either
   abbrev Elsewhere : ℕ → Type 0
@@ -51,9 +48,7 @@ module _ (new old : WindowMap) (w : ℕ) (same : (v : ℕ) → (v ≡ w → ⊥)
       → list_any (λ v. v == w) (option_map_or (λ parent. parent ∷ ancestors_within n old parent) (parent_number s) []) ≡ false
       → leads (own_within n old) u y x s ≡ Some p → p.grid ≡ w → ⊥
   leads-elsewhere n else u y x p (own_grid cells) other h found is = let here : u ≡ p.grid = cc in other (here ∙ is)
-  leads-elsewhere n else u y x p (part_of parent line column) other h found is =
-      let parts = or_parts (parent == w) (list_any (λ v. v == w) (ancestors_within n old parent)) h in
-      else parent (y + line) (x + column) p (eqb-false parent w parts.0) parts.1 found is
+  leads-elsewhere n else u y x p (part_of parent line column) other h found is = grind (arith, or_parts, eqb-false)
 
   then-elsewhere : (n : ℕ) → Elsewhere n → (u y x : ℕ) (p : GridPlace) (o : Option Window) → (u ≡ w → ⊥)
       → list_any (λ v. v == w) (option_map_or (λ parent. parent ∷ ancestors_within n old parent) (option_and_then (λ a. parent_number a.backing) o) []) ≡ false
@@ -74,8 +69,7 @@ module _ (new old : WindowMap) (w : ℕ) (same : (v : ℕ) → (v ≡ w → ⊥)
 
 -- what a shift leaves as it is
 pub cell_at-moved : (windows : Windows) (w y x u v z : ℕ) → (u ≡ w → ⊥) → derives windows.window w u ≡ false → cell_at (shifted_to windows w (y, x)).window u v z ≡ cell_at windows.window u v z
-cell_at-moved windows w y x u v z other apart =
-    cell_at-beside (shifted_to windows w (y, x)).window windows.window w (changed-off windows.window w (with_part y x)) u v z other apart
+cell_at-moved windows w y x u v z other apart = grind (arith, cell_at-beside, changed-off)
 
 -- and its parents, and whose descendant a window is
 offset-parent : (y x : ℕ) (s : Backing) → parent_number (with_offset y x s) ≡ parent_number s

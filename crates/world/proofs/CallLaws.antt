@@ -1,12 +1,12 @@
 -- At a place that a call doesn't affect, neither the picture changes nor what the virtual screen shows.
-use Rattle.std.proofs.Common.{◌≡◌, ℕ, ◌<◌, Bool, true, false, Option, Some, None, is_some, ap, refl, ◌∙◌}
+use Rattle.std.proofs.Common.{◌≡◌, ℕ, ◌<◌, Bool, true, false, Option, Some, None, is_some, ap, refl, ◌∙◌, arith}
 use Rattle.std.specs.Prelude.{⊤}
 use Rattle.std.specs.Option.{option_map_or}
 use Rattle.std.proofs.lemmas.Bool.{true≢false}
 use Rattle.cell.specs.Glyphs.{Glyph}
 use Rattle.cell.specs.Pictures.{picture_of, shown_at}
 use Rattle.cell.proofs.PictureLemmas.{cell_or-lines_from}
-use Rattle.cell.specs.Shown.{Pairs, Shown, shown, shown_blank}
+use Rattle.cell.specs.Shown.{Pairs, Shown, shown}
 use Rattle.world.specs.Panels.{Panels}
 use Rattle.world.specs.Windows.{Drawing, Windows}
 use Rattle.world.specs.Sound.{IsSound}
@@ -85,9 +85,7 @@ module _ (world : World) (y x : ℕ) (below : y < world.windows.lines) (left : x
 
   over-nothing : (f : Drawing) → is_some (f y x) ≡ false
       → shown_at (picture_of world.windows.lines world.windows.columns (shown_over world.pairs world.virtual.picture f)) (y, x) ≡ shown_at world.virtual.picture (y, x)
-  over-nothing f none =
-      cell_or-lines_from shown_blank world.windows.lines world.windows.columns (shown_over world.pairs world.virtual.picture f) y x below left
-      ∙ laid-nothing world.pairs (f y x) (shown_at world.virtual.picture (y, x)) none
+  over-nothing f none = grind (arith, cell_or-lines_from, laid-nothing)
 
   effect-leaves : (effect : Effect) → is_composing effect ≡ false → effect_shows_at world effect y x ≡ false
       → shown_at (after world effect).virtual.picture (y, x) ≡ shown_at world.virtual.picture (y, x)

@@ -38,21 +38,12 @@ frame-same Has Other (Some r) to from h = record {
 -- ---- two rectangles
 
 least : (P : ℕ → Type 0) (m n : ℕ) → P m → P n → P (min m n)
-least P m n h k = elim (cases_lt m n) [
-  | inl less ↦ let e : min m n ≡ m = omega arith in rw e h
-  | inr more ↦ let e : min m n ≡ n = omega arith in rw e k
-]
+least P m n h k = grind arith
 
 greatest : (P : ℕ → Type 0) (m n : ℕ) → P m → P n → P (max m n)
-greatest P m n h k = elim (cases_lt m n) [
-  | inl less ↦ let e : max m n ≡ n = omega arith in rw e k
-  | inr more ↦ let e : max m n ≡ m = omega arith in rw e h
-]
+greatest P m n h k = grind arith
 
 module _ (Has Other : ℕ → ℕ → Type 0) where
-  Either : ℕ → ℕ → Type 0
-  Either y x = Has y x ⊎ Other y x
-
   both-hold : (r s : Rect) → IsSmallest Has r → IsSmallest Other s → (y x : ℕ) → (Has y x ⊎ Other y x)
       → IsIn (record { top = min r.top s.top; left = min r.left s.left; bottom = max r.bottom s.bottom; right = max r.right s.right }) y x
   both-hold r s h k y x (inl there) =

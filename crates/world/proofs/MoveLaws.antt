@@ -1,16 +1,15 @@
 -- Making, deleting and moving windows: which places of the screen keep what the search finds there.
-use Rattle.std.proofs.Common.{◌≡◌, ℕ, zero, suc, ◌+◌, ◌-◌, ◌<◌, Bool, true, false, ◌==◌, ◌&&◌, ◌||◌, Option, Some, None, IsSome, IsSomeAnd, MatchOption, [], ◌∷◌, inl, inr, subst, ap, arith, refl}
-use Rattle.std.proofs.Common.{sym, ◌∙◌}
+use Rattle.std.proofs.Common.{◌≡◌, ℕ, zero, suc, ◌+◌, ◌<◌, Bool, true, false, ◌==◌, ◌&&◌, ◌||◌, Option, Some, None, IsSome, IsSomeAnd, MatchOption, [], ◌∷◌, subst, ap, arith, refl, sym, ◌∙◌}
 use Rattle.std.specs.Prelude.{is_some, option_and_then, ⊤}
 use Rattle.std.specs.Option.{option_map_or}
 use Rattle.std.specs.List.{list_any}
 use mathlib.Core.Path.{fun_ext}
-use Rattle.std.proofs.lemmas.Bool.{and_cases, eqb-false, false_from_ne_true, or_from, or_parts, ne_eqb, true≢false}
+use Rattle.std.proofs.lemmas.Bool.{and_cases, eqb-false, false_from_ne_true, or_from, or_parts, ne_eqb}
 use Rattle.cell.specs.declared.limits.TheConstants.{MOST_WINDOWS}
 use Rattle.world.specs.Windows.{Backing, own_grid, part_of, GridPlace, Window, WindowMap, Windows, ancestors_within, derives, leads, own, own_within, parent_number, parent_of, window_limit}
-use Rattle.world.specs.Panels.{Panels, cell_on_screen, found_from_top, holds, place_of, standard_screen, windows_from_top}
+use Rattle.world.specs.Panels.{Panels, cell_on_screen, found_from_top, holds, standard_screen, windows_from_top}
 use Rattle.world.specs.Sound.{AreSoundPanels, AreSoundWindows, IsSoundWindow, IsStandardScreen}
-use Rattle.world.specs.Effects.{Change, after_change, asks, deletes, edits, makes, after_marks, marks, moved_to, moves, under_number, shifted_to, shifts, with_part, with_place, touched_by_change}
+use Rattle.world.specs.Effects.{Change, after_change, asks, deletes, edits, makes, after_marks, marks, moved_to, moves, under_number, shifted_to, shifts, with_part, with_place}
 use Rattle.world.specs.calls.Making.{has_derived, has_no_parent, is_own, is_part_of}
 use Rattle.world.specs.calls.Affected.{change_shows_at, follows_at, move_shows_at}
 use Rattle.world.proofs.Allowed.{IsAllowed, not-in-panel, sound-panel}
@@ -34,8 +33,7 @@ no_ancestors zero window u h = refl
 no_ancestors (suc n) window u h = ap (λ o. option_map_or (λ parent. parent ∷ ancestors_within n window parent) o []) h
 
 standard-beside : (windows : Windows) (w : ℕ) → AreSoundWindows windows → derives windows.window w standard_screen ≡ false
-standard-beside windows w sound =
-    ap (list_any (λ u. u == w)) (no_ancestors window_limit windows.window standard_screen (standard-parent windows (windows.window standard_screen) sound.standard))
+standard-beside windows w sound = grind (arith, no_ancestors, standard-parent)
 
 -- ---- which windows show other cells after mvderwin is the same before it and after
 
@@ -54,22 +52,14 @@ module _ (windows : Windows) (panels : Panels) (w v z y x : ℕ) (sound : AreSou
   moved = (shifted_to windows w (v, z)).window
 
   other-standard : standard_screen ≡ w → ⊥
-  other-standard same =
-      let standard : has_no_parent windows.window w ≡ true =
-      subst (λ (u : ℕ). has_no_parent windows.window u ≡ true) same (standard-own windows (windows.window standard_screen) sound.standard) in
-      absurd (true≢false (sym standard ∙ derived))
+  other-standard same = grind (arith, standard-own)
 
   moved-kept : (u : ℕ) → (u ≡ w → ⊥) → derives windows.window w u ≡ false → cell_on_screen moved u y x ≡ cell_on_screen windows.window u y x
   unfolding moved
-  moved-kept u other beside =
-      on_screen-same moved windows.window u (window-moved windows w v z u) y x
-      (cell_at-moved windows w v z u (y - (place_of windows.window u).0) (x - (place_of windows.window u).1) other beside)
+  moved-kept u other beside = grind (arith, on_screen-same, moved, window-moved, cell_at-moved)
 
   stays : (u : ℕ) → holds windows.window u y x ≡ true → follows_at windows.window w y x u ≡ false → cell_on_screen moved u y x ≡ cell_on_screen windows.window u y x
-  stays u there fails = elim (and_cases (u == w || derives windows.window w u) (holds windows.window u y x) fails) [
-    | inl apart ↦ let parts = or_parts (u == w) (derives windows.window w u) apart in moved-kept u (eqb-false u w parts.0) parts.1
-    | inr elsewhere ↦ let never : true ≡ false = sym there ∙ elsewhere in cc
-  ]
+  stays u there fails = grind (arith, and_cases, or_parts, moved-kept, eqb-false, there)
 
   pub found-moved : move_shows_at windows.window panels w y x ≡ false → found_from_top (shifted_to windows w (v, z)).window panels y x ≡ found_from_top windows.window panels y x
   unfolding moved
@@ -84,9 +74,7 @@ module _ (new old : WindowMap) (panels : Panels) (w : ℕ) (same : (v : ℕ) →
   Apart u = (u ≡ w → ⊥) × (derives old w u ≡ false)
 
   apart-kept : (y x u : ℕ) → Apart u → cell_on_screen new u y x ≡ cell_on_screen old u y x
-  apart-kept y x u apart =
-      on_screen-same new old u (ap (λ o. outline_of o) (same u apart.0)) y x
-      (cell_at-beside new old w same u (y - (place_of old u).0) (x - (place_of old u).1) apart.0 apart.1)
+  apart-kept y x u apart = grind (arith, on_screen-same, outline_of, cell_at-beside)
 
   pub found-apart : ((p u : ℕ) → panels.window p ≡ Some u → Apart u) → Apart standard_screen
       → (y x : ℕ) → found_from_top new panels y x ≡ found_from_top old panels y x
@@ -150,10 +138,7 @@ module _ (window : WindowMap) (n : ℕ) (free : window n ≡ None) where
   nowhere (suc k) y x = ap (λ o. option_and_then (λ a. leads (own_within k window) n y x a.backing) o) free
 
   other-parent : (k parent y x : ℕ) (p : GridPlace) → own_within k window parent y x ≡ Some p → parent ≡ n → ⊥
-  other-parent k parent y x p found same =
-      let lost : own_within k window parent y x ≡ None = subst (λ (v : ℕ). own_within k window v y x ≡ None) (sym same) (nowhere k y x) in
-      let never : Some p ≡ None = sym found ∙ lost in
-      cc
+  other-parent k parent y x p found same = grind (arith, nowhere)
 
   abbrev Leading : ℕ → Type 0
   Leading k = (u y x : ℕ) (p : GridPlace) → own_within k window u y x ≡ Some p → list_any (λ v. v == n) (ancestors_within k window u) ≡ false
@@ -161,9 +146,7 @@ module _ (window : WindowMap) (n : ℕ) (free : window n ≡ None) where
   backing-leading : (k : ℕ) → Leading k → (u y x : ℕ) (p : GridPlace) (s : Backing) → leads (own_within k window) u y x s ≡ Some p
       → list_any (λ v. v == n) (option_map_or (λ parent. parent ∷ ancestors_within k window parent) (parent_number s) []) ≡ false
   backing-leading k before u y x p (own_grid cells) found = refl
-  backing-leading k before u y x p (part_of parent line column) found =
-      or_from (parent == n) (list_any (λ v. v == n) (ancestors_within k window parent)) (ne_eqb parent n (other-parent k parent (y + line) (x + column) p found))
-      (before parent (y + line) (x + column) p found)
+  backing-leading k before u y x p (part_of parent line column) found = grind (arith, or_from, ne_eqb, other-parent)
 
   window-leading : (k : ℕ) → Leading k → (u y x : ℕ) (p : GridPlace) (o : Option Window) → option_and_then (λ a. leads (own_within k window) u y x a.backing) o ≡ Some p
       → list_any (λ v. v == n) (option_map_or (λ parent. parent ∷ ancestors_within k window parent) (option_and_then (λ a. parent_number a.backing) o) []) ≡ false
@@ -210,9 +193,7 @@ module _ (windows : Windows) (w v z : ℕ) where
   holds-placed y x u other = holds-same (moved_to windows w (v, z)).window windows.window u (outline-placed u other) y x
 
   pub cell-placed : (y x u : ℕ) → (u ≡ w → ⊥) → cell_on_screen (moved_to windows w (v, z)).window u y x ≡ cell_on_screen windows.window u y x
-  cell-placed y x u other =
-      on_screen-same (moved_to windows w (v, z)).window windows.window u (outline-placed u other) y x
-      (cell_at-same (moved_to windows w (v, z)).window windows.window backing-placed u (y - (place_of windows.window u).0) (x - (place_of windows.window u).1))
+  cell-placed y x u other = grind (arith, on_screen-same, outline-placed, cell_at-same, backing-placed)
 
 found-placed : (windows : Windows) (panels : Panels) (w v z y x : ℕ) → AreSoundPanels windows.window panels → IsAllowed windows panels (moves w (v, z))
     → found_from_top (moved_to windows w (v, z)).window panels y x ≡ found_from_top windows.window panels y x
@@ -225,10 +206,7 @@ found-placed windows panels w v z y x sound allowed =
 -- ---- marks
 
 marked-cells : (windows : Windows) (test : ℕ → Bool) (change : ℕ → Window → Window) → SameCells (after_marks windows test change).window windows.window
-marked-cells windows test change = record {
-  outlines = λ u. same-if (λ o. outline_of o) (touched_by_change (change u)) (λ a. refl) (test u) (windows.window u);
-  backings = λ u. same-if (λ o. backing_of o) (touched_by_change (change u)) (λ a. refl) (test u) (windows.window u);
-}
+marked-cells windows test change = grind (arith, same-if, outline_of, backing_of)
 
 -- ---- each change
 
@@ -237,8 +215,7 @@ pub found-change : (windows : Windows) (panels : Panels) (change : Change) (y x 
     → found_from_top (after_change windows change).window panels y x ≡ found_from_top windows.window panels y x
 found-change windows panels (asks reply) y x sound panels_sound below left allowed free = refl
 found-change windows panels (edits edit) y x sound panels_sound below left allowed free = found-edit windows panels edit y x sound below left free
-found-change windows panels (marks test change) y x sound panels_sound below left allowed free =
-    found-dressed (after_marks windows test change).window windows.window (marked-cells windows test change) panels y x
+found-change windows panels (marks test change) y x sound panels_sound below left allowed free = search (arith, found-dressed, marked-cells)
 found-change windows panels (makes n a) y x sound panels_sound below left allowed free = found-new windows panels n a y x sound panels_sound allowed
 found-change windows panels (deletes w) y x sound panels_sound below left allowed free = found-deleted windows panels w y x sound panels_sound allowed
 found-change windows panels (moves w place) y x sound panels_sound below left allowed free = found-placed windows panels w place.0 place.1 y x panels_sound allowed

@@ -1,11 +1,9 @@
 -- A write through a window leaves the picture as it is at every place of the screen where its frame isn't shown.
-use Rattle.std.proofs.Common.{◌≡◌, ℕ, ◌+◌, ◌-◌, ◌<◌, Bool, true, false, ◌&&◌, nat_lt, nat_le, Option, Some, None, is_some, IsSome, IsSomeAnd, List, [], ◌∷◌, inl, inr, ap, arith, refl, sym, ◌∙◌}
-use Rattle.std.specs.Prelude.{max, min}
+use Rattle.std.proofs.Common.{◌≡◌, ℕ, ◌-◌, ◌<◌, Bool, true, false, Option, Some, None, is_some, IsSome, IsSomeAnd, List, [], ◌∷◌, inl, inr, ap, arith, refl, sym, ◌∙◌}
 use Rattle.std.specs.Option.{option_map, option_map_or}
 use Rattle.std.specs.List.{list_any}
 use mathlib.Core.Path.{fun_ext}
 use Rattle.std.proofs.lemmas.Bool.{and_parts, and_from, false_from_ne_true, le-leb, lt-ltb, or_cases, or_left, or_parts, or_right}
-use Rattle.cell.specs.Pictures.{Place}
 use Rattle.world.specs.Windows.{Drawing, GridPlace, HasPlace, Window, WindowMap, Windows, cell_at, cell_in_grid, after_drawing, own, put_from, put_windows}
 use Rattle.world.specs.Frames.{Covers, IsFrameOf, IsIn, frame_of, frame_of_two}
 use Rattle.world.specs.Panels.{Panels, cell_on_screen, found_from_top, holds, holds_place, place_of, standard_screen, windows_from_top, windows_of_picture}
@@ -15,7 +13,7 @@ use Rattle.world.specs.calls.Affected.{frame_shows_at, shows_at}
 use Rattle.world.proofs.Below.{any_in-some, any_in-true}
 use Rattle.world.proofs.FrameLaws.{frame_of-is}
 use Rattle.world.proofs.SharingLaws.{true-same}
-use Rattle.world.proofs.ViewLaws.{Outline, found-same, holds-same, on_screen-same, outline, outline_of, passes-none, place-same}
+use Rattle.world.proofs.ViewLaws.{found-same, holds-same, on_screen-same, outline, outline_of, passes-none, place-same}
 use Rattle.world.proofs.WindowLaws.{own-put, put-keeps}
 use Rattle.cell.specs.declared.window.Rect.{Rect}
 
@@ -45,9 +43,7 @@ module _ (new old : WindowMap) (same : SameView new old) where
   own-alike = fun_ext (λ u. fun_ext (λ y. fun_ext (λ x. same.places u y x)))
 
   shows-same : (w : ℕ) (r : Rect) (y x u : ℕ) → shows_at new w r y x u ≡ shows_at old w r y x u
-  shows-same w r y x u = λ i.
-      holds-same new old u (same.outlines u) y x i
-      && any_in r (λ v z. is_same_place (own-alike i w v z) (own-alike i u (y - (place-same new old u (same.outlines u) i).0) (x - (place-same new old u (same.outlines u) i).1)))
+  shows-same w r y x u = grind (arith, holds-same, own-alike, place-same)
 
   pub frame_shows-same : (panels : Panels) (w : ℕ) (o : Option Rect) (y x : ℕ) → frame_shows_at new panels w o y x ≡ frame_shows_at old panels w o y x
   frame_shows-same panels w None y x = refl
@@ -80,15 +76,7 @@ module _ (window : WindowMap) (panels : Panels) (w y x : ℕ) where
       → (frame_shows_at window panels w o y x ≡ false) × (frame_shows_at window panels w p y x ≡ false)
   joined-free None p free = (refl, free)
   joined-free (Some r) None free = (free, refl)
-  joined-free (Some r) (Some s) free =
-      let both : Rect = record { top = min r.top s.top; left = min r.left s.left; bottom = max r.bottom s.bottom; right = max r.right s.right } in (
-        unless-more r both (λ v z inside.
-            let a = inside.top in let b = inside.bottom in let c = inside.left in let d = inside.right in
-            record { top = omega arith; bottom = omega arith; left = omega arith; right = omega arith }) free,
-        unless-more s both (λ v z inside.
-            let a = inside.top in let b = inside.bottom in let c = inside.left in let d = inside.right in
-            record { top = omega arith; bottom = omega arith; left = omega arith; right = omega arith }) free,
-      )
+  joined-free (Some r) (Some s) free = grind (arith, unless-more)
 
 -- ---- one write
 
@@ -101,12 +89,7 @@ same-self (Some s) (Some t) some e =
 
 in-size : (a : Window) (v z : ℕ) (o : Option Window) → outline_of o ≡ Some (outline a) → IsSomeAnd o (λ c. (v < c.lines) × (z < c.columns)) → (v < a.lines) × (z < a.columns)
 in-size a v z None is has = cc
-in-size a v z (Some c) is has =
-    let lines : c.lines ≡ a.lines = ap (λ o. option_map_or (λ (r : Outline). r.lines) o 0) is in
-    let columns : c.columns ≡ a.columns = ap (λ o. option_map_or (λ (r : Outline). r.columns) o 0) is in
-    let below = has.0 in
-    let left = has.1 in
-    (omega arith, omega arith)
+in-size a v z (Some c) is has = grind arith
 
 -- the window has the size of a
 module _ (window : WindowMap) (panels : Panels) (w : ℕ) (a : Window) (f : Drawing) (y x : ℕ) (size : outline_of (window w) ≡ Some (outline a)) where
@@ -161,15 +144,7 @@ module _ (window : WindowMap) (panels : Panels) (w : ℕ) (a : Window) (f : Draw
 
 standard-at : (windows : Windows) (y x : ℕ) → y < windows.lines → x < windows.columns → (o : Option Window) → IsSomeAnd o (IsStandardScreen windows) → option_map_or (holds_place y x) o false ≡ true
 standard-at windows y x below left None h = elim h [ ]
-standard-at windows y x below left (Some b) h =
-    let lines = h.lines in
-    let columns = h.columns in
-    let line : y < 0 + b.lines = omega arith in
-    let column : x < 0 + b.columns = omega arith in
-    ap (λ (p : Option Place). option_map_or (λ q. (nat_le q.0 y && nat_lt y (q.0 + b.lines)) && (nat_le q.1 x && nat_lt x (q.1 + b.columns))) p false) h.place
-    ∙ and_from (nat_le 0 y && nat_lt y (0 + b.lines)) (nat_le 0 x && nat_lt x (0 + b.columns))
-    (and_from (nat_le 0 y) (nat_lt y (0 + b.lines)) (le-leb 0 y (omega arith)) (lt-ltb y (0 + b.lines) line))
-    (and_from (nat_le 0 x) (nat_lt x (0 + b.columns)) (le-leb 0 x (omega arith)) (lt-ltb x (0 + b.columns) column))
+standard-at windows y x below left (Some b) h = grind (arith, line, column, and_from, le-leb, lt-ltb)
 
 pub standard-holds : (windows : Windows) (y x : ℕ) → AreSoundWindows windows → y < windows.lines → x < windows.columns → holds windows.window standard_screen y x ≡ true
 standard-holds windows y x sound below left = standard-at windows y x below left (windows.window standard_screen) sound.standard

@@ -1,5 +1,5 @@
 -- Which windows have a place on the screen after each effect, and that panels stay sound.
-use Rattle.std.proofs.Common.{◌≡◌, ℕ, Bool, true, false, if◌then◌else◌, Option, Some, None, ◌==◌, ◌≢◌, refl, sym, ap, ◌∙◌}
+use Rattle.std.proofs.Common.{◌≡◌, ℕ, Bool, true, false, if◌then◌else◌, Option, Some, None, ◌==◌, ◌≢◌, refl, ◌∙◌, arith}
 use Rattle.std.specs.Prelude.{IsSome, IsSomeAnd, MatchOption, is_some, ⊤}
 use Rattle.std.specs.Option.{option_map, option_map_or}
 use Rattle.std.proofs.lemmas.Bool.{ne_eqb}
@@ -43,8 +43,7 @@ place-outline (Some a) = refl
 
 -- windows of the same outlines
 places-view : (new old : Windows) → SameView new.window old.window → SamePlaces new old
-places-view new old view u =
-    place-outline (new.window u) ∙ ap (λ o. option_map_or (λ (r : Outline). is_some r.place) o false) (view.outlines u) ∙ sym (place-outline (old.window u))
+places-view new old view u = grind (arith, place-outline)
 
 pub places-edit : (windows : Windows) (edit : Edit) → SamePlaces (after_edit windows edit) windows
 places-edit windows edit = places-view (after_edit windows edit) windows (view-edit windows edit)
@@ -52,15 +51,11 @@ places-edit windows edit = places-view (after_edit windows edit) windows (view-e
 -- ---- changes
 
 pub keeps-other : (windows : Windows) (n : ℕ) (o : Option Window) (w : ℕ) → w ≢ n → has_place (windows.window w) ≡ true → has_place ((under_number windows n o).window w) ≡ true
-keeps-other windows n o w other h =
-    let test : (w == n) ≡ false = ne_eqb w n other in
-    rw test h
+keeps-other windows n o w other h = grind (arith, ne_eqb)
 
 -- a new window's number is no number of a window that has a place
 has-none : (window : WindowMap) (n w : ℕ) → window n ≡ None → has_place (window w) ≡ true → w ≢ n
-has-none window n w free h same =
-    let none : has_place (window w) ≡ false = ap (λ o. has_place o) (ap window same ∙ free) in
-    cc
+has-none window n w free h same = grind arith
 
 moved-there : (o : Option Window) (y x : ℕ) → has_place o ≡ true → has_place (option_map (with_place y x) o) ≡ true
 moved-there None y x h = h
@@ -97,13 +92,7 @@ true-there (Some a) h = h
 module _ (panels : Panels) (old new : WindowMap) (keeps : (p w : ℕ) → panels.window p ≡ Some w → w ≢ standard_screen → has_place (old w) ≡ true → has_place (new w) ≡ true) where
   panel-kept : (p : ℕ) (o : Option ℕ) → panels.window p ≡ o → MatchOption o ⊤ (IsSoundPanel old panels p) → MatchOption o ⊤ (IsSoundPanel new panels p)
   panel-kept p None is h = h
-  panel-kept p (Some w) is h = record {
-    from_one = h.from_one;
-    number = h.number;
-    window_is = true-there (new w) (keeps p w is h.not_standard (there-true (old w) h.window_is));
-    not_standard = h.not_standard;
-    alone = h.alone;
-  }
+  panel-kept p (Some w) is h = grind (arith, true-there, there-true)
 
   -- panels whose windows keep their places stay sound
   pub panels-kept : AreSoundPanels old panels → AreSoundPanels new panels

@@ -1,8 +1,8 @@
 -- Writes through one window: what it shows after one, and when several are one.
-use Rattle.std.proofs.Common.{◌≡◌, ℕ, ◌+◌, ◌-◌, ◌<◌, Bool, true, false, if◌then◌else◌, ◌==◌, ◌&&◌, nat_lt, Option, Some, None, is_some, unwrap_or, ap, arith, refl, sym, ◌∙◌, inl, inr}
+use Rattle.std.proofs.Common.{◌≡◌, ℕ, ◌+◌, ◌<◌, Bool, true, false, if◌then◌else◌, ◌==◌, ◌&&◌, Option, Some, None, is_some, unwrap_or, ap, arith, refl, sym, ◌∙◌}
 use Rattle.std.specs.Option.{option_map}
 use mathlib.Core.Path.{fun_ext}
-use Rattle.std.proofs.lemmas.Bool.{cases_eq, ne_eqb}
+use Rattle.std.proofs.lemmas.Bool.{ne_eqb}
 use Rattle.std.proofs.lemmas.Bool.Decides.{nat_tests}
 use Rattle.cell.specs.Glyphs.{Glyph}
 use Rattle.world.specs.Windows.{Window, WindowMap, GridPlace, Drawing, own, cell_at, within, grid_drawing, laid_over, touched_below, touched_by, after_drawing, put_from, put_windows, onward, over}
@@ -24,8 +24,7 @@ abbrev pub AreSame : Window → Drawing → Drawing → Type 0
 AreSame a f g = (y x : ℕ) → y < a.lines → x < a.columns → f y x ≡ g y x
 
 within-same : (a : Window) (f g : Drawing) → AreSame a f g → within a f ≡ within a g
-within-same a f g same = fun_ext (λ y. fun_ext (λ x. if-same (nat_lt y a.lines && nat_lt x a.columns) (f y x) (g y x)
-    (λ h. let both = both-true (nat_lt y a.lines) (nat_lt x a.columns) h in same y x (grind (arith, nat_tests)) (grind (arith, nat_tests)))))
+within-same a f g same = grind (arith, if-same, both-true, nat_tests)
 
 -- ---- equal drawings are one write
 
@@ -52,12 +51,7 @@ option-other w a p f g u (Some b) apart e = ap Some (drawn-other (u == p.grid) (
 
 same-at : (window : WindowMap) (w : ℕ) (a : Window) (p : GridPlace) (f g : Drawing) → window w ≡ Some a → within a f ≡ within a g
     → (u : ℕ) → option_map (after_drawing w a p f u) (window u) ≡ option_map (after_drawing w a p g u) (window u)
-same-at window w a p f g there e u = elim (cases_eq u w) [
-  | inl same ↦
-      let here : window u ≡ Some a = ap window same ∙ there in
-      ap (option_map (after_drawing w a p f u)) here ∙ ap Some (drawn-itself w a p f g u e) ∙ sym (ap (option_map (after_drawing w a p g u)) here)
-  | inr other ↦ option-other w a p f g u (window u) (ne_eqb u w other) e
-]
+same-at window w a p f g there e u = grind (arith, drawn-itself, option-other, ne_eqb)
 
 same-from : (window : WindowMap) (w : ℕ) (a : Window) (s : Option GridPlace) (f g : Drawing) → window w ≡ Some a → within a f ≡ within a g
     → put_from window w (Some a) s f ≡ put_from window w (Some a) s g
@@ -78,10 +72,7 @@ put-then window w a f g h there same = put-put window w f g ∙ put-same window 
 -- ---- what the window shows after a write
 
 drawn-nothing : (spot : GridPlace) (a : Window) (f : Drawing) (y x : ℕ) → f y x ≡ None → grid_drawing spot (within a f) (spot.line + y) (spot.column + x) ≡ None
-drawn-nothing spot a f y x h =
-    let lines : spot.line + y - spot.line ≡ y = omega arith in
-    let columns : spot.column + x - spot.column ≡ x = omega arith in
-    rw (lines, columns, h) (grind (arith, nat_tests))
+drawn-nothing spot a f y x h = grind (arith, nat_tests)
 
 shown-by : (window : WindowMap) (w : ℕ) (a : Window) (spot : GridPlace) (f : Drawing) (y x : ℕ) (o : Option Glyph) → window w ≡ Some a → own window w 0 0 ≡ Some spot
     → y < a.lines → x < a.columns → f y x ≡ o → cell_at (put_windows window w f) w y x ≡ unwrap_or o (cell_at window w y x)

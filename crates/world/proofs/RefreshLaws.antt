@@ -1,14 +1,10 @@
 -- Refreshing windows changes neither what the search from the top finds nor the topmost's cursor.
-use Rattle.std.proofs.Common.{◌≡◌, ℕ, ◌+◌, ◌-◌, ◌==◌, Bool, true, List, ap, refl, ◌∙◌}
-use Rattle.std.specs.Option.{option_map_or}
-use Rattle.std.specs.List.{list_any}
-use Rattle.cell.specs.Pictures.{origin}
+use Rattle.std.proofs.Common.{◌≡◌, ℕ, Bool, true, List, refl, arith}
 use Rattle.world.specs.Windows.{WindowMap, Windows, with_change}
-use Rattle.world.specs.Panels.{Panels, cursor_from, cursor_of_topmost, cursor_on_screen, found_from_top, place_of, topmost, window_or_standard}
+use Rattle.world.specs.Panels.{Panels, cursor_of_topmost, cursor_on_screen, found_from_top, topmost, window_or_standard}
 use Rattle.world.specs.World.{World}
-use Rattle.world.specs.Effects.{composed_windows, without_marks, unmarked_lines, with_unmarked}
+use Rattle.world.specs.Effects.{composed_windows, unmarked_lines, with_unmarked}
 use Rattle.world.specs.calls.Dispatch.{world_after}
-use Rattle.world.specs.calls.Refresh.{among_lines}
 use Rattle.world.specs.declared.call.Call.TheVariants as calls
 use Rattle.world.specs.declared.call.Refresh.{Refresh}
 use Rattle.world.specs.declared.call.Refresh.TheVariants.{Noutrefresh, Pnoutrefresh, UpdatePanels}
@@ -16,18 +12,13 @@ use Rattle.world.proofs.ViewLaws.{SameCells, backing_of, changed-cells, found-dr
 
 module _ (window : WindowMap) (ws : List ℕ) where
   unmarked-cells : SameCells (with_unmarked window ws) window
-  unmarked-cells = record {
-    outlines = λ u. same-if (λ o. outline_of o) without_marks (λ a. refl) (list_any (λ w. w == u) ws) (window u);
-    backings = λ u. same-if (λ o. backing_of o) without_marks (λ a. refl) (list_any (λ w. w == u) ws) (window u);
-  }
+  unmarked-cells = grind (arith, same-if, outline_of, backing_of)
 
   pub found-unmarked : (panels : Panels) (y x : ℕ) → found_from_top (with_unmarked window ws) panels y x ≡ found_from_top window panels y x
   found-unmarked panels y x = found-dressed (with_unmarked window ws) window unmarked-cells panels y x
 
   cursor_on_screen-unmarked : (w : ℕ) → cursor_on_screen (with_unmarked window ws) w ≡ cursor_on_screen window w
-  cursor_on_screen-unmarked w =
-      ap (λ p. option_map_or (cursor_from p) (with_unmarked window ws w) origin) (place-same (with_unmarked window ws) window w (unmarked-cells.outlines w))
-      ∙ same-if (λ o. option_map_or (cursor_from (place_of window w)) o origin) without_marks (λ a. refl) (list_any (λ u. u == w) ws) (window w)
+  cursor_on_screen-unmarked w = grind (arith, place-same, same-if)
 
   pub cursor-unmarked : (panels : Panels) → cursor_of_topmost (with_unmarked window ws) panels ≡ cursor_of_topmost window panels
   cursor-unmarked panels = cursor_on_screen-unmarked (window_or_standard panels (topmost panels))
@@ -36,15 +27,12 @@ module _ (window : WindowMap) (ws : List ℕ) where
 
 pub found-lines : (windows : Windows) (w : ℕ) (test : ℕ → Bool) (panels : Panels) (y x : ℕ)
     → found_from_top (with_change windows.window w (unmarked_lines test)) panels y x ≡ found_from_top windows.window panels y x
-found-lines windows w test panels y x =
-    found-dressed (with_change windows.window w (unmarked_lines test)) windows.window
-    (changed-cells windows.window w (unmarked_lines test) (λ a. refl) (λ a. refl)) panels y x
+found-lines windows w test panels y x = search (arith, found-dressed, changed-cells)
 
 pub found-refresh : (world : World) (refresh : Refresh) (y x : ℕ)
     → found_from_top (world_after world (calls.Refresh refresh)).windows.window (world_after world (calls.Refresh refresh)).panels y x
     ≡ found_from_top world.windows.window world.panels y x
 found-refresh world (Noutrefresh win) y x = found-lines world.windows win.0 (λ y. true) world.panels y x
-found-refresh world (Pnoutrefresh pad pminrow pmincol sminrow smincol smaxrow smaxcol) y x =
-    found-lines world.windows pad.0 (among_lines pminrow (smaxrow - sminrow + 1)) world.panels y x
+found-refresh world (Pnoutrefresh pad pminrow pmincol sminrow smincol smaxrow smaxcol) y x = grind (arith, found-lines)
 found-refresh world UpdatePanels y x = found-unmarked world.windows.window (composed_windows world) world.panels y x
 found-refresh world _ y x = refl

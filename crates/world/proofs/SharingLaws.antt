@@ -23,9 +23,7 @@ same-true p q h =
     record { grid = eqb-true p.grid q.grid grid.0; line = eqb-true p.line q.line place.0; column = eqb-true p.column q.column place.1 }
 
 pub true-same : (p q : GridPlace) → SamePlace p q → is_same_place (Some p) (Some q) ≡ true
-true-same p q h =
-    and_from (p.grid == q.grid) (p.line == q.line && p.column == q.column) (eq-eqb p.grid q.grid h.grid)
-    (and_from (p.line == q.line) (p.column == q.column) (eq-eqb p.line q.line h.line) (eq-eqb p.column q.column h.column))
+true-same p q h = grind (arith, and_from, eq-eqb)
 
 none-same : (o : Option GridPlace) → is_same_place o None ≡ true → ⊥
 none-same None h = cc

@@ -13,7 +13,7 @@ use Rattle.std.proofs.lemmas.List.Elements.{filter-append}
 use Rattle.world.specs.Windows.{WindowMap, Windows}
 use Rattle.world.specs.Panels.{Panels, cell_on_screen, found_from_top, holds, owner, panel_holds, standard_screen, topmost, window_or_standard}
 use Rattle.world.specs.Sound.{AreSoundPanels, AreSoundWindows}
-use Rattle.world.specs.Effects.{Order, adds, carries, changes, with_entry, moved_to, orders, panels_after, windows_after, with_panel}
+use Rattle.world.specs.Effects.{Order, adds, carries, changes, with_entry, moved_to, orders, panels_after, windows_after}
 use Rattle.world.specs.calls.Affected.{order_shows_at, panel_shows_at, stays_on_top, window_on_top}
 use Rattle.world.specs.calls.Stacking.{stacking_order, stacking_refusal, without}
 use Rattle.world.proofs.Allowed.{IsAllowed, passed, sound-panel}
@@ -35,12 +35,8 @@ module _ (p : ℕ) (test : ℕ → Bool) where
   step-off : (q : ℕ) (qs acc rest : List ℕ) (b : Bool) → (q == p) ≡ b → Searches qs → ((b || list_any (λ k. k == p) qs) && test p) ≡ false
       → find test acc ≡ find (off p test) rest
       → find test (reverse_aux qs (q ∷ acc)) ≡ find (off p test) (reverse_aux (cond (not b) (q ∷ without p qs) (without p qs)) rest)
-  step-off q qs acc rest true is later unseen same =
-      let fails : test q ≡ false = ap test (eqb-true q p is) ∙ unseen in
-      later (q ∷ acc) rest (and_right (list_any (λ k. k == p) qs) (test p) unseen) (ap (λ t. cond t (Some q) (find test acc)) fails ∙ same)
-  step-off q qs acc rest false is later unseen same =
-      let other : off p test q ≡ test q = ap (λ b. not b && test q) is in
-      later (q ∷ acc) (q ∷ rest) unseen (ap (λ t. cond t (Some q) (find test acc)) (sym other) ∙ ap (λ o. cond (off p test q) (Some q) o) same)
+  step-off q qs acc rest true is later unseen same = grind (arith, eqb-true, and_right)
+  step-off q qs acc rest false is later unseen same = grind arith
 
   search-off : (qs : List ℕ) → Searches qs
   search-off [] acc rest unseen same = same
@@ -91,8 +87,7 @@ module _ (new old : WindowMap) (after before : Panels) (p y x : ℕ) where
         kept.cells q (is-other q parts.0) parts.1
 
     found-kept : found_from_top new after y x ≡ found_from_top old before y x
-    found-kept =
-        ap (λ o. cell_on_screen new (window_or_standard after o) y x) (owner-after ∙ sym owner-before) ∙ cell-by (owner old before y x) (sym owner-before)
+    found-kept = grind (arith, owner-after, owner-before, cell-by)
 
 -- where no window changes
 reordered : (window : WindowMap) (after before : Panels) (p y x : ℕ) → without p after.visible ≡ without p before.visible → ((q : ℕ) → q ≢ p → after.window q ≡ before.window q)
@@ -135,11 +130,7 @@ module _ (p : ℕ) where
 
   module _ (window : WindowMap) (after before : Panels) (y x : ℕ) (stays : stays_on_top before after p ≡ true) where
     both-on-top : (w : ℕ) × (topmost before ≡ Some p) × (before.window p ≡ Some w) × (topmost after ≡ Some p) × (after.window p ≡ Some w)
-    both-on-top =
-        let same = same-by (window_on_top before p) (window_on_top after p) stays in
-        let was = on-top before same.0 same.1 in
-        let is = on-top after same.0 same.2 in
-        (same.0, was.0, was.1, is.0, is.1)
+    both-on-top = grind (arith, same-by, on-top)
 
     held : (panels : Panels) (w : ℕ) → panels.window p ≡ Some w → panel_holds window panels y x p ≡ holds window w y x
     held panels w is = ap (λ o. option_map_or (λ u. holds window u y x) o false) is
@@ -242,12 +233,10 @@ pub found-order : (windows : Windows) (panels : Panels) (order : Order) (y x : �
     → y < windows.lines → x < windows.columns → IsOrdered windows panels order → order_shows_at windows panels order y x ≡ false
     → found_from_top (windows_after windows panels order).window (panels_after panels order) y x ≡ found_from_top windows.window panels y x
 found-order windows panels (changes change) y x sound panels_sound below left ordered unseen = found-change windows panels change y x sound panels_sound below left ordered unseen
-found-order windows panels (adds p w) y x sound panels_sound below left ordered unseen =
-    reordered windows.window (with_panel panels p w) panels p y x (without-last p panels.visible) (given-other p panels.window (Some w)) unseen
+found-order windows panels (adds p w) y x sound panels_sound below left ordered unseen = search (arith, reordered, without-last, given-other)
 found-order windows panels (orders p order) y x sound panels_sound below left ordered unseen = by-test (stays_on_top panels order p) refl unseen where
   by-test : (b : Bool) → stays_on_top panels order p ≡ b → (not b && (panel_shows_at windows.window panels p y x || panel_shows_at windows.window order p y x)) ≡ false
       → found_from_top windows.window order y x ≡ found_from_top windows.window panels y x
   by-test true stays unseen = stays-found p windows.window order panels y x stays ordered.0 ordered.1
   by-test false moves unseen = reordered windows.window order panels p y x ordered.0 ordered.1 unseen
-found-order windows panels (carries p place) y x sound panels_sound below left ordered unseen =
-    found-move_panel windows panels p place.0 place.1 y x panels_sound ordered unseen
+found-order windows panels (carries p place) y x sound panels_sound below left ordered unseen = grind (arith, found-move_panel)

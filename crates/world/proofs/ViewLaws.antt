@@ -1,6 +1,6 @@
 -- What determines which windows hold a place of the screen, and which cells they show; and where the search from the
 -- top finds the same.
-use Rattle.std.proofs.Common.{◌≡◌, ℕ, zero, suc, ◌-◌, ◌==◌, Bool, true, false, if◌then◌else◌, ◌&&◌, nat_lt, nat_le, ◌+◌, Option, Some, None, unwrap_or, List, [], ◌∷◌, ap, refl, sym, ◌∙◌}
+use Rattle.std.proofs.Common.{◌≡◌, ℕ, zero, suc, ◌-◌, Bool, true, false, if◌then◌else◌, ◌&&◌, nat_lt, nat_le, ◌+◌, Option, Some, None, unwrap_or, List, [], ◌∷◌, ap, refl, sym, ◌∙◌, arith}
 use Rattle.std.specs.Prelude.{cond, find, option_and_then, reverse}
 use Rattle.std.specs.Option.{option_map, option_map_or}
 use Rattle.std.specs.List.{cons_option, filter_map, list_any}
@@ -85,10 +85,7 @@ module _ (new old : WindowMap) (same : (u : ℕ) → backing_of (new u) ≡ back
 
   in_grid-same : (o : Option GridPlace) → cell_in_grid new o ≡ cell_in_grid old o
   in_grid-same None = refl
-  in_grid-same (Some p) =
-      cell-backing p (new p.grid)
-      ∙ ap (λ o. option_map_or (λ s. cell_of s p.line p.column) o blank) (same p.grid)
-      ∙ sym (cell-backing p (old p.grid))
+  in_grid-same (Some p) = grind (arith, cell-backing)
 
   pub cell_at-same : (u y x : ℕ) → cell_at new u y x ≡ cell_at old u y x
   cell_at-same u y x = ap (cell_in_grid new) (own-same u y x) ∙ in_grid-same (own old u y x)
@@ -153,8 +150,7 @@ module _ (new old : WindowMap) (panels : Panels) (y x : ℕ) where
       → ((p u : ℕ) → panels.window p ≡ Some u → holds old u y x ≡ true → test u ≡ false → cell_on_screen new u y x ≡ cell_on_screen old u y x)
       → cell_on_screen new standard_screen y x ≡ cell_on_screen old standard_screen y x
       → found_from_top new panels y x ≡ found_from_top old panels y x
-  found-same test none hold cells standard =
-      ap (λ o. cell_on_screen new (window_or_standard panels o) y x) (owner-same hold) ∙ owned-same test none cells standard (owner old panels y x) refl
+  found-same test none hold cells standard = grind (arith, owner-same, owned-same)
 
 -- ---- windows that differ in settings and marks alone
 
@@ -171,10 +167,7 @@ found-dressed new old same panels y x =
 
 pub changed-cells : (window : WindowMap) (w : ℕ) (change : Window → Window) → ((a : Window) → outline_of (Some (change a)) ≡ outline_of (Some a))
     → ((a : Window) → backing_of (Some (change a)) ≡ backing_of (Some a)) → SameCells (with_change window w change) window
-changed-cells window w change outlines backings = record {
-  outlines = λ u. same-if (λ o. outline_of o) change outlines (u == w) (window u);
-  backings = λ u. same-if (λ o. backing_of o) change backings (u == w) (window u);
-}
+changed-cells window w change outlines backings = grind (arith, outlines, same-if, backings)
 
 pub set-cells : (windows : Windows) (w : ℕ) (change : Settings → Settings) → SameCells (set windows w change).window windows.window
 set-cells windows w change = changed-cells windows.window w (set_in change) (λ a. refl) (λ a. refl)

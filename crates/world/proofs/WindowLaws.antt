@@ -1,5 +1,5 @@
 -- Laws of windows that share cells.
-use Rattle.std.proofs.Common.{◌≡◌, ℕ, zero, suc, ◌+◌, ◌-◌, ◌<◌, min, max, Bool, true, false, if◌then◌else◌, ◌==◌, ◌&&◌, ◌||◌, nat_lt, nat_le, Option, Some, None, is_some, IsSome, IsSomeAnd}
+use Rattle.std.proofs.Common.{◌≡◌, ℕ, zero, suc, ◌+◌, ◌-◌, ◌<◌, min, max, Bool, true, false, if◌then◌else◌, ◌==◌, ◌&&◌, ◌||◌, nat_lt, Option, Some, None, is_some, IsSome, IsSomeAnd}
 use Rattle.std.proofs.Common.{unwrap_or, subst, ◌≤◌, inl, inr, ap, arith, refl, sym, ◌∙◌, zero-add, eq-eqb}
 use Rattle.std.specs.Prelude.{option_and_then}
 use Rattle.std.specs.Option.{option_map, option_map_or}
@@ -15,10 +15,7 @@ use Rattle.world.specs.declared.settings.Columns.{Columns}
 leads-onward : (further : ℕ → ℕ → ℕ → Option GridPlace) → ((w y x a b : ℕ) → further w (y + a) (x + b) ≡ option_map (onward a b) (further w y x)) → (w y x a b : ℕ) (s : Backing)
     → leads further w (y + a) (x + b) s ≡ option_map (onward a b) (leads further w y x s)
 leads-onward further h w y x a b (own_grid cells) = refl
-leads-onward further h w y x a b (part_of parent line column) =
-    let lines : y + a + line ≡ y + line + a = omega arith in
-    let columns : x + b + column ≡ x + column + b = omega arith in
-    rw (lines, columns) (h parent (y + line) (x + column) a b)
+leads-onward further h w y x a b (part_of parent line column) = grind arith
 
 and_then-leads : (further : ℕ → ℕ → ℕ → Option GridPlace) → ((w y x a b : ℕ) → further w (y + a) (x + b) ≡ option_map (onward a b) (further w y x)) → (w y x a b : ℕ) (o : Option Window) →
     option_and_then (λ c. leads further w (y + a) (x + b) c.backing) o ≡ option_map (onward a b) (option_and_then (λ c. leads further w y x c.backing) o)
@@ -52,8 +49,7 @@ own_within-put_from : (n : ℕ) (window : WindowMap) (w : ℕ) (a : Option Windo
 own_within-put_from zero window w a spot d u y x = refl
 own_within-put_from (suc n) window w None spot d u y x = refl
 own_within-put_from (suc n) window w (Some a) None d u y x = refl
-own_within-put_from (suc n) window w (Some a) (Some spot) d u y x =
-    step-drawn (own_within n (put_from window w (Some a) (Some spot) d)) (own_within n window) (own_within-put_from n window w (Some a) (Some spot) d) w a spot d u y x (window u)
+own_within-put_from (suc n) window w (Some a) (Some spot) d u y x = grind (arith, step-drawn, (own_within-put_from n window w (Some a) (Some spot) d))
 
 pub own-put : (window : WindowMap) (w : ℕ) (d : Drawing) (u y x : ℕ) → own (put_windows window w d) u y x ≡ own window u y x
 own-put window w d u y x = own_within-put_from window_limit window w (window w) (own window w 0 0) d u y x
@@ -98,9 +94,7 @@ laid-point false t2 g f c = refl
 
 laid-laid : (spot : GridPlace) (a : Window) (f g : Drawing) (s : Backing) → laid_over (grid_drawing spot (within a g)) (laid_over (grid_drawing spot (within a f)) s)
     ≡ laid_over (grid_drawing spot (within a (over g f))) s
-laid-laid spot a f g (own_grid cells) = ap own_grid (fun_ext (λ y. fun_ext (λ x.
-    let v = y - spot.line in let u = x - spot.column in
-    laid-point (nat_le spot.line y && nat_le spot.column x) (nat_lt v a.lines && nat_lt u a.columns) (g v u) (f v u) (cells y x))))
+laid-laid spot a f g (own_grid cells) = grind (arith, laid-point)
 laid-laid spot a f g (part_of parent line column) = refl
 
 some-point : (t : Bool) (g f : Option Glyph) → (is_some (if t then g else None) || is_some (if t then f else None)) ≡ is_some (if t then (if is_some g then g else f) else None)
@@ -138,9 +132,7 @@ twice window w (Some a) e (Some spot) f g = rw e (fun_ext (λ u. twice-at w a sp
 
 -- two writes through one window are one
 pub put-put : (window : WindowMap) (w : ℕ) (f g : Drawing) → put_windows (put_windows window w f) w g ≡ put_windows window w (over g f)
-put-put window w f g =
-    let p = put_windows window w f in
-    ap (λ s. put_from p w (p w) s g) (own-put window w f w 0 0) ∙ twice window w (window w) refl (own window w 0 0) f g
+put-put window w f g = search (arith, own-put, twice)
 
 -- a place that the drawing leaves out keeps its cell
 kept-point : (t : Bool) (f : Drawing) (s : Backing) (y x : ℕ) → f y x ≡ None → cell_of (if t then laid_over f s else s) y x ≡ cell_of s y x
@@ -156,14 +148,7 @@ kept-at w a spot f s (Some b) h = kept-point (s.grid == spot.grid) (grid_drawing
 pub cell_at-kept : (window : WindowMap) (w : ℕ) (a : Window) (spot : GridPlace) (f : Drawing) (u y x : ℕ) (s : GridPlace) → window w ≡ Some a → own window w 0 0 ≡ Some spot
     → own window u y x ≡ Some s →
     grid_drawing spot (within a f) s.line s.column ≡ None → cell_at (put_windows window w f) u y x ≡ cell_at window u y x
-cell_at-kept window w a spot f u y x s e leads_w leads_u h =
-    let p = put_windows window w f in
-    let here : p s.grid ≡ option_map (after_drawing w a spot f s.grid) (window s.grid) = ap (λ o. put_from window w o (own window w 0 0) f s.grid) e
-    ∙ ap (λ o. put_from window w (Some a) o f s.grid) leads_w in
-    ap (cell_in_grid p) (own-put window w f u y x ∙ leads_u)
-    ∙ ap (λ o. option_map_or (λ c. cell_of c.backing s.line s.column) o blank) here
-    ∙ kept-at w a spot f s (window s.grid) h
-    ∙ sym (ap (cell_in_grid window) leads_u)
+cell_at-kept window w a spot f u y x s e leads_w leads_u h = grind (arith, own-put, kept-at)
 
 -- a drawing of no cell changes nothing
 laid-nothing : (t : Bool) (f : Drawing) (s : Backing) → ((y x : ℕ) → f y x ≡ None) → (if t then laid_over f s else s) ≡ s
@@ -188,11 +173,7 @@ run-nothing false f b h = refl
 
 nothing-at : (w : ℕ) (a : Window) (spot : GridPlace) (f : Drawing) (u : ℕ) (o : Option Window) → ((y x : ℕ) → f y x ≡ None) → option_map (after_drawing w a spot f u) o ≡ o
 nothing-at w a spot f u None h = refl
-nothing-at w a spot f u (Some b) h =
-    let e = laid-nothing (u == spot.grid) (grid_drawing spot (within a f)) b.backing (λ y x. none_either (nat_le spot.line y && nat_le spot.column x) (within a f (y - spot.line) (x - spot.column))
-    (nothing-within a f h (y - spot.line) (x - spot.column))) in
-    let r = run-nothing (u == w) f b h in
-    λ i. Some (record b { backing = e i; touched = r i })
+nothing-at w a spot f u (Some b) h = grind (arith, laid-nothing, none_either, nothing-within, run-nothing)
 
 nothing-from : (window : WindowMap) (w : ℕ) (o : Option Window) (s : Option GridPlace) (f : Drawing) → ((y x : ℕ) → f y x ≡ None) → put_from window w o s f ≡ window
 nothing-from window w None s f h = refl
@@ -241,16 +222,9 @@ taken-point true f (own_grid cells) y x d c e is h = ap (λ o. unwrap_or o (cell
 taken-point true f (part_of parent line column) y x d c e is h = cc
 taken-point false f s y x d c e is h = cc
 
-onward-spot : (o : Option GridPlace) (spot s : GridPlace) (y x : ℕ) → o ≡ Some spot → option_map (onward y x) o ≡ Some s → s ≡ onward y x spot
-onward-spot None spot s y x e h = cc
-onward-spot (Some p) spot s y x e h = let same : p ≡ spot = cc in let there : onward y x p ≡ s = cc in sym there ∙ ap (onward y x) same
-
 drawn-point : (spot : GridPlace) (a : Window) (f : Drawing) (y x : ℕ) (c : Glyph) → y < a.lines → x < a.columns → f y x ≡ Some c → grid_drawing spot (within a f) (spot.line + y) (spot.column + x)
     ≡ Some c
-drawn-point spot a f y x c in_lines in_cols h =
-    let lines : spot.line + y - spot.line ≡ y = omega arith in
-    let columns : spot.column + x - spot.column ≡ x = omega arith in
-    rw (lines, columns, h) (grind (arith, nat_tests))
+drawn-point spot a f y x c in_lines in_cols h = grind (arith, nat_tests)
 
 pub put-takes : (window : WindowMap) (w : ℕ) (a : Window) (spot : GridPlace) (f : Drawing) (y x : ℕ) (c : Glyph) (u v z : ℕ) →
     window w ≡ Some a → own window w 0 0 ≡ Some spot → y < a.lines → x < a.columns → f y x ≡ Some c → own window u v z ≡ own window w y x → cell_at (put_windows window w f) u v z ≡ c

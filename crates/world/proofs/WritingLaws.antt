@@ -1,5 +1,5 @@
 -- What an edit writes: it leaves the picture as it is at every place of the screen where its frame isn't shown.
-use Rattle.std.proofs.Common.{◌≡◌, ℕ, ◌+◌, ◌-◌, ◌<◌, ◌≤◌, Bool, true, false, if◌then◌else◌, ◌==◌, ◌||◌, nat_lt, Option, Some, None, List, [], ◌∷◌, IsSomeAnd, subst, ap, arith, refl, sym, ◌∙◌}
+use Rattle.std.proofs.Common.{◌≡◌, ℕ, ◌+◌, ◌<◌, ◌≤◌, Bool, true, false, if◌then◌else◌, ◌||◌, nat_lt, Option, Some, None, List, [], ◌∷◌, IsSomeAnd, subst, ap, arith, refl, sym, ◌∙◌}
 use Rattle.std.specs.Prelude.{MatchOption, max, option_and_then, ⊤}
 use Rattle.std.specs.Option.{option_map_or}
 use Rattle.cell.specs.Pictures.{Place}
@@ -9,8 +9,8 @@ use Rattle.world.specs.Drawings.{at_place, to_end_of_line, written_glyph}
 use Rattle.world.specs.Frames.{Covers, IsFrameOf, frame_of, frame_of_two}
 use Rattle.world.specs.Panels.{Panels, first_panels, found_from_top, holds, standard_screen}
 use Rattle.world.specs.Sound.{AreSoundWindows}
-use Rattle.world.specs.Typing.{after_character, after_text, backspace, carriage_return, character_frame, character_printed, drawn_to, frame_of_character, is_last_line, line_ended}
-use Rattle.world.specs.Typing.{line_ended_frame, newline, next_line_frame, region_up, scrolls, text_frame, to_next_line, typed_frame, typed_in}
+use Rattle.world.specs.Typing.{after_character, after_text, character_frame, character_printed, drawn_to, frame_of_character, is_last_line, line_ended}
+use Rattle.world.specs.Typing.{line_ended_frame, next_line_frame, region_up, scrolls, text_frame, to_next_line, typed_frame, typed_in}
 use Rattle.world.specs.Effects.{Edit, after_edit, draws, edit_frame, edit_window, sets, types}
 use Rattle.world.specs.calls.Affected.{edit_shows_at, frame_shows_at}
 use Rattle.world.proofs.FrameLaws.{frame_of-is}
@@ -49,9 +49,7 @@ same-size y x o (Some b) is h = has-size b y x o is h.0 h.1
 both-sizes : (y x v z : ℕ) (o : Option Window) → IsSomeAnd o (λ b. (y < b.lines) × (x < b.columns)) → IsSomeAnd o (λ b. (v < b.lines) × (z < b.columns))
     → IsSomeAnd o (λ b. (max y v < b.lines) × (max x z < b.columns))
 both-sizes y x v z None h k = h
-both-sizes y x v z (Some b) h k =
-    let above = h.0 in let before = h.1 in let below = k.0 in let beyond = k.1 in
-    (omega arith, omega arith)
+both-sizes y x v z (Some b) h k = grind arith
 
 drawing-inside : (window : WindowMap) (w : ℕ) (a : Window) (f : Drawing) → outline_of (window w) ≡ Some (outline a)
     → (o : Option Rect) → IsFrameOf (Covers f a.columns a.lines) o → MatchOption o ⊤ (IsInside window w)
@@ -198,16 +196,7 @@ module _ (panels : Panels) (w y x : ℕ) where
     moved-or-printed false false old one other printing f h k l = l
 
     typed : (windows : Windows) (character : ℕ) → Sized windows → Writes windows (typed_frame windows w character a) (typed_in windows w character a)
-    typed windows character size =
-        let left : Windows = set windows w (with_cursor (a.settings.cursor.0, 0)) in
-        let back : Windows = set windows w (with_cursor (a.settings.cursor.0, a.settings.cursor.1 - 1)) in
-        let print : Windows = character_printed windows w character a in
-        let frame : Option Rect = character_frame windows w character a in
-        chosen (character == newline) windows (line_ended windows w a) (if character == carriage_return then left else if character == backspace then back else print)
-        (line_ended_frame windows w a) (if character == carriage_return || character == backspace then None else frame) (ended windows size)
-        (moved-or-printed (character == carriage_return) (character == backspace) windows left back print frame
-        (settings-set windows (with_cursor (a.settings.cursor.0, 0))) (settings-set windows (with_cursor (a.settings.cursor.0, a.settings.cursor.1 - 1)))
-        (printed windows character size))
+    typed windows character size = search (arith, chosen, ended, moved-or-printed, settings-set, printed)
 
   add-character : (windows : Windows) (character : ℕ) → Writes windows (frame_of_character windows w character) (after_character windows w character)
   add-character windows character =
@@ -242,9 +231,7 @@ write panels y x windows (types w text) = add-text panels w y x text windows
 
 pub found-edit : (windows : Windows) (panels : Panels) (edit : Edit) (y x : ℕ) → AreSoundWindows windows → y < windows.lines → x < windows.columns
     → edit_shows_at windows panels edit y x ≡ false → found_from_top (after_edit windows edit).window panels y x ≡ found_from_top windows.window panels y x
-found-edit windows panels edit y x sound below left free =
-    let written = write panels y x windows edit in
-    written.kept (standard-holds windows y x sound below left) free
+found-edit windows panels edit y x sound below left free = grind (arith, write, standard-holds)
 
 -- ---- the frame lies in the window
 

@@ -1,5 +1,5 @@
 -- A call keeps the picture where the law of its effect says so, for edits, moves and all calls.
-use Rattle.std.proofs.Common.{ap}
+use Rattle.std.proofs.Common.{arith}
 use Rattle.world.proofs.CallLaws.{picture-kept}
 use Rattle.world.proofs.LineLaws.{free-place}
 use Rattle.world.proofs.MoveLaws.{found-moved}
@@ -8,12 +8,10 @@ use Rattle.world.proofs.ViewLaws.{outline_of}
 use Rattle.world.proofs.laws.kept_picture.Goals as goal
 
 pub returns-clause-written : goal.returns-clause-written
-returns-clause-written c = λ windows panels w a f y x sound there below left free.
-    found-put windows.window panels w a f y x (ap (λ o. outline_of o) there) (standard-holds windows y x sound below left) free
+returns-clause-written c = grind (arith, found-put, outline_of, standard-holds)
 
 pub returns-clause-moved : goal.returns-clause-moved
 returns-clause-moved c = λ windows panels w v z y x sound allowed free. found-moved windows panels w v z y x sound allowed free
 
 pub returns-clause-called : goal.returns-clause-called
-returns-clause-called c = λ world call y x sound allowed below left free.
-    picture-kept world y x sound below left call allowed (free-place world call y x left free)
+returns-clause-called c = grind (arith, picture-kept, free-place)

@@ -1,8 +1,8 @@
 -- `put_cells`: the lines of a grid whose cells are one after another: each line, a change of one cell, and equal sizes (`GridLemmas`); a
 -- piece of a line of a grid that is written at once (`PieceWrites`).
-use Rattle.std.proofs.Common.{◌+◌, ◌*◌, length, arith, sym, ◌∙◌}
+use Rattle.std.proofs.Common.{◌+◌, ◌*◌, length, arith}
 use Rattle.std.specs.List.{splice}
-use Rattle.cell.proofs.GridLemmas.{EachCell-rows, length-rows}
+use Rattle.cell.proofs.GridLemmas.{EachCell-rows}
 use Rattle.cell.proofs.PieceWrites.{PieceFits-from, IsGrid-piece, shown-piece, HasSize-same}
 use Rattle.cell.proofs.grid.Grid.put_cells.Goals as goal
 
@@ -48,9 +48,3 @@ returns-clause-cells g c =
     let after = IsGrid-piece g.T.Element.blank grid.lines grid.columns grid.cells.items c.args.cells.now c.args.y c.args.x c.self.invariant piece.below piece.fits c.requires.cells in
     rw c.put_piece.ensures (λ _. EachCell-rows grid.lines grid.columns (splice grid.cells.items (c.args.y * grid.columns + c.args.x)
     (c.args.y * grid.columns + c.args.x + length c.args.cells.now) c.args.cells.now) after)
-
-pub returns-clause-height : goal.returns-clause-height
-returns-clause-height g c =
-    let grid = c.self.inside in
-    rw (← c.self.view_is)
-    (length-rows grid.lines grid.columns c.put_piece.new.cells.items ∙ sym (length-rows grid.lines grid.columns grid.cells.items))
