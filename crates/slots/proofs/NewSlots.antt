@@ -7,7 +7,7 @@ use Rattle.std.proofs.lemmas.List.{ext_get_or, get_or-take, get_or-drop, get_or-
 use Rattle.std.proofs.lemmas.List.FromFn.{length-map-range_with_len, get_or-map-range_with_len}
 use mathlib.Core.Path.{fun_ext}
 use Rattle.cell.specs.Glyphs.{Glyph, blank, IsCell}
-use Rattle.cell.specs.Pictures.{Sheet, Place, AreCells, line_of, glyph_at, blank_sheet}
+use Rattle.cell.specs.Pictures.{Sheet, Place, AreCells, HasSize, line_of, glyph_at, blank_sheet}
 use Rattle.cell.specs.declared.limits.TheConstants.{LARGEST_PAD}
 use Rattle.world.specs.Windows.{own_grid}
 use Rattle.world.specs.World.{first_settings, blank_grid, new_window}
@@ -16,7 +16,6 @@ use Rattle.slots.specs.declared.slot.Cells.{Cells}
 use Rattle.slots.specs.declared.slot.Cells.TheVariants.{Own}
 use Rattle.slots.specs.declared.slot.Origin.{Origin}
 use Rattle.slots.specs.Kept.{Kept, IsKept, IsGridOf, window_of}
-use Rattle.slots.specs.Slots.{part_in}
 use Rattle.slots.specs.Changes.{StaysInPlace}
 use Rattle.world.specs.Sound.{AreColumnsWithin}
 use Rattle.world.specs.declared.settings.Columns.{Columns}
@@ -106,27 +105,23 @@ window-blank lines columns depth place origin =
     let none : (λ y. get_or (replicate lines (let o : Option Columns = None in o)) y None) ≡ (λ y. None) = fun_ext (λ y. touched-none lines y) in
     λ i. record (new_window lines columns place blank_grid) { touched = none i; backing = grid-blank lines columns i }
 
--- other cells of a slot
+-- a slot stays where it is, with another grid of its own or as it was
 
-pub IsKept-cells : (k : Kept) (cells : Cells) → IsKept k → IsGridOf k.lines k.columns cells → IsKept (record k { cells = cells })
-IsKept-cells k cells s grid = record {
-  has_line = s.has_line;
-  has_column = s.has_column;
-  few_lines = s.few_lines;
-  few_columns = s.few_columns;
-  touched_each = s.touched_each;
-  touched = s.touched;
-  settings = s.settings;
-  grid = grid;
-}
-
--- a slot stays where it is, with other cells of its own or as it was
-
-pub StaysInPlace-cells : (k : Kept) (cells : Cells) → IsKept k → IsGridOf k.lines k.columns cells → part_in cells ≡ part_in k.cells → StaysInPlace k (record k { cells = cells })
-StaysInPlace-cells k cells s grid part = record {
+pub StaysInPlace-grid : (k : Kept) (sheet new : Sheet) → IsKept k → k.cells ≡ Own sheet → (HasSize k.lines k.columns sheet → HasSize k.lines k.columns new) → (AreCells sheet → AreCells new)
+    → StaysInPlace k (record k { cells = Own new })
+StaysInPlace-grid k sheet new s is size cells = record {
   shape = record { lines = refl; columns = refl; place = refl; depth = refl };
-  part = record { part = part; origin = refl };
-  kept = IsKept-cells k cells s grid;
+  part = record { part = rw is refl; origin = refl };
+  kept = record {
+    has_line = s.has_line;
+    has_column = s.has_column;
+    few_lines = s.few_lines;
+    few_columns = s.few_columns;
+    touched_each = s.touched_each;
+    touched = s.touched;
+    settings = s.settings;
+    grid = let grid = rw is at s.grid in (size grid.0, cells grid.1);
+  };
 }
 
 pub StaysInPlace-same : (k : Kept) → IsKept k → StaysInPlace k k

@@ -1,5 +1,5 @@
 -- Where the first place of each window leads: what the walk from parent to parent finds, and which changes keep it.
-use Rattle.std.proofs.Common.{◌≡◌, ◌≢◌, ℕ, zero, suc, ◌+◌, ◌≤◌, Option, Some, None, IsSome, IsSomeAnd, MatchOption, List, [], ◌∷◌, length, ap, arith, refl, sym, ◌∙◌, subst, inl, inr}
+use Rattle.std.proofs.Common.{◌≡◌, ◌≢◌, ℕ, zero, suc, ◌+◌, ◌≤◌, Option, Some, None, IsSome, MatchOption, List, [], ◌∷◌, length, ap, arith, refl, sym, ◌∙◌, subst, inl, inr}
 use Rattle.std.specs.Prelude.{⊤, option_and_then}
 use Rattle.std.specs.Option.{option_map}
 use Rattle.std.proofs.lemmas.Bool.{cases_eq}
@@ -10,19 +10,12 @@ use Rattle.slots.specs.declared.slot.Cells.{Cells}
 use Rattle.slots.specs.declared.slot.Cells.TheVariants.{Own, Shared}
 use Rattle.slots.specs.declared.slot.Part.{Part}
 use Rattle.slots.specs.Kept.{Kept, backing_of, window_of}
-use Rattle.slots.specs.Slots.{AreOrigins, IsChained, grid_place, slot_at, window_map, part_in, lines_at, columns_at}
+use Rattle.slots.specs.Slots.{AreOrigins, IsChained, IsRoot, grid_place, slot_at, window_map, part_in}
 use Rattle.slots.specs.Changes.{SamePart, SetAt}
-use Rattle.slots.proofs.Chain.{Leads, Leads-step, Leads-end, chain_ends, own_or_shared, own_source, parent_at, shared_of, some_of}
+use Rattle.slots.proofs.Chain.{each_at, Leads, Leads-step, Leads-end, chain_ends, own_or_shared, own_source, parent_at, shared_of, some_of}
 use Rattle.slots.proofs.LongerWalks.{own-parent}
 
 -- ---- the end of the walk
-
--- the first place of a window leads to this place of a grid, in which the window lies
-pub record IsRoot (slots : List (Option Kept)) (win : ℕ) (place : GridPlace) : Type 0 where
-  pub grid : IsSomeAnd (slot_at slots place.grid) (λ k. part_in k.cells ≡ None)
-  pub lines : place.line + lines_at slots win ≤ lines_at slots place.grid
-  pub columns : place.column + columns_at slots win ≤ columns_at slots place.grid
-  pub leads : own (window_map slots) win 0 0 ≡ Some place
 
 part_of_shared : (cells : Cells) (part : Part) → cells ≡ Shared part → part_in cells ≡ Some part
 part_of_shared cells part is = ap part_in is
@@ -31,7 +24,14 @@ module _ (slots : List (Option Kept)) (s : IsChained slots) (few : length slots 
   root-here : (at line column : ℕ) (k : Kept) → slot_at slots at ≡ Some k → part_in k.cells ≡ None → Leads slots win at line column → (place : GridPlace) × IsRoot slots win place
   root-here at line column k e alone h = (
     record { grid = at; line = line; column = column },
-    record { grid = rw e alone; lines = h.lines; columns = h.columns; leads = Leads-end slots s few win at line column k taken e alone h },
+    record {
+      grid = rw e alone;
+      lines = h.lines;
+      columns = h.columns;
+      few_lines = rw e ((each_at slots s at k e).0.few_lines);
+      few_columns = rw e ((each_at slots s at k e).0.few_columns);
+      leads = Leads-end slots s few win at line column k taken e alone h;
+    },
   )
 
   root-from : (n at line column : ℕ) (k : Kept) → slot_at slots at ≡ Some k → k.depth ≡ n → Leads slots win at line column → (place : GridPlace) × IsRoot slots win place

@@ -1,11 +1,10 @@
 -- What changes where one slot changes.
-use Rattle.std.specs.Prelude.{◌≡◌, ◌≢◌, ℕ, ◌+◌, ◌<◌, ◌≤◌, List, length, Option, Some, None, is_some, min, max, slice_set, if◌then◌else◌, ◌==◌}
+use Rattle.std.specs.Prelude.{◌≡◌, ◌≢◌, ℕ, ◌+◌, ◌<◌, ◌≤◌, List, length, Option, Some, None, is_some, max, slice_set, if◌then◌else◌, ◌==◌}
 use Rattle.cell.specs.declared.limits.TheConstants.{MOST_WINDOWS}
 use Rattle.world.specs.Windows.{joined_columns, Window, Drawing, laid_over}
 use Rattle.world.specs.Effects.{with_part}
 use Rattle.slots.specs.declared.slot.Cells.{Cells}
 use Rattle.slots.specs.declared.slot.Cells.TheVariants.{Own, Shared}
-use Rattle.world.specs.declared.settings.Columns.{Columns}
 use Rattle.slots.specs.Kept.{Kept, IsKept, window_of}
 use Rattle.slots.specs.Slots.{slot_at, window_map, AreOrigins, IsChained, part_in}
 

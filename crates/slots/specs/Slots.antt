@@ -1,6 +1,7 @@
 -- The list of slots, and the windows that they represent.
-use Rattle.std.specs.Prelude.{◌≡◌, ℕ, ◌+◌, Bool, false, List, Option, Some, None, MatchOption, slice_index_or, ⊤}
+use Rattle.std.specs.Prelude.{◌≡◌, ℕ, ◌+◌, ◌≤◌, Bool, false, List, Option, Some, None, IsSomeAnd, MatchOption, slice_index_or, ⊤}
 use Rattle.std.specs.Option.{option_map, option_map_or}
+use Rattle.cell.specs.declared.limits.TheConstants.{LARGEST_PAD}
 use Rattle.world.specs.Windows.{GridPlace, WindowMap, own}
 use Rattle.world.specs.Sound.{IsPartOf}
 use Rattle.world.specs.calls.Making.{is_part_of}
@@ -60,3 +61,12 @@ grid_place o = record { grid = o.grid; line = o.line; column = o.column }
 -- each slot keeps where the first place of its window leads
 pub record AreOrigins (slots : List (Option Kept)) : Type 0 where
   pub each : (w : ℕ) → MatchOption (slot_at slots w) ⊤ (λ k. own (window_map slots) w 0 0 ≡ Some (grid_place k.origin))
+
+-- the first place of window win leads to this place of a grid, in which the window lies
+pub record IsRoot (slots : List (Option Kept)) (win : ℕ) (place : GridPlace) : Type 0 where
+  pub lines : place.line + lines_at slots win ≤ lines_at slots place.grid
+  pub columns : place.column + columns_at slots win ≤ columns_at slots place.grid
+  pub few_lines : lines_at slots place.grid ≤ LARGEST_PAD
+  pub few_columns : columns_at slots place.grid ≤ LARGEST_PAD
+  pub grid : IsSomeAnd (slot_at slots place.grid) (λ k. part_in k.cells ≡ None)
+  pub leads : own (window_map slots) win 0 0 ≡ Some place

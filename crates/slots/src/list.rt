@@ -13,7 +13,7 @@ ghost use Rattle.world.specs.Settings.{set_in, with_cursor, with_settings};
 ghost use Rattle.world.specs.calls.Making.{has_derived, new_number};
 ghost use Rattle.slots.specs.Kept.{window_of};
 ghost use Rattle.slots.specs.Inks.{printed_cell};
-ghost use Rattle.slots.specs.Slots.{slot_at, window_map, AreOrigins, IsChained, part_in, lines_at, columns_at, names_parent};
+ghost use Rattle.slots.specs.Slots.{slot_at, window_map, grid_place, AreOrigins, IsChained, IsRoot, part_in, lines_at, columns_at, names_parent};
 ghost use Rattle.slots.specs.Changes.{Changed, Shifted, SetAt, IsFree, with_touched, with_drawing};
 
 use crate::slot::{Origin, Slot};
@@ -27,12 +27,7 @@ pub fn origin_of(slots: &[Option<Slot>], win: u16) -> Origin
     requires origins { AreOrigins slots.now }
     requires few { length slots.now ≤ MOST_WINDOWS + 1 }
     requires taken { IsSome (slot_at slots.now win) }
-    ensures lines { result.line + lines_at slots.now win ≤ lines_at slots.now result.grid }
-    ensures columns { result.column + columns_at slots.now win ≤ columns_at slots.now result.grid }
-    ensures few_lines { lines_at slots.now result.grid ≤ LARGEST_PAD }
-    ensures few_columns { columns_at slots.now result.grid ≤ LARGEST_PAD }
-    ensures grid { IsSomeAnd (slot_at slots.now result.grid) (λ k. part_in k.cells ≡ None) }
-    ensures leads { own (window_map slots.now) win 0 0 ≡ Some (record { grid = result.grid; line = result.line; column = result.column }) }
+    ensures { IsRoot slots.now win (grid_place result) }
 {
     match &slots[usize::from(win)] {
         Some(slot) => slot.origin(),

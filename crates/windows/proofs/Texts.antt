@@ -1,10 +1,9 @@
 -- Writing a character makes and deletes no window; and the rectangle of several characters.
 use Rattle.std.proofs.Common.{◌≡◌, ℕ, ◌+◌, ◌-◌, min, max, Bool, true, false, if◌then◌else◌, ◌==◌, ◌||◌, not, nat_lt, Option, Some, None, is_some, List, [], ◌∷◌}
-use Rattle.std.proofs.Common.{◌<◌, get_or, length, arith, refl, sym, ◌∙◌}
+use Rattle.std.proofs.Common.{arith, refl, ◌∙◌}
 use Rattle.std.specs.Option.{option_map}
 use Rattle.std.specs.List.{list_all, list_any}
 use Rattle.std.proofs.lemmas.Bool.{and_parts}
-use Rattle.std.proofs.lemmas.List.Folds.{list_all_at}
 use Rattle.cell.specs.Glyphs.{is_printable}
 use Rattle.cell.specs.Pictures.{Place}
 use Rattle.world.specs.Windows.{Window, WindowMap, Windows, GridPlace, Drawing, own, after_drawing, put_from, put}
@@ -89,10 +88,6 @@ joined-joined (Some a) (Some b) (Some c) =
 
 -- ---- a printed character is accepted
 
-kept : (p all : Bool) → (p ≡ false → all ≡ false) → all ≡ true → p ≡ true
-kept true all none is = refl
-kept false all none is = let never : false ≡ true = sym (none refl) ∙ is in cc
-
 accepted : (printable other bad : Bool) → printable ≡ true → bad ≡ false → (not (printable || other) || bad) ≡ false
 accepted true other bad h none = none
 accepted false other bad h none = let never : false ≡ true = h in cc
@@ -102,6 +97,3 @@ none_bad [] all = refl
 none_bad (first ∷ text) all =
     let both = and_parts (is_printable first) (list_all is_printable text) all in
     accepted (is_printable first) _ (list_any is_bad_character text) both.0 (none_bad text both.1)
-
-pub each_printed : (text : List ℕ) → list_all is_printable text ≡ true → (k : ℕ) → k < length text → is_printable (get_or text k 0) ≡ true
-each_printed text all k k< = kept (is_printable (get_or text k 0)) (list_all is_printable text) (list_all_at is_printable text k 0 k<) all

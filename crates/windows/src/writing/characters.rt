@@ -1,8 +1,8 @@
 //! The calls that write characters.
 
 ghost use Rattle.std.specs.Prelude.{◌≡◌, ℕ, ◌+◌, ◌<◌, ◌≤◌, ◌==◌, if◌then◌else◌, length, slice_index, take, EachIndex, IsSome, Some, IfOk, OnOk, OnErr, false};
-ghost use Rattle.std.specs.Prelude.{true};
-ghost use Rattle.std.specs.List.{list_any};
+ghost use Rattle.std.specs.Prelude.{◌&&◌, nat_lt, true};
+ghost use Rattle.std.specs.List.{list_all, list_any};
 ghost use Rattle.std.specs.Result.{result_err};
 ghost use Rattle.cell.specs.Attributes.{bits_of};
 ghost use Rattle.world.specs.Drawings.{written_glyph};
@@ -108,20 +108,15 @@ fn has_bad_character(text: &[u8]) -> bool
 /// Whether a character is printed before the last column of the cursor's line.
 fn is_printed_inside(state: &WindowState, ch: u8) -> bool
     requires { state.now.settings.cursor.1 < state.now.columns }
-    ensures printable { result ≡ true → is_printable ch ≡ true }
-    ensures inside { result ≡ true → state.now.settings.cursor.1 + 1 < state.now.columns }
+    ensures { result ≡ (is_printable ch && nat_lt (state.now.settings.cursor.1 + 1) state.now.columns) }
 {
     is_printable(ch) && state.settings.cursor.1 < state.columns - 1
 }
 
 /// Whether a text has characters, and all are printed in the cursor's line before its last column.
-#[tactic(auto, using(crate::proofs::Texts::none_bad, crate::proofs::Texts::each_printed))]
 fn is_one_run(state: &WindowState, text: &[u8]) -> bool
     requires { state.now.settings.cursor.1 < state.now.columns }
-    ensures some { result ≡ true → 0 < length text.now }
-    ensures inside { result ≡ true → state.now.settings.cursor.1 + length text.now < state.now.columns }
-    ensures printable { result ≡ true → EachIndex text.now (λ k. is_printable (slice_index text.now k) ≡ true) }
-    ensures accepted { result ≡ true → list_any is_bad_character text.now ≡ false }
+    ensures { result ≡ (nat_lt 0 (length text.now) && nat_lt (state.now.settings.cursor.1 + length text.now) state.now.columns && list_all is_printable text.now) }
 {
     let rest = usize::from(state.columns - state.settings.cursor.1);
     0 < text.len() && text.len() < rest && are_printable(text)
@@ -178,6 +173,7 @@ fn run_length(state: &WindowState, text: &[u8]) -> usize
     ensures within { result ≤ length text.now }
     ensures inside { state.now.settings.cursor.1 + result < state.now.columns }
     ensures printable { (k : ℕ) → k < result → is_printable (slice_index text.now k) ≡ true }
+    ensures longest { result < length text.now → state.now.settings.cursor.1 + result + 1 < state.now.columns → is_printable (slice_index text.now result) ≡ false }
 {
     let room = usize::from(state.columns - 1 - state.settings.cursor.1);
     let first = &text[..room.min(text.len())];

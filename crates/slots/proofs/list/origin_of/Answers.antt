@@ -5,17 +5,7 @@ use Rattle.slots.specs.Slots.{slot_at}
 use Rattle.slots.proofs.Origins.{origin-is}
 use Rattle.slots.proofs.list.origin_of.Goals as goal
 
-pub returns-clause-lines : goal.returns-clause-lines
-returns-clause-lines c =
+pub returns : goal.returns
+returns c =
     let there : slot_at c.args.slots.now c.args.win ≡ Some c.in-Some.slot = grind (arith, common_steps) in
-    rw c.origin.ensures ((origin-is c.args.slots.now c.requires.chained c.requires.origins c.requires.few c.args.win c.in-Some.slot there).lines)
-
-pub returns-clause-columns : goal.returns-clause-columns
-returns-clause-columns c =
-    let there : slot_at c.args.slots.now c.args.win ≡ Some c.in-Some.slot = grind (arith, common_steps) in
-    rw c.origin.ensures ((origin-is c.args.slots.now c.requires.chained c.requires.origins c.requires.few c.args.win c.in-Some.slot there).columns)
-
-pub returns-clause-grid : goal.returns-clause-grid
-returns-clause-grid c =
-    let there : slot_at c.args.slots.now c.args.win ≡ Some c.in-Some.slot = grind (arith, common_steps) in
-    rw c.origin.ensures ((origin-is c.args.slots.now c.requires.chained c.requires.origins c.requires.few c.args.win c.in-Some.slot there).grid)
+    rw c.origin.ensures (origin-is c.args.slots.now c.requires.chained c.requires.origins c.requires.few c.args.win c.in-Some.slot there)

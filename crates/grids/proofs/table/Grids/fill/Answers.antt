@@ -29,11 +29,4 @@ returns-clause-written c =
     there c.requires.ordered leads c.fill_row.ensures c.touch_row.ensures)
 
 pub returns-clause-sound : goal.returns-clause-sound
-returns-clause-sound c =
-    let a = c.args in
-    let o = c.origin_of-origin.result in
-    let t = the_view c.self.inside in
-    let s = IsWindowTable-changed t c.fill_row.new.slots.items o.grid (with_drawing (filled_cells (o.line + a.y) (o.column + a.left) (o.column + a.right) a.cell)) c.self.invariant c.fill_row.ensures
-    (λ b. refl) in
-    sound _
-    (IsWindowTable-changed (record t { slots = c.fill_row.new.slots.items }) c.touch_row.new.slots.items a.win.0 (with_touched a.y a.left a.right) s c.touch_row.ensures (λ b. refl))
+returns-clause-sound c = sound _ (invariant_of-self c)

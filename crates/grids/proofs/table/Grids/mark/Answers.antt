@@ -15,6 +15,4 @@ returns-clause-touched c =
     rw (← c.self.view_is) (windows-changed (the_view c.self.inside) c.mark_slot.new.slots.items c.args.win.0 (lines_marked c.args.first c.args.n c.args.flag) c.self.invariant c.mark_slot.ensures)
 
 pub returns-clause-sound : goal.returns-clause-sound
-returns-clause-sound c =
-    sound _
-    (IsWindowTable-changed (the_view c.self.inside) c.mark_slot.new.slots.items c.args.win.0 (lines_marked c.args.first c.args.n c.args.flag) c.self.invariant c.mark_slot.ensures (λ a. refl))
+returns-clause-sound c = sound _ (invariant_of-self c)

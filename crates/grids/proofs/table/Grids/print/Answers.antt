@@ -40,12 +40,4 @@ returns-clause-written c =
     (subst (λ n. Changed c.print_row.new.slots.items c.touch_row.new.slots.items a.win.0 (with_touched a.y a.left (a.left + n - 1))) all c.touch_row.ensures))
 
 pub returns-clause-sound : goal.returns-clause-sound
-returns-clause-sound c =
-    let a = c.args in
-    let o = c.origin_of-origin.result in
-    let t = the_view c.self.inside in
-    let s = IsWindowTable-changed t c.print_row.new.slots.items o.grid (with_drawing (listed_cells (o.line + a.y) (o.column + a.left) (map (printed_cell a.pen) a.text.now))) c.self.invariant
-    c.print_row.ensures (λ b. refl) in
-    sound _
-    (IsWindowTable-changed (record t { slots = c.print_row.new.slots.items }) c.touch_row.new.slots.items a.win.0 (with_touched a.y a.left (a.left + length a.text.now - 1)) s c.touch_row.ensures
-    (λ b. refl))
+returns-clause-sound c = sound _ (invariant_of-self c)

@@ -15,6 +15,4 @@ returns-clause-set c =
     rw (← c.self.view_is) (windows-changed (the_view c.self.inside) c.set_slot.new.slots.items c.args.win.0 (with_settings c.args.settings) c.self.invariant c.set_slot.ensures)
 
 pub returns-clause-sound : goal.returns-clause-sound
-returns-clause-sound c =
-    sound _
-    (IsWindowTable-changed (the_view c.self.inside) c.set_slot.new.slots.items c.args.win.0 (with_settings c.args.settings) c.self.invariant c.set_slot.ensures (λ a. refl))
+returns-clause-sound c = sound _ (invariant_of-self c)

@@ -15,6 +15,4 @@ returns-clause-unmarked c =
     rw (← c.self.view_is) (windows-changed (the_view c.self.inside) c.unmark_slot.new.slots.items c.args.win.0 without_marks c.self.invariant c.unmark_slot.ensures)
 
 pub returns-clause-sound : goal.returns-clause-sound
-returns-clause-sound c =
-    sound _
-    (IsWindowTable-changed (the_view c.self.inside) c.unmark_slot.new.slots.items c.args.win.0 without_marks c.self.invariant c.unmark_slot.ensures (λ a. refl))
+returns-clause-sound c = sound _ (invariant_of-self c)

@@ -1,5 +1,7 @@
 -- A printed character is typed (`Runs`), in a window of a known state (`Typing`); any other is a text of one.
 use Rattle.std.proofs.Common.{◌∙◌, sym, rules}
+use Rattle.std.proofs.lemmas.Bool.{and_parts}
+use Rattle.cell.specs.Glyphs.{is_printable}
 use Rattle.world.specs.Typing.{frame_of_character}
 use Rattle.grids.specs.Tables.{windows}
 use Rattle.windows.specs.steps.State.{window_in_state}
@@ -15,7 +17,7 @@ returns-then-is_printed_inside c =
     let ch = c.args.ch in
     let s = c.in_ok-state.state in
     let h = c.in_ok-state.ensures.state in
-    let printable = c.is_printed_inside.ensures.printable c.if-is_printed_inside.true in
+    let printable = (and_parts (is_printable ch) _ (sym c.is_printed_inside.ensures ∙ c.if-is_printed_inside.true)).0 in
     record {
       refused = search rules;
       written =
