@@ -2,7 +2,6 @@
 use Rattle.std.proofs.Common.{◌≡◌, ℕ, ◌+◌, ◌<◌, ◌≤◌, List, [], ◌∷◌, ◌++◌, length, None, inl, inr, refl, sym, ap, ◌∙◌, subst, arith, append_assoc}
 use Rattle.std.specs.Prelude.{◌⊎◌, IsTrue}
 use Rattle.std.specs.List.{AllByRecursion, join_with_byte}
-use Rattle.std.proofs.lemmas.Bool.{cases_lt}
 use Rattle.std.proofs.lemmas.List.{append-nil}
 use Rattle.cell.specs.Glyphs.{is_printable}
 use Rattle.ecma.specs.Items.{Function, CUP, ED, EL, SGR, Item, Printable, Control, Unfinished, IsDigit, AreParameters, IsBeginning, IsItem, MayPrecede, EndsOrEscapes, bytes_of, final_byte, introducer}
@@ -49,13 +48,7 @@ NoEffect-escape byte t other no_bracket = record { each = none } where
 -- ---- within parameters
 
 is_inner : (byte : ℕ) → IsInner byte ⊎ (IsInner byte → ⊥)
-is_inner byte = elim (cases_lt byte 48) [
-  | inl below ↦ inr (λ h. omega (arith, h.0))
-  | inr from ↦ elim (cases_lt 59 byte) [
-    | inl beyond ↦ inr (λ h. omega (arith, h.1))
-    | inr to ↦ inl (from, to)
-  ]
-]
+is_inner byte = grind arith
 
 All-back : (a b : List ℕ) → AllByRecursion IsInner (a ++ b) → AllByRecursion IsInner b
 All-back [] b h = h
@@ -216,23 +209,11 @@ ended-few (a ∷ ended) current missing qs function h k one e =
 
 pub no-more_digits : (ended : List (List ℕ)) (current : List ℕ) (byte : ℕ) → AreParameters (ended ++ current ∷ []) → IsDigit byte → 3 ≤ length current
     → IsBeginning (27 ∷ 91 ∷ (join_with_byte 59 (ended ++ current ∷ []) ++ byte ∷ [])) → ⊥
-no-more_digits ended current byte h digit full begins =
-    let prefix = join_with_byte 59 (ended ++ current ∷ []) in
-    let whole = begins.goes_on in
-    let tail : (prefix ++ byte ∷ []) ++ begins.missing ≡ join_with_byte 59 begins.parameters ++ final_byte begins.function ∷ [] = cc in
-    let short = current-short ended current byte begins.missing begins.parameters begins.function h.digits begins.well_formed.digits begins.well_formed.short begins.well_formed.one digit
-    (sym (append_assoc prefix (byte ∷ []) begins.missing) ∙ tail) in
-    omega arith
+no-more_digits ended current byte h digit full begins = grind (arith, current-short, append_assoc)
 
 pub no-more_parameters : (ended : List (List ℕ)) (current : List ℕ) → AreParameters (ended ++ current ∷ []) → 15 ≤ length ended
     → IsBeginning (27 ∷ 91 ∷ (join_with_byte 59 (ended ++ current ∷ []) ++ 59 ∷ [])) → ⊥
-no-more_parameters ended current h full begins =
-    let prefix = join_with_byte 59 (ended ++ current ∷ []) in
-    let whole = begins.goes_on in
-    let tail : (prefix ++ 59 ∷ []) ++ begins.missing ≡ join_with_byte 59 begins.parameters ++ final_byte begins.function ∷ [] = cc in
-    let few = ended-few ended current begins.missing begins.parameters begins.function h.digits begins.well_formed.digits begins.well_formed.one
-    (sym (append_assoc prefix (59 ∷ []) begins.missing) ∙ tail) in
-    omega (arith, begins.well_formed.most)
+no-more_parameters ended current h full begins = grind (arith, ended-few, append_assoc)
 
 -- ---- a byte that no parameters have
 
@@ -252,18 +233,11 @@ digits-no_colon (digit ∷ digits) h = ((λ e. omega (arith, h.0.1)), digits-no_
 joined-no_colon : (parameters : List (List ℕ)) → AreDigits parameters → NoColon (join_with_byte 59 parameters)
 joined-no_colon [] h = tt
 joined-no_colon (digits ∷ []) h = digits-no_colon digits h.0
-joined-no_colon (digits ∷ next ∷ parameters) h =
-    each-append (λ byte. byte ≡ 58 → ⊥) digits (59 ∷ join_with_byte 59 (next ∷ parameters)) (digits-no_colon digits h.0) ((λ e. omega arith), joined-no_colon (next ∷ parameters) h.1)
+joined-no_colon (digits ∷ next ∷ parameters) h = grind (arith, each-append, digits-no_colon, (joined-no_colon (next ∷ parameters) h.1))
 
 no-colon_after : (prefix missing : List ℕ) → NoColon (prefix ++ 58 ∷ missing) → ⊥
 no-colon_after [] missing h = h.0 refl
 no-colon_after (byte ∷ prefix) missing h = no-colon_after prefix missing h.1
 
 pub no-colon : (prefix : List ℕ) → IsBeginning (27 ∷ 91 ∷ (prefix ++ 58 ∷ [])) → ⊥
-no-colon prefix begins =
-    let whole = begins.goes_on in
-    let tail : (prefix ++ 58 ∷ []) ++ begins.missing ≡ join_with_byte 59 begins.parameters ++ final_byte begins.function ∷ [] = cc in
-    let all : NoColon (join_with_byte 59 begins.parameters ++ final_byte begins.function ∷ []) =
-    each-append (λ byte. byte ≡ 58 → ⊥) (join_with_byte 59 begins.parameters) (final_byte begins.function ∷ []) (joined-no_colon begins.parameters begins.well_formed.digits)
-    (final-no_colon begins.function, tt) in
-    no-colon_after prefix begins.missing (subst NoColon (sym tail ∙ append_assoc prefix (58 ∷ []) begins.missing) all)
+no-colon prefix begins = grind (arith, each-append, joined-no_colon, final-no_colon, no-colon_after, append_assoc)

@@ -2,7 +2,7 @@
 use Rattle.std.proofs.Common.{◌≡◌, ℕ, zero, suc, ◌+◌, ◌-◌, ◌<◌, ◌≤◌, Bool, true, false, List, [], ◌∷◌, ◌++◌, length, get_or, set, take, drop, map, inl, inr, refl, sym, ap, ◌∙◌, arith}
 use Rattle.std.proofs.Common.{append_assoc, length-append}
 use Rattle.std.specs.Prelude.{◌==◌, ◌&&◌, nat_le, nat_lt, if◌then◌else◌}
-use Rattle.std.proofs.lemmas.Bool.{cases_lt, cases_eq, eq-eqb, ne_eqb, le-leb, lt-leb, lt-ltb, le-ltb}
+use Rattle.std.proofs.lemmas.Bool.{cases_eq, eq-eqb, ne_eqb, le-leb, lt-leb, lt-ltb, le-ltb}
 use Rattle.std.proofs.lemmas.List.{append-nil, drop_more, get_or_append_left, get_or-append_right, get_or-drop, get_or-set_other, get_or-set_same, get_or-take, get_or_at, length-drop, length-map}
 use Rattle.std.proofs.lemmas.List.{length-take, length-take-le, map_push, set_at, take-append-drop, take_more}
 use Rattle.cell.specs.Shown.{Shown, shown_blank}
@@ -40,27 +40,8 @@ within-after ends x from after = rw (le-leb ends.0 x from, le-ltb x ends.1 after
 
 erased-cell : (how : Erase) (column x : ℕ) (row : List Shown) → column < length row → x < length row
     → (if is_within (span how column (length row)) x then shown_blank else get_or row x shown_blank) ≡ get_or (erased_line how column row) x shown_blank
-erased-cell ToEnd column x row h k = elim (cases_lt x column) [
-  | inl before ↦
-      let prefix : x < length (take column row) = omega (arith, length-take column row) in
-      rw (within-before (column, length row) x before) (sym (get_or_append_left (take column row) (blank_line (drop column row)) shown_blank x prefix ∙ get_or-take column row x shown_blank before))
-  | inr from ↦
-      rw (within-true (column, length row) x from k)
-      (sym (get_or-append_right (take column row) (blank_line (drop column row)) column x shown_blank (length-take-le column row (omega arith)) from ∙ blank_line-cell (drop column row) (x - column)))
-]
-erased-cell FromStart column x row h k =
-    let long : length (blank_line (take (column + 1) row)) ≡ column + 1 = length-map (take (column + 1) row) (λ _. shown_blank) ∙ length-take-le (column + 1) row (omega arith) in
-    elim (cases_lt x (column + 1)) [
-      | inl before ↦
-          let prefix : x < length (blank_line (take (column + 1) row)) = omega arith in
-          rw (within-true (0, column + 1) x (omega arith) before)
-          (sym (get_or_append_left (blank_line (take (column + 1) row)) (drop (column + 1) row) shown_blank x prefix ∙ blank_line-cell (take (column + 1) row) x))
-      | inr after ↦
-          let place : column + 1 + (x - (column + 1)) ≡ x = omega arith in
-          rw (within-after (0, column + 1) x (omega arith) after)
-          (sym (get_or-append_right (blank_line (take (column + 1) row)) (drop (column + 1) row) (column + 1) x shown_blank long after
-          ∙ get_or-drop (column + 1) row (x - (column + 1)) shown_blank ∙ ap (λ (i : ℕ). get_or row i shown_blank) place))
-    ]
+erased-cell ToEnd column x row h k = grind (arith, length-take, within-before, get_or_append_left, get_or-take, within-true, get_or-append_right, length-take-le, blank_line-cell)
+erased-cell FromStart column x row h k = grind (arith, length-map, length-take-le, within-true, get_or_append_left, blank_line-cell, within-after, get_or-append_right, get_or-drop)
 erased-cell All column x row h k = rw (within-true (0, length row) x (omega arith) k) (sym (blank_line-cell row x))
 
 pub filled-is : (how : Erase) (line column lines columns : ℕ) (old new : Picture) → HasSize lines columns old → HasSize lines columns new → line < lines → column < columns
@@ -104,16 +85,10 @@ abbrev pub lines_blanked : ℕ → ℕ → Picture → Picture
 lines_blanked first end picture = take first picture ++ map blank_line (take (end - first) (drop first picture)) ++ drop end picture
 
 pub lines_blanked-none : (first : ℕ) (picture : Picture) → picture ≡ lines_blanked first first picture
-lines_blanked-none first picture =
-    let nothing : first - first ≡ 0 = omega arith in
-    rw nothing (rw append-nil (sym (take-append-drop first picture)))
+lines_blanked-none first picture = grind (arith, append-nil, take-append-drop)
 
 length-prefix : (first i : ℕ) (picture : Picture) → first ≤ i → i < length picture → length (take first picture ++ map blank_line (take (i - first) (drop first picture))) ≡ i
-length-prefix first i picture h k =
-    let prefix = length-take-le first picture (omega arith) in
-    let back = length-map (take (i - first) (drop first picture)) blank_line in
-    let some = length-take-le (i - first) (drop first picture) (omega (arith, length-drop first picture)) in
-    omega (arith, length-append (take first picture) (map blank_line (take (i - first) (drop first picture))))
+length-prefix first i picture h k = grind (arith, length-take-le, length-map, length-drop, length-append)
 
 pub lines_blanked-more : (first i : ℕ) (picture old : Picture) → first ≤ i → i < length old → picture ≡ lines_blanked first i old → erased_at All (i, 0) picture ≡ lines_blanked first (i + 1) old
 lines_blanked-more first i picture old h k is =

@@ -1,17 +1,11 @@
 -- What a stream reaches, and where it fails.
-use Rattle.std.proofs.Common.{◌≡◌, ℕ, List, [], length, Option, Some, ap, arith, sym, ◌∙◌, subst}
-use Rattle.ecma.specs.Items.{Item}
-use Rattle.ecma.specs.Terminals.{Terminal, effects}
+use Rattle.std.proofs.Common.{◌≡◌, ℕ, List, [], length, arith, subst}
+use Rattle.ecma.specs.Terminals.{Terminal}
 use Rattle.ecma.specs.Streams.{FailsAt, IsInProfile, Reaches}
 use Rattle.ecma.proofs.Unique.{Splits-same}
 
 pub Reaches-unique : (stream : List ℕ) (offset : ℕ) (t u v : Terminal) → Reaches stream t offset u → Reaches stream t offset v → u ≡ v
-Reaches-unique stream offset t u v h k =
-    let one = h.at in
-    let other = k.at in
-    let same = Splits-same stream h.items k.items h.rest k.rest h.splits k.splits (omega arith) in
-    let both : ◌≡◌ {A = Option Terminal} (Some u) (Some v) = sym h.have_effect ∙ ap (λ (items : List Item). effects items t) same ∙ k.have_effect in
-    cc
+Reaches-unique stream offset t u v h k = grind (arith, Splits-same)
 
 pub FailsAt-offset : (stream : List ℕ) (offset other : ℕ) (t u v : Terminal) → FailsAt stream t offset u → FailsAt stream t other v → offset ≡ other
 FailsAt-offset stream offset other t u v h k =

@@ -42,26 +42,12 @@ MayPrecede-finished (Unfinished begun) bytes h = absurd h
 -- an escape, or nothing, may follow any items
 pub Splits-then_escape : (bytes : List ℕ) (items : List Item) (rest more : List ℕ) → Splits bytes items rest → EndsOrEscapes more → Splits (bytes ++ more) items (rest ++ more)
 Splits-then_escape bytes [] rest more h there = ap (λ (prefix : List ℕ). prefix ++ more) h
-Splits-then_escape bytes (item ∷ items) rest more h there = (
-  h.0 ++ more,
-  ap (λ (prefix : List ℕ). prefix ++ more) h.1
-      ∙ append_assoc (bytes_of item) h.0 more,
-  h.2,
-  MayPrecede-escape item h.0 more h.3 there,
-  Splits-then_escape h.0 items rest more h.4 there,
-)
+Splits-then_escape bytes (item ∷ items) rest more h there = grind (arith, append_assoc, MayPrecede-escape, (Splits-then_escape h.0 items rest more h.4 there))
 
 -- anything may follow finished items
 pub Splits-then : (bytes : List ℕ) (items : List Item) (rest more : List ℕ) → Splits bytes items rest → AllByRecursion IsFinished items → Splits (bytes ++ more) items (rest ++ more)
 Splits-then bytes [] rest more h finished = ap (λ (prefix : List ℕ). prefix ++ more) h
-Splits-then bytes (item ∷ items) rest more h finished = (
-  h.0 ++ more,
-  ap (λ (prefix : List ℕ). prefix ++ more) h.1 ∙ append_assoc (bytes_of item) h.0 more,
-  h.2,
-  MayPrecede-finished item
-      (h.0 ++ more) finished.0,
-  Splits-then h.0 items rest more h.4 finished.1,
-)
+Splits-then bytes (item ∷ items) rest more h finished = grind (arith, append_assoc, MayPrecede-finished, (Splits-then h.0 items rest more h.4 finished.1))
 
 pub Splits-append : (bytes : List ℕ) (items : List Item) (middle : List ℕ) (others : List Item) (rest : List ℕ) → Splits bytes items middle → Splits middle others rest
     → Splits bytes (items ++ others) rest
@@ -145,26 +131,11 @@ LeadsWithBreaks-in_profile_then stream more t u v h k = record {
 
 -- ---- repair: what begins with an escape goes on from anything that is in the profile
 
-no_rest : (rest : List ℕ) (n : ℕ) → n + length rest ≡ n → rest ≡ []
-no_rest [] n h = refl
-no_rest (byte ∷ rest) n h = absurd (omega arith)
-
--- a stream is in the profile where its end is reached
-pub InProfile-reaches : (stream : List ℕ) (t u : Terminal) → Reaches stream t (length stream) u → IsInProfile stream t u
-InProfile-reaches stream t u h = record {
-  items = h.items;
-  splits = subst (λ (rest : List ℕ). Splits stream h.items rest) (no_rest h.rest (length stream) h.at) h.splits;
-  have_effect = h.have_effect;
-}
-
 pub Reaches-in_profile : (stream : List ℕ) (t u : Terminal) → IsInProfile stream t u → Reaches stream t (length stream) u
 Reaches-in_profile stream t u h = record { items = h.items; rest = []; splits = h.splits; at = omega arith; have_effect = h.have_effect }
 
 pub Leads-in_profile : (stream : List ℕ) (t u : Terminal) → Leads stream t u → IsInProfile stream t u
 Leads-in_profile stream t u h = record { items = h.items; splits = h.splits; have_effect = h.have_effect }
-
-pub LeadsWithBreaks-leads : (stream : List ℕ) (t u : Terminal) → Leads stream t u → LeadsWithBreaks stream t u
-LeadsWithBreaks-leads stream t u h = record { items = h.items; splits = h.splits; ends_finished = EndsFinished-finished h.items h.finished; have_effect = h.have_effect }
 
 pub LeadsWithBreaks-in_profile : (stream : List ℕ) (t u : Terminal) → LeadsWithBreaks stream t u → IsInProfile stream t u
 LeadsWithBreaks-in_profile stream t u h = record { items = h.items; splits = h.splits; have_effect = h.have_effect }

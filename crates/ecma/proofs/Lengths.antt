@@ -1,5 +1,5 @@
 -- How many bytes a token has.
-use Rattle.std.proofs.Common.{◌≡◌, ℕ, ◌+◌, ◌*◌, ◌<◌, ◌≤◌, List, [], ◌∷◌, ◌++◌, length, ap, ◌∙◌, arith, length-append}
+use Rattle.std.proofs.Common.{◌≡◌, ℕ, ◌+◌, ◌*◌, ◌<◌, ◌≤◌, List, [], ◌∷◌, ◌++◌, length, arith, length-append}
 use Rattle.std.specs.Prelude.{decimal, if◌then◌else◌, Option, Some, None}
 use Rattle.std.specs.List.{AllByRecursion}
 use Rattle.std.proofs.lemmas.List.Concat.{flat_map-append}
@@ -21,8 +21,7 @@ length-cup line column few_lines few_columns =
 
 length-codes : (codes : List ℕ) → AllByRecursion (λ code. code < 10) codes → length (selection codes) ≤ 2 * length codes
 length-codes [] h = omega arith
-length-codes (code ∷ codes) h =
-    omega (arith, length-append (59 ∷ decimal code) (selection codes), length-decimal-le 1 code (omega arith) (omega arith) (omega (arith, h.0)), length-codes codes h.1)
+length-codes (code ∷ codes) h = grind (arith, length-append, length-decimal-le, (length-codes codes h.1))
 
 pub two_digits : (first number : ℕ) (text : List ℕ) → first ≤ 40 → number ≤ LAST_COLOUR → text ≡ decimal (first + number) → length text ≤ 2
 two_digits first number text few small is = rw is (length-decimal-le 2 (first + number) (omega arith) (omega arith) (omega arith))
@@ -42,30 +41,11 @@ selection-append a b = flat_map-append (λ code. 59 ∷ decimal code) a b
 -- what is sent of a rendition, part by part
 pub selection-codes_of : (rendition : Rendition) → selection (codes_of rendition)
     ≡ selection (codes_of_attributes rendition.attributes) ++ selection (code_of_colour first_foreground rendition.foreground) ++ selection (code_of_colour first_background rendition.background)
-selection-codes_of rendition =
-    let foreground = code_of_colour first_foreground rendition.foreground in
-    let background = code_of_colour first_background rendition.background in
-    selection-append (codes_of_attributes rendition.attributes ++ foreground) background
-    ∙ ap (λ (text : List ℕ). text ++ selection background) (selection-append (codes_of_attributes rendition.attributes) foreground)
+selection-codes_of rendition = grind (arith, selection-append)
 
 pub length-sgr : (rendition : Rendition) → IsRendition rendition → length (spelling (Sgr rendition)) ≤ 22
 unfolding spelling
-length-sgr rendition h =
-    let attributes = codes_of_attributes rendition.attributes in
-    let foreground = code_of_colour first_foreground rendition.foreground in
-    let background = code_of_colour first_background rendition.background in
-    let whole : length (selection (codes_of rendition)) ≡ length (selection attributes) + length (selection foreground) + length (selection background) =
-    ap (length {A = ℕ}) (selection-codes_of rendition)
-    ∙ omega (arith, length-append (selection attributes ++ selection foreground) (selection background), length-append (selection attributes) (selection foreground)) in
-    omega (
-      arith,
-      whole,
-      length-append (selection (codes_of rendition)) (109 ∷ []),
-      length-codes attributes (one_digit rendition.attributes h.of_the_six),
-      few_attributes rendition.attributes h.of_the_six,
-      length-colour first_foreground rendition.foreground (omega arith) h.foreground,
-      length-colour first_background rendition.background (omega arith) h.background,
-    )
+length-sgr rendition h = grind (arith, selection-codes_of, length-append, length-codes, one_digit, few_attributes, length-colour)
 
 -- a separator and two digits for each colour that isn't the default
 abbrev colour_room : Option ℕ → ℕ
@@ -78,38 +58,12 @@ length-colour_room first (Some number) few h =
     omega (arith, length-append (59 ∷ decimal (first + number)) [], length-decimal-le 2 (first + number) (omega arith) (omega arith) (omega arith))
 
 colours_room : (rendition : Rendition) → colour_room rendition.foreground + colour_room rendition.background ≤ (if has_colour rendition then 6 else 0)
-colours_room rendition =
-    elim rendition.foreground as (λ a. colour_room a + colour_room rendition.background ≤ (if has_colour (record rendition { foreground = a }) then 6 else 0)) [
-      | None ↦ elim rendition.background as (λ b. 0 + colour_room b ≤ (if has_colour (record rendition { foreground = None; background = b }) then 6 else 0)) [
-        | None ↦ omega arith
-        | Some b ↦ omega arith
-      ]
-      | Some a ↦ elim rendition.background as (λ b. 3 + colour_room b ≤ (if has_colour (record rendition { foreground = Some a; background = b }) then 6 else 0)) [
-        | None ↦ omega arith
-        | Some b ↦ omega arith
-      ]
-    ]
+colours_room rendition = grind arith
 
 -- a selection has at most 16 bytes, and 6 more where there is a colour
 pub length-selection : (rendition : Rendition) → IsRendition rendition → length (spelling (Sgr rendition)) ≤ 16 + (if has_colour rendition then 6 else 0)
 unfolding spelling
-length-selection rendition h =
-    let attributes = codes_of_attributes rendition.attributes in
-    let foreground = code_of_colour first_foreground rendition.foreground in
-    let background = code_of_colour first_background rendition.background in
-    let whole : length (selection (codes_of rendition)) ≡ length (selection attributes) + length (selection foreground) + length (selection background) =
-    ap (length {A = ℕ}) (selection-codes_of rendition)
-    ∙ omega (arith, length-append (selection attributes ++ selection foreground) (selection background), length-append (selection attributes) (selection foreground)) in
-    omega (
-      arith,
-      whole,
-      length-append (selection (codes_of rendition)) (109 ∷ []),
-      length-codes attributes (one_digit rendition.attributes h.of_the_six),
-      few_attributes rendition.attributes h.of_the_six,
-      length-colour_room first_foreground rendition.foreground (omega arith) h.foreground,
-      length-colour_room first_background rendition.background (omega arith) h.background,
-      colours_room rendition,
-    )
+length-selection rendition h = grind (arith, selection-codes_of, length-append, length-codes, one_digit, few_attributes, length-colour_room, colours_room)
 
 length-erasing : (how : Erase) → length (erasure_spelling how) ≤ 1
 length-erasing ToEnd = omega arith

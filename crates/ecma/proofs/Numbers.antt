@@ -59,13 +59,7 @@ abbrev only : ℕ → Rendition
 only bits = record { attributes = bits; foreground = None; background = None }
 
 only_from : (rendition : Rendition) (bits : ℕ) → has_only rendition bits ≡ true → rendition ≡ only bits
-only_from rendition bits h =
-    let parts = and_parts (rendition.attributes == bits) (is_none rendition.foreground && is_none rendition.background) h in
-    let colours = and_parts (is_none rendition.foreground) (is_none rendition.background) parts.1 in
-    let attributes : rendition.attributes ≡ bits = eqb-true rendition.attributes bits parts.0 in
-    let foreground = none_from_is_none rendition.foreground colours.0 in
-    let background = none_from_is_none rendition.background colours.1 in
-    λ i. record { attributes = attributes i; foreground = foreground i; background = background i }
+only_from rendition bits h = grind (arith, and_parts, eqb-true, none_from_is_none)
 
 some_from_selected : (o : Option Rendition) (bits : ℕ) → bits < 64 → unwrap_or o unknown ≡ only bits → o ≡ Some (only bits)
 unfolding unknown
@@ -126,16 +120,7 @@ select_all-append [] more rendition = refl
 select_all-append (code ∷ codes) more rendition = then_append codes more (select code rendition) (λ next. select_all-append codes more next)
 
 pub select_all-codes_of : (rendition : Rendition) → IsRendition rendition → select_all (codes_of rendition) no_rendition ≡ Some rendition
-select_all-codes_of rendition h =
-    let bits = rendition.attributes in
-    let foreground = code_of_colour first_foreground rendition.foreground in
-    let background = code_of_colour first_background rendition.background in
-    select_all-append (codes_of_attributes bits ++ foreground) background no_rendition
-    ∙ ap (option_and_then (select_all background))
-    (select_all-append (codes_of_attributes bits) foreground no_rendition
-    ∙ ap (option_and_then (select_all foreground)) (select_all-attributes bits h.of_the_six)
-    ∙ foreground-selected rendition.foreground bits h.foreground)
-    ∙ background-selected rendition.foreground rendition.background bits h.background
+select_all-codes_of rendition h = grind (arith, select_all-append, select_all-attributes, foreground-selected, background-selected)
 
 pub each-append : (P : ℕ → Type 0) (a b : List ℕ) → AllByRecursion P a → AllByRecursion P b → AllByRecursion P (a ++ b)
 each-append P [] b h k = k
@@ -161,14 +146,4 @@ length-colour first None = omega arith
 length-colour first (Some number) = omega arith
 
 pub codes_few : (rendition : Rendition) → IsRendition rendition → length (codes_of rendition) < 9
-codes_few rendition h =
-    let foreground = code_of_colour first_foreground rendition.foreground in
-    let background = code_of_colour first_background rendition.background in
-    omega (
-      arith,
-      few_attributes rendition.attributes h.of_the_six,
-      length-append (codes_of_attributes rendition.attributes ++ foreground) background,
-      length-append (codes_of_attributes rendition.attributes) foreground,
-      length-colour first_foreground rendition.foreground,
-      length-colour first_background rendition.background,
-    )
+codes_few rendition h = grind (arith, few_attributes, length-append, length-colour)

@@ -1,10 +1,8 @@
 -- What a reader has after one more byte.
-use Rattle.std.proofs.Common.{◌≡◌, ℕ, ◌+◌, ◌*◌, ◌-◌, ◌<◌, ◌≤◌, Bool, true, false, List, [], ◌∷◌, ◌++◌, length, map, Option, Some, None, inl, inr, refl, sym, ap, ◌∙◌, subst, arith, append_assoc}
-use Rattle.std.proofs.Common.{length-append}
+use Rattle.std.proofs.Common.{◌≡◌, ℕ, ◌+◌, ◌<◌, ◌≤◌, Bool, true, false, List, [], ◌∷◌, ◌++◌, length, map, Option, Some, None, inl, inr, refl, sym, ap, ◌∙◌, subst, arith, append_assoc, length-append}
 use Rattle.std.specs.Prelude.{◌⊎◌, if◌then◌else◌, IsTrue, codes}
 use Rattle.std.specs.List.{AllByRecursion, join_with_byte}
 use Rattle.std.specs.Option.{option_and_then}
-use Rattle.std.specs.Str.Parse.{digits_value}
 use Rattle.std.proofs.lemmas.Bool.{cases_eq, cases_lt, ne_eqb}
 use Rattle.std.proofs.lemmas.List.{append-nil, length-map, map_push}
 use Rattle.std.proofs.lemmas.Int.Digits.{digits_value_push}
@@ -55,9 +53,7 @@ begun-in_profile unfinished t h = record { items = Unfinished unfinished ∷ [];
 
 pub in_item-in_profile : (stream : List ℕ) (first : Terminal) (reader : Reader) (unfinished : List ℕ) → InItem stream first reader unfinished → IsBeginning unfinished → EndsOrEscapes unfinished
     → IsInProfile stream first reader.terminal
-in_item-in_profile stream first reader unfinished h begins there =
-    subst (λ (bytes : List ℕ). IsInProfile bytes first reader.terminal) (sym h.whole)
-    (InProfile-append h.prefix unfinished first reader.terminal reader.terminal h.in_profile (begun-in_profile unfinished reader.terminal begins) there)
+in_item-in_profile stream first reader unfinished h begins there = grind (arith, InProfile-append, begun-in_profile)
 
 -- ---- parameters one after another
 
@@ -73,51 +69,22 @@ each-last : {A : Type 0} (P : A → Type 0) (xs : List A) (x : A) → AllByRecur
 each-last P [] x h = h.0
 each-last P (y ∷ xs) x h = each-last P xs x h.1
 
-abbrev IsShort : List ℕ → Type 0
-IsShort digits = length digits ≤ 3
-
-abbrev AllDigits : List ℕ → Type 0
-AllDigits digits = AllByRecursion IsDigit digits
-
 with-digit : (ended : List (List ℕ)) (current : List ℕ) (byte : ℕ) → AreParameters (ended ++ current ∷ []) → IsDigit byte → length current < 3 → AreParameters (ended ++ (current ++ byte ∷ []) ∷ [])
-with-digit ended current byte h digit few = record {
-  one = omega (arith, length-append ended ((current ++ byte ∷ []) ∷ []));
-  most = omega (arith, h.most, length-append ended ((current ++ byte ∷ []) ∷ []), length-append ended (current ∷ []));
-  digits = each-push AllDigits ended (current ++ byte ∷ []) (each-prefix AllDigits ended current h.digits) (each-push IsDigit current byte (each-last AllDigits ended current h.digits) digit);
-  short = each-push IsShort ended (current ++ byte ∷ []) (each-prefix IsShort ended current h.short) (omega (arith, length-append current (byte ∷ [])));
-}
+with-digit ended current byte h digit few = grind (arith, length-append, each-push, each-prefix, each-last)
 
 with-next : (parameters : List (List ℕ)) → AreParameters parameters → length parameters < 16 → AreParameters (parameters ++ [] ∷ [])
-with-next parameters h few = record {
-  one = omega (arith, length-append parameters ([] ∷ []));
-  most = omega (arith, length-append parameters ([] ∷ []));
-  digits = each-push AllDigits parameters [] h.digits tt;
-  short = each-push IsShort parameters [] h.short (omega arith);
-}
+with-next parameters h few = grind (arith, length-append, each-push)
 
 join-longer : (ended : List (List ℕ)) (current more : List ℕ) → join_with_byte 59 (ended ++ current ∷ []) ++ more ≡ join_with_byte 59 (ended ++ (current ++ more) ∷ [])
 join-longer [] current more = refl
-join-longer (a ∷ ended) current more =
-    ap (λ (bytes : List ℕ). bytes ++ more) (join-more a ended current)
-    ∙ append_assoc a (59 ∷ join_with_byte 59 (ended ++ current ∷ [])) more
-    ∙ ap (λ (bytes : List ℕ). a ++ 59 ∷ bytes) (join-longer ended current more)
-    ∙ sym (join-more a ended (current ++ more))
+join-longer (a ∷ ended) current more = grind (arith, join-more, append_assoc, (join-longer ended current more))
 
 join-next : (ended : List (List ℕ)) (current : List ℕ) → join_with_byte 59 (ended ++ current ∷ []) ++ 59 ∷ [] ≡ join_with_byte 59 ((ended ++ current ∷ []) ++ [] ∷ [])
 join-next [] current = refl
-join-next (a ∷ ended) current =
-    ap (λ (bytes : List ℕ). bytes ++ 59 ∷ []) (join-more a ended current)
-    ∙ append_assoc a (59 ∷ join_with_byte 59 (ended ++ current ∷ [])) (59 ∷ [])
-    ∙ ap (λ (bytes : List ℕ). a ++ 59 ∷ bytes) (join-next ended current)
-    ∙ sym (join-more a (ended ++ current ∷ []) [])
+join-next (a ∷ ended) current = grind (arith, join-more, append_assoc, (join-next ended current))
 
 parameter_of-digit : (digits : List ℕ) (byte : ℕ) → IsDigit byte → longer (parameter_of digits) byte ≡ parameter_of (digits ++ byte ∷ [])
-parameter_of-digit digits byte h =
-    let more = digits_value_push 10 digits byte in
-    let digit = digit_value_digit byte (h.0, h.1) in
-    let value : digits_value 10 digits * 10 + (byte - 48) ≡ digits_value 10 (digits ++ byte ∷ []) = omega arith in
-    let long : length digits + 1 ≡ length (digits ++ byte ∷ []) = sym (length-append digits (byte ∷ [])) in
-    λ i. record { value = value i; digits = long i }
+parameter_of-digit digits byte h = grind (arith, digits_value_push, digit_value_digit, length-append)
 
 -- ---- final bytes
 
@@ -158,25 +125,13 @@ reader_of terminal state ended current read start = record { terminal = terminal
 goes-on : (stream : List ℕ) (first t : Terminal) (state next : State) (ended more : List Parameter) (current last : Parameter) (at start byte : ℕ) (unfinished longer : List ℕ)
     → InItem stream first (reader_of t state ended current at start) unfinished → unfinished ++ byte ∷ [] ≡ longer
     → InItem (stream ++ byte ∷ []) first (reader_of t next more last (saturating_u64 (at + 1)) start) longer
-goes-on stream first t state next ended more current last at start byte unfinished longer h e = record {
-  prefix = h.prefix;
-  in_profile = h.in_profile;
-  whole = ap (λ (bytes : List ℕ). bytes ++ byte ∷ []) h.whole ∙ append_assoc h.prefix unfinished (byte ∷ []) ∙ ap (λ (bytes : List ℕ). h.prefix ++ bytes) e;
-  read = next-read stream byte at h.read;
-  start = h.start;
-}
+goes-on stream first t state next ended more current last at start byte unfinished longer h e = grind (arith, append_assoc, next-read)
 
 -- an escape breaks it off
 broken-off : (stream : List ℕ) (first t : Terminal) (state : State) (ended : List Parameter) (current : Parameter) (at start : ℕ) (unfinished : List ℕ)
     → InItem stream first (reader_of t state ended current at start) unfinished → IsBeginning unfinished → EndsOrEscapes unfinished
     → InItem (stream ++ 27 ∷ []) first (reader_of t Escape ended current (saturating_u64 (at + 1)) at) (escape ∷ [])
-broken-off stream first t state ended current at start unfinished h begins there = record {
-  prefix = stream;
-  in_profile = in_item-in_profile stream first (reader_of t state ended current at start) unfinished h begins there;
-  whole = refl;
-  read = next-read stream 27 at h.read;
-  start = h.read;
-}
+broken-off stream first t state ended current at start unfinished h begins there = grind (arith, in_item-in_profile, next-read)
 
 -- the byte leaves no item that has an effect
 fails-there : (stream : List ℕ) (first t : Terminal) (state : State) (ended : List Parameter) (current : Parameter) (at start byte : ℕ) (unfinished : List ℕ)
@@ -238,9 +193,7 @@ module _ (t : Terminal) (ended : List Parameter) (current : Parameter) (at start
   -- ---- within parameters
 
   pub broken-follows : Follows (27 ∷ []) (reader_of t Parameters ended current at start) (reader_of t Escape ended current (saturating_u64 (at + 1)) at)
-  broken-follows stream first h =
-      broken-off stream first t Parameters ended current at start (introducer ++ join_with_byte separator (h.ended ++ h.current ∷ [])) h.in_item
-      (sequence-begins (h.ended ++ h.current ∷ []) h.well_formed) refl
+  broken-follows stream first h = grind (arith, broken-off, sequence-begins)
 
   pub digit-follows : (byte : ℕ) → IsDigit byte → current.digits < 3 → Follows (byte ∷ []) (reader_of t Parameters ended current at start)
       (reader_of t Parameters ended (longer current byte) (saturating_u64 (at + 1)) start)
@@ -289,9 +242,7 @@ module _ (t : Terminal) (ended : List Parameter) (current : Parameter) (at start
       }
 
   pub too_many-follows : 15 ≤ length ended → Follows (59 ∷ []) (reader_of t Parameters ended current at start) (reader_of t Failed ended current (saturating_u64 (at + 1)) start)
-  too_many-follows full stream first h =
-      let kept : length ended ≡ length h.ended = ap length h.ended_kept ∙ length-map h.ended parameter_of in
-      fails-here stream first 59 h (λ e. omega arith) (no-more_parameters h.ended h.current h.well_formed (omega arith)) (λ function e. absurd (final-no_separator function e))
+  too_many-follows full stream first h = grind (arith, length-map, fails-here, no-more_parameters, final-no_separator)
 
   -- what a byte does as a final one
   abbrev pub Ends : ℕ → Option Terminal → Type 0
@@ -322,9 +273,7 @@ module _ (t : Terminal) (ended : List Parameter) (current : Parameter) (at start
   pub Ends-along : (v : Terminal) (others : List Parameter) (last : Parameter) (byte : ℕ) (after : Option Terminal)
       → reader_of v Parameters others last at start ≡ reader_of t Parameters ended current at start
       → ((digits : List (List ℕ)) → map parameter_of digits ≡ others ++ last ∷ [] → after ≡ option_and_then (λ function. effect (Control function digits) v) (function_of byte)) → Ends byte after
-  Ends-along v others last byte after same h =
-      subst (λ (reader : Reader). (digits : List (List ℕ)) → map parameter_of digits ≡ reader.ended ++ reader.current ∷ []
-      → after ≡ option_and_then (λ function. effect (Control function digits) reader.terminal) (function_of byte)) same h
+  Ends-along v others last byte after same h = grind arith
 
   pub ending-follows : (u : Terminal) (byte : ℕ) → Ends byte (Some u)
       → Follows (byte ∷ []) (reader_of t Parameters ended current at start) (reader_of u Text ended current (saturating_u64 (at + 1)) start)
@@ -369,17 +318,7 @@ failed-follows old new bytes old-is new-is same-terminal same-start stream first
 
 pub Follows-from : (old new after : Reader) (state : State) (at byte is : ℕ) → old.state ≡ state → new ≡ after → byte ≡ is
     → Follows (is ∷ []) (reader_of old.terminal state old.ended old.current at old.start) after → Follows (byte ∷ []) (record old { read = at }) new
-Follows-from old new after state at byte is known to same h =
-    subst (λ (there : State). Follows (byte ∷ []) (reader_of old.terminal there old.ended old.current at old.start) new) (sym known)
-    (subst (λ (reader : Reader). Follows (byte ∷ []) (reader_of old.terminal state old.ended old.current at old.start) reader) (sym to)
-    (subst (λ (b : ℕ). Follows (b ∷ []) (reader_of old.terminal state old.ended old.current at old.start) after) (sym same) h))
-
-pub Follows-nothing : (reader : Reader) → Follows [] reader reader
-Follows-nothing reader stream first h = subst (λ (bytes : List ℕ). HasReadIn reader.state bytes first reader) (sym (append-nil stream)) h
-
-pub Follows-append : (bytes more : List ℕ) (old middle new : Reader) → Follows bytes old middle → Follows more middle new → Follows (bytes ++ more) old new
-Follows-append bytes more old middle new h k stream first read =
-    subst (λ (whole : List ℕ). HasReadIn new.state whole first new) (append_assoc stream bytes more) (k (stream ++ bytes) first (h stream first read))
+Follows-from old new after state at byte is known to same h = grind arith
 
 -- ---- what a reader answers
 

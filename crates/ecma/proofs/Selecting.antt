@@ -25,9 +25,7 @@ colours_of rendition = record { foreground = rendition.foreground; background = 
 made-with : (rendition made : Rendition) (bits attributes : ℕ) (pair : ColourPair) → attributes < 64 → bits ≡ attributes → pair ≡ colours_of rendition
     → made ≡ rendition_with pair (valid_attributes bits)
     → made ≡ record rendition { attributes = attributes }
-made-with rendition made bits attributes pair few same colours is =
-    let kept = ap valid_attributes same ∙ valid_attributes-small attributes few in
-    is ∙ ap (λ (p : ColourPair). rendition_with p (valid_attributes bits)) colours ∙ ap (λ (n : ℕ). rendition_with (colours_of rendition) n) kept
+made-with rendition made bits attributes pair few same colours is = grind (arith, valid_attributes-small)
 
 pub with_on-made : (rendition made : Rendition) (old others bits : ℕ) (pair : ColourPair) → rendition.attributes < 64 → others < 64 → old ≡ rendition.attributes → bits ≡ bit_or old others
     → pair ≡ colours_of rendition
@@ -50,10 +48,7 @@ number_of-parameter_of default (digit ∷ digits) = rw (ne_eqb (length (digit �
 
 numbers-kept : (digits : List (List ℕ)) → map (number_or 0) digits ≡ map (number_of 0) (map parameter_of digits)
 numbers-kept [] = refl
-numbers-kept (first ∷ digits) =
-    let here = number_of-parameter_of 0 first in
-    let there : map (number_or 0) digits ≡ map (number_of 0) (map parameter_of digits) = numbers-kept digits in
-    cc
+numbers-kept (first ∷ digits) = grind (arith, number_of-parameter_of, (numbers-kept digits))
 
 -- what the parameters select
 abbrev pub selected_by : List Parameter → Rendition → Option Rendition
@@ -61,8 +56,7 @@ selected_by parameters rendition = select_all (map (number_of 0) parameters) ren
 
 pub select_all-kept : (digits : List (List ℕ)) (parameters : List Parameter) (rendition : Rendition) → map parameter_of digits ≡ parameters
     → select_all (map (number_or 0) digits) rendition ≡ selected_by parameters rendition
-select_all-kept digits parameters rendition e =
-    ap (λ (codes : List ℕ). select_all codes rendition) (numbers-kept digits) ∙ ap (λ (kept : List Parameter). selected_by kept rendition) e
+select_all-kept digits parameters rendition e = grind (arith, numbers-kept)
 
 then-nothing : (o : Option Rendition) → option_and_then (select_all []) o ≡ o
 then-nothing None = refl
@@ -70,11 +64,7 @@ then-nothing (Some rendition) = refl
 
 selected_by-push : (parameters : List Parameter) (last : Parameter) (rendition selected : Rendition) → selected_by parameters rendition ≡ Some selected
     → selected_by (parameters ++ last ∷ []) rendition ≡ select (number_of 0 last) selected
-selected_by-push parameters last rendition selected e =
-    ap (λ (codes : List ℕ). select_all codes rendition) (map_push (number_of 0) parameters last)
-    ∙ select_all-append (map (number_of 0) parameters) (number_of 0 last ∷ []) rendition
-    ∙ ap (option_and_then (select_all (number_of 0 last ∷ []))) e
-    ∙ then-nothing (select (number_of 0 last) selected)
+selected_by-push parameters last rendition selected e = grind (arith, map_push, select_all-append, then-nothing)
 
 pub selected-next : (ended : List Parameter) (i : ℕ) (parameter : Parameter) (rendition selected : Rendition) → i < length ended → parameter ≡ get_or ended i parameter
     → selected_by (take i ended) rendition ≡ Some selected

@@ -50,14 +50,10 @@ length-erased_line All column row = length-map row (λ _. shown_blank)
 
 size-row : (lines columns : ℕ) (picture : Picture) (line : ℕ) (row : List Shown) → HasSize lines columns picture → length row ≡ length (line_of picture line)
     → HasSize lines columns (set picture line row)
-size-row lines columns picture line row h e = record {
-  height = length-set picture line row ∙ h.height;
-  width = wide-set columns picture line row h.width (λ inside. e ∙ line-wide columns picture line h.width inside);
-}
+size-row lines columns picture line row h e = grind (arith, length-set, wide-set, line-wide)
 
 pub size-erased_at : (lines columns : ℕ) (how : Erase) (place : Place) (picture : Picture) → HasSize lines columns picture → HasSize lines columns (erased_at how place picture)
-size-erased_at lines columns how place picture h = size-row lines columns picture place.0 (erased_line how place.1 (line_of picture place.0)) h
-    (length-erased_line how place.1 (line_of picture place.0))
+size-erased_at lines columns how place picture h = search (arith, size-row, length-erased_line)
 
 size-erased_page : (lines columns : ℕ) (how : Erase) (place : Place) (picture : Picture) → HasSize lines columns picture → HasSize lines columns (erased_page how place picture)
 size-erased_page lines columns ToEnd place picture h =

@@ -14,10 +14,7 @@ pub record NoEffect (bytes : List ℕ) (t : Terminal) : Type 0 where
 
 reaches_less : (rest : List ℕ) (more : List Item) (left : List ℕ) (last u : Terminal) → NoEffect rest last → Splits rest more left → effects more last ≡ Some u → length left < length rest → ⊥
 reaches_less rest [] left last u none h e less = let same : length rest ≡ length left = ap length h in omega arith
-reaches_less rest (item ∷ more) left last u none h e less =
-    let first = effects_first item more last u e in
-    let never : ◌≡◌ {A = Option Terminal} None (Some first.0) = sym (none.each item h.0 h.1 h.2 h.3) ∙ first.1 in
-    absurd cc
+reaches_less rest (item ∷ more) left last u none h e less = grind (arith, effects_first)
 
 -- the stream fails at what is left of it
 pub FailsAt-rest : (stream : List ℕ) (items : List Item) (rest : List ℕ) (offset : ℕ) (first last : Terminal) → Splits stream items rest → effects items first ≡ Some last

@@ -1,5 +1,5 @@
 -- The spelling of a token is one item, with the token's effect.
-use Rattle.std.proofs.Common.{◌≡◌, ℕ, ◌+◌, ◌-◌, ◌<◌, ◌≤◌, List, [], ◌∷◌, ◌++◌, length, map, Some, refl, sym, ap, arith}
+use Rattle.std.proofs.Common.{◌≡◌, ℕ, ◌+◌, ◌<◌, ◌≤◌, List, [], ◌∷◌, ◌++◌, length, map, Some, refl, sym, ap, arith}
 use Rattle.std.proofs.lemmas.List.{length-map, append-nil}
 use Rattle.std.specs.Prelude.{decimal}
 use Rattle.std.specs.List.{AllByRecursion, join_with_byte, flat_map}
@@ -26,31 +26,20 @@ joined-decimals first (code ∷ codes) = ap (λ (rest : List ℕ). first ++ 59 �
 
 numbers-decimal : (codes : List ℕ) → AreSmall codes → map (number_or 0) (map decimal codes) ≡ codes
 numbers-decimal [] h = refl
-numbers-decimal (code ∷ codes) h =
-    let lt : code < 100 = h.0 in
-    let first : number_or 0 (decimal code) ≡ code = number_or-decimal 0 code (omega arith) in
-    let others : map (number_or 0) (map decimal codes) ≡ codes = numbers-decimal codes h.1 in
-    cc
+numbers-decimal (code ∷ codes) h = grind (arith, number_or-decimal, (numbers-decimal codes h.1))
 
 digits-decimals : (codes : List ℕ) → AreSmall codes → AllByRecursion (AllByRecursion IsDigit) (map decimal codes)
 digits-decimals [] h = tt
-digits-decimals (code ∷ codes) h =
-    let lt : code < 100 = h.0 in
-    (are_digits-decimal code (omega arith), digits-decimals codes h.1)
+digits-decimals (code ∷ codes) h = grind (arith, are_digits-decimal, (digits-decimals codes h.1))
 
 short-decimals : (codes : List ℕ) → AreSmall codes → AllByRecursion (λ digits. length digits ≤ 3) (map decimal codes)
 short-decimals [] h = tt
-short-decimals (code ∷ codes) h =
-    let lt : code < 100 = h.0 in
-    (length-decimal-le 3 code (omega arith) (omega arith) (omega arith), short-decimals codes h.1)
+short-decimals (code ∷ codes) h = grind (arith, length-decimal-le, (short-decimals codes h.1))
 
 -- ---- each kind of token
 
 place_from_one-suc : (line column : ℕ) → place_from_one (line + 1) (column + 1) ≡ Some (line, column)
-place_from_one-suc line column =
-    let line_is : line + 1 - 1 ≡ line = omega arith in
-    let column_is : column + 1 - 1 ≡ column = omega arith in
-    rw (lt-ltb 0 (line + 1) (omega arith), lt-ltb 0 (column + 1) (omega arith), line_is, column_is) refl
+place_from_one-suc line column = grind (arith, lt-ltb)
 
 cup : (line column : ℕ) → IsToken (Cup line column) → IsItemOf (spelling (Cup line column)) (Cup line column)
 unfolding spelling

@@ -1,10 +1,9 @@
 -- A stream is one sequence of items at most, and so is each prefix of it.
 use Rattle.std.proofs.Common.{◌≡◌, ℕ, ◌<◌, ◌≤◌, List, [], ◌∷◌, ◌++◌, length, refl, sym, ap, ◌∙◌, subst, arith, append_assoc, length-append, inl, inr}
-use Rattle.std.specs.Prelude.{◌⊎◌}
+use Rattle.std.specs.Prelude.{◌⊎◌, ⊤}
 use Rattle.ecma.proofs.Joining.{bytes_of_some}
 use Rattle.ecma.proofs.Printing.{from_space}
 use Rattle.std.proofs.lemmas.List.{append-nil}
-use Rattle.std.specs.Prelude.{⊤}
 use Rattle.std.specs.List.{AllByRecursion, join_with_byte}
 use Rattle.ecma.specs.Items.{Function, CUP, ED, EL, SGR, Item, Printable, Control, Unfinished, IsDigit, AreParameters, IsBeginning, IsItem, MayPrecede, EndsOrEscapes, Splits, final_byte, bytes_of}
 
@@ -50,8 +49,7 @@ digits-inner (digit ∷ digits) h = ((h.0.0, omega (arith, h.0.1)), digits-inner
 pub joined-inner : (parameters : List (List ℕ)) → AllByRecursion (AllByRecursion IsDigit) parameters → AllByRecursion IsInner (join_with_byte 59 parameters)
 joined-inner [] h = tt
 joined-inner (digits ∷ []) h = digits-inner digits h.0
-joined-inner (digits ∷ next ∷ parameters) h = All-append digits (59 ∷ join_with_byte 59 (next ∷ parameters)) (digits-inner digits h.0)
-    ((omega arith, omega arith), joined-inner (next ∷ parameters) h.1)
+joined-inner (digits ∷ next ∷ parameters) h = grind (arith, All-append, digits-inner, (joined-inner (next ∷ parameters) h.1))
 
 pub final-stops : (function : Function) (bytes : List ℕ) → Stops IsInner (final_byte function ∷ bytes)
 final-stops CUP bytes = λ h. omega (arith, h.1)
@@ -150,9 +148,6 @@ pub record SameItem (i j : Item) (f g : List ℕ) : Type 0 where
   pub item : i ≡ j
   pub rest : f ≡ g
 
-turned : {i j : Item} {f g : List ℕ} → SameItem i j f g → SameItem j i g f
-turned h = record { item = sym h.item; rest = sym h.rest }
-
 control-control : (a : Function) (ps : List (List ℕ)) (b : Function) (qs : List (List ℕ)) (f g : List ℕ) → AreParameters ps → AreParameters qs
     → (join_with_byte 59 ps ++ final_byte a ∷ []) ++ f ≡ (join_with_byte 59 qs ++ final_byte b ∷ []) ++ g → SameItem (Control a ps) (Control b qs) f g
 control-control a [] b qs f g h k e = absurd (omega (arith, h.one))
@@ -201,20 +196,15 @@ unfinished-unfinished p q f g h k (inr a) (inr b) e =
     record { item = cc; rest = both.second }
 
 printable-unfinished : (byte : ℕ) (begun f g : List ℕ) → 32 ≤ byte → (begun ≡ 27 ∷ []) ⊎ Inner begun → byte ∷ f ≡ begun ++ g → ⊥
-printable-unfinished byte begun f g h (inl a) e =
-    let whole : byte ∷ f ≡ 27 ∷ g = e ∙ ap (λ (prefix : List ℕ). prefix ++ g) a in
-    let same : byte ≡ 27 = cc in omega arith
-printable-unfinished byte begun f g h (inr a) e =
-    let whole : byte ∷ f ≡ 27 ∷ 91 ∷ (a.inner ++ g) = e ∙ ap (λ (prefix : List ℕ). prefix ++ g) a.is in
-    let same : byte ≡ 27 = cc in omega arith
+printable-unfinished byte begun f g h (inl a) e = grind arith
+printable-unfinished byte begun f g h (inr a) e = grind arith
 
 pub same-first : (i j : Item) (f g : List ℕ) → IsItem i → IsItem j → MayPrecede i f → MayPrecede j g → bytes_of i ++ f ≡ bytes_of j ++ g → SameItem i j f g
 same-first (Printable a) (Printable b) f g h k p q e = record { item = cc; rest = cc }
 same-first (Printable a) (Control b qs) f g h k p q e = absurd (let same : a ≡ 27 = cc in omega (arith, from_space a h))
 same-first (Printable a) (Unfinished b) f g h k p q e = absurd (printable-unfinished a b f g (from_space a h) (shape-of b k) e)
 same-first (Control a ps) (Printable b) f g h k p q e = absurd (let same : b ≡ 27 = cc in omega (arith, from_space b k))
-same-first (Control a ps) (Control b qs) f g h k p q e =
-    let tail : (join_with_byte 59 ps ++ final_byte a ∷ []) ++ f ≡ (join_with_byte 59 qs ++ final_byte b ∷ []) ++ g = cc in control-control a ps b qs f g h k tail
+same-first (Control a ps) (Control b qs) f g h k p q e = grind (arith, control-control)
 same-first (Control a ps) (Unfinished b) f g h k p q e = absurd (control-unfinished a ps b f g h q (shape-of b k) e)
 same-first (Unfinished a) (Printable b) f g h k p q e = absurd (printable-unfinished b a g f (from_space b k) (shape-of a h) (sym e))
 same-first (Unfinished a) (Control b qs) f g h k p q e = absurd (control-unfinished b qs a g f k p (shape-of a h) (sym e))
@@ -246,10 +236,7 @@ Splits-prefix bytes (item ∷ items) (other ∷ others) rest left h k less =
     (after.0, cc, after.2)
 
 pub Splits-same : (bytes : List ℕ) (items others : List Item) (rest left : List ℕ) → Splits bytes items rest → Splits bytes others left → length rest ≡ length left → items ≡ others
-Splits-same bytes items others rest left h k same =
-    let after = Splits-prefix bytes items others rest left h k (omega arith) in
-    let nothing = Splits-nothing rest after.0 left after.2 (omega arith) in
-    sym (after.1 ∙ ap (λ (more : List Item). items ++ more) nothing ∙ append-nil items)
+Splits-same bytes items others rest left h k same = grind (arith, Splits-prefix, rest, Splits-nothing, append-nil)
 
 pub Splits-unique : (bytes : List ℕ) (items others : List Item) → Splits bytes items [] → Splits bytes others [] → items ≡ others
 Splits-unique bytes items others h k = Splits-same bytes items others [] [] h k refl

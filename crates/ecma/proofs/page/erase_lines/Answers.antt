@@ -1,5 +1,5 @@
 -- `erase_lines`: lines of a picture, erased (`Erasing`); no effect changes the size of the picture (`Sizes`).
-use Rattle.std.proofs.Common.{◌<◌, ◌≡◌, ◌∙◌, ap, arith, length, refl, subst, sym}
+use Rattle.std.proofs.Common.{◌<◌, ◌∙◌, arith, length, refl, subst, sym}
 use Rattle.cell.specs.Pictures.{HasSize}
 use Rattle.ecma.specs.declared.token.Erase.TheVariants.{All}
 use Rattle.ecma.proofs.Erasing.{lines_blanked, lines_blanked-none, lines_blanked-more}
@@ -22,10 +22,7 @@ loop-line-preserved c =
     }
 
 pub erase_in_line-requires-clause-size : goal.erase_in_line-requires-clause-size
-erase_in_line-requires-clause-size c =
-    subst (λ lines. HasSize lines c.args.columns c.loop-line.picture) (sym c.loop-line.invariant.height) c.loop-line.invariant.size
+erase_in_line-requires-clause-size c = grind arith
 
 pub returns-clause-erased : goal.returns-clause-erased
-returns-clause-erased c =
-    let done : c.loop-line.line ≡ c.args.end = omega arith in
-    c.loop-line.invariant.erased ∙ ap (λ end. lines_blanked c.args.first end c.args.picture.now) done
+returns-clause-erased c = grind (arith, lines_blanked)

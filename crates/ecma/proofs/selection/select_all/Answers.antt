@@ -6,11 +6,7 @@ use Rattle.ecma.proofs.Selecting.{selected_by, selected-next, selected-last, sel
 use Rattle.ecma.proofs.selection.select_all.Goals as goal
 
 pub returns : goal.returns
-returns c = λ digits same.
-    let whole = take_all c.loop-parameter.parameter-index c.args.ended.now (omega arith) in
-    let all = ap (λ parameters. selected_by parameters c.args.rendition) (sym whole) ∙ c.loop-parameter.invariant in
-    c.select-2.ensures ∙ ap (λ code. select code c.loop-parameter.selected) c.number_or-2.ensures ∙ sym
-    (selected-last digits c.args.ended.now c.args.last c.args.rendition c.loop-parameter.selected same all)
+returns c = grind (arith, take_all, selected_by, selected-last)
 
 pub returns-in-None : goal.returns-in-None
 returns-in-None c = λ digits same.
@@ -20,8 +16,4 @@ returns-in-None c = λ digits same.
     sym (selected-none digits c.args.ended.now c.args.last c.loop-parameter.parameter-index c.args.rendition same c.loop-parameter-test.true (next ∙ sym here ∙ c.in-None.is))
 
 pub loop-parameter-preserved : goal.loop-parameter-preserved
-loop-parameter-preserved c =
-    let here = c.select.ensures ∙ ap (λ code. select code c.loop-parameter.selected) c.number_or.ensures in
-    selected-next c.args.ended.now c.loop-parameter.parameter-index c.parameter-item.result c.args.rendition c.loop-parameter.selected c.loop-parameter-test.true c.parameter-item.is
-    c.loop-parameter.invariant
-    ∙ sym here ∙ c.in-Some.is
+loop-parameter-preserved c = grind (arith, selected-next)

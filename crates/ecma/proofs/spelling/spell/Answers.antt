@@ -1,5 +1,5 @@
 -- `spell`: how many bytes a token has (`Lengths`); the spelling of a token is one item, with the token's effect (`Tokens`).
-use Rattle.std.proofs.Common.{rules, arith, ◌∙◌}
+use Rattle.std.proofs.Common.{rules, arith}
 use Rattle.std.proofs.lemmas.Grind.{common_steps}
 use Rattle.ecma.specs.Spelling.{spelling}
 use Rattle.ecma.proofs.Lengths.{three_digits}
@@ -27,8 +27,4 @@ unfolding spelling
 returns-in-Ed-clause-item c = is_item_of_bytes c.args.token.now _ c.requires (search rules)
 
 pub returns-in-Cup-clause-short : goal.returns-in-Cup-clause-short
-returns-in-Cup-clause-short c =
-    let few = rw c.in-Cup.is at c.requires in
-    let line = three_digits c.in-Cup.line c.as_bytes.result.now few.0 (c.as_bytes.ensures.value ∙ c.format.ensures.text) in
-    let column = three_digits c.in-Cup.column c.as_bytes-in-Cup.result.now few.1 (c.as_bytes-in-Cup.ensures.value ∙ c.format-in-Cup.ensures.text) in
-    rw c.in-Cup.is (omega (arith, c.append-at.ensures.end, c.append-at-in-Cup.ensures.end, c.append-at-in-Cup-2.ensures.end, c.append-at-in-Cup-3.ensures.end, c.append-in-Cup.ensures.end))
+returns-in-Cup-clause-short c = grind (arith, three_digits)
