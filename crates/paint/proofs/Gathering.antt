@@ -1,11 +1,14 @@
 -- A text that is gathered, appended to, and passed on.
-use Rattle.std.proofs.Common.{◌≡◌, ℕ, ◌+◌, ◌-◌, ◌^◌, ◌<◌, Bool, true, false, List, [], ◌++◌, length, Ok, Err, refl, sym, ap, ◌∙◌, subst, arith, append_assoc, append-nil, length-append}
-use Rattle.std.specs.Prelude.{min}
+use Rattle.std.proofs.Common.{◌≡◌, ℕ, ◌+◌, ◌-◌, ◌^◌, ◌<◌, ◌==◌, ◌&&◌, Bool, true, false, List, [], ◌++◌, length, Ok, Err, refl, sym, ap, ◌∙◌, subst, arith, append_assoc, append-nil, length-append}
+use Rattle.std.specs.Prelude.{min, not}
+use Rattle.std.proofs.lemmas.Bool.{eqb-true}
+use Rattle.std.proofs.lemmas.List.{nil_from_length}
 use Rattle.streams.specs.Sinks.{Seen}
 use Rattle.streams.specs.Sending.{Sends}
 use Rattle.streams.specs.declared.sending.WriteFault.{WriteFault}
 use Rattle.streams.proofs.Sends.{Sends-nothing, Sends-then, Sends-prefix}
-use Rattle.paint.specs.steps.Gathering.{GoesOut}
+use Rattle.paint.specs.declared.outbox.Outbox.{Outbox}
+use Rattle.paint.specs.steps.Gathering.{GoesOut, IsGathered, gathered_bytes, holds_all, saturating_u32}
 
 pub goes_out-none : (seen : Seen) → GoesOut false seen seen [] 0 []
 goes_out-none seen = ([], refl, omega arith, Sends-nothing)
@@ -39,6 +42,25 @@ pub goes_out-faulted : (start mid now : Seen) (room : List ℕ) (sent total : �
     → total ≡ min (sent + fault.sent) (2 ^ 32 - 1) → GoesOut true start now [] total (text ++ [])
 goes_out-faulted start mid now room sent total fault text h k e =
     (length h.0 + fault.sent, omega (arith, h.2), rw (append-nil, h.1) (Sends-then h.3 (Sends-after_fault (length h.0) k)))
+
+-- ---- how much was gathered
+
+pub gathered-length : {start now : Seen} {outbox : Outbox} {text : List ℕ} → outbox.failed ≡ false → IsGathered start now outbox text → gathered_bytes outbox ≡ saturating_u32 (length text)
+gathered-length {outbox} {text} goes_on h =
+    let parts = rw goes_on at h.goes_out in
+    omega (arith, parts.2, ap length parts.1, length-append parts.0 outbox.room)
+
+goes_out-anew : (failed : Bool) (sent : ℕ) (start now seen : Seen) (room text : List ℕ) → (not failed && sent == 0) ≡ true → GoesOut failed start now room sent text
+    → GoesOut failed seen seen room sent text
+goes_out-anew true sent start now seen room text h k = absurd cc
+goes_out-anew false sent start now seen room text h k =
+    let none : sent ≡ 0 = eqb-true sent 0 h in
+    let nothing : k.0 ≡ [] = nil_from_length k.0 (omega (arith, none, k.2)) in
+    ([], k.1 ∙ ap (λ bytes. bytes ++ room) nothing, omega (arith, none), Sends-nothing)
+
+-- a text of which nothing went out may go to any sink
+pub gathered-anew : {start now : Seen} {outbox : Outbox} {text : List ℕ} (seen : Seen) → holds_all outbox ≡ true → IsGathered start now outbox text → IsGathered seen seen outbox text
+gathered-anew {start} {now} {outbox} {text} seen all h = record { goes_out = goes_out-anew outbox.failed outbox.sent start now seen outbox.room text all h.goes_out }
 
 -- ---- the end of a text
 

@@ -31,3 +31,5 @@ pub mod Alike
 pub mod Copying
 -- A picture is drawn in passes, and what each may cost; for `is_drawn_in`, `paint_part`, `paint_pass` and others
 pub mod Choices
+-- The order of the passes for renditions as they come; for `note_cells`, `note_part`, `order_of` and others
+pub mod Orders

@@ -1,10 +1,10 @@
 -- The strokes of a pen, one after another, and what each shows.
 use Rattle.std.proofs.Common.{◌≡◌, ℕ, ◌+◌, ◌-◌, ◌<◌, ◌≤◌, Bool, true, false, List, [], ◌∷◌, ◌++◌, length, Option, Some, None, inl, inr, get_or, set, take, drop, add-zero, refl, sym, ap, ◌∙◌}
 use Rattle.std.proofs.Common.{subst, arith, append_assoc, append-nil, length-append}
-use Rattle.std.specs.Prelude.{◌&&◌, ◌==◌, if◌then◌else◌, min}
+use Rattle.std.specs.Prelude.{◌&&◌, ◌||◌, ◌==◌, if◌then◌else◌, min, nat_lt}
 use Rattle.std.proofs.Math.Nat.{le-min, min-eq_left, min-le_right}
-use Rattle.std.proofs.lemmas.Bool.{and_parts, cases_Bool, eqb-true, lt-ltb}
-use Rattle.std.proofs.lemmas.List.{drop_all, drop_more, get_or-drop, get_or-take, length-drop, length-take-le, set-get_or}
+use Rattle.std.proofs.lemmas.Bool.{and_parts, cases_Bool, cases_lt, eqb-true, le-ltb, lt-ltb, ne_eqb}
+use Rattle.std.proofs.lemmas.List.{drop_all, drop_more, get_or-drop, get_or-take, length-drop, length-take-le, nil_from_length, set-get_or}
 use Rattle.cell.specs.Shown.{shown_blank, no_rendition, Shown, Rendition, IsRendition, IsShown}
 use Rattle.cell.specs.Pictures.{Picture, Place, line_of, with_shown}
 use Rattle.cell.specs.Differences.{same_rendition}
@@ -24,7 +24,8 @@ use Rattle.streams.specs.Sinks.{Seen}
 use Rattle.paint.specs.declared.outbox.Outbox.{Outbox}
 use Rattle.paint.specs.declared.pen.Pen.{Pen}
 use Rattle.paint.specs.steps.Gathering.{Gathers, IsGathered}
-use Rattle.paint.specs.steps.Strokes.{cursor_after, change, is_at, move_from, under, ArePrinted, Draws, Strokes, again_bytes, approach_bytes, most_approach, moved_bytes, reach_bytes}
+use Rattle.paint.specs.steps.Strokes.{cursor_after, all_have, change, is_at, is_printed_again, move_from, under}
+use Rattle.paint.specs.steps.Strokes.{ArePrinted, Draws, Strokes, again_bytes, approach_bytes, most_approach, moved_bytes, reach_bytes}
 
 -- ---- one after another
 
@@ -278,12 +279,12 @@ approach-most cursor rendition start gap wanted few_lines few_columns =
 
 -- ---- which of two ways takes fewer bytes
 
-pub again-all : (cursor : Option Place) (rendition : Rendition) (start : Place) (gap : List Shown) (wanted : Rendition) → is_at cursor start ≡ true
+again-all : (cursor : Option Place) (rendition : Rendition) (start : Place) (gap : List Shown) (wanted : Rendition) → is_at cursor start ≡ true
     → again_bytes rendition gap wanted ≤ moved_bytes cursor rendition (start.0, start.1 + length gap) wanted
     → approach_bytes cursor rendition start gap wanted ≡ again_bytes rendition gap wanted
 again-all cursor rendition start gap wanted at few = rw at (min-eq_left few)
 
-pub moved-far : (cursor : Option Place) (rendition : Rendition) (start : Place) (gap : List Shown) (wanted : Rendition) → is_at cursor start ≡ false
+moved-far : (cursor : Option Place) (rendition : Rendition) (start : Place) (gap : List Shown) (wanted : Rendition) → is_at cursor start ≡ false
     → approach_bytes cursor rendition start gap wanted ≡ moved_bytes cursor rendition (start.0, start.1 + length gap) wanted
 moved-far cursor rendition start gap wanted far = rw far refl
 
@@ -291,14 +292,14 @@ moved-less : (b : Bool) (m n : ℕ) → n ≤ m → (if b then min m n else n) �
 moved-less true m n h = omega (arith, min-le_right m n, le-min {k = n} {a = m} {b = n} h (omega arith))
 moved-less false m n h = refl
 
-pub moved-all : (cursor : Option Place) (rendition : Rendition) (start : Place) (gap : List Shown) (wanted : Rendition)
+moved-all : (cursor : Option Place) (rendition : Rendition) (start : Place) (gap : List Shown) (wanted : Rendition)
     → moved_bytes cursor rendition (start.0, start.1 + length gap) wanted ≤ again_bytes rendition gap wanted
     → approach_bytes cursor rendition start gap wanted ≡ moved_bytes cursor rendition (start.0, start.1 + length gap) wanted
 moved-all cursor rendition start gap wanted few =
     moved-less (is_at cursor start) (again_bytes rendition gap wanted) (moved_bytes cursor rendition (start.0, start.1 + length gap) wanted) few
 
 -- a gap of no cells is left out
-pub moved-empty : (cursor : Option Place) (rendition : Rendition) (start : Place) (gap : List Shown) (wanted : Rendition) → gap ≡ []
+moved-empty : (cursor : Option Place) (rendition : Rendition) (start : Place) (gap : List Shown) (wanted : Rendition) → gap ≡ []
     → approach_bytes cursor rendition start gap wanted ≡ moved_bytes cursor rendition (start.0, start.1 + length gap) wanted
 moved-empty cursor rendition start gap wanted none = elim (cases_Bool (is_at cursor start)) [
   | inr far ↦ moved-far cursor rendition start gap wanted far
@@ -326,10 +327,86 @@ again-least : (rendition : Rendition) (gap : List Shown) (wanted : Rendition) �
 again-least rendition [] wanted = omega arith
 again-least rendition (cell ∷ gap) wanted = omega (arith, again-least cell.rendition gap wanted, change-through rendition cell.rendition wanted)
 
-pub moved-long : (cursor : Option Place) (rendition : Rendition) (start : Place) (gap : List Shown) (wanted : Rendition) → start.0 < LARGEST_SCREEN → start.1 + length gap < LARGEST_SCREEN
-    → 10 < length gap → moved_bytes cursor rendition (start.0, start.1 + length gap) wanted ≤ again_bytes rendition gap wanted
-moved-long cursor rendition start gap wanted few_lines few_columns long =
-    omega (arith, again-least rendition gap wanted, length-move cursor (start.0, start.1 + length gap) few_lines few_columns)
+-- ---- whether a gap is printed again
+
+no-more : (m n : ℕ) (b : Bool) → (nat_lt m n || (m == n && b)) ≡ true → m ≤ n
+no-more m n b h = elim (cases_lt n m) [
+  | inl less ↦
+      let other : (m == n) ≡ false = ne_eqb m n (λ same. omega (arith, same, less)) in
+      let wrong : false ≡ true = rw (le-ltb m n (omega arith), other) at h in
+      absurd cc
+  | inr few ↦ few
+]
+
+no-less : (m n : ℕ) (b : Bool) → (nat_lt m n || b) ≡ false → n ≤ m
+no-less m n b h = elim (cases_lt m n) [
+  | inl less ↦ let wrong : true ≡ false = rw (lt-ltb m n less) at h in absurd cc
+  | inr few ↦ few
+]
+
+module _ (cursor : Option Place) (rendition : Rendition) (start : Place) (gap : List Shown) (wanted : Rendition) where
+  abbrev again : ℕ
+  again = again_bytes rendition gap wanted
+
+  abbrev moved : ℕ
+  moved = moved_bytes cursor rendition (start.0, start.1 + length gap) wanted
+
+  abbrev all_one : Bool
+  all_one = all_have rendition gap || all_have wanted gap
+
+  -- where the cursor is at a gap that has a cell
+  pub again-here : 0 < length gap → is_at cursor start ≡ true → is_printed_again cursor rendition start gap wanted ≡ (nat_lt again moved || (again == moved && all_one))
+  again-here some here = rw (lt-ltb 0 (length gap) some, here) refl
+
+  pub again-none : length gap ≡ 0 → is_printed_again cursor rendition start gap wanted ≡ false
+  again-none none = rw (le-ltb 0 (length gap) (omega arith)) refl
+
+  pub again-far : is_at cursor start ≡ false → is_printed_again cursor rendition start gap wanted ≡ false
+  again-far far = elim (cases_lt 0 (length gap)) [
+    | inl some ↦ rw (lt-ltb 0 (length gap) some, far) refl
+    | inr none ↦ again-none (omega arith)
+  ]
+
+  -- a long gap isn't
+  pub again-long : start.0 < LARGEST_SCREEN → start.1 + length gap < LARGEST_SCREEN → 10 < length gap → is_printed_again cursor rendition start gap wanted ≡ false
+  again-long few_lines few_columns long = elim (cases_Bool (is_at cursor start)) [
+    | inr far ↦ again-far far
+    | inl here ↦
+        let less : moved < again = omega (arith, again-least rendition gap wanted, length-move cursor (start.0, start.1 + length gap) few_lines few_columns) in
+        let other : (again == moved) ≡ false = ne_eqb again moved (λ same. omega (arith, same, less)) in
+        again-here (omega arith) here ∙ rw (le-ltb again moved (omega arith), other) refl
+  ]
+
+  -- a gap that is printed again begins at the cursor
+  pub again-at : is_printed_again cursor rendition start gap wanted ≡ true → is_at cursor start ≡ true
+  again-at printed = elim (cases_Bool (is_at cursor start)) [
+    | inl here ↦ here
+    | inr far ↦ let wrong : false ≡ true = sym (again-far far) ∙ printed in absurd cc
+  ]
+
+  pub again-few : start.0 < LARGEST_SCREEN → start.1 + length gap < LARGEST_SCREEN → is_printed_again cursor rendition start gap wanted ≡ true → length gap ≤ 10
+  again-few few_lines few_columns printed = elim (cases_lt 10 (length gap)) [
+    | inl long ↦ let wrong : false ≡ true = sym (again-long few_lines few_columns long) ∙ printed in absurd cc
+    | inr few ↦ few
+  ]
+
+  pub approach-printed : is_printed_again cursor rendition start gap wanted ≡ true → approach_bytes cursor rendition start gap wanted ≡ again
+  approach-printed printed =
+      let here = again-at printed in
+      elim (cases_lt 0 (length gap)) [
+        | inl some ↦ again-all cursor rendition start gap wanted here (no-more again moved all_one (sym (again-here some here) ∙ printed))
+        | inr none ↦ let wrong : false ≡ true = sym (again-none (omega arith)) ∙ printed in absurd cc
+      ]
+
+  -- and any other is moved over
+  pub approach-moved : is_printed_again cursor rendition start gap wanted ≡ false → approach_bytes cursor rendition start gap wanted ≡ moved
+  approach-moved other = elim (cases_lt 0 (length gap)) [
+    | inr none ↦ moved-empty cursor rendition start gap wanted (nil_from_length gap (omega arith))
+    | inl some ↦ elim (cases_Bool (is_at cursor start)) [
+      | inr far ↦ moved-far cursor rendition start gap wanted far
+      | inl here ↦ moved-all cursor rendition start gap wanted (no-less again moved (again == moved && all_one) (sym (again-here some here) ∙ other))
+    ]
+  ]
 
 -- ---- an erasure after it
 

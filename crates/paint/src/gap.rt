@@ -1,10 +1,10 @@
 //! How a pen comes to the next changed cell of a line: over the gap of cells that are shown already, or by a move.
 
-ghost use Rattle.std.specs.Prelude.{◌≡◌, ◌+◌, ◌<◌, ◌≤◌, All, Some, false, true, drop, take, length};
+ghost use Rattle.std.specs.Prelude.{◌≡◌, ◌+◌, ◌<◌, ◌≤◌, Some, drop, take, length};
 ghost use Rattle.cell.specs.Pictures.{Picture, line_of};
 ghost use Rattle.ecma.specs.Spelling.{spelling};
 ghost use Rattle.ecma.specs.declared.token.Token.TheVariants.{Cup};
-ghost use Rattle.paint.specs.steps.Strokes.{Strokes, again_bytes, approach_bytes, change, is_at, moved_bytes};
+ghost use Rattle.paint.specs.steps.Strokes.{Strokes, again_bytes, all_have, approach_bytes, change, is_printed_again, moved_bytes};
 
 use crate::pen::Pen;
 use cell::{LARGEST_SCREEN, Rendition, Shown};
@@ -69,12 +69,7 @@ pub fn approach_length(
 fn is_printed_again(pen: &Pen, line: u16, start: u16, gap: &[Shown], rendition: Rendition) -> bool
     requires line { line < LARGEST_SCREEN }
     requires inside { start + length gap.now < LARGEST_SCREEN }
-    ensures few { result ≡ true → length gap.now ≤ 10 }
-    ensures at { result ≡ true → is_at pen.now.cursor (line, start) ≡ true }
-    ensures again { result ≡ true → approach_bytes pen.now.cursor pen.now.rendition (line, start) gap.now rendition
-        ≡ again_bytes pen.now.rendition gap.now rendition }
-    ensures moved { result ≡ false → approach_bytes pen.now.cursor pen.now.rendition (line, start) gap.now rendition
-        ≡ moved_bytes pen.now.cursor pen.now.rendition (line, start + length gap.now) rendition }
+    ensures { result ≡ is_printed_again pen.now.cursor pen.now.rendition (line, start) gap.now rendition }
 {
     if gap.is_empty() {
         return false;
@@ -149,7 +144,7 @@ fn change_length(old: Rendition, new: Rendition) -> usize
 
 /// Whether all cells have a rendition.
 fn are_all(cells: &[Shown], rendition: Rendition) -> bool
-    ensures { result ≡ true → All (λ cell. cell.rendition ≡ rendition) cells.now }
+    ensures { result ≡ all_have rendition cells.now }
 {
     for cell in cells {
         if cell.rendition() != rendition {

@@ -1,10 +1,10 @@
 //! Gathers a text in a buffer of fixed size, from which it goes out in pieces.
 
-ghost use Rattle.std.specs.Prelude.{◌≡◌, ◌≤◌, ◌+◌, ◌<◌, ◌^◌, ℕ, List, [], ◌∷◌, length, slice_index_or, true};
+ghost use Rattle.std.specs.Prelude.{◌≡◌, ◌≤◌, ◌+◌, ◌<◌, ◌^◌, ℕ, IfOk, List, [], ◌∷◌, false, length, slice_index_or};
 ghost use Rattle.cell.specs.Shown.{IsShown, shown_blank};
 ghost use Rattle.streams.specs.Sending.{Sends};
 ghost use Rattle.streams.specs.Sinks.{Seen};
-ghost use Rattle.paint.specs.steps.Gathering.{Gathers, IsGathered};
+ghost use Rattle.paint.specs.steps.Gathering.{Gathers, IsGathered, empty_outbox, gathered_bytes, holds_all, saturating_u32};
 ghost use Rattle.paint.specs.steps.Strokes.{characters};
 
 use crate::room::{ROOM, Room};
@@ -22,7 +22,9 @@ pub struct Outbox {
 
 impl Outbox {
     /// An outbox in which nothing was gathered, and from which nothing was sent.
-    pub fn new(alloc: Global) -> Result<Outbox, AllocError> {
+    pub fn new(alloc: Global) -> Result<Outbox, AllocError>
+        ensures { IfOk result (λ outbox. outbox ≡ empty_outbox) }
+    {
         Ok(Outbox {
             room: Room::new(alloc)?,
             sent: 0,
@@ -32,7 +34,7 @@ impl Outbox {
 
     /// Begins a text: nothing of it was gathered, and nothing was sent.
     pub fn begin(&mut self)
-        ensures { (seen : Seen) → IsGathered seen seen self.new [] }
+        ensures { self.new ≡ empty_outbox }
     {
         self.room.clear();
         self.sent = 0;
@@ -40,13 +42,17 @@ impl Outbox {
     }
 
     /// How many bytes were gathered, of a text whose bytes all go out.
-    pub fn bytes(&self) -> u32 {
+    pub fn bytes(&self) -> u32
+        ensures value { result ≡ gathered_bytes self.now }
+        ensures text { (start now : Seen) (text : List ℕ) → self.now.failed ≡ false → IsGathered start now self.now text
+            → result ≡ saturating_u32 (length text) }
+    {
         self.sent.saturating_add(self.room.bytes().len() as u32)
     }
 
     /// Whether nothing of what was gathered went out, so that all of it may still go to any sink.
     pub fn holds_all(&self) -> bool
-        ensures { result ≡ true → (start now seen : Seen) (text : List ℕ) → IsGathered start now self.now text → IsGathered seen seen self.now text }
+        ensures { result ≡ holds_all self.now }
     {
         !self.failed && self.sent == 0
     }

@@ -1,11 +1,12 @@
 //! Drawing in passes: of a picture what has one rendition first, and then what has another, where that takes fewer bytes.
 
-ghost use Rattle.std.specs.Prelude.{◌≡◌, ◌+◌, ◌<◌, ◌≤◌, ◌==◌, drop, length, slice_set, take};
+ghost use Rattle.std.specs.Prelude.{◌≡◌, ◌+◌, ◌<◌, ◌≤◌, ◌==◌, ◌++◌, ◌∷◌, [], List, drop, if◌then◌else◌, length, nat_lt, slice_set, take};
 ghost use Rattle.cell.specs.Pictures.{HasSize, Picture, line_of};
+ghost use Rattle.cell.specs.Shown.{Rendition as AnyRendition};
 ghost use Rattle.cell.specs.declared.limits.TheConstants.{LARGEST_SCREEN};
 ghost use Rattle.paint.specs.Changes.{DifferOnly};
-ghost use Rattle.paint.specs.steps.Passes.{line_after, pass_of, picture_after};
-ghost use Rattle.paint.specs.steps.Strokes.{Strokes, line_bytes, picture_bytes};
+ghost use Rattle.paint.specs.steps.Passes.{HasNoted, changed_renditions, line_after, line_renditions, order_for, pass_of, picture_after, saturating_usize, selections, with_pass};
+ghost use Rattle.paint.specs.steps.Strokes.{Strokes, all_have, line_bytes, picture_bytes};
 
 use crate::changes::Changes;
 use crate::line::{paint_run, run_end};
@@ -13,6 +14,7 @@ use crate::page::paint_picture;
 use crate::pen::Pen;
 use crate::tail::first_changed;
 use cell::{Grid, Rendition, Shown};
+use std::marker::Model;
 use streams::Sink;
 
 /// The most renditions that have a pass of their own.
@@ -28,9 +30,23 @@ pub struct Order {
     count: usize,
 }
 
+impl Model for Order {
+    ghost use Rattle.std.specs.Prelude.{List, ◌≤◌, take};
+    ghost use Rattle.cell.specs.Shown.{Rendition};
+    ghost use Rattle.paint.specs.declared.passes.TheConstants.{MOST};
+
+    ghost Value = { List Rendition };
+
+    ghost view = { λ order. take order.count order.renditions };
+
+    ghost invariant = { λ order. order.count ≤ MOST };
+}
+
 impl Order {
     /// The order of a single pass.
-    pub fn new() -> Order {
+    pub fn new() -> Order
+        ensures { result ≡ [] }
+    {
         Order {
             renditions: [Rendition::NONE; MOST],
             count: 0,
@@ -38,17 +54,19 @@ impl Order {
     }
 
     /// The renditions.
-    pub fn renditions(&self) -> &[Rendition] {
-        match self.renditions.get(..self.count) {
-            Some(renditions) => renditions,
-            None => &[],
-        }
+    pub fn renditions(&self) -> &[Rendition]
+        ensures value { result.now ≡ self.now }
+        ensures few { length result.now ≤ MOST }
+    {
+        &self.renditions[..self.count]
     }
 
     /// Gives one more a pass of its own, unless as many have one as can.
-    fn push(&mut self, rendition: Rendition) {
-        if let Some(next) = self.renditions.get_mut(self.count) {
-            *next = rendition;
+    fn push(&mut self, rendition: Rendition)
+        ensures { self.new ≡ (if nat_lt (length self.old) MOST then self.old ++ rendition ∷ [] else self.old) }
+    {
+        if self.count < MOST {
+            self.renditions[self.count] = rendition;
             self.count += 1;
         }
     }
@@ -236,7 +254,9 @@ struct Renditions {
 
 impl Renditions {
     /// None at first, which is drawn first too.
-    fn new() -> Renditions {
+    fn new() -> Renditions
+        ensures { HasNoted result [] }
+    {
         let mut order = Order::new();
         order.push(Rendition::NONE);
         Renditions {
@@ -247,7 +267,11 @@ impl Renditions {
     }
 
     /// Takes note of the next one, which is another.
-    fn note(&mut self, rendition: Rendition) {
+    fn note(&mut self, rendition: Rendition)
+        ensures order { self.new.order ≡ with_pass self.old.order rendition }
+        ensures last { self.new.last ≡ rendition }
+        ensures switches { self.new.switches ≡ saturating_usize (self.old.switches + 1) }
+    {
         let order = self.order.renditions();
         if pass_of(order, rendition) == order.len() {
             self.order.push(rendition);
@@ -259,6 +283,7 @@ impl Renditions {
     /// Takes note of those of the changed ones among some cells.
     fn note_cells(&mut self, shown: &[Shown], wanted: &[Shown])
         requires { length shown.now ≡ length wanted.now }
+        ensures { (came : List AnyRendition) → HasNoted self.old came → HasNoted self.new (came ++ line_renditions shown.now wanted.now) }
     {
         for x in 0..wanted.len() {
             if wanted[x].rendition() != self.last && shown[x] != wanted[x] {
@@ -270,6 +295,7 @@ impl Renditions {
     /// The same of a part of a line. Cells that have the last rendition all are looked at together.
     fn note_part(&mut self, shown: &[Shown], wanted: &[Shown])
         requires { length shown.now ≡ length wanted.now }
+        ensures { (came : List AnyRendition) → HasNoted self.old came → HasNoted self.new (came ++ line_renditions shown.now wanted.now) }
     {
         let mut start = 0;
         while start < wanted.len() {
@@ -282,7 +308,10 @@ impl Renditions {
     }
 
     /// Whether passes select renditions less often than one walk over all lines does. Both end with none.
-    fn are_saved(&self) -> bool {
+    fn are_saved(&self) -> bool
+        ensures value { result ≡ nat_lt (length self.now.order) (self.now.switches + selections self.now.last []) }
+        ensures few { length self.now.order ≤ MOST }
+    {
         let selected = if self.last == Rendition::NONE {
             self.switches
         } else {
@@ -293,7 +322,9 @@ impl Renditions {
 }
 
 /// Whether some cells all have a rendition, by a loop with one exit, which the compiler vectorizes.
-fn all_have(rendition: Rendition, cells: &[Shown]) -> bool {
+fn all_have(rendition: Rendition, cells: &[Shown]) -> bool
+    ensures { result ≡ all_have rendition cells.now }
+{
     let mut all = true;
     for x in 0..cells.len() {
         all &= cells[x].rendition() == rendition;
@@ -301,7 +332,8 @@ fn all_have(rendition: Rendition, cells: &[Shown]) -> bool {
     all
 }
 
-/// An order of passes, where they select renditions of changed cells less often than one walk over all lines, and else none.
+/// The order of the passes for the renditions of changed cells, where they select these less often than one walk over all lines, and else
+/// none.
 pub fn order_of(
     shown: &Grid<Shown>,
     wanted: &Grid<Shown>,
@@ -310,6 +342,7 @@ pub fn order_of(
 ) -> Order
     requires shown { HasSize (length changes.now) columns shown.now }
     requires wanted { HasSize (length changes.now) columns wanted.now }
+    ensures { DifferOnly changes.now shown.now wanted.now → result ≡ order_for (changed_renditions shown.now wanted.now) }
 {
     let mut renditions = Renditions::new();
     let end = changes.lines().end;

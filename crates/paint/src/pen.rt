@@ -1,6 +1,6 @@
 //! A pen: it knows where a terminal's cursor is and how the terminal prints, and draws there by strokes.
 
-ghost use Rattle.std.specs.Prelude.{◌≡◌, ◌+◌, ◌<◌, ◌≤◌, ⊤, MatchOption, ◌++◌, ◌∷◌, [], ℕ, IfOk, List, length, slice_index_or, Some, true, ◌^◌};
+ghost use Rattle.std.specs.Prelude.{◌≡◌, ◌+◌, ◌<◌, ◌≤◌, ⊤, MatchOption, ◌++◌, ◌∷◌, [], ℕ, IfOk, List, length, slice_index_or, Some, ◌^◌};
 ghost use Rattle.std.specs.Option.{option_map};
 ghost use Rattle.cell.specs.Shown.{no_rendition, shown_blank};
 ghost use Rattle.cell.specs.Pictures.{Picture, line_of, origin, with_shown};
@@ -11,8 +11,8 @@ ghost use Rattle.ecma.specs.declared.token.Token.TheVariants.{Ed, El};
 ghost use Rattle.streams.specs.Sending.{Sends};
 ghost use Rattle.streams.specs.Sinks.{Seen};
 ghost use Rattle.paint.specs.Updates.{opening};
-ghost use Rattle.paint.specs.steps.Gathering.{Gathers, IsGathered};
-ghost use Rattle.paint.specs.steps.Strokes.{cursor_after, change, characters, is_at, move_from, with_cells, within, ArePrinted, Draws};
+ghost use Rattle.paint.specs.steps.Gathering.{Gathers, IsGathered, gathered_bytes, holds_all};
+ghost use Rattle.paint.specs.steps.Strokes.{cursor_after, change, characters, first_pen, is_at, move_from, with_cells, within, ArePrinted, Draws};
 
 use crate::outbox::Outbox;
 use cell::{LARGEST_SCREEN, Rendition, Shown};
@@ -33,7 +33,7 @@ pub struct Pen {
 impl Pen {
     /// A pen that gathered nothing.
     pub fn new(alloc: Global, columns: u16) -> Result<Pen, AllocError>
-        ensures { IfOk result (λ pen. pen.columns ≡ columns) }
+        ensures { IfOk result (λ pen. pen ≡ first_pen columns) }
     {
         Ok(Pen {
             outbox: Outbox::new(alloc)?,
@@ -56,14 +56,15 @@ impl Pen {
     }
 
     /// How many bytes its text has, where no write failed.
-    pub fn bytes(&self) -> u32 {
+    pub fn bytes(&self) -> u32
+        ensures { result ≡ gathered_bytes self.now.outbox }
+    {
         self.outbox.bytes()
     }
 
     /// Whether nothing of its text went out, so that all of it may still go to any sink.
     pub fn holds_all(&self) -> bool
-        ensures { result ≡ true → (start now seen : Seen) (text : List ℕ)
-            → IsGathered start now self.now.outbox text → IsGathered seen seen self.now.outbox text }
+        ensures { result ≡ holds_all self.now.outbox }
     {
         self.outbox.holds_all()
     }

@@ -1,6 +1,6 @@
 //! The buffer in which a text is gathered.
 
-ghost use Rattle.std.specs.Prelude.{◌≡◌, ◌+◌, ◌≤◌, ◌++◌, ◌<◌, ℕ, [], IfOk, length, slice_index_or, true, vec_capacity, vec_len};
+ghost use Rattle.std.specs.Prelude.{◌≡◌, ◌+◌, ◌≤◌, ◌++◌, ◌<◌, ℕ, [], IfOk, length, nat_le, slice_index_or, vec_capacity, vec_len};
 ghost use Rattle.cell.specs.Shown.{IsShown, shown_blank};
 ghost use Rattle.paint.specs.steps.Strokes.{characters};
 
@@ -41,7 +41,7 @@ impl Room {
     /// Whether so many more bytes fit.
     pub fn fits(&self, more: usize) -> bool
         requires { more ≤ ROOM }
-        ensures { result ≡ true → length self.now + more ≤ ROOM }
+        ensures { result ≡ nat_le (length self.now + more) ROOM }
     {
         self.bytes.len() <= ROOM - more
     }

@@ -1,6 +1,6 @@
 //! The blank end of a line, which one erasure draws.
 
-ghost use Rattle.std.specs.Prelude.{◌≡◌, ◌≢◌, ◌+◌, ◌-◌, ◌<◌, ◌≤◌, if◌then◌else◌, drop, length, nat_lt, slice_index_or, take, true};
+ghost use Rattle.std.specs.Prelude.{◌≡◌, ◌≢◌, ◌↔◌, ◌+◌, ◌-◌, ◌<◌, ◌≤◌, if◌then◌else◌, drop, false, length, nat_lt, slice_index_or, take};
 ghost use Rattle.cell.specs.Differences.{DiffersAt, IsFirstDifference, IsLastDifference};
 ghost use Rattle.cell.specs.Shown.{shown_blank};
 ghost use Rattle.paint.specs.steps.Strokes.{reach_bytes};
@@ -170,7 +170,7 @@ pub fn changed_end(shown: &[Shown], wanted: &[Shown], tail: usize) -> Option<(us
 
 /// Whether a line has a cell that isn't blank. It looks at a column first.
 pub fn is_written(line: &[Shown], column: usize) -> bool
-    ensures { result ≡ true → AreBlank line.now → ⊥ }
+    ensures { (result ≡ false) ↔ AreBlank line.now }
 {
     if column < line.len() && line[column] != Shown::BLANK {
         return true;

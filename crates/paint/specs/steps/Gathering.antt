@@ -1,5 +1,5 @@
 -- A text that is gathered in an outbox and goes out in pieces, until a write fails.
-use Rattle.std.specs.Prelude.{◌≡◌, ℕ, ◌-◌, ◌^◌, min, Bool, true, false, List, ◌++◌, length, Ok, Err}
+use Rattle.std.specs.Prelude.{◌≡◌, ℕ, ◌+◌, ◌-◌, ◌^◌, ◌==◌, ◌&&◌, min, not, Bool, true, false, List, [], ◌++◌, length, Ok, Err}
 use Rattle.streams.specs.Sinks.{Seen}
 use Rattle.streams.specs.Sending.{Sends}
 use Rattle.paint.specs.declared.outbox.Outbox.{Outbox}
@@ -17,6 +17,18 @@ GoesOut true start now room sent text = (taken : ℕ) × (sent ≡ saturating_u3
 -- The text was gathered: the sink was seen as `start` when it began, and is seen as `now`.
 pub record IsGathered (start now : Seen) (outbox : Outbox) (text : List ℕ) : Type 0 where
   pub goes_out : GoesOut outbox.failed start now outbox.room outbox.sent text
+
+-- nothing was gathered, and nothing went out
+abbrev pub empty_outbox : Outbox
+empty_outbox = record { room = []; sent = 0; failed = false }
+
+-- how many bytes were gathered, of a text of which no write failed
+abbrev pub gathered_bytes : Outbox → ℕ
+gathered_bytes outbox = saturating_u32 (outbox.sent + length outbox.room)
+
+-- nothing of what was gathered went out
+abbrev pub holds_all : Outbox → Bool
+holds_all outbox = not outbox.failed && outbox.sent == 0
 
 -- the piece was put after what was gathered
 abbrev pub Gathers : Seen → Seen → Outbox → Outbox → List ℕ → Type 0

@@ -1,5 +1,6 @@
 -- What the strokes of a pen send, what a terminal shows after them, and how many bytes they have.
-use Rattle.std.specs.Prelude.{◌≡◌, ℕ, ◌+◌, ◌-◌, ◌*◌, ◌≤◌, min, if◌then◌else◌, List, [], ◌∷◌, length, map, take, drop, Option, Some, None, Bool, false, nat_lt, slice_index_or}
+use Rattle.std.specs.Prelude.{◌≡◌, ℕ, ◌+◌, ◌-◌, ◌*◌, ◌≤◌, ◌==◌, ◌&&◌, ◌||◌, min, if◌then◌else◌, List, [], ◌∷◌, length, map, take, drop, Option, Some, None, Bool, false, nat_lt, slice_index_or}
+use Rattle.std.specs.List.{list_all}
 use Rattle.cell.specs.Shown.{Rendition, Shown, has_colour, no_rendition, shown_blank}
 use Rattle.cell.specs.Pictures.{Picture, Place, line_of, with_shown}
 use Rattle.cell.specs.Differences.{same_rendition, line_difference, difference}
@@ -11,7 +12,7 @@ use Rattle.ecma.specs.declared.token.Token.TheVariants.{Cup, Sgr}
 use Rattle.streams.specs.Sinks.{Seen}
 use Rattle.paint.specs.declared.pen.Pen.{Pen}
 use Rattle.paint.specs.Updates.{same_place}
-use Rattle.paint.specs.steps.Gathering.{Gathers}
+use Rattle.paint.specs.steps.Gathering.{Gathers, empty_outbox}
 
 -- ---- their bytes
 
@@ -47,6 +48,14 @@ with_cells picture place (cell ∷ cells) = with_cells (with_shown picture place
 abbrev pub characters : List Shown → List ℕ
 characters cells = map (λ cell. cell.character) cells
 
+-- all cells have a rendition
+abbrev pub all_have : Rendition → List Shown → Bool
+all_have rendition cells = list_all (λ cell. same_rendition cell.rendition rendition) cells
+
+-- a pen that gathered nothing, and does not know where the cursor is
+abbrev pub first_pen : ℕ → Pen
+first_pen columns = record { outbox = empty_outbox; columns = columns; cursor = None; rendition = no_rendition }
+
 -- the terminal that shows this picture, with the pen's cursor and rendition
 abbrev pub under : Pen → Picture → Terminal
 under pen picture = record { picture = picture; cursor = pen.cursor; rendition = pen.rendition }
@@ -78,6 +87,13 @@ abbrev pub approach_bytes : Option Place → Rendition → Place → List Shown 
 approach_bytes cursor rendition start gap wanted =
     let moved = moved_bytes cursor rendition (start.0, start.1 + length gap) wanted in
     if is_at cursor start then min (again_bytes rendition gap wanted) moved else moved
+
+-- Whether the gap is printed again: where that takes fewer bytes than a move, or as many, if all its cells have the rendition in force, or all the wanted one.
+abbrev pub is_printed_again : Option Place → Rendition → Place → List Shown → Rendition → Bool
+is_printed_again cursor rendition start gap wanted =
+    let again = again_bytes rendition gap wanted in
+    let moved = moved_bytes cursor rendition (start.0, start.1 + length gap) wanted in
+    nat_lt 0 (length gap) && (is_at cursor start && (nat_lt again moved || (again == moved && (all_have rendition gap || all_have wanted gap))))
 
 -- to come to a column of a line with the empty rendition, over the gap that begins at another, or that has no cell
 abbrev pub reach_bytes : Option Place → Rendition → ℕ → List Shown → ℕ → ℕ → ℕ

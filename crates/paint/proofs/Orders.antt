@@ -1,0 +1,219 @@
+-- The order of the passes for renditions as they come.
+use Rattle.std.proofs.Common.{◌≡◌, ℕ, zero, suc, ◌+◌, ◌-◌, ◌<◌, ◌≤◌, ◌==◌, ◌&&◌, true, false, List, [], ◌∷◌, ◌++◌, length, get_or, take, drop, inl, inr}
+use Rattle.std.proofs.Common.{refl, sym, ap, ◌∙◌, subst, arith, append_assoc, append-nil, length-append}
+use Rattle.std.specs.Prelude.{if◌then◌else◌, nat_lt}
+use Rattle.std.proofs.lemmas.Bool.{and_parts, cases_Bool, cases_lt, le-ltb, lt-ltb, ne_eqb}
+use Rattle.std.proofs.lemmas.List.{drop-take, take-take, take_all}
+use Rattle.cell.specs.EqualityLaws.{same_rendition-equal, same_rendition-equivalence, same_shown-self}
+use Rattle.cell.specs.Pictures.{Picture, line_of}
+use Rattle.cell.specs.Shown.{Rendition, Shown, no_rendition, shown_blank}
+use Rattle.cell.specs.Differences.{same_rendition, same_shown}
+use Rattle.paint.specs.declared.passes.Renditions.{Renditions}
+use Rattle.paint.specs.declared.passes.TheConstants.{MOST}
+use Rattle.paint.specs.steps.Passes.{HasNoted, changed_renditions, line_renditions, order_after, order_for, pass_of, saturating_usize, selections, with_pass}
+use Rattle.paint.specs.steps.Strokes.{all_have}
+
+-- ---- the renditions of a line
+
+renditions-nil : (shown : List Shown) → line_renditions shown [] ≡ []
+renditions-nil [] = refl
+renditions-nil (a ∷ shown) = refl
+
+pub renditions-split : (x : ℕ) (shown wanted : List Shown)
+    → line_renditions shown wanted ≡ line_renditions (take x shown) (take x wanted) ++ line_renditions (drop x shown) (drop x wanted)
+renditions-split zero shown wanted = refl
+renditions-split (suc x) [] wanted = refl
+renditions-split (suc x) (a ∷ shown) [] = sym (renditions-nil (drop x shown))
+renditions-split (suc x) (a ∷ shown) (b ∷ wanted) = elim (cases_Bool (same_shown a b)) [
+  | inl same ↦ rw same (renditions-split x shown wanted)
+  | inr other ↦ rw other (ap (λ l. b.rendition ∷ l) (renditions-split x shown wanted))
+]
+
+pub renditions-same : (line : List Shown) → line_renditions line line ≡ []
+renditions-same [] = refl
+renditions-same (a ∷ line) = rw (same_shown-self a) (renditions-same line)
+
+renditions-alike : (one other : List Shown) → one ≡ other → line_renditions one other ≡ []
+renditions-alike one other same = ap (λ l. line_renditions l other) same ∙ renditions-same other
+
+-- the next cell
+renditions-suc : (x : ℕ) (shown wanted : List Shown) → x < length shown → length shown ≡ length wanted
+    → line_renditions (take (suc x) shown) (take (suc x) wanted)
+    ≡ line_renditions (take x shown) (take x wanted) ++ line_renditions (get_or shown x shown_blank ∷ []) (get_or wanted x shown_blank ∷ [])
+renditions-suc x [] wanted inside same = absurd (omega arith)
+renditions-suc x (a ∷ shown) [] inside same = absurd (omega arith)
+renditions-suc zero (a ∷ shown) (b ∷ wanted) inside same = refl
+renditions-suc (suc x) (a ∷ shown) (b ∷ wanted) inside same = elim (cases_Bool (same_shown a b)) [
+  | inl alike ↦ rw alike (renditions-suc x shown wanted (omega arith) (omega arith))
+  | inr other ↦ rw other (ap (λ l. b.rendition ∷ l) (renditions-suc x shown wanted (omega arith) (omega arith)))
+]
+
+pub renditions-next : (x : ℕ) (shown wanted : List Shown) → x < length shown → length shown ≡ length wanted
+    → line_renditions (take (x + 1) shown) (take (x + 1) wanted)
+    ≡ line_renditions (take x shown) (take x wanted) ++ line_renditions (get_or shown x shown_blank ∷ []) (get_or wanted x shown_blank ∷ [])
+renditions-next x shown wanted inside same =
+    let next : x + 1 ≡ suc x = omega arith in ap (λ n. line_renditions (take n shown) (take n wanted)) next ∙ renditions-suc x shown wanted inside same
+
+drop-taken : (start end : ℕ) (cells : List Shown) → start ≤ end → drop start (take end cells) ≡ take (end - start) (drop start cells)
+drop-taken start end cells ordered =
+    let split : end ≡ start + (end - start) = omega arith in ap (λ n. drop start (take n cells)) split ∙ drop-take start (end - start) cells
+
+-- some cells after others
+pub renditions-between : (start end : ℕ) (shown wanted : List Shown) → start ≤ end
+    → line_renditions (take end shown) (take end wanted)
+    ≡ line_renditions (take start shown) (take start wanted) ++ line_renditions (take (end - start) (drop start shown)) (take (end - start) (drop start wanted))
+renditions-between start end shown wanted ordered =
+    renditions-split start (take end shown) (take end wanted)
+    ∙ (λ i. line_renditions (take-take start end shown ordered i) (take-take start end wanted ordered i)
+    ++ line_renditions (drop-taken start end shown ordered i) (drop-taken start end wanted ordered i))
+
+-- of two lines that are the same before a column and from another on
+pub renditions-part : (start end : ℕ) (shown wanted : List Shown) → start ≤ end → take start shown ≡ take start wanted → drop end shown ≡ drop end wanted
+    → line_renditions shown wanted ≡ line_renditions (take (end - start) (drop start shown)) (take (end - start) (drop start wanted))
+renditions-part start end shown wanted ordered before after =
+    renditions-split end shown wanted
+    ∙ ap (λ l. line_renditions (take end shown) (take end wanted) ++ l) (renditions-alike (drop end shown) (drop end wanted) after)
+    ∙ append-nil (line_renditions (take end shown) (take end wanted))
+    ∙ renditions-between start end shown wanted ordered
+    ∙ ap (λ l. l ++ line_renditions (take (end - start) (drop start shown)) (take (end - start) (drop start wanted))) (renditions-alike (take start shown) (take start wanted) before)
+
+-- ---- those of a picture
+
+picture-suc : (y : ℕ) (shown wanted : Picture) → y < length shown → length shown ≡ length wanted
+    → changed_renditions (take (suc y) shown) (take (suc y) wanted) ≡ changed_renditions (take y shown) (take y wanted) ++ line_renditions (line_of shown y) (line_of wanted y)
+picture-suc y [] wanted inside same = absurd (omega arith)
+picture-suc y (line ∷ shown) [] inside same = absurd (omega arith)
+picture-suc zero (line ∷ shown) (other ∷ wanted) inside same = append-nil (line_renditions line other)
+picture-suc (suc y) (line ∷ shown) (other ∷ wanted) inside same =
+    ap (λ l. line_renditions line other ++ l) (picture-suc y shown wanted (omega arith) (omega arith))
+    ∙ sym (append_assoc (line_renditions line other) (changed_renditions (take y shown) (take y wanted)) (line_renditions (line_of shown y) (line_of wanted y)))
+
+pub picture-next : (y : ℕ) (shown wanted : Picture) → y < length shown → length shown ≡ length wanted
+    → changed_renditions (take (y + 1) shown) (take (y + 1) wanted) ≡ changed_renditions (take y shown) (take y wanted) ++ line_renditions (line_of shown y) (line_of wanted y)
+picture-next y shown wanted inside same =
+    let next : y + 1 ≡ suc y = omega arith in ap (λ n. changed_renditions (take n shown) (take n wanted)) next ∙ picture-suc y shown wanted inside same
+
+passed-by : (n y : ℕ) (shown wanted : Picture) → y + n ≤ length shown → length shown ≡ length wanted → ((v : ℕ) → y ≤ v → v < y + n → line_of shown v ≡ line_of wanted v)
+    → changed_renditions (take (y + n) shown) (take (y + n) wanted) ≡ changed_renditions (take y shown) (take y wanted)
+passed-by zero y shown wanted inside same alike = let none : y + 0 ≡ y = omega arith in ap (λ k. changed_renditions (take k shown) (take k wanted)) none
+passed-by (suc n) y shown wanted inside same alike =
+    let next : y + suc n ≡ y + n + 1 = omega arith in
+    ap (λ k. changed_renditions (take k shown) (take k wanted)) next
+    ∙ picture-next (y + n) shown wanted (omega arith) same
+    ∙ ap (λ l. changed_renditions (take (y + n) shown) (take (y + n) wanted) ++ l) (renditions-alike (line_of shown (y + n)) (line_of wanted (y + n)) (alike (y + n) (omega arith) (omega arith)))
+    ∙ append-nil (changed_renditions (take (y + n) shown) (take (y + n) wanted))
+    ∙ passed-by n y shown wanted (omega arith) same (λ v from to. alike v from (omega arith))
+
+-- lines that are the same are passed over
+pub picture-passed : (y end : ℕ) (shown wanted : Picture) → y ≤ end → end ≤ length shown → length shown ≡ length wanted
+    → ((v : ℕ) → y ≤ v → v < end → line_of shown v ≡ line_of wanted v)
+    → changed_renditions (take end shown) (take end wanted) ≡ changed_renditions (take y shown) (take y wanted)
+picture-passed y end shown wanted ordered inside same alike =
+    let split : end ≡ y + (end - y) = omega arith in
+    ap (λ k. changed_renditions (take k shown) (take k wanted)) split ∙ passed-by (end - y) y shown wanted (omega arith) same (λ v from to. alike v from (omega arith))
+
+-- where all from one on are the same
+pub picture-whole : (y : ℕ) (shown wanted : Picture) → y ≤ length shown → length shown ≡ length wanted → ((v : ℕ) → y ≤ v → v < length shown → line_of shown v ≡ line_of wanted v)
+    → changed_renditions (take y shown) (take y wanted) ≡ changed_renditions shown wanted
+picture-whole y shown wanted inside same alike =
+    let old = take_all (length shown) shown (omega arith) in
+    let new = take_all (length shown) wanted (omega (arith, same)) in
+    sym (picture-passed y (length shown) shown wanted inside (omega arith) same alike) ∙ (λ i. changed_renditions (old i) (new i))
+
+-- ---- the order
+
+same-self : (rendition : Rendition) → same_rendition rendition rendition ≡ true
+same-self = same_rendition-equivalence.refl
+
+-- a rendition at the end of an order has a pass
+has_pass : (order : List Rendition) (rendition : Rendition) → pass_of (order ++ rendition ∷ []) rendition < length order + 1
+has_pass [] rendition = rw (same-self rendition) (omega arith)
+has_pass (first ∷ order) rendition = elim (cases_Bool (same_rendition first rendition)) [
+  | inl same ↦ rw same (omega arith)
+  | inr other ↦ rw other (omega (arith, has_pass order rendition))
+]
+
+with_pass-had : (order : List Rendition) (rendition : Rendition) → pass_of order rendition < length order → with_pass order rendition ≡ order
+with_pass-had order rendition had = rw (ne_eqb (pass_of order rendition) (length order) (λ same. omega (arith, same, had))) refl
+
+with_pass-twice : (order : List Rendition) (rendition : Rendition) → with_pass (with_pass order rendition) rendition ≡ with_pass order rendition
+with_pass-twice order rendition = elim (cases_Bool (pass_of order rendition == length order && nat_lt (length order) MOST)) [
+  | inl more ↦
+      rw more (with_pass-had (order ++ rendition ∷ []) rendition (omega (arith, has_pass order rendition, length-append order (rendition ∷ []))))
+  | inr full ↦ rw full (rw full refl)
+]
+
+-- ---- what was taken note of
+
+more-selected : (n m k : ℕ) → n ≡ saturating_usize (m + 1) → saturating_usize (n + k) ≡ saturating_usize (m + (1 + k))
+more-selected n m k is = omega (arith, is)
+
+-- the last one again
+noted-again : {renditions : Renditions} {came : List Rendition} → HasNoted renditions came → HasNoted renditions (came ++ renditions.last ∷ [])
+noted-again {renditions} {came} h = record {
+  order = λ coming.
+      ap (λ l. order_after l coming) (sym h.noted) ∙ h.order (renditions.last ∷ coming)
+      ∙ ap (order_after (no_rendition ∷ [])) (sym (append_assoc came (renditions.last ∷ []) coming));
+  selected = λ coming.
+      let once : selections renditions.last (renditions.last ∷ coming) ≡ selections renditions.last coming = rw (same-self renditions.last) (omega arith) in
+      ap (λ n. saturating_usize (renditions.switches + n)) (sym once) ∙ h.selected (renditions.last ∷ coming)
+      ∙ ap (λ l. saturating_usize (selections no_rendition l)) (sym (append_assoc came (renditions.last ∷ []) coming));
+  noted = h.noted;
+}
+
+-- another one
+pub noted-next : {old new : Renditions} {came : List Rendition} (rendition : Rendition) → HasNoted old came → same_rendition rendition old.last ≡ false
+    → new.order ≡ with_pass old.order rendition → new.last ≡ rendition → new.switches ≡ saturating_usize (old.switches + 1) → HasNoted new (came ++ rendition ∷ [])
+noted-next {old} {new} {came} rendition h other order last switches = record {
+  order = λ coming.
+      ap (λ l. order_after l coming) order ∙ h.order (rendition ∷ coming) ∙ ap (order_after (no_rendition ∷ [])) (sym (append_assoc came (rendition ∷ []) coming));
+  selected = λ coming.
+      let once : selections old.last (rendition ∷ coming) ≡ 1 + selections rendition coming = rw other refl in
+      ap (λ r. saturating_usize (new.switches + selections r coming)) last
+      ∙ more-selected new.switches old.switches (selections rendition coming) switches
+      ∙ ap (λ n. saturating_usize (old.switches + n)) (sym once) ∙ h.selected (rendition ∷ coming)
+      ∙ ap (λ l. saturating_usize (selections no_rendition l)) (sym (append_assoc came (rendition ∷ []) coming));
+  noted = (λ i. with_pass (order i) (last i)) ∙ with_pass-twice old.order rendition ∙ sym order;
+}
+
+-- changed cells that all have the last one
+pub noted-all : {renditions : Renditions} {came : List Rendition} (shown wanted : List Shown) → all_have renditions.last wanted ≡ true → HasNoted renditions came
+    → HasNoted renditions (came ++ line_renditions shown wanted)
+noted-all {renditions} {came} [] wanted all h = rw append-nil h
+noted-all {renditions} {came} (a ∷ shown) [] all h = rw append-nil h
+noted-all {renditions} {came} (a ∷ shown) (b ∷ wanted) all h =
+    let parts = and_parts (same_rendition b.rendition renditions.last) (all_have renditions.last wanted) all in
+    elim (cases_Bool (same_shown a b)) [
+      | inl same ↦ rw same (noted-all shown wanted parts.1 h)
+      | inr other ↦
+          let is : b.rendition ≡ renditions.last = same_rendition-equal b.rendition renditions.last parts.0 in
+          rw other (subst (HasNoted renditions) (append_assoc came (renditions.last ∷ []) (line_renditions shown wanted) ∙ ap (λ r. came ++ r ∷ line_renditions shown wanted) (sym is))
+          (noted-all shown wanted parts.1 (noted-again h)))
+    ]
+
+-- and a changed cell that has another
+pub noted-cell : {old new : Renditions} {came : List Rendition} (a b : Shown) → HasNoted old came → same_shown a b ≡ false → same_rendition b.rendition old.last ≡ false
+    → new.order ≡ with_pass old.order b.rendition → new.last ≡ b.rendition → new.switches ≡ saturating_usize (old.switches + 1)
+    → HasNoted new (came ++ line_renditions (a ∷ []) (b ∷ []))
+noted-cell a b h differs other order last switches = rw differs (noted-next b.rendition h other order last switches)
+
+-- a cell that is shown already
+pub noted-shown : {renditions : Renditions} {came : List Rendition} (a b : Shown) → HasNoted renditions came → same_shown a b ≡ true
+    → HasNoted renditions (came ++ line_renditions (a ∷ []) (b ∷ []))
+noted-shown a b h same = rw (same, append-nil) h
+
+-- ---- the order of all of them
+
+same-tests : (length_order n m : ℕ) → length_order ≤ MOST → saturating_usize n ≡ saturating_usize m → nat_lt length_order n ≡ nat_lt length_order m
+same-tests few n m most same = elim (cases_lt few n) [
+  | inl less ↦ lt-ltb few n less ∙ sym (lt-ltb few m (omega arith))
+  | inr past ↦ le-ltb few n past ∙ sym (le-ltb few m (omega arith))
+]
+
+pub noted-order : {renditions : Renditions} {came : List Rendition} → HasNoted renditions came → length renditions.order ≤ MOST
+    → (if nat_lt (length renditions.order) (renditions.switches + selections renditions.last []) then renditions.order else []) ≡ order_for came
+noted-order {renditions} {came} h few =
+    let is : renditions.order ≡ order_after (no_rendition ∷ []) came = h.order [] ∙ ap (order_after (no_rendition ∷ [])) (append-nil came) in
+    let all = h.selected [] ∙ ap (λ l. saturating_usize (selections no_rendition l)) (append-nil came) in
+    ap (λ b. if b then renditions.order else []) (same-tests (length renditions.order) (renditions.switches + selections renditions.last []) (selections no_rendition came) few all)
+    ∙ ap (λ l. if nat_lt (length l) (selections no_rendition came) then l else []) is
