@@ -1,5 +1,5 @@
 -- What a call does to a window of a known state, and the rectangle that it answers.
-use Rattle.std.proofs.Common.{◌≡◌, ℕ, ◌+◌, ◌-◌, ◌<◌, Option, Some, None, ap, arith, refl, sym, ◌∙◌}
+use Rattle.std.proofs.Common.{◌≡◌, ℕ, ◌+◌, ◌-◌, ◌<◌, Option, Some, None, Ok, ap, arith, refl, sym, ◌∙◌}
 use Rattle.std.specs.Prelude.{option_and_then}
 use Rattle.std.specs.Option.{option_map_or}
 use Rattle.cell.specs.Pictures.{origin}
@@ -9,11 +9,21 @@ use Rattle.world.specs.Drawings.{written_glyph, everywhere, lines_up, lines_down
 use Rattle.world.specs.Frames.{frame_of}
 use Rattle.world.specs.Typing.{frame_if_there, drawn_to}
 use Rattle.world.specs.calls.Writing.{insch_drawing, delch_drawing, erase_drawing, clrtoeol_drawing, clrtobot_drawing, insertln_drawing, deleteln_drawing, after_clear}
-use Rattle.world.specs.Effects.{drawing_frame, after_edit, draws}
+use Rattle.world.specs.Effects.{Change, after_change, change_frame, drawing_frame, after_edit, draws}
+use Rattle.world.specs.Sound.{AreSoundWindows}
+use Rattle.cell.specs.declared.refusal.Refusal.{Refusal}
 use Rattle.cell.specs.declared.window.Rect.{Rect}
+use Rattle.grids.specs.Tables.{WindowTable, windows}
+use Rattle.windows.specs.Calls.{Drew}
 use Rattle.windows.specs.steps.State.{IsStateOf, window_in_state}
 use Rattle.windows.specs.declared.state.WindowState.{WindowState}
 use Rattle.windows.proofs.Rectangles.{frame-inserted, frame-deleted, frame-to_end_of_line, frame-to_bottom_last, frame-to_bottom_more, frame-lines_up, frame-lines_down, frame-everywhere}
+
+-- a call that was accepted
+pub drew : {T : Type 0} {frame_of : T → Option Rect} {old new : WindowTable} {refusal : Option Refusal} {change : Change} {t : T}
+    → None ≡ refusal → windows new ≡ after_change (windows old) change → frame_of t ≡ change_frame (windows old) change → AreSoundWindows (windows new)
+    → Drew frame_of old refusal change (Ok t) new
+drew refused written frame sound = record { refused = refused; written = written; frame = frame; unchanged = tt; sound = sound }
 
 -- a window with the size and the settings of a state
 abbrev pub with_state : WindowState → Window → Window

@@ -5,6 +5,7 @@ use Rattle.cell.specs.Glyphs.{is_printable}
 use Rattle.world.specs.Typing.{frame_of_character}
 use Rattle.grids.specs.Tables.{windows}
 use Rattle.windows.specs.steps.State.{window_in_state}
+use Rattle.windows.proofs.Calls.{drew}
 use Rattle.windows.proofs.Runs.{typed-printed, frame-printed}
 use Rattle.windows.proofs.Texts.{joined-none}
 use Rattle.windows.proofs.Typing.{added, added_frame}
@@ -18,23 +19,8 @@ returns-then-is_printed_inside c =
     let s = c.in_ok-state.state in
     let h = c.in_ok-state.ensures.state in
     let printable = (and_parts (is_printable ch) _ (sym c.is_printed_inside.ensures ∙ c.if-is_printed_inside.true)).0 in
-    record {
-      refused = search rules;
-      written =
-          added ws w s h (windows c.print_inside.new.table) ch
-          (c.print_inside.ensures.written ∙ sym (typed-printed (window_in_state s) ch printable ws w));
-      frame =
-          added_frame ws w s h _ ch (c.print_inside.ensures.frame ∙ sym (frame-printed (window_in_state s) ch printable ws w))
-          ∙ sym (joined-none (frame_of_character ws w ch));
-      unchanged = tt;
-      sound = search rules;
-    }
-
-pub returns : goal.returns
-returns c = record {
-  refused = search rules;
-  written = search rules;
-  frame = search rules;
-  unchanged = search rules;
-  sound = search rules;
-}
+    drew (search rules)
+    (added ws w s h (windows c.print_inside.new.table) ch
+    (c.print_inside.ensures.written ∙ sym (typed-printed (window_in_state s) ch printable ws w)))
+    (added_frame ws w s h _ ch (c.print_inside.ensures.frame ∙ sym (frame-printed (window_in_state s) ch printable ws w))
+    ∙ sym (joined-none (frame_of_character ws w ch))) (search rules)

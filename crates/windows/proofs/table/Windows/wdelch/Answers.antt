@@ -3,19 +3,14 @@ use Rattle.std.proofs.Common.{refl, sym, ◌∙◌, rules}
 use Rattle.world.specs.Windows.{put}
 use Rattle.world.specs.calls.Writing.{delch_drawing}
 use Rattle.grids.specs.Tables.{windows}
-use Rattle.windows.proofs.Calls.{call-is, character_deleted_frame}
+use Rattle.windows.proofs.Calls.{call-is, character_deleted_frame, drew}
 use Rattle.windows.proofs.table.Windows.wdelch.Goals as goal
 
 pub returns : goal.returns
-returns c = record {
-  refused = search rules;
-  written =
-      let ws = windows c.args.self.now.table in
-      let w = c.args.win.0 in
-      c.delete_cell.ensures.written ∙ sym (call-is ws w c.in_ok-state.state c.in_ok-state.ensures.state (λ a. put ws w (delch_drawing ws.window w a)) refl);
-  frame =
-      character_deleted_frame (windows c.args.self.now.table) c.args.win.0 c.in_ok-state.state c.in_ok-state.ensures.state c.lines_from.result
-      c.lines_from.ensures;
-  unchanged = tt;
-  sound = search rules;
-}
+returns c =
+    drew (search rules)
+    (let ws = windows c.args.self.now.table in
+    let w = c.args.win.0 in
+    c.delete_cell.ensures.written ∙ sym (call-is ws w c.in_ok-state.state c.in_ok-state.ensures.state (λ a. put ws w (delch_drawing ws.window w a)) refl))
+    (character_deleted_frame (windows c.args.self.now.table) c.args.win.0 c.in_ok-state.state c.in_ok-state.ensures.state c.lines_from.result
+    c.lines_from.ensures) (search rules)
