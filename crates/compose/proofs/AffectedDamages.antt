@@ -1,5 +1,5 @@
 -- What a change damages, in terms of the windows before it.
-use Rattle.std.proofs.Common.{◌≡◌, ℕ, ◌≤◌, Bool, true, false, Ok, Option, Some, None, List, refl, sym, subst, ◌∙◌}
+use Rattle.std.proofs.Common.{◌≡◌, ℕ, ◌≤◌, Ok, Option, Some, None, List, refl, sym, subst, ◌∙◌}
 use Rattle.std.specs.Prelude.{MatchOption, ⊤}
 use Rattle.std.specs.Option.{option_map}
 use Rattle.cell.specs.declared.refusal.Refusal.{Refusal}

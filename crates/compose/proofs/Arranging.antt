@@ -8,13 +8,13 @@ use Rattle.world.specs.Panels.{Panels}
 use Rattle.world.specs.Sound.{AreSoundPanels, AreSoundWindows}
 use Rattle.world.specs.Windows.{Windows}
 use Rattle.world.specs.Effects.{asks, changes, with_entry, moved_to, order_takes_memory, windows_after}
-use Rattle.world.specs.calls.Dispatch.{refusal, takes_memory, world_after}
 use Rattle.world.specs.calls.Stacking.{after_stacking, numbered_panel, panel_number, stacking_order, stacking_refusal}
 use Rattle.world.specs.declared.call.Call.TheVariants as calls
 use Rattle.world.specs.declared.call.Reply.{Reply}
 use Rattle.world.specs.declared.call.Reply.TheVariants.{Panel}
 use Rattle.world.specs.declared.call.Stacking.{Stacking}
 use Rattle.world.specs.declared.panel.PanelId.{PanelId}
+use Rattle.world.specs.declared.settings.Columns.{Columns}
 use Rattle.world.proofs.PlaceLaws.{has_place, keeps-moved, panels-kept}
 use Rattle.world.proofs.Sizes.{SameSize, size-order}
 use Rattle.calls.specs.Methods.{as_reply}
@@ -25,8 +25,8 @@ use Rattle.compose.specs.Calling.{Called}
 use Rattle.compose.specs.Covers.{IsDesk}
 use Rattle.compose.specs.Desks.{DeskTable, world}
 use Rattle.compose.specs.steps.Outcomes.{Ordered, OrderedDamaging}
-use Rattle.compose.proofs.DamageCovers.{covered-result, few-result}
-use Rattle.compose.proofs.DeskLemmas.{accepted-by, called, err-three, ok-both, refused-as}
+use Rattle.compose.proofs.DamageCovers.{call-accepted}
+use Rattle.compose.proofs.DeskLemmas.{accepted-by, call-refused, refused-as}
 use Rattle.compose.proofs.SoundPanels.{MayBeIn, sound-kept, sound-with}
 
 -- ---- what the answer of a method is as that of its call
@@ -122,32 +122,16 @@ size-ordered reply_of old ps stacking (Ok done) new new_ps h =
     record { lines = ap (λ (ws : Windows). ws.lines) h.changed ∙ size.lines; columns = ap (λ (ws : Windows). ws.columns) h.changed ∙ size.columns }
 size-ordered reply_of old ps stacking (Err e) new new_ps h = record { lines = ap (λ (t : WindowTable). t.lines) h.unchanged; columns = ap (λ (t : WindowTable). t.columns) h.unchanged }
 
-module _ (old new : DeskTable) (pairs : new.pairs ≡ old.pairs) (virtual : new.virtual ≡ old.virtual) (stacking : Stacking) (r : Result Reply Refusal) (h : IsDesk old)
-    (m : OrderedDamaging old.windows old.panels stacking old.damage r new.windows new.panels new.damage) where
-  accepted : (done : Reply) → r ≡ Ok done → refusal (world old) (calls.Stacking stacking) ≡ None
-  accepted = accepted-by (takes_memory (world old) (calls.Stacking stacking)) (refusal (world old) (calls.Stacking stacking)) r m.call.refused
-
-  left : OnOk r (world new ≡ world_after (world old) (calls.Stacking stacking))
-  left = ok-both r (λ is are i. record { windows = is i; panels = are i; pairs = pairs i; virtual = virtual i }) m.call.changed m.call.arranged
-
-  unchanged : OnErr r (new ≡ old)
-  unchanged =
-      err-three r (λ table order damage i. record { windows = table i; panels = order i; pairs = pairs i; virtual = virtual i; damage = damage i })
-      m.call.unchanged m.call.unordered m.undamaged
-
-  pub ordered-desk : IsDesk new
-  ordered-desk =
-      let size = size-ordered (λ reply. reply) old.windows old.panels stacking r new.windows new.panels m.call in
-      record {
-        sound = record {
-          windows = m.call.sound;
-          panels = m.call.sound_panels;
-          pairs = rw pairs h.sound.pairs;
-          virtual = rw (virtual, size.lines, size.columns) h.sound.virtual;
-        };
-        covered = covered-result old new (calls.Stacking stacking) r h refl accepted left m.damaged unchanged;
-      }
-
-  pub ordered-called : Called old (calls.Stacking stacking) r new
-  ordered-called =
-      called old new (calls.Stacking stacking) r m.call.refused m.call.reply left (few-result old new (calls.Stacking stacking) r h refl accepted left m.damaged) unchanged
+pub order-made : (old : DeskTable) (w : WindowTable) (ps : PanelTable) (d : List (Option Columns)) (stacking : Stacking) (r : Result Reply Refusal) → IsDesk old
+    → OrderedDamaging old.windows old.panels stacking old.damage r w ps d
+    → IsDesk (record old { windows = w; panels = ps; damage = d }) × Called old (calls.Stacking stacking) r (record old { windows = w; panels = ps; damage = d })
+order-made old w ps d stacking (Ok reply) h m =
+    let size = size-ordered (λ reply. reply) old.windows old.panels stacking (Ok reply) w ps m.call in
+    let accepted = accepted-by (order_takes_memory (stacking_order (panels old.panels) stacking)) (stacking_refusal (windows old.windows) (panels old.panels) stacking) (Ok reply)
+    m.call.refused reply refl in
+    call-accepted old (record old { windows = w; panels = ps; damage = d }) (calls.Stacking stacking) h accepted refl
+    (λ i. record (world old) { windows = m.call.changed i; panels = m.call.arranged i }) m.damaged reply m.call.reply
+    (record { windows = m.call.sound; panels = m.call.sound_panels; pairs = h.sound.pairs; virtual = rw (size.lines, size.columns) h.sound.virtual })
+order-made old w ps d stacking (Err e) h m =
+    call-refused old (record old { windows = w; panels = ps; damage = d }) (calls.Stacking stacking) e h
+    (λ i. record old { windows = m.call.unchanged i; panels = m.call.unordered i; damage = m.undamaged i }) m.call.refused

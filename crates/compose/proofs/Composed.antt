@@ -1,23 +1,20 @@
 -- The virtual screen stays sound where it takes the picture of windows and panels.
-use Rattle.std.proofs.Common.{◌≡◌, ℕ, ◌+◌, ◌<◌, ◌≤◌, Bool, true, ◌==◌, Option, Some, None, List, refl, ap, ◌∙◌, arith}
+use Rattle.std.proofs.Common.{◌≡◌, ℕ, ◌+◌, ◌<◌, ◌≤◌, Bool, true, ◌==◌, Option, Some, None, refl, ap, sym, subst, ◌∙◌, arith}
 use Rattle.std.specs.Prelude.{IsSomeAnd, MatchOption, is_some, option_and_then, unwrap_or, ⊤}
 use Rattle.std.specs.List.{list_any}
 use Rattle.std.specs.Option.{option_map_or}
-use Rattle.cell.specs.Pictures.{Picture, Place, origin, AreShown, picture_of}
-use Rattle.cell.specs.Shown.{Pairs, Shown}
+use Rattle.cell.specs.Pictures.{Place, origin, AreShown, picture_of}
+use Rattle.cell.specs.Shown.{Shown, shown}
 use Rattle.cell.proofs.PictureLemmas.{HasSize-lines_from}
-use Rattle.world.specs.Windows.{Window, Windows, with_change}
+use Rattle.world.specs.Windows.{Drawing, Window, WindowMap, Windows, with_change}
+use Rattle.world.specs.World.{World, picture, topmost_cursor}
 use Rattle.world.specs.Panels.{Panels, cursor_from, cursor_of_topmost, cursor_on_screen, screen_place, standard_screen, topmost, window_or_standard}
-use Rattle.cell.specs.VirtualScreens.{VirtualScreen}
 use Rattle.world.specs.Sound.{AreSoundPanels, AreSoundWindows, IsSound, IsSoundPanel, IsSoundWindow, IsStandardScreen}
 use Rattle.world.specs.calls.Queries.{place_on_screen}
-use Rattle.world.specs.Effects.{unmarked_lines, without_marks, with_unmarked}
+use Rattle.world.specs.Effects.{after, composed_windows, composes, refreshes, shown_over, unmarked_lines, without_marks, with_unmarked}
 use Rattle.world.proofs.PlaceLaws.{has_place, panels-kept, places-changed, same_if, there-true}
-use Rattle.world.proofs.Sizes.{SameSize}
-use Rattle.grids.specs.Tables.{WindowTable, windows}
-use Rattle.stack.specs.Tables.{PanelTable, panels}
-use Rattle.compose.specs.Desks.{world}
-use Rattle.compose.proofs.DeskLemmas.{KeepsPlaces, desk_of}
+use Rattle.world.proofs.RefreshLaws.{found-unmarked}
+use Rattle.compose.proofs.DeskLemmas.{KeepsPlaces}
 
 -- ---- the cursor
 
@@ -53,59 +50,47 @@ cursor-within ws ps sound h =
     cursor-in ws w (ws.window w) (sound.each w) (top-there ws ps (topmost ps) sound h)
 
 -- the cursor of a window that is on the screen
-pub window-cursor-within : (ws : Windows) (w : ℕ) → AreSoundWindows ws → has_place (ws.window w) ≡ true
+placed : (o : Option Window) (place : Place) → option_and_then (λ (a : Window). a.place) o ≡ Some place → has_place o ≡ true
+placed None place e = cc
+placed (Some a) place e = ap (λ (p : Option Place). is_some p) e
+
+pub window-cursor-within : (ws : Windows) (w : ℕ) (place : Place) → AreSoundWindows ws → place_on_screen ws.window w ≡ Some place
     → ((cursor_on_screen ws.window w).0 < ws.lines) × ((cursor_on_screen ws.window w).1 < ws.columns)
-window-cursor-within ws w sound there = cursor-in ws w (ws.window w) (sound.each w) there
+window-cursor-within ws w place sound is = cursor-in ws w (ws.window w) (sound.each w) (placed (ws.window w) place is)
 
--- ---- the desk
+-- ---- the world after a refresh
 
--- other windows of the same size and places, and another virtual screen
-pub IsSound-shown : (old new : WindowTable) (ps : PanelTable) (pairs : Pairs) (virtual : VirtualScreen) (picture : Picture) (f : ℕ → ℕ → Shown) (cursor : Place) (clear : Bool)
-    → IsSound (world (desk_of old ps pairs virtual)) → AreSoundWindows (windows new) → SameSize (windows new) (windows old) → KeepsPlaces (panels ps) (windows old) (windows new)
-    → picture ≡ picture_of old.lines old.columns f → AreShown picture → (cursor.0 < old.lines) × (cursor.1 < old.columns)
-    → IsSound (world (desk_of new ps pairs (record { picture = picture; cursor = cursor; clear = clear })))
-IsSound-shown old new ps pairs virtual picture f cursor clear h sound same keeps shown cells within =
-    record {
-      windows = sound;
-      panels = panels-kept (panels ps) (windows old).window (windows new).window keeps h.panels;
-      pairs = h.pairs;
-      virtual = record {
-        size = rw (same.lines, same.columns, shown) (HasSize-lines_from old.lines old.columns f);
-        cells = cells;
-        line = rw same.lines within.0;
-        column = rw same.columns within.1;
-      };
-    }
+-- other windows of the same places, and another virtual screen
+sound-shown : (old : World) (window : WindowMap) (f : ℕ → ℕ → Shown) (cursor : Place) (clear : Bool) (new : World) → IsSound old
+    → KeepsPlaces old.panels old.windows (record old.windows { window = window })
+    → new ≡ record old { windows = record old.windows { window = window }; virtual = record { picture = picture_of old.windows.lines old.windows.columns f; cursor = cursor; clear = clear } }
+    → AreSoundWindows new.windows → AreShown new.virtual.picture → (cursor.0 < old.windows.lines) × (cursor.1 < old.windows.columns) → IsSound new
+sound-shown old window f cursor clear new h keeps left sound cells within = subst IsSound (sym left) (record {
+  windows = subst (λ (world : World). AreSoundWindows world.windows) left sound;
+  panels = panels-kept old.panels old.windows.window window keeps h.panels;
+  pairs = h.pairs;
+  virtual = record {
+    size = HasSize-lines_from old.windows.lines old.windows.columns f;
+    cells = subst (λ (world : World). AreShown world.virtual.picture) left cells;
+    line = within.0;
+    column = within.1;
+  };
+})
 
-pub IsSound-composed : (old new : WindowTable) (ps : PanelTable) (pairs : Pairs) (virtual : VirtualScreen) (picture : Picture) (f : ℕ → ℕ → Shown) (cursor : Place) (clear : Bool) (composed : List ℕ)
-    → IsSound (world (desk_of old ps pairs virtual)) → AreSoundWindows (windows new) → windows new ≡ record (windows old) { window = with_unmarked (windows old).window composed }
-    → picture ≡ picture_of old.lines old.columns f → AreShown picture → cursor ≡ cursor_of_topmost (windows old).window (panels ps)
-    → IsSound (world (desk_of new ps pairs (record { picture = picture; cursor = cursor; clear = clear })))
-IsSound-composed old new ps pairs virtual picture f cursor clear composed h sound are shown cells cursor_is =
-    IsSound-shown old new ps pairs virtual picture f cursor clear h sound (record { lines = ap (λ ws. ws.lines) are; columns = ap (λ ws. ws.columns) are })
-    (λ p w is other there. ap (λ ws. has_place (ws.window w)) are ∙ same_if (list_any (λ v. v == w) composed) ((windows old).window w) without_marks (λ a. refl) ∙ there)
-    shown cells (rw cursor_is (cursor-within (windows old) (panels ps) h.windows h.panels))
+pub sound-composed : (old new : World) → IsSound old → new ≡ after old composes → AreSoundWindows new.windows → AreShown new.virtual.picture → IsSound new
+sound-composed old new h left sound cells =
+    sound-shown old (with_unmarked old.windows.window (composed_windows old)) (picture old) (topmost_cursor old) _ new h
+    (λ p w is other there. same_if (list_any (λ v. v == w) (composed_windows old)) (old.windows.window w) without_marks (λ a. refl) ∙ there) left sound cells
+    (cursor-within old.windows old.panels h.windows h.panels)
 
--- one window that is on the screen was taken into the virtual screen, with its cursor
-pub IsSound-refreshed : (old new : WindowTable) (ps : PanelTable) (pairs : Pairs) (virtual : VirtualScreen) (w : ℕ) (place : Place) (picture : Picture) (f : ℕ → ℕ → Shown) (cursor : Place)
-    (clear : Bool)
-    → IsSound (world (desk_of old ps pairs virtual)) → AreSoundWindows (windows new) → windows new ≡ record (windows old) { window = with_change (windows old).window w without_marks }
-    → place_on_screen (windows old).window w ≡ Some place → picture ≡ picture_of old.lines old.columns f → AreShown picture → cursor ≡ cursor_on_screen (windows old).window w
-    → IsSound (world (desk_of new ps pairs (record { picture = picture; cursor = cursor; clear = clear })))
-IsSound-refreshed old new ps pairs virtual w place picture f cursor clear h sound are place_is shown cells cursor_is =
-    IsSound-shown old new ps pairs virtual picture f cursor clear h sound (record { lines = ap (λ ws. ws.lines) are; columns = ap (λ ws. ws.columns) are })
-    (λ p u is other there. ap (λ ws. has_place (ws.window u)) are ∙ places-changed (windows old) w without_marks (λ a. refl) u ∙ there)
-    shown cells (rw cursor_is (window-cursor-within (windows old) w h.windows (placed ((windows old).window w) place place_is))) where
-      placed : (o : Option Window) (place : Place) → option_and_then (λ (a : Window). a.place) o ≡ Some place → has_place o ≡ true
-      placed None place e = cc
-      placed (Some a) place e = ap (λ (p : Option Place). is_some p) e
+pub sound-refreshed : (old new : World) (w : ℕ) (test : ℕ → Bool) (drawing : Drawing) (cursor : Place) → IsSound old → new ≡ after old (refreshes w test drawing cursor)
+    → AreSoundWindows new.windows → AreShown new.virtual.picture → (cursor.0 < old.windows.lines) × (cursor.1 < old.windows.columns) → IsSound new
+sound-refreshed old new w test drawing cursor h left =
+    sound-shown old (with_change old.windows.window w (unmarked_lines test)) (shown_over old.pairs old.virtual.picture drawing) cursor _ new h
+    (λ p u is other there. places-changed old.windows w (unmarked_lines test) (λ a. refl) u ∙ there) left
 
--- a rectangle of a pad was, and the cursor stayed
-pub IsSound-pad : (old new : WindowTable) (ps : PanelTable) (pairs : Pairs) (virtual : VirtualScreen) (w : ℕ) (test : ℕ → Bool) (picture : Picture) (f : ℕ → ℕ → Shown) (clear : Bool)
-    → IsSound (world (desk_of old ps pairs virtual)) → AreSoundWindows (windows new) → windows new ≡ record (windows old) { window = with_change (windows old).window w (unmarked_lines test) }
-    → picture ≡ picture_of old.lines old.columns f → AreShown picture
-    → IsSound (world (desk_of new ps pairs (record { picture = picture; cursor = virtual.cursor; clear = clear })))
-IsSound-pad old new ps pairs virtual w test picture f clear h sound are shown cells =
-    IsSound-shown old new ps pairs virtual picture f virtual.cursor clear h sound (record { lines = ap (λ ws. ws.lines) are; columns = ap (λ ws. ws.columns) are })
-    (λ p u is other there. ap (λ ws. has_place (ws.window u)) are ∙ places-changed (windows old) w (unmarked_lines test) (λ a. refl) u ∙ there)
-    shown cells (h.virtual.line, h.virtual.column)
+-- the virtual screen shows the picture after it too
+pub shown-composed : (old new : World) → new ≡ after old composes → new.virtual.picture ≡ picture_of new.windows.lines new.windows.columns (picture new)
+shown-composed old new left =
+    subst (λ (world : World). world.virtual.picture ≡ picture_of world.windows.lines world.windows.columns (picture world)) (sym left)
+    (λ i. picture_of old.windows.lines old.windows.columns (λ y x. shown old.pairs (sym (found-unmarked old.windows.window (composed_windows old) old.panels y x) i)))

@@ -1,29 +1,27 @@
--- Where damage covers what a call may change, the damage of a desk still covers all that differs after it; and few lines are damaged.
-use Rattle.std.proofs.Common.{◌≡◌, ℕ, zero, suc, ◌<◌, Bool, true, false, Option, None, List, length, replicate, refl, sym, ap, subst, ◌∙◌, Result, Ok, Err}
-use Rattle.std.specs.Prelude.{OnErr, OnOk, slice_index_or}
+-- Where damage covers what an accepted call may change, the damage of a desk still covers all that differs after it, and few lines are
+-- damaged: so it leaves a desk, and was made.
+use Rattle.std.proofs.Common.{◌≡◌, ℕ, zero, suc, ◌<◌, Bool, true, false, Option, None, List, length, replicate, refl, sym, ap, subst, ◌∙◌, Ok}
+use Rattle.std.specs.Prelude.{slice_index_or}
 use Rattle.std.proofs.lemmas.List.{length-replicate}
-use Rattle.cell.specs.Pictures.{Picture, blank_picture, shown_at}
-use Rattle.cell.specs.Shown.{Pairs, first_pairs, shown_blank}
-use Rattle.cell.specs.declared.refusal.Refusal.{Refusal}
-use Rattle.grids.specs.Tables.{WindowTable, windows}
-use Rattle.stack.specs.Tables.{PanelTable, panels}
-use Rattle.world.specs.Panels.{first_panels}
+use Rattle.cell.specs.Pictures.{blank_picture, shown_at}
+use Rattle.cell.specs.Shown.{shown_blank}
+use Rattle.grids.specs.Tables.{windows}
 use Rattle.world.specs.Windows.{window_limit}
-use Rattle.cell.specs.VirtualScreens.{VirtualScreen}
-use Rattle.world.specs.World.{first_world, picture}
-use Rattle.world.specs.Sound.{AreColumnsWithin, AreSoundWindows}
+use Rattle.world.specs.World.{World, first_world, picture}
+use Rattle.world.specs.Sound.{AreColumnsWithin, AreSoundWindows, IsSound}
 use Rattle.world.specs.calls.Dispatch.{is_update_panels, refusal, world_after}
 use Rattle.world.specs.calls.Affected.{affects_place}
 use Rattle.world.specs.declared.settings.Columns.{Columns}
 use Rattle.world.specs.declared.call.Call.{Call}
+use Rattle.world.specs.declared.call.Reply.{Reply}
 use Rattle.world.proofs.Sizes.{size-call}
 use Rattle.picture.specs.Damages.{Damages, columns_of, has_damage_at}
 use Rattle.picture.proofs.DamageLaws.{damages-line}
 use Rattle.world.proofs.CallLaws.{picture-kept, virtual-kept}
-use Rattle.compose.specs.Calling.{DamagesFew}
-use Rattle.compose.specs.Covers.{IsCovered, IsDesk}
-use Rattle.compose.specs.Desks.{DeskTable, world}
-use Rattle.compose.proofs.DeskLemmas.{IsSound-new}
+use Rattle.compose.specs.Calling.{Called, DamagesFew, MayLeave, MayTell}
+use Rattle.compose.specs.Covers.{IsDesk}
+use Rattle.compose.specs.Desks.{DeskTable, is_damaged_line, world}
+use Rattle.compose.proofs.DeskLemmas.{IsSound-first, world-left}
 
 off-where : (b : Bool) → (b ≡ true → ⊥) → b ≡ false
 off-where true h = absurd (h refl)
@@ -34,8 +32,11 @@ on-off true h k = cc
 on-off false h k = cc
 
 module _ (old new : DeskTable) (call : Call) (h : IsDesk old) (accepted : refusal (world old) call ≡ None) (other : is_update_panels call ≡ false)
-    (left : world new ≡ world_after (world old) call)
+    (leaves : MayLeave old call new)
     (damages : Damages old.windows.columns (affects_place (world old) call) old.damage new.damage) where
+  left : world new ≡ world_after (world old) call
+  left = world-left old new call leaves
+
   same-lines : new.windows.lines ≡ old.windows.lines
   same-lines = ap (λ w. w.windows.lines) left ∙ (size-call (world old) call).lines
 
@@ -62,26 +63,13 @@ module _ (old new : DeskTable) (call : Call) (h : IsDesk old) (accepted : refusa
       ∙ sym (picture-kept (world old) y x h.sound on_line on_column call accepted unaffected)
       ∙ sym (ap (λ w. picture w y x) left)
 
-  pub covered-after : IsCovered new
-  covered-after = record { height = height-after; within = within-after; shown = shown-after }
-
-  pub few-after : DamagesFew old call new
+  few-after : DamagesFew old call new
   few-after line is = rw (other, accepted) (damages-line old.windows.columns (affects_place (world old) call) old.damage new.damage damages line is)
 
--- the same of a call that may be refused
-pub covered-result : {T : Type 0} (old new : DeskTable) (call : Call) (r : Result T Refusal) → IsDesk old → is_update_panels call ≡ false → ((done : T) → r ≡ Ok done → refusal (world old) call ≡ None)
-    → OnOk r (world new ≡ world_after (world old) call)
-    → OnOk r (Damages old.windows.columns (affects_place (world old) call) old.damage new.damage)
-    → OnErr r (new ≡ old) → IsCovered new
-covered-result old new call (Ok done) h other accepted left damages unchanged = covered-after old new call h (accepted done refl) other left damages
-covered-result old new call (Err e) h other accepted left damages unchanged = subst IsCovered (sym unchanged) h.covered
-
-pub few-result : {T : Type 0} (old new : DeskTable) (call : Call) (r : Result T Refusal) → IsDesk old → is_update_panels call ≡ false → ((done : T) → r ≡ Ok done → refusal (world old) call ≡ None)
-    → OnOk r (world new ≡ world_after (world old) call)
-    → OnOk r (Damages old.windows.columns (affects_place (world old) call) old.damage new.damage)
-    → OnOk r (DamagesFew old call new)
-few-result old new call (Ok done) h other accepted left damages = few-after old new call h (accepted done refl) other left damages
-few-result old new call (Err e) h other accepted left damages = tt
+  -- what it leaves is a desk, and the call was made
+  pub call-accepted : (reply : Reply) → MayTell (world old) (is_damaged_line old) call reply → IsSound (world new) → IsDesk new × Called old call (Ok reply) new
+  call-accepted reply tells sound =
+      (record { sound = sound; covered = record { height = height-after; within = within-after; shown = shown-after } }, (accepted, tells, leaves, few-after, sound))
 
 -- ---- a new desk
 
@@ -104,20 +92,13 @@ blank-at zero columns y x = refl
 blank-at (suc n) columns zero x = blank-line columns x
 blank-at (suc n) columns (suc y) x = blank-at n columns y x
 
-pub IsDesk-new : (w : WindowTable) (ps : PanelTable) (lines columns : ℕ) (pairs : Pairs) (cells : Picture) (damage : List (Option Columns)) → AreSoundWindows (windows w)
-    → windows w ≡ (first_world lines columns).windows → panels ps ≡ first_panels → pairs ≡ first_pairs → cells ≡ blank_picture lines columns → damage ≡ replicate lines None
-    → IsDesk (record { windows = w; panels = ps; pairs = pairs; virtual = record { picture = cells; cursor = (0, 0); clear = false }; damage = damage })
-IsDesk-new w ps lines columns pairs cells damage sound is none pairs_are blank undamaged =
-    let virtual : VirtualScreen = record { picture = cells; cursor = (0, 0); clear = false } in
-    let desk : DeskTable = record { windows = w; panels = ps; pairs = pairs; virtual = virtual; damage = damage } in
-    let first : world desk ≡ first_world lines columns =
-    (λ i. record { windows = is i; panels = none i; pairs = pairs_are i; virtual = record { picture = blank i; cursor = (0, 0); clear = false } }) in
-    record {
-      sound = IsSound-new w ps lines columns pairs cells sound is none pairs_are blank;
-      covered = record {
-        height = ap (λ (d : List (Option Columns)). length d) undamaged ∙ length-replicate lines None ∙ sym (ap (λ ws. ws.lines) is);
-        within = λ y. subst (λ c. AreColumnsWithin w.columns c) (sym (ap (λ (d : List (Option Columns)). columns_of d y) undamaged ∙ no-damage lines y)) tt;
-        shown = λ y x below left free.
-            ap (λ (p : Picture). shown_at p (y, x)) blank ∙ blank-at lines columns y x ∙ sym (ap (λ world. picture world y x) first ∙ first-picture lines columns y x);
-      };
-    }
+pub IsDesk-new : (t : DeskTable) (lines columns : ℕ) → world t ≡ first_world lines columns → AreSoundWindows (windows t.windows) → t.damage ≡ replicate lines None → IsDesk t
+IsDesk-new t lines columns first sound undamaged = record {
+  sound = IsSound-first (world t) lines columns first sound;
+  covered = record {
+    height = ap (λ (d : List (Option Columns)). length d) undamaged ∙ length-replicate lines None ∙ sym (ap (λ (w : World). w.windows.lines) first);
+    within = λ y. subst (λ c. AreColumnsWithin t.windows.columns c) (sym (ap (λ (d : List (Option Columns)). columns_of d y) undamaged ∙ no-damage lines y)) tt;
+    shown = λ y x below left free.
+        ap (λ (w : World). shown_at w.virtual.picture (y, x)) first ∙ blank-at lines columns y x ∙ sym (ap (λ (w : World). picture w y x) first ∙ first-picture lines columns y x);
+  };
+}

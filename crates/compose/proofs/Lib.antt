@@ -1,4 +1,4 @@
--- What a desk keeps, and the world that it represents, call by call; for `arrange`, `call`
+-- What a desk keeps, and the world that it represents, call by call; for `DamageCovers`, `WindowCalls`, `Arranging` and others
 pub mod DeskLemmas
 -- The virtual screen stays sound where it takes the picture of windows and panels; for `compose`, `refresh_pad`, `refresh_window`
 pub mod Composed
@@ -10,8 +10,8 @@ pub mod Laying
 pub mod RefreshedLines
 -- Windows are unmarked one after another; for `unmark_composed`, `unmark_lines`
 pub mod Unmarking
--- Where damage covers what a call may change, the damage of a desk still covers all that differs after it; and few lines are damaged; for `arrange`, `call`,
--- `new` and others
+-- Where damage covers what an accepted call may change, the damage of a desk still covers all that differs after it, and few lines are damaged: so it
+-- leaves a desk, and was made; for `refresh_window`, `refresh_pad`, `set_colours`, `new` and others
 mod DamageCovers
 -- The damage of one window after another; for `damage_visible`
 mod Visible
@@ -23,7 +23,7 @@ mod Reading
 mod Touching
 -- What is shown of a write in the standard screen where no panel is visible; for `damage_written`
 mod StandardWrites
--- A call on panels: what the stack of panels says of it, and the desk on which it is made; for `arrange`, `new_panel`, `move_panel` and others
+-- A call on panels: what the stack of panels says of it, and the desk on which it is made; for `arrange`, `call`, `new_panel` and others
 mod Arranging
 -- What a call on panels damages: the part of the panel that it names, as it was, and that of the panel that it changed or made, as it is; for
 -- `arrange_damaging`
@@ -32,5 +32,5 @@ pub mod Parting
 pub mod Padding
 -- What update_panels reads: no less than it changes, and no more than all of the damaged lines; for `compose`
 pub mod Updating
--- A call on windows, made on a desk: what it answers and leaves, and that the desk is still one; for `call`
+-- A call on windows, made on a desk: it leaves a desk, and was made; for `call`
 mod WindowCalls

@@ -9,9 +9,8 @@ use Rattle.cell.specs.declared.refusal.Refusal.TheVariants.{NoSuchWindow, Standa
 use Rattle.world.specs.Windows.{Window, WindowMap}
 use Rattle.world.specs.Panels.{Panels, standard_screen}
 use Rattle.world.specs.Sound.{AreSoundPanels, IsSoundPanel}
-use Rattle.world.specs.calls.Stacking.{IsSoundEntry, IsSoundOrder, after_del_panel, after_replace_panel, next_panel, window_tests}
-use Rattle.world.specs.Effects.{with_entry, with_panel}
-use Rattle.world.specs.declared.panel.PanelId.{PanelId}
+use Rattle.world.specs.calls.Stacking.{IsSoundEntry, IsSoundOrder, window_tests}
+use Rattle.world.specs.Effects.{with_entry}
 use Rattle.stack.specs.Tables.{PanelTable, panels}
 
 -- a window that may be in a panel

@@ -1,14 +1,18 @@
--- A call on windows, made on a desk: what it answers and leaves, and that the desk is still one.
-use Rattle.std.proofs.Common.{◌≡◌, false, Option, List, Result, Ok, None, sym, subst}
-use Rattle.std.specs.Prelude.{IfOk, OnErr, OnOk}
-use Rattle.cell.specs.Shown.{Pairs}
-use Rattle.cell.specs.VirtualScreens.{VirtualScreen}
+-- A call on windows, made on a desk: it leaves a desk, and was made.
+use Rattle.std.proofs.Common.{◌≡◌, ◌||◌, false, Option, List, Result, Ok, Err, None, inl, ap, refl, sym, subst, ◌∙◌}
+use Rattle.std.specs.Prelude.{IfOk}
+use Rattle.std.specs.Result.{result_err}
 use Rattle.cell.specs.declared.refusal.Refusal.{Refusal}
-use Rattle.world.specs.Effects.{Change, Effect, after, after_change, arranges, changes, effect_takes_memory}
-use Rattle.world.specs.calls.Affected.{affects_place, effect_shows_at}
-use Rattle.world.specs.calls.Dispatch.{effect_of, is_update_panels, refusal, takes_memory, world_after}
+use Rattle.world.specs.Effects.{Change, Effect, after, after_change, arranges, change_takes_memory, changes, effect_takes_memory}
+use Rattle.world.specs.Sound.{AreSoundWindows, IsSound}
+use Rattle.world.specs.Windows.{Windows}
+use Rattle.world.specs.calls.Affected.{affected_lines, effect_shows_at}
+use Rattle.world.specs.calls.Dispatch.{effect_of, is_update_panels, refusal, world_after}
+use Rattle.world.specs.calls.Queries.{query_refusal, query_reply}
 use Rattle.world.specs.calls.Refused.{Refused}
 use Rattle.world.specs.declared.call.Call.{Call}
+use Rattle.world.specs.declared.call.Call.TheVariants as calls
+use Rattle.world.specs.declared.call.Query.{Query}
 use Rattle.world.specs.declared.call.Reply.{Reply}
 use Rattle.world.specs.declared.settings.Columns.{Columns}
 use Rattle.world.proofs.Allowed.{IsAllowed}
@@ -16,52 +20,43 @@ use Rattle.world.proofs.CallLaws.{IsReady, ready}
 use Rattle.world.proofs.PlaceLaws.{keeps-change}
 use Rattle.world.proofs.Sizes.{size-change}
 use Rattle.grids.specs.Tables.{WindowTable, windows}
-use Rattle.stack.specs.Tables.{PanelTable, panels}
+use Rattle.stack.specs.Tables.{panels}
 use Rattle.picture.specs.Damages.{Damages}
 use Rattle.compose.specs.Calling.{Called, MayLeave, MayTell}
 use Rattle.compose.specs.Covers.{IsDesk}
 use Rattle.compose.specs.Desks.{DeskTable, is_damaged_line, world}
 use Rattle.compose.specs.steps.Outcomes.{ChangedDamaging}
-use Rattle.compose.proofs.DamageCovers.{covered-result, few-result}
-use Rattle.compose.proofs.DeskLemmas.{IsSound-after, accepted-by, before_call, after_call, called, windows-left, windows-unchanged}
+use Rattle.compose.proofs.DamageCovers.{call-accepted}
+use Rattle.compose.proofs.DeskLemmas.{IsSound-windows, accepted-by, call-refused}
 
-module _ (w new_w : WindowTable) (ps : PanelTable) (pairs : Pairs) (virtual : VirtualScreen) (d new_d : List (Option Columns)) (call : Call) (change : Change)
-    (r : Result Reply Refusal) (h : IsDesk (before_call w new_w ps pairs virtual d new_d)) (is : effect_of (world (before_call w new_w ps pairs virtual d new_d)) call ≡ arranges (changes change))
-    (m : ChangedDamaging w (panels ps) (refusal (world (before_call w new_w ps pairs virtual d new_d)) call) change d r new_w new_d) where
-  abbrev old : DeskTable
-  old = before_call w new_w ps pairs virtual d new_d
-
+module _ (old : DeskTable) (w : WindowTable) (d : List (Option Columns)) (call : Call) (change : Change) (h : IsDesk old) (is : effect_of (world old) call ≡ arranges (changes change)) where
   abbrev new : DeskTable
-  new = after_call w new_w ps pairs virtual d new_d
+  new = record old { windows = w; damage = d }
 
-  refused : Refused (takes_memory (world old) call) (refusal (world old) call) r
-  refused = subst (λ (e : Effect). Refused (effect_takes_memory e) (refusal (world old) call) r) (sym is) m.call.refused
+  allowed : refusal (world old) call ≡ None → IsAllowed (windows old.windows) (panels old.panels) change
+  allowed accepted = subst (λ (e : Effect). IsReady (world old) e) is (ready (world old) call accepted)
 
-  accepted : (done : Reply) → r ≡ Ok done → refusal (world old) call ≡ None
-  accepted = accepted-by (takes_memory (world old) call) (refusal (world old) call) r refused
+  sound-after : refusal (world old) call ≡ None → AreSoundWindows (windows w) → windows w ≡ after_change (windows old.windows) change → IsSound (world new)
+  sound-after accepted sound changed =
+      subst (λ (ws : Windows). IsSound (record (world old) { windows = ws })) (sym changed)
+      (IsSound-windows (world old) (after_change (windows old.windows) change) h.sound (subst AreSoundWindows changed sound) (size-change (windows old.windows) change)
+      (λ p n has rest there. keeps-change (windows old.windows) (panels old.panels) change h.sound.panels (allowed accepted) p n has there))
 
-  allowed : (done : Reply) → r ≡ Ok done → IsAllowed (windows w) (panels ps) change
-  allowed done ok = subst (λ (e : Effect). IsReady (world old) e) is (ready (world old) call (accepted done ok))
+  pub change-made : (r : Result Reply Refusal) → ChangedDamaging old.windows (panels old.panels) (refusal (world old) call) change old.damage r w d → is_update_panels call ≡ false
+      → IfOk r (λ reply. MayTell (world old) (is_damaged_line old) call reply) → (world new ≡ world_after (world old) call → MayLeave old call new) → IsDesk new × Called old call r new
+  change-made (Ok reply) m other tells leaves =
+      let accepted = accepted-by (change_takes_memory change) (refusal (world old) call) (Ok reply) m.call.refused reply refl in
+      let left : world new ≡ world_after (world old) call =
+      (λ i. record (world old) { windows = m.call.changed i }) ∙ ap (λ (e : Effect). after (world old) e) (sym is) in
+      call-accepted old new call h accepted other (leaves left)
+      (subst (λ (e : Effect). Damages old.windows.columns (effect_shows_at (world old) e) old.damage d) (sym is) m.damaged) reply tells
+      (sound-after accepted m.call.sound m.call.changed)
+  change-made (Err e) m other tells leaves =
+      call-refused old new call e h (λ i. record old { windows = m.call.unchanged i; damage = m.undamaged i })
+      (subst (λ (f : Effect). Refused {T = Reply} (effect_takes_memory f) (refusal (world old) call) (Err e)) (sym is) m.call.refused)
 
-  left : OnOk r (world new ≡ record (world old) { windows = after_change (windows w) change })
-  left = windows-left w new_w ps pairs virtual d new_d (after_change (windows w) change) r m.call.changed
-
-  follows : OnOk r (world new ≡ world_after (world old) call)
-  follows = subst (λ (e : Effect). OnOk r (world new ≡ after (world old) e)) (sym is) left
-
-  damages : OnOk r (Damages old.windows.columns (affects_place (world old) call) d new_d)
-  damages = subst (λ (e : Effect). OnOk r (Damages old.windows.columns (effect_shows_at (world old) e) d new_d)) (sym is) m.damaged
-
-  unchanged : OnErr r (new ≡ old)
-  unchanged = windows-unchanged w new_w ps pairs virtual d new_d r m.call.unchanged m.undamaged
-
-  pub is-desk : is_update_panels call ≡ false → IsDesk new
-  is-desk other = record {
-    sound = IsSound-after w new_w ps pairs virtual (after_change (windows w) change) r h.sound m.call.sound (size-change (windows w) change)
-        (λ done ok p n has rest there. keeps-change (windows w) (panels ps) change h.sound.panels (allowed done ok) p n has there) m.call.changed m.call.unchanged;
-    covered = covered-result old new call r h other accepted follows damages unchanged;
-  }
-
-  pub is-called : is_update_panels call ≡ false → IfOk r (λ reply. MayTell (world old) (is_damaged_line old) call reply)
-      → (OnOk r (world new ≡ record (world old) { windows = after_change (windows w) change }) → OnOk r (MayLeave old call new)) → Called old call r new
-  is-called other tells leaves = called old new call r refused tells (leaves left) (few-result old new call r h other accepted follows damages) unchanged
+-- a query leaves the desk as it was
+pub query-made : (old : DeskTable) (query : Query) (r : Result Reply Refusal) → IsSound (world old) → result_err r ≡ query_refusal (windows old.windows) query
+    → IfOk r (λ reply. reply ≡ query_reply (windows old.windows) query) → Called old (calls.Query query) r old
+query-made old query (Ok reply) sound refused says = (sym refused, says, refl, (λ line is. ap (λ b. b || affected_lines (world old) (calls.Query query) line) is), sound)
+query-made old query (Err e) sound refused says = (inl (sym refused), refl)

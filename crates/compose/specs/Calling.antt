@@ -1,5 +1,6 @@
 -- A call that sends nothing, made on a desk: what it answers, and what it leaves.
 use Rattle.std.specs.Prelude.{◌≡◌, ◌≤◌, ◌⊎◌, ℕ, Bool, true, Some, None, Result, Ok, Err}
+use Rattle.world.specs.Sound.{IsSound}
 use Rattle.world.specs.World.{World}
 use Rattle.world.specs.calls.Affected.{affected_after, most_cells}
 use Rattle.world.specs.calls.Dispatch.{refusal, reply_of, takes_memory, world_after}
@@ -37,8 +38,12 @@ MayLeave old call new = world new ≡ world_after (world old) call
 abbrev pub DamagesFew : DeskTable → Call → DeskTable → Type 0
 DamagesFew old call new = (line : ℕ) → is_damaged_line new line ≡ true → affected_after (world old) (is_damaged_line old) call line ≡ true
 
--- The call, which sends nothing, was made on a desk. A refused one changed nothing.
+-- The call, which sends nothing, was made on a desk, and leaves it sound. A refused one changed nothing.
 abbrev pub Called : DeskTable → Call → Result Reply Refusal → DeskTable → Type 0
 Called old call (Ok reply) new =
-    (refusal (world old) call ≡ None) × MayTell (world old) (is_damaged_line old) call reply × MayLeave old call new × DamagesFew old call new
+    (refusal (world old) call ≡ None)
+    × MayTell (world old) (is_damaged_line old) call reply
+    × MayLeave old call new
+    × DamagesFew old call new
+    × IsSound (world new)
 Called old call (Err e) new = MayRefuse (world old) call e × (new ≡ old)

@@ -18,7 +18,6 @@ ghost use Rattle.stack.specs.Tables.{panels};
 ghost use Rattle.picture.specs.Spans.{IsSpan};
 ghost use Rattle.world.specs.declared.call.Call.{Call};
 ghost use Rattle.world.specs.declared.call.Refresh.{Refresh};
-ghost use Rattle.world.specs.declared.call.Stacking.{Stacking};
 ghost use Rattle.compose.specs.Desks.{damaged_columns, is_damaged_line, world};
 ghost use Rattle.compose.specs.Calling.{Called};
 
@@ -36,7 +35,7 @@ use stack::Stack;
 use std::alloc::Global;
 use std::marker::Model;
 use windows::Windows;
-use world::{Call, Columns, Composed, Reply, Stacking};
+use world::{Call, Columns, Composed, Reply};
 
 /// A screen's windows and pads, its panels, its colour pairs, and its virtual screen: a picture, where the cursor is wanted, and whether the terminal is
 /// to be cleared first. Of each line it keeps the damaged columns: everywhere else the virtual screen shows what the search from the top finds.
@@ -81,6 +80,7 @@ impl Desk {
     /// `BadSize` for a size out of these limits, `NoMemory`.
     pub fn new(alloc: Global, lines: u16, cols: u16) -> Result<Desk, Refusal>
         ensures world { IfOk result (λ desk. world desk ≡ first_world lines cols) }
+        ensures sound { IfOk result (λ desk. IsSound (world desk)) }
         ensures damage { IfOk result (λ desk. (line : ℕ) → is_damaged_line desk line ≡ false) }
         ensures refused { RefusedBy (new_refusal lines cols) result }
     {
@@ -124,18 +124,6 @@ impl Desk {
         self.clear |= clear_asked(&self.windows.table, &self.stack);
         unmark_composed(&mut self.windows.table, &self.stack);
         Composed { cells }
-    }
-
-    /// Makes a call of the table of panels.
-    fn arrange(&mut self, stacking: Stacking) -> Result<Reply, Refusal>
-        ensures { Called self.old (Call.Stacking stacking) result self.new }
-    {
-        arrange_damaging(
-            &mut self.windows.table,
-            &mut self.stack,
-            &mut self.damage,
-            stacking,
-        )
     }
 
     /// The damaged columns of a line, or none: everywhere else the virtual screen shows what the search from the top finds.
@@ -286,7 +274,12 @@ impl Calls for Desk {
                 copying,
             ),
             Call::Query(asked) => query(&self.windows, asked),
-            Call::Stacking(stacking) => self.arrange(stacking),
+            Call::Stacking(stacking) => arrange_damaging(
+                &mut self.windows.table,
+                &mut self.stack,
+                &mut self.damage,
+                stacking,
+            ),
             Call::Refresh(asked) => refresh(self, asked),
         }
     }

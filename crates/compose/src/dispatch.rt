@@ -273,9 +273,9 @@ pub(crate) fn refresh(desk: &mut Desk, refresh: Refresh) -> Result<Reply, Refusa
     ensures { Called desk.old (Call.Refresh refresh) result desk.new }
 {
     match refresh {
-        Refresh::Noutrefresh { win } => done(desk.refresh_window(win)),
+        Refresh::Noutrefresh { win } => desk.refresh_window(win),
         Refresh::Pnoutrefresh { pad, pminrow, pmincol, sminrow, smincol, smaxrow, smaxcol } =>
-            done(desk.refresh_pad(pad, pminrow, pmincol, sminrow, smincol, smaxrow, smaxcol)),
+            desk.refresh_pad(pad, pminrow, pmincol, sminrow, smincol, smaxrow, smaxcol),
         Refresh::UpdatePanels => Ok(Reply::Composed(desk.compose())),
         Refresh::Doupdate => unreachable!(),
         Refresh::InitPair { pair, foreground, background } => desk.set_colours(pair, foreground, background),

@@ -1,6 +1,6 @@
 //! The calls that copy what is touched of a window, or a rectangle of a pad, to the virtual screen.
 
-ghost use Rattle.std.specs.Prelude.{◌≡◌, ◌<◌, ◌≤◌, ◌+◌, ◌-◌, ◌==◌, ◌&&◌, ◌^◌, ℕ, None, Some, IsSomeAnd, OnErr, OnOk, false, if◌then◌else◌, nat_le, nat_lt};
+ghost use Rattle.std.specs.Prelude.{◌≡◌, ◌<◌, ◌≤◌, ◌+◌, ◌-◌, ◌==◌, ◌&&◌, ◌^◌, ℕ, None, Some, IsSomeAnd, false, if◌then◌else◌, nat_le, nat_lt};
 ghost use Rattle.std.specs.Result.{result_err};
 ghost use Rattle.cell.specs.Pictures.{AreShown, HasSize, picture_of, shown_at};
 ghost use Rattle.cell.specs.Shown.{shown};
@@ -10,12 +10,10 @@ ghost use Rattle.world.specs.calls.Queries.{place_on_screen};
 ghost use Rattle.world.specs.calls.Refresh.{touched_cells, among_lines, refresh_refusal};
 ghost use Rattle.world.specs.Effects.{shown_over, unmarked_lines};
 ghost use Rattle.world.specs.Windows.{with_change};
-ghost use Rattle.world.specs.calls.Dispatch.{world_after};
 ghost use Rattle.grids.specs.Tables.{windows as windows_of};
 ghost use Rattle.world.specs.declared.call.Call.{Call};
 ghost use Rattle.world.specs.declared.call.Refresh.{Refresh};
-ghost use Rattle.compose.specs.Calling.{DamagesFew};
-ghost use Rattle.compose.specs.Desks.{world};
+ghost use Rattle.compose.specs.Calling.{Called};
 
 use crate::damaging::{damage_part, damage_touched};
 use crate::desk::Desk;
@@ -24,6 +22,7 @@ use cell::{Grid, Pairs, Rect, Refusal, Shown, WinId};
 use grids::{Grids, Place};
 use picture::{cursor_on_screen, show_piece};
 use windows::Windows;
+use world::Reply;
 
 impl Desk {
     /// Takes what is touched of a window into the virtual screen, at the window's place, with its cursor. Then no place of it is touched;
@@ -31,11 +30,8 @@ impl Desk {
     ///
     /// # Errors
     /// `NoSuchWindow`, `IsPad`.
-    pub(crate) fn refresh_window(&mut self, win: WinId) -> Result<(), Refusal>
-        ensures refused { result_err result ≡ refresh_refusal (world self.old).windows (Refresh.Noutrefresh win) }
-        ensures refreshed { OnOk result (world self.new ≡ world_after (world self.old) (Call.Refresh (Refresh.Noutrefresh win))) }
-        ensures damaged { OnOk result (DamagesFew self.old (Call.Refresh (Refresh.Noutrefresh win)) self.new) }
-        ensures unchanged { OnErr result (self.new ≡ self.old) }
+    pub(crate) fn refresh_window(&mut self, win: WinId) -> Result<Reply, Refusal>
+        ensures { Called self.old (Call.Refresh (Refresh.Noutrefresh win)) result self.new }
     {
         let (top, left) = self.windows.table.getbegyx(win)?;
         show_touched(
@@ -50,7 +46,7 @@ impl Desk {
         self.cursor = cursor_on_screen(&self.windows.table, win);
         self.clear |= asks(&self.windows.table, win);
         self.windows.table.unmark(win);
-        Ok(())
+        Ok(Reply::Nothing)
     }
 
     /// Takes the cells of a pad from line `pminrow` and column `pmincol` on into the lines from `sminrow` to `smaxrow` and the columns
@@ -70,13 +66,8 @@ impl Desk {
         smincol: u16,
         smaxrow: u16,
         smaxcol: u16,
-    ) -> Result<(), Refusal>
-        ensures refused { result_err result ≡ refresh_refusal (world self.old).windows
-            (Refresh.Pnoutrefresh pad pminrow pmincol sminrow smincol smaxrow smaxcol) }
-        ensures refreshed { OnOk result (world self.new ≡ world_after (world self.old)
-            (Call.Refresh (Refresh.Pnoutrefresh pad pminrow pmincol sminrow smincol smaxrow smaxcol))) }
-        ensures damaged { OnOk result (DamagesFew self.old (Call.Refresh (Refresh.Pnoutrefresh pad pminrow pmincol sminrow smincol smaxrow smaxcol)) self.new) }
-        ensures unchanged { OnErr result (self.new ≡ self.old) }
+    ) -> Result<Reply, Refusal>
+        ensures { Called self.old (Call.Refresh (Refresh.Pnoutrefresh pad pminrow pmincol sminrow smincol smaxrow smaxcol)) result self.new }
     {
         let source = Place {
             win: pad,
@@ -100,7 +91,7 @@ impl Desk {
         damage_part(&mut self.damage, Some(frame));
         self.clear |= asks(&self.windows.table, pad);
         unmark_lines(&mut self.windows, pad, pminrow, smaxrow - sminrow + 1);
-        Ok(())
+        Ok(Reply::Nothing)
     }
 }
 

@@ -1,5 +1,5 @@
 -- `move_panel`: the window of a panel that is there is moved, and panels stay sound (`Arranging`).
-use Rattle.std.proofs.Common.{rules, refl}
+use Rattle.std.proofs.Common.{rules}
 use Rattle.world.specs.Panels.{window_or_standard}
 use Rattle.std.proofs.Common.{Some}
 use Rattle.stack.specs.Tables.{panels}
