@@ -26,10 +26,8 @@ struct curspan_window {
 extern curspan curspan_the_screen;
 extern struct curspan_window curspan_windows[MOST];
 
-/* The number of a window, and for a pointer to none a number that no window has. */
-static inline uint16_t curspan_number(const WINDOW *win) {
-    return (uintptr_t)win - (uintptr_t)curspan_windows < sizeof curspan_windows ? win->number : NUMBER;
-}
+/* The number of a window, and for a null pointer a number that no window has. */
+static inline uint16_t curspan_number(const WINDOW *win) { return win ? win->number : NUMBER; }
 
 /* The window of an answer that is its number, and NULL of a refusal. */
 WINDOW *curspan_window_of(curspan_answer answer);
@@ -40,6 +38,11 @@ void curspan_forget_all(void);
 
 /* The screen, and a window of it, as arguments. */
 #define SCREEN_AND(win) &curspan_the_screen, curspan_number(win)
+
+/* The two calls that programs make most, proved as those of curspan.h: each answers OK or ERR, and is compiled to less than the call of its
+   name with what turns an answer into that. */
+int32_t curspan_wmove_end(uint16_t win, uint16_t y, uint16_t x, curspan *screen);
+int32_t curspan_waddch_end(uint16_t win, uint8_t ch, curspan *screen);
 
 /* Says to Curspan that a window writes with other attributes than before. */
 int curspan_tell_other(WINDOW *win, attr_t attrs);

@@ -7,7 +7,7 @@
 WINDOW *stdscr, *curscr;
 
 struct curspan_window curspan_windows[MOST];
-static struct curspan_window the_terminal;
+static struct curspan_window the_terminal = {.number = NUMBER}; /* it is no window of Curspan */
 
 static void forget(WINDOW *win) {
     const struct curspan_window none = {.number = NUMBER, .background = ' '};

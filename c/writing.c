@@ -7,12 +7,12 @@
 /* Makes a window ready to be written in with its own attributes. */
 static int ready(WINDOW *win) { return is_there(win) == ERR ? ERR : curspan_tell(win, win->attrs); }
 
-/* Whether a window is ready so already. */
-static inline bool is_ready(const WINDOW *win) { return is_there(win) == OK && win->given == win->attrs; }
+/* Whether a window is ready so already, if it is there. */
+static inline bool is_ready(const WINDOW *win) { return win && win->given == win->attrs; }
 
 int wmove(WINDOW *win, int y, int x) {
-    if (!are_numbers(y, x, 0, 0)) return ERR;
-    return done(curspan_wmove(SCREEN_AND(win), (uint16_t)y, (uint16_t)x));
+    if (!win || !are_numbers(y, x, 0, 0)) return ERR;
+    return curspan_wmove_end(win->number, (uint16_t)y, (uint16_t)x, &curspan_the_screen);
 }
 
 /* How a character is spelled at a column: a tab as spaces, another control character as a caret and a letter, and others as they are. It
@@ -56,7 +56,7 @@ int curspan_add_any(WINDOW *win, chtype ch) {
 int waddch(WINDOW *win, const chtype ch) {
     bool is_plain = ch >= ' ' && ch <= '~'; /* it has no attributes of its own, and is not spelled */
     if (!is_plain || !is_ready(win)) return curspan_add_any(win, ch);
-    return done(curspan_waddch(SCREEN_AND(win), (uint8_t)ch));
+    return curspan_waddch_end(win->number, (uint8_t)ch, &curspan_the_screen);
 }
 
 /* How many bytes of a text are written, of which at most n where that isn't negative. */

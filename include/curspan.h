@@ -68,7 +68,8 @@ enum curspan_status {
     CURSPAN_CLOSED = 22           /* the screen is closed */
 };
 
-/* What a call answers: a status, and where that is CURSPAN_OK one number, two, or none, which are 0 then. */
+/* What a call answers: a status, and where that is CURSPAN_OK one number, two, or none, which are 0 then. On a closed screen the status
+   of each but curspan_open is CURSPAN_CLOSED. */
 typedef struct curspan_answer {
     uint32_t status, first, second;
 } curspan_answer;
@@ -239,7 +240,7 @@ curspan_answer curspan_wbkgdset(curspan *screen, uint16_t win, uint8_t attrs, ui
 /* Sets the window's colour pair, 0 to 63. Refused: NO_SUCH_WINDOW, BAD_PAIR. */
 curspan_answer curspan_wcolor_set(curspan *screen, uint16_t win, uint16_t pair);
 
-/* Sets the background's colour pair. No cell is written. Refused: NO_SUCH_WINDOW, BAD_PAIR. */
+/* Sets the background's colour pair, 0 to 63. No cell is written. Refused: NO_SUCH_WINDOW, BAD_PAIR. */
 curspan_answer curspan_wbkgdpair(curspan *screen, uint16_t win, uint16_t pair);
 
 /* ---- copies and marks */

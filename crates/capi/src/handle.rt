@@ -4,7 +4,7 @@ ghost use Rattle.std.specs.Prelude.{◌≡◌, IfOk, None, Option, Some};
 ghost use Rattle.std.specs.Option.{MatchOption};
 ghost use Rattle.cell.specs.Refusals.{RefusedBy};
 ghost use Rattle.world.specs.calls.Making.{new_refusal};
-ghost use Rattle.capi.specs.Called.{Called};
+ghost use Rattle.capi.specs.Called.{Called, Ended};
 ghost use Rattle.capi.specs.Held.{IsBlank};
 ghost use Rattle.capi.specs.Lives.{Forgotten, Opened, Taken};
 ghost use Rattle.capi.specs.declared.surface.Surface.{Surface as TheSurface};
@@ -141,6 +141,14 @@ impl Handle {
             }
             None => Answer::closed(),
         }
+    }
+
+    /// Makes a call on the screen, and answers whether it is done.
+    #[inline(always)]
+    pub fn end(&mut self, alloc: Global, call: &Call<'_>) -> i32
+        ensures { Ended ⟦<Outlet as Sink>⟧ self.old.value call.now result self.new.value }
+    {
+        self.call(alloc, call).end()
     }
 
     /// Moves the bytes that were sent into a buffer, and says how many they are. Where the buffer is too short, they stay.
