@@ -73,7 +73,7 @@ impl Answer for Cell {
     }
 }
 
-/// Whether it is so.
+/// Yes or no.
 impl Answer for bool {
     ghost kind = { flag };
 

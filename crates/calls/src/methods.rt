@@ -138,7 +138,7 @@ pub trait Calls {
         self.ask(&Call::Writing(Writing::Move { win, y, x }))
     }
 
-    /// Writes a character at the cursor, which goes on; a newline (10), carriage return (13) or backspace (8) moves it.
+    /// Writes a character at the cursor, which advances; a newline (10), carriage return (13) or backspace (8) moves it.
     ///
     /// # Errors
     /// `NoSuchWindow`; `BadCharacter` for another character outside 32 to 126.

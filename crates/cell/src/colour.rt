@@ -104,7 +104,7 @@ impl PairId {
         }
     }
 
-    /// The pair of a number that is one.
+    /// The pair of a number known to be valid.
     pub(crate) fn of_number(number: u8) -> PairId
         requires { number ≤ LAST_PAIR }
         ensures { result ≡ number }
@@ -207,7 +207,7 @@ impl Pairs {
         Shown::of_cell(cell, pair)
     }
 
-    /// Puts how cells are shown into as many places.
+    /// Writes shown cells into as many places.
     pub(crate) fn show(&self, cells: &[Cell], places: &mut [Shown])
         requires { length places.old ≡ length cells.now }
         ensures shown { places.new ≡ map (shown self.now) cells.now }

@@ -19,8 +19,8 @@ const VERSION: &str = "0.1.0";
 
 /// What follows the help of the program.
 const EXAMPLE: &str = "\
-A script has a call a line, and stands on standard input, as the terminal bytes do for show.
-`man curspan` tells the calls.
+A script has a call a line, and is read from standard input, as the terminal bytes do for show.
+`man curspan` lists the calls.
 
 Example:
   printf 'addstr 0 hi\\nupdate_panels\\ndoupdate\\n' | curspan run --lines 24 --cols 80";

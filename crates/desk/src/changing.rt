@@ -83,7 +83,7 @@ fn widen_damaged(changes: &mut Changes, desk: &Desk, lines: u16)
     }
 }
 
-/// Adds what is touched of a window, where it lies on the screen.
+/// Adds what is touched of a window, at its place on the screen.
 fn widen_touched(changes: &mut Changes, table: &Grids, win: WinId)
     ensures height { length changes.new ≡ length changes.old }
     ensures keeps { (y x : ℕ) → may_change changes.new y x ≡ false → may_change changes.old y x ≡ false }

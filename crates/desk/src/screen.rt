@@ -66,7 +66,7 @@ pub struct RunEnd {
     pub done: usize,
     /// How many calls were refused.
     pub refused: usize,
-    /// How many cells the calls of `update_panels` read: as many at least as they changed, and at most the columns of the
+    /// How many cells the calls of `update_panels` read: at least as many as they changed, and at most the columns of the
     /// lines that were damaged before or that calls affected since.
     pub composed: u128,
     /// The fault that ended the run before all calls were made.

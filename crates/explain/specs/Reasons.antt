@@ -27,7 +27,7 @@ requirement Text = codes "a text with no escapes but \\n, \\r, \\b, \\\\ and \\x
 -- why digits are no number
 abbrev pub digits_reason : List ℕ → List ℕ
 digits_reason argument = if length argument == 0 then codes ": single spaces separate words"
-    else (if list_all is_ascii_digit argument then (if slice_index argument 0 == digit_0 then codes ": a number has no 0 in front" else codes ": it is too great")
+    else (if list_all is_ascii_digit argument then (if slice_index argument 0 == digit_0 then codes ": a number has no leading 0" else codes ": it is too great")
     else [])
 
 abbrev pub reason : Form → List ℕ → List ℕ

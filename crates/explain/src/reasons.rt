@@ -43,7 +43,7 @@ fn digits_reason(argument: &[u8]) -> &'static [u8]
         None => b": single spaces separate words",
         Some(first) if has_digits_alone(argument) => {
             if *first == b'0' {
-                b": a number has no 0 in front"
+                b": a number has no leading 0"
             } else {
                 b": it is too great"
             }

@@ -1,5 +1,5 @@
-//! The table of windows: which windows and pads there are, which cells they share, and the two writes of which every write
-//! is made.
+//! The table of windows: which windows and pads there are, which cells they share, and the writes of lines
+//! of which every write is made.
 //!
 //! - `frame`: rectangles joined
 //! - `making`: windows and pads are made, placed and deleted

@@ -28,7 +28,7 @@ impl Grids {
         }
     }
 
-    /// Untouches all of a window, which asks for a clear screen no more. The window must exist.
+    /// Untouches all of a window, which clears its clear flag. The window must exist.
     pub fn unmark(&mut self, win: WinId)
         requires { IsSome ((windows self.old).window win.0) }
         ensures unmarked { windows self.new ≡ record (windows self.old) { window = with_change (windows self.old).window win.0 without_marks } }

@@ -1,6 +1,5 @@
-//! What a painter's texts show after all that was sent to a terminal before. Each function does nothing, and its
-//! contract is
-//! the law.
+//! What a painter's texts show after all that was sent to a terminal before. Each function does nothing, and
+//! its contract is the law.
 
 ghost use Rattle.std.specs.Prelude.{◌≡◌, ◌≤◌, ℕ, Bool, List, [], ◌++◌, length, take, Some, None};
 ghost use Rattle.cell.specs.Pictures.{HasSize};

@@ -1,4 +1,4 @@
-//! Drawing in passes: of a picture what has one rendition first, and then what has another, where that takes fewer bytes.
+//! Drawing in passes: of a picture first the cells of one rendition, then those of another, where that takes fewer bytes.
 
 ghost use Rattle.std.specs.Prelude.{◌≡◌, ◌+◌, ◌<◌, ◌≤◌, ◌==◌, ◌++◌, ◌∷◌, [], List, drop, if◌then◌else◌, length, nat_lt, slice_set, take};
 ghost use Rattle.cell.specs.Pictures.{HasSize, Picture, line_of};

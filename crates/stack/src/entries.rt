@@ -1,4 +1,4 @@
-//! Which numbers are panels', and the window of each.
+//! Which numbers belong to panels, and the window of each.
 
 ghost use Rattle.std.specs.Prelude.{◌≡◌, ◌==◌, if◌then◌else◌, ℕ, None, Some, IfSome, MatchOption, OnOk, OnErr, is_some, false, ⊤};
 ghost use Rattle.std.specs.Result.{result_err};
@@ -73,7 +73,7 @@ pub fn free_number(nodes: &Nodes) -> Option<u16>
     }
 }
 
-/// Makes a number a panel's, which has this window and is in no order yet.
+/// Gives a number to a panel, which has this window and is in no order yet.
 pub fn enter(nodes: &mut Nodes, number: u16, win: WinId) -> Result<(), AllocError>
     requires table { IsPanelTable nodes.old }
     requires free { IsFree nodes.old number }

@@ -9,7 +9,7 @@ ghost use Rattle.streams.specs.Sources.{SourceSeen, met_end_after_read};
 use std::io;
 use std::io::{ErrorKind, Read};
 
-/// What gives bytes, and counts its failures: each error is one. It ends.
+/// What gives bytes, and counts its failures: each error is one. Every source ends.
 pub trait Source {
     // What is left of it, whether its end was met and read past, how often it failed, and how many reads are left.
     ghost seen: { Self → SourceSeen };

@@ -273,7 +273,7 @@ pub enum Reply {
     /// A line and a column, or a number of lines and one of columns.
     Pair(u16, u16),
     Cell(Cell),
-    /// Whether it is so.
+    /// Yes or no.
     Flag(bool),
     /// A new panel, or a panel's neighbour, if it has one.
     Panel(Option<PanelId>),

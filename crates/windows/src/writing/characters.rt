@@ -33,7 +33,7 @@ const NEWLINE: u8 = 10;
 const CARRIAGE_RETURN: u8 = 13;
 
 impl Windows {
-    /// Writes a character at the cursor, which goes on; a newline (10), carriage return (13) or backspace (8) moves it.
+    /// Writes a character at the cursor, which advances; a newline (10), carriage return (13) or backspace (8) moves it.
     ///
     /// # Errors
     /// `NoSuchWindow`; `BadCharacter` for another character outside 32 to 126.

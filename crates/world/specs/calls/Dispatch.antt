@@ -43,7 +43,7 @@ effect_of world (calls.Refresh refresh) = refresh_effect world refresh
 abbrev pub refusal : World → Call → Option Refusal
 refusal world call = first_of (tests_of world call)
 
--- The calls that make a window, a pad or a panel take memory. Where there is none of it, they are refused for that.
+-- The calls that make a window, a pad or a panel take memory. Without it they are refused.
 abbrev pub takes_memory : World → Call → Bool
 takes_memory world call = effect_takes_memory (effect_of world call)
 
