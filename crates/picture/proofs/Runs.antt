@@ -7,13 +7,14 @@ use Rattle.cell.specs.Glyphs.{Glyph, blank}
 use Rattle.cell.specs.Pictures.{HasSize, Picture, Place, line_of, origin, shown_at}
 use Rattle.cell.specs.Shown.{Pairs, shown}
 use Rattle.cell.specs.declared.window.Rect.{Rect}
-use Rattle.world.specs.Windows.{Window, WindowMap, Windows, cell_at}
+use Rattle.world.specs.Windows.{HasPlace, Window, WindowMap, Windows, cell_at}
+use Rattle.world.specs.calls.Making.{is_no_pad}
 use Rattle.world.specs.Panels.{Panels, cell_on_screen, found_from_top, holds, holds_place, owner, place_of, screen_place, standard_screen, window_or_standard}
 use Rattle.picture.specs.Counts.{GrewBy}
 use Rattle.picture.specs.Parts.{IsPiece, frame_holds}
 use Rattle.picture.specs.steps.Owners.{IsRun}
 use Rattle.picture.proofs.Counting.{grew-more}
-use Rattle.picture.proofs.Held.{IsBetween, held-between}
+use Rattle.picture.proofs.Held.{IsBetween, held-between, held-no-pad, held-place}
 use Rattle.picture.proofs.Lines.{LineShown, LineShown-more}
 use Rattle.picture.proofs.Searching.{owner-held}
 
@@ -36,47 +37,78 @@ run-cell window panels w y x u place placed held from owned =
     ∙ ap (λ k. cell_at window w (y - (place_of window w).0) k) column
     ∙ ap (λ v. cell_on_screen window v y u) owned
 
--- it holds those columns, where the standard screen does
-pub run-held : (window : WindowMap) (panels : Panels) (y x edge w last : ℕ) → IsRun window panels y x edge w last
-    → ((u : ℕ) → x ≤ u → u ≤ edge → holds window standard_screen y u ≡ true) → (u : ℕ) → x ≤ u → u ≤ last → holds window w y u ≡ true
-run-held window panels y x edge w last h standard u from upto =
-    let within = h.within in
-    ap (λ v. holds window v y u) (sym (h.same u from upto)) ∙ owner-held window panels y u (owner window panels y u) refl (standard u from (omega (arith, upto, within)))
-
--- What is read of a window, and where it is on the screen. The windows are those before.
-pub record IsRead (old now : Windows) (panels : Panels) (y x edge w last : ℕ) (r : Rect) (cells : List Glyph) : Type 0 where
+-- A run of columns of which a window is the owner, where the standard screen holds the line. The windows are those before.
+pub record IsHeldRun (old now : Windows) (panels : Panels) (y x edge w last : ℕ) : Type 0 where
   pub kept : now ≡ old
   pub run : IsRun old.window panels y x edge w last
   pub standard : (u : ℕ) → x ≤ u → u ≤ edge → holds old.window standard_screen y u ≡ true
+
+pub held_run : {old now : Windows} {panels : Panels} {y left x edge w last : ℕ} → now ≡ old → IsRun now.window panels y x edge w last → left ≤ x
+    → ((u : ℕ) → left ≤ u → u ≤ edge → holds old.window standard_screen y u ≡ true) → IsHeldRun old now panels y x edge w last
+held_run {panels = panels} {y = y} {x = x} {edge = edge} {w = w} {last = last} kept run begun standard = record {
+  kept = kept;
+  run = subst (λ (ws : Windows). IsRun ws.window panels y x edge w last) kept run;
+  standard = λ u after upto. standard u (omega (arith, begun, after)) upto;
+}
+
+module _ {old now : Windows} {panels : Panels} {y x edge w last : ℕ} (h : IsHeldRun old now panels y x edge w last) where
+  -- it holds those columns
+  held-from : (u : ℕ) → x ≤ u → u ≤ last → holds old.window w y u ≡ true
+  held-from u from upto =
+      let s = h.run in
+      let within = s.within in
+      ap (λ v. holds old.window v y u) (sym (s.same u from upto))
+      ∙ owner-held old.window panels y u (owner old.window panels y u) refl (h.standard u from (omega (arith, upto, within)))
+
+  pub run-held : (u : ℕ) → x ≤ u → u ≤ last → holds now.window w y u ≡ true
+  run-held u from upto = ap (λ (ws : Windows). holds ws.window w y u) h.kept ∙ held-from u from upto
+
+  pub run-no-pad : is_no_pad now.window w ≡ true
+  run-no-pad = held-no-pad now.window w y x (run-held x (omega arith) (let s = h.run in s.from))
+
+  pub run-between : (r : Rect) → ((v u : ℕ) → frame_holds r v u ≡ holds now.window w v u) → IsBetween r y x
+  run-between r rectangle = held-between r y x (rectangle y x ∙ run-held x (omega arith) (let s = h.run in s.from))
+
+  pub run-place : (r : Rect) → (r.top, r.left) ≡ place_of now.window w → HasPlace now.window w (y - r.top) (last - r.left)
+  run-place r place =
+      let top : r.top ≡ (place_of now.window w).0 = ap (λ (p : Place). p.0) place in
+      let left : r.left ≡ (place_of now.window w).1 = ap (λ (p : Place). p.1) place in
+      rw (top, left) (held-place now.window w y last (run-held last (let s = h.run in s.from) (omega arith)))
+
+-- what is read of the window, and where it is on the screen
+pub record IsRead (old now : Windows) (panels : Panels) (y x edge w last : ℕ) (r : Rect) (cells : List Glyph) : Type 0 where
+  pub held : IsHeldRun old now panels y x edge w last
   pub place : (r.top, r.left) ≡ place_of now.window w
   pub rectangle : (v u : ℕ) → frame_holds r v u ≡ holds now.window w v u
   pub piece : IsPiece now.window w (y - r.top) (x - r.left) (last - r.left - (x - r.left) + 1) cells
 
-module _ (old now : Windows) (panels : Panels) (y x edge w last : ℕ) (r : Rect) (cells : List Glyph) (h : IsRead old now panels y x edge w last r cells) where
-  held-from : (u : ℕ) → x ≤ u → u ≤ last → holds old.window w y u ≡ true
-  held-from = run-held old.window panels y x edge w last h.run h.standard
+module _ {old now : Windows} {panels : Panels} {y x edge w last : ℕ} {r : Rect} {cells : List Glyph} (h : IsRead old now panels y x edge w last r cells) where
+  run : IsRun old.window panels y x edge w last
+  run = let held = h.held in held.run
 
   between : IsBetween r y x
-  between = held-between r y x (h.rectangle y x ∙ ap (λ (ws : Windows). holds ws.window w y x) h.kept ∙ held-from x (omega arith) (let s = h.run in s.from))
+  between = run-between h.held r h.rectangle
 
   many : last - r.left - (x - r.left) + 1 ≡ last + 1 - x
-  many = let s = h.run in let from = s.from in let b = between in let left = b.left in omega (arith, from, left)
+  many = let s = run in let from = s.from in let b = between in let left = b.left in omega (arith, from, left)
 
   -- as many cells as the run has columns
   pub run-number : x + length cells ≡ last + 1
-  run-number = let s = h.run in let from = s.from in let p = h.piece in let n = p.number in let m = many in omega (arith, from, n, m)
+  run-number = let s = run in let from = s.from in let p = h.piece in let n = p.number in let m = many in omega (arith, from, n, m)
 
   pub run-cells : (u : ℕ) → x ≤ u → u < x + length cells → slice_index_or cells (u - x) blank ≡ found_from_top old.window panels y u
   run-cells u from before =
       let n = run-number in
       let m = many in
       let upto : u ≤ last = omega (arith, before, n) in
+      let held = h.held in
+      let kept = held.kept in
       let piece : IsPiece old.window w (y - r.top) (x - r.left) (last - r.left - (x - r.left) + 1) cells =
-      subst (λ (ws : Windows). IsPiece ws.window w (y - r.top) (x - r.left) (last - r.left - (x - r.left) + 1) cells) h.kept h.piece in
-      let place : (r.top, r.left) ≡ place_of old.window w = subst (λ (ws : Windows). (r.top, r.left) ≡ place_of ws.window w) h.kept h.place in
-      let s = h.run in
+      subst (λ (ws : Windows). IsPiece ws.window w (y - r.top) (x - r.left) (last - r.left - (x - r.left) + 1) cells) kept h.piece in
+      let place : (r.top, r.left) ≡ place_of old.window w = subst (λ (ws : Windows). (r.top, r.left) ≡ place_of ws.window w) kept h.place in
+      let s = run in
       piece.each (u - x) (omega (arith, from, upto, m))
-      ∙ run-cell old.window panels w y x u (r.top, r.left) place (held-from x (omega arith) s.from) from (sym (s.same u from upto))
+      ∙ run-cell old.window panels w y x u (r.top, r.left) place (held-from h.held x (omega arith) s.from) from (sym (s.same u from upto))
 
   -- with them the line is made a run further
   pub run-line : (pairs : Pairs) (start : ℕ) (before after new : Picture) → LineShown (λ u. shown pairs (found_from_top old.window panels y u)) y start x before after → start ≤ x
@@ -92,7 +124,7 @@ module _ (old now : Windows) (panels : Panels) (y x edge w last : ℕ) (r : Rect
   -- and as many were read
   pub run-grew : (start a b c : ℕ) → start ≤ x → GrewBy (x - start) a b → GrewBy (last - r.left - (x - r.left) + 1) b c → GrewBy (last + 1 - start) a c
   run-grew start a b c begun before more =
-      let s = h.run in
+      let s = run in
       let from = s.from in
       let held = between in
       let left = held.left in
