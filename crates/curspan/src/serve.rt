@@ -67,7 +67,8 @@ fn run<'a, R: Source, O: Sink, L: Sink>(
     requires { IsSize job.lines × IsSize job.cols }
     ensures ran { (LacksMemory (outputs (O.seen out.old) (L.seen log.old)) (outputs (O.seen out.new) (L.seen log.new)) result ×
         (R.seen input.new ≡ R.seen input.old))
-        ⊎ Runs ⟦<&'a mut O as Sink>⟧.seen job (R.seen input.old) (R.seen input.new) (outputs (O.seen out.old) (L.seen log.old)) (outputs (O.seen out.new) (L.seen log.new)) result }
+        ⊎ Runs ⟦<&'a mut O as Sink>⟧.seen job (R.seen input.old) (R.seen input.new) (outputs (O.seen out.old) (L.seen log.old))
+        (outputs (O.seen out.new) (L.seen log.new)) result }
     ensures log { result < 2 → (L.seen log.new).failures ≡ (L.seen log.old).failures }
 {
     let mut screen = match blank_screen(alloc, job) {
@@ -133,7 +134,8 @@ fn paint<R: Source, O: Sink, L: Sink>(
     requires { IsSize job.lines × IsSize job.cols }
     ensures painted { (LacksMemory (outputs (O.seen out.old) (L.seen log.old)) (outputs (O.seen out.new) (L.seen log.new)) result ×
         (R.seen input.new ≡ R.seen input.old))
-        ⊎ Paints ⟦<Discard as Sink>⟧.seen job (R.seen input.old) (R.seen input.new) (outputs (O.seen out.old) (L.seen log.old)) (outputs (O.seen out.new) (L.seen log.new)) result }
+        ⊎ Paints ⟦<Discard as Sink>⟧.seen job (R.seen input.old) (R.seen input.new) (outputs (O.seen out.old) (L.seen log.old))
+        (outputs (O.seen out.new) (L.seen log.new)) result }
     ensures log { result < 2 → (L.seen log.new).failures ≡ (L.seen log.old).failures }
 {
     match blank_screen(alloc, job) {

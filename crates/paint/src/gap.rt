@@ -29,7 +29,8 @@ pub fn approach<W: Sink>(
     requires columns { pen.old.columns ≤ LARGEST_SCREEN }
     ensures strokes { (picture : Picture) → length (line_of picture line) ≡ pen.old.columns
         → take (length gap.now) (drop start (line_of picture line)) ≡ gap.now
-        → Strokes (approach_bytes pen.old.cursor pen.old.rendition (line, start) gap.now rendition) (W.seen sink.old) (W.seen sink.new) pen.old pen.new picture picture }
+        → Strokes (approach_bytes pen.old.cursor pen.old.rendition (line, start) gap.now rendition) (W.seen sink.old) (W.seen sink.new)
+        pen.old pen.new picture picture }
     ensures rendition { pen.new.rendition ≡ rendition }
     ensures cursor { pen.new.cursor ≡ Some (line, start + length gap.now) }
     ensures columns { pen.new.columns ≡ pen.old.columns }

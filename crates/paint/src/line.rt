@@ -111,7 +111,8 @@ fn come_to<W: Sink>(
     requires wanted { length wanted.now ≡ pen.old.columns }
     requires column { column < length wanted.now }
     ensures strokes { (picture : Picture) → length (line_of picture line) ≡ pen.old.columns → take column (line_of picture line) ≡ take column wanted.now
-        → Strokes (reach_bytes pen.old.cursor pen.old.rendition line wanted.now gap column) (W.seen sink.old) (W.seen sink.new) pen.old pen.new picture picture }
+        → Strokes (reach_bytes pen.old.cursor pen.old.rendition line wanted.now gap column) (W.seen sink.old) (W.seen sink.new)
+        pen.old pen.new picture picture }
     ensures rendition { pen.new.rendition ≡ no_rendition }
     ensures cursor { pen.new.cursor ≡ Some (line, column) }
     ensures columns { pen.new.columns ≡ pen.old.columns }

@@ -43,9 +43,14 @@ impl Model for Painter {
 
     ghost Value = { PainterState };
 
-    ghost view = { λ p. record { lines = p.lines; columns = p.columns; last = option_map (λ cursor. record { picture = p.picture; cursor = cursor }) p.cursor } };
+    ghost view = { λ p. record {
+      lines = p.lines;
+      columns = p.columns;
+      last = option_map (λ cursor. record { picture = p.picture; cursor = cursor }) p.cursor;
+    } };
 
-    ghost invariant = { λ p. (p.lines ≤ LARGEST_SCREEN) × (p.columns ≤ LARGEST_SCREEN) × HasSize p.lines p.columns p.picture × IsWhole p.lines p.columns p.whole × (p.pen.columns ≡ p.columns) };
+    ghost invariant = { λ p. (p.lines ≤ LARGEST_SCREEN) × (p.columns ≤ LARGEST_SCREEN) × HasSize p.lines p.columns p.picture
+        × IsWhole p.lines p.columns p.whole × (p.pen.columns ≡ p.columns) };
 }
 
 impl Painter {
@@ -241,7 +246,8 @@ fn open<W: Sink>(pen: &mut Pen, sink: &mut W, shown: &mut Grid<Shown>)
 fn send_text<W: Sink>(pen: &mut Pen, sink: &mut W) -> Result<Sent, WriteFault>
     ensures text { (painter : PainterState) (clear : Bool) (wanted : ShownPicture) (start : Seen)
         → HoldsUpdate painter clear wanted start (W.seen sink.old) pen.old.outbox
-        → MatchResult result (λ sent. Updates painter clear start (W.seen sink.new) wanted sent.bytes) (λ fault. BreaksOff painter clear start (W.seen sink.new) wanted fault.sent) }
+        → MatchResult result (λ sent. Updates painter clear start (W.seen sink.new) wanted sent.bytes)
+        (λ fault. BreaksOff painter clear start (W.seen sink.new) wanted fault.sent) }
     ensures columns { pen.new.columns ≡ pen.old.columns }
     ensures same { W.name sink.new ≡ W.name sink.old }
 {

@@ -167,7 +167,8 @@ fn paint_pass<W: Sink>(
     requires wanted { HasSize (length changes.now) pen.old.columns wanted.now }
     requires changes { DifferOnly changes.now shown.now wanted.now }
     ensures strokes { Strokes (picture_bytes (picture_after order.now pass shown.now wanted.now) (picture_after order.now (pass + 1) shown.now wanted.now))
-        (W.seen sink.old) (W.seen sink.new) pen.old pen.new (picture_after order.now pass shown.now wanted.now) (picture_after order.now (pass + 1) shown.now wanted.now) }
+        (W.seen sink.old) (W.seen sink.new) pen.old pen.new (picture_after order.now pass shown.now wanted.now)
+        (picture_after order.now (pass + 1) shown.now wanted.now) }
     ensures columns { pen.new.columns ≡ pen.old.columns }
     ensures same { W.name sink.new ≡ W.name sink.old }
 {

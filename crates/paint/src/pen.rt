@@ -278,7 +278,8 @@ impl Pen {
         requires line { cursor.0 < LARGEST_SCREEN }
         requires column { cursor.1 < LARGEST_SCREEN }
         ensures draws { (picture : Picture) → cursor.1 < length (line_of picture cursor.0)
-            → Draws (change self.old.rendition no_rendition ++ move_from self.old.cursor cursor) (W.seen sink.old) (W.seen sink.new) self.old self.new picture picture }
+            → Draws (change self.old.rendition no_rendition ++ move_from self.old.cursor cursor) (W.seen sink.old) (W.seen sink.new)
+            self.old self.new picture picture }
         ensures rendition { self.new.rendition ≡ no_rendition }
         ensures cursor { self.new.cursor ≡ Some cursor }
         ensures columns { self.new.columns ≡ self.old.columns }
