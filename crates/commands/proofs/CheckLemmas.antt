@@ -42,10 +42,7 @@ count_more : (lines : List (List ℕ)) (text : List ℕ) → next_number (count_
 count_more lines text = min_more (length lines) 18446744073709551615 ∙ ap (λ n. min n 18446744073709551615) (sym (length-append lines (text ∷ [])))
 
 pub none_reported : (out : Seen) (report : Report) → report.is_written ≡ true → report.faulty ≡ 0 → IsReported out out report []
-none_reported out report written none = record {
-  put = rw written (nothing_put out);
-  faulty = none;
-}
+none_reported out report written none = grind (arith, nothing_put)
 
 pub line_reported : (first old new : Seen) (before : Report) (lines : List (List ℕ)) (text : List ℕ) (faulty : ℕ) (is_put : Bool) → IsReported first old before lines
     → before.is_written ≡ true → faulty ≡ next_number before.faulty → PuttingEnds is_put old new text
@@ -75,9 +72,7 @@ line_first false n line (p ∷ ps) some = refl
 
 line_of_script : (failed : Bool) (n : ℕ) (line left : List ℕ) → HasNoNewline line
     → findings_from failed n (slice_split is_newline (line ++ 10 ∷ left)) ≡ finding_of n line (parse_line line) ++ findings_from failed (next_number n) (slice_split is_newline left)
-line_of_script failed n line left h =
-    ap (findings_from failed n) (slice_split_at is_newline line 10 left (no_newlines line h) refl)
-    ∙ line_first failed n line (slice_split is_newline left) (omega (arith, length-slice_split is_newline left))
+line_of_script failed n line left h = grind (arith, slice_split_at, no_newlines, line_first, length-slice_split)
 
 long_test : (line : List ℕ) → LONGEST_LINE < length line → nat_lt LONGEST_LINE (length line) ≡ true
 long_test line h = grind (arith, nat_tests)
@@ -214,31 +209,23 @@ checked_prefix input r1 r2 out o1 o2 unused left kept n before after is_kept end
 
 pub reported_fails : (first old : Seen) (before : Report) (lines : List (List ℕ)) (after : List ℕ) → IsReported first old before lines → before.is_written ≡ false
     → IsNotWritten first old (flat lines ++ after)
-reported_fails first old before lines after r written =
-    not_put first old (flat lines ++ after) false (cut_before _ _ _ _ _ r.put written) refl
+reported_fails first old before lines after r written = grind (arith, not_put, cut_before)
 
 same_end : (a s b : ℕ) → (s == b) ≡ (a + s == a + b)
 same_end a s b = grind (arith, nat_tests)
 
 pub reported_ends : (first old new : Seen) (before : Report) (lines : List (List ℕ)) (after : List ℕ) (written : Bool) → IsReported first old before lines
     → before.is_written ≡ true → WritingEnds written old new after → WritingEnds written first new (flat lines ++ after)
-reported_ends first old new before lines after true r written h = record {
-  taken = Appends-trans _ _ _ _ _ (r.put.taken written) h.taken;
-  no_failure = h.no_failure ∙ r.put.failures ∙ ap (λ b. count_after (not b) first.failures) written;
-  flushes = h.flushes ∙ ap next_count r.put.flushes;
-  flushed = h.flushed;
-}
+reported_ends first old new before lines after true r written h = grind (arith, Appends-trans)
 reported_ends first old new before lines after false r written h = record {
   sent = length (flat lines) + h.sent;
   within = omega (arith, h.within, length-append (flat lines) after);
   taken = rw (take-append-add (flat lines) after h.sent) (Appends-trans _ _ _ _ _ (r.put.taken written) h.taken);
   failure = h.failure ∙ ap next_count (r.put.failures ∙ ap (λ b. count_after (not b) first.failures) written);
-  flushes = h.flushes ∙ ap (count_after (h.sent == length after)) r.put.flushes
-      ∙ ap (λ b. count_after b first.flushes) (same_end (length (flat lines)) h.sent (length after) ∙ ap (λ n. length (flat lines) + h.sent == n) (sym (length-append (flat lines) after)));
+  flushes = grind (arith, same_end, length-append);
 }
 
 -- with how many lines after them
 pub counted_ends : (first old new : Seen) (before : Report) (written : Bool) (count : List ℕ) (lines : List (List ℕ)) → count ≡ count_line before.faulty
     → before.is_written ≡ true → WritingEnds written old new count → IsReported first old before lines → WritingEnds written first new (report true lines)
-counted_ends first old new before written count lines is all h r =
-    subst (λ t. WritingEnds written first new (flat lines ++ t)) (is ∙ ap count_line r.faulty) (reported_ends first old new before lines count written r all h)
+counted_ends first old new before written count lines is all h r = grind (arith, reported_ends)

@@ -1,10 +1,10 @@
 -- A text with its bytes escaped is written piece by piece.
-use Rattle.std.proofs.Common.{◌≡◌, ℕ, Bool, true, false, List, [], ◌++◌, take, drop, refl, sym, ap, ap₂, subst, ◌∙◌, append_assoc, append-nil, take-append-drop}
+use Rattle.std.proofs.Common.{◌≡◌, ℕ, Bool, true, false, List, ◌++◌, take, drop, refl, sym, ap, subst, ◌∙◌, append_assoc, take-append-drop, arith}
 use Rattle.std.proofs.lemmas.Grind.{flat_map-append}
 use Rattle.streams.specs.Sinks.{Seen}
 use Rattle.commands.specs.Escapes.{escaped_text, escaped_byte}
 use Rattle.commands.specs.steps.Putting.{PuttingEnds}
-use Rattle.commands.proofs.PutLemmas.{cut_before, nothing_put, put_after}
+use Rattle.commands.proofs.PutLemmas.{cut_before, put_after}
 
 -- a prefix of a text was written, escaped, and the rest wasn't yet
 pub record IsPartlyEscaped (old new : Seen) (text rest : List ℕ) : Type 0 where
@@ -12,12 +12,8 @@ pub record IsPartlyEscaped (old new : Seen) (text rest : List ℕ) : Type 0 wher
   pub whole : text ≡ prefix ++ rest
   pub put : PuttingEnds true old new (escaped_text prefix)
 
-pub none_escaped : (old : Seen) (text : List ℕ) → IsPartlyEscaped old old text text
-none_escaped old text = record { prefix = []; whole = refl; put = nothing_put old }
-
 through : (text prefix rest piece after : List ℕ) (at : ℕ) → text ≡ prefix ++ rest → piece ≡ take at rest → after ≡ drop at rest → text ≡ (prefix ++ piece) ++ after
-through text prefix rest piece after at whole is rest_is =
-    whole ∙ ap (λ l. prefix ++ l) (sym (ap₂ ◌++◌ is rest_is ∙ take-append-drop at rest)) ∙ sym (append_assoc prefix piece after)
+through text prefix rest piece after at whole is rest_is = grind (arith, whole, take-append-drop, append_assoc)
 
 pub more_escaped : (old mid new : Seen) (text rest piece after : List ℕ) (at : ℕ) (written : Bool) → IsPartlyEscaped old mid text rest → PuttingEnds written mid new (escaped_text piece)
     → written ≡ true → piece ≡ take at rest → after ≡ drop at rest → IsPartlyEscaped old new text after
@@ -27,15 +23,11 @@ more_escaped old mid new text rest piece after at written p h is prefix back = r
   put = subst (PuttingEnds true old new) (sym (flat_map-append escaped_byte p.prefix piece)) (put_after _ _ _ _ _ true true p.put refl (subst (λ w. PuttingEnds w mid new (escaped_text piece)) is h));
 }
 
-pub all_escaped : (old new : Seen) (text rest : List ℕ) → IsPartlyEscaped old new text rest → rest ≡ [] → PuttingEnds true old new (escaped_text text)
-all_escaped old new text rest p e = subst (λ l. PuttingEnds true old new (escaped_text l)) (sym (p.whole ∙ ap (λ l. p.prefix ++ l) e ∙ append-nil p.prefix)) p.put
-
 -- a write failed
 pub cut_escaped : (old mid new : Seen) (text rest piece after : List ℕ) (at : ℕ) (written : Bool) → IsPartlyEscaped old mid text rest → PuttingEnds written mid new (escaped_text piece)
     → written ≡ false → piece ≡ take at rest → after ≡ drop at rest → PuttingEnds false old new (escaped_text text)
 cut_escaped old mid new text rest piece after at written p h is prefix back =
     let done : PuttingEnds written old new (escaped_text p.prefix ++ escaped_text piece) = put_after _ _ _ _ _ true written p.put refl h in
     let cut : PuttingEnds false old new ((escaped_text p.prefix ++ escaped_text piece) ++ escaped_text after) = cut_before _ _ _ _ written done is in
-    let joined : (escaped_text p.prefix ++ escaped_text piece) ++ escaped_text after ≡ escaped_text ((p.prefix ++ piece) ++ after) =
-    ap (λ l. l ++ escaped_text after) (sym (flat_map-append escaped_byte p.prefix piece)) ∙ sym (flat_map-append escaped_byte (p.prefix ++ piece) after) in
+    let joined : (escaped_text p.prefix ++ escaped_text piece) ++ escaped_text after ≡ escaped_text ((p.prefix ++ piece) ++ after) = grind (arith, flat_map-append) in
     subst (PuttingEnds false old new) (joined ∙ sym (ap escaped_text (through text p.prefix rest piece after at p.whole prefix back))) cut

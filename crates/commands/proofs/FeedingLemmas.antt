@@ -1,8 +1,8 @@
 -- A stream is read into a terminal piece by piece.
-use Rattle.std.proofs.Common.{◌≡◌, ℕ, Bool, false, true, List, [], ◌++◌, refl, subst, sym, append_assoc, append-nil}
+use Rattle.std.proofs.Common.{◌≡◌, ℕ, Bool, false, true, List, ◌++◌, refl, subst, append_assoc}
 use Rattle.std.proofs.lemmas.Bool.{ne_eqb}
 use Rattle.std.specs.Prelude.{◌||◌, if◌then◌else◌}
-use Rattle.std.proofs.KnownBytes.{Consumes-nil, Consumes-trans}
+use Rattle.std.proofs.KnownBytes.{Consumes-trans}
 use Rattle.std.specs.Io.KnownBytes.{Consumes}
 use Rattle.streams.specs.Sources.{SourceSeen}
 use Rattle.streams.specs.Counts.{moved_nothing}
@@ -13,13 +13,6 @@ pub record IsPartlyFed (old new : SourceSeen) (before after : Reader) : Type 0 w
   pub prefix : List ℕ
   pub read : Consumes old.left new.left prefix
   pub follows : Follows prefix before after
-
-pub none_fed : (old : SourceSeen) (before : Reader) → IsPartlyFed old old before before
-none_fed old before = record {
-  prefix = [];
-  read = Consumes-nil old.left;
-  follows = λ stream first read. subst (λ s. HasRead s first before) (sym (append-nil stream)) read;
-}
 
 pub more_fed : (old mid new : SourceSeen) (before between after : Reader) (piece : List ℕ) → IsPartlyFed old mid before between
     → Consumes mid.left new.left piece → Follows piece between after → IsPartlyFed old new before after

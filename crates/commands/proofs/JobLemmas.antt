@@ -1,5 +1,5 @@
 -- What clap says of this program's command line, and of the number of an option.
-use Rattle.std.proofs.Common.{◌≡◌, ℕ, List, [], Option, None, Some, Ok, Err, Result, true, false, refl, sym, ap, ap₂, subst, ◌∙◌}
+use Rattle.std.proofs.Common.{◌≡◌, ℕ, List, [], Option, None, Some, Ok, Result, true, false, refl, sym, ap, ap₂, subst, ◌∙◌, arith}
 use Rattle.std.specs.Prelude.{MatchOption}
 use Rattle.std.specs.Str.Parse.{ParsesUnsigned}
 use Rattle.clap.specs.Words.{AddsSubcommand, App, HasKind, HasMatchesOf, Row, Text, app_of, fault_of, is_simple, is_simple_and_free, one_of, one_text, rows_of, subcommand_of, subcommand_rows_of}
@@ -12,7 +12,7 @@ use Rattle.clap.specs.declared.parser.matches.ArgMatches.{ArgMatches}
 use Rattle.clap.specs.declared.parser.matches.Found.{Found}
 use Rattle.clap.proofs.OnLiterals.{clap_on_literals}
 use Rattle.clap.proofs.WalkLemmas.{one_text-rows}
-use Rattle.commands.specs.CommandLine.{IsNumber, ReadsNone, ReadsNumber, curspan}
+use Rattle.commands.specs.CommandLine.{ReadsNone, ReadsNumber, curspan}
 
 curspan_is_simple : is_simple curspan ≡ true
 unfolding clap_on_literals
@@ -48,11 +48,7 @@ module _ {E : Type 0} (gives : List ℕ → Result ℕ E → Type 0) (reads : (t
       → ((t : List ℕ) → o ≡ Some t → ReadsOne gives t r) → IsRead id rows r
   number_of_text id rows None None e none value = λ t is_text number. let never : Some t ≡ None = sym is_text ∙ e in cc
   number_of_text id rows None (Some n) e none value = let never : Some n ≡ None = none refl in cc
-  number_of_text id rows (Some t) None e none value =
-      let parsed = reads t (Err (value t refl).0) (value t refl).1 in
-      λ u is_text number.
-      let same : u ≡ t = (let both : Some u ≡ Some t = sym is_text ∙ e in cc) in
-      parsed (subst IsNumber same number)
+  number_of_text id rows (Some t) None e none value = grind arith
   number_of_text id rows (Some t) (Some n) e none value =
       let parsed = reads t (Ok n) (value t refl) in
       record { text = t; is_text = e; is_number = parsed.0; value = parsed.1 }

@@ -1,6 +1,6 @@
 -- A text is written piece by piece.
-use Rattle.std.proofs.Common.{◌≡◌, ◌+◌, ◌≤◌, ℕ, Bool, true, false, not, List, [], ◌++◌, length, take, drop, Result, Ok, Err, inl, inr, refl, sym, ap, ap₂, ◌∙◌, subst, arith, append_assoc}
-use Rattle.std.proofs.Common.{append-nil, take-append-drop, length-append}
+use Rattle.std.proofs.Common.{◌≡◌, ◌+◌, ◌≤◌, ℕ, Bool, true, false, not, List, [], ◌++◌, length, take, drop, Result, Ok, Err, refl, sym, ap, ap₂, ◌∙◌, arith, append_assoc}
+use Rattle.std.proofs.Common.{take-append-drop, length-append}
 use Rattle.std.proofs.lemmas.List.{take-append-le}
 use Rattle.std.proofs.Math.Seq.{take-append-add, take-length}
 use Rattle.std.proofs.KnownBytes.{Appends-nil, Appends-trans}
@@ -11,7 +11,7 @@ use Rattle.streams.specs.Sinks.{Seen, flushed_after_flush}
 use Rattle.streams.proofs.Sends.{Appends-keeps, cut-unflushed, whole-flushed}
 use Rattle.streams.specs.Sending.{Sends}
 use Rattle.streams.specs.declared.sending.WriteFault.{WriteFault}
-use Rattle.commands.specs.Written.{IsNotWritten, TakesPrefix, TriesToLog, WritingEnds}
+use Rattle.commands.specs.Written.{IsNotWritten, TakesPrefix, WritingEnds}
 use Rattle.commands.specs.steps.Putting.{PuttingEnds}
 
 -- a prefix of a text was written, and the rest wasn't yet
@@ -21,9 +21,6 @@ pub record IsPartlyPut (old new : Seen) (text rest : List ℕ) : Type 0 where
   pub taken : Appends old.taken new.taken prefix
   pub failures : new.failures ≡ old.failures
   pub flushes : new.flushes ≡ old.flushes
-
-pub none_put : (old : Seen) (text : List ℕ) → IsPartlyPut old old text text
-none_put old text = record { prefix = []; whole = refl; taken = Appends-nil old.taken; failures = refl; flushes = refl }
 
 cut_rest : (rest piece after : List ℕ) (at : ℕ) → piece ≡ take at rest → after ≡ drop at rest → rest ≡ piece ++ after
 cut_rest rest piece after at prefix back = sym (ap₂ ◌++◌ prefix back ∙ take-append-drop at rest)
@@ -38,29 +35,16 @@ more_put old mid new text rest piece after at n p s prefix back = record {
   flushes = s.flushes ∙ p.flushes;
 }
 
-pub all_put : (old new : Seen) (text rest : List ℕ) → IsPartlyPut old new text rest → rest ≡ [] → PuttingEnds true old new text
-all_put old new text rest p e = record {
-  taken = λ put. subst (Appends old.taken new.taken) (sym (p.whole ∙ ap (λ l. p.prefix ++ l) e ∙ append-nil p.prefix)) p.taken;
-  cut = λ e. cc;
-  flushes = p.flushes;
-  failures = p.failures;
-}
-
 -- a write failed
 pub cut_put : (old mid new : Seen) (text rest piece after : List ℕ) (at : ℕ) (fault : WriteFault) → IsPartlyPut old mid text rest → Sends mid new 0 piece (Err fault)
     → piece ≡ take at rest → after ≡ drop at rest → PuttingEnds false old new text
 cut_put old mid new text rest piece after at fault p s prefix back =
     let whole : text ≡ p.prefix ++ (piece ++ after) = p.whole ∙ ap (λ l. p.prefix ++ l) (cut_rest rest piece after at prefix back) in
     let short : s.ends.0 ≤ length piece = omega (arith, s.ends.1) in
-    let taken : take (length p.prefix + s.ends.0) text ≡ p.prefix ++ take s.ends.0 piece =
-    ap (take (length p.prefix + s.ends.0)) whole ∙ take-append-add p.prefix (piece ++ after) s.ends.0 ∙ ap (λ l. p.prefix ++ l) (take-append-le s.ends.0 piece after short) in
+    let taken : take (length p.prefix + s.ends.0) text ≡ p.prefix ++ take s.ends.0 piece = grind (arith, whole, take-append-add, take-append-le) in
     record {
       taken = λ e. cc;
-      cut = λ e. record {
-        sent = length p.prefix + s.ends.0;
-        within = rw whole (omega (arith, s.ends.1, length-append p.prefix (piece ++ after), length-append piece after));
-        taken = subst (Appends old.taken new.taken) (sym taken) (Appends-trans _ _ _ _ _ p.taken s.ends.3);
-      };
+      cut = grind (arith, whole, length-append, taken, Appends-trans);
       flushes = s.flushes ∙ p.flushes;
       failures = s.ends.4 ∙ ap next_count p.failures;
     }
@@ -94,10 +78,6 @@ flushed_after old mid new text is_put (Err e) p is kept failure flush flushed = 
   failure = failure ∙ ap next_count (p.failures ∙ ap (λ b. count_after (not b) old.failures) is);
   flushes = flush ∙ ap next_count p.flushes ∙ sym (whole-flushed (length text) text old.flushes refl);
 }
-
-pub tries_to_log : (old new : Seen) (text : List ℕ) (written : Bool) → WritingEnds written old new text → TriesToLog old new text
-tries_to_log old new text true h = inl h
-tries_to_log old new text false h = inr h
 
 -- ---- one of several texts
 

@@ -45,9 +45,7 @@ rest_of b x xs = unwrap_or (cond b (Some xs) None) (x ∷ xs)
 
 number_of_size : (text : Text) → accepts false size_parser text ≡ true
     → IsNumber (without_minus text) × IsSize (digits_value 10 (without_leading_plus (without_minus text)))
-number_of_size [] e =
-    let passed = accepts-Accepts false size_parser [] e in
-    absurd (omega (arith, passed.0.0))
+number_of_size [] e = grind (arith, accepts-Accepts, size_parser)
 number_of_size (x ∷ xs) e =
     let passed = accepts-Accepts false size_parser (x ∷ xs) e in
     go (x == 45) passed.0 passed.2 passed.3
@@ -87,10 +85,7 @@ abbrev check_leaf : Shape
 check_leaf = built_leaf (inherited (with_leaf_noted (marked_built curspan.top)) (new_app check_text).top)
 
 leaf_rules : (kind : Kind) → All IsKnownRule (leaf kind).rules
-leaf_rules kind = All-from_recursion IsKnownRule (leaf kind).rules (
-  (inl (record { action = refl; parser = refl; least = refl }), refl),
-  ((inl (record { action = refl; parser = refl; least = refl }), refl), ((inr refl, refl), tt)),
-)
+leaf_rules kind = grind (arith, All-from_recursion, kind)
 
 -- The words are a subcommand's, with both numbers.
 pub record NamesKind (words : List Text) : Type 0 where
@@ -144,10 +139,7 @@ taken words none =
 
 -- what was read of an option for a size is the text that clap kept, and so a size
 size_read : (option : Text) (rows : List Row) (n : ℕ) → KeepsSize option rows → ReadsNumber option rows n → IsSize n
-size_read option rows n kept read =
-    let same : Some kept.text ≡ Some read.text = sym kept.is_text ∙ read.is_text in
-    let texts : kept.text ≡ read.text = ap (λ (o : Option Text). unwrap_or o []) same in
-    rw (read.value, sym texts) kept.is_size
+size_read option rows n kept read = grind arith
 
 abbrev first_byte : Text → ℕ
 first_byte [] = 0
@@ -163,9 +155,7 @@ no_kind Show e = differ _ _ refl e
 
 named_kind : (words : List Text) (job : Job) → AsksIn (subcommand_of curspan words) job → NamesOne words → NamesKind words
 named_kind words job asked (inl names) = names
-named_kind words job asked (inr check) =
-    let name : kind_text job.kind ≡ check_text = ap (λ (o : Option (Text × List Row)). option_map_or (λ p. p.0) o []) (sym asked.named ∙ check.1) in
-    absurd (no_kind job.kind name)
+named_kind words job asked (inr check) = grind (arith, no_kind)
 
 -- what the subcommand asks for has sizes
 pub sizes_of_job : (words : List Text) (job : Job) → IsTaken words → AsksIn (subcommand_of curspan words) job → Asks words job

@@ -1,5 +1,5 @@
 -- Lemmas on the arguments of a call, one after another.
-use Rattle.std.proofs.Common.{◌≡◌, ℕ, ◌+◌, ◌<◌, true, List, [], ◌∷◌, length, drop, refl, ap, ◌∙◌, arith, Option, Some, None}
+use Rattle.std.proofs.Common.{◌≡◌, ℕ, ◌+◌, ◌<◌, true, List, [], ◌∷◌, length, drop, refl, arith, Option, Some, None}
 use Rattle.std.proofs.lemmas.List.{drop_all}
 use Rattle.std.specs.List.{slice_split, join_with_byte}
 use Rattle.std.specs.Borrow.{Bor}
@@ -33,24 +33,17 @@ pub record Counted (forms : List Form) (pieces : List (List ℕ)) (i : ℕ) (res
 -- There are too few arguments.
 pub too_few : (forms : List Form) (pieces : List (List ℕ)) (i : ℕ) (rest : Option (Bor (List ℕ))) → Counted forms pieces i (pieces_of rest) → rest ≡ None
     → i < length forms → length (arguments forms pieces) ≡ length forms → ⊥
-too_few forms pieces i rest counted none h same =
-    let left : length (arguments (drop i forms) (pieces_of rest)) ≡ 0 = ap (λ r. length (arguments (drop i forms) (pieces_of r))) none ∙ ap length (arguments_none (drop i forms)) in
-    omega (arith, counted.count)
+too_few forms pieces i rest counted none h same = grind (arith, arguments_none)
 
 -- There are too many arguments.
 pub too_many : (forms : List Form) (pieces : List (List ℕ)) (i : ℕ) (text : Bor (List ℕ)) → Counted forms pieces i (pieces_of (Some text))
     → i ≡ length forms → length (arguments forms pieces) ≡ length forms → ⊥
-too_many forms pieces i text counted all same =
-    let none : drop i forms ≡ [] = drop_all i forms (omega (arith, all)) in
-    let left : length (arguments (drop i forms) (pieces_of (Some text))) ≡ length (pieces_of (Some text)) = ap (λ fs. length (arguments fs (pieces_of (Some text)))) none in
-    omega (arith, counted.count, length-slice_split is_space text.now)
+too_many forms pieces i text counted all same = grind (arith, drop_all, length-slice_split)
 
 -- There are as many arguments as forms.
 pub as_many : (forms : List Form) (pieces : List (List ℕ)) (i : ℕ) → Counted forms pieces i [] → i ≡ length forms
     → length (arguments forms pieces) ≡ length forms
-as_many forms pieces i counted all =
-    let left : length (arguments (drop i forms) []) ≡ 0 = ap length (arguments_none (drop i forms)) in
-    omega (arith, counted.count)
+as_many forms pieces i counted all = grind (arith, arguments_none)
 
 -- What all arguments say is what those say that are left, after those that were taken.
 pub record Taken (forms : List Form) (pieces : List (List ℕ)) (i : ℕ) (rest : List (List ℕ)) (a : Arguments) : Type 0 where

@@ -78,8 +78,7 @@ gathered_none old unused line e = record {
 -- one more byte
 joined : (old mid new : SourceSeen) (unused left rest line : List ℕ) (b : ℕ) (g : Gathered old mid unused left line) (n : ReadsByte mid new left rest (Byte b))
     → Consumes old.left new.left (g.bytes ++ n.0) × (unused ++ (g.bytes ++ n.0) ≡ line ++ b ∷ rest)
-joined old mid new unused left rest line b g n =
-    (Consumes-trans _ _ _ _ _ g.read n.1, sym (append_assoc unused g.bytes n.0) ∙ ap (λ l. l ++ n.0) g.all ∙ append_assoc line left n.0 ∙ ap (λ l. line ++ l) n.2)
+joined old mid new unused left rest line b g n = grind (arith, Consumes-trans, append_assoc)
 
 pub gathered_more : (old mid new : SourceSeen) (unused left rest line after : List ℕ) (b : ℕ) → Gathered old mid unused left line → ReadsByte mid new left rest (Byte b)
     → is_newline b ≡ false → after ≡ line ++ b ∷ [] → Gathered old new unused rest after
@@ -156,14 +155,6 @@ taken_line seen unused left line t = record {
   at_end = λ e. cc;
 }
 
-pub taken_ends : (seen : SourceSeen) (unused left line : List ℕ) → TakesLine unused left line → ReadingEnds seen seen unused left false false true
-taken_ends seen unused left line t = record {
-  ended = refl;
-  past = λ unmet. refl;
-  failures = refl;
-  progress = λ more. omega (arith, simp length-append at (ap length t.all));
-}
-
 none_before : (xs : List ℕ) (i : ℕ) → ((k : ℕ) → k < i → is_newline (get_or xs k 0) ≡ false) → HasNoNewline (take i xs)
 none_before xs zero h = refl
 none_before [] (suc i) h = refl
@@ -189,10 +180,7 @@ newline_found unused at found early =
 -- a line that is read where it is
 pub unread_line : (seen : SourceSeen) (unused bytes gathered : List ℕ) (at : ℕ) → bytes ≡ unused → Some at ≡ position is_newline bytes → at < LONGEST_PIECE
     → ReadsLine seen seen unused (drop (at + 1) bytes) (if at + 1 == 0 then gathered else take (at + 1 - 1) bytes) (Some Newline)
-unread_line seen unused bytes gathered at same found early =
-    let some : (at + 1 == 0) ≡ false = grind (arith, nat_tests) in
-    let count : at + 1 - 1 ≡ at = omega arith in
-    rw (some, count, ← same) (taken_line seen bytes (drop (at + 1) bytes) (take at bytes) (newline_found bytes at found early))
+unread_line seen unused bytes gathered at same found early = grind (arith, nat_tests, taken_line, newline_found)
 
 -- the bytes of a piece from one on, without the first
 pub first_left_out : (piece : List ℕ) (from to count : ℕ) → count ≤ length (take (to - from) (drop from piece)) → from ≤ to

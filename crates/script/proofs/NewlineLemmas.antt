@@ -1,5 +1,5 @@
 -- Lemmas on the first newline of a text.
-use Rattle.std.proofs.Common.{◌≡◌, ℕ, ◌+◌, ◌-◌, ◌<◌, ◌≤◌, Some, None, position, Bool, true, false, List, length, take, drop, get_or, refl, sym, subst, ap, ◌∙◌, arith, length-drop, nat_lt, map, not}
+use Rattle.std.proofs.Common.{◌≡◌, ℕ, ◌+◌, ◌-◌, ◌<◌, ◌≤◌, Some, None, position, Bool, true, false, List, length, take, drop, get_or, refl, sym, ap, ◌∙◌, arith, length-drop, nat_lt, map, not}
 use Rattle.std.specs.List.{position_or_len, prefix_len}
 use Rattle.std.specs.Simd.Lanes.{chunk, mask_l}
 use lib.Count.{count_trailing_zeros}
@@ -17,10 +17,7 @@ pub record NoneBefore (text : List ℕ) (place : ℕ) : Type 0 where
   pub none : (k : ℕ) → k < place → is_newline (get_or text k 0) ≡ false
 
 pub newline_at : (text : List ℕ) (at : ℕ) → at < length text → is_newline (get_or text at 0) ≡ true → NoneBefore text at → Some at ≡ position is_newline text
-newline_at text at within here before =
-    let e : position_or_len is_newline text ≡ at = position_or_len_is is_newline text at 0 (omega arith) before.none (λ h. here) in
-    let t : nat_lt at (length text) ≡ true = grind (arith, nat_tests) in
-    rw (e, t) refl
+newline_at text at within here before = grind (arith, position_or_len_is, nat_tests)
 
 pub no_newline : (text : List ℕ) → NoneBefore text (length text) → None ≡ position is_newline text
 no_newline text before =
@@ -40,9 +37,7 @@ none_further text place further before others = record { none = λ k below. none
 
 -- a byte after a place, counted from there
 counted_from : (text : List ℕ) (from k : ℕ) (b : Bool) → from ≤ k → is_newline (get_or (drop from text) (k - from) 0) ≡ b → is_newline (get_or text k 0) ≡ b
-counted_from text from k b after is =
-    let same : from + (k - from) ≡ k = omega arith in
-    subst (λ n. is_newline (get_or text n 0) ≡ b) same (ap is_newline (sym (get_or-drop from text (k - from) 0)) ∙ is)
+counted_from text from k b after is = grind (arith, get_or-drop)
 
 pub found_after : (text : List ℕ) (from at : ℕ) → NoneBefore text from → Some at ≡ position is_newline (take (length text - from) (drop from text))
     → Some (from + at) ≡ position is_newline text
@@ -62,7 +57,4 @@ none_after text from before e =
 -- how many of the bytes that are looked through at once come before the lowest mark
 pub before_marked : (text : List ℕ) (from marks : ℕ) → from + LANES ≤ length text → marks ≡ mask_l (map is_newline (chunk from LANES text)) → (marks ≡ 0 → ⊥)
     → count_trailing_zeros 64 marks ≡ prefix_len (λ b. not (is_newline b)) (chunk from LANES text)
-before_marked text from marks room same some =
-    let long : length (chunk from LANES text) ≡ LANES = length-chunk from LANES text room in
-    let marked : 0 < mask_l (map is_newline (chunk from LANES text)) = omega arith in
-    ap (count_trailing_zeros 64) same ∙ trailing_mask_l is_newline 64 (chunk from LANES text) (omega arith) marked
+before_marked text from marks room same some = grind (arith, length-chunk, count_trailing_zeros, trailing_mask_l)

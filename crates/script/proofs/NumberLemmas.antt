@@ -3,7 +3,6 @@ use Rattle.std.proofs.Common.{Bool, false, None, [], ◌∷◌, ◌≡◌, ℕ, 
 use Rattle.std.proofs.Common.{drop, nat_lt, nat_le, length-take, below_more, length, get_or, take, refl, sym, ap, add-one, pow-suc, arith}
 use Rattle.std.specs.List.{after_first, before_first, list_all, position_or_len, slice_split}
 use Rattle.std.specs.Char.{is_ascii_digit, digit_value}
-use Rattle.std.specs.Str.Parse.{digits_value}
 use Rattle.std.proofs.lemmas.Bool.Decides.{nat_tests}
 use Rattle.std.proofs.lemmas.List.{get_or-take, take_all}
 use Rattle.std.proofs.lemmas.List.Folds.{list_all_at, list_all_more}
@@ -31,8 +30,7 @@ one_digit_more ds i value so_far lt h =
     let small = so_far.small in
     record {
       digits = list_all_more is_ascii_digit ds i 0 lt ∙ (rw (so_far.digits, h) refl);
-      number = ap (λ v. v * 10 + (get_or ds i 0 - 48)) so_far.number ∙ ap (λ v. digits_value 10 (take i ds) * 10 + v) (sym (digit_value-digit _ d.0 d.1))
-          ∙ sym (digits_value_more 10 ds i lt);
+      number = grind (arith, digit_value-digit, digits_value_more);
       small = omega arith;
     }
 
@@ -43,9 +41,7 @@ no_space c h = grind (arith, nat_tests)
 
 -- no space among digits
 no_space_before : (text : List ℕ) (count k : ℕ) → list_all is_ascii_digit (take count text) ≡ true → count ≤ length text → k < count → is_space (get_or text k 0) ≡ false
-no_space_before text count k digits within below =
-    let d = AllPass-from_list_all is_ascii_digit (take count text) digits k 0 (omega (arith, length-take count text)) in
-    no_space (get_or text k 0) (ap is_ascii_digit (sym (get_or-take count text k 0 below)) ∙ d)
+no_space_before text count k digits within below = grind (arith, AllPass-from_list_all, length-take, no_space, get_or-take)
 
 pub digits_alone : (text : List ℕ) (count : ℕ) → list_all is_ascii_digit (take count text) ≡ true → count ≡ length text → slice_split is_space text ≡ take count text ∷ []
 digits_alone text count digits all =
@@ -64,9 +60,7 @@ digits_before_space text count digits below here =
 first_piece_by : (text : List ℕ) (b : Bool) → nat_lt (position_or_len is_space text) (length text) ≡ b
     → (pieces : List (List ℕ)) × (slice_split is_space text ≡ before_first is_space text ∷ pieces)
 first_piece_by text true found = (slice_split is_space (after_first is_space text), slice_split_first is_space text 0 (grind (arith, nat_tests)))
-first_piece_by text false none =
-    let past : length text ≤ position_or_len is_space text = grind (arith, nat_tests) in
-    ([], split_none text (rw none refl) ∙ ap (λ piece. piece ∷ []) (sym (take_all (position_or_len is_space text) text past)))
+first_piece_by text false none = grind (arith, nat_tests, split_none, take_all)
 
 -- the space comes later than a place where there is none
 later_by : (text : List ℕ) (count : ℕ) (b : Bool) → nat_lt count (position_or_len is_space text) ≡ b → list_all is_ascii_digit (take count text) ≡ true → count < length text
@@ -85,9 +79,7 @@ not_plain most piece h = rw h refl
 -- a piece that goes on after its first digits, or is too long
 no_plain : (piece : List ℕ) (count : ℕ) (b : Bool) → nat_lt count MOST_DIGITS ≡ b → count ≤ MOST_DIGITS → count < length piece
     → (count < MOST_DIGITS → is_ascii_digit (get_or piece count 0) ≡ false) → is_plain_number piece ≡ false
-no_plain piece count true few within below stops =
-    let digits : list_all is_ascii_digit piece ≡ false = list_all_at is_ascii_digit piece count 0 below (stops (grind (arith, nat_tests))) in
-    rw digits (grind (arith, nat_tests))
+no_plain piece count true few within below stops = grind (arith, list_all_at, nat_tests)
 no_plain piece count false many within below stops = let long : nat_le (length piece) MOST_DIGITS ≡ false = grind (arith, nat_tests) in rw long (grind (arith, nat_tests))
 
 -- something else than a space follows the digits

@@ -1,5 +1,5 @@
 -- `subcommand`: lemmas of std alone.
-use Rattle.std.proofs.Common.{ap, ap₂, ◌∙◌, ◌||◌}
+use Rattle.std.proofs.Common.{ap, ap₂, ◌∙◌, arith}
 use Rattle.std.proofs.lemmas.Result.{IfOk-weaker}
 use Rattle.clap.specs.Simple.{app_of_fields}
 use Rattle.clap.specs.Words.{with_rule}
@@ -12,6 +12,4 @@ returns-clause-mode c =
     c.size-2.ensures.rule) c.arg-2.ensures
 
 pub returns-clause-local : goal.returns-clause-local
-returns-clause-local c =
-    let none = ap (λ fields. fields.has_globals) c.about.ensures ∙ c.new.ensures.local in
-    IfOk-weaker c.arg-2.result _ _ (λ r h. h.globals ∙ ap₂ ◌||◌ (c.in_ok-arg.ensures.globals ∙ ap₂ ◌||◌ none c.size.ensures.local) c.size-2.ensures.local) c.arg-2.ensures
+returns-clause-local c = grind (arith, IfOk-weaker)

@@ -10,11 +10,7 @@ pub loop-y-init : goal.loop-y-init
 loop-y-init g c = nothing_put _
 
 pub loop-y-preserved : goal.loop-y-preserved
-loop-y-preserved g c =
-    let picture = c.args.picture.now in
-    let inside : c.loop-y.y < length picture = omega (arith, c.loop-y-test.true, c.requires.lines) in
-    let line = rw (c.as_slice.ensures.value, c.line_text.ensures, c.row.ensures.row, c.from.ensures, c.if-not-put.false) at c.put.ensures in
-    rw (lines_through picture c.loop-y.y inside) (put_after _ _ _ _ (line_text (line_of picture c.loop-y.y)) _ _ c.loop-y.invariant refl line)
+loop-y-preserved g c = grind (arith, lines_through, put_after)
 
 pub returns-then-not-put : goal.returns-then-not-put
 returns-then-not-put g c =

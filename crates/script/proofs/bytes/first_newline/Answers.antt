@@ -4,9 +4,7 @@ use Rattle.script.proofs.NewlineLemmas.{found_after, newline_at, none_after, non
 use Rattle.script.proofs.bytes.first_newline.Goals as goal
 
 pub returns-then-before-lt-LANES : goal.returns-then-before-lt-LANES
-returns-then-before-lt-LANES c =
-    let e = c.before_newline-before.ensures in
-    newline_at c.args.text.now _ (omega arith) (e.found c.if-before-lt-LANES.true) (none_further _ _ _ c.loop-from.invariant.before e.none)
+returns-then-before-lt-LANES c = grind (arith, newline_at, none_further)
 
 pub returns-in-Some : goal.returns-in-Some
 returns-in-Some c = found_after _ _ _ c.loop-from.invariant.before c.in-Some.ensures

@@ -6,5 +6,4 @@ pub returns-then-count-text-clause-split : goal.returns-then-count-text-clause-s
 returns-then-count-text-clause-split c = digits_alone c.args.text.now c.args.count c.requires.digits c.if-count-text.true
 
 pub returns-then-text-count-eq32-clause-split : goal.returns-then-text-count-eq32-clause-split
-returns-then-text-count-eq32-clause-split c =
-    digits_before_space c.args.text.now c.args.count c.requires.digits (omega arith) (eq-eqb _ 32 c.if-text-count-eq32.true)
+returns-then-text-count-eq32-clause-split c = grind (arith, digits_before_space, eq-eqb)

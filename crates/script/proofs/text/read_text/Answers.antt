@@ -1,16 +1,12 @@
 -- Each round reads one character more.
-use Rattle.std.proofs.Common.{◌≡◌, ◌++◌, Some, arith, ◌∙◌, ap, sym, option_map}
+use Rattle.std.proofs.Common.{arith, ◌∙◌, ap, option_map}
 use Rattle.std.proofs.lemmas.Grind.{common_steps}
 use Rattle.script.proofs.TextLemmas.{nothing_before, one_before, plain_text}
 use Rattle.script.proofs.ByteLemmas.{ok_parts}
 use Rattle.script.proofs.text.read_text.Goals as goal
 
 pub returns-then-not-has_backslash : goal.returns-then-not-has_backslash
-returns-then-not-has_backslash c =
-    let r = c.try_extend_from_slice in
-    let piece = c.args.piece.now in
-    let items : r.new.self.items ≡ piece = (ok_parts r.result _ _ c.if-is_err.ensures.value r.ensures.ok r.ensures.variant).0 ∙ ap (λ text. text ++ piece) c.clear.ensures in
-    plain_text piece (sym c.if-not-has_backslash.ensures) ∙ ap Some (sym items)
+returns-then-not-has_backslash c = grind (arith, ok_parts, plain_text)
 
 pub loop-rest-init : goal.loop-rest-init
 loop-rest-init c = (nothing_before _ _ c.clear.ensures, grind (arith, common_steps))

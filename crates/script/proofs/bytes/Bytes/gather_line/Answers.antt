@@ -6,11 +6,7 @@ use Rattle.script.specs.declared.limits.TheConstants.{LONGEST_LINE}
 use Rattle.script.proofs.bytes.Bytes.gather_line.Goals as goal
 
 pub loop-byte-init : goal.loop-byte-init
-loop-byte-init g c = record {
-  gathered = gathered_none _ _ _ c.clear.ensures;
-  short = rw c.clear.ensures (omega arith);
-  reads_on = none_read _ _;
-}
+loop-byte-init g c = grind (arith, gathered_none, none_read)
 
 pub returns-then-byte-eq10-clause-line : goal.returns-then-byte-eq10-clause-line
 returns-then-byte-eq10-clause-line g c =

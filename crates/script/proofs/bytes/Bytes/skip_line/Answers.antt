@@ -1,13 +1,10 @@
 -- The bytes before the newline are left out.
-use Rattle.std.proofs.Common.{[], refl}
+use Rattle.std.proofs.Common.{arith}
 use Rattle.script.proofs.ByteLemmas.{ends_then, gathered_none, more_read, none_read, not_newline, skipped_failed, skipped_last, skipped_line, skipped_more}
 use Rattle.script.proofs.bytes.Bytes.skip_line.Goals as goal
 
 pub loop-byte-init : goal.loop-byte-init
-loop-byte-init g c = record {
-  skipped = record { line = []; gathered = gathered_none _ _ _ refl };
-  reads_on = none_read _ _;
-}
+loop-byte-init g c = grind (arith, gathered_none, none_read)
 
 pub returns-then-byte-eq10-clause-line : goal.returns-then-byte-eq10-clause-line
 returns-then-byte-eq10-clause-line g c =
