@@ -6,7 +6,7 @@ use Rattle.cell.specs.Shown.{shown_blank}
 use Rattle.cell.proofs.PictureLemmas.{length-line}
 use Rattle.paint.specs.Changes.{DifferOnly, is_in, may_change, no_stretch, stretch_of}
 use Rattle.paint.specs.declared.changes.Stretch.{Stretch}
-use Rattle.paint.specs.steps.Walks.{IsWithin}
+use Rattle.paint.specs.steps.Walks.{DifferWithin, IsWithin}
 use Rattle.paint.proofs.Changed.{is_out}
 
 -- ---- lists that have the same items in part
@@ -39,12 +39,22 @@ module _ {lines columns : ℕ} {changes : List Stretch} {shown wanted : Picture}
   pub line-none : (y : ℕ) → y < lines → stretch_of changes y ≡ no_stretch → line_of shown y ≡ line_of wanted y
   line-none y below none = line-alike y below (λ x left. ap (λ (s : Stretch). is_in s x) none ∙ is_out no_stretch x (inr (omega arith)))
 
-  pub line-prefix : (y : ℕ) {part : ℕ × ℕ} → y < lines → IsWithin columns (stretch_of changes y) part → take part.0 (line_of shown y) ≡ take part.0 (line_of wanted y)
+  line-prefix : (y : ℕ) {part : ℕ × ℕ} → y < lines → IsWithin columns (stretch_of changes y) part → take part.0 (line_of shown y) ≡ take part.0 (line_of wanted y)
   line-prefix y below h = take-same shown_blank _ (line_of shown y) (line_of wanted y) (same-width y below) (λ x few left. only.others y x (h.before x few))
 
-  pub line-back : (y : ℕ) {part : ℕ × ℕ} → y < lines → IsWithin columns (stretch_of changes y) part → drop part.1 (line_of shown y) ≡ drop part.1 (line_of wanted y)
+  line-back : (y : ℕ) {part : ℕ × ℕ} → y < lines → IsWithin columns (stretch_of changes y) part → drop part.1 (line_of shown y) ≡ drop part.1 (line_of wanted y)
   line-back y below h =
       drop-same shown_blank _ (line_of shown y) (line_of wanted y) (same-width y below) (λ x from left. only.others y x (h.after x from (omega (arith, left, length-line y old_size below))))
+
+  -- and the other columns of a line are alike
+  pub line-part : (y : ℕ) {part : ℕ × ℕ} → y < lines → IsWithin columns (stretch_of changes y) part → DifferWithin part.0 part.1 (line_of shown y) (line_of wanted y)
+  line-part y below h = record {
+    same = same-width y below;
+    ordered = h.ordered;
+    inside = omega (arith, h.inside, length-line y new_size below);
+    before = line-prefix y below h;
+    after = line-back y below h;
+  }
 
   pub line-whole : (y : ℕ) {part : ℕ × ℕ} → y < lines → IsWithin columns (stretch_of changes y) part → part.0 ≡ part.1 → line_of shown y ≡ line_of wanted y
   line-whole y {part} below h none =

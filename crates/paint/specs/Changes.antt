@@ -1,6 +1,6 @@
 -- In which columns of each line a picture may differ from the one that was shown last.
 use Rattle.std.specs.Prelude.{◌≡◌, ℕ, ◌<◌, ◌≤◌, ◌&&◌, Bool, true, false, min, max, nat_le, nat_lt, List, length, slice_index_or}
-use Rattle.cell.specs.Pictures.{Picture, shown_at}
+use Rattle.cell.specs.Pictures.{HasSize, Picture, shown_at}
 use Rattle.cell.specs.declared.limits.TheConstants.{LARGEST_SCREEN}
 use Rattle.paint.specs.declared.changes.Stretch.{Stretch}
 use Rattle.small_set.specs.Sets.{contains}
@@ -28,6 +28,15 @@ may_change changes y x = is_in (stretch_of changes y) x
 -- at every other place two pictures show the same
 pub record DifferOnly (changes : List Stretch) (one other : Picture) : Type 0 where
   pub others : (y x : ℕ) → may_change changes y x ≡ false → shown_at one (y, x) ≡ shown_at other (y, x)
+
+-- a picture that is shown and one that is wanted, of one size, no larger than a screen, differ at no other place
+pub record IsFrame (lines columns : ℕ) (stretches : List Stretch) (old new : Picture) : Type 0 where
+  pub few_lines : lines ≤ LARGEST_SCREEN
+  pub few_columns : columns ≤ LARGEST_SCREEN
+  pub height : length stretches ≡ lines
+  pub shown : HasSize lines columns old
+  pub wanted : HasSize lines columns new
+  pub changes : DifferOnly stretches old new
 
 -- every place of a screen is one of them
 pub record IsWhole (lines columns : ℕ) (changes : List Stretch) : Type 0 where

@@ -1,11 +1,8 @@
 //! A frame over what is shown: drawn in one walk or in passes, whichever takes fewer bytes.
 
-ghost use Rattle.std.specs.Prelude.{◌≡◌, ◌<◌, ◌≤◌, Bool, Some, length};
-ghost use Rattle.cell.specs.Pictures.{HasSize};
-ghost use Rattle.cell.specs.declared.limits.TheConstants.{LARGEST_SCREEN};
-ghost use Rattle.paint.specs.Changes.{DifferOnly};
-ghost use Rattle.paint.specs.Updates.{PainterState, known_picture};
-ghost use Rattle.paint.specs.steps.Holding.{HoldsUpdate};
+ghost use Rattle.std.specs.Prelude.{◌≡◌, ◌<◌, Some};
+ghost use Rattle.paint.specs.Changes.{IsFrame};
+ghost use Rattle.paint.specs.steps.Holding.{HoldsFrom};
 
 use crate::changes::Changes;
 use crate::passes::{Order, order_of, paint};
@@ -26,17 +23,11 @@ pub fn draw_frame<W: Sink>(
     from: (u16, u16),
     to: (u16, u16),
 )
-    requires few_lines { lines ≤ LARGEST_SCREEN }
-    requires few_columns { pen.old.columns ≤ LARGEST_SCREEN }
-    requires shown { HasSize lines pen.old.columns shown.now }
-    requires wanted { HasSize lines pen.old.columns wanted.now }
-    requires height { length changes.now ≡ lines }
-    requires changes { DifferOnly changes.now shown.now wanted.now }
+    requires frame { IsFrame lines pen.old.columns changes.now shown.now wanted.now }
     requires line { to.0 < lines }
     requires column { to.1 < pen.old.columns }
-    ensures holds { (painter : PainterState) (clear : Bool) → painter.lines ≡ lines → painter.columns ≡ pen.old.columns
-        → Some (record { picture = shown.now; cursor = from }) ≡ known_picture painter clear
-        → HoldsUpdate painter clear (record { picture = wanted.now; cursor = to }) (W.seen sink.old) (W.seen sink.new) pen.new.outbox }
+    ensures holds { HoldsFrom lines pen.old.columns (Some (record { picture = shown.now; cursor = from })) (record { picture = wanted.now; cursor = to })
+        (W.seen sink.old) (W.seen sink.new) pen.new.outbox }
     ensures columns { pen.new.columns ≡ pen.old.columns }
     ensures same { W.name sink.new ≡ W.name sink.old }
 {
@@ -72,17 +63,11 @@ fn draw<W: Sink>(
     to: (u16, u16),
     order: &Order,
 )
-    requires few_lines { lines ≤ LARGEST_SCREEN }
-    requires few_columns { pen.old.columns ≤ LARGEST_SCREEN }
-    requires shown { HasSize lines pen.old.columns shown.now }
-    requires wanted { HasSize lines pen.old.columns wanted.now }
-    requires height { length changes.now ≡ lines }
-    requires changes { DifferOnly changes.now shown.now wanted.now }
+    requires frame { IsFrame lines pen.old.columns changes.now shown.now wanted.now }
     requires line { to.0 < lines }
     requires column { to.1 < pen.old.columns }
-    ensures holds { (painter : PainterState) (clear : Bool) → painter.lines ≡ lines → painter.columns ≡ pen.old.columns
-        → Some (record { picture = shown.now; cursor = from }) ≡ known_picture painter clear
-        → HoldsUpdate painter clear (record { picture = wanted.now; cursor = to }) (W.seen sink.old) (W.seen sink.new) pen.new.outbox }
+    ensures holds { HoldsFrom lines pen.old.columns (Some (record { picture = shown.now; cursor = from })) (record { picture = wanted.now; cursor = to })
+        (W.seen sink.old) (W.seen sink.new) pen.new.outbox }
     ensures columns { pen.new.columns ≡ pen.old.columns }
     ensures same { W.name sink.new ≡ W.name sink.old }
 {

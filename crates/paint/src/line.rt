@@ -1,12 +1,12 @@
 //! The walk over the cells of a line: a pen draws where the wanted one differs from the one that is shown.
 
-ghost use Rattle.std.specs.Prelude.{◌≡◌, ◌+◌, ◌<◌, ◌≤◌, ℕ, ⊤, MatchOption, None, Some, drop, false, length, slice_index_or, slice_set, take};
+ghost use Rattle.std.specs.Prelude.{◌≡◌, ◌+◌, ◌<◌, ◌≤◌, ℕ, ⊤, MatchOption, None, Some, drop, false, length, slice_index_or, take};
 ghost use Rattle.cell.specs.Differences.{same_shown};
 ghost use Rattle.cell.specs.Pictures.{Picture, line_of};
 ghost use Rattle.cell.specs.Shown.{no_rendition, shown_blank};
 ghost use Rattle.streams.specs.Sinks.{Seen};
 ghost use Rattle.paint.specs.steps.Strokes.{Strokes, line_bytes, reach_bytes, run_bytes, with_cells};
-ghost use Rattle.paint.specs.steps.Walks.{IsLinePainted, IsReadyToErase};
+ghost use Rattle.paint.specs.steps.Walks.{DifferWithin, IsLinePainted, IsReadyToErase, StrokesLine};
 
 use crate::gap::approach;
 use crate::pen::Pen;
@@ -31,12 +31,8 @@ pub fn paint_line<W: Sink>(
     requires columns { pen.old.columns ≤ LARGEST_SCREEN }
     requires shown { length shown.now ≡ pen.old.columns }
     requires wanted { length wanted.now ≡ pen.old.columns }
-    requires ordered { start ≤ end }
-    requires inside { end ≤ length wanted.now }
-    requires before { take start shown.now ≡ take start wanted.now }
-    requires after { drop end shown.now ≡ drop end wanted.now }
-    ensures strokes { (picture : Picture) → line < length picture → line_of picture line ≡ shown.now
-        → Strokes (line_bytes shown.now wanted.now) (W.seen sink.old) (W.seen sink.new) pen.old pen.new picture (slice_set picture line wanted.now) }
+    requires part { DifferWithin start end shown.now wanted.now }
+    ensures strokes { StrokesLine (line_bytes shown.now wanted.now) (W.seen sink.old) (W.seen sink.new) pen.old pen.new line shown.now wanted.now }
     ensures columns { pen.new.columns ≡ pen.old.columns }
     ensures same { W.name sink.new ≡ W.name sink.old }
 {
@@ -73,8 +69,7 @@ pub fn paint_last_line<W: Sink>(
     requires columns { pen.old.columns ≤ LARGEST_SCREEN }
     requires shown { length shown.now ≡ pen.old.columns }
     requires wanted { length wanted.now ≡ pen.old.columns }
-    ensures strokes { result ≡ None → (picture : Picture) → line < length picture → line_of picture line ≡ shown.now
-        → Strokes (line_bytes shown.now wanted.now) (W.seen sink.old) (W.seen sink.new) pen.old pen.new picture (slice_set picture line wanted.now) }
+    ensures strokes { result ≡ None → StrokesLine (line_bytes shown.now wanted.now) (W.seen sink.old) (W.seen sink.new) pen.old pen.new line shown.now wanted.now }
     ensures ready { MatchOption result ⊤ (λ column. IsReadyToErase (line_bytes shown.now wanted.now + 27) (W.seen sink.old)
         (W.seen sink.new) pen.old pen.new line column shown.now wanted.now) }
     ensures columns { pen.new.columns ≡ pen.old.columns }

@@ -1,6 +1,6 @@
 //! Gathers a text in a buffer of fixed size, from which it goes out in pieces.
 
-ghost use Rattle.std.specs.Prelude.{◌≡◌, ◌≤◌, ◌+◌, ◌<◌, ◌^◌, ℕ, IfOk, List, [], ◌∷◌, false, length, slice_index_or};
+ghost use Rattle.std.specs.Prelude.{◌≡◌, ◌≤◌, ◌+◌, ◌<◌, ◌^◌, ℕ, IfOk, List, [], false, length, slice_index_or};
 ghost use Rattle.cell.specs.Shown.{IsShown, shown_blank};
 ghost use Rattle.streams.specs.Sending.{Sends};
 ghost use Rattle.streams.specs.Sinks.{Seen};

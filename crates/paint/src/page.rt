@@ -3,14 +3,14 @@
 ghost use Rattle.std.specs.Prelude.{◌≡◌, ◌≢◌, ℕ, ◌-◌, ◌<◌, ◌≤◌, drop, false, length, map, min};
 ghost use Rattle.cell.specs.Pictures.{HasSize, line_of};
 ghost use Rattle.ecma.specs.Terminals.{blank_line};
-ghost use Rattle.paint.specs.Changes.{DifferOnly, may_change};
+ghost use Rattle.paint.specs.Changes.{DifferOnly, IsFrame, may_change};
 ghost use Rattle.paint.specs.steps.Strokes.{Strokes, picture_bytes};
 
 use crate::changes::Changes;
 use crate::line::{paint_last_line, paint_line};
 use crate::pen::Pen;
 use crate::tail::{first_changed, is_written, tail_start};
-use cell::{Grid, LARGEST_SCREEN, Shown};
+use cell::{Grid, Shown};
 use streams::Sink;
 
 /// Draws the wanted picture over the one that is shown, of which there are so many lines, and which may differ from it in some columns
@@ -23,12 +23,7 @@ pub fn paint_picture<W: Sink>(
     wanted: &Grid<Shown>,
     changes: &Changes,
 )
-    requires few_lines { lines ≤ LARGEST_SCREEN }
-    requires few_columns { pen.old.columns ≤ LARGEST_SCREEN }
-    requires shown { HasSize lines pen.old.columns shown.now }
-    requires wanted { HasSize lines pen.old.columns wanted.now }
-    requires height { length changes.now ≡ lines }
-    requires changes { DifferOnly changes.now shown.now wanted.now }
+    requires { IsFrame lines pen.old.columns changes.now shown.now wanted.now }
     ensures strokes { Strokes (picture_bytes shown.now wanted.now) (W.seen sink.old) (W.seen sink.new) pen.old pen.new shown.now wanted.now }
     ensures columns { pen.new.columns ≡ pen.old.columns }
     ensures same { W.name sink.new ≡ W.name sink.old }

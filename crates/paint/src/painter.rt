@@ -7,9 +7,9 @@ ghost use Rattle.cell.specs.declared.limits.TheConstants.{LARGEST_SCREEN};
 ghost use Rattle.cell.specs.Shown.{no_rendition};
 ghost use Rattle.streams.specs.Sinks.{Seen};
 ghost use Rattle.paint.specs.Changes.{DifferOnly};
-ghost use Rattle.paint.specs.Updates.{PainterState, ShownPicture, first_painter, known_picture, opening, start_from, wanted_of, Updates, BreaksOff};
+ghost use Rattle.paint.specs.Updates.{PainterState, ShownPicture, first_painter, opening, start_from, wanted_of, Updates, BreaksOff};
 ghost use Rattle.paint.specs.steps.Gathering.{IsGathered};
-ghost use Rattle.paint.specs.steps.Holding.{HoldsUpdate, last_shown};
+ghost use Rattle.paint.specs.steps.Holding.{HoldsFrom, HoldsUpdate, last_shown};
 
 use crate::changes::Changes;
 use crate::frame::draw_frame;
@@ -184,9 +184,8 @@ fn draw<W: Sink>(
     requires column { cursor.1 < size.1 }
     requires height { length changes.now ≡ size.0 }
     requires changes { DifferOnly changes.now (start_from (first_painter size.0 size.1) (last_shown shown.old known)).picture picture.now }
-    ensures holds { (painter : PainterState) (clear : Bool) → painter.lines ≡ size.0 → painter.columns ≡ size.1
-        → last_shown shown.old known ≡ known_picture painter clear
-        → HoldsUpdate painter clear (record { picture = picture.now; cursor = cursor }) (W.seen sink.old) (W.seen sink.new) pen.new.outbox }
+    ensures holds { HoldsFrom size.0 size.1 (last_shown shown.old known) (record { picture = picture.now; cursor = cursor })
+        (W.seen sink.old) (W.seen sink.new) pen.new.outbox }
     ensures columns { pen.new.columns ≡ pen.old.columns }
     ensures shown { shown.new ≡ (start_from (first_painter size.0 size.1) (last_shown shown.old known)).picture }
     ensures size { HasSize size.0 size.1 shown.new }

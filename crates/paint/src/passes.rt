@@ -1,12 +1,13 @@
 //! Drawing in passes: of a picture first the cells of one rendition, then those of another, where that takes fewer bytes.
 
-ghost use Rattle.std.specs.Prelude.{◌≡◌, ◌+◌, ◌<◌, ◌≤◌, ◌==◌, ◌++◌, ◌∷◌, [], List, drop, if◌then◌else◌, length, nat_lt, slice_set, take};
-ghost use Rattle.cell.specs.Pictures.{HasSize, Picture, line_of};
+ghost use Rattle.std.specs.Prelude.{◌≡◌, ◌+◌, ◌<◌, ◌≤◌, ◌==◌, ◌++◌, ◌∷◌, [], List, if◌then◌else◌, length, nat_lt};
+ghost use Rattle.cell.specs.Pictures.{HasSize};
 ghost use Rattle.cell.specs.Shown.{Rendition as AnyRendition};
 ghost use Rattle.cell.specs.declared.limits.TheConstants.{LARGEST_SCREEN};
-ghost use Rattle.paint.specs.Changes.{DifferOnly};
+ghost use Rattle.paint.specs.Changes.{DifferOnly, IsFrame};
 ghost use Rattle.paint.specs.steps.Passes.{HasNoted, changed_renditions, line_after, line_renditions, order_for, pass_of, picture_after, saturating_usize, selections, with_pass};
 ghost use Rattle.paint.specs.steps.Strokes.{Strokes, all_have, line_bytes, picture_bytes};
+ghost use Rattle.paint.specs.steps.Walks.{DifferWithin, StrokesLine};
 
 use crate::changes::Changes;
 use crate::line::{paint_run, run_end};
@@ -112,13 +113,9 @@ fn paint_part<W: Sink>(
     requires columns { pen.old.columns ≤ LARGEST_SCREEN }
     requires shown { length shown.now ≡ pen.old.columns }
     requires wanted { length wanted.now ≡ pen.old.columns }
-    requires ordered { start ≤ end }
-    requires inside { end ≤ length wanted.now }
-    requires before { take start shown.now ≡ take start wanted.now }
-    requires after { drop end shown.now ≡ drop end wanted.now }
-    ensures strokes { (picture : Picture) → line < length picture → line_of picture line ≡ line_after order.now pass shown.now wanted.now
-        → Strokes (line_bytes (line_after order.now pass shown.now wanted.now) (line_after order.now (pass + 1) shown.now wanted.now))
-        (W.seen sink.old) (W.seen sink.new) pen.old pen.new picture (slice_set picture line (line_after order.now (pass + 1) shown.now wanted.now)) }
+    requires part { DifferWithin start end shown.now wanted.now }
+    ensures strokes { StrokesLine (line_bytes (line_after order.now pass shown.now wanted.now) (line_after order.now (pass + 1) shown.now wanted.now))
+        (W.seen sink.old) (W.seen sink.new) pen.old pen.new line (line_after order.now pass shown.now wanted.now) (line_after order.now (pass + 1) shown.now wanted.now) }
     ensures columns { pen.new.columns ≡ pen.old.columns }
     ensures same { W.name sink.new ≡ W.name sink.old }
 {
@@ -161,11 +158,7 @@ fn paint_pass<W: Sink>(
     order: &[Rendition],
     pass: usize,
 )
-    requires few_lines { length changes.now ≤ LARGEST_SCREEN }
-    requires few_columns { pen.old.columns ≤ LARGEST_SCREEN }
-    requires shown { HasSize (length changes.now) pen.old.columns shown.now }
-    requires wanted { HasSize (length changes.now) pen.old.columns wanted.now }
-    requires changes { DifferOnly changes.now shown.now wanted.now }
+    requires { IsFrame (length changes.now) pen.old.columns changes.now shown.now wanted.now }
     ensures strokes { Strokes (picture_bytes (picture_after order.now pass shown.now wanted.now) (picture_after order.now (pass + 1) shown.now wanted.now))
         (W.seen sink.old) (W.seen sink.new) pen.old pen.new (picture_after order.now pass shown.now wanted.now)
         (picture_after order.now (pass + 1) shown.now wanted.now) }
@@ -201,11 +194,7 @@ fn paint_passes<W: Sink>(
     changes: &Changes,
     order: &[Rendition],
 )
-    requires few_lines { length changes.now ≤ LARGEST_SCREEN }
-    requires few_columns { pen.old.columns ≤ LARGEST_SCREEN }
-    requires shown { HasSize (length changes.now) pen.old.columns shown.now }
-    requires wanted { HasSize (length changes.now) pen.old.columns wanted.now }
-    requires changes { DifferOnly changes.now shown.now wanted.now }
+    requires { IsFrame (length changes.now) pen.old.columns changes.now shown.now wanted.now }
     ensures strokes { Strokes (picture_bytes shown.now wanted.now) (W.seen sink.old) (W.seen sink.new) pen.old pen.new shown.now wanted.now }
     ensures columns { pen.new.columns ≡ pen.old.columns }
     ensures same { W.name sink.new ≡ W.name sink.old }
@@ -227,12 +216,7 @@ pub fn paint<W: Sink>(
     changes: &Changes,
     order: &Order,
 )
-    requires few_lines { lines ≤ LARGEST_SCREEN }
-    requires few_columns { pen.old.columns ≤ LARGEST_SCREEN }
-    requires shown { HasSize lines pen.old.columns shown.now }
-    requires wanted { HasSize lines pen.old.columns wanted.now }
-    requires height { length changes.now ≡ lines }
-    requires changes { DifferOnly changes.now shown.now wanted.now }
+    requires { IsFrame lines pen.old.columns changes.now shown.now wanted.now }
     ensures strokes { Strokes (picture_bytes shown.now wanted.now) (W.seen sink.old) (W.seen sink.new) pen.old pen.new shown.now wanted.now }
     ensures columns { pen.new.columns ≡ pen.old.columns }
     ensures same { W.name sink.new ≡ W.name sink.old }

@@ -1,10 +1,10 @@
 //! The blank end of a line, which one erasure draws.
 
-ghost use Rattle.std.specs.Prelude.{◌≡◌, ◌≢◌, ◌↔◌, ◌+◌, ◌-◌, ◌<◌, ◌≤◌, if◌then◌else◌, drop, false, length, nat_lt, slice_index_or, take};
+ghost use Rattle.std.specs.Prelude.{◌≡◌, ◌≢◌, ◌↔◌, ◌+◌, ◌-◌, ◌<◌, ◌≤◌, if◌then◌else◌, drop, false, length, nat_lt, slice_index_or};
 ghost use Rattle.cell.specs.Differences.{DiffersAt, IsFirstDifference, IsLastDifference};
 ghost use Rattle.cell.specs.Shown.{shown_blank};
 ghost use Rattle.paint.specs.steps.Strokes.{reach_bytes};
-ghost use Rattle.paint.specs.steps.Walks.{AreBlank, IsChangedEnd, IsChangedFrom, IsChangedTail};
+ghost use Rattle.paint.specs.steps.Walks.{AreBlank, DifferWithin, IsChangedEnd, IsChangedFrom, IsChangedTail};
 
 use crate::gap::approach_length;
 use crate::pen::Pen;
@@ -100,11 +100,7 @@ fn reach_length(pen: &Pen, line: u16, wanted: &[Shown], gap: usize, column: usiz
 
 /// The first changed column of a line that may be changed in some columns only.
 pub fn first_changed(shown: &[Shown], wanted: &[Shown], start: usize, end: usize) -> Option<usize>
-    requires same { length shown.now ≡ length wanted.now }
-    requires ordered { start ≤ end }
-    requires inside { end ≤ length wanted.now }
-    requires before { take start shown.now ≡ take start wanted.now }
-    requires after { drop end shown.now ≡ drop end wanted.now }
+    requires { DifferWithin start end shown.now wanted.now }
     ensures { IsFirstDifference shown.now wanted.now result }
 {
     let skipped = first_diff(&shown[start..end], &wanted[start..end])?;
@@ -113,11 +109,7 @@ pub fn first_changed(shown: &[Shown], wanted: &[Shown], start: usize, end: usize
 
 /// The last changed column of a line that may be changed in some columns only.
 pub fn last_changed(shown: &[Shown], wanted: &[Shown], start: usize, end: usize) -> Option<usize>
-    requires same { length shown.now ≡ length wanted.now }
-    requires ordered { start ≤ end }
-    requires inside { end ≤ length wanted.now }
-    requires before { take start shown.now ≡ take start wanted.now }
-    requires after { drop end shown.now ≡ drop end wanted.now }
+    requires { DifferWithin start end shown.now wanted.now }
     ensures { IsLastDifference shown.now wanted.now result }
 {
     let skipped = last_diff(&shown[start..end], &wanted[start..end])?;

@@ -13,12 +13,24 @@ use Rattle.paint.specs.steps.Strokes.{Strokes, line_bytes, picture_bytes}
 abbrev pub with_prefix : {A : Type 0} → ℕ → List A → List A → List A
 with_prefix x new old = take x new ++ drop x old
 
+-- two lines of one length differ in no other columns than those from the first up to the second, which isn't one of them
+pub record DifferWithin (start end : ℕ) (shown wanted : List Shown) : Type 0 where
+  pub same : length shown ≡ length wanted
+  pub ordered : start ≤ end
+  pub inside : end ≤ length wanted
+  pub before : take start shown ≡ take start wanted
+  pub after : drop end shown ≡ drop end wanted
+
+-- in a picture where the line shows some cells, strokes of at most so many bytes draw others
+abbrev pub StrokesLine : ℕ → Seen → Seen → Pen → Pen → ℕ → List Shown → List Shown → Type 0
+StrokesLine most before now old pen line shown drawn =
+    (picture : Picture) → line < length picture → line_of picture line ≡ shown → Strokes most before now old pen picture (slice_set picture line drawn)
+
 -- The cells before a column are the wanted ones, and those from it on may still cost what is left.
 pub record IsLinePainted (before now : Seen) (old pen : Pen) (line x : ℕ) (shown wanted : List Shown) : Type 0 where
   pub spent : ℕ
   pub within : spent + line_bytes (drop x shown) (drop x wanted) ≤ line_bytes shown wanted
-  pub strokes : (picture : Picture) → line < length picture → line_of picture line ≡ shown
-      → Strokes spent before now old pen picture (slice_set picture line (with_prefix x wanted shown))
+  pub strokes : StrokesLine spent before now old pen line shown (with_prefix x wanted shown)
   pub columns : pen.columns ≡ old.columns
 
 -- The lines before this one are the wanted ones, and those from it on may still cost what is left.
@@ -41,8 +53,7 @@ pub record IsReadyToErase (most : ℕ) (before now : Seen) (old pen : Pen) (line
   pub inside : reached ≤ length wanted
   pub spent : ℕ
   pub within : spent + 4 ≤ most
-  pub strokes : (picture : Picture) → line < length picture → line_of picture line ≡ shown
-      → Strokes spent before now old pen picture (slice_set picture line (with_prefix reached wanted shown))
+  pub strokes : StrokesLine spent before now old pen line shown (with_prefix reached wanted shown)
   pub cursor : pen.cursor ≡ Some (line, column)
   pub rendition : pen.rendition ≡ no_rendition
   pub columns : pen.columns ≡ old.columns

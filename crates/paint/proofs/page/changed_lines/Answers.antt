@@ -1,7 +1,7 @@
 -- `changed_lines`: pictures that differ in some columns only (`Alike`); columns in which a picture may differ from another (`Changed`).
 use Rattle.std.proofs.Common.{◌≡◌, ◌-◌, ◌++◌, inl, inr, take, sym, ◌∙◌, arith}
 use Rattle.std.proofs.lemmas.List.{take-append-drop}
-use Rattle.paint.proofs.Alike.{line-back, line-prefix, lines-back, lines-prefix}
+use Rattle.paint.proofs.Alike.{line-part, lines-back, lines-prefix}
 use Rattle.paint.proofs.Changed.{is_out}
 use Rattle.paint.proofs.page.changed_lines.Goals as goal
 
@@ -12,16 +12,10 @@ loop-end-init c = record {
       (λ y from. c.lines-lines.ensures.others y (is_out c.lines-lines.result y (inr from)));
 }
 
-pub first_changed-requires-clause-before : goal.first_changed-requires-clause-before
-first_changed-requires-clause-before c =
+pub first_changed-requires : goal.first_changed-requires
+first_changed-requires c =
     let y = c.loop-end.end - 1 in
-    rw (c.row.ensures.row, c.row-in-loop-end.ensures.row, c.from-at.ensures) (line-prefix c.requires.shown c.requires.wanted c.requires.changes y
-    (omega (arith, c.loop-end.invariant.within)) c.within-from.ensures)
-
-pub first_changed-requires-clause-after : goal.first_changed-requires-clause-after
-first_changed-requires-clause-after c =
-    let y = c.loop-end.end - 1 in
-    rw (c.row.ensures.row, c.row-in-loop-end.ensures.row, c.from-at.ensures) (line-back c.requires.shown c.requires.wanted c.requires.changes y
+    rw (c.row.ensures.row, c.row-in-loop-end.ensures.row, c.from-at.ensures) (line-part c.requires.shown c.requires.wanted c.requires.changes y
     (omega (arith, c.loop-end.invariant.within)) c.within-from.ensures)
 
 pub returns-clause-kept : goal.returns-clause-kept

@@ -4,7 +4,7 @@ use Rattle.std.proofs.Common.{◌≡◌, ◌+◌, ◌-◌, ◌<◌, ◌≤◌, �
 use Rattle.paint.specs.Changes.{stretch_of}
 use Rattle.paint.specs.declared.pen.Pen.{Pen}
 use Rattle.paint.specs.steps.Walks.{IsWithin}
-use Rattle.paint.proofs.Alike.{line-alike, line-back, line-prefix, lines-first}
+use Rattle.paint.proofs.Alike.{line-alike, line-part, lines-first}
 use Rattle.paint.proofs.Prefixes.{drop-later}
 use Rattle.paint.proofs.Pages.{page-erased}
 use Rattle.paint.proofs.Walks.{picture-begun, picture-drawn, picture-painted, picture-skipped}
@@ -20,19 +20,12 @@ loop-line-init g c =
       same = refl;
     }
 
-pub paint_line-requires-clause-before : goal.paint_line-requires-clause-before
-paint_line-requires-clause-before g c =
+pub paint_line-requires-clause-part : goal.paint_line-requires-clause-part
+paint_line-requires-clause-part g c =
     let y = c.loop-line.line in
     let below : y < c.args.lines = omega (arith, c.loop-line-test.true, c.changed_lines-changed.ensures.within, c.requires.height) in
     let part = subst (λ n. IsWithin n (stretch_of c.args.changes.now y) c.within-start.result) (c.columns-then-line-blank.ensures ∙ c.loop-line.invariant.painted.columns) c.within-start.ensures in
-    rw (c.row-old.ensures.row, c.row-new.ensures.row, c.from-at.ensures) (line-prefix c.requires.shown c.requires.wanted c.requires.changes y below part)
-
-pub paint_line-requires-clause-after : goal.paint_line-requires-clause-after
-paint_line-requires-clause-after g c =
-    let y = c.loop-line.line in
-    let below : y < c.args.lines = omega (arith, c.loop-line-test.true, c.changed_lines-changed.ensures.within, c.requires.height) in
-    let part = subst (λ n. IsWithin n (stretch_of c.args.changes.now y) c.within-start.result) (c.columns-then-line-blank.ensures ∙ c.loop-line.invariant.painted.columns) c.within-start.ensures in
-    rw (c.row-old.ensures.row, c.row-new.ensures.row, c.from-at.ensures) (line-back c.requires.shown c.requires.wanted c.requires.changes y below part)
+    rw (c.row-old.ensures.row, c.row-new.ensures.row, c.from-at.ensures) (line-part c.requires.shown c.requires.wanted c.requires.changes y below part)
 
 pub loop-line-preserved-then-line-blank : goal.loop-line-preserved-then-line-blank
 loop-line-preserved-then-line-blank g c =

@@ -2,7 +2,7 @@
 use Rattle.std.proofs.Common.{◌≡◌, ◌+◌, ◌-◌, ◌<◌, ◌≤◌, ◌∙◌, ◌++◌, inr, length, take, drop, sym, ap, subst, arith}
 use Rattle.cell.specs.Pictures.{line_of}
 use Rattle.paint.specs.steps.Passes.{HasNoted, changed_renditions, line_renditions}
-use Rattle.paint.proofs.Alike.{line-alike, line-back, line-none, line-prefix}
+use Rattle.paint.proofs.Alike.{line-alike, line-none, line-part}
 use Rattle.paint.proofs.Changed.{is_out}
 use Rattle.paint.proofs.Orders.{noted-order, picture-next, picture-passed, picture-whole, renditions-part}
 use Rattle.paint.proofs.passes.order_of.Goals as goal
@@ -36,12 +36,11 @@ loop-line-preserved c =
     record {
       inside = few;
       noted = λ only.
-          let before = line-prefix c.requires.shown c.requires.wanted only y below c.within-start.ensures in
-          let after = line-back c.requires.shown c.requires.wanted only y below c.within-start.ensures in
+          let within = line-part c.requires.shown c.requires.wanted only y below c.within-start.ensures in
           let line : line_renditions (take (part.1 - part.0) (drop part.0 c.row.result.now)) (take (part.1 - part.0) (drop part.0 c.row-in-loop-line.result.now))
           ≡ line_renditions (line_of shown y) (line_of wanted y) =
           (λ i. line_renditions (take (part.1 - part.0) (drop part.0 (row i))) (take (part.1 - part.0) (drop part.0 (other i))))
-          ∙ sym (renditions-part part.0 part.1 (line_of shown y) (line_of wanted y) c.within-start.ensures.ordered before after) in
+          ∙ sym (renditions-part part.0 part.1 (line_of shown y) (line_of wanted y) within.ordered within.before within.after) in
           let passed = picture-passed (y + 1) next.result shown wanted next.ensures.from (omega (arith, few, c.requires.shown.height)) same
           (λ v from to. line-alike c.requires.shown c.requires.wanted only v (omega (arith, to, few)) (λ x left. next.ensures.none v x from to)) in
           subst (HasNoted c.note_part.new.self)

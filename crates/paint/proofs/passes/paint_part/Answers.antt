@@ -44,7 +44,7 @@ loop-x-preserved-then-eq g c =
     let p = is_drawn c.args.order.now c.args.pass in
     let q = is_drawn c.args.order.now (c.args.pass + 1) in
     let same : length shown ≡ length wanted = c.requires.shown ∙ sym c.requires.wanted in
-    let inside : x < length shown = omega (arith, c.loop-x-test.true, c.requires.inside) in
+    let inside : x < length shown = omega (arith, c.loop-x-test.true, c.requires.part.inside) in
     let old = c.index-shown-x.is ∙ get_or_default shown x c.index-shown-x.result shown_blank inside in
     let new = c.index-wanted-x.is ∙ get_or_default wanted x c.index-wanted-x.result shown_blank (omega arith) in
     let alike : same_shown (get_or shown x shown_blank) (get_or wanted x shown_blank) ≡ true = (λ i. same_shown (sym old i) (sym new i)) ∙ sym c.if-eq.ensures in
@@ -71,7 +71,7 @@ loop-x-preserved-then-not-is_drawn_in g c =
     let p = is_drawn order pass in
     let q = is_drawn order (pass + 1) in
     let same : length shown ≡ length wanted = c.requires.shown ∙ sym c.requires.wanted in
-    let inside : x < length shown = omega (arith, c.loop-x-test.true, c.requires.inside) in
+    let inside : x < length shown = omega (arith, c.loop-x-test.true, c.requires.part.inside) in
     let new = c.index-wanted-x-in-loop-x.is ∙ get_or_default wanted x c.index-wanted-x-in-loop-x.result shown_blank (omega arith) in
     let drawn_in : pass_in order c.rendition.result ≡ pass_in order (get_or wanted x shown_blank).rendition =
     ap (pass_in order) (c.rendition.ensures.value ∙ ap (λ (cell : Shown). cell.rendition) new) in
@@ -93,7 +93,7 @@ paint_run-requires-clause-rendition g c =
     let stop = c.run_end-stop.result in
     let wanted = c.args.wanted.now in
     let long : length (take (stop - x) (drop x wanted)) ≡ stop - x = length-take-le (stop - x) (drop x wanted)
-    (omega (arith, length-drop x wanted, c.run_end-stop.ensures.within, c.requires.inside)) in
+    (omega (arith, length-drop x wanted, c.run_end-stop.ensures.within, c.requires.part.inside)) in
     λ k few. part-alike x stop k wanted (omega (arith, long)) c.run_end-stop.ensures.rendition
 
 pub loop-x-preserved : goal.loop-x-preserved
@@ -111,7 +111,7 @@ loop-x-preserved g c =
     let ordered : gap ≤ x = c.loop-x.invariant.gap in
     let some : x < stop = c.run_end-stop.ensures.some in
     let within : stop ≤ c.args.end = c.run_end-stop.ensures.within in
-    let inside : stop ≤ length shown = omega (arith, within, same, c.requires.inside) in
+    let inside : stop ≤ length shown = omega (arith, within, same, c.requires.part.inside) in
     let cells = take (stop - x) (drop x wanted) in
     let many : length cells ≡ stop - x = length-take-le (stop - x) (drop x wanted) (omega (arith, length-drop x wanted, inside, same)) in
     let end : x + length cells ≡ stop = omega (arith, many, some) in
@@ -151,4 +151,4 @@ returns-clause-strokes g c =
     let p = is_drawn c.args.order.now c.args.pass in
     let q = is_drawn c.args.order.now (c.args.pass + 1) in
     line-painted c.loop-x.invariant.painted (choices-back p q c.loop-x.x c.args.shown.now c.args.wanted.now
-    (drop-later c.args.end c.loop-x.x c.args.shown.now c.args.wanted.now c.loop-x-test.false c.requires.after))
+    (drop-later c.args.end c.loop-x.x c.args.shown.now c.args.wanted.now c.loop-x-test.false c.requires.part.after))

@@ -5,7 +5,7 @@ use Rattle.cell.specs.Pictures.{line_of}
 use Rattle.paint.specs.Changes.{stretch_of}
 use Rattle.paint.specs.steps.Passes.{is_drawn, picture_after}
 use Rattle.paint.specs.steps.Walks.{IsWithin}
-use Rattle.paint.proofs.Alike.{line-alike, line-back, line-prefix, line-none}
+use Rattle.paint.proofs.Alike.{line-alike, line-none, line-part}
 use Rattle.paint.proofs.Changed.{is_out}
 use Rattle.paint.proofs.Choices.{choices-alike, length-lines, line-choose}
 use Rattle.paint.proofs.Walks.{picture-begun, picture-drawn, picture-painted, picture-skipped}
@@ -32,19 +32,12 @@ loop-line-init g c =
       same = refl;
     }
 
-pub paint_part-requires-clause-before : goal.paint_part-requires-clause-before
-paint_part-requires-clause-before g c =
+pub paint_part-requires-clause-part : goal.paint_part-requires-clause-part
+paint_part-requires-clause-part g c =
     let y = c.loop-line.line in
     let below : y < length c.args.changes.now = omega (arith, c.loop-line-test.true, c.lines-end.ensures.inside) in
     let part = subst (λ n. IsWithin n (stretch_of c.args.changes.now y) c.within-start.result) (c.columns.ensures ∙ c.loop-line.invariant.painted.columns) c.within-start.ensures in
-    rw (c.row.ensures.row, c.row-in-loop-line.ensures.row, c.from-at.ensures) (line-prefix c.requires.shown c.requires.wanted c.requires.changes y below part)
-
-pub paint_part-requires-clause-after : goal.paint_part-requires-clause-after
-paint_part-requires-clause-after g c =
-    let y = c.loop-line.line in
-    let below : y < length c.args.changes.now = omega (arith, c.loop-line-test.true, c.lines-end.ensures.inside) in
-    let part = subst (λ n. IsWithin n (stretch_of c.args.changes.now y) c.within-start.result) (c.columns.ensures ∙ c.loop-line.invariant.painted.columns) c.within-start.ensures in
-    rw (c.row.ensures.row, c.row-in-loop-line.ensures.row, c.from-at.ensures) (line-back c.requires.shown c.requires.wanted c.requires.changes y below part)
+    rw (c.row.ensures.row, c.row-in-loop-line.ensures.row, c.from-at.ensures) (line-part c.requires.shown c.requires.wanted c.requires.changes y below part)
 
 pub loop-line-preserved : goal.loop-line-preserved
 loop-line-preserved g c =
