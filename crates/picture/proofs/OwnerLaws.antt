@@ -4,7 +4,7 @@ use Rattle.std.specs.Prelude.{find, unwrap_or}
 use Rattle.std.specs.Option.{option_map_or, option_or}
 use Rattle.std.proofs.lemmas.List.{reverse-append}
 use Rattle.std.proofs.lemmas.List.Folds.{find-append}
-use Rattle.world.specs.Panels.{Panels, holds, owner, panel_holds, window_or_standard}
+use Rattle.world.specs.Panels.{Panels, holds, panel_holds, window_or_standard}
 use Rattle.world.specs.Windows.{WindowMap}
 use Rattle.picture.specs.steps.Owners.{owner_window}
 

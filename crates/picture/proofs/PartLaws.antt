@@ -3,7 +3,6 @@ use Rattle.std.proofs.Common.{◌≡◌, ℕ, ◌+◌, ◌-◌, ◌<◌, ◌≤�
 use Rattle.std.specs.Prelude.{IsSomeAnd, unwrap_or}
 use Rattle.std.specs.Option.{option_map_or}
 use Rattle.std.proofs.lemmas.Bool.{and_parts, and_from, leb-true, le-leb, ltb-true, lt-ltb}
-use Rattle.std.proofs.lemmas.Bool.Decides.{nat_tests}
 use Rattle.cell.specs.Pictures.{Place, origin}
 use Rattle.cell.specs.declared.window.Rect.{Rect}
 use Rattle.world.specs.Frames.{AreRectangle, IsIn, IsSmallest}
@@ -11,7 +10,7 @@ use Rattle.world.specs.Panels.{holds, holds_place, place_of, screen_place}
 use Rattle.world.specs.Sharing.{SharesPart, shows_part_of}
 use Rattle.world.specs.Windows.{Window, Windows}
 use Rattle.world.specs.calls.Affected.{shows_at}
-use Rattle.picture.specs.Parts.{IsFrameWithin, frame_holds}
+use Rattle.picture.specs.Parts.{frame_holds}
 use Rattle.picture.proofs.Held.{held-between}
 use Rattle.picture.proofs.Placement.{IsPlacedAt}
 

@@ -106,7 +106,6 @@ other-than None p rest h = absurd h
 other-than (Some q) p rest h = λ same. let one : q ≡ p = cc in h.0 one
 
 module _ (f : ℕ → ℕ → Bool) (o : ℕ → Option ℕ) (x edge end : ℕ) where
-
   -- one that does
   pub searched-held : (p : ℕ) (rest : List ℕ) (last : ℕ) → Searched f o x edge end (p ∷ rest) → IsAlong f p x end last true
       → ((u : ℕ) → x ≤ u → u ≤ last → o u ≡ Some p) × (last < edge → o (last + 1) ≢ Some p)
