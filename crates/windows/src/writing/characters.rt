@@ -116,7 +116,8 @@ fn is_printed_inside(state: &WindowState, ch: u8) -> bool
 /// Whether a text has characters, and all are printed in the cursor's line before its last column.
 fn is_one_run(state: &WindowState, text: &[u8]) -> bool
     requires { state.now.settings.cursor.1 < state.now.columns }
-    ensures { result ≡ (nat_lt 0 (length text.now) && nat_lt (state.now.settings.cursor.1 + length text.now) state.now.columns && list_all is_printable text.now) }
+    ensures { result ≡ (nat_lt 0 (length text.now) && nat_lt (state.now.settings.cursor.1 + length text.now) state.now.columns
+        && list_all is_printable text.now) }
 {
     let rest = usize::from(state.columns - state.settings.cursor.1);
     0 < text.len() && text.len() < rest && are_printable(text)
@@ -173,7 +174,8 @@ fn run_length(state: &WindowState, text: &[u8]) -> usize
     ensures within { result ≤ length text.now }
     ensures inside { state.now.settings.cursor.1 + result < state.now.columns }
     ensures printable { (k : ℕ) → k < result → is_printable (slice_index text.now k) ≡ true }
-    ensures longest { result < length text.now → state.now.settings.cursor.1 + result + 1 < state.now.columns → is_printable (slice_index text.now result) ≡ false }
+    ensures longest { result < length text.now → state.now.settings.cursor.1 + result + 1 < state.now.columns
+        → is_printable (slice_index text.now result) ≡ false }
 {
     let room = usize::from(state.columns - 1 - state.settings.cursor.1);
     let first = &text[..room.min(text.len())];
