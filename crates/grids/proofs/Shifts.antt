@@ -1,8 +1,7 @@
 -- A derived window that shows another part of its parent.
-use Rattle.std.proofs.Common.{◌≡◌, ◌≢◌, ℕ, ◌+◌, ◌≤◌, Option, Some, None, IsSomeAnd, MatchOption, List, length, ap, arith, sym, ◌∙◌, subst}
+use Rattle.std.proofs.Common.{◌≡◌, ◌≢◌, ℕ, ◌+◌, ◌≤◌, Option, Some, None, IsSomeAnd, MatchOption, List, ap, arith, sym, ◌∙◌, subst}
 use Rattle.std.specs.Option.{option_map}
 use Rattle.std.specs.Prelude.{⊤}
-use Rattle.cell.specs.declared.limits.TheConstants.{MOST_WINDOWS}
 use Rattle.world.specs.Windows.{Window, WindowMap, with_change, with_window}
 use Rattle.world.specs.Sound.{IsOnScreen, IsStandardScreen}
 use Rattle.world.specs.Effects.{with_part}
@@ -51,9 +50,6 @@ module _ (t : WindowTable) (mid : List (Option Kept)) (at y x : ℕ) (s : IsWind
 
   pub windows-shifted : (new : List (Option Kept)) → Settled mid new → windows (record t { slots = new }) ≡ record (windows t) { window = with_change (window_map t.slots) at (with_part y x) }
   windows-shifted new settled = ap (λ (map : WindowMap). record (windows t) { window = map }) settled.windows ∙ windows-mid
-
-  pub few-shifted : length mid ≤ MOST_WINDOWS + 1
-  few-shifted = set_at.few
 
   -- a derived window's offset may be any at which it fits
   module _ (k p : Kept) (part : Part) (e : slot_at t.slots at ≡ Some k) (in_part : part_in k.cells ≡ Some part) (parent : slot_at t.slots part.parent ≡ Some p)

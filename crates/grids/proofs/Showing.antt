@@ -1,5 +1,5 @@
 -- The cells that a window shows, read from the grid that it leads to.
-use Rattle.std.proofs.Common.{◌≡◌, ℕ, ◌+◌, ◌<◌, Option, Some, None, IsSome, IsSomeAnd, List, [], length, map, get_or, ap, refl, sym, ◌∙◌, zero-add, arith}
+use Rattle.std.proofs.Common.{◌≡◌, ℕ, ◌+◌, ◌<◌, Option, Some, None, IsSome, IsSomeAnd, List, [], length, map, get_or, ap, refl, sym, subst, ◌∙◌, zero-add, arith}
 use Rattle.std.specs.Option.{option_map, option_map_or}
 use Rattle.std.specs.List.{range_with_len}
 use Rattle.std.proofs.lemmas.List.FromFn.{length-map-range_with_len, get_or-map-range_with_len}
@@ -11,6 +11,7 @@ use Rattle.world.proofs.WindowLaws.{own-onward}
 use Rattle.slots.specs.Kept.{Kept, window_of}
 use Rattle.slots.specs.Slots.{slot_at, window_map, columns_at}
 use Rattle.slots.proofs.Chain.{some_and}
+use Rattle.grids.specs.Tables.{WindowTable}
 
 cell-read : (slots : List (Option Kept)) (w : ℕ) (g : Kept) (place : GridPlace) (y x : ℕ) → slot_at slots place.grid ≡ Some g → own (window_map slots) w 0 0 ≡ Some place
     → cell_of (window_of g).backing (place.line + y) (place.column + x) ≡ cell_at (window_map slots) w y x
@@ -82,3 +83,8 @@ line_has window w y x (Some a) e there cells is =
 pub line-has : (window : WindowMap) (w y x : ℕ) → HasPlace window w y x → (cells : List Glyph) → cells ≡ line_shown window w y
     → (x < length cells) × ((d : Glyph) → get_or cells x d ≡ cell_at window w y x)
 line-has window w y x there cells is = line_has window w y x (window w) refl there cells is
+
+-- where the first place of window w leads, in the table that is shown
+pub leads_shown : {t u : WindowTable} {slots : List (Option Kept)} {o : Option GridPlace} (w : ℕ) → t ≡ u → slots ≡ t.slots → own (window_map slots) w 0 0 ≡ o → own (window_map u.slots) w 0 0 ≡ o
+leads_shown {slots = slots} {o = o} w is same leads =
+    subst (λ (t : WindowTable). own (window_map t.slots) w 0 0 ≡ o) is (subst (λ (s : List (Option Kept)). own (window_map s) w 0 0 ≡ o) same leads)

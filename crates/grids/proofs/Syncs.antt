@@ -6,7 +6,6 @@ use Rattle.std.specs.Option.{option_map, option_map_or}
 use mathlib.Core.Path.{fun_ext}
 use Rattle.std.proofs.lemmas.Bool.{and_from, and_parts, cases_eq, cases_lt, le-leb, leb-true, lt-ltb, le-ltb}
 use Rattle.std.proofs.lemmas.Bool.Decides.{nat_tests}
-use Rattle.cell.specs.declared.limits.TheConstants.{LARGEST_PAD}
 use Rattle.world.specs.Windows.{part_of, GridPlace, HasPlace, Window, WindowMap, Windows, ancestors, any_below, with_change, onward, own, touched_below}
 use Rattle.world.specs.Sharing.{shows_part_of}
 use Rattle.world.specs.Sound.{AreSoundWindows}
@@ -18,7 +17,7 @@ use Rattle.world.proofs.WindowLaws.{own-onward, touched-touched}
 use Rattle.slots.specs.declared.place.Place.{Place}
 use Rattle.slots.specs.declared.slot.Part.{Part}
 use Rattle.slots.specs.Slots.{in_parent}
-use Rattle.grids.specs.steps.Syncs.{EndsWithin, has_column, is_touched_at, part_in_parent, shows_touched, touched_shown}
+use Rattle.grids.specs.steps.Syncs.{has_column, is_touched_at, part_in_parent, shows_touched, touched_shown}
 use Rattle.slots.proofs.Chain.{from_parent, no_parent}
 use Rattle.grids.proofs.Shared.{shared-in, from-shared}
 use Rattle.grids.proofs.Touches.{changed-here, changed-nothing, changed-other, changed-same, changed-twice, touching-is, touching-none}
@@ -171,10 +170,6 @@ untouched_if true None test = refl
 untouched_if true (Some a) test = refl
 untouched_if false o test = refl
 
-ends-within : (o p : Option Window) (b : Window) (line column : ℕ) → SameBut o b → line + b.lines ≤ LARGEST_PAD → column + b.columns ≤ LARGEST_PAD → (window : WindowMap) (w : ℕ) → window w ≡ o
-    → EndsWithin window w (line, column)
-ends-within o p b line column h lines columns window w is = rw (is, h.there) (omega (arith, lines, h.lines), omega (arith, columns, h.columns))
-
 -- ---- upwards: window u has been reached, and what is touched was passed on to it and to all on the way
 
 pub record IsHandedTo (old cur : Windows) (w u line column : ℕ) : Type 0 where
@@ -223,13 +218,6 @@ place-reached old cur w u line column sound walk same =
 pub handed-none : (windows : Windows) (w : ℕ) → IsSome (windows.window w) → IsHandedTo windows windows w w 0 0
 handed-none windows w there = record { walk = Walk-start windows.window w there; size = refl; same = λ v. refl; source = refl; rest = λ v. refl }
 
-derives_if : (t s : Bool) (f : Window → Window) (o : Option Window) → (if t || s then option_map f o else o)
-    ≡ (if s then (if t then option_map f o else option_map f o) else (if t then option_map f o else o))
-derives_if true true f o = refl
-derives_if true false f o = refl
-derives_if false true f o = refl
-derives_if false false f o = refl
-
 agree : (o : Option Window) (f g : Window → Window) → ((a : Window) → f a ≡ g a) → option_map f o ≡ option_map g o
 agree None f g h = refl
 agree (Some a) f g h = ap Some (h a)
@@ -244,17 +232,6 @@ module _ (old : Windows) (sound : AreSoundWindows old) (w u line column : ℕ) (
 
   pub next-ancestors : ancestors old.window u ≡ part.parent ∷ ancestors old.window part.parent
   next-ancestors = ancestors-parent old.window u walk.above part walk.at_is backing_is (sound-there old u walk.above sound walk.at_is).chain_ends
-
-  -- the window that was reached ends within the limits, and so does the first one in it
-  pub few-above : (0 + next-walk.above.lines ≤ LARGEST_PAD) × (0 + next-walk.above.columns ≤ LARGEST_PAD)
-  few-above =
-      let there = sound-there old part.parent next-walk.above sound next-walk.at_is in
-      (omega (arith, there.few_lines), omega (arith, there.few_columns))
-
-  pub few-below : (line + part.line + next-walk.below.lines ≤ LARGEST_PAD) × (column + part.column + next-walk.below.columns ≤ LARGEST_PAD)
-  few-below =
-      let there = sound-there old part.parent next-walk.above sound next-walk.at_is in
-      (omega (arith, there.few_lines, next-walk.lines), omega (arith, there.few_columns, next-walk.columns))
 
   -- one window further up
   module _ (cur next : Windows) (h : IsHandedTo old cur w u line column) (other : part.parent ≢ w)

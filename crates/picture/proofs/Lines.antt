@@ -1,6 +1,6 @@
 -- A picture is made line by line, and a line column by column.
-use Rattle.std.proofs.Common.{◌≡◌, ℕ, ◌+◌, ◌<◌, ◌≤◌, Bool, true, false, ◌==◌, ◌&&◌, nat_le, nat_lt, if◌then◌else◌, length, inl, inr, refl, sym, ap, ◌∙◌, arith}
-use Rattle.std.proofs.lemmas.Bool.{cases_eq, cases_lt, eq-eqb, ne_eqb, le-leb, lt-ltb}
+use Rattle.std.proofs.Common.{◌≡◌, ℕ, ◌<◌, ◌≤◌, Bool, true, false, ◌==◌, ◌&&◌, nat_le, nat_lt, if◌then◌else◌, length, inl, inr, refl, sym, ap, ◌∙◌, arith}
+use Rattle.std.proofs.lemmas.Bool.{cases_lt}
 use Rattle.std.proofs.lemmas.Bool.Decides.{nat_tests}
 use Rattle.cell.specs.Shown.{Shown, shown_blank}
 use Rattle.cell.specs.Pictures.{Picture, HasSize, picture_of, line_of, shown_at}
@@ -43,29 +43,6 @@ LineShown-more f g y start x end old now new so_far from ordered same span size 
   size = λ lines columns h. size lines columns (so_far.size lines columns h);
   height = height ∙ so_far.height;
   width = width ∙ so_far.width;
-}
-
-inside-piece : (line left right : Bool) (one other : Shown) → line ≡ true → left ≡ true → right ≡ true → (if line && (left && right) then one else other) ≡ one
-inside-piece line left right one other l c r = rw (l, c, r) refl
-
-outside-line : (line rest : Bool) (one other : Shown) → line ≡ false → (if line && rest then one else other) ≡ other
-outside-line line rest one other l = rw l refl
-
--- one line more
-pub ShownAbove-more : (f : ℕ → ℕ → Shown) (lines columns y : ℕ) (picture now : Picture) → ShownAbove f lines columns y picture
-    → ((v u : ℕ) → shown_at now (v, u) ≡ (if (v == y) && (nat_le 0 u && nat_lt u columns) then f y u else shown_at picture (v, u)))
-    → HasSize lines columns now → ShownAbove f lines columns (y + 1) now
-ShownAbove-more f lines columns y picture now so_far line size = record {
-  size = size;
-  shown = λ v u before left. elim (cases_eq v y) [
-    | inl same ↦
-        let from : 0 ≤ u = omega arith in
-        line v u ∙ inside-piece (v == y) (nat_le 0 u) (nat_lt u columns) (f y u) (shown_at picture (v, u)) (eq-eqb v y same) (le-leb 0 u from) (lt-ltb u columns left)
-        ∙ ap (λ k. f k u) (sym same)
-    | inr other ↦
-        line v u ∙ outside-line (v == y) (nat_le 0 u && nat_lt u columns) (f y u) (shown_at picture (v, u)) (ne_eqb v y other)
-        ∙ so_far.shown v u (omega arith) left
-  ];
 }
 
 pub shown-all : (f : ℕ → ℕ → Shown) (lines columns y : ℕ) (picture : Picture) → lines ≤ y → ShownAbove f lines columns y picture → picture ≡ picture_of lines columns f

@@ -4,7 +4,7 @@ use Rattle.std.specs.Prelude.{find, unwrap_or}
 use Rattle.std.specs.Option.{option_map_or, option_or}
 use Rattle.std.proofs.lemmas.List.{reverse-append}
 use Rattle.std.proofs.lemmas.List.Folds.{find-append}
-use Rattle.world.specs.Panels.{Panels, holds, owner, panel_holds, window_or_standard}
+use Rattle.world.specs.Panels.{Panels, holds, panel_holds, window_or_standard}
 use Rattle.world.specs.Windows.{WindowMap}
 use Rattle.picture.specs.steps.Owners.{owner_window}
 
@@ -23,15 +23,6 @@ pub last_or_other-first : (f : ℕ → Bool) (g : ℕ → ℕ) (p : ℕ) (rest :
 last_or_other-first f g p rest other =
     ap (λ (o : Option ℕ). option_map_or g o other) (ap (find f) (reverse-append (p ∷ []) rest) ∙ find-append f (reverse rest) (p ∷ []))
     ∙ after f g p other (find f (reverse rest)) (f p) refl
-
-of_owner : (panels : Panels) (o : Option ℕ) → window_or_standard panels o ≡ option_map_or (λ p. window_or_standard panels (Some p)) o 0
-of_owner panels None = refl
-of_owner panels (Some p) = refl
-
--- over all visible panels, with the standard screen for the other, it is the window that the search from the top finds
-pub last_or_other-all : (window : WindowMap) (panels : Panels) (y x : ℕ)
-    → owner_window window panels y x ≡ last_or_other (panel_holds window panels y x) (λ p. window_or_standard panels (Some p)) panels.visible 0
-last_or_other-all window panels y x = of_owner panels (owner window panels y x)
 
 -- A panel was looked at: it took the column over where it holds it.
 pub owner-step : (window : WindowMap) (panels : Panels) (y x p w : ℕ) (rest : List ℕ) (old new : ℕ) (test : Bool)

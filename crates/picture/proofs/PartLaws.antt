@@ -3,7 +3,6 @@ use Rattle.std.proofs.Common.{◌≡◌, ℕ, ◌+◌, ◌-◌, ◌<◌, ◌≤�
 use Rattle.std.specs.Prelude.{IsSomeAnd, unwrap_or}
 use Rattle.std.specs.Option.{option_map_or}
 use Rattle.std.proofs.lemmas.Bool.{and_parts, and_from, leb-true, le-leb, ltb-true, lt-ltb}
-use Rattle.std.proofs.lemmas.Bool.Decides.{nat_tests}
 use Rattle.cell.specs.Pictures.{Place, origin}
 use Rattle.cell.specs.declared.window.Rect.{Rect}
 use Rattle.world.specs.Frames.{AreRectangle, IsIn, IsSmallest}
@@ -11,7 +10,7 @@ use Rattle.world.specs.Panels.{holds, holds_place, place_of, screen_place}
 use Rattle.world.specs.Sharing.{SharesPart, shows_part_of}
 use Rattle.world.specs.Windows.{Window, Windows}
 use Rattle.world.specs.calls.Affected.{shows_at}
-use Rattle.picture.specs.Parts.{IsFrameWithin, frame_holds}
+use Rattle.picture.specs.Parts.{frame_holds}
 use Rattle.picture.proofs.Held.{held-between}
 use Rattle.picture.proofs.Placement.{IsPlacedAt}
 
@@ -19,10 +18,6 @@ true-alike : (b c : Bool) → (b ≡ true → c ≡ true) → (c ≡ true → b 
 true-alike true c to from = sym (to refl)
 true-alike false true to from = from refl
 true-alike false false to from = refl
-
--- a window's own rectangle
-abbrev pub frame_from : ℕ → ℕ → ℕ → ℕ → Rect
-frame_from top left lines columns = record { top = top; left = left; bottom = top + lines - 1; right = left + columns - 1 }
 
 module _ (windows : Windows) (w top left lines : ℕ) (h : IsPlacedAt windows w (top, left) lines) where
   holds-is : (y x : ℕ) → holds windows.window w y x ≡ ((nat_le top y && nat_lt y (top + h.window.lines)) && (nat_le left x && nat_lt x (left + h.window.columns)))
@@ -32,21 +27,6 @@ module _ (windows : Windows) (w top left lines : ℕ) (h : IsPlacedAt windows w 
 
   place-is : place_of windows.window w ≡ (top, left)
   place-is = ap (λ (o : Option Window). option_map_or screen_place o origin) h.there ∙ ap (λ (o : Option Place). unwrap_or o origin) h.at
-
-  pub frame-holds : (columns : ℕ) → 0 < lines → h.window.columns ≡ columns → (y x : ℕ) → frame_holds (frame_from top left lines columns) y x ≡ holds windows.window w y x
-  frame-holds columns some same y x = sym (holds-is y x ∙ rw (h.height, same) (inside-same top left lines columns y x some (let has = h.has_column in omega (arith, same)))) where
-    inside-same : (top left lines columns y x : ℕ) → 0 < lines → 0 < columns
-        → ((nat_le top y && nat_lt y (top + lines)) && (nat_le left x && nat_lt x (left + columns)))
-        ≡ ((nat_le top y && nat_le y (top + lines - 1)) && (nat_le left x && nat_le x (left + columns - 1)))
-    inside-same top left lines columns y x some more = grind (arith, nat_tests)
-
-  pub frame-within : (columns : ℕ) → 0 < lines → h.window.columns ≡ columns → IsFrameWithin windows.lines windows.columns (frame_from top left lines columns)
-  frame-within columns some same =
-      let down = h.down in
-      let height = h.height in
-      let right = h.right in
-      let has = h.has_column in
-      record { bottom = omega (arith, down, height); ordered = omega (arith, has, same); right = omega (arith, right, same, has) }
 
   -- ---- cells of another
 
@@ -94,20 +74,8 @@ module _ (windows : Windows) (w top left lines : ℕ) (h : IsPlacedAt windows w 
     abbrev smallest : IsSmallest (SharesPart windows.window window_shown r w) seen
     smallest = rectangle.0
 
-    ordered-columns : seen.left ≤ seen.right
-    ordered-columns = (smallest.holds smallest.left.0 seen.left smallest.left.1).right
-
     in-window : (y x : ℕ) → SharesPart windows.window window_shown r w y x → (y < h.window.lines) × (x < h.window.columns)
     in-window y x shared = subst (λ (o : Option Window). IsSomeAnd o (λ a. (y < a.lines) × (x < a.columns))) h.there shared.0
-
-    pub shared-within : IsFrameWithin windows.lines windows.columns shifted
-    shared-within =
-        let low = (in-window seen.bottom smallest.bottom.0 smallest.bottom.1).0 in
-        let far = (in-window smallest.right.0 seen.right smallest.right.1).1 in
-        let down = h.down in
-        let right = h.right in
-        let ordered = ordered-columns in
-        record { bottom = omega (arith, low, down); ordered = omega (arith, ordered); right = omega (arith, far, right) }
 
     -- each place of the rectangle is one at which the window shows a cell of the other
     pub holds-shared : (y x : ℕ) → frame_holds shifted y x ≡ true → shows_at windows.window window_shown r y x w ≡ true

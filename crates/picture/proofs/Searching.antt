@@ -101,40 +101,11 @@ along-of window panels y p w r x end last held has rect from within same another
   is : (u : ℕ) → panel_holds window panels y u p ≡ frame_holds r y u
   is u = ap (λ (o : Option ℕ). option_map_or (λ v. holds window v y u) o false) has ∙ sym (rect y u)
 
-out-rest : (o : Option ℕ) (p : ℕ) (rest : List ℕ) → IsSomeAnd o (λ q. IsOut q (p ∷ rest)) → IsSomeAnd o (λ q. IsOut q rest)
-out-rest None p rest h = h
-out-rest (Some q) p rest h = h.1
-
 other-than : (o : Option ℕ) (p : ℕ) (rest : List ℕ) → IsSomeAnd o (λ q. IsOut q (p ∷ rest)) → o ≢ Some p
 other-than None p rest h = absurd h
 other-than (Some q) p rest h = λ same. let one : q ≡ p = cc in h.0 one
 
-is-some : (o : Option ℕ) (rest : List ℕ) → IsSomeAnd o (λ q. IsOut q rest) → o ≢ None
-is-some None rest h = absurd h
-is-some (Some q) rest h = λ same. cc
-
 module _ (f : ℕ → ℕ → Bool) (o : ℕ → Option ℕ) (x edge end : ℕ) where
-  -- a panel that doesn't hold the first column
-  pub searched-past : (p : ℕ) (rest : List ℕ) (last : ℕ) → Searched f o x edge end (p ∷ rest) → IsAlong f p x end last false → Searched f o x edge last rest
-  searched-past p rest last h along =
-      let within = h.within in
-      let shorter = along.within in
-      let from = along.from in
-      record {
-        from = from;
-        within = omega (arith, within, shorter);
-        owner = λ u begun upto. h.owner u begun (let a = upto in omega (arith, a, shorter)) ∙ first-is_not (f u) p rest (along.same u begun upto);
-        passed = λ inside. elim (cases_lt last end) [
-          | inl before ↦
-              let is : o (last + 1) ≡ Some p = h.owner (last + 1) (omega (arith, from)) (let b = before in omega (arith, b)) ∙ first-is (f (last + 1)) p rest (along.another before) in
-              subst (λ q. IsSomeAnd q (λ r. IsOut r rest)) (sym is) h.once.0
-          | inr to_end ↦
-              let same : last ≡ end = let t = to_end in omega (arith, t, shorter) in
-              out-rest (o (last + 1)) p rest (subst (λ e. IsSomeAnd (o (e + 1)) (λ q. IsOut q (p ∷ rest))) (sym same) (h.passed (let i = inside in omega (arith, i, same))))
-        ];
-        once = h.once.1;
-      }
-
   -- one that does
   pub searched-held : (p : ℕ) (rest : List ℕ) (last : ℕ) → Searched f o x edge end (p ∷ rest) → IsAlong f p x end last true
       → ((u : ℕ) → x ≤ u → u ≤ last → o u ≡ Some p) × (last < edge → o (last + 1) ≢ Some p)
@@ -152,7 +123,3 @@ module _ (f : ℕ → ℕ → Bool) (o : ℕ → Option ℕ) (x edge end : ℕ) 
               other-than (o (last + 1)) p rest (subst (λ e. IsSomeAnd (o (e + 1)) (λ q. IsOut q (p ∷ rest))) (sym same) (h.passed (let i = inside in omega (arith, i, same))))
         ],
       )
-
-  -- none
-  pub searched-all : Searched f o x edge end [] → ((u : ℕ) → x ≤ u → u ≤ end → o u ≡ None) × (end < edge → o (end + 1) ≢ None)
-  searched-all h = (h.owner, λ inside. is-some (o (end + 1)) [] (h.passed inside))

@@ -3,15 +3,15 @@ use Rattle.std.proofs.Common.{◌≡◌, ℕ, ◌+◌, ◌<◌, ◌≤◌, false
 use Rattle.std.specs.Prelude.{⊤}
 use Rattle.std.specs.Option.{option_map}
 use mathlib.Core.Path.{fun_ext}
-use Rattle.std.proofs.lemmas.Bool.{cases_eq, cases_lt}
-use Rattle.std.proofs.lemmas.List.{get_or_past, length-set}
+use Rattle.std.proofs.lemmas.Bool.{cases_eq}
+use Rattle.std.proofs.lemmas.List.{length-set}
 use Rattle.cell.specs.declared.limits.TheConstants.{MOST_WINDOWS}
 use Rattle.world.specs.Windows.{WindowMap, own}
 use Rattle.slots.specs.declared.slot.Origin.{Origin}
 use Rattle.slots.specs.Kept.{Kept, window_of}
 use Rattle.slots.specs.Slots.{IsChained, grid_place, slot_at, window_map}
 use Rattle.slots.specs.steps.Origins.{Led}
-use Rattle.slots.specs.Changes.{SameShape, SetAt, Settled}
+use Rattle.slots.specs.Changes.{SameShape, SetAt}
 use Rattle.slots.proofs.Chain.{each_at}
 use Rattle.slots.proofs.OneSlot.{SetAt-set, chained_set, slot_below, parent_too, KeepsShape}
 use Rattle.slots.proofs.Origins.{HasOrigin}
@@ -22,22 +22,6 @@ pub record IsSettledBelow (old new : List (Option Kept)) (n : ℕ) : Type 0 wher
   pub windows : window_map new ≡ window_map old
   pub chained : IsChained new
   pub below : (w : ℕ) → w < n → MatchOption (slot_at new w) ⊤ (HasOrigin new w)
-
-pub settled-none : (old : List (Option Kept)) → IsChained old → IsSettledBelow old old 0
-settled-none old s = record { size = refl; windows = refl; chained = s; below = λ w lt. absurd (omega arith) }
-
-pub settled-all : (old new : List (Option Kept)) (n : ℕ) → length new ≤ n → IsSettledBelow old new n → Settled old new
-settled-all old new n all h = record {
-  size = h.size;
-  windows = h.windows;
-  chained = h.chained;
-  origins = record {
-    each = λ w. elim (cases_lt w n) [
-      | inl lt ↦ h.below w lt
-      | inr past ↦ (let none = get_or_past new w None (omega (arith, all, past)) in rw none tt)
-    ];
-  };
-}
 
 pub empty-slot : (o : Option Kept) → is_some o ≡ false → o ≡ None
 empty-slot None h = refl

@@ -3,8 +3,7 @@ use Rattle.std.proofs.Common.{◌≡◌, ℕ, zero, suc, ◌+◌, ◌-◌, ◌<�
 use Rattle.std.proofs.Common.{Option, None, Some, IfSome, is_none, is_some, List, length, find, sym, ap, ◌∙◌, refl, inl}
 use Rattle.std.proofs.Common.{inr, arith}
 use Rattle.std.specs.List.{range_with_len}
-use Rattle.std.proofs.lemmas.Bool.{cases_eq, cases_lt, eq-eqb, false≢true, ne_eqb, false_from_ne_true}
-use Rattle.std.proofs.lemmas.List.{get_or_past}
+use Rattle.std.proofs.lemmas.Bool.{cases_eq, eq-eqb, false≢true, ne_eqb, false_from_ne_true}
 use Rattle.std.proofs.lemmas.Option.{same_Some}
 use Rattle.cell.specs.declared.limits.TheConstants.{MOST_PANELS}
 use Rattle.world.specs.Panels.{is_in_panel, panel_limit}
@@ -12,9 +11,8 @@ use Rattle.world.specs.calls.Stacking.{new_panel_number, panel_number}
 use Rattle.world.specs.declared.panel.PanelId.{PanelId}
 use Rattle.world.proofs.PanelLaws.{in_panel-some, in_panel-true}
 use Rattle.stack.specs.Indexes.{is_taken}
-use Rattle.stack.specs.Nodes.{no_node, window_at, window_in}
+use Rattle.stack.specs.Nodes.{window_at}
 use Rattle.stack.specs.Tables.{panels, table_of, IsPanelTable}
-use Rattle.stack.specs.steps.Entries.{IsFree}
 use Rattle.stack.specs.declared.nodes.Node.{Node}
 use Rattle.stack.proofs.Tables.{is-panel}
 use Rattle.stack.proofs.Threads.{panel-below}
@@ -50,9 +48,6 @@ module _ (nodes : List Node) where
 
   pub search-here : (k : ℕ) → k < MOST_PANELS + 1 → is_none (window_at nodes k) ≡ true → search_from k ≡ Some k
   search-here k lt free = rw (list-left k lt) (rw (window-is nodes k) (rw free refl))
-
-  pub window-past : (k : ℕ) → length nodes ≤ k → window_at nodes k ≡ None
-  window-past k ge = ap window_in (get_or_past nodes k no_node ge)
 
   pub search-end : (k : ℕ) → MOST_PANELS + 1 ≤ k → search_from k ≡ None
   search-end k le = ap (λ m. find (λ p. is_none ((panels (table_of nodes)).window p)) (range_with_len k m)) (let e : panel_limit - k ≡ 0 = omega (arith, limit-is, le) in e)
@@ -92,23 +87,6 @@ module _ (nodes : List Node) (table : IsPanelTable nodes) (n : ℕ) (free : is_t
   none-found many =
       sym (search-skip nodes MOST_PANELS 1 (λ p from to. below-taken p from (omega arith)) (omega arith)
       ∙ search-end nodes (1 + MOST_PANELS) (omega arith))
-
-  pub least-is : n ≤ MOST_PANELS → IsFree nodes n
-  least-is few =
-      let positive = least-positive in
-      let some = table.some_node in
-      record {
-        free = least-free;
-        from_one = positive;
-        few = few;
-        next = elim (cases_lt (length nodes) n) [
-          | inl past ↦ absurd (
-              let full = below-taken (length nodes) (omega arith) past in
-              let none = ap (λ (o : Option ℕ). is_none o) (window-past nodes (length nodes) (omega arith)) in
-              let t : true ≡ false = sym none ∙ full in cc)
-          | inr le ↦ le
-        ];
-      }
 
 -- ---- the panel of a window
 

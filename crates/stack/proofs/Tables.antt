@@ -246,9 +246,6 @@ module _ (old mid new : List Node) (p w : ℕ) (free : IsFree old p) (made : Nod
       }
 
 module _ (old : List Node) (p : ℕ) (table : IsPanelTable old) (free : IsFree old p) where
-  pub made-already : p < length old → NodeMade old old p
-  made-already within = record { table = table; within = within; window = λ q. refl; is = refl }
-
   module _ (node : Node) (last : p ≡ length old) (window : window_in node ≡ None) (above : node.above ≡ p) (below : node.below ≡ p) where
     pushed-threaded : IsThreaded (old ++ node ∷ []) (from_bottom old)
     pushed-threaded = threaded-pushed old node (from_bottom old) table.some_node (above ∙ last) (below ∙ last)

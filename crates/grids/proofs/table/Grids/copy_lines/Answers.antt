@@ -1,12 +1,11 @@
 -- Each round copies one line more, upwards or downwards, so that no line is read after it was written.
-use Rattle.std.proofs.Common.{◌≡◌, ◌+◌, ◌-◌, ◌<◌, Some, refl, sym, ap, arith, subst, ◌∙◌}
-use Rattle.world.specs.Windows.{GridPlace, Windows, own, put}
+use Rattle.std.proofs.Common.{◌≡◌, ◌+◌, ◌-◌, ◌<◌, refl, sym, ap, arith, subst, ◌∙◌}
+use Rattle.world.specs.Windows.{Windows, put}
 use Rattle.world.specs.Rows.{copied_cells}
 use Rattle.world.specs.calls.Copying.{rectangle_copied}
 use Rattle.world.specs.Effects.{drawing_frame}
-use Rattle.grids.specs.declared.table.Grids.{Grids}
 use Rattle.grids.specs.Tables.{windows}
-use Rattle.slots.specs.Slots.{window_map}
+use Rattle.grids.proofs.Showing.{leads_shown}
 use Rattle.grids.proofs.Copies.{window_there, copy-step, frame-step}
 use Rattle.grids.proofs.CopyFrames.{nothing-frame}
 use Rattle.grids.proofs.LineCopies.{no-lines, put-none, line-after, line-before, downward-same, upward-same, place_after_above}
@@ -43,12 +42,8 @@ downward-preserved c =
     let a = c.args in let k = c.downward.k in
     let w = windows a.self.now in
     let v = windows c.downward.self in
-    let from : GridPlace = record { grid = c.origin_of-source.result.grid; line = c.origin_of-source.result.line; column = c.origin_of-source.result.column } in
-    let to : GridPlace = record { grid = c.origin_of-target.result.grid; line = c.origin_of-target.result.line; column = c.origin_of-target.result.column } in
-    let leads_from : own w.window a.from.win.0 0 0 ≡ Some from = subst (λ (t : Grids). own (window_map t.slots) a.from.win.0 0 0 ≡ Some from) c.self.view_is
-    (rw c.deref.ensures.value at c.origin_of-source.ensures.leads) in
-    let leads_to : own w.window a.to.win.0 0 0 ≡ Some to = subst (λ (t : Grids). own (window_map t.slots) a.to.win.0 0 0 ≡ Some to) c.self.view_is
-    (rw c.deref-2.ensures.value at c.origin_of-target.ensures.leads) in
+    let leads_from = leads_shown a.from.win.0 c.self.view_is c.deref.ensures.value c.origin_of-source.ensures.leads in
+    let leads_to = leads_shown a.to.win.0 c.self.view_is c.deref-2.ensures.value c.origin_of-target.ensures.leads in
     let there = window_there w a.to.win.0 (a.to.line + a.lines - 1) (a.to.column + a.columns - 1) c.requires.to in
     let f = rectangle_copied w.window a.from.win.0 a.from.line a.from.column a.to.line a.to.column k a.columns a.overlay in
     let now = copied_cells v.window a.from.win.0 (a.from.line + k) a.from.column (a.to.line + k) a.to.column a.columns a.overlay in
@@ -56,7 +51,7 @@ downward-preserved c =
     let g = rectangle_copied w.window a.from.win.0 a.from.line a.from.column a.to.line a.to.column (k + 1) a.columns a.overlay in
     let same : now ≡ h =
     ap (λ (u : Windows). copied_cells u.window a.from.win.0 (a.from.line + k) a.from.column (a.to.line + k) a.to.column a.columns a.overlay) c.downward.invariant.written
-    ∙ downward-same w.window a.from.win.0 a.to.win.0 from to there.0 there.1 leads_to leads_from a.from.line a.from.column a.to.line a.to.column k a.columns a.overlay c.if-target-to.true in
+    ∙ downward-same w.window a.from.win.0 a.to.win.0 _ _ there.0 there.1 leads_to leads_from a.from.line a.from.column a.to.line a.to.column k a.columns a.overlay c.if-target-to.true in
     let join = line-after w.window a.from.win.0 a.from.column a.to.column a.columns a.overlay a.from.line a.to.line k in
     let written : windows c.copy_line-copied.new.self ≡ put v a.to.win.0 now = rw (c.down_by.ensures, c.down_by-in-downward.ensures) at c.copy_line-copied.ensures.written in
     record {
@@ -98,12 +93,8 @@ upward-preserved c =
     let v = windows c.upward.self in
     let lt : k < a.lines = omega (arith, c.upward-test.true, c.upward.auto.k) in
     let one : c.upward.k ≡ k + 1 = omega (arith, c.upward-test.true) in
-    let from : GridPlace = record { grid = c.origin_of-source.result.grid; line = c.origin_of-source.result.line; column = c.origin_of-source.result.column } in
-    let to : GridPlace = record { grid = c.origin_of-target.result.grid; line = c.origin_of-target.result.line; column = c.origin_of-target.result.column } in
-    let leads_from : own w.window a.from.win.0 0 0 ≡ Some from = subst (λ (t : Grids). own (window_map t.slots) a.from.win.0 0 0 ≡ Some from) c.self.view_is
-    (rw c.deref.ensures.value at c.origin_of-source.ensures.leads) in
-    let leads_to : own w.window a.to.win.0 0 0 ≡ Some to = subst (λ (t : Grids). own (window_map t.slots) a.to.win.0 0 0 ≡ Some to) c.self.view_is
-    (rw c.deref-2.ensures.value at c.origin_of-target.ensures.leads) in
+    let leads_from = leads_shown a.from.win.0 c.self.view_is c.deref.ensures.value c.origin_of-source.ensures.leads in
+    let leads_to = leads_shown a.to.win.0 c.self.view_is c.deref-2.ensures.value c.origin_of-target.ensures.leads in
     let there = window_there w a.to.win.0 (a.to.line + a.lines - 1) (a.to.column + a.columns - 1) c.requires.to in
     let f = rectangle_copied w.window a.from.win.0 (a.from.line + (k + 1)) a.from.column (a.to.line + (k + 1)) a.to.column (a.lines - (k + 1)) a.columns a.overlay in
     let now = copied_cells v.window a.from.win.0 (a.from.line + k) a.from.column (a.to.line + k) a.to.column a.columns a.overlay in
@@ -117,7 +108,7 @@ upward-preserved c =
     (a.lines - j) a.columns a.overlay)) one c.upward.invariant.frame in
     let same : now ≡ h =
     ap (λ (u : Windows). copied_cells u.window a.from.win.0 (a.from.line + k) a.from.column (a.to.line + k) a.to.column a.columns a.overlay) before
-    ∙ upward-same w.window a.from.win.0 a.to.win.0 from to there.0 there.1 leads_to leads_from a.from.line a.from.column a.to.line a.to.column k
+    ∙ upward-same w.window a.from.win.0 a.to.win.0 _ _ there.0 there.1 leads_to leads_from a.from.line a.from.column a.to.line a.to.column k
     (a.lines - (k + 1)) a.columns a.overlay c.if-target-to.false in
     let join = line-before w.window a.from.win.0 a.from.column a.to.column a.columns a.overlay a.from.line a.to.line k a.lines lt in
     let written : windows c.copy_line-copied-in-upward.new.self ≡ put v a.to.win.0 now = rw (c.down_by-in-upward.ensures, c.down_by-in-upward-2.ensures) at

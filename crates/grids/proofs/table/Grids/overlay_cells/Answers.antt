@@ -1,11 +1,10 @@
 -- Each round lays one cell more over the line, in the direction in which none is read after it was written.
-use Rattle.std.proofs.Common.{◌≡◌, ◌+◌, ◌-◌, ◌<◌, true, Some, refl, sym, ap, arith, subst, ◌∙◌}
-use Rattle.world.specs.Windows.{GridPlace, Windows, cell_at, own, put}
+use Rattle.std.proofs.Common.{◌≡◌, ◌+◌, ◌-◌, ◌<◌, true, refl, sym, ap, arith, subst, ◌∙◌}
+use Rattle.world.specs.Windows.{Windows, cell_at, put}
 use Rattle.world.specs.Rows.{copied_cells}
 use Rattle.world.specs.Effects.{drawing_frame}
-use Rattle.grids.specs.declared.table.Grids.{Grids}
 use Rattle.grids.specs.Tables.{windows}
-use Rattle.slots.specs.Slots.{window_map}
+use Rattle.grids.proofs.Showing.{leads_shown}
 use Rattle.grids.proofs.Copies.{window_there, place_after, start-copy, copy-step, frame-step, one-same, more-after, more-before, forward-read, backward-read, copied-none}
 use Rattle.grids.proofs.CopyFrames.{nothing-frame}
 use Rattle.grids.proofs.table.Grids.overlay_cells.Goals as goal
@@ -44,12 +43,8 @@ forward-preserved c =
     let w = windows a.self.now in
     let v = windows c.forward.self in
     let lt : k < a.n = omega (arith, c.forward-test.true) in
-    let from : GridPlace = record { grid = c.origin_of-source.result.grid; line = c.origin_of-source.result.line; column = c.origin_of-source.result.column } in
-    let to : GridPlace = record { grid = c.origin_of-target.result.grid; line = c.origin_of-target.result.line; column = c.origin_of-target.result.column } in
-    let leads_from : own w.window a.from.win.0 0 0 ≡ Some from = subst (λ (t : Grids). own (window_map t.slots) a.from.win.0 0 0 ≡ Some from) c.self.view_is
-    (rw c.deref.ensures.value at c.origin_of-source.ensures.leads) in
-    let leads_to : own w.window a.to.win.0 0 0 ≡ Some to = subst (λ (t : Grids). own (window_map t.slots) a.to.win.0 0 0 ≡ Some to) c.self.view_is
-    (rw c.deref-2.ensures.value at c.origin_of-target.ensures.leads) in
+    let leads_from = leads_shown a.from.win.0 c.self.view_is c.deref.ensures.value c.origin_of-source.ensures.leads in
+    let leads_to = leads_shown a.to.win.0 c.self.view_is c.deref-2.ensures.value c.origin_of-target.ensures.leads in
     let there = window_there w a.to.win.0 a.to.line (a.to.column + a.n - 1) c.requires.to in
     let f = copied_cells w.window a.from.win.0 a.from.line a.from.column a.to.line a.to.column k true in
     let now = copied_cells v.window a.from.win.0 a.from.line (a.from.column + k) a.to.line (a.to.column + k) 1 true in
@@ -57,7 +52,7 @@ forward-preserved c =
     let g = copied_cells w.window a.from.win.0 a.from.line a.from.column a.to.line a.to.column (k + 1) true in
     let same : now ≡ h = one-same v.window w.window a.from.win.0 a.from.line (a.from.column + k) a.to.line (a.to.column + k) true
     (ap (λ (u : Windows). cell_at u.window a.from.win.0 a.from.line (a.from.column + k)) c.forward.invariant.written
-    ∙ forward-read w.window a.from.win.0 a.to.win.0 from to there.0 a.from.line a.from.column a.to.line a.to.column k true there.1 leads_to leads_from c.if-target-to.true) in
+    ∙ forward-read w.window a.from.win.0 a.to.win.0 _ _ there.0 a.from.line a.from.column a.to.line a.to.column k true there.1 leads_to leads_from c.if-target-to.true) in
     let join = more-after w.window a.from.win.0 a.from.line a.from.column a.to.line a.to.column k true in
     let written : windows c.overlay_cell-copied.new.self ≡ put v a.to.win.0 now = rw (c.right_by.ensures, c.right_by-in-forward.ensures) at c.overlay_cell-copied.ensures.written in
     record {
@@ -101,12 +96,8 @@ backward-preserved c =
     let v = windows c.backward.self in
     let lt : k < a.n = omega (arith, c.backward-test.true, c.backward.auto.k) in
     let one : c.backward.k ≡ k + 1 = omega (arith, c.backward-test.true) in
-    let from : GridPlace = record { grid = c.origin_of-source.result.grid; line = c.origin_of-source.result.line; column = c.origin_of-source.result.column } in
-    let to : GridPlace = record { grid = c.origin_of-target.result.grid; line = c.origin_of-target.result.line; column = c.origin_of-target.result.column } in
-    let leads_from : own w.window a.from.win.0 0 0 ≡ Some from = subst (λ (t : Grids). own (window_map t.slots) a.from.win.0 0 0 ≡ Some from) c.self.view_is
-    (rw c.deref.ensures.value at c.origin_of-source.ensures.leads) in
-    let leads_to : own w.window a.to.win.0 0 0 ≡ Some to = subst (λ (t : Grids). own (window_map t.slots) a.to.win.0 0 0 ≡ Some to) c.self.view_is
-    (rw c.deref-2.ensures.value at c.origin_of-target.ensures.leads) in
+    let leads_from = leads_shown a.from.win.0 c.self.view_is c.deref.ensures.value c.origin_of-source.ensures.leads in
+    let leads_to = leads_shown a.to.win.0 c.self.view_is c.deref-2.ensures.value c.origin_of-target.ensures.leads in
     let there = window_there w a.to.win.0 a.to.line (a.to.column + a.n - 1) c.requires.to in
     let f = copied_cells w.window a.from.win.0 a.from.line (a.from.column + (k + 1)) a.to.line (a.to.column + (k + 1)) (a.n - (k + 1)) true in
     let now = copied_cells v.window a.from.win.0 a.from.line (a.from.column + k) a.to.line (a.to.column + k) 1 true in
@@ -119,7 +110,7 @@ backward-preserved c =
     c.backward.invariant.frame in
     let same : now ≡ h = one-same v.window w.window a.from.win.0 a.from.line (a.from.column + k) a.to.line (a.to.column + k) true
     (ap (λ (u : Windows). cell_at u.window a.from.win.0 a.from.line (a.from.column + k)) before
-    ∙ backward-read w.window a.from.win.0 a.to.win.0 from to there.0 a.from.line a.from.column a.to.line a.to.column k (a.n - (k + 1)) true there.1 leads_to leads_from c.if-target-to.false) in
+    ∙ backward-read w.window a.from.win.0 a.to.win.0 _ _ there.0 a.from.line a.from.column a.to.line a.to.column k (a.n - (k + 1)) true there.1 leads_to leads_from c.if-target-to.false) in
     let join = more-before w.window a.from.win.0 a.from.line a.from.column a.to.line a.to.column k a.n true lt in
     let written : windows c.overlay_cell-copied-in-backward.new.self ≡ put v a.to.win.0 now = rw (c.right_by-in-backward.ensures, c.right_by-in-backward-2.ensures) at
     c.overlay_cell-copied-in-backward.ensures.written in
