@@ -110,7 +110,8 @@ fn widen_rectangle(changes: &mut Changes, frame: Rect, lines: u16)
     ensures height { length changes.new ≡ length changes.old }
     ensures keeps { (y x : ℕ) → may_change changes.new y x ≡ false → may_change changes.old y x ≡ false }
     ensures others { (y x : ℕ) → y < lines → x < 65535 → may_change changes.new y x ≡ false
-        → (nat_le frame.top y && nat_lt y (frame.top + (frame.bottom - frame.top + 1)) && (nat_le frame.left x && nat_lt x (frame.left + (frame.right - frame.left + 1)))) ≡ false }
+        → (nat_le frame.top y && nat_lt y (frame.top + (frame.bottom - frame.top + 1))
+        && (nat_le frame.left x && nat_lt x (frame.left + (frame.right - frame.left + 1)))) ≡ false }
 {
     let stretch = Stretch {
         start: frame.left,
