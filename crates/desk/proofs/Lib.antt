@@ -1,4 +1,4 @@
--- What calls do to the writer of a screen; for `make_call`
+-- What calls do to the writer of a screen; for `call`, `doupdate`
 pub mod WriterLemmas
 -- States with more lines damaged: the outcomes that calls may have in one, they may have in the other; for `AnswerLemmas`, `MakesLemmas`,
 -- `RunLemmas` and others
@@ -13,11 +13,11 @@ pub mod MakesLemmas
 pub mod RunLemmas
 -- What a terminal shows after a run of calls; for `call`, `doupdate`, `run`
 pub mod ShowingLemmas
--- A call of a script is the call that its line says, wherever its text lies, and what it answered; for `answer`
+-- A call of a script is the call that its line says, wherever its text lies, and what it answered; for `run_line`, `LineEndLemmas`
 pub mod AnswerLemmas
 -- How a line of a script ends; for `run_line`
 pub mod LineEndLemmas
--- A script is run a line at a time; for `run_lines`, `run_script`
+-- A script is run a line at a time; for `run_lines`, `run_script`, `close_log`
 pub mod ScriptLemmas
--- In which columns calls change the virtual screen; for `make_call`, `widen_damaged`, `widen_for_refresh` and others
+-- In which columns calls change the virtual screen; for `call`, `widen_damaged`, `widen_for_refresh` and others
 pub mod Widening

@@ -1,9 +1,10 @@
 -- What a terminal shows after a run of calls.
-use Rattle.std.proofs.Common.{◌≡◌, ℕ, List, [], ◌∷◌, ◌++◌, take, Option, Some, None, Result, Ok, Err, refl, sym, ap, ◌∙◌, subst, append_assoc, append-nil}
+use Rattle.std.proofs.Common.{◌≡◌, ℕ, List, [], ◌∷◌, ◌++◌, take, Option, Some, None, Result, Ok, Err, is_some, refl, sym, ap, ◌∙◌, subst, append_assoc, append-nil}
 use Rattle.std.proofs.KnownBytes.{Appends-trans}
 use Rattle.std.specs.Prelude.{⊤, MatchOption}
 use Rattle.cell.specs.Shown.{shown, shown_blank}
 use Rattle.cell.specs.Pictures.{HasSize}
+use Rattle.world.specs.Sound.{IsSound}
 use Rattle.world.specs.World.{World, picture}
 use Rattle.world.specs.calls.Dispatch.{world_after}
 use Rattle.world.specs.Effects.{composed_windows}
@@ -16,6 +17,7 @@ use Rattle.ecma.specs.Streams.{Leads, LeadsWithBreaks, showing}
 use Rattle.ecma.proofs.Joining.{Leads-append}
 use Rattle.ecma.proofs.Leading.{Leads-nothing}
 use Rattle.ecma.proofs.Sizes.{size-effects}
+use Rattle.streams.specs.Counts.{count_after}
 use Rattle.streams.specs.Sinks.{Seen}
 use Rattle.paint.specs.Updates.{Agrees, PainterState}
 use Rattle.streams.specs.declared.sending.WriteFault.{WriteFault}
@@ -27,6 +29,7 @@ use Rattle.desk.specs.Runs.{Outcome, MayAnswer, Run, all_sent, state_after, stat
 use Rattle.world.proofs.Sizes.{size-call}
 use Rattle.compose.specs.Desks.{DeskTable, world}
 use Rattle.desk.specs.Ends.{CallEnds, IsCut, Makes, RunEnds, Stops, cut_of}
+use Rattle.desk.specs.Methods.{CallMade}
 use Rattle.desk.specs.States.{state_of}
 use Rattle.desk.specs.Showing.{EndsInDoupdate, EndsInUpdate, ShowsWorld, RunShows, showing_virtual}
 use Rattle.world.specs.declared.call.Call.{Call}
@@ -363,3 +366,10 @@ pub run-keeps_size : {W : Type 0} (seen : W → Seen) (old new : ScreenOver W) (
     → KeepsSize old.desk new.desk
 run-keeps_size seen old new cs end one_size h =
     then-keeps_size old.desk h.at_stop.desk new.desk (makes-keep_size seen old h.at_stop h.made h.outcomes one_size h.makes) (stop-keeps_size seen h.at_stop new h.left end.fault h.stop)
+
+-- all that is known of it follows
+pub call-made : {W : Type 0} (seen : W → Seen) (name : W → ℕ) (old new : ScreenOver W) (call : Call) (r : Result Reply Fault) → HasOneSize old.desk old.painter → CallEnds seen old call r new
+    → (seen new.writer).failures ≡ count_after (is_some (cut_of r)) (seen old.writer).failures → name new.writer ≡ name old.writer → IsSound (world new.desk)
+    → CallMade seen name old call r new
+call-made seen name old new call r one_size h failures same sound =
+    record { ends = h; shown = call-shows seen old new call r one_size h; failures = failures; same = same; sound = sound; size = call-keeps_size seen old new call r one_size h }

@@ -5,11 +5,14 @@ use Rattle.std.proofs.lemmas.List.Sums.{sum_by-le-sum_by}
 use Rattle.std.specs.List.{count_by, range_with_len}
 use Rattle.cell.specs.declared.refusal.Refusal.{Refusal}
 use Rattle.paint.specs.Updates.{PainterState}
+use Rattle.world.specs.Sound.{IsSound}
 use Rattle.world.specs.World.{World}
 use Rattle.world.specs.calls.Affected.{affected_after, affected_lines}
 use Rattle.world.specs.calls.Dispatch.{is_doupdate, is_update_panels}
 use Rattle.compose.specs.Calling.{MayRead}
-use Rattle.desk.specs.States.{IsWithin, ScreenOver, State, after, state_of, wanted}
+use Rattle.paint.specs.declared.changes.Stretch.{Stretch}
+use Rattle.compose.specs.Desks.{DeskTable, world}
+use Rattle.desk.specs.States.{HasOneSize, IsScreen, IsWithin, ScreenOver, State, after, state_of, wanted}
 use Rattle.desk.specs.Runs.{MayAnswer, Outcome, Run, state_after, state_at_end}
 use Rattle.world.specs.declared.call.Call.{Call}
 use Rattle.world.specs.declared.call.Call.TheVariants as calls
@@ -98,3 +101,16 @@ Run-within {s = s} {t = t} (c ∷ cs) (o ∷ os) h run = (
   MayAnswer-within c o.answer o.sent h run.0,
   Run-within {s = state_after s c o.answer} {t = state_after t c o.answer} cs os (state_after-within c o.answer h) run.1,
 )
+
+-- ---- what always holds of a screen
+
+pub of-screen : {W : Type 0} {s t : ScreenOver W} {changes : List Stretch} → s ≡ t → IsScreen s.desk s.painter changes → HasOneSize t.desk t.painter × IsSound (world t.desk)
+of-screen is h = subst (λ u. HasOneSize u.desk u.painter × IsSound (world u.desk)) is (h.size, h.sound)
+
+pub sound-cleared : (t : DeskTable) → IsSound (world t) → IsSound (world (record t { virtual = record t.virtual { clear = false } }))
+sound-cleared t h = record {
+  windows = h.windows;
+  panels = h.panels;
+  pairs = h.pairs;
+  virtual = record { size = h.virtual.size; cells = h.virtual.cells; line = h.virtual.line; column = h.virtual.column };
+}

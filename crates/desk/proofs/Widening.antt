@@ -16,8 +16,8 @@ use Rattle.world.specs.Panels.{cell_on_screen, holds_place, screen_place}
 use Rattle.cell.specs.declared.refusal.Refusal.{Refusal}
 use Rattle.compose.specs.Calling.{Called}
 use Rattle.compose.specs.Desks.{DeskTable, world}
-use Rattle.compose.proofs.DeskLemmas.{size-called, world-left}
-use Rattle.desk.specs.States.{IsKept}
+use Rattle.compose.proofs.DeskLemmas.{size-called, sound-called, world-left}
+use Rattle.desk.specs.States.{IsKept, IsScreen}
 use Rattle.paint.specs.Changes.{DifferOnly}
 use Rattle.paint.specs.Updates.{PainterState}
 use Rattle.world.specs.World.{World}
@@ -101,7 +101,7 @@ untouched window w top left y u is none = ap (λ b. if b then Some (cell_on_scre
 -- ---- what the painter has to look at
 
 -- a call leaves what it doesn't change, so that only what is added may be changed now
-pub kept-called : (old new : DeskTable) (call : Call) (r : Result Reply Refusal) (painter : PainterState) (changes wide : List Stretch) → Called old call r new
+kept-called : (old new : DeskTable) (call : Call) (r : Result Reply Refusal) (painter : PainterState) (changes wide : List Stretch) → Called old call r new
     → length wide ≡ length changes → ((y x : ℕ) → may_change wide y x ≡ false → may_change changes y x ≡ false)
     → (refusal (world old) call ≡ None → (y x : ℕ) → may_change wide y x ≡ false → shown_at (world_after (world old) call).virtual.picture (y, x) ≡ shown_at old.virtual.picture (y, x))
     → IsKept old painter changes → IsKept new painter wide
@@ -115,6 +115,18 @@ kept-called old new call r painter changes wide called long keeps same kept = re
   left : (r : Result Reply Refusal) → Called old call r new → (y x : ℕ) → may_change wide y x ≡ false → shown_at new.virtual.picture (y, x) ≡ shown_at old.virtual.picture (y, x)
   left (Ok reply) h y x none = ap (λ (w : World). shown_at w.virtual.picture (y, x)) (world-left old new call h.2) ∙ same h.0 y x none
   left (Err e) h y x none = ap (λ (t : DeskTable). shown_at t.virtual.picture (y, x)) h.1
+
+pub screen-called : (old new : DeskTable) (call : Call) (r : Result Reply Refusal) (painter : PainterState) (changes wide : List Stretch) → Called old call r new
+    → length wide ≡ length changes → ((y x : ℕ) → may_change wide y x ≡ false → may_change changes y x ≡ false)
+    → (refusal (world old) call ≡ None → (y x : ℕ) → may_change wide y x ≡ false → shown_at (world_after (world old) call).virtual.picture (y, x) ≡ shown_at old.virtual.picture (y, x))
+    → IsScreen old painter changes → IsScreen new painter wide
+screen-called old new call r painter changes wide called long keeps same h =
+    let size = size-called old new call r called in
+    record {
+      sound = sound-called old new call r h.sound called;
+      size = record { lines = h.size.lines ∙ sym size.0; columns = h.size.columns ∙ sym size.1 };
+      kept = kept-called old new call r painter changes wide called long keeps same h.kept;
+    }
 
 -- nothing is copied beside a rectangle
 pub not-copied : (window : WindowMap) (src sy sx top left bottom right y x : ℕ)

@@ -1,6 +1,7 @@
 -- A screen between two calls.
 -- X/Open Curses Issue 7: doupdate shows the virtual screen.
 use Rattle.std.specs.Prelude.{◌≡◌, ℕ, Bool, true, List, length, MatchOption, Some, ⊤, if◌then◌else◌}
+use Rattle.world.specs.Sound.{IsSound}
 use Rattle.world.specs.World.{World}
 use Rattle.world.specs.calls.Affected.{affected_after}
 use Rattle.world.specs.calls.Dispatch.{is_doupdate, world_after}
@@ -64,5 +65,6 @@ pub record IsKept (desk : DeskTable) (painter : PainterState) (changes : List St
 
 -- what always holds of a screen
 pub record IsScreen (desk : DeskTable) (painter : PainterState) (changes : List Stretch) : Type 0 where
+  pub sound : IsSound (world desk)
   pub size : HasOneSize desk painter
   pub kept : IsKept desk painter changes

@@ -1,16 +1,16 @@
 //! Runs scripts.
 
-ghost use Rattle.std.specs.Prelude.{◌≡◌, ◌≤◌, ◌||◌, length, is_err, is_some, false};
+ghost use Rattle.std.specs.Prelude.{◌≡◌, ◌≤◌, ◌||◌, length, is_some, false};
 ghost use Rattle.world.specs.Sound.{IsSound};
-ghost use Rattle.script.specs.Words.{placeless};
-ghost use Rattle.desk.specs.Ends.{CallEnds};
+ghost use Rattle.desk.specs.Methods.{CallMade};
 ghost use Rattle.desk.specs.steps.Answers.{call_end};
 ghost use Rattle.streams.specs.Counts.{count_after};
 ghost use Rattle.compose.specs.Desks.{world};
-ghost use Rattle.desk.specs.ScriptEnds.{LineEnds, RunsLines, ScriptEnds, log_failed, read_failed, write_fault};
+ghost use Rattle.desk.specs.ScriptEnds.{LineEnds, LogCloses, RunsLines, ScriptEnds, log_failed, read_failed, write_fault};
 ghost use Rattle.desk.specs.States.{KeepsSize};
 
 use crate::screen::{Fault, Screen};
+use calls::Calls;
 use cell::Refusal;
 use script::{
     Arguments, LONGEST_LINE, LineEnd, Lines, ScriptEnd, ScriptFault, TextFault, log_answer,
@@ -22,11 +22,9 @@ use world::{Call, Reply};
 impl<W: Sink> Screen<W> {
     /// Makes a call, and answers what the log says of it.
     fn answer(&mut self, call: &Call<'_>) -> Result<Result<Reply, Refusal>, WriteFault>
-        ensures answer { CallEnds W.seen self.old (placeless call.now) (call_end result) self.new }
-        ensures failures { (W.seen self.new.writer).failures ≡ count_after (is_err result) (W.seen self.old.writer).failures }
-        ensures same { W.name self.new.writer ≡ W.name self.old.writer }
+        ensures { CallMade W.seen W.name self.old call.now (call_end result) self.new }
     {
-        match self.make_call(call) {
+        match self.call(call) {
             Ok(reply) => Ok(Ok(reply)),
             Err(Fault::Refused(refusal)) => Ok(Err(refusal)),
             Err(Fault::Write(fault)) => Err(fault),
@@ -117,17 +115,27 @@ impl<W: Sink> Screen<W> {
         ensures sound { IsSound (world self.new.desk) }
         ensures size { KeepsSize self.old.desk self.new.desk }
     {
-        prove!(self.is_sound());
+        let _ = &self.desk;
         let end = self.run_lines(input, log);
-        prove!(self.is_sound());
-        if log_failed(end) {
-            return end;
-        }
-        match log.flush() {
-            Ok(()) => end,
-            Err(_) if end.fault.is_none() => script_end(end.refused, Some(ScriptFault::Log)),
-            Err(_) => end,
-        }
+        let _ = &self.desk;
+        close_log(log, end)
+    }
+}
+
+/// Flushes the log, unless a write of it failed.
+fn close_log<L: Sink>(log: &mut L, end: ScriptEnd) -> ScriptEnd
+    ensures closes { LogCloses end.fault (L.seen log.old) (L.seen log.new) result.fault }
+    ensures refused { result.refused ≡ end.refused }
+    ensures reading { read_failed result.fault ≡ read_failed end.fault }
+    ensures writer { write_fault result.fault ≡ write_fault end.fault }
+{
+    if log_failed(end) {
+        return end;
+    }
+    match log.flush() {
+        Ok(()) => end,
+        Err(_) if end.fault.is_none() => script_end(end.refused, Some(ScriptFault::Log)),
+        Err(_) => end,
     }
 }
 

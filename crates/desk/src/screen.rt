@@ -2,7 +2,7 @@
 
 mod writer;
 
-ghost use Rattle.std.specs.Prelude.{◌≡◌, ◌∷◌, ℕ, [], IfOk, None, is_some, false, true};
+ghost use Rattle.std.specs.Prelude.{◌≡◌, ◌∷◌, ℕ, [], IfOk, None, is_some, false};
 ghost use Rattle.world.specs.calls.Making.{new_refusal};
 ghost use Rattle.cell.specs.Refusals.{RefusedBy};
 ghost use Rattle.world.specs.Sound.{IsSound};
@@ -27,7 +27,7 @@ use world::{Call, Refresh, Reply};
 /// A desk, the painter that shows it, and the writer that the bytes go to.
 #[derive(Drop)]
 pub struct Screen<W> {
-    desk: Desk,
+    pub(crate) desk: Desk,
     painter: Painter,
     writer: W,
     // Where the virtual screen may show something else than the painter showed last.
@@ -129,8 +129,8 @@ impl<W> Screen<W> {
 }
 
 impl<W: Sink> Screen<W> {
-    ghost use Rattle.desk.specs.States.{HasOneSize, KeepsSize};
-    ghost use Rattle.desk.specs.Ends.{CallEnds, RunEnds, cut_of};
+    ghost use Rattle.desk.specs.States.{KeepsSize};
+    ghost use Rattle.desk.specs.Ends.{RunEnds};
     ghost use Rattle.desk.specs.Showing.{RunShows};
     ghost use Rattle.desk.specs.Methods.{CallMade};
     ghost use Rattle.calls.specs.Methods.{as_reply};
@@ -157,43 +157,6 @@ impl<W: Sink> Screen<W> {
     pub fn doupdate(&mut self) -> Result<Sent, Fault>
         ensures { CallMade W.seen W.name self.old (Call.Refresh Refresh.Doupdate) (as_reply Reply.Sent result) self.new }
     {
-        prove!(self.is_sound());
-        let end = self.send_update();
-        prove!(self.is_sound());
-        end
-    }
-
-    /// Always true: what it ensures is what is known of each screen.
-    pub(crate) fn is_sound(&self) -> bool
-        ensures yes { result ≡ true }
-        ensures size { HasOneSize self.now.desk self.now.painter }
-        ensures sound { IsSound (world self.now.desk) }
-    {
-        self.desk.size().0 > 0
-    }
-
-    #[inline(always)]
-    pub(crate) fn make_call(&mut self, call: &Call<'_>) -> Result<Reply, Fault>
-        ensures call { CallEnds W.seen self.old call.now result self.new }
-        ensures failures { (W.seen self.new.writer).failures ≡ count_after (is_some (cut_of result)) (W.seen self.old.writer).failures }
-        ensures same { W.name self.new.writer ≡ W.name self.old.writer }
-    {
-        match *call {
-            Call::Refresh(Refresh::Doupdate) => Ok(Reply::Sent(self.send_update()?)),
-            _ => {
-                widen_for(&mut self.changes, &self.desk, call);
-                Ok(self.desk.call(call)?)
-            }
-        }
-    }
-
-    /// Shows the virtual screen.
-    fn send_update(&mut self) -> Result<Sent, Fault>
-        ensures call { CallEnds W.seen self.old (Call.Refresh Refresh.Doupdate) (as_reply Reply.Sent result) self.new }
-        ensures failures { (W.seen self.new.writer).failures ≡ count_after (is_some (cut_of (as_reply Reply.Sent result))) (W.seen self.old.writer).failures }
-        ensures same { W.name self.new.writer ≡ W.name self.old.writer }
-    {
-        prove!(self.is_sound());
         let screen = &self.desk;
         match self
             .painter
@@ -218,9 +181,9 @@ impl<W: Sink> Screen<W> {
         ensures sound { IsSound (world self.new.desk) }
         ensures size { KeepsSize self.old.desk self.new.desk }
     {
-        prove!(self.is_sound());
+        let _ = &self.desk;
         let end = self.run_calls(calls);
-        prove!(self.is_sound());
+        let _ = &self.desk;
         end
     }
 
@@ -236,7 +199,7 @@ impl<W: Sink> Screen<W> {
             fault: None,
         };
         for call in calls {
-            match self.make_call(call) {
+            match self.call(call) {
                 Ok(reply) => {
                     end.done += 1;
                     end.composed += u128::from(cells_of(reply));
@@ -265,10 +228,13 @@ impl<W: Sink> Calls for Screen<W> {
     fn call(&mut self, call: &Call<'_>) -> Result<Reply, Fault>
         ensures { CallMade W.seen W.name self.old call.now result self.new }
     {
-        prove!(self.is_sound());
-        let end = self.make_call(call);
-        prove!(self.is_sound());
-        end
+        match *call {
+            Call::Refresh(Refresh::Doupdate) => Ok(Reply::Sent(self.doupdate()?)),
+            _ => {
+                widen_for(&mut self.changes, &self.desk, call);
+                Ok(self.desk.call(call)?)
+            }
+        }
     }
 
     ghost answers = { answers-made W.seen W.name };

@@ -1,22 +1,27 @@
--- `doupdate`: what a terminal shows after a run of calls (`ShowingLemmas`).
+-- `doupdate`: all that is known of a call follows from how it ended (`ShowingLemmas`).
+use Rattle.std.proofs.Common.{rules, Ok, Err}
 use Rattle.world.specs.declared.call.Call.TheVariants.{Refresh}
 use Rattle.world.specs.declared.call.Refresh.TheVariants.{Doupdate}
 use Rattle.world.specs.declared.call.Reply.TheVariants.{Sent}
-use Rattle.calls.specs.Methods.{as_reply}
-use Rattle.desk.proofs.ShowingLemmas.{call-keeps_size, call-shows}
+use Rattle.desk.specs.declared.screen.Fault.TheVariants.{Write}
+use Rattle.desk.proofs.ShowingLemmas.{call-made}
+use Rattle.desk.proofs.StateLemmas.{sound-cleared}
 use Rattle.desk.proofs.screen.Screen.doupdate.Goals as goal
 
-pub returns : goal.returns
-returns g c =
-    let old = c.args.self.now in
-    let new = c.send_update-end.new.self in
-    let end = as_reply Sent c.send_update-end.result in
-    let made = c.send_update-end.ensures in
-    record {
-      ends = made.call;
-      shown = call-shows g.W.Sink.seen old new (Refresh Doupdate) end c.is_sound.ensures.size made.call;
-      failures = made.failures;
-      same = made.same;
-      sound = c.is_sound-2.ensures.sound;
-      size = call-keeps_size g.W.Sink.seen old new (Refresh Doupdate) end c.is_sound.ensures.size made.call;
-    }
+pub invariant_of-self : goal.invariant_of-self
+invariant_of-self g c = record {
+  sound = rw c.clear_done.ensures (sound-cleared c.self.inside.desk c.self.invariant.sound);
+  size = search rules;
+  kept = search rules;
+}
+
+pub returns-in-Ok : goal.returns-in-Ok
+returns-in-Ok g c =
+    rw (← c.self.view_is)
+    (call-made g.W.Sink.seen g.W.Sink.name _ _ (Refresh Doupdate) (Ok (Sent c.in-Ok.sent)) c.self.invariant.size (search rules) (search rules) (search rules)
+    (rw c.clear_done.ensures (sound-cleared c.self.inside.desk c.self.invariant.sound)))
+
+pub returns-in-Err : goal.returns-in-Err
+returns-in-Err g c =
+    rw (← c.self.view_is)
+    (call-made g.W.Sink.seen g.W.Sink.name _ _ (Refresh Doupdate) (Err (Write c.in-Err.fault)) c.self.invariant.size (search rules) (search rules) (search rules) c.self.invariant.sound)

@@ -7,9 +7,9 @@ use Rattle.desk.proofs.screen.Screen.run_calls.Goals.{in-Ok, in-Err-Refused}
 pub loop-call-preserved : goal.loop-call-preserved
 loop-call-preserved g c =
     let so_far = c.loop-call.invariant.so_far in
-    elim c.match-make_call.branch [
+    elim c.match-call.branch [
       | in-Ok w ↦ rw (w.end-is, w.from.ensures, w.cells_of.ensures) (record {
-        so_far = accepted_next _ _ _ _ _ _ _ _ _ _ _ so_far c.loop-call-test.true w.in-Ok.ensures.call;
+        so_far = accepted_next _ _ _ _ _ _ _ _ _ _ _ so_far c.loop-call-test.true w.in-Ok.ensures.ends;
         count = omega arith;
         composed = omega arith;
         fault = c.loop-call.invariant.fault;
@@ -17,7 +17,7 @@ loop-call-preserved g c =
         same = w.in-Ok.ensures.same ∙ c.loop-call.invariant.same;
       })
       | in-Err-Refused w ↦ rw w.end-is (record {
-        so_far = refused_next _ _ _ _ _ _ _ _ _ _ _ so_far c.loop-call-test.true (rw w.in-Err-Refused.field-0-is at w.in-Err-Refused.ensures.call);
+        so_far = refused_next _ _ _ _ _ _ _ _ _ _ _ so_far c.loop-call-test.true (rw w.in-Err-Refused.field-0-is at w.in-Err-Refused.ensures.ends);
         count = omega arith;
         composed = omega arith;
         fault = c.loop-call.invariant.fault;
@@ -28,7 +28,7 @@ loop-call-preserved g c =
 
 pub returns-in-Err-Write-clause-run : goal.returns-in-Err-Write-clause-run
 returns-in-Err-Write-clause-run g c =
-    ends_cut _ _ _ _ _ _ _ _ _ _ _ c.loop-call.invariant.so_far c.loop-call-test.true (rw c.in-Err-Write.field-0-is at c.in-Err-Write.ensures.call)
+    ends_cut _ _ _ _ _ _ _ _ _ _ _ c.loop-call.invariant.so_far c.loop-call-test.true (rw c.in-Err-Write.field-0-is at c.in-Err-Write.ensures.ends)
 
 pub returns-clause-run : goal.returns-clause-run
 returns-clause-run g c = ends_whole _ c.loop-call.invariant.so_far c.loop-call.invariant.fault (omega arith)

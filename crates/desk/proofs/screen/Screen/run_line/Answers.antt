@@ -1,4 +1,13 @@
 -- `run_line`: how a line of a script ends (`LineEndLemmas`).
+use Rattle.std.proofs.Common.{◌≡◌, Option, None, Ok, Err, Result, is_some, refl, ap, ◌∙◌}
+use Rattle.cell.specs.declared.refusal.Refusal.{Refusal}
+use Rattle.streams.specs.Counts.{count_after}
+use Rattle.streams.specs.declared.sending.WriteFault.{WriteFault}
+use Rattle.world.specs.declared.call.Reply.{Reply}
+use Rattle.desk.specs.Ends.{cut_of}
+use Rattle.desk.specs.declared.screen.Fault.TheVariants.{Write}
+use Rattle.desk.specs.steps.Answers.{call_end}
+use Rattle.desk.proofs.AnswerLemmas.{placeless_ends}
 use Rattle.desk.proofs.LineEndLemmas.{line_has_fault, line_is_cut, line_is_not_logged, line_is_run, line_says_nothing}
 use Rattle.desk.proofs.screen.Screen.run_line.Goals as goal
 
@@ -16,7 +25,7 @@ returns-in-Ok-log_answer-clause-line g c =
     rw c.script_end-in-Ok-log_answer.ensures (line_is_run g.W.Sink.seen c.args.self.now c.answer.new.self c.args.number c.args.line.now (g.L.Sink.seen c.args.log.now)
     (g.L.Sink.seen c.log_answer.new.log) _ c.in-Ok.answer _
     (rw c.in-Ok-Some.field-0-is at c.in-Ok-Some.ensures)
-    (rw c.call.ensures at c.in-Ok.ensures.answer)
+    (rw c.call.ensures at (placeless_ends g.W.Sink.seen c.args.self.now c.call.result (call_end (Ok c.in-Ok.answer)) c.answer.new.self c.in-Ok.ensures.ends))
     c.is_err-refused.ensures.value
     c.in-Ok-log_answer.ensures.ok c.in-Ok-log_answer.ensures.failures c.in-Ok-log_answer.ensures.flushes)
 
@@ -25,7 +34,7 @@ returns-in-Err-log_answer-clause-line g c =
     rw c.script_end-in-Err-log_answer.ensures (line_is_not_logged g.W.Sink.seen c.args.self.now c.answer.new.self c.args.number c.args.line.now (g.L.Sink.seen c.args.log.now)
     (g.L.Sink.seen c.log_answer.new.log) _ c.in-Ok.answer _ c.in-Err-log_answer.field-0.sent
     (rw c.in-Ok-Some.field-0-is at c.in-Ok-Some.ensures)
-    (rw c.call.ensures at c.in-Ok.ensures.answer)
+    (rw c.call.ensures at (placeless_ends g.W.Sink.seen c.args.self.now c.call.result (call_end (Ok c.in-Ok.answer)) c.answer.new.self c.in-Ok.ensures.ends))
     c.is_err-refused.ensures.value
     c.in-Err-log_answer.ensures.err.0 c.in-Err-log_answer.ensures.err.1 c.in-Err-log_answer.ensures.failures c.in-Err-log_answer.ensures.flushes)
 
@@ -33,4 +42,20 @@ pub returns-in-Err-answer-clause-line : goal.returns-in-Err-answer-clause-line
 returns-in-Err-answer-clause-line g c =
     rw c.script_end-in-Err-answer.ensures (line_is_cut g.W.Sink.seen c.args.self.now c.answer.new.self c.args.number c.args.line.now (g.L.Sink.seen c.args.log.now) _ _
     (rw c.in-Ok-Some.field-0-is at c.in-Ok-Some.ensures)
-    (rw c.call.ensures at c.in-Err-answer.ensures.answer))
+    (rw c.call.ensures at (placeless_ends g.W.Sink.seen c.args.self.now c.call.result (Err (Write c.in-Err-answer.fault)) c.answer.new.self c.in-Err-answer.ensures.ends)))
+
+-- ---- a call that wasn't cut short has no failed write
+
+uncut : (answer : Result Reply Refusal) → cut_of (call_end (Ok answer)) ≡ None
+uncut (Ok reply) = refl
+uncut (Err refusal) = refl
+
+pub returns-in-Ok-log_answer-clause-writer : goal.returns-in-Ok-log_answer-clause-writer
+returns-in-Ok-log_answer-clause-writer g c =
+    rw c.script_end-in-Ok-log_answer.ensures
+    (c.in-Ok.ensures.failures ∙ ap (λ (cut : Option WriteFault). count_after (is_some cut) (g.W.Sink.seen c.args.self.now.writer).failures) (uncut c.in-Ok.answer))
+
+pub returns-in-Err-log_answer-clause-writer : goal.returns-in-Err-log_answer-clause-writer
+returns-in-Err-log_answer-clause-writer g c =
+    rw c.script_end-in-Err-log_answer.ensures
+    (c.in-Ok.ensures.failures ∙ ap (λ (cut : Option WriteFault). count_after (is_some cut) (g.W.Sink.seen c.args.self.now.writer).failures) (uncut c.in-Ok.answer))

@@ -1,18 +1,40 @@
--- `call`: what a terminal shows after a run of calls (`ShowingLemmas`).
-use Rattle.desk.proofs.ShowingLemmas.{call-keeps_size, call-shows}
+-- `call`: in which columns calls change the virtual screen (`Widening`), and all that is known of a call follows from how it ended
+-- (`ShowingLemmas`, `WriterLemmas`).
+use Rattle.std.proofs.Common.{◌≡◌, Ok, Err, false, rules, refl}
+use Rattle.std.proofs.lemmas.Result.{err_from_is_err_and}
+use Rattle.world.specs.calls.Dispatch.{is_doupdate}
+use Rattle.compose.proofs.DeskLemmas.{sound-called}
+use Rattle.desk.specs.declared.screen.Fault.TheVariants.{Refused}
+use Rattle.desk.proofs.ShowingLemmas.{call-made}
+use Rattle.desk.proofs.Widening.{screen-called}
+use Rattle.desk.proofs.WriterLemmas.{called-ends, refused-ends}
 use Rattle.desk.proofs.screen.ScreenCalls.call.Goals as goal
 
-pub returns : goal.returns
-returns g c =
-    let old = c.args.self.now in
-    let new = c.make_call-end.new.self in
-    let end = c.make_call-end.result in
-    let made = c.make_call-end.ensures in
-    record {
-      ends = made.call;
-      shown = call-shows g.W.Sink.seen old new c.args.call.now end c.is_sound.ensures.size made.call;
-      failures = made.failures;
-      same = made.same;
-      sound = c.is_sound-2.ensures.sound;
-      size = call-keeps_size g.W.Sink.seen old new c.args.call.now end c.is_sound.ensures.size made.call;
-    }
+pub invariant_of-self : goal.invariant_of-self
+invariant_of-self g c =
+    let h = c.widen_for.ensures in
+    screen-called c.self.inside.desk c.call.new.self c.args.call.now c.call.result c.self.inside.painter c.self.inside.changes c.widen_for.new.changes c.call.ensures h.height h.keeps h.same
+    c.self.invariant
+
+pub invariant_of-self-in_default : goal.invariant_of-self-in_default
+invariant_of-self-in_default g c =
+    let h = c.widen_for.ensures in
+    screen-called c.self.inside.desk c.call.new.self c.args.call.now c.call.result c.self.inside.painter c.self.inside.changes c.widen_for.new.changes c.call.ensures h.height h.keeps h.same
+    c.self.invariant
+
+pub returns-in_ok-call-in_default : goal.returns-in_ok-call-in_default
+returns-in_ok-call-in_default g c =
+    let other : is_doupdate c.args.call.now ≡ false = search rules in
+    let reply = c.in_ok-call-in_default.field-0 in
+    let made = c.in_ok-call-in_default.ensures in
+    rw (← c.self.view_is)
+    (call-made g.W.Sink.seen g.W.Sink.name _ _ c.args.call.now (Ok reply) c.self.invariant.size (called-ends g.W.Sink.seen _ c.call.new.self c.args.call.now reply other made) refl refl made.4)
+
+pub returns-in_err-call-in_default : goal.returns-in_err-call-in_default
+returns-in_err-call-in_default g c =
+    let fault = err_from_is_err_and c.from_residual-in_err-call-in_default.result c.from_residual-in_err-call-in_default.ensures.1 in
+    let e = c.in_err-call-in_default.field-0.0 in
+    let made = c.in_err-call-in_default.ensures in
+    rw (fault.1, fault.2, ← c.self.view_is)
+    (call-made g.W.Sink.seen g.W.Sink.name _ _ c.args.call.now (Err (Refused e)) c.self.invariant.size (refused-ends g.W.Sink.seen _ c.call.new.self c.args.call.now e made) refl refl
+    (sound-called c.self.inside.desk c.call.new.self c.args.call.now (Err e) c.self.invariant.sound made))
