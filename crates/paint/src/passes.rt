@@ -115,7 +115,8 @@ fn paint_part<W: Sink>(
     requires wanted { length wanted.now ≡ pen.old.columns }
     requires part { DifferWithin start end shown.now wanted.now }
     ensures strokes { StrokesLine (line_bytes (line_after order.now pass shown.now wanted.now) (line_after order.now (pass + 1) shown.now wanted.now))
-        (W.seen sink.old) (W.seen sink.new) pen.old pen.new line (line_after order.now pass shown.now wanted.now) (line_after order.now (pass + 1) shown.now wanted.now) }
+        (W.seen sink.old) (W.seen sink.new) pen.old pen.new line (line_after order.now pass shown.now wanted.now)
+        (line_after order.now (pass + 1) shown.now wanted.now) }
     ensures columns { pen.new.columns ≡ pen.old.columns }
     ensures same { W.name sink.new ≡ W.name sink.old }
 {

@@ -25,7 +25,7 @@ fn refusal(alloc: Global, name: &str) -> Option<Refusal> {
 }
 
 /// Makes what a word names, and prints how this ended.
-pub fn run(rt: &HostRuntime, name: &str) -> io::Result<()> {
+pub(crate) fn run(rt: &HostRuntime, name: &str) -> io::Result<()> {
     let text = match refusal(rt.alloc(), name) {
         Some(refusal) => refusal.text(),
         None => "made",

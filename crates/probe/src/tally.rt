@@ -42,7 +42,7 @@ fn composed(
 }
 
 /// Makes the calls of the script on standard input, up to its first fault, and prints each count in a line.
-pub fn run(rt: &HostRuntime, lines: &str, columns: &str) -> io::Result<()> {
+pub(crate) fn run(rt: &HostRuntime, lines: &str, columns: &str) -> io::Result<()> {
     let mut screen = screen_of(rt.alloc(), lines, columns)?;
     let mut text = Vec::new(rt.alloc());
     rt.stdin().read_to_end(&mut text)?;
