@@ -4,7 +4,7 @@ use Rattle.std.specs.Prelude.{◌⊎◌, IsTrue}
 use Rattle.std.specs.List.{AllByRecursion, join_with_byte}
 use Rattle.std.proofs.lemmas.List.{append-nil}
 use Rattle.cell.specs.Glyphs.{is_printable}
-use Rattle.ecma.specs.Items.{Function, CUP, ED, EL, SGR, Item, Printable, Control, Unfinished, IsDigit, AreParameters, IsBeginning, IsItem, MayPrecede, EndsOrEscapes, bytes_of, final_byte, introducer}
+use Rattle.ecma.specs.Items.{Function, Item, Printable, Control, Unfinished, IsDigit, AreParameters, IsBeginning, IsItem, MayPrecede, EndsOrEscapes, bytes_of, final_byte, introducer}
 use Rattle.ecma.specs.Terminals.{Terminal, print, effect}
 use Rattle.ecma.proofs.Numbers.{each-append}
 use Rattle.ecma.proofs.Printing.{from_space}
@@ -130,16 +130,10 @@ digits-longer (x ∷ a) byte missing (y ∷ q) stop digit stops e h =
     let less = digits-longer a byte missing q stop digit stops tail h.1 in omega arith
 
 pub final-no_digit : (function : Function) → IsDigit (final_byte function) → ⊥
-final-no_digit CUP h = omega (arith, h.1)
-final-no_digit ED h = omega (arith, h.1)
-final-no_digit EL h = omega (arith, h.1)
-final-no_digit SGR h = omega (arith, h.1)
+final-no_digit function h = grind arith
 
 pub final-no_separator : (function : Function) → 59 ≡ final_byte function → ⊥
-final-no_separator CUP e = omega arith
-final-no_separator ED e = omega arith
-final-no_separator EL e = omega arith
-final-no_separator SGR e = omega arith
+final-no_separator function e = grind arith
 
 -- after its first parameter, which a separator ends, a sequence has others
 record Others (qs : List (List ℕ)) (function : Function) (bytes : List ℕ) : Type 0 where
@@ -218,10 +212,7 @@ no-more_parameters ended current h full begins = grind (arith, ended-few, append
 -- ---- a byte that no parameters have
 
 final-no_colon : (function : Function) → final_byte function ≡ 58 → ⊥
-final-no_colon CUP e = omega arith
-final-no_colon ED e = omega arith
-final-no_colon EL e = omega arith
-final-no_colon SGR e = omega arith
+final-no_colon function e = grind arith
 
 abbrev NoColon : List ℕ → Type 0
 NoColon bytes = AllByRecursion (λ byte. byte ≡ 58 → ⊥) bytes

@@ -71,9 +71,7 @@ Leads-append stream more t u v h k = record {
 -- ---- streams with breaks
 
 pub bytes_of_some : (item : Item) → IsItem item → 0 < length (bytes_of item)
-bytes_of_some (Printable byte) h = omega arith
-bytes_of_some (Control function parameters) h = omega arith
-bytes_of_some (Unfinished begun) h = h.begun
+bytes_of_some item h = grind arith
 
 Splits_some : (bytes : List ℕ) (item : Item) (items : List Item) (rest : List ℕ) → Splits bytes (item ∷ items) rest → 0 < length bytes
 Splits_some bytes item items rest h = rw h.1 (omega (arith, bytes_of_some item h.2, length-append (bytes_of item) h.0))

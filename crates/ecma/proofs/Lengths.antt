@@ -7,7 +7,6 @@ use Rattle.std.proofs.lemmas.Fmt.{length-decimal-le}
 use Rattle.cell.specs.Shown.{Rendition, IsColour, IsRendition, has_colour}
 use Rattle.cell.specs.declared.limits.TheConstants.{LARGEST_SCREEN, LAST_COLOUR}
 use Rattle.ecma.specs.declared.token.Erase.{Erase}
-use Rattle.ecma.specs.declared.token.Erase.TheVariants.{ToEnd, FromStart, All}
 use Rattle.ecma.specs.declared.token.Token.{Token}
 use Rattle.ecma.specs.declared.token.Token.TheVariants.{Print, Cup, Sgr, El, Ed}
 use Rattle.ecma.specs.Terminals.{first_foreground, first_background}
@@ -66,9 +65,7 @@ unfolding spelling
 length-selection rendition h = grind (arith, selection-codes_of, length-append, length-codes, one_digit, few_attributes, length-colour_room, colours_room)
 
 length-erasing : (how : Erase) → length (erasure_spelling how) ≤ 1
-length-erasing ToEnd = omega arith
-length-erasing FromStart = omega arith
-length-erasing All = omega arith
+length-erasing how = grind arith
 
 pub length-spelling : (token : Token) → IsToken token → length (spelling token) ≤ longest token
 unfolding spelling

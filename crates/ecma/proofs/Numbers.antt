@@ -21,8 +21,7 @@ pub are_digits-decimal : (n : ℕ) → n < 2 ^ 64 → AllByRecursion IsDigit (de
 are_digits-decimal n fits = digits_decimal numerals n fits
 
 number_or-digits : (default : ℕ) (digits : List ℕ) → 0 < length digits → number_or default digits ≡ digits_value 10 digits
-number_or-digits default [] h = absurd (omega arith)
-number_or-digits default (digit ∷ digits) h = refl
+number_or-digits default digits h = grind arith
 
 pub number_or-decimal : (default n : ℕ) → n < 2 ^ 64 → number_or default (decimal n) ≡ n
 number_or-decimal default n fits = number_or-digits default (decimal n) (decimal_nonempty n fits) ∙ digits_value-decimal numerals n fits
@@ -51,8 +50,7 @@ unfolding codes_of_attributes select selected unknown
 is_spelled_below bits fits = agree_below_at (λ (n : ℕ). is_spelled (codes_of_attributes n) n) (λ _. true) 64 bits refl fits
 
 none_from_is_none : (o : Option ℕ) → is_none o ≡ true → o ≡ None
-none_from_is_none None h = refl
-none_from_is_none (Some n) h = absurd cc
+none_from_is_none o h = grind arith
 
 -- a rendition of these attributes alone
 abbrev only : ℕ → Rendition
@@ -99,21 +97,18 @@ select-background number rendition small = grind (arith, nat_tests)
 
 foreground-selected : (foreground : Option ℕ) (bits : ℕ) → IsColour foreground
     → select_all (code_of_colour first_foreground foreground) (only bits) ≡ Some (record { attributes = bits; foreground = foreground; background = None })
-foreground-selected None bits h = refl
-foreground-selected (Some number) bits h = rw (select-foreground number (only bits) h) refl
+foreground-selected foreground bits h = grind (arith, select-foreground)
 
 background-selected : (foreground background : Option ℕ) (bits : ℕ) → IsColour background
     → select_all (code_of_colour first_background background) (record { attributes = bits; foreground = foreground; background = None })
     ≡ Some (record { attributes = bits; foreground = foreground; background = background })
-background-selected foreground None bits h = refl
-background-selected foreground (Some number) bits h = rw (select-background number (record { attributes = bits; foreground = foreground; background = None }) h) refl
+background-selected foreground background bits h = grind (arith, select-background)
 
 -- ---- all codes
 
 then_append : (codes more : List ℕ) (o : Option Rendition) → ((next : Rendition) → select_all (codes ++ more) next ≡ option_and_then (select_all more) (select_all codes next))
     → option_and_then (select_all (codes ++ more)) o ≡ option_and_then (select_all more) (option_and_then (select_all codes) o)
-then_append codes more None h = refl
-then_append codes more (Some next) h = h next
+then_append codes more o h = grind arith
 
 pub select_all-append : (codes more : List ℕ) (rendition : Rendition) → select_all (codes ++ more) rendition ≡ option_and_then (select_all more) (select_all codes rendition)
 select_all-append [] more rendition = refl
@@ -127,8 +122,7 @@ each-append P [] b h k = k
 each-append P (x ∷ a) b h k = (h.0, each-append P a b h.1 k)
 
 small-colour : (first : ℕ) (colour : Option ℕ) → first ≤ 40 → IsColour colour → AllByRecursion (λ code. code < 100) (code_of_colour first colour)
-small-colour first None few h = tt
-small-colour first (Some number) few h = (omega arith, tt)
+small-colour first colour few h = grind arith
 
 wider : (codes : List ℕ) → AllByRecursion (λ code. code < 10) codes → AllByRecursion (λ code. code < 100) codes
 wider [] h = tt
@@ -142,8 +136,7 @@ codes_small rendition h =
     (small-colour first_background rendition.background (omega arith) h.background)
 
 length-colour : (first : ℕ) (colour : Option ℕ) → length (code_of_colour first colour) ≤ 1
-length-colour first None = omega arith
-length-colour first (Some number) = omega arith
+length-colour first colour = grind arith
 
 pub codes_few : (rendition : Rendition) → IsRendition rendition → length (codes_of rendition) < 9
 codes_few rendition h = grind (arith, few_attributes, length-append, length-colour)

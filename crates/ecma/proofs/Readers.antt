@@ -89,10 +89,7 @@ parameter_of-digit digits byte h = grind (arith, digits_value_push, digit_value_
 -- ---- final bytes
 
 function_of-byte : (function : Function) → function_of (final_byte function) ≡ Some function
-function_of-byte CUP = refl
-function_of-byte ED = refl
-function_of-byte EL = refl
-function_of-byte SGR = refl
+function_of-byte function = grind arith
 
 byte-of_function : (byte : ℕ) (function : Function) → function_of byte ≡ Some function → byte ≡ final_byte function
 byte-of_function byte function e = elim (cases_eq byte 72) [
@@ -366,20 +363,14 @@ one-terminal_shown stream first one other h k = elim (fate stream first one h) [
 
 pub when-true : {A : Type 0} (b p : Bool) (x : A) (o : Option A) → b ≡ true → (let one : Option A = if b then Some x else None in one) ≡ (let other : Option A = if p then o else None in other)
     → (p ≡ true) × (o ≡ Some x)
-when-true true true x o h e = (refl, sym e)
-when-true true false x o h e = absurd cc
-when-true false p x o h e = absurd cc
+when-true b p x o h e = grind arith
 
 pub when-false : {A : Type 0} (b p : Bool) (x : A) (o : Option A) → b ≡ false → (let one : Option A = if b then Some x else None in one) ≡ (let other : Option A = if p then o else None in other)
     → p ≡ true → o ≡ None
-when-false true p x o h e k = absurd cc
-when-false false true x o h e k = sym e
-when-false false false x o h e k = absurd cc
+when-false b p x o h e k = grind arith
 
 pub some-if : {A : Type 0} (b : Bool) (x y : A) (r : Option A) → r ≡ (let one : Option A = if b then Some x else None in one) → r ≡ Some y → (b ≡ true) × (y ≡ x)
-some-if true x y r e h = let both : ◌≡◌ {A = Option _} (Some y) (Some x) = sym h ∙ e in (refl, cc)
-some-if false x y r e h = let never : ◌≡◌ {A = Option _} (Some y) None = sym h ∙ e in absurd cc
+some-if b x y r e h = grind arith
 
 pub none-if : {A : Type 0} (b : Bool) (x : A) (r : Option A) → r ≡ (let one : Option A = if b then Some x else None in one) → r ≡ None → b ≡ false
-none-if true x r e h = let never : ◌≡◌ {A = Option _} None (Some x) = sym h ∙ e in absurd cc
-none-if false x r e h = refl
+none-if b x r e h = grind arith

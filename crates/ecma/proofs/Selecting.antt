@@ -43,8 +43,7 @@ with_off-made rendition made old others bits pair few same left colours is =
 -- ---- numbers of parameters
 
 pub number_of-parameter_of : (default : ℕ) (digits : List ℕ) → number_of default (parameter_of digits) ≡ number_or default digits
-number_of-parameter_of default [] = refl
-number_of-parameter_of default (digit ∷ digits) = rw (ne_eqb (length (digit ∷ digits)) 0 (λ none. omega arith)) refl
+number_of-parameter_of default digits = grind (arith, ne_eqb)
 
 numbers-kept : (digits : List (List ℕ)) → map (number_or 0) digits ≡ map (number_of 0) (map parameter_of digits)
 numbers-kept [] = refl
@@ -59,8 +58,7 @@ pub select_all-kept : (digits : List (List ℕ)) (parameters : List Parameter) (
 select_all-kept digits parameters rendition e = grind (arith, numbers-kept)
 
 then-nothing : (o : Option Rendition) → option_and_then (select_all []) o ≡ o
-then-nothing None = refl
-then-nothing (Some rendition) = refl
+then-nothing o = grind arith
 
 selected_by-push : (parameters : List Parameter) (last : Parameter) (rendition selected : Rendition) → selected_by parameters rendition ≡ Some selected
     → selected_by (parameters ++ last ∷ []) rendition ≡ select (number_of 0 last) selected

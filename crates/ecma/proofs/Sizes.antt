@@ -44,9 +44,7 @@ line-wide columns (first ∷ lines) zero h inside = h.0
 line-wide columns (first ∷ lines) (suc line) h inside = line-wide columns lines line h.1 (omega arith)
 
 length-erased_line : (how : Erase) (column : ℕ) (row : List Shown) → length (erased_line how column row) ≡ length row
-length-erased_line ToEnd column row = simp (length-append, length-map, length-take, length-drop) (omega arith)
-length-erased_line FromStart column row = simp (length-append, length-map, length-take, length-drop) (omega arith)
-length-erased_line All column row = length-map row (λ _. shown_blank)
+length-erased_line how column row = grind (arith, length-append, length-map, length-take, length-drop)
 
 size-row : (lines columns : ℕ) (picture : Picture) (line : ℕ) (row : List Shown) → HasSize lines columns picture → length row ≡ length (line_of picture line)
     → HasSize lines columns (set picture line row)

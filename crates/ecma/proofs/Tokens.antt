@@ -81,9 +81,7 @@ sgr rendition h =
     }
 
 erasure_of-spelling : (how : Erase) → erasure_of (number_or 0 (erasure_spelling how)) ≡ Some how
-erasure_of-spelling ToEnd = refl
-erasure_of-spelling FromStart = refl
-erasure_of-spelling All = refl
+erasure_of-spelling how = grind arith
 
 erasing : (how : Erase) → AreParameters (erasure_spelling how ∷ [])
 erasing ToEnd = record { one = omega arith; most = omega arith; digits = (tt, tt); short = (omega arith, tt) }

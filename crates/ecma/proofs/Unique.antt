@@ -58,28 +58,10 @@ final-stops EL bytes = λ h. omega (arith, h.1)
 final-stops SGR bytes = λ h. omega (arith, h.1)
 
 pub not-final : (function : Function) → final_byte function ≡ 27 → ⊥
-not-final CUP e = omega arith
-not-final ED e = omega arith
-not-final EL e = omega arith
-not-final SGR e = omega arith
+not-final function e = grind arith
 
 pub same-function : (a b : Function) → final_byte a ≡ final_byte b → a ≡ b
-same-function CUP CUP e = refl
-same-function ED ED e = refl
-same-function EL EL e = refl
-same-function SGR SGR e = refl
-same-function CUP ED e = absurd (omega arith)
-same-function CUP EL e = absurd (omega arith)
-same-function CUP SGR e = absurd (omega arith)
-same-function ED CUP e = absurd (omega arith)
-same-function ED EL e = absurd (omega arith)
-same-function ED SGR e = absurd (omega arith)
-same-function EL CUP e = absurd (omega arith)
-same-function EL ED e = absurd (omega arith)
-same-function EL SGR e = absurd (omega arith)
-same-function SGR CUP e = absurd (omega arith)
-same-function SGR ED e = absurd (omega arith)
-same-function SGR EL e = absurd (omega arith)
+same-function a b e = grind arith
 
 -- ---- parameters
 
@@ -196,8 +178,7 @@ unfinished-unfinished p q f g h k (inr a) (inr b) e =
     record { item = cc; rest = both.second }
 
 printable-unfinished : (byte : ℕ) (begun f g : List ℕ) → 32 ≤ byte → (begun ≡ 27 ∷ []) ⊎ Inner begun → byte ∷ f ≡ begun ++ g → ⊥
-printable-unfinished byte begun f g h (inl a) e = grind arith
-printable-unfinished byte begun f g h (inr a) e = grind arith
+printable-unfinished byte begun f g h h5 e = grind arith
 
 pub same-first : (i j : Item) (f g : List ℕ) → IsItem i → IsItem j → MayPrecede i f → MayPrecede j g → bytes_of i ++ f ≡ bytes_of j ++ g → SameItem i j f g
 same-first (Printable a) (Printable b) f g h k p q e = record { item = cc; rest = cc }

@@ -1,8 +1,8 @@
 -- What each effect requires of windows and panels, and that the tests of its call ensure it.
-use Rattle.std.proofs.Common.{◌≡◌, ◌⊎◌, ℕ, zero, suc, ◌+◌, ◌-◌, Bool, true, false, if◌then◌else◌, ◌==◌, Option, Some, None, inl, inr, subst, refl, arith}
+use Rattle.std.proofs.Common.{◌≡◌, ◌⊎◌, ℕ, zero, suc, ◌+◌, Bool, false, if◌then◌else◌, ◌==◌, Option, Some, None, inl, inr, subst, refl, arith}
 use Rattle.std.specs.Prelude.{MatchOption, is_none, unwrap_or, ⊤}
 use Rattle.cell.specs.declared.refusal.Refusal.{Refusal}
-use Rattle.world.specs.Windows.{Window, WindowMap, Windows, window_limit}
+use Rattle.world.specs.Windows.{Window, WindowMap, Windows}
 use Rattle.world.specs.Panels.{Panels, is_in_panel, standard_screen}
 use Rattle.world.specs.Sound.{AreSoundPanels, IsSoundPanel}
 use Rattle.world.specs.Effects.{Change, asks, deletes, edits, makes, marks, moves, shifts}
@@ -25,14 +25,12 @@ IsAllowed windows panels (shifts w place) = has_no_parent windows.window w ≡ f
 
 -- a call that isn't refused fails its first test, and isn't refused for the others
 pub passed : (test : Bool) (e : Refusal) (rest : Option Refusal) → (if test then Some e else rest) ≡ None → (test ≡ false) × (rest ≡ None)
-passed true e rest h = cc
-passed false e rest h = (refl, h)
+passed test e rest h = grind arith
 
 -- ---- a free number
 
 pub free-step : (a : Option Window) (k w : ℕ) (rest : Option ℕ) → (if is_none a then Some k else rest) ≡ Some w → ((k ≡ w) × (a ≡ None)) ⊎ (rest ≡ Some w)
-free-step None k w rest h = inl (cc, refl)
-free-step (Some a) k w rest h = inr h
+free-step a k w rest h = grind arith
 
 free-number : (n k : ℕ) (window : WindowMap) (w : ℕ) → free_among n k window ≡ Some w → window w ≡ None
 free-number zero k window w is = cc
@@ -42,8 +40,7 @@ free-number (suc n) k window w is = elim (free-step (window k) k w (free_among n
 ]
 
 next-free : (window : WindowMap) (o : Option ℕ) → new_number window ≡ o → is_none o ≡ false → window (unwrap_or o standard_screen) ≡ None
-next-free window None is full = cc
-next-free window (Some n) is full = free-number (window_limit - 1) 1 window n is
+next-free window o is full = grind (arith, free-number)
 
 -- ---- what panels have
 

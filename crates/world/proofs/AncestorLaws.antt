@@ -6,7 +6,7 @@ use Rattle.std.specs.List.{list_any}
 use mathlib.Core.Path.{fun_ext}
 use Rattle.std.proofs.lemmas.Bool.{eqb-false, ne_eqb, or_parts}
 use Rattle.cell.specs.Glyphs.{blank}
-use Rattle.world.specs.Windows.{Backing, own_grid, part_of, Window, WindowMap, Windows, GridPlace, ancestors_within, cell_at, cell_in_grid, cell_of, with_change, derives, leads, own, own_within}
+use Rattle.world.specs.Windows.{Backing, Window, WindowMap, Windows, GridPlace, ancestors_within, cell_at, cell_in_grid, cell_of, with_change, derives, leads, own, own_within}
 use Rattle.world.specs.Windows.{parent_number, parent_of, with_window, window_limit}
 use Rattle.world.proofs.ViewLaws.{same-if}
 use Rattle.world.specs.Effects.{shifted_to, with_offset, with_part}
@@ -27,14 +27,12 @@ module _ (new old : WindowMap) (w : ℕ) (same : (v : ℕ) → (v ≡ w → ⊥)
 
   leads-kept : (n : ℕ) → Kept n → (u y x : ℕ) (s : Backing) → list_any (λ v. v == w) (option_map_or (λ parent. parent ∷ ancestors_within n old parent) (parent_number s) []) ≡ false
       → leads (own_within n new) u y x s ≡ leads (own_within n old) u y x s
-  leads-kept n kept u y x (own_grid cells) h = refl
-  leads-kept n kept u y x (part_of parent line column) h = grind (arith, or_parts, eqb-false)
+  leads-kept n kept u y x s h = grind (arith, or_parts, eqb-false)
 
   then-kept : (n : ℕ) → Kept n → (u y x : ℕ) (o : Option Window)
       → list_any (λ v. v == w) (option_map_or (λ parent. parent ∷ ancestors_within n old parent) (option_and_then (λ a. parent_number a.backing) o) []) ≡ false
       → option_and_then (λ a. leads (own_within n new) u y x a.backing) o ≡ option_and_then (λ a. leads (own_within n old) u y x a.backing) o
-  then-kept n kept u y x None h = refl
-  then-kept n kept u y x (Some a) h = leads-kept n kept u y x a.backing h
+  then-kept n kept u y x o h = grind (arith, leads-kept)
 
   own_within-kept : (n u y x : ℕ) → (u ≡ w → ⊥) → Beside n u → own_within n new u y x ≡ own_within n old u y x
   own_within-kept zero u y x other h = refl
@@ -47,14 +45,12 @@ module _ (new old : WindowMap) (w : ℕ) (same : (v : ℕ) → (v ≡ w → ⊥)
   leads-elsewhere : (n : ℕ) → Elsewhere n → (u y x : ℕ) (p : GridPlace) (s : Backing) → (u ≡ w → ⊥)
       → list_any (λ v. v == w) (option_map_or (λ parent. parent ∷ ancestors_within n old parent) (parent_number s) []) ≡ false
       → leads (own_within n old) u y x s ≡ Some p → p.grid ≡ w → ⊥
-  leads-elsewhere n else u y x p (own_grid cells) other h found is = let here : u ≡ p.grid = cc in other (here ∙ is)
-  leads-elsewhere n else u y x p (part_of parent line column) other h found is = grind (arith, or_parts, eqb-false)
+  leads-elsewhere n else u y x p s other h found is = grind (arith, or_parts, eqb-false)
 
   then-elsewhere : (n : ℕ) → Elsewhere n → (u y x : ℕ) (p : GridPlace) (o : Option Window) → (u ≡ w → ⊥)
       → list_any (λ v. v == w) (option_map_or (λ parent. parent ∷ ancestors_within n old parent) (option_and_then (λ a. parent_number a.backing) o) []) ≡ false
       → option_and_then (λ a. leads (own_within n old) u y x a.backing) o ≡ Some p → p.grid ≡ w → ⊥
-  then-elsewhere n else u y x p None other h found is = cc
-  then-elsewhere n else u y x p (Some a) other h found is = leads-elsewhere n else u y x p a.backing other h found is
+  then-elsewhere n else u y x p o other h found is = grind (arith, leads-elsewhere)
 
   own_within-elsewhere : (n u y x : ℕ) (p : GridPlace) → (u ≡ w → ⊥) → Beside n u → own_within n old u y x ≡ Some p → p.grid ≡ w → ⊥
   own_within-elsewhere zero u y x p other h found is = cc
@@ -73,8 +69,7 @@ cell_at-moved windows w y x u v z other apart = grind (arith, cell_at-beside, ch
 
 -- and its parents, and whose descendant a window is
 offset-parent : (y x : ℕ) (s : Backing) → parent_number (with_offset y x s) ≡ parent_number s
-offset-parent y x (own_grid cells) = refl
-offset-parent y x (part_of parent line column) = refl
+offset-parent y x s = grind arith
 
 module _ (windows : Windows) (w y x : ℕ) where
   parent-moved : (u : ℕ) → parent_of (shifted_to windows w (y, x)).window u ≡ parent_of windows.window u

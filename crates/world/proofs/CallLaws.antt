@@ -1,5 +1,5 @@
 -- At a place that a call doesn't affect, neither the picture changes nor what the virtual screen shows.
-use Rattle.std.proofs.Common.{◌≡◌, ℕ, ◌<◌, Bool, true, false, Option, Some, None, is_some, ap, refl, ◌∙◌, arith}
+use Rattle.std.proofs.Common.{◌≡◌, ℕ, ◌<◌, Bool, true, false, Option, None, is_some, ap, refl, ◌∙◌, arith}
 use Rattle.std.specs.Prelude.{⊤}
 use Rattle.std.specs.Option.{option_map_or}
 use Rattle.std.proofs.lemmas.Bool.{true≢false}
@@ -24,7 +24,7 @@ use Rattle.world.specs.declared.call.Call.TheVariants as calls
 use Rattle.world.specs.declared.call.Copying.{Copying}
 use Rattle.world.specs.declared.call.Copying.TheVariants.{Overlay}
 use Rattle.world.specs.declared.call.Refresh.{Refresh}
-use Rattle.world.specs.declared.call.Refresh.TheVariants.{Noutrefresh, UpdatePanels}
+use Rattle.world.specs.declared.call.Refresh.TheVariants.{Noutrefresh}
 
 -- ---- what each effect wants, which the tests of its call give
 
@@ -74,14 +74,11 @@ is_composing shows = false
 is_composing (colours pair foreground background) = false
 
 composing : (world : World) (call : Call) → is_composing (effect_of world call) ≡ is_update_panels call
-composing world (calls.Refresh UpdatePanels) = refl
-composing world (calls.Refresh _) = refl
-composing world _ = refl
+composing world call = grind arith
 
 module _ (world : World) (y x : ℕ) (below : y < world.windows.lines) (left : x < world.windows.columns) where
   laid-nothing : (pairs : Pairs) (o : Option Glyph) (before : Shown) → is_some o ≡ false → option_map_or (shown pairs) o before ≡ before
-  laid-nothing pairs None before none = refl
-  laid-nothing pairs (Some glyph) before none = absurd (true≢false none)
+  laid-nothing pairs o before none = grind arith
 
   over-nothing : (f : Drawing) → is_some (f y x) ≡ false
       → shown_at (picture_of world.windows.lines world.windows.columns (shown_over world.pairs world.virtual.picture f)) (y, x) ≡ shown_at world.virtual.picture (y, x)
@@ -89,11 +86,7 @@ module _ (world : World) (y x : ℕ) (below : y < world.windows.lines) (left : x
 
   effect-leaves : (effect : Effect) → is_composing effect ≡ false → effect_shows_at world effect y x ≡ false
       → shown_at (after world effect).virtual.picture (y, x) ≡ shown_at world.virtual.picture (y, x)
-  effect-leaves (arranges order) other free = refl
-  effect-leaves (refreshes w test drawing cursor) other free = over-nothing drawing free
-  effect-leaves composes other free = absurd (true≢false other)
-  effect-leaves shows other free = refl
-  effect-leaves (colours pair foreground background) other free = refl
+  effect-leaves effect other free = grind (arith, over-nothing)
 
   pub virtual-kept : (call : Call) → is_update_panels call ≡ false → affects_place world call y x ≡ false
       → shown_at (world_after world call).virtual.picture (y, x) ≡ shown_at world.virtual.picture (y, x)

@@ -148,16 +148,13 @@ frame_of-none a f h = only_frame (Covers f a.columns a.lines) (frame_of a f) Non
 -- ---- one drawing over another
 
 over-some : (g f : Option Glyph) → is_some (if is_some g then g else f) ≡ true → (is_some g ≡ true) ⊎ (is_some f ≡ true)
-over-some None f h = inr h
-over-some (Some c) f h = inl refl
+over-some g f h = grind arith
 
 over-first : (g f : Option Glyph) → is_some f ≡ true → is_some (if is_some g then g else f) ≡ true
-over-first None f h = h
-over-first (Some c) f h = refl
+over-first g f h = grind arith
 
 over-second : (g f : Option Glyph) → is_some g ≡ true → is_some (if is_some g then g else f) ≡ true
-over-second None f h = cc
-over-second (Some c) f h = refl
+over-second g f h = grind arith
 
 pub frame-over : (a : Window) (f g : Drawing) → frame_of a (over g f) ≡ frame_of_two (frame_of a f) (frame_of a g)
 frame-over a f g =
@@ -176,8 +173,7 @@ frame-over a f g =
 -- the rectangle in the window under a number, if there is one
 drawing_frame-some : (w : ℕ) (o : Option Window) (f g : Drawing)
     → option_and_then (λ a. frame_of a (over g f)) o ≡ frame_of_two (option_and_then (λ a. frame_of a f) o) (option_and_then (λ a. frame_of a g) o)
-drawing_frame-some w None f g = refl
-drawing_frame-some w (Some a) f g = frame-over a f g
+drawing_frame-some w o f g = grind (arith, frame-over)
 
 pub drawing_frame-over : (windows : Windows) (w : ℕ) (f g : Drawing)
     → drawing_frame windows w (λ a. over g f) ≡ frame_of_two (drawing_frame windows w (λ a. f)) (drawing_frame windows w (λ a. g))
@@ -186,14 +182,11 @@ drawing_frame-over windows w f g = drawing_frame-some w (windows.window w) f g
 -- no write changes it
 frame-drawn : (w u : ℕ) (a : Window) (p : GridPlace) (f g : Drawing) (o : Option Window)
     → option_and_then (λ b. frame_of b g) (option_map (after_drawing w a p f u) o) ≡ option_and_then (λ b. frame_of b g) o
-frame-drawn w u a p f g None = refl
-frame-drawn w u a p f g (Some b) = refl
+frame-drawn w u a p f g o = grind arith
 
 frame-from : (windows : Windows) (w : ℕ) (o : Option Window) (s : Option GridPlace) (f g : Drawing)
     → option_and_then (λ b. frame_of b g) (put_from windows.window w o s f w) ≡ option_and_then (λ b. frame_of b g) (windows.window w)
-frame-from windows w None s f g = refl
-frame-from windows w (Some a) None f g = refl
-frame-from windows w (Some a) (Some p) f g = frame-drawn w w a p f g (windows.window w)
+frame-from windows w o s f g = grind (arith, frame-drawn)
 
 pub drawing_frame-put : (windows : Windows) (w : ℕ) (f g : Drawing) → drawing_frame (put windows w f) w (λ a. g) ≡ drawing_frame windows w (λ a. g)
 drawing_frame-put windows w f g = frame-from windows w (windows.window w) (own windows.window w 0 0) f g

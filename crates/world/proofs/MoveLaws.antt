@@ -6,7 +6,7 @@ use Rattle.std.specs.List.{list_any}
 use mathlib.Core.Path.{fun_ext}
 use Rattle.std.proofs.lemmas.Bool.{and_cases, eqb-false, false_from_ne_true, or_from, or_parts, ne_eqb}
 use Rattle.cell.specs.declared.limits.TheConstants.{MOST_WINDOWS}
-use Rattle.world.specs.Windows.{Backing, own_grid, part_of, GridPlace, Window, WindowMap, Windows, ancestors_within, derives, leads, own, own_within, parent_number, parent_of, window_limit}
+use Rattle.world.specs.Windows.{Backing, GridPlace, Window, WindowMap, Windows, ancestors_within, derives, leads, own, own_within, parent_number, parent_of, window_limit}
 use Rattle.world.specs.Panels.{Panels, cell_on_screen, found_from_top, holds, standard_screen, windows_from_top}
 use Rattle.world.specs.Sound.{AreSoundPanels, AreSoundWindows, IsSoundWindow, IsStandardScreen}
 use Rattle.world.specs.Effects.{Change, after_change, asks, deletes, edits, makes, after_marks, marks, moved_to, moves, under_number, shifted_to, shifts, with_part, with_place}
@@ -21,16 +21,13 @@ use Rattle.world.proofs.WritingLaws.{found-edit}
 -- ---- the standard screen derives from none, and isn't moved
 
 standard-parent : (windows : Windows) (o : Option Window) → IsSomeAnd o (IsStandardScreen windows) → option_and_then (λ a. parent_number a.backing) o ≡ None
-standard-parent windows None h = elim h [ ]
-standard-parent windows (Some a) h = ap parent_number h.grid
+standard-parent windows o h = grind arith
 
 standard-own : (windows : Windows) (o : Option Window) → IsSomeAnd o (IsStandardScreen windows) → option_map_or (λ a. is_own a.backing) o false ≡ true
-standard-own windows None h = elim h [ ]
-standard-own windows (Some a) h = ap is_own h.grid
+standard-own windows o h = grind arith
 
 no_ancestors : (n : ℕ) (window : WindowMap) (u : ℕ) → parent_of window u ≡ None → ancestors_within n window u ≡ []
-no_ancestors zero window u h = refl
-no_ancestors (suc n) window u h = ap (λ o. option_map_or (λ parent. parent ∷ ancestors_within n window parent) o []) h
+no_ancestors n window u h = grind arith
 
 standard-beside : (windows : Windows) (w : ℕ) → AreSoundWindows windows → derives windows.window w standard_screen ≡ false
 standard-beside windows w sound = grind (arith, no_ancestors, standard-parent)
@@ -95,13 +92,11 @@ module _ (window : WindowMap) (w : ℕ) (none : (v : ℕ) (a : Window) → windo
 
   backing-underived : (n : ℕ) → Underived n → (s : Backing) → is_part_of w s ≡ false
       → list_any (λ v. v == w) (option_map_or (λ parent. parent ∷ ancestors_within n window parent) (parent_number s) []) ≡ false
-  backing-underived n before (own_grid cells) h = refl
-  backing-underived n before (part_of parent line column) h = or_from (parent == w) (list_any (λ v. v == w) (ancestors_within n window parent)) h (before parent)
+  backing-underived n before s h = grind (arith, or_from)
 
   window-underived : (n : ℕ) → Underived n → (u : ℕ) (o : Option Window) → window u ≡ o
       → list_any (λ v. v == w) (option_map_or (λ parent. parent ∷ ancestors_within n window parent) (option_and_then (λ a. parent_number a.backing) o) []) ≡ false
-  window-underived n before u None is = refl
-  window-underived n before u (Some a) is = backing-underived n before a.backing (none u a is)
+  window-underived n before u o is = grind (arith, backing-underived)
 
   underived : (n u : ℕ) → list_any (λ v. v == w) (ancestors_within n window u) ≡ false
   underived zero u = refl
@@ -134,8 +129,7 @@ found-deleted windows panels w y x sound panels_sound allowed =
 
 module _ (window : WindowMap) (n : ℕ) (free : window n ≡ None) where
   nowhere : (k y x : ℕ) → own_within k window n y x ≡ None
-  nowhere zero y x = refl
-  nowhere (suc k) y x = ap (λ o. option_and_then (λ a. leads (own_within k window) n y x a.backing) o) free
+  nowhere k y x = grind arith
 
   other-parent : (k parent y x : ℕ) (p : GridPlace) → own_within k window parent y x ≡ Some p → parent ≡ n → ⊥
   other-parent k parent y x p found same = grind (arith, nowhere)
@@ -145,8 +139,7 @@ module _ (window : WindowMap) (n : ℕ) (free : window n ≡ None) where
 
   backing-leading : (k : ℕ) → Leading k → (u y x : ℕ) (p : GridPlace) (s : Backing) → leads (own_within k window) u y x s ≡ Some p
       → list_any (λ v. v == n) (option_map_or (λ parent. parent ∷ ancestors_within k window parent) (parent_number s) []) ≡ false
-  backing-leading k before u y x p (own_grid cells) found = refl
-  backing-leading k before u y x p (part_of parent line column) found = grind (arith, or_from, ne_eqb, other-parent)
+  backing-leading k before u y x p s found = grind (arith, or_from, ne_eqb, other-parent)
 
   window-leading : (k : ℕ) → Leading k → (u y x : ℕ) (p : GridPlace) (o : Option Window) → option_and_then (λ a. leads (own_within k window) u y x a.backing) o ≡ Some p
       → list_any (λ v. v == n) (option_map_or (λ parent. parent ∷ ancestors_within k window parent) (option_and_then (λ a. parent_number a.backing) o) []) ≡ false
@@ -158,8 +151,7 @@ module _ (window : WindowMap) (n : ℕ) (free : window n ≡ None) where
   leading (suc k) u y x p found = window-leading k (leading k) u y x p (window u) found
 
   leading-some : (u : ℕ) (o : Option GridPlace) → own window u 0 0 ≡ o → IsSome o → derives window n u ≡ false
-  leading-some u None found some = cc
-  leading-some u (Some p) found some = leading window_limit u 0 0 p found
+  leading-some u o found some = grind (arith, leading)
 
 chain-ends : (windows : Windows) (u : ℕ) (o : Option Window) → MatchOption o ⊤ (IsSoundWindow windows u) → IsSome o → IsSome (own windows.window u 0 0)
 chain-ends windows u None h some = cc

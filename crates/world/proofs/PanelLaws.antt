@@ -1,5 +1,5 @@
 -- Which windows are in panels.
-use Rattle.std.proofs.Common.{◌≡◌, ℕ, ◌≤◌, true, false, ◌==◌, Option, Some, None, ap, arith, eq-eqb}
+use Rattle.std.proofs.Common.{◌≡◌, ℕ, ◌≤◌, true, false, ◌==◌, Option, Some, arith, eq-eqb}
 use Rattle.std.specs.Option.{option_map_or}
 use Rattle.std.proofs.lemmas.Bool.{eqb-true}
 use Rattle.cell.specs.declared.limits.TheConstants.{MOST_PANELS}
@@ -7,12 +7,10 @@ use Rattle.world.specs.Panels.{Panels, is_in_panel, panel_limit}
 use Rattle.world.proofs.Below.{any_below-some, any_below-true}
 
 names : (o : Option ℕ) (w : ℕ) → option_map_or (λ u. u == w) o false ≡ true → o ≡ Some w
-names None w h = cc
-names (Some u) w h = ap Some (eqb-true u w h)
+names o w h = grind (arith, eqb-true)
 
 named : (o : Option ℕ) (w : ℕ) → o ≡ Some w → option_map_or (λ u. u == w) o false ≡ true
-named None w h = cc
-named (Some u) w h = let same : u ≡ w = cc in eq-eqb u w same
+named o w h = grind (arith, eq-eqb)
 
 -- exactly those that some panel has
 pub in_panel-some : (panels : Panels) (w p : ℕ) → p ≤ MOST_PANELS → panels.window p ≡ Some w → is_in_panel panels w ≡ true

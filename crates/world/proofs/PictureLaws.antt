@@ -21,13 +21,10 @@ use Rattle.cell.specs.declared.window.Rect.{Rect}
 
 module _ (window : WindowMap) (w : ℕ) (f : Drawing) where
   outline-drawn : (a : Window) (p : GridPlace) (u : ℕ) (o : Option Window) → outline_of (option_map (after_drawing w a p f u) o) ≡ outline_of o
-  outline-drawn a p u None = refl
-  outline-drawn a p u (Some b) = refl
+  outline-drawn a p u o = grind arith
 
   outline-from : (u : ℕ) (m : Option Window) (s : Option GridPlace) → outline_of (put_from window w m s f u) ≡ outline_of (window u)
-  outline-from u (Some a) (Some p) = outline-drawn a p u (window u)
-  outline-from u (Some a) None = refl
-  outline-from u None s = refl
+  outline-from u m s = grind (arith, outline-drawn)
 
   pub outline-put : (u : ℕ) → outline_of (put_windows window w f u) ≡ outline_of (window u)
   outline-put u = outline-from u (window w) (own window w 0 0)
@@ -88,8 +85,7 @@ same-self (Some s) (Some t) some e =
     true-same s t (record { grid = ap (λ q. q.grid) same; line = ap (λ q. q.line) same; column = ap (λ q. q.column) same })
 
 in-size : (a : Window) (v z : ℕ) (o : Option Window) → outline_of o ≡ Some (outline a) → IsSomeAnd o (λ c. (v < c.lines) × (z < c.columns)) → (v < a.lines) × (z < a.columns)
-in-size a v z None is has = cc
-in-size a v z (Some c) is has = grind arith
+in-size a v z o is has = grind arith
 
 -- the window has the size of a
 module _ (window : WindowMap) (panels : Panels) (w : ℕ) (a : Window) (f : Drawing) (y x : ℕ) (size : outline_of (window w) ≡ Some (outline a)) where
@@ -143,8 +139,7 @@ module _ (window : WindowMap) (panels : Panels) (w : ℕ) (a : Window) (f : Draw
 -- ---- the standard screen holds each place of the screen
 
 standard-at : (windows : Windows) (y x : ℕ) → y < windows.lines → x < windows.columns → (o : Option Window) → IsSomeAnd o (IsStandardScreen windows) → option_map_or (holds_place y x) o false ≡ true
-standard-at windows y x below left None h = elim h [ ]
-standard-at windows y x below left (Some b) h = grind (arith, line, column, and_from, le-leb, lt-ltb)
+standard-at windows y x below left o h = grind (arith, line, column, and_from, le-leb, lt-ltb)
 
 pub standard-holds : (windows : Windows) (y x : ℕ) → AreSoundWindows windows → y < windows.lines → x < windows.columns → holds windows.window standard_screen y x ≡ true
 standard-holds windows y x sound below left = standard-at windows y x below left (windows.window standard_screen) sound.standard

@@ -21,13 +21,11 @@ abbrev pub SamePlaces : Windows → Windows → Type 0
 SamePlaces one other = (u : ℕ) → has_place (one.window u) ≡ has_place (other.window u)
 
 same_mapped : (o : Option Window) (change : Window → Window) → ((a : Window) → is_some (change a).place ≡ is_some a.place) → has_place (option_map change o) ≡ has_place o
-same_mapped None change h = refl
-same_mapped (Some a) change h = h a
+same_mapped o change h = grind arith
 
 pub same_if : (b : Bool) (o : Option Window) (change : Window → Window) → ((a : Window) → is_some (change a).place ≡ is_some a.place)
     → has_place (if b then option_map change o else o) ≡ has_place o
-same_if true o change h = same_mapped o change h
-same_if false o change h = refl
+same_if b o change h = grind (arith, same_mapped)
 
 -- ---- one change
 
@@ -38,8 +36,7 @@ places-changed windows w change h u = same_if (u == w) (windows.window u) change
 -- ---- edits and marks
 
 place-outline : (o : Option Window) → has_place o ≡ option_map_or (λ (r : Outline). is_some r.place) (outline_of o) false
-place-outline None = refl
-place-outline (Some a) = refl
+place-outline o = grind arith
 
 -- windows of the same outlines
 places-view : (new old : Windows) → SameView new.window old.window → SamePlaces new old
@@ -58,12 +55,10 @@ has-none : (window : WindowMap) (n w : ℕ) → window n ≡ None → has_place 
 has-none window n w free h same = grind arith
 
 moved-there : (o : Option Window) (y x : ℕ) → has_place o ≡ true → has_place (option_map (with_place y x) o) ≡ true
-moved-there None y x h = h
-moved-there (Some a) y x h = refl
+moved-there o y x h = grind arith
 
 moved-if : (b : Bool) (o : Option Window) (y x : ℕ) → has_place o ≡ true → has_place (if b then option_map (with_place y x) o else o) ≡ true
-moved-if true o y x h = moved-there o y x h
-moved-if false o y x h = h
+moved-if b o y x h = grind (arith, moved-there)
 
 pub keeps-moved : (windows : Windows) (v : ℕ) (place : Place) (w : ℕ) → has_place (windows.window w) ≡ true → has_place ((moved_to windows v place).window w) ≡ true
 keeps-moved windows v place w h = moved-if (w == v) (windows.window w) place.0 place.1 h
@@ -82,8 +77,7 @@ keeps-change windows panels (shifts v place) sound allowed p w is h = places-cha
 -- ---- panels
 
 pub there-true : (o : Option Window) → IsSomeAnd o (λ a. IsSome a.place) → has_place o ≡ true
-there-true None h = elim h [ ]
-there-true (Some a) h = h
+there-true o h = grind arith
 
 pub true-there : (o : Option Window) → has_place o ≡ true → IsSomeAnd o (λ a. IsSome a.place)
 true-there None h = cc

@@ -1,7 +1,6 @@
 -- Writes through one window: what it shows after one, and when several are one.
 use Rattle.std.proofs.Common.{◌≡◌, ℕ, ◌+◌, ◌<◌, Bool, true, false, if◌then◌else◌, ◌==◌, ◌&&◌, Option, Some, None, is_some, unwrap_or, ap, arith, refl, sym, ◌∙◌}
 use Rattle.std.specs.Option.{option_map}
-use mathlib.Core.Path.{fun_ext}
 use Rattle.std.proofs.lemmas.Bool.{ne_eqb}
 use Rattle.std.proofs.lemmas.Bool.Decides.{nat_tests}
 use Rattle.cell.specs.Glyphs.{Glyph}
@@ -11,13 +10,10 @@ use Rattle.world.proofs.WindowLaws.{own-onward, put-put, put-takes, cell_at-kept
 -- ---- only what is in the window is drawn
 
 if-same : (t : Bool) (o p : Option Glyph) → (t ≡ true → o ≡ p) → (if t then o else None) ≡ (if t then p else None)
-if-same true o p h = h refl
-if-same false o p h = refl
+if-same t o p h = grind arith
 
 both-true : (s t : Bool) → (s && t) ≡ true → (s ≡ true) × (t ≡ true)
-both-true true true h = (refl, refl)
-both-true true false h = cc
-both-true false t h = cc
+both-true s t h = grind arith
 
 -- two drawings that agree in the window
 abbrev pub AreSame : Window → Drawing → Drawing → Type 0
@@ -41,13 +37,11 @@ drawn-itself w a p f g u e = ap (drawn_as w a p u) e
 drawn-other : (t q : Bool) (a b : Window) (p : GridPlace) (f g : Drawing) → q ≡ false → within a f ≡ within a g
     → record b { backing = (if t then laid_over (grid_drawing p (within a f)) b.backing else b.backing); touched = (if q then touched_by f b else b.touched) }
     ≡ record b { backing = (if t then laid_over (grid_drawing p (within a g)) b.backing else b.backing); touched = (if q then touched_by g b else b.touched) }
-drawn-other t true a b p f g apart e = cc
-drawn-other t false a b p f g apart e = ap (λ (d : Drawing). record b { backing = (if t then laid_over (grid_drawing p d) b.backing else b.backing) }) e
+drawn-other t q a b p f g apart e = grind arith
 
 option-other : (w : ℕ) (a : Window) (p : GridPlace) (f g : Drawing) (u : ℕ) (o : Option Window) → (u == w) ≡ false → within a f ≡ within a g
     → option_map (after_drawing w a p f u) o ≡ option_map (after_drawing w a p g u) o
-option-other w a p f g u None apart e = refl
-option-other w a p f g u (Some b) apart e = ap Some (drawn-other (u == p.grid) (u == w) a b p f g apart e)
+option-other w a p f g u o apart e = grind (arith, drawn-other)
 
 same-at : (window : WindowMap) (w : ℕ) (a : Window) (p : GridPlace) (f g : Drawing) → window w ≡ Some a → within a f ≡ within a g
     → (u : ℕ) → option_map (after_drawing w a p f u) (window u) ≡ option_map (after_drawing w a p g u) (window u)
@@ -55,8 +49,7 @@ same-at window w a p f g there e u = grind (arith, drawn-itself, option-other, n
 
 same-from : (window : WindowMap) (w : ℕ) (a : Window) (s : Option GridPlace) (f g : Drawing) → window w ≡ Some a → within a f ≡ within a g
     → put_from window w (Some a) s f ≡ put_from window w (Some a) s g
-same-from window w a None f g there e = refl
-same-from window w a (Some p) f g there e = fun_ext (same-at window w a p f g there e)
+same-from window w a s f g there e = grind (arith, same-at)
 
 pub put-same : (window : WindowMap) (w : ℕ) (a : Window) (f g : Drawing) → window w ≡ Some a → AreSame a f g → put_windows window w f ≡ put_windows window w g
 put-same window w a f g there same =

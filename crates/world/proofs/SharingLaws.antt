@@ -26,8 +26,7 @@ pub true-same : (p q : GridPlace) → SamePlace p q → is_same_place (Some p) (
 true-same p q h = grind (arith, and_from, eq-eqb)
 
 none-same : (o : Option GridPlace) → is_same_place o None ≡ true → ⊥
-none-same None h = cc
-none-same (Some p) h = cc
+none-same o h = grind arith
 
 -- ---- the shared places of two windows
 

@@ -35,16 +35,14 @@ module _ (p : ℕ) (test : ℕ → Bool) where
   step-off : (q : ℕ) (qs acc rest : List ℕ) (b : Bool) → (q == p) ≡ b → Searches qs → ((b || list_any (λ k. k == p) qs) && test p) ≡ false
       → find test acc ≡ find (off p test) rest
       → find test (reverse_aux qs (q ∷ acc)) ≡ find (off p test) (reverse_aux (cond (not b) (q ∷ without p qs) (without p qs)) rest)
-  step-off q qs acc rest true is later unseen same = grind (arith, eqb-true, and_right)
-  step-off q qs acc rest false is later unseen same = grind arith
+  step-off q qs acc rest b is later unseen same = grind (arith, eqb-true, and_right)
 
   search-off : (qs : List ℕ) → Searches qs
   search-off [] acc rest unseen same = same
   search-off (q ∷ qs) acc rest unseen same = step-off q qs acc rest (q == p) refl (search-off qs) unseen same
 
 passing-at : (test : ℕ → Bool) (k q : ℕ) (rest : Option ℕ) (b : Bool) → test k ≡ b → cond b (Some k) rest ≡ Some q → (rest ≡ Some q → test q ≡ true) → test q ≡ true
-passing-at test k q rest true is found later = let same : k ≡ q = cc in ap test (sym same) ∙ is
-passing-at test k q rest false is found later = later found
+passing-at test k q rest b is found later = grind arith
 
 passing : (test : ℕ → Bool) (ks : List ℕ) (q : ℕ) → find test ks ≡ Some q → test q ≡ true
 passing test [] q found = cc
@@ -124,9 +122,7 @@ module _ (p : ℕ) where
   on-top panels w is = top-by (topmost panels) (panels.window p) w is
 
   same-by : (o n : Option ℕ) → option_map_or (λ w. option_map_or (λ u. u == w) n false) o false ≡ true → (w : ℕ) × (o ≡ Some w) × (n ≡ Some w)
-  same-by None n is = absurd (true≢false (sym is))
-  same-by (Some w) None is = absurd (true≢false (sym is))
-  same-by (Some w) (Some u) is = (w, refl, ap Some (eqb-true u w is))
+  same-by o n is = grind (arith, eqb-true)
 
   module _ (window : WindowMap) (after before : Panels) (y x : ℕ) (stays : stays_on_top before after p ≡ true) where
     both-on-top : (w : ℕ) × (topmost before ≡ Some p) × (before.window p ≡ Some w) × (topmost after ≡ Some p) × (after.window p ≡ Some w)
@@ -166,8 +162,7 @@ module _ (p : ℕ) where
   without-last qs = filter-append (λ q. not (q == p)) qs (p ∷ []) ∙ ap (λ l. without p qs ++ l) (without-itself []) ∙ append-nil (without p qs)
 
   twice-at : (q : ℕ) (qs : List ℕ) (b : Bool) → (q == p) ≡ b → without p qs ≡ qs → without p (cond (not b) (q ∷ qs) qs) ≡ cond (not b) (q ∷ qs) qs
-  twice-at q qs true is same = same
-  twice-at q qs false is same = ap (λ b. cond (not b) (q ∷ without p qs) (without p qs)) is ∙ ap (λ l. q ∷ l) same
+  twice-at q qs b is same = grind arith
 
   without-twice : (qs : List ℕ) → without p (without p qs) ≡ without p qs
   without-twice [] = refl
@@ -195,13 +190,11 @@ module _ (windows : Windows) (panels : Panels) (p v z y x : ℕ) (sound : AreSou
 
   holds-by : (q : ℕ) → q ≢ p → (o : Option ℕ) → panels.window q ≡ o
       → option_map_or (λ u. holds (moved_to windows (window_or_standard panels (Some p)) (v, z)).window u y x) o false ≡ option_map_or (λ u. holds windows.window u y x) o false
-  holds-by q other None is = refl
-  holds-by q other (Some u) is = holds-placed windows (window_or_standard panels (Some p)) v z y x u (other-window q u other is)
+  holds-by q other o is = grind (arith, holds-placed, other-window)
 
   cells-by : (q : ℕ) → q ≢ p → (o : Option ℕ) → panels.window q ≡ o → option_map_or (λ u. holds windows.window u y x) o false ≡ true
       → cell_on_screen (moved_to windows (window_or_standard panels (Some p)) (v, z)).window (unwrap_or o standard_screen) y x ≡ cell_on_screen windows.window (unwrap_or o standard_screen) y x
-  cells-by q other None is there = cc
-  cells-by q other (Some u) is there = cell-placed windows (window_or_standard panels (Some p)) v z y x u (other-window q u other is)
+  cells-by q other o is there = grind (arith, cell-placed, other-window)
 
   found-move_panel : is_none (panels.window p) ≡ false
       → (panel_shows_at windows.window panels p y x || panel_shows_at (moved_to windows (window_or_standard panels (Some p)) (v, z)).window panels p y x) ≡ false

@@ -16,9 +16,7 @@ use Rattle.world.specs.declared.settings.Settings.{Settings}
 -- what doesn't look at what a change changes is the same
 pub same-if : {X : Type 0} (P : Option Window → X) (change : Window → Window) → ((a : Window) → P (Some (change a)) ≡ P (Some a))
     → (b : Bool) (o : Option Window) → P (if b then option_map change o else o) ≡ P o
-same-if P change h true None = refl
-same-if P change h true (Some a) = h a
-same-if P change h false o = refl
+same-if P change h b o = grind arith
 
 -- ---- size and place
 
@@ -42,8 +40,7 @@ holds-outline y x None = refl
 holds-outline y x (Some a) = refl
 
 place-outline : (o : Option Window) → option_map_or screen_place o origin ≡ option_map_or (λ (r : Outline). unwrap_or r.place origin) (outline_of o) origin
-place-outline None = refl
-place-outline (Some a) = refl
+place-outline o = grind arith
 
 module _ (new old : WindowMap) (u : ℕ) (same : outline_of (new u) ≡ outline_of (old u)) where
   pub holds-same : (y x : ℕ) → holds new u y x ≡ holds old u y x
@@ -63,13 +60,11 @@ backing_of o = option_map (λ (a : Window). a.backing) o
 
 then-backing : (f : ℕ → ℕ → ℕ → Option GridPlace) (u y x : ℕ) (o : Option Window)
     → option_and_then (λ a. leads f u y x a.backing) o ≡ option_and_then (leads f u y x) (backing_of o)
-then-backing f u y x None = refl
-then-backing f u y x (Some a) = refl
+then-backing f u y x o = grind arith
 
 cell-backing : (p : GridPlace) (o : Option Window)
     → option_map_or (λ a. cell_of a.backing p.line p.column) o blank ≡ option_map_or (λ s. cell_of s p.line p.column) (backing_of o) blank
-cell-backing p None = refl
-cell-backing p (Some a) = refl
+cell-backing p o = grind arith
 
 module _ (new old : WindowMap) (same : (u : ℕ) → backing_of (new u) ≡ backing_of (old u)) where
   own_within-same : (n : ℕ) → own_within n new ≡ own_within n old
@@ -84,8 +79,7 @@ module _ (new old : WindowMap) (same : (u : ℕ) → backing_of (new u) ≡ back
   own-same u y x = ap (λ f. f u y x) (own_within-same window_limit)
 
   in_grid-same : (o : Option GridPlace) → cell_in_grid new o ≡ cell_in_grid old o
-  in_grid-same None = refl
-  in_grid-same (Some p) = grind (arith, cell-backing)
+  in_grid-same o = grind (arith, cell-backing)
 
   pub cell_at-same : (u y x : ℕ) → cell_at new u y x ≡ cell_at old u y x
   cell_at-same u y x = ap (cell_in_grid new) (own-same u y x) ∙ in_grid-same (own old u y x)
@@ -129,8 +123,7 @@ module _ (new old : WindowMap) (panels : Panels) (y x : ℕ) where
   HoldAsBefore = (p u : ℕ) → panels.window p ≡ Some u → holds new u y x ≡ holds old u y x
 
   holds-by : HoldAsBefore → (p : ℕ) (o : Option ℕ) → panels.window p ≡ o → option_map_or (λ u. holds new u y x) o false ≡ option_map_or (λ u. holds old u y x) o false
-  holds-by h p None is = refl
-  holds-by h p (Some u) is = h p u is
+  holds-by h p o is = grind (arith, is)
 
   owner-same : HoldAsBefore → owner new panels y x ≡ owner old panels y x
   owner-same h = ap (λ (test : ℕ → Bool). find test (reverse panels.visible)) (fun_ext (λ p. holds-by h p (panels.window p) refl))

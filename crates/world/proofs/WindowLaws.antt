@@ -1,5 +1,5 @@
 -- Laws of windows that share cells.
-use Rattle.std.proofs.Common.{◌≡◌, ℕ, zero, suc, ◌+◌, ◌-◌, ◌<◌, min, max, Bool, true, false, if◌then◌else◌, ◌==◌, ◌&&◌, ◌||◌, nat_lt, Option, Some, None, is_some, IsSome, IsSomeAnd}
+use Rattle.std.proofs.Common.{◌≡◌, ℕ, zero, suc, ◌+◌, ◌-◌, ◌<◌, Bool, true, false, if◌then◌else◌, ◌==◌, ◌&&◌, ◌||◌, nat_lt, Option, Some, None, is_some, IsSome, IsSomeAnd}
 use Rattle.std.proofs.Common.{unwrap_or, subst, ◌≤◌, inl, inr, ap, arith, refl, sym, ◌∙◌, zero-add, eq-eqb}
 use Rattle.std.specs.Prelude.{option_and_then}
 use Rattle.std.specs.Option.{option_map, option_map_or}
@@ -14,13 +14,11 @@ use Rattle.world.specs.declared.settings.Columns.{Columns}
 -- a window's places lead to the places of one rectangle of a grid: own is own of (0, 0), moved
 leads-onward : (further : ℕ → ℕ → ℕ → Option GridPlace) → ((w y x a b : ℕ) → further w (y + a) (x + b) ≡ option_map (onward a b) (further w y x)) → (w y x a b : ℕ) (s : Backing)
     → leads further w (y + a) (x + b) s ≡ option_map (onward a b) (leads further w y x s)
-leads-onward further h w y x a b (own_grid cells) = refl
-leads-onward further h w y x a b (part_of parent line column) = grind arith
+leads-onward further h w y x a b s = grind arith
 
 and_then-leads : (further : ℕ → ℕ → ℕ → Option GridPlace) → ((w y x a b : ℕ) → further w (y + a) (x + b) ≡ option_map (onward a b) (further w y x)) → (w y x a b : ℕ) (o : Option Window) →
     option_and_then (λ c. leads further w (y + a) (x + b) c.backing) o ≡ option_map (onward a b) (option_and_then (λ c. leads further w y x c.backing) o)
-and_then-leads further h w y x a b None = refl
-and_then-leads further h w y x a b (Some c) = leads-onward further h w y x a b c.backing
+and_then-leads further h w y x a b o = grind (arith, leads-onward)
 
 own_within-onward : (n : ℕ) (window : WindowMap) (w y x a b : ℕ) → own_within n window w (y + a) (x + b) ≡ option_map (onward a b) (own_within n window w y x)
 own_within-onward zero window w y x a b = refl
@@ -31,18 +29,14 @@ own-onward window w y x = ap (λ k. own window w k x) (sym (zero-add y)) ∙ ap 
 
 -- a write changes no chain
 leads-laid : (further : ℕ → ℕ → ℕ → Option GridPlace) (w y x : ℕ) (t : Bool) (f : Drawing) (s : Backing) → leads further w y x (if t then laid_over f s else s) ≡ leads further w y x s
-leads-laid further w y x true f (own_grid cells) = refl
-leads-laid further w y x true f (part_of parent line column) = refl
-leads-laid further w y x false f s = refl
+leads-laid further w y x t f s = grind arith
 
 leads-more : (f g : ℕ → ℕ → ℕ → Option GridPlace) → ((w y x : ℕ) → f w y x ≡ g w y x) → (w y x : ℕ) (s : Backing) → leads f w y x s ≡ leads g w y x s
-leads-more f g h w y x (own_grid cells) = refl
-leads-more f g h w y x (part_of parent line column) = h parent (y + line) (x + column)
+leads-more f g h w y x s = grind arith
 
 step-drawn : (f g : ℕ → ℕ → ℕ → Option GridPlace) → ((w y x : ℕ) → f w y x ≡ g w y x) → (w : ℕ) (a : Window) (spot : GridPlace) (d : Drawing) (u y x : ℕ) (o : Option Window) →
     option_and_then (λ c. leads f u y x c.backing) (option_map (after_drawing w a spot d u) o) ≡ option_and_then (λ c. leads g u y x c.backing) o
-step-drawn f g h w a spot d u y x None = refl
-step-drawn f g h w a spot d u y x (Some c) = leads-laid f u y x (u == spot.grid) (grid_drawing spot (within a d)) c.backing ∙ leads-more f g h u y x c.backing
+step-drawn f g h w a spot d u y x o = grind (arith, leads-laid, leads-more)
 
 own_within-put_from : (n : ℕ) (window : WindowMap) (w : ℕ) (a : Option Window) (spot : Option GridPlace) (d : Drawing) (u y x : ℕ)
     → own_within n (put_from window w a spot d) u y x ≡ own_within n window u y x
@@ -58,16 +52,13 @@ abbrev widened : Option Columns → ℕ → Option Columns
 widened r x = joined_columns r x x
 
 widened-twice : (r : Option Columns) (x : ℕ) → widened (widened r x) x ≡ widened r x
-widened-twice None x = let a : min x x ≡ x = omega arith in let b : max x x ≡ x = omega arith in cc
-widened-twice (Some r) x = let a : min (min r.first x) x ≡ min r.first x = omega arith in let b : max (max r.last x) x ≡ max r.last x = omega arith in cc
+widened-twice r x = grind arith
 
 widened_swap : (r : Option Columns) (x y : ℕ) → widened (widened r x) y ≡ widened (widened r y) x
-widened_swap None x y = let a : min x y ≡ min y x = omega arith in let b : max x y ≡ max y x = omega arith in cc
-widened_swap (Some r) x y = let a : min (min r.first x) y ≡ min (min r.first y) x = omega arith in let b : max (max r.last x) y ≡ max (max r.last y) x = omega arith in cc
+widened_swap r x y = grind arith
 
 by_test : (n x : ℕ) (t : Bool) (p q : Option Columns) → p ≡ widened q x → (if t then widened p n else p) ≡ widened (if t then widened q n else q) x
-by_test n x true p q h = ap (λ o. widened o n) h ∙ widened_swap q x n
-by_test n x false p q h = h
+by_test n x t p q h = grind (arith, widened_swap)
 
 touched-widened : (n : ℕ) (test : ℕ → Bool) (r : Option Columns) (x : ℕ) → touched_below n test (widened r x) ≡ widened (touched_below n test r) x
 touched-widened zero test r x = refl
@@ -75,10 +66,7 @@ touched-widened (suc n) test r x = by_test n x (test n) (touched_below n test (w
 
 by_tests : (n : ℕ) (s : ℕ → Bool) (p q : Bool) (t r : Option Columns) → touched_below n s t ≡ r → (if p then widened (touched_below n s (if q then widened t n else t)) n else touched_below n s
     (if q then widened t n else t)) ≡ (if p || q then widened r n else r)
-by_tests n s true true t r h = ap (λ o. widened o n) (touched-widened n s t n) ∙ widened-twice (touched_below n s t) n ∙ ap (λ o. widened o n) h
-by_tests n s true false t r h = ap (λ o. widened o n) h
-by_tests n s false true t r h = touched-widened n s t n ∙ ap (λ o. widened o n) h
-by_tests n s false false t r h = h
+by_tests n s p q t r h = grind (arith, touched-widened, widened-twice)
 
 pub touched-touched : (n : ℕ) (s t : ℕ → Bool) (r : Option Columns) → touched_below n s (touched_below n t r) ≡ touched_below n (λ x. s x || t x) r
 touched-touched zero s t r = refl
@@ -87,20 +75,14 @@ touched-touched (suc n) s t r = by_tests n s (s n) (t n) (touched_below n t r) (
 -- a second drawing over a first one, at one place
 laid-point : (t1 t2 : Bool) (g f : Option Glyph) (c : Glyph) → unwrap_or (if t1 then (if t2 then g else None) else None) (unwrap_or (if t1 then (if t2 then f else None) else None) c)
     ≡ unwrap_or (if t1 then (if t2 then (if is_some g then g else f) else None) else None) c
-laid-point true true (Some v) f c = refl
-laid-point true true None f c = refl
-laid-point true false g f c = refl
-laid-point false t2 g f c = refl
+laid-point t1 t2 g f c = grind arith
 
 laid-laid : (spot : GridPlace) (a : Window) (f g : Drawing) (s : Backing) → laid_over (grid_drawing spot (within a g)) (laid_over (grid_drawing spot (within a f)) s)
     ≡ laid_over (grid_drawing spot (within a (over g f))) s
-laid-laid spot a f g (own_grid cells) = grind (arith, laid-point)
-laid-laid spot a f g (part_of parent line column) = refl
+laid-laid spot a f g s = grind (arith, laid-point)
 
 some-point : (t : Bool) (g f : Option Glyph) → (is_some (if t then g else None) || is_some (if t then f else None)) ≡ is_some (if t then (if is_some g then g else f) else None)
-some-point true (Some v) f = refl
-some-point true None f = refl
-some-point false g f = refl
+some-point t g f = grind arith
 
 touched_by-twice : (b : Window) (f g : Drawing) (y : ℕ) → touched_below b.columns (λ x. is_some (within b g y x)) (touched_by f b y) ≡ touched_by (over g f) b y
 touched_by-twice b f g y =
@@ -112,10 +94,7 @@ drawn-by : (p q : Bool) (b : Window) (f2 g2 h2 : Drawing) (f g : Drawing) → la
       backing = (if p then laid_over g2 (if p then laid_over f2 b.backing else b.backing) else (if p then laid_over f2 b.backing else b.backing));
       touched = (if q then (λ y. touched_below b.columns (λ x. is_some (within b g y x)) ((if q then touched_by f b else b.touched) y)) else (if q then touched_by f b else b.touched));
     } ≡ record b { backing = (if p then laid_over h2 b.backing else b.backing); touched = (if q then touched_by (over g f) b else b.touched) }
-drawn-by true true b f2 g2 h2 f g e = λ i. record b { backing = e i; touched = λ y. touched_by-twice b f g y i }
-drawn-by true false b f2 g2 h2 f g e = λ i. record b { backing = e i }
-drawn-by false true b f2 g2 h2 f g e = λ i. record b { touched = λ y. touched_by-twice b f g y i }
-drawn-by false false b f2 g2 h2 f g e = refl
+drawn-by p q b f2 g2 h2 f g e = grind (arith, touched_by-twice)
 
 twice-at : (w : ℕ) (a : Window) (spot : GridPlace) (f g : Drawing) (u : ℕ) (o : Option Window)
     → option_map (after_drawing w (after_drawing w a spot f w a) spot g u) (option_map (after_drawing w a spot f u) o)
@@ -126,9 +105,7 @@ twice-at w a spot f g u (Some b) = ap Some (drawn-by (u == spot.grid) (u == w) b
 
 twice : (window : WindowMap) (w : ℕ) (o : Option Window) → window w ≡ o → (s : Option GridPlace) (f g : Drawing)
     → put_from (put_from window w o s f) w (put_from window w o s f w) s g ≡ put_from window w o s (over g f)
-twice window w None e s f g = rw e refl
-twice window w (Some a) e None f g = rw e refl
-twice window w (Some a) e (Some spot) f g = rw e (fun_ext (λ u. twice-at w a spot f g u (window u)))
+twice window w o e s f g = grind (arith, twice-at)
 
 -- two writes through one window are one
 pub put-put : (window : WindowMap) (w : ℕ) (f g : Drawing) → put_windows (put_windows window w f) w g ≡ put_windows window w (over g f)
@@ -136,14 +113,11 @@ put-put window w f g = search (arith, own-put, twice)
 
 -- a place that the drawing leaves out keeps its cell
 kept-point : (t : Bool) (f : Drawing) (s : Backing) (y x : ℕ) → f y x ≡ None → cell_of (if t then laid_over f s else s) y x ≡ cell_of s y x
-kept-point true f (own_grid cells) y x h = ap (λ o. unwrap_or o (cells y x)) h
-kept-point true f (part_of parent line column) y x h = refl
-kept-point false f s y x h = refl
+kept-point t f s y x h = grind arith
 
 kept-at : (w : ℕ) (a : Window) (spot : GridPlace) (f : Drawing) (s : GridPlace) (o : Option Window) → grid_drawing spot (within a f) s.line s.column ≡ None →
     option_map_or (λ c. cell_of c.backing s.line s.column) (option_map (after_drawing w a spot f s.grid) o) blank ≡ option_map_or (λ c. cell_of c.backing s.line s.column) o blank
-kept-at w a spot f s None h = refl
-kept-at w a spot f s (Some b) h = kept-point (s.grid == spot.grid) (grid_drawing spot (within a f)) b.backing s.line s.column h
+kept-at w a spot f s o h = grind (arith, kept-point)
 
 pub cell_at-kept : (window : WindowMap) (w : ℕ) (a : Window) (spot : GridPlace) (f : Drawing) (u y x : ℕ) (s : GridPlace) → window w ≡ Some a → own window w 0 0 ≡ Some spot
     → own window u y x ≡ Some s →
@@ -152,33 +126,26 @@ cell_at-kept window w a spot f u y x s e leads_w leads_u h = grind (arith, own-p
 
 -- a drawing of no cell changes nothing
 laid-nothing : (t : Bool) (f : Drawing) (s : Backing) → ((y x : ℕ) → f y x ≡ None) → (if t then laid_over f s else s) ≡ s
-laid-nothing true f (own_grid cells) h = ap own_grid (fun_ext (λ y. fun_ext (λ x. ap (λ o. unwrap_or o (cells y x)) (h y x))))
-laid-nothing true f (part_of parent line column) h = refl
-laid-nothing false f s h = refl
+laid-nothing t f s h = grind arith
 
 touched-nothing : (n : ℕ) (test : ℕ → Bool) (r : Option Columns) → ((x : ℕ) → test x ≡ false) → touched_below n test r ≡ r
 touched-nothing zero test r h = refl
 touched-nothing (suc n) test r h = let last : test n ≡ false = h n in rw last (touched-nothing n test r h)
 
 none_either : (t : Bool) (o : Option Glyph) → o ≡ None → (if t then o else None) ≡ None
-none_either true o h = h
-none_either false o h = refl
+none_either t o h = grind arith
 
 nothing-within : (a : Window) (f : Drawing) → ((y x : ℕ) → f y x ≡ None) → (y x : ℕ) → within a f y x ≡ None
 nothing-within a f h y x = let none : f y x ≡ None = h y x in none_either (nat_lt y a.lines && nat_lt x a.columns) (f y x) none
 
 run-nothing : (t : Bool) (f : Drawing) (b : Window) → ((y x : ℕ) → f y x ≡ None) → (if t then touched_by f b else b.touched) ≡ b.touched
-run-nothing true f b h = fun_ext (λ y. touched-nothing b.columns (λ x. is_some (within b f y x)) (b.touched y) (λ x. ap (λ (o : Option Glyph). is_some o) (nothing-within b f h y x)))
-run-nothing false f b h = refl
+run-nothing t f b h = grind (arith, touched-nothing, nothing-within)
 
 nothing-at : (w : ℕ) (a : Window) (spot : GridPlace) (f : Drawing) (u : ℕ) (o : Option Window) → ((y x : ℕ) → f y x ≡ None) → option_map (after_drawing w a spot f u) o ≡ o
-nothing-at w a spot f u None h = refl
-nothing-at w a spot f u (Some b) h = grind (arith, laid-nothing, none_either, nothing-within, run-nothing)
+nothing-at w a spot f u o h = grind (arith, laid-nothing, none_either, nothing-within, run-nothing)
 
 nothing-from : (window : WindowMap) (w : ℕ) (o : Option Window) (s : Option GridPlace) (f : Drawing) → ((y x : ℕ) → f y x ≡ None) → put_from window w o s f ≡ window
-nothing-from window w None s f h = refl
-nothing-from window w (Some a) None f h = refl
-nothing-from window w (Some a) (Some spot) f h = fun_ext (λ u. nothing-at w a spot f u (window u) h)
+nothing-from window w o s f h = grind (arith, nothing-at)
 
 pub put-nothing : (window : WindowMap) (w : ℕ) (f : Drawing) → ((y x : ℕ) → f y x ≡ None) → put_windows window w f ≡ window
 put-nothing window w f h = nothing-from window w (window w) (own window w 0 0) f h
@@ -186,14 +153,11 @@ put-nothing window w f h = nothing-from window w (window w) (own window w 0 0) f
 -- a write leaves each window its size
 size-at : (w : ℕ) (a : Window) (spot : GridPlace) (f : Drawing) (u : ℕ) (o : Option Window) (y x : ℕ) → IsSomeAnd o (λ b. (y < b.lines) × (x < b.columns))
     → IsSomeAnd (option_map (after_drawing w a spot f u) o) (λ b. (y < b.lines) × (x < b.columns))
-size-at w a spot f u None y x h = h
-size-at w a spot f u (Some b) y x h = h
+size-at w a spot f u o y x h = grind arith
 
 size-from : (window : WindowMap) (w : ℕ) (o : Option Window) (s : Option GridPlace) (f : Drawing) (u y x : ℕ) → IsSomeAnd (window u) (λ b. (y < b.lines) × (x < b.columns))
     → IsSomeAnd (put_from window w o s f u) (λ b. (y < b.lines) × (x < b.columns))
-size-from window w None s f u y x h = h
-size-from window w (Some a) None f u y x h = h
-size-from window w (Some a) (Some spot) f u y x h = size-at w a spot f u (window u) y x h
+size-from window w o s f u y x h = grind (arith, size-at)
 
 pub HasPlace-put : (window : WindowMap) (w : ℕ) (f : Drawing) (u y x : ℕ) → HasPlace window u y x → HasPlace (put_windows window w f) u y x
 HasPlace-put window w f u y x h = size-from window w (window w) (own window w 0 0) f u y x h
@@ -218,9 +182,7 @@ own-ends (suc n) window w y x s h = ends-at window (own_within n window) (own-en
 
 -- each place of the drawing is taken by every window that shows it
 taken-point : (t : Bool) (f : Drawing) (s : Backing) (y x : ℕ) (cells : ℕ → ℕ → Glyph) (c : Glyph) → t ≡ true → s ≡ own_grid cells → f y x ≡ Some c → cell_of (if t then laid_over f s else s) y x ≡ c
-taken-point true f (own_grid cells) y x d c e is h = ap (λ o. unwrap_or o (cells y x)) h
-taken-point true f (part_of parent line column) y x d c e is h = cc
-taken-point false f s y x d c e is h = cc
+taken-point t f s y x cells c e is h = grind arith
 
 drawn-point : (spot : GridPlace) (a : Window) (f : Drawing) (y x : ℕ) (c : Glyph) → y < a.lines → x < a.columns → f y x ≡ Some c → grid_drawing spot (within a f) (spot.line + y) (spot.column + x)
     ≡ Some c
@@ -242,13 +204,11 @@ put-takes window w a spot f y x c u v z e leads_w in_lines in_cols is same =
 -- ---- a place that no written place of the window shares keeps its cell
 
 kept-if : (t : Bool) (f : Drawing) (s : Backing) (y x : ℕ) → (t ≡ true → f y x ≡ None) → cell_of (if t then laid_over f s else s) y x ≡ cell_of s y x
-kept-if true f s y x h = kept-point true f s y x (h refl)
-kept-if false f s y x h = refl
+kept-if t f s y x h = grind (arith, kept-point)
 
 kept-grid : (w : ℕ) (a : Window) (p : GridPlace) (f : Drawing) (s : GridPlace) (o : Option Window) → ((s.grid == p.grid) ≡ true → grid_drawing p (within a f) s.line s.column ≡ None)
     → option_map_or (λ c. cell_of c.backing s.line s.column) (option_map (after_drawing w a p f s.grid) o) blank ≡ option_map_or (λ c. cell_of c.backing s.line s.column) o blank
-kept-grid w a p f s None h = refl
-kept-grid w a p f s (Some b) h = kept-if (s.grid == p.grid) (grid_drawing p (within a f)) b.backing s.line s.column h
+kept-grid w a p f s o h = grind (arith, kept-if)
 
 -- the drawing leaves out what the premise rules out
 left-out : (a : Window) (f : Drawing) (y x : ℕ) → (y < a.lines → x < a.columns → IsSome (f y x) → ⊥) → within a f y x ≡ None
@@ -260,8 +220,7 @@ left-out a f y x h = elim (cases_lt y a.lines) [
   | inr line ↦ let l = le-ltb y a.lines line in rw l refl
 ] where
   none-from : (o : Option Glyph) → (IsSome o → ⊥) → o ≡ None
-  none-from None k = refl
-  none-from (Some g) k = absurd (k refl)
+  none-from o k = grind arith
 
 module _ (window : WindowMap) (w : ℕ) (f : Drawing) (u v z : ℕ)
     (apart : (y x : ℕ) → HasPlace window w y x → IsSome (f y x) → own window w y x ≡ own window u v z → ⊥) where
@@ -287,10 +246,7 @@ module _ (window : WindowMap) (w : ℕ) (f : Drawing) (u v z : ℕ)
 
   kept-from : (o : Option Window) (leads_w leads_u : Option GridPlace) → window w ≡ o → own window w 0 0 ≡ leads_w → own window u v z ≡ leads_u
       → cell_in_grid (put_from window w o leads_w f) leads_u ≡ cell_in_grid window leads_u
-  kept-from o leads_w None e lw lu = refl
-  kept-from None leads_w (Some s) e lw lu = refl
-  kept-from (Some a) None (Some s) e lw lu = refl
-  kept-from (Some a) (Some p) (Some s) e lw lu = kept-grid w a p f s (window s.grid) (moved-left_out a p s e lw lu)
+  kept-from o leads_w leads_u e lw lu = grind (arith, kept-grid, moved-left_out)
 
   pub put-keeps : cell_at (put_windows window w f) u v z ≡ cell_at window u v z
   put-keeps = ap (cell_in_grid (put_windows window w f)) (own-put window w f u v z) ∙ kept-from (window w) (own window w 0 0) (own window u v z) refl refl refl
@@ -298,8 +254,7 @@ module _ (window : WindowMap) (w : ℕ) (f : Drawing) (u v z : ℕ)
 -- the places of a window with a grid of its own lead to the grid's
 own_within-own_grid : (limit : ℕ) → 0 < limit → (window : WindowMap) (w : ℕ) (a : Window) (cells : ℕ → ℕ → Glyph) (y x : ℕ) → window w ≡ Some a → a.backing ≡ own_grid cells
     → own_within limit window w y x ≡ Some (record { grid = w; line = y; column = x })
-own_within-own_grid zero h window w a cells y x e is = absurd (omega arith)
-own_within-own_grid (suc n) h window w a cells y x e is = rw (e, is) refl
+own_within-own_grid limit h window w a cells y x e is = grind arith
 
 pub own-own_grid : (window : WindowMap) (w : ℕ) (a : Window) (cells : ℕ → ℕ → Glyph) (y x : ℕ) → window w ≡ Some a → a.backing ≡ own_grid cells
     → own window w y x ≡ Some (record { grid = w; line = y; column = x })

@@ -1,5 +1,5 @@
 -- What an edit writes: it leaves the picture as it is at every place of the screen where its frame isn't shown.
-use Rattle.std.proofs.Common.{◌≡◌, ℕ, ◌+◌, ◌<◌, ◌≤◌, Bool, true, false, if◌then◌else◌, ◌||◌, nat_lt, Option, Some, None, List, [], ◌∷◌, IsSomeAnd, subst, ap, arith, refl, sym, ◌∙◌}
+use Rattle.std.proofs.Common.{◌≡◌, ℕ, ◌+◌, ◌<◌, ◌≤◌, Bool, true, false, if◌then◌else◌, ◌||◌, nat_lt, Option, Some, None, List, [], ◌∷◌, IsSomeAnd, ap, arith, refl, sym, ◌∙◌}
 use Rattle.std.specs.Prelude.{MatchOption, max, option_and_then, ⊤}
 use Rattle.std.specs.Option.{option_map_or}
 use Rattle.cell.specs.Pictures.{Place}
@@ -43,13 +43,11 @@ has-size a y x (Some b) is below left =
     (omega arith, omega arith)
 
 same-size : (y x : ℕ) (o p : Option Window) → outline_of o ≡ outline_of p → IsSomeAnd p (λ b. (y < b.lines) × (x < b.columns)) → IsSomeAnd o (λ b. (y < b.lines) × (x < b.columns))
-same-size y x o None is h = elim h [ ]
-same-size y x o (Some b) is h = has-size b y x o is h.0 h.1
+same-size y x o p is h = grind (arith, has-size)
 
 both-sizes : (y x v z : ℕ) (o : Option Window) → IsSomeAnd o (λ b. (y < b.lines) × (x < b.columns)) → IsSomeAnd o (λ b. (v < b.lines) × (z < b.columns))
     → IsSomeAnd o (λ b. (max y v < b.lines) × (max x z < b.columns))
-both-sizes y x v z None h k = h
-both-sizes y x v z (Some b) h k = grind arith
+both-sizes y x v z o h k = grind arith
 
 drawing-inside : (window : WindowMap) (w : ℕ) (a : Window) (f : Drawing) → outline_of (window w) ≡ Some (outline a)
     → (o : Option Rect) → IsFrameOf (Covers f a.columns a.lines) o → MatchOption o ⊤ (IsInside window w)
@@ -236,8 +234,7 @@ found-edit windows panels edit y x sound below left free = grind (arith, write, 
 -- ---- the frame lies in the window
 
 framed : (window : WindowMap) (w : ℕ) (o : Option Rect) (r : Rect) → o ≡ Some r → MatchOption o ⊤ (IsInside window w) → (r.top ≤ r.bottom) × (r.left ≤ r.right) × HasPlace window w r.bottom r.right
-framed window w None r is h = cc
-framed window w (Some s) r is h = let same : s ≡ r = cc in subst (λ (k : Rect). (k.top ≤ k.bottom) × (k.left ≤ k.right) × HasPlace window w k.bottom k.right) same (h.lines, h.columns, h.last)
+framed window w o r is h = grind arith
 
 pub inside-edit : (windows : Windows) (edit : Edit) (r : Rect) → edit_frame windows edit ≡ Some r
     → (r.top ≤ r.bottom) × (r.left ≤ r.right) × HasPlace windows.window (edit_window edit) r.bottom r.right
