@@ -69,7 +69,8 @@ pub fn paint_last_line<W: Sink>(
     requires columns { pen.old.columns ≤ LARGEST_SCREEN }
     requires shown { length shown.now ≡ pen.old.columns }
     requires wanted { length wanted.now ≡ pen.old.columns }
-    ensures strokes { result ≡ None → StrokesLine (line_bytes shown.now wanted.now) (W.seen sink.old) (W.seen sink.new) pen.old pen.new line shown.now wanted.now }
+    ensures strokes { result ≡ None
+        → StrokesLine (line_bytes shown.now wanted.now) (W.seen sink.old) (W.seen sink.new) pen.old pen.new line shown.now wanted.now }
     ensures ready { MatchOption result ⊤ (λ column. IsReadyToErase (line_bytes shown.now wanted.now + 27) (W.seen sink.old)
         (W.seen sink.new) pen.old pen.new line column shown.now wanted.now) }
     ensures columns { pen.new.columns ≡ pen.old.columns }
