@@ -1,5 +1,5 @@
 -- `run`: lemmas of std alone.
-use Rattle.std.proofs.Common.{inr, refl, rules}
+use Rattle.std.proofs.Common.{inr, refl, rules, sym}
 use Rattle.curspan.proofs.serve.run.Goals as goal
 
 pub returns-clause-ran : goal.returns-clause-ran
@@ -14,6 +14,6 @@ returns-clause-ran g c =
         over = rw c.with_writer-screen.ensures refl;
         runs = c.run_and_log-end.ensures.ran;
       };
-      output = search rules;
+      output = rw (sym c.into_writer.ensures) (search rules);
       status_is = c.status_of.ensures.status;
     })
