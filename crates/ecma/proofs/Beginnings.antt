@@ -20,13 +20,7 @@ escape-first byte q following h e = elim (shape-of q h) [
 ]
 
 pub NoEffect-text : (byte : ℕ) (t : Terminal) → (byte ≡ 27 → ⊥) → (IsTrue (is_printable byte) → print byte t ≡ None) → NoEffect (byte ∷ []) t
-NoEffect-text byte t other prints = record { each = none } where
-  none : (item : Item) (following : List ℕ) → byte ∷ [] ≡ bytes_of item ++ following → IsItem item → MayPrecede item following → effect item t ≡ None
-  none (Printable c) following e is p =
-      let same : byte ≡ c = cc in
-      subst (λ (b : ℕ). print b t ≡ None) same (prints (subst (λ (b : ℕ). IsTrue (is_printable b)) (sym same) is))
-  none (Control function parameters) following e is p = absurd (let same : byte ≡ 27 = cc in other same)
-  none (Unfinished q) following e is p = absurd (other (escape-first byte q following is e))
+NoEffect-text byte t other prints = grind (arith, escape-first)
 
 -- ---- after an escape
 
@@ -83,10 +77,7 @@ module _ (ps : List (List ℕ)) (byte : ℕ) (t : Terminal) (h : AreParameters p
 
   none-begun : (inner following : List ℕ) → AllByRecursion IsInner inner → EndsOrEscapes following → IsBeginning (27 ∷ 91 ∷ inner) → join_with_byte 59 ps ++ byte ∷ [] ≡ inner ++ following
       → (IsInner byte → IsBeginning (27 ∷ 91 ∷ (join_with_byte 59 ps ++ byte ∷ [])) → ⊥) → ⊥
-  none-begun inner [] each there begins e goes_on =
-      let same : inner ≡ join_with_byte 59 ps ++ byte ∷ [] = sym (e ∙ append-nil inner) in
-      let last = All-back (join_with_byte 59 ps) (byte ∷ []) (subst (λ (bytes : List ℕ). AllByRecursion IsInner bytes) same each) in
-      goes_on last.0 (subst (λ (bytes : List ℕ). IsBeginning (27 ∷ 91 ∷ bytes)) same begins)
+  none-begun inner [] each there begins e goes_on = grind (arith, append-nil, All-back)
   none-begun inner (x ∷ following) each there begins e goes_on = elim (is_inner byte) [
     | inl here ↦
         let last = All-back inner (x ∷ following) (subst (λ (bytes : List ℕ). AllByRecursion IsInner bytes) e (all-inner here)) in

@@ -40,9 +40,7 @@ within-after ends x from after = rw (le-leb ends.0 x from, le-ltb x ends.1 after
 
 erased-cell : (how : Erase) (column x : ℕ) (row : List Shown) → column < length row → x < length row
     → (if is_within (span how column (length row)) x then shown_blank else get_or row x shown_blank) ≡ get_or (erased_line how column row) x shown_blank
-erased-cell ToEnd column x row h k = grind (arith, length-take, within-before, get_or_append_left, get_or-take, within-true, get_or-append_right, length-take-le, blank_line-cell)
-erased-cell FromStart column x row h k = grind (arith, length-map, length-take-le, within-true, get_or_append_left, blank_line-cell, within-after, get_or-append_right, get_or-drop)
-erased-cell All column x row h k = rw (within-true (0, length row) x (omega arith) k) (sym (blank_line-cell row x))
+erased-cell how column x row h k = grind (arith, length-take, within-before, get_or_append_left, get_or-take, within-true, get_or-append_right, length-take-le, blank_line-cell, length-map, within-after, get_or-drop)
 
 pub filled-is : (how : Erase) (line column lines columns : ℕ) (old new : Picture) → HasSize lines columns old → HasSize lines columns new → line < lines → column < columns
     → ((v u : ℕ) → cell_or shown_blank new (v, u) ≡ (if (v == line) && is_within (span how column columns) u then shown_blank else cell_or shown_blank old (v, u)))

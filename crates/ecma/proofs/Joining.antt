@@ -26,18 +26,13 @@ effects-then prefix back t u v e f = rw (effects-append prefix back t, e) f
 
 -- more bytes may follow
 pub EndsOrEscapes-append : (bytes more : List ℕ) → EndsOrEscapes bytes → EndsOrEscapes more → EndsOrEscapes (bytes ++ more)
-EndsOrEscapes-append [] more here there = there
-EndsOrEscapes-append (byte ∷ bytes) more here there = here
+EndsOrEscapes-append bytes more here there = grind arith
 
 MayPrecede-escape : (item : Item) (bytes more : List ℕ) → MayPrecede item bytes → EndsOrEscapes more → MayPrecede item (bytes ++ more)
-MayPrecede-escape (Printable byte) bytes more here there = tt
-MayPrecede-escape (Control function parameters) bytes more here there = tt
-MayPrecede-escape (Unfinished begun) bytes more here there = EndsOrEscapes-append bytes more here there
+MayPrecede-escape item bytes more here there = grind (arith, EndsOrEscapes-append)
 
 pub MayPrecede-finished : (item : Item) (bytes : List ℕ) → IsFinished item → MayPrecede item bytes
-MayPrecede-finished (Printable byte) bytes h = tt
-MayPrecede-finished (Control function parameters) bytes h = tt
-MayPrecede-finished (Unfinished begun) bytes h = absurd h
+MayPrecede-finished item bytes h = grind arith
 
 -- an escape, or nothing, may follow any items
 pub Splits-then_escape : (bytes : List ℕ) (items : List Item) (rest more : List ℕ) → Splits bytes items rest → EndsOrEscapes more → Splits (bytes ++ more) items (rest ++ more)
@@ -77,13 +72,10 @@ Splits_some : (bytes : List ℕ) (item : Item) (items : List Item) (rest : List 
 Splits_some bytes item items rest h = rw h.1 (omega (arith, bytes_of_some item h.2, length-append (bytes_of item) h.0))
 
 EndsOrEscapes-then : (bytes more : List ℕ) → 0 < length bytes → EndsOrEscapes bytes → EndsOrEscapes (bytes ++ more)
-EndsOrEscapes-then [] more some h = absurd (omega arith)
-EndsOrEscapes-then (byte ∷ bytes) more some h = h
+EndsOrEscapes-then bytes more some h = grind arith
 
 MayPrecede-then : (item : Item) (bytes more : List ℕ) → 0 < length bytes → MayPrecede item bytes → MayPrecede item (bytes ++ more)
-MayPrecede-then (Printable byte) bytes more some h = tt
-MayPrecede-then (Control function parameters) bytes more some h = tt
-MayPrecede-then (Unfinished begun) bytes more some h = EndsOrEscapes-then bytes more some h
+MayPrecede-then item bytes more some h = grind (arith, EndsOrEscapes-then)
 
 pub Splits-ends_then : (bytes : List ℕ) (items : List Item) (more : List ℕ) → Splits bytes items [] → EndsFinished items → Splits (bytes ++ more) items more
 Splits-ends_then bytes [] more h ends = ap (λ (prefix : List ℕ). prefix ++ more) h

@@ -8,7 +8,7 @@ use Rattle.cell.specs.Shown.{Rendition, IsColour, IsRendition, has_colour}
 use Rattle.cell.specs.declared.limits.TheConstants.{LARGEST_SCREEN, LAST_COLOUR}
 use Rattle.ecma.specs.declared.token.Erase.{Erase}
 use Rattle.ecma.specs.declared.token.Token.{Token}
-use Rattle.ecma.specs.declared.token.Token.TheVariants.{Print, Cup, Sgr, El, Ed}
+use Rattle.ecma.specs.declared.token.Token.TheVariants.{Cup, Sgr}
 use Rattle.ecma.specs.Terminals.{first_foreground, first_background}
 use Rattle.ecma.specs.Spelling.{spelling, selection, codes_of, codes_of_attributes, code_of_colour, erasure_spelling, longest, IsToken}
 use Rattle.ecma.proofs.Numbers.{one_digit, few_attributes}
@@ -69,8 +69,4 @@ length-erasing how = grind arith
 
 pub length-spelling : (token : Token) → IsToken token → length (spelling token) ≤ longest token
 unfolding spelling
-length-spelling (Print byte) h = omega arith
-length-spelling (Cup line column) h = length-cup line column h.0 h.1
-length-spelling (Sgr rendition) h = length-sgr rendition h
-length-spelling (El how) h = omega (arith, length-erasing how, length-append (erasure_spelling how) (75 ∷ []))
-length-spelling (Ed how) h = omega (arith, length-erasing how, length-append (erasure_spelling how) (74 ∷ []))
+length-spelling token h = grind (arith, length-cup, length-sgr, length-erasing, length-append)

@@ -1,5 +1,5 @@
 -- Numbers in parameters, and the codes of a set of attributes.
-use Rattle.std.proofs.Common.{◌≡◌, ℕ, ◌+◌, ◌^◌, ◌<◌, ◌≤◌, Bool, true, List, [], ◌∷◌, ◌++◌, length, length-append, Option, Some, None, refl, ap, ◌∙◌, arith, rules}
+use Rattle.std.proofs.Common.{◌≡◌, ℕ, ◌+◌, ◌^◌, ◌<◌, ◌≤◌, Bool, true, List, [], ◌∷◌, ◌++◌, length, length-append, Option, Some, None, refl, ◌∙◌, arith, rules}
 use Rattle.std.specs.Prelude.{unwrap_or, is_none, ◌&&◌, ◌==◌, nat_lt, decimal}
 use Rattle.std.specs.List.{list_all, AllByRecursion}
 use Rattle.std.specs.Str.Parse.{digits_value}
@@ -61,8 +61,7 @@ only_from rendition bits h = grind (arith, and_parts, eqb-true, none_from_is_non
 
 some_from_selected : (o : Option Rendition) (bits : ℕ) → bits < 64 → unwrap_or o unknown ≡ only bits → o ≡ Some (only bits)
 unfolding unknown
-some_from_selected None bits small e = absurd (let same : 0x40 ≡ bits = ap (λ (r : Rendition). r.attributes) e in omega arith)
-some_from_selected (Some rendition) bits small e = ap Some e
+some_from_selected o bits small e = grind arith
 
 pub select_all-attributes : (bits : ℕ) → bits < 64 → select_all (codes_of_attributes bits) no_rendition ≡ Some (only bits)
 unfolding selected
@@ -129,11 +128,7 @@ wider [] h = tt
 wider (code ∷ codes) h = (omega (arith, h.0), wider codes h.1)
 
 pub codes_small : (rendition : Rendition) → IsRendition rendition → AllByRecursion (λ code. code < 100) (codes_of rendition)
-codes_small rendition h =
-    each-append _ (codes_of_attributes rendition.attributes ++ code_of_colour first_foreground rendition.foreground) _
-    (each-append _ (codes_of_attributes rendition.attributes) _ (wider _ (one_digit rendition.attributes h.of_the_six))
-    (small-colour first_foreground rendition.foreground (omega arith) h.foreground))
-    (small-colour first_background rendition.background (omega arith) h.background)
+codes_small rendition h = search (rules, each-append, wider, one_digit, small-colour)
 
 length-colour : (first : ℕ) (colour : Option ℕ) → length (code_of_colour first colour) ≤ 1
 length-colour first colour = grind arith

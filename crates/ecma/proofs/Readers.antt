@@ -10,7 +10,7 @@ use Rattle.std.proofs.lemmas.Str.{digit_value_digit}
 use Rattle.cell.specs.Glyphs.{is_printable}
 use Rattle.ecma.specs.declared.terminal.State.{State}
 use Rattle.ecma.specs.declared.terminal.State.TheVariants.{Text, Escape, Parameters, Failed}
-use Rattle.ecma.specs.Items.{Function, CUP, ED, EL, SGR, Printable, Control, Unfinished, IsDigit, AreParameters, IsBeginning, EndsOrEscapes, final_byte, control_sequence, escape, introducer}
+use Rattle.ecma.specs.Items.{Function, SGR, Printable, Control, Unfinished, IsDigit, AreParameters, IsBeginning, EndsOrEscapes, final_byte, control_sequence, escape, introducer}
 use Rattle.ecma.specs.Items.{separator}
 use Rattle.ecma.specs.Terminals.{Terminal, print, effect}
 use Rattle.ecma.specs.Streams.{FailsAt, IsInProfile, Leads, LeadsWithBreaks}
@@ -92,25 +92,7 @@ function_of-byte : (function : Function) → function_of (final_byte function) �
 function_of-byte function = grind arith
 
 byte-of_function : (byte : ℕ) (function : Function) → function_of byte ≡ Some function → byte ≡ final_byte function
-byte-of_function byte function e = elim (cases_eq byte 72) [
-  | inl cup ↦ same-byte byte CUP function cup e
-  | inr no_cup ↦ elim (cases_eq byte 74) [
-    | inl ed ↦ same-byte byte ED function ed e
-    | inr no_ed ↦ elim (cases_eq byte 75) [
-      | inl el ↦ same-byte byte EL function el e
-      | inr no_el ↦ elim (cases_eq byte 109) [
-        | inl sgr ↦ same-byte byte SGR function sgr e
-        | inr no_sgr ↦
-            let none : function_of byte ≡ None = rw (ne_eqb byte 72 no_cup, ne_eqb byte 74 no_ed, ne_eqb byte 75 no_el, ne_eqb byte 109 no_sgr) refl in
-            let never : ◌≡◌ {A = Option Function} None (Some function) = sym none ∙ e in absurd cc
-      ]
-    ]
-  ]
-] where
-  same-byte : (byte : ℕ) (known function : Function) → byte ≡ final_byte known → function_of byte ≡ Some function → byte ≡ final_byte function
-  same-byte byte known function is e =
-      let both : ◌≡◌ {A = Option Function} (Some known) (Some function) = sym (function_of-byte known) ∙ ap function_of (sym is) ∙ e in
-      let same : known ≡ function = cc in is ∙ ap final_byte same
+byte-of_function byte function e = grind (arith, cases_eq, ne_eqb, function_of-byte)
 
 -- ---- readers
 
@@ -340,12 +322,7 @@ abbrev Fate : List ℕ → Terminal → Reader → Type 0
 Fate stream first reader = IsInProfile stream first reader.terminal ⊎ HasFailed stream first reader.terminal reader.start
 
 fate : (stream : List ℕ) (first : Terminal) (reader : Reader) → HasReadIn reader.state stream first reader → Fate stream first reader
-fate stream first reader h = by_state reader.state refl where
-  by_state : (state : State) → reader.state ≡ state → Fate stream first reader
-  by_state Text is = inl (reader-in_profile stream first reader (λ failed. let never : Text ≡ Failed = sym is ∙ failed in absurd cc) h)
-  by_state Escape is = inl (reader-in_profile stream first reader (λ failed. let never : Escape ≡ Failed = sym is ∙ failed in absurd cc) h)
-  by_state Parameters is = inl (reader-in_profile stream first reader (λ failed. let never : Parameters ≡ Failed = sym is ∙ failed in absurd cc) h)
-  by_state Failed is = inr (reader-failed stream first reader is h)
+fate stream first reader h = grind (arith, reader-in_profile, reader-failed)
 
 pub one-terminal_shown : (stream : List ℕ) (first : Terminal) (one other : Reader) → HasReadIn one.state stream first one → HasReadIn other.state stream first other → one.terminal ≡ other.terminal
 one-terminal_shown stream first one other h k = elim (fate stream first one h) [

@@ -70,26 +70,14 @@ split (x ∷ a) b (y ∷ c) d e h =
     record { between = rest.between; long = cc; after = rest.after }
 
 MayPrecede-prefix : (item : Item) (bytes more : List ℕ) → MayPrecede item (bytes ++ more) → MayPrecede item bytes
-MayPrecede-prefix (Printable byte) bytes more h = tt
-MayPrecede-prefix (Control function parameters) bytes more h = tt
-MayPrecede-prefix (Unfinished begun) [] more h = tt
-MayPrecede-prefix (Unfinished begun) (byte ∷ bytes) more h = h
+MayPrecede-prefix item bytes more h = grind arith
 
 -- what is shorter than an item is one itself
 beginning-of : (rest missing : List ℕ) (item : Item) → 0 < length rest → 0 < length missing → IsItem item → rest ++ missing ≡ bytes_of item → IsBeginning rest
 beginning-of rest missing (Printable byte) some more h e =
     let long : length (rest ++ missing) ≡ 1 = ap length e in absurd (omega (arith, length-append rest missing))
-beginning-of rest missing (Control function parameters) some more h e =
-    record { begun = some; function = function; parameters = parameters; missing = missing; well_formed = h; not_finished = more; goes_on = e }
-beginning-of rest missing (Unfinished begun) some more h e = record {
-  begun = some;
-  function = h.function;
-  parameters = h.parameters;
-  missing = missing ++ h.missing;
-  well_formed = h.well_formed;
-  not_finished = omega (arith, length-append missing h.missing);
-  goes_on = sym (append_assoc rest missing h.missing) ∙ ap (λ (prefix : List ℕ). prefix ++ h.missing) e ∙ h.goes_on;
-}
+beginning-of rest missing (Control function parameters) some more h e = grind arith
+beginning-of rest missing (Unfinished begun) some more h e = grind (arith, length-append, append_assoc)
 
 NoEffect-append : (rest more : List ℕ) (t : Terminal) → 0 < length rest → NoEffect rest t → NoEffect (rest ++ more) t
 NoEffect-append rest more t some none = record {
