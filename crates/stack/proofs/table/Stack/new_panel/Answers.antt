@@ -10,16 +10,10 @@ use Rattle.stack.proofs.Tables.{made-panels, made-table, sound}
 use Rattle.stack.proofs.table.Stack.new_panel.Goals as goal
 
 pub enter-requires-clause-window : goal.enter-requires-clause-window
-enter-requires-clause-window c = none-has c.self.inside.nodes c.self.invariant c.args.win.0 (grind (arith, c.holder.ensures.some))
+enter-requires-clause-window c = grind (arith, none-has)
 
 pub invariant_of-self-2 : goal.invariant_of-self-2
-invariant_of-self-2 c =
-    let old = c.self.inside.nodes in
-    let number = c.in_ok-number.number in
-    let w = c.args.win.0 in
-    let free : IsFree old number = search rules in
-    let none = none-has old c.self.invariant w (grind (arith, c.holder.ensures.some)) in
-    made-table old c.enter.new.nodes c.put_on_top.new.nodes number w c.self.invariant free c.in_ok-enter.ensures.entered c.put_on_top.ensures none
+invariant_of-self-2 c = search (rules, none-has, made-table)
 
 pub returns : goal.returns
 returns c =

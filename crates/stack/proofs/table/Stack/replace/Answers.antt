@@ -7,7 +7,7 @@ use Rattle.stack.proofs.Tables.{replaced-panels, replaced-table, sound}
 use Rattle.stack.proofs.table.Stack.replace.Goals as goal
 
 pub set_window-requires-clause-free : goal.set_window-requires-clause-free
-set_window-requires-clause-free c = none-has c.self.inside.nodes c.self.invariant c.args.win.0 (grind (arith, c.holder.ensures.some))
+set_window-requires-clause-free c = grind (arith, none-has)
 
 pub invariant_of-self : goal.invariant_of-self
 invariant_of-self c =
