@@ -98,7 +98,7 @@ module _ (old new : List Node) (numbers numbers' holders middle holders' : List 
 
       pub indexed-windowed : length middle ≡ length holders → length holders' ≡ length middle
           → ((q : ℕ) → contains numbers' q ≡ (if q == p then is_some o else contains numbers q)) → IsIndexed new numbers' holders'
-      indexed-windowed first second taken = grind (arith, is_some, taken-given, panel-windowed, window-windowed)
+      indexed-windowed first second taken = grind (arith, taken-given, panel-windowed, window-windowed)
 
 -- as the code has the window
 pub free-window : (nodes : List Node) (win : Option WinId) → MatchOption win (Unit {0}) (λ u. (q : ℕ) → window_at nodes q ≡ Some u.0 → ⊥) → (q w : ℕ) → option_map (λ (u : WinId). u.0) win ≡ Some w

@@ -100,7 +100,7 @@ module _ (nodes : List Node) (h : IsPanelTable nodes) (w : ℕ) where
   -- as the code finds it, where 0 is none
   module _ (p : ℕ) (window : 0 < p → window_at nodes p ≡ Some w) (only : (q : ℕ) → window_at nodes q ≡ Some w → p ≡ q) where
     pub holder-some : (r : Option PanelId) → panel_number r ≡ (if p == 0 then None else Some p) → is_some r ≡ is_in_panel (panels (table_of nodes)) w
-    holder-some r is = grind (arith, cases_eq, eq-eqb, some-number, is_some, in-no-panel, is-panel, ne_eqb, in-panel)
+    holder-some r is = grind (arith, cases_eq, eq-eqb, some-number, in-no-panel, is-panel, ne_eqb, in-panel)
 
     pub holder-panel : (r : Option PanelId) → panel_number r ≡ (if p == 0 then None else Some p) → IfSome r (λ q. window_at nodes q.0 ≡ Some w)
     holder-panel r is = grind (arith, cases_eq, eq-eqb, ne_eqb, same_Some)

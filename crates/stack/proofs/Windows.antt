@@ -21,7 +21,7 @@ window-is (node ∷ nodes) (suc p) = window-is nodes p
 -- panels with this order and these windows
 pub panels-are : (nodes : List Node) (visible : List ℕ) (window : ℕ → Option ℕ) → from_bottom nodes ≡ visible → ((p : ℕ) → window_at nodes p ≡ window p)
     → panels (table_of nodes) ≡ record { visible = visible; window = window }
-panels-are nodes visible window e f = grind (arith, slice_index_or, window-is)
+panels-are nodes visible window e f = grind (arith, window-is)
 
 -- ---- one window changes
 
