@@ -1,4 +1,5 @@
 -- What a reader has after one more byte.
+use Rattle.std.proofs.Common.{rules}
 use Rattle.std.proofs.Common.{◌≡◌, ℕ, ◌+◌, ◌<◌, ◌≤◌, Bool, true, false, List, [], ◌∷◌, ◌++◌, length, map, Option, Some, None, inl, inr, refl, sym, ap, ◌∙◌, subst, arith, append_assoc, length-append}
 use Rattle.std.specs.Prelude.{◌⊎◌, if◌then◌else◌, IsTrue, codes}
 use Rattle.std.specs.List.{AllByRecursion, join_with_byte}
@@ -143,11 +144,7 @@ module _ (t : Terminal) (ended : List Parameter) (current : Parameter) (at start
 
   pub unprinted-follows : (byte : ℕ) → (byte ≡ 27 → ⊥) → (IsTrue (is_printable byte) → print byte t ≡ None)
       → Follows (byte ∷ []) (reader_of t Text ended current at start) (reader_of t Failed ended current (saturating_u64 (at + 1)) at)
-  unprinted-follows byte other none stream first h = record {
-    offset = length stream;
-    fails = FailsAt-leads stream byte first t h.leads (NoEffect-text byte t other none);
-    at_is = h.read;
-  }
+  unprinted-follows byte other none stream first h = search (rules, FailsAt-leads, NoEffect-text)
 
   -- ---- after an escape
 
@@ -166,8 +163,7 @@ module _ (t : Terminal) (ended : List Parameter) (current : Parameter) (at start
 
   pub other-follows : (byte : ℕ) → (byte ≡ 27 → ⊥) → (byte ≡ 91 → ⊥)
       → Follows (byte ∷ []) (reader_of t Escape ended current at start) (reader_of t Failed ended current (saturating_u64 (at + 1)) start)
-  other-follows byte other no_bracket stream first h =
-      fails-there stream first t Escape ended current at start byte (escape ∷ []) h refl (NoEffect-escape byte t other no_bracket)
+  other-follows byte other no_bracket stream first h = search (rules, fails-there, NoEffect-escape)
 
   -- ---- within parameters
 
@@ -193,9 +189,7 @@ module _ (t : Terminal) (ended : List Parameter) (current : Parameter) (at start
       → (IsBeginning (27 ∷ 91 ∷ (join_with_byte 59 (h.ended ++ h.current ∷ []) ++ byte ∷ [])) → ⊥)
       → ((function : Function) → byte ≡ final_byte function → effect (Control function (h.ended ++ h.current ∷ [])) t ≡ None)
       → HasFailed (stream ++ byte ∷ []) first t start
-  fails-here stream first byte h other stops ends =
-      fails-there stream first t Parameters ended current at start byte (introducer ++ join_with_byte separator (h.ended ++ h.current ∷ [])) h.in_item refl
-      (NoEffect-parameters (h.ended ++ h.current ∷ []) byte t h.well_formed other (λ inner. stops) ends)
+  fails-here stream first byte h other stops ends = search (rules, fails-there, NoEffect-parameters)
 
   pub full-follows : (byte : ℕ) → IsDigit byte → 3 ≤ current.digits
       → Follows (byte ∷ []) (reader_of t Parameters ended current at start) (reader_of t Failed ended current (saturating_u64 (at + 1)) start)
