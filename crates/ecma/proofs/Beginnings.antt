@@ -6,10 +6,10 @@ use Rattle.std.proofs.lemmas.List.{append-nil}
 use Rattle.cell.specs.Glyphs.{is_printable}
 use Rattle.ecma.specs.Items.{Function, Item, Printable, Control, Unfinished, IsDigit, AreParameters, IsBeginning, IsItem, MayPrecede, EndsOrEscapes, bytes_of, final_byte, introducer}
 use Rattle.ecma.specs.Terminals.{Terminal, print, effect}
-use Rattle.ecma.proofs.Numbers.{each-append}
+use Rattle.ecma.proofs.Each.{each-append, each-back, each-prefix}
 use Rattle.ecma.proofs.Printing.{from_space}
 use Rattle.ecma.proofs.Stopping.{NoEffect}
-use Rattle.ecma.proofs.Unique.{IsInner, Stops, cut, All-append, All-prefix, joined-inner, final-stops, not-digit, not-escape, shape-of, same-parameters}
+use Rattle.ecma.proofs.Unique.{IsInner, Stops, cut, joined-each, joined-inner, final-stops, not-digit, not-escape, shape-of, same-parameters}
 
 -- ---- in text
 
@@ -44,10 +44,6 @@ NoEffect-escape byte t other no_bracket = record { each = none } where
 is_inner : (byte : ℕ) → IsInner byte ⊎ (IsInner byte → ⊥)
 is_inner byte = grind arith
 
-All-back : (a b : List ℕ) → AllByRecursion IsInner (a ++ b) → AllByRecursion IsInner b
-All-back [] b h = h
-All-back (x ∷ a) b h = All-back a b h.1
-
 same-joined : (ps qs : List (List ℕ)) → AreParameters ps → AreParameters qs → join_with_byte 59 ps ≡ join_with_byte 59 qs → ps ≡ qs
 same-joined [] qs h k e = absurd (omega (arith, h.one))
 same-joined (a ∷ ps) [] h k e = absurd (omega (arith, k.one))
@@ -55,7 +51,7 @@ same-joined (a ∷ ps) (b ∷ qs) h k e = same-parameters a ps b qs h.digits k.d
 
 module _ (ps : List (List ℕ)) (byte : ℕ) (t : Terminal) (h : AreParameters ps) (other : byte ≡ 27 → ⊥) where
   all-inner : IsInner byte → AllByRecursion IsInner (join_with_byte 59 ps ++ byte ∷ [])
-  all-inner inner = All-append (join_with_byte 59 ps) (byte ∷ []) (joined-inner ps h.digits) (inner, tt)
+  all-inner inner = each-append IsInner (join_with_byte 59 ps) (byte ∷ []) (joined-inner ps h.digits) (inner, tt)
 
   -- no control sequence ends before the byte, and one that ends with it has these parameters
   none-control : (function : Function) (qs : List (List ℕ)) (following : List ℕ) → AreParameters qs
@@ -64,7 +60,7 @@ module _ (ps : List (List ℕ)) (byte : ℕ) (t : Terminal) (h : AreParameters p
   none-control function qs following k e none = elim (is_inner byte) [
     | inl inner ↦
         let all : AllByRecursion IsInner ((join_with_byte 59 qs ++ final_byte function ∷ []) ++ following) = subst (λ (bytes : List ℕ). AllByRecursion IsInner bytes) e (all-inner inner) in
-        let last = All-back (join_with_byte 59 qs) (final_byte function ∷ []) (All-prefix (join_with_byte 59 qs ++ final_byte function ∷ []) following all) in
+        let last = each-back IsInner (join_with_byte 59 qs) (final_byte function ∷ []) (each-prefix IsInner (join_with_byte 59 qs ++ final_byte function ∷ []) following all) in
         absurd (final-stops function [] last.0)
     | inr stops ↦
         let both = cut IsInner (join_with_byte 59 ps) (join_with_byte 59 qs) (byte ∷ []) (final_byte function ∷ following) (joined-inner ps h.digits) (joined-inner qs k.digits) stops
@@ -77,10 +73,10 @@ module _ (ps : List (List ℕ)) (byte : ℕ) (t : Terminal) (h : AreParameters p
 
   none-begun : (inner following : List ℕ) → AllByRecursion IsInner inner → EndsOrEscapes following → IsBeginning (27 ∷ 91 ∷ inner) → join_with_byte 59 ps ++ byte ∷ [] ≡ inner ++ following
       → (IsInner byte → IsBeginning (27 ∷ 91 ∷ (join_with_byte 59 ps ++ byte ∷ [])) → ⊥) → ⊥
-  none-begun inner [] each there begins e goes_on = grind (arith, append-nil, All-back)
+  none-begun inner [] each there begins e goes_on = grind (arith, append-nil, (each-back IsInner (join_with_byte 59 ps) (byte ∷ [])))
   none-begun inner (x ∷ following) each there begins e goes_on = elim (is_inner byte) [
     | inl here ↦
-        let last = All-back inner (x ∷ following) (subst (λ (bytes : List ℕ). AllByRecursion IsInner bytes) e (all-inner here)) in
+        let last = each-back IsInner inner (x ∷ following) (subst (λ (bytes : List ℕ). AllByRecursion IsInner bytes) e (all-inner here)) in
         omega (arith, last.0.0)
     | inr stops ↦
         let both = cut IsInner (join_with_byte 59 ps) inner (byte ∷ []) (x ∷ following) (joined-inner ps h.digits) each stops (λ last. omega (arith, last.0)) e in
@@ -208,14 +204,8 @@ final-no_colon function e = grind arith
 abbrev NoColon : List ℕ → Type 0
 NoColon bytes = AllByRecursion (λ byte. byte ≡ 58 → ⊥) bytes
 
-digits-no_colon : (digits : List ℕ) → AllByRecursion IsDigit digits → NoColon digits
-digits-no_colon [] h = tt
-digits-no_colon (digit ∷ digits) h = ((λ e. omega (arith, h.0.1)), digits-no_colon digits h.1)
-
 joined-no_colon : (parameters : List (List ℕ)) → AreDigits parameters → NoColon (join_with_byte 59 parameters)
-joined-no_colon [] h = tt
-joined-no_colon (digits ∷ []) h = digits-no_colon digits h.0
-joined-no_colon (digits ∷ next ∷ parameters) h = grind (arith, each-append, digits-no_colon, (joined-no_colon (next ∷ parameters) h.1))
+joined-no_colon = joined-each (λ byte. byte ≡ 58 → ⊥) (λ e. omega (arith, e)) (λ digit h e. omega (arith, h.1, e))
 
 no-colon_after : (prefix missing : List ℕ) → NoColon (prefix ++ 58 ∷ missing) → ⊥
 no-colon_after [] missing h = h.0 refl

@@ -4,6 +4,7 @@ use Rattle.std.proofs.lemmas.List.{append-nil, take-append-drop, take-append-le,
 use Rattle.std.proofs.Math.Seq.{take-append-add}
 use Rattle.std.specs.List.{AllByRecursion}
 use Rattle.std.specs.Option.{option_and_then}
+use Rattle.ecma.proofs.Each.{each-append}
 use Rattle.ecma.specs.Items.{Item, Printable, Control, Unfinished, IsItem, IsFinished, bytes_of, MayPrecede, EndsOrEscapes, Splits}
 use Rattle.ecma.specs.Terminals.{Terminal, effect, effects}
 use Rattle.ecma.specs.Streams.{Leads, LeadsWithBreaks, EndsFinished, IsInProfile, Reaches}
@@ -49,17 +50,13 @@ pub Splits-append : (bytes : List ℕ) (items : List Item) (middle : List ℕ) (
 Splits-append bytes [] middle others rest h k = rw h k
 Splits-append bytes (item ∷ items) middle others rest h k = (h.0, h.1, h.2, h.3, Splits-append h.0 items middle others rest h.4 k)
 
-AllFinished-append : (items others : List Item) → AllByRecursion IsFinished items → AllByRecursion IsFinished others → AllByRecursion IsFinished (items ++ others)
-AllFinished-append [] others h k = k
-AllFinished-append (item ∷ items) others h k = (h.0, AllFinished-append items others h.1 k)
-
 -- ---- the law
 
 pub Leads-append : (stream more : List ℕ) (t u v : Terminal) → Leads stream t u → Leads more u v → Leads (stream ++ more) t v
 Leads-append stream more t u v h k = record {
   items = h.items ++ k.items;
   splits = Splits-append (stream ++ more) h.items more k.items [] (Splits-then stream h.items [] more h.splits h.finished) k.splits;
-  finished = AllFinished-append h.items k.items h.finished k.finished;
+  finished = each-append IsFinished h.items k.items h.finished k.finished;
   have_effect = effects-then h.items k.items t u v h.have_effect k.have_effect;
 }
 

@@ -13,6 +13,7 @@ use Rattle.cell.specs.declared.limits.TheConstants.{LAST_COLOUR}
 use Rattle.ecma.specs.Items.{IsDigit}
 use Rattle.ecma.specs.Terminals.{first_foreground, first_background, number_or, select, select_all}
 use Rattle.ecma.specs.Spelling.{codes_of_attributes, code_of_colour, codes_of}
+use Rattle.ecma.proofs.Each.{each-append, each-weaker}
 
 numerals : IsNumeralModel (AllByRecursion IsDigit) (digits_value 10)
 numerals = numerals_by_value (AllByRecursion IsDigit) (search rules)
@@ -116,19 +117,14 @@ select_all-append (code ∷ codes) more rendition = then_append codes more (sele
 pub select_all-codes_of : (rendition : Rendition) → IsRendition rendition → select_all (codes_of rendition) no_rendition ≡ Some rendition
 select_all-codes_of rendition h = grind (arith, select_all-append, select_all-attributes, foreground-selected, background-selected)
 
-pub each-append : (P : ℕ → Type 0) (a b : List ℕ) → AllByRecursion P a → AllByRecursion P b → AllByRecursion P (a ++ b)
-each-append P [] b h k = k
-each-append P (x ∷ a) b h k = (h.0, each-append P a b h.1 k)
-
 small-colour : (first : ℕ) (colour : Option ℕ) → first ≤ 40 → IsColour colour → AllByRecursion (λ code. code < 100) (code_of_colour first colour)
 small-colour first colour few h = grind arith
 
-wider : (codes : List ℕ) → AllByRecursion (λ code. code < 10) codes → AllByRecursion (λ code. code < 100) codes
-wider [] h = tt
-wider (code ∷ codes) h = (omega (arith, h.0), wider codes h.1)
-
 pub codes_small : (rendition : Rendition) → IsRendition rendition → AllByRecursion (λ code. code < 100) (codes_of rendition)
-codes_small rendition h = search (rules, each-append, wider, one_digit, small-colour)
+codes_small rendition h =
+    let small : AllByRecursion (λ code. code < 100) (codes_of_attributes rendition.attributes) =
+    each-weaker (λ code. code < 10) (λ code. code < 100) (λ code h. omega (arith, h)) (codes_of_attributes rendition.attributes) (one_digit rendition.attributes h.of_the_six) in
+    search (rules, each-append, small-colour)
 
 length-colour : (first : ℕ) (colour : Option ℕ) → length (code_of_colour first colour) ≤ 1
 length-colour first colour = grind arith

@@ -2,7 +2,7 @@
 use Rattle.std.proofs.Common.{rules}
 use Rattle.std.proofs.Common.{◌≡◌, ℕ, ◌+◌, ◌<◌, ◌≤◌, Bool, true, false, List, [], ◌∷◌, ◌++◌, length, map, Option, Some, None, inl, inr, refl, sym, ap, ◌∙◌, subst, arith, append_assoc, length-append}
 use Rattle.std.specs.Prelude.{◌⊎◌, if◌then◌else◌, IsTrue, codes}
-use Rattle.std.specs.List.{AllByRecursion, join_with_byte}
+use Rattle.std.specs.List.{join_with_byte}
 use Rattle.std.specs.Option.{option_and_then}
 use Rattle.std.proofs.lemmas.Bool.{cases_eq, cases_lt, ne_eqb}
 use Rattle.std.proofs.lemmas.List.{append-nil, length-map, map_push}
@@ -18,6 +18,7 @@ use Rattle.ecma.specs.Streams.{FailsAt, IsInProfile, Leads, LeadsWithBreaks}
 use Rattle.ecma.specs.Parameters.{Parameter, parameter_of}
 use Rattle.ecma.specs.steps.Parameters.{no_digits, longer, function_of}
 use Rattle.ecma.specs.Readers.{Reader, saturating_u64, InText, InItem, InParameters, HasFailed, HasReadIn, Follows}
+use Rattle.ecma.proofs.Each.{each-append, each-back, each-prefix}
 use Rattle.ecma.proofs.Beginnings.{NoEffect-text, NoEffect-escape, NoEffect-parameters, join-more, no-more_digits, no-more_parameters, no-colon, final-no_digit, final-no_separator}
 use Rattle.ecma.proofs.Joining.{InProfile-append, LeadsWithBreaks-append, LeadsWithBreaks-in_profile, Leads-repairs, Reaches-in_profile}
 use Rattle.ecma.proofs.Failing.{FailsAt-outside, FailsAt-terminal, Reaches-unique}
@@ -58,23 +59,11 @@ in_item-in_profile stream first reader unfinished h begins there = grind (arith,
 
 -- ---- parameters one after another
 
-each-push : {A : Type 0} (P : A → Type 0) (xs : List A) (x : A) → AllByRecursion P xs → P x → AllByRecursion P (xs ++ x ∷ [])
-each-push P [] x h k = (k, tt)
-each-push P (y ∷ xs) x h k = (h.0, each-push P xs x h.1 k)
-
-each-prefix : {A : Type 0} (P : A → Type 0) (xs : List A) (x : A) → AllByRecursion P (xs ++ x ∷ []) → AllByRecursion P xs
-each-prefix P [] x h = tt
-each-prefix P (y ∷ xs) x h = (h.0, each-prefix P xs x h.1)
-
-each-last : {A : Type 0} (P : A → Type 0) (xs : List A) (x : A) → AllByRecursion P (xs ++ x ∷ []) → P x
-each-last P [] x h = h.0
-each-last P (y ∷ xs) x h = each-last P xs x h.1
-
 with-digit : (ended : List (List ℕ)) (current : List ℕ) (byte : ℕ) → AreParameters (ended ++ current ∷ []) → IsDigit byte → length current < 3 → AreParameters (ended ++ (current ++ byte ∷ []) ∷ [])
-with-digit ended current byte h digit few = grind (arith, length-append, each-push, each-prefix, each-last)
+with-digit ended current byte h digit few = grind (arith, length-append, each-append, each-prefix, each-back)
 
 with-next : (parameters : List (List ℕ)) → AreParameters parameters → length parameters < 16 → AreParameters (parameters ++ [] ∷ [])
-with-next parameters h few = grind (arith, length-append, each-push)
+with-next parameters h few = grind (arith, length-append, each-append)
 
 join-longer : (ended : List (List ℕ)) (current more : List ℕ) → join_with_byte 59 (ended ++ current ∷ []) ++ more ≡ join_with_byte 59 (ended ++ (current ++ more) ∷ [])
 join-longer [] current more = refl

@@ -1,5 +1,5 @@
 -- No effect changes the size of the picture.
-use Rattle.std.proofs.Common.{◌≡◌, ℕ, zero, suc, ◌+◌, ◌<◌, Bool, true, false, cond, List, [], ◌∷◌, ◌++◌, length, set, take, drop, map, Option, Some, None, ◌∙◌, subst, arith, length-append}
+use Rattle.std.proofs.Common.{◌≡◌, ℕ, zero, suc, ◌+◌, ◌<◌, Bool, true, false, cond, List, [], ◌∷◌, length, set, take, drop, map, Option, Some, None, ◌∙◌, subst, arith, length-append}
 use Rattle.std.proofs.Common.{length-take, length-drop}
 use Rattle.std.specs.Option.{option_map, option_and_then}
 use Rattle.std.specs.List.{AllByRecursion}
@@ -10,6 +10,7 @@ use Rattle.ecma.specs.declared.token.Erase.{Erase}
 use Rattle.ecma.specs.declared.token.Erase.TheVariants.{ToEnd, FromStart, All}
 use Rattle.ecma.specs.Items.{Item, Printable, Control, Unfinished, CUP, ED, EL, SGR}
 use Rattle.ecma.specs.Terminals.{Terminal, blank_line, erased_line, erased_at, erased_page, erase_line, erase_page, print_at, effect, effects, erasure}
+use Rattle.ecma.proofs.Each.{each-append}
 use Rattle.ecma.proofs.Joining.{effects_first}
 
 abbrev AreWide : ℕ → Picture → Type 0
@@ -29,10 +30,6 @@ wide-drop : (columns n : ℕ) (lines : Picture) → AreWide columns lines → Ar
 wide-drop columns zero lines h = h
 wide-drop columns (suc n) [] h = tt
 wide-drop columns (suc n) (line ∷ lines) h = wide-drop columns n lines h.1
-
-wide-append : (columns : ℕ) (a b : Picture) → AreWide columns a → AreWide columns b → AreWide columns (a ++ b)
-wide-append columns [] b h k = k
-wide-append columns (line ∷ a) b h k = (h.0, wide-append columns a b h.1 k)
 
 wide-blank : (columns : ℕ) (lines : Picture) → AreWide columns lines → AreWide columns (map blank_line lines)
 wide-blank columns [] h = tt
@@ -58,14 +55,14 @@ size-erased_page lines columns ToEnd place picture h =
     let at = size-erased_at lines columns ToEnd place picture h in
     record {
       height = simp (length-append, length-map, length-take, length-drop, length-set) (omega (arith, h.height));
-      width = wide-append columns (take (place.0 + 1) (erased_at ToEnd place picture)) (map blank_line (drop (place.0 + 1) picture))
+      width = each-append (λ line. length line ≡ columns) (take (place.0 + 1) (erased_at ToEnd place picture)) (map blank_line (drop (place.0 + 1) picture))
           (wide-take columns (place.0 + 1) (erased_at ToEnd place picture) at.width) (wide-blank columns (drop (place.0 + 1) picture) (wide-drop columns (place.0 + 1) picture h.width));
     }
 size-erased_page lines columns FromStart place picture h =
     let at = size-erased_at lines columns FromStart place picture h in
     record {
       height = simp (length-append, length-map, length-take, length-drop, length-set) (omega (arith, h.height));
-      width = wide-append columns (map blank_line (take place.0 picture)) (drop place.0 (erased_at FromStart place picture))
+      width = each-append (λ line. length line ≡ columns) (map blank_line (take place.0 picture)) (drop place.0 (erased_at FromStart place picture))
           (wide-blank columns (take place.0 picture) (wide-take columns place.0 picture h.width)) (wide-drop columns place.0 (erased_at FromStart place picture) at.width);
     }
 size-erased_page lines columns All place picture h = record { height = length-map picture blank_line ∙ h.height; width = wide-blank columns picture h.width }

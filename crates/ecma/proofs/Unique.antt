@@ -1,6 +1,7 @@
 -- A stream is one sequence of items at most, and so is each prefix of it.
 use Rattle.std.proofs.Common.{◌≡◌, ℕ, ◌<◌, ◌≤◌, List, [], ◌∷◌, ◌++◌, length, refl, sym, ap, ◌∙◌, subst, arith, append_assoc, length-append, inl, inr}
 use Rattle.std.specs.Prelude.{◌⊎◌, ⊤}
+use Rattle.ecma.proofs.Each.{each-append, each-weaker}
 use Rattle.ecma.proofs.Joining.{bytes_of_some}
 use Rattle.ecma.proofs.Printing.{from_space}
 use Rattle.std.proofs.lemmas.List.{append-nil}
@@ -34,22 +35,16 @@ cut P (x ∷ a) (y ∷ b) f g ha hb hf hg e =
     let first : a ≡ b = rest.first in
     record { first = cc; second = rest.second }
 
-pub All-append : (a b : List ℕ) → AllByRecursion IsInner a → AllByRecursion IsInner b → AllByRecursion IsInner (a ++ b)
-All-append [] b ha hb = hb
-All-append (x ∷ a) b ha hb = (ha.0, All-append a b ha.1 hb)
-
-pub All-prefix : (a b : List ℕ) → AllByRecursion IsInner (a ++ b) → AllByRecursion IsInner a
-All-prefix [] b h = tt
-All-prefix (x ∷ a) b h = (h.0, All-prefix a b h.1)
-
-digits-inner : (digits : List ℕ) → AllByRecursion IsDigit digits → AllByRecursion IsInner digits
-digits-inner [] h = tt
-digits-inner (digit ∷ digits) h = ((h.0.0, omega (arith, h.0.1)), digits-inner digits h.1)
+-- what holds of a separator and of digits holds of parameters one after another
+pub joined-each : (P : ℕ → Type 0) → P 59 → ((digit : ℕ) → IsDigit digit → P digit) → (parameters : List (List ℕ)) → AllByRecursion (AllByRecursion IsDigit) parameters
+    → AllByRecursion P (join_with_byte 59 parameters)
+joined-each P stop to [] h = tt
+joined-each P stop to (digits ∷ []) h = each-weaker IsDigit P to digits h.0
+joined-each P stop to (digits ∷ next ∷ parameters) h =
+    each-append P digits (59 ∷ join_with_byte 59 (next ∷ parameters)) (each-weaker IsDigit P to digits h.0) (stop, joined-each P stop to (next ∷ parameters) h.1)
 
 pub joined-inner : (parameters : List (List ℕ)) → AllByRecursion (AllByRecursion IsDigit) parameters → AllByRecursion IsInner (join_with_byte 59 parameters)
-joined-inner [] h = tt
-joined-inner (digits ∷ []) h = digits-inner digits h.0
-joined-inner (digits ∷ next ∷ parameters) h = grind (arith, All-append, digits-inner, (joined-inner (next ∷ parameters) h.1))
+joined-inner = joined-each IsInner (omega arith, omega arith) (λ digit h. (h.0, omega (arith, h.1)))
 
 pub final-stops : (function : Function) (bytes : List ℕ) → Stops IsInner (final_byte function ∷ bytes)
 final-stops function bytes = grind arith
