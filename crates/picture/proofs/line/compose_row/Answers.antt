@@ -1,11 +1,10 @@
 -- Each run of columns has one owner, whose cells are put into the line; so the line is that of the picture.
-use Rattle.std.proofs.Common.{rules, ◌≡◌, ℕ, ◌+◌, ◌-◌, refl, sym, ap, subst, ◌∙◌, arith}
+use Rattle.std.proofs.Common.{rules, ◌≡◌, ℕ, ◌+◌, ◌-◌, refl, ap, subst, ◌∙◌, arith}
 use Rattle.cell.specs.Shown.{Shown, shown}
 use Rattle.world.specs.Windows.{Windows}
 use Rattle.world.specs.Panels.{found_from_top}
 use Rattle.stack.specs.Tables.{panels}
 use Rattle.picture.specs.Counts.{GrewBy}
-use Rattle.picture.specs.Spans.{HasPanelWindows}
 use Rattle.picture.specs.steps.Owners.{KnowsOwners}
 use Rattle.picture.proofs.Lines.{LineShown}
 use Rattle.picture.proofs.Runs.{IsRead, held_run, run-between, run-grew, run-line, run-no-pad, run-place}
@@ -22,16 +21,7 @@ loop-owners-init g c = record {
 }
 
 pub run-run-requires : goal.run-run-requires
-run-run-requires g c κs =
-    let a = c.args in
-    let l = c.loop-owners in
-    let ps = panels a.stack.now in (
-      (refl, record {}),
-      (
-        subst (λ (ws : Windows). HasPanelWindows ws.window ps) (sym l.invariant.same) c.requires.panels,
-        (l.invariant.within, subst (λ (ws : Windows). KnowsOwners ws.window ps a.y l.owners) (sym l.invariant.same) l.invariant.known),
-      ),
-    )
+run-run-requires g c κs = grind arith
 
 pub rect-rect-requires : goal.rect-rect-requires
 rect-rect-requires g c κs =
