@@ -1,5 +1,5 @@
 -- Chains of nodes that name one another, over the two functions that say which is above and which below.
-use Rattle.std.proofs.Common.{◌≡◌, ℕ, zero, suc, ◌<◌, ◌≤◌, List, [], ◌∷◌, ◌++◌, length, reverse, sym, ap, subst, ◌∙◌, refl, arith}
+use Rattle.std.proofs.Common.{◌≡◌, ℕ, zero, suc, ◌<◌, ◌≤◌, List, [], ◌∷◌, ◌++◌, length, reverse, sym, ap, subst, ◌∙◌, arith}
 use mathlib.Core.List.{reverse_aux}
 use Rattle.std.specs.List.{AllByRecursion}
 use Rattle.std.proofs.lemmas.Bool.{ne_eqb}
@@ -47,14 +47,11 @@ module _ (above below : ℕ → ℕ) where
 way-end : (next : ℕ → ℕ) (n : ℕ) → way n next 0 ≡ []
 way-end next n = grind arith
 
-way-step : (next : ℕ → ℕ) (n p : ℕ) → 0 < p → way (suc n) next p ≡ p ∷ way n next (next p)
-way-step next n p lt = rw (ne_eqb p 0 (omega arith)) refl
-
 -- the way through a chain is the chain
 pub way-chain : (above below : ℕ → ℕ) (a : ℕ) (xs : List ℕ) (n : ℕ) → IsChain above below a xs 0 → AllByRecursion (λ q. 0 < q) xs → length xs ≤ n → way n above (above a) ≡ xs
 way-chain above below a [] n h each le = ap (way n above) h.0 ∙ way-end above n
 way-chain above below a (x ∷ xs) zero h each le = absurd (omega arith)
-way-chain above below a (x ∷ xs) (suc n) h each le = grind (arith, way-step, (way-chain above below x xs n h.1 each.1 (omega arith)))
+way-chain above below a (x ∷ xs) (suc n) h each le = grind (arith, ne_eqb, (way-chain above below x xs n h.1 each.1 (omega arith)))
 
 -- ---- a chain that is changed
 

@@ -1,15 +1,15 @@
 -- How the numbers that are taken and the panels of windows follow the nodes.
-use Rattle.std.proofs.Common.{◌≡◌, ℕ, zero, suc, ◌+◌, ◌-◌, ◌<◌, ◌≤◌, ◌==◌, if◌then◌else◌, ◌⊎◌, Option, None, rules, []}
+use Rattle.std.proofs.Common.{◌≡◌, ℕ, zero, suc, ◌+◌, ◌-◌, ◌<◌, ◌≤◌, ◌==◌, if◌then◌else◌, Option, None, rules, []}
 use Rattle.std.proofs.Common.{Some, is_some, MatchOption, List, ◌∷◌, ◌++◌, length, set, take, replicate, slice_index_or}
-use Rattle.std.proofs.Common.{length-set, get_or-set_same, get_or-set_other, ◌∙◌, refl, arith}
+use Rattle.std.proofs.Common.{length-set, get_or-set_same, get_or-set_other, refl, arith}
 use Rattle.std.proofs.lemmas.Bool.{cases_eq, eq-eqb, ne_eqb}
 use Rattle.std.proofs.lemmas.List.{length_push, take_all}
 use Rattle.cell.specs.declared.limits.TheConstants.{MOST_PANELS}
 use Rattle.cell.specs.declared.window.WinId.{WinId}
 use Rattle.std.specs.Option.{option_map}
 use Rattle.world.specs.Effects.{with_entry}
-use Rattle.stack.specs.Indexes.{held_by, holder_at, is_taken, window_limit, IsIndexed}
-use Rattle.stack.specs.Nodes.{no_node, node_at, above_at, below_at, window_at, window_in}
+use Rattle.stack.specs.Indexes.{held_by, holder_at, window_limit, IsIndexed}
+use Rattle.stack.specs.Nodes.{node_at, above_at, below_at, window_at, window_in}
 use Rattle.stack.specs.steps.Entries.{Windowed}
 use Rattle.stack.specs.declared.nodes.Node.{Node}
 use Rattle.small_set.specs.Sets.{contains}
@@ -22,14 +22,8 @@ indexed-same old new numbers holders holders' h few room windows same = grind ar
 
 -- a node has other neighbours, or is another panel's
 module _ (nodes : List Node) (p : ℕ) (node : Node) (lt : p < length nodes) where
-  node-set_same : (q : ℕ) → q ≡ p → node_at (set nodes p node) q ≡ node
-  node-set_same q same = rw same (get_or-set_same nodes p node no_node lt)
-
-  node-set_other : (q : ℕ) → (q ≡ p → ⊥) → node_at (set nodes p node) q ≡ node_at nodes q
-  node-set_other q other = get_or-set_other nodes p q node no_node other
-
   field-set : {A : Type 0} (field : Node → A) → field node ≡ field (node_at nodes p) → (q : ℕ) → field (node_at (set nodes p node) q) ≡ field (node_at nodes q)
-  field-set field is q = grind (arith, cases_eq, node-set_same, node-set_other)
+  field-set field is q = grind (arith, cases_eq, get_or-set_same, get_or-set_other)
 
   pub indexed-set : (numbers holders : List ℕ) → IsIndexed nodes numbers holders → window_in node ≡ window_at nodes p → IsIndexed (set nodes p node) numbers holders
   indexed-set numbers holders h is =
@@ -37,7 +31,7 @@ module _ (nodes : List Node) (p : ℕ) (node : Node) (lt : p < length nodes) whe
       indexed-same nodes (set nodes p node) numbers holders holders h (let few = h.few in omega arith) (λ some. h.room (omega arith)) (field-set window_in is) (λ w. refl)
 
   pub windowed-set : node.above ≡ above_at nodes p → node.below ≡ below_at nodes p → Windowed nodes (set nodes p node) p (window_in node)
-  windowed-set above below = grind (arith, length-set, cases_eq, node-set_same, given-same, node-set_other, given-other, field-set)
+  windowed-set above below = grind (arith, length-set, cases_eq, get_or-set_same, given-same, get_or-set_other, given-other, field-set)
 
 -- as the code writes it, which has the end beside the others
 pub set-past : (end : Node) (nodes : List Node) (p : ℕ) (node : Node) → 0 < p → set (end ∷ nodes) p node ≡ end ∷ set nodes (p - 1) node
@@ -64,41 +58,22 @@ holder-grown holders n m few w = rw (take_all n holders few) (appended-zeros hol
 
 -- ---- a window changes
 
--- a window, or another
-cases_window : (o : Option ℕ) (w : ℕ) → (o ≡ Some w) ⊎ (o ≡ Some w → ⊥)
-cases_window o w = grind (arith, cases_eq)
-
 held-same : (o : Option ℕ) (p : ℕ) (holder : ℕ → ℕ) (w : ℕ) → o ≡ Some w → held_by o p holder w ≡ p
 held-same o p holder w is = grind (arith, eq-eqb)
 
 held-other : (o : Option ℕ) (p : ℕ) (holder : ℕ → ℕ) (w : ℕ) → (o ≡ Some w → ⊥) → held_by o p holder w ≡ holder w
 held-other o p holder w other = grind (arith, ne_eqb)
 
-taken-given : (window : ℕ → Option ℕ) (p : ℕ) (o : Option ℕ) (q : ℕ) → 0 < p → is_taken q (with_entry window p o q) ≡ (if q == p then is_some o else is_taken q (window q))
-taken-given window p o q positive = grind (arith, cases_eq, eq-eqb, ne_eqb)
-
 -- the panel p has the window o now, which was in none
 module _ (old new : List Node) (numbers numbers' holders middle holders' : List ℕ) (p : ℕ) (o : Option ℕ) (h : IsIndexed old numbers holders) (positive : 0 < p) (lt : p < length old) where
   module _ (len : length new ≡ length old) (windows : (q : ℕ) → window_at new q ≡ with_entry (window_at old) p o q) (free : (q w : ℕ) → o ≡ Some w → window_at old q ≡ Some w → ⊥) where
     module _ (released : (w : ℕ) → holder_at middle w ≡ held_by (window_at old p) 0 (holder_at holders) w) (held : (w : ℕ) → holder_at holders' w ≡ held_by o p (holder_at middle) w) where
-      held-new : (w : ℕ) → o ≡ Some w → holder_at holders' w ≡ p
-      held-new w is = held w ∙ held-same o p (holder_at middle) w is
-
-      held-old : (w : ℕ) → (o ≡ Some w → ⊥) → (window_at old p ≡ Some w → ⊥) → holder_at holders' w ≡ holder_at holders w
-      held-old w other differs = held w ∙ held-other o p (holder_at middle) w other ∙ released w ∙ held-other (window_at old p) 0 (holder_at holders) w differs
-
-      held-none : (w : ℕ) → (o ≡ Some w → ⊥) → window_at old p ≡ Some w → holder_at holders' w ≡ 0
-      held-none w other is = held w ∙ held-other o p (holder_at middle) w other ∙ released w ∙ held-same (window_at old p) 0 (holder_at holders) w is
-
       panel-windowed : (q w : ℕ) → window_at new q ≡ Some w → holder_at holders' w ≡ q
-      panel-windowed q w is = search (rules, cases_eq, held-new, given-same, given-other, held-old)
-
-      window-windowed : (w : ℕ) → 0 < holder_at holders' w → window_at new (holder_at holders' w) ≡ Some w
-      window-windowed w some = grind (arith, cases_window, held-new, given-same, held-none, held-old, given-other)
+      panel-windowed q w is = search (rules, cases_eq, held-same, given-same, given-other, held-other)
 
       pub indexed-windowed : length middle ≡ length holders → length holders' ≡ length middle
           → ((q : ℕ) → contains numbers' q ≡ (if q == p then is_some o else contains numbers q)) → IsIndexed new numbers' holders'
-      indexed-windowed first second taken = grind (arith, taken-given, panel-windowed, window-windowed)
+      indexed-windowed first second taken = grind (arith, cases_eq, eq-eqb, ne_eqb, panel-windowed, held-same, given-same, held-other, given-other)
 
 -- as the code has the window
 pub free-window : (nodes : List Node) (win : Option WinId) → MatchOption win (Unit {0}) (λ u. (q : ℕ) → window_at nodes q ≡ Some u.0 → ⊥) → (q w : ℕ) → option_map (λ (u : WinId). u.0) win ≡ Some w

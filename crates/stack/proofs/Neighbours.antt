@@ -15,25 +15,15 @@ use Rattle.stack.proofs.Threads.{panel-below, positive}
 abbrev pub panel_or_none : ℕ → Option ℕ
 panel_or_none p = if p == 0 then None else Some p
 
-none-at : (p : ℕ) → p ≡ 0 → panel_or_none p ≡ None
-none-at p e = rw (eq-eqb p 0 e) refl
-
-some-at : (p q : ℕ) → p ≡ q → 0 < q → panel_or_none p ≡ Some q
-some-at p q e lt = rw (ne_eqb p 0 (omega arith)) (ap Some e)
-
 -- above the start of a chain is its first
 chain-first : (above below : ℕ → ℕ) (a : ℕ) (xs : List ℕ) → IsChain above below a xs 0 → AllByRecursion (λ q. 0 < q) xs → panel_or_none (above a) ≡ first_in xs
-chain-first above below a xs h each = grind (arith, none-at, some-at)
+chain-first above below a xs h each = grind (arith, eq-eqb, ne_eqb)
 
 -- ---- the last is the first from the other end
 
 last-first : (x : ℕ) (xs ys : List ℕ) → last_or (Some x) xs ≡ first_in (reverse_aux xs (x ∷ ys))
 last-first x [] ys = refl
 last-first x (y ∷ xs) ys = last-first y xs (x ∷ ys)
-
-last-reverse : (xs : List ℕ) → last_or None xs ≡ first_in (reverse xs)
-last-reverse [] = refl
-last-reverse (x ∷ xs) = last-first x xs []
 
 reverse-split : (p : ℕ) (xs ys : List ℕ) → reverse (xs ++ p ∷ ys) ≡ reverse ys ++ p ∷ reverse xs
 reverse-split p xs ys =
@@ -47,7 +37,7 @@ module _ (nodes : List Node) (order : List ℕ) (h : IsThreaded nodes order) whe
   visible-split p shown = grind (arith, out_or_in, any_is-out)
 
   pub last-is : panel_or_none (below_at nodes 0) ≡ last_or None order
-  last-is = grind (arith, chain-first, chain-reverse, each-reverse, positive, last-reverse)
+  last-is = grind (arith, chain-first, chain-reverse, each-reverse, positive, last-first)
 
   pub above-is : (p : ℕ) → not (list_any (λ q. q == p) order) ≡ false → panel_or_none (above_at nodes p) ≡ next_in p order
   above-is p shown =

@@ -1,10 +1,9 @@
 -- The search for the number of the next panel, and for the panel of a window, step by step.
 use Rattle.std.proofs.Common.{◌≡◌, ℕ, zero, suc, ◌+◌, ◌-◌, ◌<◌, ◌≤◌, ◌==◌, ◌||◌, Bool, if◌then◌else◌, true, false}
-use Rattle.std.proofs.Common.{Option, None, Some, IfSome, is_none, is_some, List, length, find, sym, ap, ◌∙◌, refl}
+use Rattle.std.proofs.Common.{Option, None, Some, is_none, is_some, List, find, sym, ap, ◌∙◌, refl}
 use Rattle.std.proofs.Common.{arith}
 use Rattle.std.specs.List.{range_with_len}
 use Rattle.std.proofs.lemmas.Bool.{cases_eq, eq-eqb, false≢true, ne_eqb, false_from_ne_true}
-use Rattle.std.proofs.lemmas.Option.{same_Some}
 use Rattle.cell.specs.declared.limits.TheConstants.{MOST_PANELS}
 use Rattle.world.specs.Panels.{is_in_panel, panel_limit}
 use Rattle.world.specs.calls.Stacking.{new_panel_number, panel_number}
@@ -80,9 +79,6 @@ module _ (nodes : List Node) (table : IsPanelTable nodes) (n : ℕ) (free : is_t
 
 -- ---- the panel of a window
 
-some-number : (r : Option PanelId) → is_some r ≡ is_some (panel_number r)
-some-number r = grind arith
-
 module _ (nodes : List Node) (h : IsPanelTable nodes) (w : ℕ) where
   pub in-panel : (p : ℕ) → window_at nodes p ≡ Some w → is_in_panel (panels (table_of nodes)) w ≡ true
   in-panel p is =
@@ -94,16 +90,10 @@ module _ (nodes : List Node) (h : IsPanelTable nodes) (w : ℕ) where
   abbrev pub NoneHas : ℕ → Type 0
   NoneHas n = (p : ℕ) → p < n → window_at nodes p ≡ Some w → ⊥
 
-  pub in-no-panel : NoneHas (length nodes) → is_in_panel (panels (table_of nodes)) w ≡ false
-  in-no-panel none = grind (arith, false_from_ne_true, in_panel-true, window-is, panel-below, is-panel)
-
   -- as the code finds it, where 0 is none
   module _ (p : ℕ) (window : 0 < p → window_at nodes p ≡ Some w) (only : (q : ℕ) → window_at nodes q ≡ Some w → p ≡ q) where
     pub holder-some : (r : Option PanelId) → panel_number r ≡ (if p == 0 then None else Some p) → is_some r ≡ is_in_panel (panels (table_of nodes)) w
-    holder-some r is = grind (arith, cases_eq, eq-eqb, some-number, in-no-panel, is-panel, ne_eqb, in-panel)
-
-    pub holder-panel : (r : Option PanelId) → panel_number r ≡ (if p == 0 then None else Some p) → IfSome r (λ q. window_at nodes q.0 ≡ Some w)
-    holder-panel r is = grind (arith, cases_eq, eq-eqb, ne_eqb, same_Some)
+    holder-some r is = grind (arith, cases_eq, eq-eqb, false_from_ne_true, in_panel-true, window-is, panel-below, is-panel, ne_eqb, in-panel)
 
   -- where the world says so, none has it
   pub none-has : is_in_panel (panels (table_of nodes)) w ≡ false → (p : ℕ) → window_at nodes p ≡ Some w → ⊥

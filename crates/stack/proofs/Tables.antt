@@ -2,12 +2,11 @@
 use Rattle.std.proofs.Common.{◌≡◌, ℕ, zero, suc, true, false, ◌<◌, ◌==◌, if◌then◌else◌, ◌⊎◌, Option, None, Some, IsSome, MatchOption, List, [], ◌∷◌, ◌++◌, length, slice_index_or, sym, ap, subst}
 use Rattle.std.proofs.Common.{◌∙◌, refl, inl, inr, arith, eqb, All, rules}
 use Rattle.std.specs.List.{AllByRecursion}
-use Rattle.std.specs.Option.{is_none, is_some, option_map}
-use Rattle.std.proofs.lemmas.Bool.{eqb-false}
+use Rattle.std.specs.Option.{is_none, is_some}
+use Rattle.std.proofs.lemmas.Bool.{eqb-false, cases_eq}
 use Rattle.std.proofs.lemmas.List.{length_push}
 use Rattle.std.proofs.lemmas.Map.Keys.{apart_from_distinct}
 use Rattle.cell.specs.declared.refusal.Refusal.TheVariants.{Hidden}
-use Rattle.cell.specs.declared.window.WinId.{WinId}
 use Rattle.cell.specs.Refusals.{first_of}
 use Rattle.world.specs.Panels.{Panels, first_panels}
 use Rattle.world.specs.calls.Stacking.{after_del_panel, after_replace_panel, is_hidden, without, IsSoundEntry, IsSoundOrder, visible_tests}
@@ -18,8 +17,8 @@ use Rattle.stack.specs.steps.Entries.{Entered, IsFree, NodeMade, Windowed}
 use Rattle.stack.specs.steps.Links.{Reordered}
 use Rattle.stack.specs.declared.nodes.Node.{Node}
 use Rattle.stack.proofs.Orders.{distinct-once, out-each}
-use Rattle.stack.proofs.Threads.{from_bottom-is, panel-below, panel-same, twice-windows}
-use Rattle.stack.proofs.Windows.{apart-given, given-other, panels-are, threaded-windowed, window-is, threaded-pushed, window-free}
+use Rattle.stack.proofs.Threads.{from_bottom-is, panel-below, panel-same}
+use Rattle.stack.proofs.Windows.{given-other, panels-are, threaded-windowed, window-is, threaded-pushed, window-free, given-same}
 
 -- ---- what is known of each
 
@@ -78,10 +77,6 @@ first-panels = panels-are (no_node ∷ []) [] (λ p. None) first-is first-window
 pub reordered-panels : (old new : List Node) (order : List ℕ) → Reordered old new order → panels (table_of new) ≡ record (panels (table_of old)) { visible = order }
 reordered-panels old new order h = grind (arith, panels-are, window-is)
 
--- once, and once more
-pub reordered-twice : (old mid new : List Node) (order : List ℕ) (change : List ℕ → List ℕ) → Reordered old mid order → Reordered mid new (change (from_bottom mid)) → Reordered old new (change order)
-reordered-twice old mid new order change h k = grind (arith, twice-windows)
-
 pub reordered-table : (old new : List Node) (order : List ℕ) → IsPanelTable old → Reordered old new order → IsPanelTable new
 reordered-table old new order table h = grind arith
 
@@ -91,14 +86,11 @@ module _ (old new : List Node) (p : ℕ) (o : Option ℕ) (table : IsPanelTable 
   windowed-threaded : IsSome o ⊎ IsOut p (from_bottom old) → IsThreaded new (from_bottom old)
   windowed-threaded some = threaded-windowed old new p o windowed (from_bottom old) some table.threaded
 
-  pub windowed-is : IsSome o ⊎ IsOut p (from_bottom old) → from_bottom new ≡ from_bottom old
-  windowed-is some = from_bottom-is new (from_bottom old) (windowed-threaded some)
-
   pub windowed-table : IsSome o ⊎ IsOut p (from_bottom old) → ((q w : ℕ) → o ≡ Some w → window_at old q ≡ Some w → ⊥) → IsPanelTable new
-  windowed-table some apart = search (rules, given-other, apart-given, windowed-is, windowed-threaded)
+  windowed-table some apart = search (rules, given-other, cases_eq, given-same, from_bottom-is, windowed-threaded)
 
   pub windowed-panels : IsSome o ⊎ IsOut p (from_bottom old) → panels (table_of new) ≡ record { visible = from_bottom old; window = with_entry ((panels (table_of old)).window) p o }
-  windowed-panels some = grind (arith, panels-are, windowed-is, window-is)
+  windowed-panels some = grind (arith, panels-are, from_bottom-is, windowed-threaded, window-is)
 
 -- ---- the calls
 
@@ -130,7 +122,7 @@ module _ (old new : List Node) (p w : ℕ) (table : IsPanelTable old) (panel : I
 -- a panel is made
 module _ (old mid new : List Node) (p w : ℕ) (table : IsPanelTable old) (free : IsFree old p) (entered : Entered old mid p w) (order : Reordered mid new (from_bottom mid ++ p ∷ [])) where
   entered-table : ((q : ℕ) → window_at old q ≡ Some w → ⊥) → IsPanelTable mid
-  entered-table none = grind (arith, given-other, apart-given)
+  entered-table none = grind (arith, given-other, cases_eq, given-same)
 
   pub made-table : ((q : ℕ) → window_at old q ≡ Some w → ⊥) → IsPanelTable new
   made-table none = reordered-table mid new (from_bottom mid ++ p ∷ []) (entered-table none) order
@@ -187,11 +179,8 @@ module _ (old : List Node) (p : ℕ) (table : IsPanelTable old) (free : IsFree o
 
 -- ---- tests
 
-some-from : (o : Option WinId) → is_some o ≡ true → IsSome (option_map (λ w. w.0) o)
-some-from o h = grind arith
-
 pub panel-from : (nodes : List Node) (table : IsPanelTable nodes) (p : ℕ) (node : Node) → node ≡ node_at nodes p → is_some node.window ≡ true → IsPanel nodes p
-panel-from nodes table p node is has = grind (arith, some-from)
+panel-from nodes table p node is has = grind arith
 
 is_none-some : (o : Option ℕ) → IsSome o → is_none o ≡ false
 is_none-some o h = grind arith

@@ -88,28 +88,35 @@ pub twice-windows : (old mid new : List Node) → SameWindows old mid → SameWi
 twice-windows old mid new h k = record { length = k.length ∙ h.length; window = λ q. k.window q ∙ h.window q }
 
 module _ (above below above' below' : ℕ → ℕ) where
-  twice-other : (lower upper v w q : ℕ) → Twice above below above' below' lower upper v w → (q ≡ v → ⊥) → (q ≡ lower → ⊥) → above' q ≡ above q
-  twice-other lower upper v w q t nv nl = grind (arith, if-other)
-
-  twice-other-below : (lower upper v w q : ℕ) → Twice above below above' below' lower upper v w → (q ≡ w → ⊥) → (q ≡ upper → ⊥) → below' q ≡ below q
-  twice-other-below lower upper v w q t nw nu = grind (arith, if-other)
-
   -- the neighbours of p became neighbours, and p alone
   removed : (p : ℕ) → Twice above below above' below' (below p) (above p) p p → (p ≡ below p → ⊥) → (p ≡ above p → ⊥) → Removed above below above' below' p
-  removed p t nl nu = grind (arith, if-other, if-same, twice-other, twice-other-below)
+  removed p t nl nu = grind (arith, if-other, if-same)
 
   -- p is between lower and upper
   inserted : (lower p upper : ℕ) → Twice above below above' below' lower p p upper → (p ≡ lower → ⊥) → (p ≡ upper → ⊥) → Inserted above below above' below' lower p upper
-  inserted lower p upper t nl nu = grind (arith, if-other, if-same, twice-other, twice-other-below)
+  inserted lower p upper t nl nu = grind (arith, if-other, if-same)
 
   -- a panel that was alone, was alone already
   kept-above : (p : ℕ) → Twice above below above' below' (below p) (above p) p p → above p ≡ p → below p ≡ p → (q : ℕ) → above' q ≡ above q
-  kept-above p t ap_is bp_is q = grind (arith, cases_eq, if-same, twice-other)
+  kept-above p t ap_is bp_is q = grind (arith, cases_eq, if-same, if-other)
 
   kept-below : (p : ℕ) → Twice above below above' below' (below p) (above p) p p → above p ≡ p → below p ≡ p → (q : ℕ) → below' q ≡ below q
-  kept-below p t ap_is bp_is q = grind (arith, cases_eq, if-same, twice-other-below)
+  kept-below p t ap_is bp_is q = grind (arith, cases_eq, if-same, if-other)
 
 -- ---- panels with the same windows
+
+-- the links are the same, and each of the order is a panel still
+pub threaded-kept : (old new : List Node) (order : List ℕ) → length new ≡ length old → ((q : ℕ) → above_at new q ≡ above_at old q) → ((q : ℕ) → below_at new q ≡ below_at old q) → IsThreaded old order
+    → AllByRecursion (IsPanel new) order → IsThreaded new order
+threaded-kept old new order long aboves belows h panels =
+    let f : above_at old ≡ above_at new = fun_ext (λ q. sym (aboves q)) in
+    let g : below_at old ≡ below_at new = fun_ext (λ q. sym (belows q)) in
+    record {
+      chain = subst (λ (k : ℕ → ℕ). IsChain (above_at new) k 0 order 0) g (subst (λ (k : ℕ → ℕ). IsChain k (below_at old) 0 order 0) f h.chain);
+      once = h.once;
+      panels = panels;
+      others = λ q lt few out. let alone = h.others q lt (subst (λ (n : ℕ). q < n) long few) out in (aboves q ∙ alone.0, belows q ∙ alone.1);
+    }
 
 module _ (old new : List Node) (same : SameWindows old new) where
   pub panel-same : (q : ℕ) → IsPanel old q → IsPanel new q
@@ -117,20 +124,6 @@ module _ (old new : List Node) (same : SameWindows old new) where
 
   panels-same : (order : List ℕ) → AllByRecursion (IsPanel old) order → AllByRecursion (IsPanel new) order
   panels-same order h = each-weaker (IsPanel old) (IsPanel new) panel-same order h
-
-  -- the links are the same too
-  threaded-same : (order : List ℕ) → ((q : ℕ) → above_at new q ≡ above_at old q) → ((q : ℕ) → below_at new q ≡ below_at old q) → IsThreaded old order → IsThreaded new order
-  threaded-same order aboves belows h =
-      let f : above_at old ≡ above_at new = fun_ext (λ q. sym (aboves q)) in
-      let g : below_at old ≡ below_at new = fun_ext (λ q. sym (belows q)) in
-      record {
-        chain = subst (λ (k : ℕ → ℕ). IsChain (above_at new) k 0 order 0) g (subst (λ (k : ℕ → ℕ). IsChain k (below_at old) 0 order 0) f h.chain);
-        once = h.once;
-        panels = panels-same order h.panels;
-        others = λ q lt few out.
-            let alone = h.others q lt (subst (λ (n : ℕ). q < n) same.length few) out in
-            (aboves q ∙ alone.0, belows q ∙ alone.1);
-      }
 
 -- ---- a panel leaves
 
@@ -173,9 +166,9 @@ module _ (old new : List Node) (p : ℕ) (windows : SameWindows old new) (t : Tw
     | inl out ↦
         let is = h.others p panel.0 (panel-below old p panel) out in
         subst (λ (l : List ℕ). IsThreaded new l) (sym (without-out p order out))
-        (threaded-same old new windows order
+        (threaded-kept old new order windows.length
         (kept-above (above_at old) (below_at old) (above_at new) (below_at new) p t is.0 is.1)
-        (kept-below (above_at old) (below_at old) (above_at new) (below_at new) p t is.0 is.1) h)
+        (kept-below (above_at old) (below_at old) (above_at new) (below_at new) p t is.0 is.1) h (panels-same old new windows order h.panels))
     | inr split ↦
         let xs = split.before in
         let ys = split.after in

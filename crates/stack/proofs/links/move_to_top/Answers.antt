@@ -1,7 +1,7 @@
 -- A panel that was taken out is put in again on top.
 use Rattle.std.proofs.Common.{arith}
-use Rattle.stack.proofs.Tables.{reordered-twice}
+use Rattle.stack.proofs.Threads.{twice-windows}
 use Rattle.stack.proofs.links.move_to_top.Goals as goal
 
 pub returns : goal.returns
-returns c = grind (arith, reordered-twice)
+returns c = grind (arith, twice-windows)

@@ -1,6 +1,6 @@
 -- The neighbours of the panel are each other's now, and it names itself.
-use Rattle.std.proofs.Common.{List, ℕ, sym, subst, arith, rules}
-use Rattle.stack.specs.Nodes.{from_bottom, IsOut}
+use Rattle.std.proofs.Common.{arith, rules}
+use Rattle.stack.specs.Nodes.{from_bottom}
 use Rattle.stack.proofs.Orders.{out-without}
 use Rattle.stack.proofs.Threads.{above-below, below-below, panel-below, taken_out}
 use Rattle.stack.proofs.links.take_out.Goals as goal
@@ -15,7 +15,4 @@ pub returns-clause-order : goal.returns-clause-order
 returns-clause-order c = search (rules, taken_out)
 
 pub returns-clause-out : goal.returns-clause-out
-returns-clause-out c =
-    let taken = taken_out c.args.nodes.now c.link.new.nodes c.link-2.new.nodes c.args.panel (from_bottom c.args.nodes.now)
-    c.requires.threaded c.requires.panel c.get-node.result c.get-node.ensures c.link.ensures c.link-2.ensures in
-    subst (λ (l : List ℕ). IsOut c.args.panel l) (sym taken.is) (out-without c.args.panel (from_bottom c.args.nodes.now))
+returns-clause-out c = rw (returns-clause-order c).is (out-without c.args.panel (from_bottom c.args.nodes.now))
