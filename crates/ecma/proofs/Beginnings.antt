@@ -198,9 +198,6 @@ no-more_parameters ended current h full begins = grind (arith, ended-few, append
 
 -- ---- a byte that no parameters have
 
-final-no_colon : (function : Function) → final_byte function ≡ 58 → ⊥
-final-no_colon function e = grind arith
-
 abbrev NoColon : List ℕ → Type 0
 NoColon bytes = AllByRecursion (λ byte. byte ≡ 58 → ⊥) bytes
 
@@ -212,4 +209,4 @@ no-colon_after [] missing h = h.0 refl
 no-colon_after (byte ∷ prefix) missing h = no-colon_after prefix missing h.1
 
 pub no-colon : (prefix : List ℕ) → IsBeginning (27 ∷ 91 ∷ (prefix ++ 58 ∷ [])) → ⊥
-no-colon prefix begins = grind (arith, each-append, joined-no_colon, final-no_colon, no-colon_after, append_assoc)
+no-colon prefix begins = grind (arith, each-append, joined-no_colon, no-colon_after, append_assoc)

@@ -25,20 +25,13 @@ effects-then prefix back t u v e f = rw (effects-append prefix back t, e) f
 
 -- ---- items one after another
 
--- more bytes may follow
-pub EndsOrEscapes-append : (bytes more : List ℕ) → EndsOrEscapes bytes → EndsOrEscapes more → EndsOrEscapes (bytes ++ more)
-EndsOrEscapes-append bytes more here there = grind arith
-
-MayPrecede-escape : (item : Item) (bytes more : List ℕ) → MayPrecede item bytes → EndsOrEscapes more → MayPrecede item (bytes ++ more)
-MayPrecede-escape item bytes more here there = grind (arith, EndsOrEscapes-append)
-
 pub MayPrecede-finished : (item : Item) (bytes : List ℕ) → IsFinished item → MayPrecede item bytes
 MayPrecede-finished item bytes h = grind arith
 
 -- an escape, or nothing, may follow any items
 pub Splits-then_escape : (bytes : List ℕ) (items : List Item) (rest more : List ℕ) → Splits bytes items rest → EndsOrEscapes more → Splits (bytes ++ more) items (rest ++ more)
 Splits-then_escape bytes [] rest more h there = ap (λ (prefix : List ℕ). prefix ++ more) h
-Splits-then_escape bytes (item ∷ items) rest more h there = grind (arith, append_assoc, MayPrecede-escape, (Splits-then_escape h.0 items rest more h.4 there))
+Splits-then_escape bytes (item ∷ items) rest more h there = grind (arith, append_assoc, (Splits-then_escape h.0 items rest more h.4 there))
 
 -- anything may follow finished items
 pub Splits-then : (bytes : List ℕ) (items : List Item) (rest more : List ℕ) → Splits bytes items rest → AllByRecursion IsFinished items → Splits (bytes ++ more) items (rest ++ more)
@@ -68,11 +61,8 @@ bytes_of_some item h = grind arith
 Splits_some : (bytes : List ℕ) (item : Item) (items : List Item) (rest : List ℕ) → Splits bytes (item ∷ items) rest → 0 < length bytes
 Splits_some bytes item items rest h = rw h.1 (omega (arith, bytes_of_some item h.2, length-append (bytes_of item) h.0))
 
-EndsOrEscapes-then : (bytes more : List ℕ) → 0 < length bytes → EndsOrEscapes bytes → EndsOrEscapes (bytes ++ more)
-EndsOrEscapes-then bytes more some h = grind arith
-
 MayPrecede-then : (item : Item) (bytes more : List ℕ) → 0 < length bytes → MayPrecede item bytes → MayPrecede item (bytes ++ more)
-MayPrecede-then item bytes more some h = grind (arith, EndsOrEscapes-then)
+MayPrecede-then item bytes more some h = grind arith
 
 pub Splits-ends_then : (bytes : List ℕ) (items : List Item) (more : List ℕ) → Splits bytes items [] → EndsFinished items → Splits (bytes ++ more) items more
 Splits-ends_then bytes [] more h ends = ap (λ (prefix : List ℕ). prefix ++ more) h

@@ -231,12 +231,6 @@ module _ (t : Terminal) (ended : List Parameter) (current : Parameter) (at start
         read = next-read stream byte at h.in_item.read;
       }
 
-  -- the same of a terminal and parameters that are these
-  pub Ends-along : (v : Terminal) (others : List Parameter) (last : Parameter) (byte : ℕ) (after : Option Terminal)
-      → reader_of v Parameters others last at start ≡ reader_of t Parameters ended current at start
-      → ((digits : List (List ℕ)) → map parameter_of digits ≡ others ++ last ∷ [] → after ≡ option_and_then (λ function. effect (Control function digits) v) (function_of byte)) → Ends byte after
-  Ends-along v others last byte after same h = grind arith
-
   pub ending-follows : (u : Terminal) (byte : ℕ) → Ends byte (Some u)
       → Follows (byte ∷ []) (reader_of t Parameters ended current at start) (reader_of u Text ended current (saturating_u64 (at + 1)) start)
   ending-follows u byte ends stream first h = by_function (function_of byte) refl where
@@ -293,9 +287,6 @@ reader-in_profile stream first reader not_failed h = by_state reader.state refl 
       in_item-in_profile stream first reader (introducer ++ join_with_byte separator (h.ended ++ h.current ∷ [])) h.in_item (sequence-begins (h.ended ++ h.current ∷ []) h.well_formed) refl
   by_state Failed is h = absurd (not_failed is)
 
-pub reader-failed : (stream : List ℕ) (first : Terminal) (reader : Reader) → reader.state ≡ Failed → HasReadIn reader.state stream first reader → HasFailed stream first reader.terminal reader.start
-reader-failed stream first reader is h = subst (λ (state : State). HasReadIn state stream first reader) is h
-
 -- ---- one stream, one terminal
 
 in_profile-unique : (stream : List ℕ) (t u v : Terminal) → IsInProfile stream t u → IsInProfile stream t v → u ≡ v
@@ -305,7 +296,7 @@ abbrev Fate : List ℕ → Terminal → Reader → Type 0
 Fate stream first reader = IsInProfile stream first reader.terminal ⊎ HasFailed stream first reader.terminal reader.start
 
 fate : (stream : List ℕ) (first : Terminal) (reader : Reader) → HasReadIn reader.state stream first reader → Fate stream first reader
-fate stream first reader h = grind (arith, reader-in_profile, reader-failed)
+fate stream first reader h = grind (arith, reader-in_profile)
 
 pub one-terminal_shown : (stream : List ℕ) (first : Terminal) (one other : Reader) → HasReadIn one.state stream first one → HasReadIn other.state stream first other → one.terminal ≡ other.terminal
 one-terminal_shown stream first one other h k = elim (fate stream first one h) [
@@ -328,9 +319,3 @@ when-true b p x o h e = grind arith
 pub when-false : {A : Type 0} (b p : Bool) (x : A) (o : Option A) → b ≡ false → (let one : Option A = if b then Some x else None in one) ≡ (let other : Option A = if p then o else None in other)
     → p ≡ true → o ≡ None
 when-false b p x o h e k = grind arith
-
-pub some-if : {A : Type 0} (b : Bool) (x y : A) (r : Option A) → r ≡ (let one : Option A = if b then Some x else None in one) → r ≡ Some y → (b ≡ true) × (y ≡ x)
-some-if b x y r e h = grind arith
-
-pub none-if : {A : Type 0} (b : Bool) (x : A) (r : Option A) → r ≡ (let one : Option A = if b then Some x else None in one) → r ≡ None → b ≡ false
-none-if b x r e h = grind arith

@@ -1,12 +1,13 @@
 -- `erase_lines`: lines of a picture, erased (`Erasing`); no effect changes the size of the picture (`Sizes`).
 use Rattle.std.proofs.Common.{arith}
 use Rattle.std.proofs.lemmas.Grind.{common_steps}
-use Rattle.ecma.proofs.Erasing.{lines_blanked, lines_blanked-none, lines_blanked-more}
+use Rattle.ecma.proofs.Erasing.{lines_blanked, lines_blanked-more}
 use Rattle.ecma.proofs.Sizes.{size-erased_at}
+use Rattle.std.proofs.lemmas.List.{append-nil, take-append-drop}
 use Rattle.ecma.proofs.page.erase_lines.Goals as goal
 
 pub loop-line-init : goal.loop-line-init
-loop-line-init c = grind (arith, lines_blanked-none)
+loop-line-init c = grind (arith, append-nil, take-append-drop)
 
 pub loop-line-preserved : goal.loop-line-preserved
 loop-line-preserved c = grind (arith, common_steps, size-erased_at, lines_blanked-more)
