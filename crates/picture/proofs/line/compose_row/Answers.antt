@@ -25,41 +25,29 @@ run-run-requires g c κs = grind arith
 
 pub rect-rect-requires : goal.rect-rect-requires
 rect-rect-requires g c κs =
-    let l = c.loop-owners in
-    let held = held_run l.invariant.same c.run-run.ensures.run l.invariant.from c.requires.standard in
+    let held = held_run c.loop-owners.invariant.same c.run-run.ensures.run c.loop-owners.invariant.from c.requires.standard in
     ((refl, record {}), run-no-pad held)
 
 pub overflow_sub-y : goal.overflow_sub-y
 overflow_sub-y g c =
-    let l = c.loop-owners in
-    let held = held_run l.invariant.same c.run-run.ensures.run l.invariant.from c.requires.standard in
-    let between = run-between held c.rect-rect.result c.rect-rect.ensures.holds in
-    between.top
+    let held = held_run c.loop-owners.invariant.same c.run-run.ensures.run c.loop-owners.invariant.from c.requires.standard in
+    (run-between held c.rect-rect.result c.rect-rect.ensures.holds).top
 
 pub overflow_sub-x : goal.overflow_sub-x
 overflow_sub-x g c =
-    let l = c.loop-owners in
-    let held = held_run l.invariant.same c.run-run.ensures.run l.invariant.from c.requires.standard in
-    let between = run-between held c.rect-rect.result c.rect-rect.ensures.holds in
-    between.left
+    let held = held_run c.loop-owners.invariant.same c.run-run.ensures.run c.loop-owners.invariant.from c.requires.standard in
+    (run-between held c.rect-rect.result c.rect-rect.ensures.holds).left
 
 pub overflow_sub-run : goal.overflow_sub-run
 overflow_sub-run g c =
-    let l = c.loop-owners in
-    let held = held_run l.invariant.same c.run-run.ensures.run l.invariant.from c.requires.standard in
-    let run = held.run in
-    let from = run.from in
+    let held = held_run c.loop-owners.invariant.same c.run-run.ensures.run c.loop-owners.invariant.from c.requires.standard in
     let between = run-between held c.rect-rect.result c.rect-rect.ensures.holds in
-    let left = between.left in
-    omega (arith, left, from)
+    omega (arith, held.run.from, between.left)
 
 pub read-cells-requires : goal.read-cells-requires
 read-cells-requires g c κs =
-    let l = c.loop-owners in
-    let held = held_run l.invariant.same c.run-run.ensures.run l.invariant.from c.requires.standard in
-    let run = held.run in
-    let from = run.from in
-    ((refl, record {}), (omega (arith, from), run-place held c.rect-rect.result c.rect-rect.ensures.place))
+    let held = held_run c.loop-owners.invariant.same c.run-run.ensures.run c.loop-owners.invariant.from c.requires.standard in
+    ((refl, record {}), (omega (arith, held.run.from), run-place held c.rect-rect.result c.rect-rect.ensures.place))
 
 pub returns-then-run-right-clause-shown : goal.returns-then-run-right-clause-shown
 returns-then-run-right-clause-shown g c =

@@ -1,14 +1,12 @@
 -- Each round composes the damaged columns of one line more; the others were those of the picture before.
-use Rattle.std.proofs.Common.{rules, ◌≡◌, ℕ, suc, ◌+◌, ◌-◌, ◌<◌, ◌≤◌, ◌==◌, ◌&&◌, true, nat_le, nat_lt, if◌then◌else◌, None, Some, refl, ap, subst, sym, ◌∙◌, arith}
+use Rattle.std.proofs.Common.{rules, ◌≡◌, ℕ, suc, ◌+◌, ◌-◌, ◌<◌, ◌≤◌, ◌==◌, ◌&&◌, true, nat_le, nat_lt, if◌then◌else◌, None, refl, ap, sym, ◌∙◌, arith}
 use Rattle.std.proofs.lemmas.Grind.{common_steps}
 use Rattle.cell.specs.Pictures.{shown_at}
 use Rattle.cell.specs.Shown.{Shown, shown}
 use Rattle.cell.proofs.PictureLemmas.{length-line}
 use Rattle.world.specs.Panels.{found_from_top}
-use Rattle.world.specs.Sound.{AreColumnsWithin}
 use Rattle.world.specs.Windows.{Windows}
 use Rattle.stack.specs.Tables.{panels}
-use Rattle.picture.specs.Counts.{GrewBy}
 use Rattle.picture.specs.Damages.{cells_above, cells_of_line, columns_of}
 use Rattle.picture.proofs.Composing.{ComposedAbove, composed-bare, composed-more, composed-none, composed-to, fits-more, no-more-to}
 use Rattle.picture.proofs.Counting.{grew-more}
@@ -52,7 +50,6 @@ loop-y-preserved g c =
     let below : y < old.lines = omega (arith, test, all) in
     let f : ℕ → ℕ → Shown = λ v u. shown c.args.pairs.now (found_from_top old.window ps v u) in
     let before = c.args.damage.now in
-    let cells_read = g.R.Rows.cells_read c.args.rows.now in
     let more : cells_above before (y + 1) ≡ cells_above before y + cells_of_line (columns_of before y) = let e : y + 1 ≡ suc y = omega arith in ap (cells_above before) e in
     let composed : ComposedAbove f old.lines old.columns before c.args.picture.now (y + 1) c.match-line.damage c.match-line.picture = elim c.match-line.branch [
       | in-Some s ↦
@@ -74,40 +71,10 @@ loop-y-preserved g c =
     let inside = c.next-y-in-loop-y.ensures.inside (omega (arith, below, height)) in
     let skipped : cells_above before next ≡ cells_above before (y + 1) = no-more-to before (y + 1) next from (λ v a b. sym (composed.left v a) ∙ none v a b) in
     record {
-      windows = elim c.match-line.branch [
-        | in-Some s ↦ rw s.rows-is (s.compose_row.ensures.same ∙ h.windows)
-        | in_default s ↦ rw s.rows-is h.windows
-      ];
-      read = elim c.match-line.branch [
-        | in-Some s ↦
-            let r = s.in-Some.field-0 in
-            let is : columns_of before y ≡ Some r = sym (h.composed.left y (omega arith)) ∙ sym c.line.ensures ∙ s.in-Some.is in
-            let within : (r.first ≤ r.last) × (r.last < old.columns) = subst (λ o. AreColumnsWithin old.columns o) is (c.requires.within y) in
-            let ordered = within.0 in
-            let line : cells_of_line (columns_of before y) ≡ r.last + 1 - r.first = ap cells_of_line is in
-            let number = s.from.ensures in
-            let read = h.read in
-            let cells = s.cells-is in
-            omega (arith, cells, number, read, more, line, ordered, skipped)
-        | in_default s ↦
-            let bare : columns_of before y ≡ None = sym (h.composed.left y (omega arith)) ∙ sym c.line.ensures ∙ s.in_default.is in
-            let line : cells_of_line (columns_of before y) ≡ 0 = ap cells_of_line bare in
-            let read = h.read in
-            let cells = s.cells-is in
-            omega (arith, cells, read, more, line, skipped)
-      ];
-      count = elim c.match-line.branch [
-        | in-Some s ↦
-            let r = s.in-Some.field-0 in
-            let number = s.from.ensures in
-            let cells = s.cells-is in
-            let sum : c.loop-y.cells + (r.last - r.first + 1) ≡ c.match-line.cells = omega (arith, number, cells) in
-            rw s.rows-is (subst (λ n. GrewBy n cells_read (g.R.Rows.cells_read s.compose_row.new.rows)) sum
-            (grew-more c.loop-y.cells (r.last - r.first + 1) cells_read (g.R.Rows.cells_read c.loop-y.rows) (g.R.Rows.cells_read s.compose_row.new.rows) h.count s.compose_row.ensures.count))
-        | in_default s ↦ rw (s.rows-is, s.cells-is) h.count
-      ];
-      composed = composed-to f old.lines old.columns before c.args.picture.now c.requires.covered (y + 1) next c.match-line.damage c.match-line.picture composed from
-          (omega (arith, inside, height)) none;
+      windows = grind arith;
+      read = grind arith;
+      count = grind (arith, grew-more);
+      composed = grind (arith, composed-to);
       inside = omega (arith, inside, height);
     }
 
