@@ -1,5 +1,5 @@
 -- Damaged lines are composed one after another.
-use Rattle.std.proofs.Common.{◌≡◌, ℕ, zero, suc, ◌+◌, ◌-◌, ◌*◌, ◌<◌, ◌≤◌, Bool, true, false, ◌==◌, ◌&&◌, nat_le, nat_lt, if◌then◌else◌, Option, Some, None, List, length, refl, sym, ap}
+use Rattle.std.proofs.Common.{◌≡◌, ℕ, zero, suc, ◌+◌, ◌-◌, ◌*◌, ◌<◌, ◌≤◌, false, ◌==◌, ◌&&◌, nat_le, nat_lt, if◌then◌else◌, Option, Some, None, List, length, refl, sym, ap}
 use Rattle.std.proofs.Common.{subst, ◌∙◌, arith, get_or-set_other, get_or-set_same}
 use Rattle.std.specs.Prelude.{slice_set}
 use Rattle.std.proofs.Math.Nat.{mul-le-mul_left, mul-le-mul_right}
@@ -16,12 +16,9 @@ use Rattle.picture.proofs.Lines.{ShownAbove}
 
 -- ---- how many cells
 
-line-most : (columns : ℕ) (c : Option Columns) → AreColumnsWithin columns c → cells_of_line c ≤ columns
-line-most columns c h = grind arith
-
 above-most : (columns : ℕ) (d : List (Option Columns)) → ((y : ℕ) → AreColumnsWithin columns (columns_of d y)) → (y : ℕ) → cells_above d y ≤ y * columns
 above-most columns d h zero = omega arith
-above-most columns d h (suc y) = grind (arith, line-most, (above-most columns d h y))
+above-most columns d h (suc y) = grind (arith, (above-most columns d h y))
 
 -- with one line more they are fewer than can be counted
 pub fits-more : (lines columns : ℕ) (d : List (Option Columns)) → ((y : ℕ) → AreColumnsWithin columns (columns_of d y)) → lines ≤ LARGEST_SCREEN → columns ≤ LARGEST_SCREEN
@@ -69,20 +66,11 @@ module _ (f : ℕ → ℕ → Shown) (lines columns : ℕ) (before : List (Optio
       → ComposedAbove f lines columns before old (y + 1) damage now
   composed-bare y damage now h inside none = grind (arith, cases_eq)
 
-  in-line : (line inside : Bool) (one other : Shown) → line ≡ true → (inside ≡ false → other ≡ one) → (if line && inside then one else other) ≡ one
-  in-line line inside one other is h = grind arith
-
-  off-line : (line inside : Bool) (one other : Shown) → line ≡ false → (if line && inside then one else other) ≡ other
-  off-line line inside one other is = grind arith
-
-  among-end : (r : Columns) (u : ℕ) → (nat_le r.first u && nat_lt u (r.last + 1)) ≡ (nat_le r.first u && nat_le u r.last)
-  among-end r u = grind (arith, nat_tests)
-
   -- a line with damaged columns
   pub composed-more : (y : ℕ) (r : Columns) (damage : List (Option Columns)) (now next : Picture) → ComposedAbove f lines columns before old y damage now → y < lines → columns_of damage y ≡ Some r
       → ((v u : ℕ) → shown_at next (v, u) ≡ (if (v == y) && (nat_le r.first u && nat_lt u (r.last + 1)) then f y u else shown_at now (v, u))) → HasSize lines columns next
       → ComposedAbove f lines columns before old (y + 1) (slice_set damage y None) next
-  composed-more y r damage now next h inside some line size = grind (arith, length-set, cases_eq, in-line, eq-eqb, among-end, off-line, ne_eqb, get_or-set_other, get_or-set_same)
+  composed-more y r damage now next h inside some line size = grind (arith, length-set, cases_eq, eq-eqb, nat_tests, ne_eqb, get_or-set_other, get_or-set_same)
 
   -- lines that aren't damaged
   composed-steps : (y n : ℕ) (damage : List (Option Columns)) (now : Picture) → ComposedAbove f lines columns before old y damage now → y + n ≤ lines

@@ -1,8 +1,7 @@
 -- The search goes along the panels from the top, and the columns that stay alike grow fewer.
-use Rattle.std.proofs.Common.{◌≡◌, ◌≢◌, ℕ, suc, ◌+◌, ◌-◌, ◌<◌, ◌≤◌, Bool, true, false, Option, Some, List, [], ◌∷◌, reverse, refl, arith}
-use Rattle.std.specs.Prelude.{All, AllPairs, IsSomeAnd, find, not, unwrap_or}
+use Rattle.std.proofs.Common.{◌≡◌, ◌≢◌, ℕ, suc, ◌+◌, ◌-◌, ◌<◌, ◌≤◌, Bool, true, Option, Some, List, [], ◌∷◌, reverse, refl, arith}
+use Rattle.std.specs.Prelude.{All, AllPairs, IsSomeAnd, find, not}
 use Rattle.std.specs.List.{AllByRecursion}
-use Rattle.std.specs.Option.{option_map_or}
 use Rattle.std.proofs.lemmas.Bool.{cases_lt}
 use Rattle.std.proofs.lemmas.List.{get_or-reverse, length-reverse}
 use Rattle.std.proofs.lemmas.List.Elements.{recursion_from_All}
@@ -39,26 +38,16 @@ each-back P xs h = recursion_from_All P (reverse xs) (all-back P xs h)
 
 -- ---- the first that does
 
-first-is : (f : ℕ → Bool) (p : ℕ) (rest : List ℕ) → f p ≡ true → find f (p ∷ rest) ≡ Some p
-first-is f p rest e = rw e refl
-
-first-is_not : (f : ℕ → Bool) (p : ℕ) (rest : List ℕ) → f p ≡ false → find f (p ∷ rest) ≡ find f rest
-first-is_not f p rest e = rw e refl
-
 first-does : (f : ℕ → Bool) (x : ℕ) (xs : List ℕ) (p : ℕ) (b : Bool) → f x ≡ b → find f (x ∷ xs) ≡ Some p → (find f xs ≡ Some p → f p ≡ true) → f p ≡ true
-first-does f x xs p b on is rest = grind (arith, first-is, first-is_not)
+first-does f x xs p b on is rest = grind arith
 
 found-does : (f : ℕ → Bool) (xs : List ℕ) (p : ℕ) → find f xs ≡ Some p → f p ≡ true
 found-does f [] p is = cc
 found-does f (x ∷ xs) p is = first-does f x xs p (f x) refl is (found-does f xs p)
 
--- the window that the search finds holds the place, where the standard screen does
-panel-held : (window : WindowMap) (o : Option ℕ) (y x : ℕ) → option_map_or (λ w. holds window w y x) o false ≡ true → holds window (unwrap_or o standard_screen) y x ≡ true
-panel-held window o y x h = grind arith
-
 pub owner-held : (window : WindowMap) (panels : Panels) (y x : ℕ) (o : Option ℕ) → owner window panels y x ≡ o → holds window standard_screen y x ≡ true
     → holds window (window_or_standard panels o) y x ≡ true
-owner-held window panels y x o is standard = grind (arith, panel-held, found-does)
+owner-held window panels y x o is standard = grind (arith, found-does)
 
 -- ---- the search
 
@@ -83,11 +72,8 @@ pub along-of : (window : WindowMap) (panels : Panels) (y p w : ℕ) (r : Rect) (
     → IsAlong (λ u q. panel_holds window panels y u q) p x end last held
 along-of window panels y p w r x end last held has rect from within same another = grind arith
 
-other-than : (o : Option ℕ) (p : ℕ) (rest : List ℕ) → IsSomeAnd o (λ q. IsOut q (p ∷ rest)) → o ≢ Some p
-other-than o p rest h = grind arith
-
 module _ (f : ℕ → ℕ → Bool) (o : ℕ → Option ℕ) (x edge end : ℕ) where
   -- one that does
   pub searched-held : (p : ℕ) (rest : List ℕ) (last : ℕ) → Searched f o x edge end (p ∷ rest) → IsAlong f p x end last true
       → ((u : ℕ) → x ≤ u → u ≤ last → o u ≡ Some p) × (last < edge → o (last + 1) ≢ Some p)
-  searched-held p rest last h along = grind (arith, first-is, cases_lt, found-does, other-than)
+  searched-held p rest last h along = grind (arith, cases_lt, found-does)

@@ -20,9 +20,6 @@ loop-owners-init g c = record {
   line = search rules;
 }
 
-pub run-run-requires : goal.run-run-requires
-run-run-requires g c κs = grind arith
-
 pub rect-rect-requires : goal.rect-rect-requires
 rect-rect-requires g c κs =
     let held = held_run c.loop-owners.invariant.same c.run-run.ensures.run c.loop-owners.invariant.from c.requires.standard in

@@ -1,5 +1,5 @@
 -- Each round composes the damaged columns of one line more; the others were those of the picture before.
-use Rattle.std.proofs.Common.{rules, ◌≡◌, ℕ, suc, ◌+◌, ◌-◌, ◌<◌, ◌≤◌, ◌==◌, ◌&&◌, true, nat_le, nat_lt, if◌then◌else◌, None, refl, ap, sym, ◌∙◌, arith}
+use Rattle.std.proofs.Common.{rules, ◌≡◌, ℕ, suc, ◌+◌, ◌-◌, ◌<◌, ◌≤◌, ◌==◌, ◌&&◌, true, nat_le, nat_lt, if◌then◌else◌, None, refl, ap, sym, ◌∙◌, arith, add_assoc}
 use Rattle.std.proofs.lemmas.Grind.{common_steps}
 use Rattle.cell.specs.Pictures.{shown_at}
 use Rattle.cell.specs.Shown.{Shown, shown}
@@ -9,9 +9,9 @@ use Rattle.world.specs.Windows.{Windows}
 use Rattle.stack.specs.Tables.{panels}
 use Rattle.picture.specs.Damages.{cells_above, cells_of_line, columns_of}
 use Rattle.picture.proofs.Composing.{ComposedAbove, composed-bare, composed-more, composed-none, composed-to, fits-more, no-more-to}
-use Rattle.picture.proofs.Counting.{grew-more}
 use Rattle.picture.proofs.Lines.{shown-all}
 use Rattle.picture.proofs.Standard.{sound-windows, standard-holds}
+use Rattle.std.proofs.Math.Nat.{mod-add-mod}
 use Rattle.picture.proofs.repair.show_damaged.Goals.{in-Some, in_default}
 use Rattle.picture.proofs.repair.show_damaged.Goals as goal
 
@@ -73,13 +73,10 @@ loop-y-preserved g c =
     record {
       windows = grind arith;
       read = grind arith;
-      count = grind (arith, grew-more);
+      count = grind (arith, mod-add-mod, add_assoc);
       composed = grind (arith, composed-to);
       inside = omega (arith, inside, height);
     }
-
-pub returns-clause-read : goal.returns-clause-read
-returns-clause-read g c = grind arith
 
 pub returns-clause-shown : goal.returns-clause-shown
 returns-clause-shown g c =
