@@ -6,10 +6,10 @@ use Rattle.std.proofs.lemmas.List.{append-nil}
 use Rattle.cell.specs.Glyphs.{is_printable}
 use Rattle.ecma.specs.Items.{Function, Item, Printable, Control, Unfinished, IsDigit, AreParameters, IsBeginning, IsItem, MayPrecede, EndsOrEscapes, bytes_of, final_byte, introducer}
 use Rattle.ecma.specs.Terminals.{Terminal, print, effect}
-use Rattle.ecma.proofs.Numbers.{each-append}
+use Rattle.ecma.proofs.Each.{each-append, each-back, each-prefix}
 use Rattle.ecma.proofs.Printing.{from_space}
 use Rattle.ecma.proofs.Stopping.{NoEffect}
-use Rattle.ecma.proofs.Unique.{IsInner, Stops, cut, All-append, All-prefix, joined-inner, final-stops, not-digit, not-escape, shape-of, same-parameters}
+use Rattle.ecma.proofs.Unique.{IsInner, Stops, cut, joined-each, joined-inner, final-stops, not-digit, not-escape, shape-of, same-parameters}
 
 -- ---- in text
 
@@ -20,13 +20,7 @@ escape-first byte q following h e = elim (shape-of q h) [
 ]
 
 pub NoEffect-text : (byte : ℕ) (t : Terminal) → (byte ≡ 27 → ⊥) → (IsTrue (is_printable byte) → print byte t ≡ None) → NoEffect (byte ∷ []) t
-NoEffect-text byte t other prints = record { each = none } where
-  none : (item : Item) (following : List ℕ) → byte ∷ [] ≡ bytes_of item ++ following → IsItem item → MayPrecede item following → effect item t ≡ None
-  none (Printable c) following e is p =
-      let same : byte ≡ c = cc in
-      subst (λ (b : ℕ). print b t ≡ None) same (prints (subst (λ (b : ℕ). IsTrue (is_printable b)) (sym same) is))
-  none (Control function parameters) following e is p = absurd (let same : byte ≡ 27 = cc in other same)
-  none (Unfinished q) following e is p = absurd (other (escape-first byte q following is e))
+NoEffect-text byte t other prints = grind (arith, escape-first)
 
 -- ---- after an escape
 
@@ -50,10 +44,6 @@ NoEffect-escape byte t other no_bracket = record { each = none } where
 is_inner : (byte : ℕ) → IsInner byte ⊎ (IsInner byte → ⊥)
 is_inner byte = grind arith
 
-All-back : (a b : List ℕ) → AllByRecursion IsInner (a ++ b) → AllByRecursion IsInner b
-All-back [] b h = h
-All-back (x ∷ a) b h = All-back a b h.1
-
 same-joined : (ps qs : List (List ℕ)) → AreParameters ps → AreParameters qs → join_with_byte 59 ps ≡ join_with_byte 59 qs → ps ≡ qs
 same-joined [] qs h k e = absurd (omega (arith, h.one))
 same-joined (a ∷ ps) [] h k e = absurd (omega (arith, k.one))
@@ -61,7 +51,7 @@ same-joined (a ∷ ps) (b ∷ qs) h k e = same-parameters a ps b qs h.digits k.d
 
 module _ (ps : List (List ℕ)) (byte : ℕ) (t : Terminal) (h : AreParameters ps) (other : byte ≡ 27 → ⊥) where
   all-inner : IsInner byte → AllByRecursion IsInner (join_with_byte 59 ps ++ byte ∷ [])
-  all-inner inner = All-append (join_with_byte 59 ps) (byte ∷ []) (joined-inner ps h.digits) (inner, tt)
+  all-inner inner = each-append IsInner (join_with_byte 59 ps) (byte ∷ []) (joined-inner ps h.digits) (inner, tt)
 
   -- no control sequence ends before the byte, and one that ends with it has these parameters
   none-control : (function : Function) (qs : List (List ℕ)) (following : List ℕ) → AreParameters qs
@@ -70,7 +60,7 @@ module _ (ps : List (List ℕ)) (byte : ℕ) (t : Terminal) (h : AreParameters p
   none-control function qs following k e none = elim (is_inner byte) [
     | inl inner ↦
         let all : AllByRecursion IsInner ((join_with_byte 59 qs ++ final_byte function ∷ []) ++ following) = subst (λ (bytes : List ℕ). AllByRecursion IsInner bytes) e (all-inner inner) in
-        let last = All-back (join_with_byte 59 qs) (final_byte function ∷ []) (All-prefix (join_with_byte 59 qs ++ final_byte function ∷ []) following all) in
+        let last = each-back IsInner (join_with_byte 59 qs) (final_byte function ∷ []) (each-prefix IsInner (join_with_byte 59 qs ++ final_byte function ∷ []) following all) in
         absurd (final-stops function [] last.0)
     | inr stops ↦
         let both = cut IsInner (join_with_byte 59 ps) (join_with_byte 59 qs) (byte ∷ []) (final_byte function ∷ following) (joined-inner ps h.digits) (joined-inner qs k.digits) stops
@@ -83,13 +73,10 @@ module _ (ps : List (List ℕ)) (byte : ℕ) (t : Terminal) (h : AreParameters p
 
   none-begun : (inner following : List ℕ) → AllByRecursion IsInner inner → EndsOrEscapes following → IsBeginning (27 ∷ 91 ∷ inner) → join_with_byte 59 ps ++ byte ∷ [] ≡ inner ++ following
       → (IsInner byte → IsBeginning (27 ∷ 91 ∷ (join_with_byte 59 ps ++ byte ∷ [])) → ⊥) → ⊥
-  none-begun inner [] each there begins e goes_on =
-      let same : inner ≡ join_with_byte 59 ps ++ byte ∷ [] = sym (e ∙ append-nil inner) in
-      let last = All-back (join_with_byte 59 ps) (byte ∷ []) (subst (λ (bytes : List ℕ). AllByRecursion IsInner bytes) same each) in
-      goes_on last.0 (subst (λ (bytes : List ℕ). IsBeginning (27 ∷ 91 ∷ bytes)) same begins)
+  none-begun inner [] each there begins e goes_on = grind (arith, append-nil, (each-back IsInner (join_with_byte 59 ps) (byte ∷ [])))
   none-begun inner (x ∷ following) each there begins e goes_on = elim (is_inner byte) [
     | inl here ↦
-        let last = All-back inner (x ∷ following) (subst (λ (bytes : List ℕ). AllByRecursion IsInner bytes) e (all-inner here)) in
+        let last = each-back IsInner inner (x ∷ following) (subst (λ (bytes : List ℕ). AllByRecursion IsInner bytes) e (all-inner here)) in
         omega (arith, last.0.0)
     | inr stops ↦
         let both = cut IsInner (join_with_byte 59 ps) inner (byte ∷ []) (x ∷ following) (joined-inner ps h.digits) each stops (λ last. omega (arith, last.0)) e in
@@ -211,24 +198,15 @@ no-more_parameters ended current h full begins = grind (arith, ended-few, append
 
 -- ---- a byte that no parameters have
 
-final-no_colon : (function : Function) → final_byte function ≡ 58 → ⊥
-final-no_colon function e = grind arith
-
 abbrev NoColon : List ℕ → Type 0
 NoColon bytes = AllByRecursion (λ byte. byte ≡ 58 → ⊥) bytes
 
-digits-no_colon : (digits : List ℕ) → AllByRecursion IsDigit digits → NoColon digits
-digits-no_colon [] h = tt
-digits-no_colon (digit ∷ digits) h = ((λ e. omega (arith, h.0.1)), digits-no_colon digits h.1)
-
 joined-no_colon : (parameters : List (List ℕ)) → AreDigits parameters → NoColon (join_with_byte 59 parameters)
-joined-no_colon [] h = tt
-joined-no_colon (digits ∷ []) h = digits-no_colon digits h.0
-joined-no_colon (digits ∷ next ∷ parameters) h = grind (arith, each-append, digits-no_colon, (joined-no_colon (next ∷ parameters) h.1))
+joined-no_colon = joined-each (λ byte. byte ≡ 58 → ⊥) (λ e. omega (arith, e)) (λ digit h e. omega (arith, h.1, e))
 
 no-colon_after : (prefix missing : List ℕ) → NoColon (prefix ++ 58 ∷ missing) → ⊥
 no-colon_after [] missing h = h.0 refl
 no-colon_after (byte ∷ prefix) missing h = no-colon_after prefix missing h.1
 
 pub no-colon : (prefix : List ℕ) → IsBeginning (27 ∷ 91 ∷ (prefix ++ 58 ∷ [])) → ⊥
-no-colon prefix begins = grind (arith, each-append, joined-no_colon, final-no_colon, no-colon_after, append_assoc)
+no-colon prefix begins = grind (arith, each-append, joined-no_colon, no-colon_after, append_assoc)

@@ -1,10 +1,10 @@
 -- Lines of a picture, erased.
-use Rattle.std.proofs.Common.{◌≡◌, ℕ, zero, suc, ◌+◌, ◌-◌, ◌<◌, ◌≤◌, Bool, true, false, List, [], ◌∷◌, ◌++◌, length, get_or, set, take, drop, map, inl, inr, refl, sym, ap, ◌∙◌, arith}
+use Rattle.std.proofs.Common.{◌≡◌, ℕ, zero, suc, ◌+◌, ◌-◌, ◌<◌, ◌≤◌, Bool, List, [], ◌∷◌, ◌++◌, length, get_or, set, take, drop, map, inl, inr, refl, sym, ap, ◌∙◌, arith}
 use Rattle.std.proofs.Common.{append_assoc, length-append}
 use Rattle.std.specs.Prelude.{◌==◌, ◌&&◌, nat_le, nat_lt, if◌then◌else◌}
 use Rattle.std.proofs.lemmas.Bool.{cases_eq, eq-eqb, ne_eqb, le-leb, lt-leb, lt-ltb, le-ltb}
-use Rattle.std.proofs.lemmas.List.{append-nil, drop_more, get_or_append_left, get_or-append_right, get_or-drop, get_or-set_other, get_or-set_same, get_or-take, get_or_at, length-drop, length-map}
-use Rattle.std.proofs.lemmas.List.{length-take, length-take-le, map_push, set_at, take-append-drop, take_more}
+use Rattle.std.proofs.lemmas.List.{drop_more, get_or_append_left, get_or-append_right, get_or-drop, get_or-set_other, get_or-set_same, get_or-take, get_or_at, length-drop, length-map}
+use Rattle.std.proofs.lemmas.List.{length-take, length-take-le, map_push, set_at, take_more}
 use Rattle.cell.specs.Shown.{Shown, shown_blank}
 use Rattle.cell.specs.Pictures.{Picture, HasSize, cell_or, line_of}
 use Rattle.cell.proofs.PictureLemmas.{length-line, same_pictures}
@@ -29,20 +29,10 @@ span All column columns = (0, columns)
 abbrev is_within : ℕ × ℕ → ℕ → Bool
 is_within ends x = nat_le ends.0 x && nat_lt x ends.1
 
-within-true : (ends : ℕ × ℕ) (x : ℕ) → ends.0 ≤ x → x < ends.1 → is_within ends x ≡ true
-within-true ends x from to = rw (le-leb ends.0 x from, lt-ltb x ends.1 to) refl
-
-within-before : (ends : ℕ × ℕ) (x : ℕ) → x < ends.0 → is_within ends x ≡ false
-within-before ends x before = rw (lt-leb ends.0 x before) refl
-
-within-after : (ends : ℕ × ℕ) (x : ℕ) → ends.0 ≤ x → ends.1 ≤ x → is_within ends x ≡ false
-within-after ends x from after = rw (le-leb ends.0 x from, le-ltb x ends.1 after) refl
-
 erased-cell : (how : Erase) (column x : ℕ) (row : List Shown) → column < length row → x < length row
     → (if is_within (span how column (length row)) x then shown_blank else get_or row x shown_blank) ≡ get_or (erased_line how column row) x shown_blank
-erased-cell ToEnd column x row h k = grind (arith, length-take, within-before, get_or_append_left, get_or-take, within-true, get_or-append_right, length-take-le, blank_line-cell)
-erased-cell FromStart column x row h k = grind (arith, length-map, length-take-le, within-true, get_or_append_left, blank_line-cell, within-after, get_or-append_right, get_or-drop)
-erased-cell All column x row h k = rw (within-true (0, length row) x (omega arith) k) (sym (blank_line-cell row x))
+erased-cell how column x row h k =
+    grind (arith, length-take, lt-leb, get_or_append_left, get_or-take, le-leb, lt-ltb, get_or-append_right, length-take-le, blank_line-cell, length-map, le-ltb, get_or-drop)
 
 pub filled-is : (how : Erase) (line column lines columns : ℕ) (old new : Picture) → HasSize lines columns old → HasSize lines columns new → line < lines → column < columns
     → ((v u : ℕ) → cell_or shown_blank new (v, u) ≡ (if (v == line) && is_within (span how column columns) u then shown_blank else cell_or shown_blank old (v, u)))
@@ -83,9 +73,6 @@ fill-erases how line column lines columns y start end ends old new h k below lef
 -- the lines from first up to end, which is left out, erased
 abbrev pub lines_blanked : ℕ → ℕ → Picture → Picture
 lines_blanked first end picture = take first picture ++ map blank_line (take (end - first) (drop first picture)) ++ drop end picture
-
-pub lines_blanked-none : (first : ℕ) (picture : Picture) → picture ≡ lines_blanked first first picture
-lines_blanked-none first picture = grind (arith, append-nil, take-append-drop)
 
 length-prefix : (first i : ℕ) (picture : Picture) → first ≤ i → i < length picture → length (take first picture ++ map blank_line (take (i - first) (drop first picture))) ≡ i
 length-prefix first i picture h k = grind (arith, length-take-le, length-map, length-drop, length-append)

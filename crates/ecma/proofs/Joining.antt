@@ -4,6 +4,7 @@ use Rattle.std.proofs.lemmas.List.{append-nil, take-append-drop, take-append-le,
 use Rattle.std.proofs.Math.Seq.{take-append-add}
 use Rattle.std.specs.List.{AllByRecursion}
 use Rattle.std.specs.Option.{option_and_then}
+use Rattle.ecma.proofs.Each.{each-append}
 use Rattle.ecma.specs.Items.{Item, Printable, Control, Unfinished, IsItem, IsFinished, bytes_of, MayPrecede, EndsOrEscapes, Splits}
 use Rattle.ecma.specs.Terminals.{Terminal, effect, effects}
 use Rattle.ecma.specs.Streams.{Leads, LeadsWithBreaks, EndsFinished, IsInProfile, Reaches}
@@ -24,25 +25,13 @@ effects-then prefix back t u v e f = rw (effects-append prefix back t, e) f
 
 -- ---- items one after another
 
--- more bytes may follow
-pub EndsOrEscapes-append : (bytes more : List ℕ) → EndsOrEscapes bytes → EndsOrEscapes more → EndsOrEscapes (bytes ++ more)
-EndsOrEscapes-append [] more here there = there
-EndsOrEscapes-append (byte ∷ bytes) more here there = here
-
-MayPrecede-escape : (item : Item) (bytes more : List ℕ) → MayPrecede item bytes → EndsOrEscapes more → MayPrecede item (bytes ++ more)
-MayPrecede-escape (Printable byte) bytes more here there = tt
-MayPrecede-escape (Control function parameters) bytes more here there = tt
-MayPrecede-escape (Unfinished begun) bytes more here there = EndsOrEscapes-append bytes more here there
-
 pub MayPrecede-finished : (item : Item) (bytes : List ℕ) → IsFinished item → MayPrecede item bytes
-MayPrecede-finished (Printable byte) bytes h = tt
-MayPrecede-finished (Control function parameters) bytes h = tt
-MayPrecede-finished (Unfinished begun) bytes h = absurd h
+MayPrecede-finished item bytes h = grind arith
 
 -- an escape, or nothing, may follow any items
 pub Splits-then_escape : (bytes : List ℕ) (items : List Item) (rest more : List ℕ) → Splits bytes items rest → EndsOrEscapes more → Splits (bytes ++ more) items (rest ++ more)
 Splits-then_escape bytes [] rest more h there = ap (λ (prefix : List ℕ). prefix ++ more) h
-Splits-then_escape bytes (item ∷ items) rest more h there = grind (arith, append_assoc, MayPrecede-escape, (Splits-then_escape h.0 items rest more h.4 there))
+Splits-then_escape bytes (item ∷ items) rest more h there = grind (arith, append_assoc, (Splits-then_escape h.0 items rest more h.4 there))
 
 -- anything may follow finished items
 pub Splits-then : (bytes : List ℕ) (items : List Item) (rest more : List ℕ) → Splits bytes items rest → AllByRecursion IsFinished items → Splits (bytes ++ more) items (rest ++ more)
@@ -54,17 +43,13 @@ pub Splits-append : (bytes : List ℕ) (items : List Item) (middle : List ℕ) (
 Splits-append bytes [] middle others rest h k = rw h k
 Splits-append bytes (item ∷ items) middle others rest h k = (h.0, h.1, h.2, h.3, Splits-append h.0 items middle others rest h.4 k)
 
-AllFinished-append : (items others : List Item) → AllByRecursion IsFinished items → AllByRecursion IsFinished others → AllByRecursion IsFinished (items ++ others)
-AllFinished-append [] others h k = k
-AllFinished-append (item ∷ items) others h k = (h.0, AllFinished-append items others h.1 k)
-
 -- ---- the law
 
 pub Leads-append : (stream more : List ℕ) (t u v : Terminal) → Leads stream t u → Leads more u v → Leads (stream ++ more) t v
 Leads-append stream more t u v h k = record {
   items = h.items ++ k.items;
   splits = Splits-append (stream ++ more) h.items more k.items [] (Splits-then stream h.items [] more h.splits h.finished) k.splits;
-  finished = AllFinished-append h.items k.items h.finished k.finished;
+  finished = each-append IsFinished h.items k.items h.finished k.finished;
   have_effect = effects-then h.items k.items t u v h.have_effect k.have_effect;
 }
 
@@ -76,14 +61,8 @@ bytes_of_some item h = grind arith
 Splits_some : (bytes : List ℕ) (item : Item) (items : List Item) (rest : List ℕ) → Splits bytes (item ∷ items) rest → 0 < length bytes
 Splits_some bytes item items rest h = rw h.1 (omega (arith, bytes_of_some item h.2, length-append (bytes_of item) h.0))
 
-EndsOrEscapes-then : (bytes more : List ℕ) → 0 < length bytes → EndsOrEscapes bytes → EndsOrEscapes (bytes ++ more)
-EndsOrEscapes-then [] more some h = absurd (omega arith)
-EndsOrEscapes-then (byte ∷ bytes) more some h = h
-
 MayPrecede-then : (item : Item) (bytes more : List ℕ) → 0 < length bytes → MayPrecede item bytes → MayPrecede item (bytes ++ more)
-MayPrecede-then (Printable byte) bytes more some h = tt
-MayPrecede-then (Control function parameters) bytes more some h = tt
-MayPrecede-then (Unfinished begun) bytes more some h = EndsOrEscapes-then bytes more some h
+MayPrecede-then item bytes more some h = grind arith
 
 pub Splits-ends_then : (bytes : List ℕ) (items : List Item) (more : List ℕ) → Splits bytes items [] → EndsFinished items → Splits (bytes ++ more) items more
 Splits-ends_then bytes [] more h ends = ap (λ (prefix : List ℕ). prefix ++ more) h

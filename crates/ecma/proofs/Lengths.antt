@@ -6,11 +6,10 @@ use Rattle.std.proofs.lemmas.List.Concat.{flat_map-append}
 use Rattle.std.proofs.lemmas.Fmt.{length-decimal-le}
 use Rattle.cell.specs.Shown.{Rendition, IsColour, IsRendition, has_colour}
 use Rattle.cell.specs.declared.limits.TheConstants.{LARGEST_SCREEN, LAST_COLOUR}
-use Rattle.ecma.specs.declared.token.Erase.{Erase}
 use Rattle.ecma.specs.declared.token.Token.{Token}
-use Rattle.ecma.specs.declared.token.Token.TheVariants.{Print, Cup, Sgr, El, Ed}
+use Rattle.ecma.specs.declared.token.Token.TheVariants.{Cup, Sgr}
 use Rattle.ecma.specs.Terminals.{first_foreground, first_background}
-use Rattle.ecma.specs.Spelling.{spelling, selection, codes_of, codes_of_attributes, code_of_colour, erasure_spelling, longest, IsToken}
+use Rattle.ecma.specs.Spelling.{spelling, selection, codes_of, codes_of_attributes, code_of_colour, longest, IsToken}
 use Rattle.ecma.proofs.Numbers.{one_digit, few_attributes}
 
 pub length-cup : (line column : ℕ) → line < LARGEST_SCREEN → column < LARGEST_SCREEN → length (spelling (Cup line column)) ≤ 10
@@ -34,13 +33,10 @@ length-colour first None few h = omega arith
 length-colour first (Some number) few h =
     omega (arith, length-append (59 ∷ decimal (first + number)) [], length-decimal-le 2 (first + number) (omega arith) (omega arith) (omega arith))
 
-pub selection-append : (a b : List ℕ) → selection (a ++ b) ≡ selection a ++ selection b
-selection-append a b = flat_map-append (λ code. 59 ∷ decimal code) a b
-
 -- what is sent of a rendition, part by part
 pub selection-codes_of : (rendition : Rendition) → selection (codes_of rendition)
     ≡ selection (codes_of_attributes rendition.attributes) ++ selection (code_of_colour first_foreground rendition.foreground) ++ selection (code_of_colour first_background rendition.background)
-selection-codes_of rendition = grind (arith, selection-append)
+selection-codes_of rendition = grind (arith, flat_map-append)
 
 pub length-sgr : (rendition : Rendition) → IsRendition rendition → length (spelling (Sgr rendition)) ≤ 22
 unfolding spelling
@@ -56,21 +52,11 @@ length-colour_room first None few h = omega arith
 length-colour_room first (Some number) few h =
     omega (arith, length-append (59 ∷ decimal (first + number)) [], length-decimal-le 2 (first + number) (omega arith) (omega arith) (omega arith))
 
-colours_room : (rendition : Rendition) → colour_room rendition.foreground + colour_room rendition.background ≤ (if has_colour rendition then 6 else 0)
-colours_room rendition = grind arith
-
 -- a selection has at most 16 bytes, and 6 more where there is a colour
 pub length-selection : (rendition : Rendition) → IsRendition rendition → length (spelling (Sgr rendition)) ≤ 16 + (if has_colour rendition then 6 else 0)
 unfolding spelling
-length-selection rendition h = grind (arith, selection-codes_of, length-append, length-codes, one_digit, few_attributes, length-colour_room, colours_room)
-
-length-erasing : (how : Erase) → length (erasure_spelling how) ≤ 1
-length-erasing how = grind arith
+length-selection rendition h = grind (arith, selection-codes_of, length-append, length-codes, one_digit, few_attributes, length-colour_room)
 
 pub length-spelling : (token : Token) → IsToken token → length (spelling token) ≤ longest token
 unfolding spelling
-length-spelling (Print byte) h = omega arith
-length-spelling (Cup line column) h = length-cup line column h.0 h.1
-length-spelling (Sgr rendition) h = length-sgr rendition h
-length-spelling (El how) h = omega (arith, length-erasing how, length-append (erasure_spelling how) (75 ∷ []))
-length-spelling (Ed how) h = omega (arith, length-erasing how, length-append (erasure_spelling how) (74 ∷ []))
+length-spelling token h = grind (arith, length-cup, length-sgr, length-append)

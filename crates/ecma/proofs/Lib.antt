@@ -1,5 +1,7 @@
 -- Worked streams on a terminal of 4 by 10, for a reader of the definitions
 pub mod Examples
+-- A fact of each item of a list; for `Beginnings`, `Joining`, `Numbers` and others
+pub mod Each
 -- Numbers in parameters, and the codes of a set of attributes; for `Beginnings`, `Lengths`, `Selecting` and others
 pub mod Numbers
 -- A cell can hold what is from the space to the tilde; for `Beginnings`, `Unique`

@@ -1,5 +1,5 @@
 -- Numbers in parameters, and the codes of a set of attributes.
-use Rattle.std.proofs.Common.{◌≡◌, ℕ, ◌+◌, ◌^◌, ◌<◌, ◌≤◌, Bool, true, List, [], ◌∷◌, ◌++◌, length, length-append, Option, Some, None, refl, ap, ◌∙◌, arith, rules}
+use Rattle.std.proofs.Common.{◌≡◌, ℕ, ◌+◌, ◌^◌, ◌<◌, ◌≤◌, Bool, true, List, [], ◌∷◌, ◌++◌, length, length-append, Option, Some, None, refl, ◌∙◌, arith, rules}
 use Rattle.std.specs.Prelude.{unwrap_or, is_none, ◌&&◌, ◌==◌, nat_lt, decimal}
 use Rattle.std.specs.List.{list_all, AllByRecursion}
 use Rattle.std.specs.Str.Parse.{digits_value}
@@ -8,11 +8,12 @@ use Rattle.std.proofs.lemmas.Fmt.{decimal_nonempty, digits_decimal, digits_value
 use Rattle.std.proofs.lemmas.Bool.{and_parts, ltb-true, eqb-true, agree_below_at}
 use Rattle.std.specs.Option.{option_and_then}
 use Rattle.std.proofs.lemmas.Bool.Decides.{nat_tests}
-use Rattle.cell.specs.Shown.{Rendition, IsColour, IsRendition, no_rendition}
+use Rattle.cell.specs.Shown.{Rendition, IsRendition, no_rendition}
 use Rattle.cell.specs.declared.limits.TheConstants.{LAST_COLOUR}
 use Rattle.ecma.specs.Items.{IsDigit}
 use Rattle.ecma.specs.Terminals.{first_foreground, first_background, number_or, select, select_all}
 use Rattle.ecma.specs.Spelling.{codes_of_attributes, code_of_colour, codes_of}
+use Rattle.ecma.proofs.Each.{each-append, each-weaker}
 
 numerals : IsNumeralModel (AllByRecursion IsDigit) (digits_value 10)
 numerals = numerals_by_value (AllByRecursion IsDigit) (search rules)
@@ -49,20 +50,16 @@ is_spelled_below : (bits : ℕ) → bits < 64 → is_spelled (codes_of_attribute
 unfolding codes_of_attributes select selected unknown
 is_spelled_below bits fits = agree_below_at (λ (n : ℕ). is_spelled (codes_of_attributes n) n) (λ _. true) 64 bits refl fits
 
-none_from_is_none : (o : Option ℕ) → is_none o ≡ true → o ≡ None
-none_from_is_none o h = grind arith
-
 -- a rendition of these attributes alone
 abbrev only : ℕ → Rendition
 only bits = record { attributes = bits; foreground = None; background = None }
 
 only_from : (rendition : Rendition) (bits : ℕ) → has_only rendition bits ≡ true → rendition ≡ only bits
-only_from rendition bits h = grind (arith, and_parts, eqb-true, none_from_is_none)
+only_from rendition bits h = grind (arith, and_parts, eqb-true)
 
 some_from_selected : (o : Option Rendition) (bits : ℕ) → bits < 64 → unwrap_or o unknown ≡ only bits → o ≡ Some (only bits)
 unfolding unknown
-some_from_selected None bits small e = absurd (let same : 0x40 ≡ bits = ap (λ (r : Rendition). r.attributes) e in omega arith)
-some_from_selected (Some rendition) bits small e = ap Some e
+some_from_selected o bits small e = grind arith
 
 pub select_all-attributes : (bits : ℕ) → bits < 64 → select_all (codes_of_attributes bits) no_rendition ≡ Some (only bits)
 unfolding selected
@@ -95,15 +92,6 @@ select-background : (number : ℕ) (rendition : Rendition) → number ≤ LAST_C
 unfolding select
 select-background number rendition small = grind (arith, nat_tests)
 
-foreground-selected : (foreground : Option ℕ) (bits : ℕ) → IsColour foreground
-    → select_all (code_of_colour first_foreground foreground) (only bits) ≡ Some (record { attributes = bits; foreground = foreground; background = None })
-foreground-selected foreground bits h = grind (arith, select-foreground)
-
-background-selected : (foreground background : Option ℕ) (bits : ℕ) → IsColour background
-    → select_all (code_of_colour first_background background) (record { attributes = bits; foreground = foreground; background = None })
-    ≡ Some (record { attributes = bits; foreground = foreground; background = background })
-background-selected foreground background bits h = grind (arith, select-background)
-
 -- ---- all codes
 
 then_append : (codes more : List ℕ) (o : Option Rendition) → ((next : Rendition) → select_all (codes ++ more) next ≡ option_and_then (select_all more) (select_all codes next))
@@ -115,25 +103,13 @@ select_all-append [] more rendition = refl
 select_all-append (code ∷ codes) more rendition = then_append codes more (select code rendition) (λ next. select_all-append codes more next)
 
 pub select_all-codes_of : (rendition : Rendition) → IsRendition rendition → select_all (codes_of rendition) no_rendition ≡ Some rendition
-select_all-codes_of rendition h = grind (arith, select_all-append, select_all-attributes, foreground-selected, background-selected)
-
-pub each-append : (P : ℕ → Type 0) (a b : List ℕ) → AllByRecursion P a → AllByRecursion P b → AllByRecursion P (a ++ b)
-each-append P [] b h k = k
-each-append P (x ∷ a) b h k = (h.0, each-append P a b h.1 k)
-
-small-colour : (first : ℕ) (colour : Option ℕ) → first ≤ 40 → IsColour colour → AllByRecursion (λ code. code < 100) (code_of_colour first colour)
-small-colour first colour few h = grind arith
-
-wider : (codes : List ℕ) → AllByRecursion (λ code. code < 10) codes → AllByRecursion (λ code. code < 100) codes
-wider [] h = tt
-wider (code ∷ codes) h = (omega (arith, h.0), wider codes h.1)
+select_all-codes_of rendition h = grind (arith, select_all-append, select_all-attributes, select-foreground, select-background)
 
 pub codes_small : (rendition : Rendition) → IsRendition rendition → AllByRecursion (λ code. code < 100) (codes_of rendition)
 codes_small rendition h =
-    each-append _ (codes_of_attributes rendition.attributes ++ code_of_colour first_foreground rendition.foreground) _
-    (each-append _ (codes_of_attributes rendition.attributes) _ (wider _ (one_digit rendition.attributes h.of_the_six))
-    (small-colour first_foreground rendition.foreground (omega arith) h.foreground))
-    (small-colour first_background rendition.background (omega arith) h.background)
+    let small : AllByRecursion (λ code. code < 100) (codes_of_attributes rendition.attributes) =
+    each-weaker (λ code. code < 10) (λ code. code < 100) (λ code h. omega (arith, h)) (codes_of_attributes rendition.attributes) (one_digit rendition.attributes h.of_the_six) in
+    search (rules, each-append)
 
 length-colour : (first : ℕ) (colour : Option ℕ) → length (code_of_colour first colour) ≤ 1
 length-colour first colour = grind arith

@@ -1,7 +1,8 @@
 -- What a reader has after one more byte.
+use Rattle.std.proofs.Common.{rules}
 use Rattle.std.proofs.Common.{◌≡◌, ℕ, ◌+◌, ◌<◌, ◌≤◌, Bool, true, false, List, [], ◌∷◌, ◌++◌, length, map, Option, Some, None, inl, inr, refl, sym, ap, ◌∙◌, subst, arith, append_assoc, length-append}
 use Rattle.std.specs.Prelude.{◌⊎◌, if◌then◌else◌, IsTrue, codes}
-use Rattle.std.specs.List.{AllByRecursion, join_with_byte}
+use Rattle.std.specs.List.{join_with_byte}
 use Rattle.std.specs.Option.{option_and_then}
 use Rattle.std.proofs.lemmas.Bool.{cases_eq, cases_lt, ne_eqb}
 use Rattle.std.proofs.lemmas.List.{append-nil, length-map, map_push}
@@ -10,13 +11,14 @@ use Rattle.std.proofs.lemmas.Str.{digit_value_digit}
 use Rattle.cell.specs.Glyphs.{is_printable}
 use Rattle.ecma.specs.declared.terminal.State.{State}
 use Rattle.ecma.specs.declared.terminal.State.TheVariants.{Text, Escape, Parameters, Failed}
-use Rattle.ecma.specs.Items.{Function, CUP, ED, EL, SGR, Printable, Control, Unfinished, IsDigit, AreParameters, IsBeginning, EndsOrEscapes, final_byte, control_sequence, escape, introducer}
+use Rattle.ecma.specs.Items.{Function, SGR, Printable, Control, Unfinished, IsDigit, AreParameters, IsBeginning, EndsOrEscapes, final_byte, control_sequence, escape, introducer}
 use Rattle.ecma.specs.Items.{separator}
 use Rattle.ecma.specs.Terminals.{Terminal, print, effect}
 use Rattle.ecma.specs.Streams.{FailsAt, IsInProfile, Leads, LeadsWithBreaks}
 use Rattle.ecma.specs.Parameters.{Parameter, parameter_of}
 use Rattle.ecma.specs.steps.Parameters.{no_digits, longer, function_of}
 use Rattle.ecma.specs.Readers.{Reader, saturating_u64, InText, InItem, InParameters, HasFailed, HasReadIn, Follows}
+use Rattle.ecma.proofs.Each.{each-append, each-back, each-prefix}
 use Rattle.ecma.proofs.Beginnings.{NoEffect-text, NoEffect-escape, NoEffect-parameters, join-more, no-more_digits, no-more_parameters, no-colon, final-no_digit, final-no_separator}
 use Rattle.ecma.proofs.Joining.{InProfile-append, LeadsWithBreaks-append, LeadsWithBreaks-in_profile, Leads-repairs, Reaches-in_profile}
 use Rattle.ecma.proofs.Failing.{FailsAt-outside, FailsAt-terminal, Reaches-unique}
@@ -57,23 +59,11 @@ in_item-in_profile stream first reader unfinished h begins there = grind (arith,
 
 -- ---- parameters one after another
 
-each-push : {A : Type 0} (P : A → Type 0) (xs : List A) (x : A) → AllByRecursion P xs → P x → AllByRecursion P (xs ++ x ∷ [])
-each-push P [] x h k = (k, tt)
-each-push P (y ∷ xs) x h k = (h.0, each-push P xs x h.1 k)
-
-each-prefix : {A : Type 0} (P : A → Type 0) (xs : List A) (x : A) → AllByRecursion P (xs ++ x ∷ []) → AllByRecursion P xs
-each-prefix P [] x h = tt
-each-prefix P (y ∷ xs) x h = (h.0, each-prefix P xs x h.1)
-
-each-last : {A : Type 0} (P : A → Type 0) (xs : List A) (x : A) → AllByRecursion P (xs ++ x ∷ []) → P x
-each-last P [] x h = h.0
-each-last P (y ∷ xs) x h = each-last P xs x h.1
-
 with-digit : (ended : List (List ℕ)) (current : List ℕ) (byte : ℕ) → AreParameters (ended ++ current ∷ []) → IsDigit byte → length current < 3 → AreParameters (ended ++ (current ++ byte ∷ []) ∷ [])
-with-digit ended current byte h digit few = grind (arith, length-append, each-push, each-prefix, each-last)
+with-digit ended current byte h digit few = grind (arith, length-append, each-append, each-prefix, each-back)
 
 with-next : (parameters : List (List ℕ)) → AreParameters parameters → length parameters < 16 → AreParameters (parameters ++ [] ∷ [])
-with-next parameters h few = grind (arith, length-append, each-push)
+with-next parameters h few = grind (arith, length-append, each-append)
 
 join-longer : (ended : List (List ℕ)) (current more : List ℕ) → join_with_byte 59 (ended ++ current ∷ []) ++ more ≡ join_with_byte 59 (ended ++ (current ++ more) ∷ [])
 join-longer [] current more = refl
@@ -92,25 +82,7 @@ function_of-byte : (function : Function) → function_of (final_byte function) �
 function_of-byte function = grind arith
 
 byte-of_function : (byte : ℕ) (function : Function) → function_of byte ≡ Some function → byte ≡ final_byte function
-byte-of_function byte function e = elim (cases_eq byte 72) [
-  | inl cup ↦ same-byte byte CUP function cup e
-  | inr no_cup ↦ elim (cases_eq byte 74) [
-    | inl ed ↦ same-byte byte ED function ed e
-    | inr no_ed ↦ elim (cases_eq byte 75) [
-      | inl el ↦ same-byte byte EL function el e
-      | inr no_el ↦ elim (cases_eq byte 109) [
-        | inl sgr ↦ same-byte byte SGR function sgr e
-        | inr no_sgr ↦
-            let none : function_of byte ≡ None = rw (ne_eqb byte 72 no_cup, ne_eqb byte 74 no_ed, ne_eqb byte 75 no_el, ne_eqb byte 109 no_sgr) refl in
-            let never : ◌≡◌ {A = Option Function} None (Some function) = sym none ∙ e in absurd cc
-      ]
-    ]
-  ]
-] where
-  same-byte : (byte : ℕ) (known function : Function) → byte ≡ final_byte known → function_of byte ≡ Some function → byte ≡ final_byte function
-  same-byte byte known function is e =
-      let both : ◌≡◌ {A = Option Function} (Some known) (Some function) = sym (function_of-byte known) ∙ ap function_of (sym is) ∙ e in
-      let same : known ≡ function = cc in is ∙ ap final_byte same
+byte-of_function byte function e = grind (arith, cases_eq, ne_eqb, function_of-byte)
 
 -- ---- readers
 
@@ -161,11 +133,7 @@ module _ (t : Terminal) (ended : List Parameter) (current : Parameter) (at start
 
   pub unprinted-follows : (byte : ℕ) → (byte ≡ 27 → ⊥) → (IsTrue (is_printable byte) → print byte t ≡ None)
       → Follows (byte ∷ []) (reader_of t Text ended current at start) (reader_of t Failed ended current (saturating_u64 (at + 1)) at)
-  unprinted-follows byte other none stream first h = record {
-    offset = length stream;
-    fails = FailsAt-leads stream byte first t h.leads (NoEffect-text byte t other none);
-    at_is = h.read;
-  }
+  unprinted-follows byte other none stream first h = search (rules, FailsAt-leads, NoEffect-text)
 
   -- ---- after an escape
 
@@ -184,8 +152,7 @@ module _ (t : Terminal) (ended : List Parameter) (current : Parameter) (at start
 
   pub other-follows : (byte : ℕ) → (byte ≡ 27 → ⊥) → (byte ≡ 91 → ⊥)
       → Follows (byte ∷ []) (reader_of t Escape ended current at start) (reader_of t Failed ended current (saturating_u64 (at + 1)) start)
-  other-follows byte other no_bracket stream first h =
-      fails-there stream first t Escape ended current at start byte (escape ∷ []) h refl (NoEffect-escape byte t other no_bracket)
+  other-follows byte other no_bracket stream first h = search (rules, fails-there, NoEffect-escape)
 
   -- ---- within parameters
 
@@ -211,9 +178,7 @@ module _ (t : Terminal) (ended : List Parameter) (current : Parameter) (at start
       → (IsBeginning (27 ∷ 91 ∷ (join_with_byte 59 (h.ended ++ h.current ∷ []) ++ byte ∷ [])) → ⊥)
       → ((function : Function) → byte ≡ final_byte function → effect (Control function (h.ended ++ h.current ∷ [])) t ≡ None)
       → HasFailed (stream ++ byte ∷ []) first t start
-  fails-here stream first byte h other stops ends =
-      fails-there stream first t Parameters ended current at start byte (introducer ++ join_with_byte separator (h.ended ++ h.current ∷ [])) h.in_item refl
-      (NoEffect-parameters (h.ended ++ h.current ∷ []) byte t h.well_formed other (λ inner. stops) ends)
+  fails-here stream first byte h other stops ends = search (rules, fails-there, NoEffect-parameters)
 
   pub full-follows : (byte : ℕ) → IsDigit byte → 3 ≤ current.digits
       → Follows (byte ∷ []) (reader_of t Parameters ended current at start) (reader_of t Failed ended current (saturating_u64 (at + 1)) start)
@@ -265,12 +230,6 @@ module _ (t : Terminal) (ended : List Parameter) (current : Parameter) (at start
         leads = subst (λ (bytes : List ℕ). LeadsWithBreaks bytes first u) (sym whole) (Leads-repairs h.in_item.prefix sequence first t u h.in_item.in_profile leads (omega arith) refl);
         read = next-read stream byte at h.in_item.read;
       }
-
-  -- the same of a terminal and parameters that are these
-  pub Ends-along : (v : Terminal) (others : List Parameter) (last : Parameter) (byte : ℕ) (after : Option Terminal)
-      → reader_of v Parameters others last at start ≡ reader_of t Parameters ended current at start
-      → ((digits : List (List ℕ)) → map parameter_of digits ≡ others ++ last ∷ [] → after ≡ option_and_then (λ function. effect (Control function digits) v) (function_of byte)) → Ends byte after
-  Ends-along v others last byte after same h = grind arith
 
   pub ending-follows : (u : Terminal) (byte : ℕ) → Ends byte (Some u)
       → Follows (byte ∷ []) (reader_of t Parameters ended current at start) (reader_of u Text ended current (saturating_u64 (at + 1)) start)
@@ -328,9 +287,6 @@ reader-in_profile stream first reader not_failed h = by_state reader.state refl 
       in_item-in_profile stream first reader (introducer ++ join_with_byte separator (h.ended ++ h.current ∷ [])) h.in_item (sequence-begins (h.ended ++ h.current ∷ []) h.well_formed) refl
   by_state Failed is h = absurd (not_failed is)
 
-pub reader-failed : (stream : List ℕ) (first : Terminal) (reader : Reader) → reader.state ≡ Failed → HasReadIn reader.state stream first reader → HasFailed stream first reader.terminal reader.start
-reader-failed stream first reader is h = subst (λ (state : State). HasReadIn state stream first reader) is h
-
 -- ---- one stream, one terminal
 
 in_profile-unique : (stream : List ℕ) (t u v : Terminal) → IsInProfile stream t u → IsInProfile stream t v → u ≡ v
@@ -340,12 +296,7 @@ abbrev Fate : List ℕ → Terminal → Reader → Type 0
 Fate stream first reader = IsInProfile stream first reader.terminal ⊎ HasFailed stream first reader.terminal reader.start
 
 fate : (stream : List ℕ) (first : Terminal) (reader : Reader) → HasReadIn reader.state stream first reader → Fate stream first reader
-fate stream first reader h = by_state reader.state refl where
-  by_state : (state : State) → reader.state ≡ state → Fate stream first reader
-  by_state Text is = inl (reader-in_profile stream first reader (λ failed. let never : Text ≡ Failed = sym is ∙ failed in absurd cc) h)
-  by_state Escape is = inl (reader-in_profile stream first reader (λ failed. let never : Escape ≡ Failed = sym is ∙ failed in absurd cc) h)
-  by_state Parameters is = inl (reader-in_profile stream first reader (λ failed. let never : Parameters ≡ Failed = sym is ∙ failed in absurd cc) h)
-  by_state Failed is = inr (reader-failed stream first reader is h)
+fate stream first reader h = grind (arith, reader-in_profile)
 
 pub one-terminal_shown : (stream : List ℕ) (first : Terminal) (one other : Reader) → HasReadIn one.state stream first one → HasReadIn other.state stream first other → one.terminal ≡ other.terminal
 one-terminal_shown stream first one other h k = elim (fate stream first one h) [
@@ -368,9 +319,3 @@ when-true b p x o h e = grind arith
 pub when-false : {A : Type 0} (b p : Bool) (x : A) (o : Option A) → b ≡ false → (let one : Option A = if b then Some x else None in one) ≡ (let other : Option A = if p then o else None in other)
     → p ≡ true → o ≡ None
 when-false b p x o h e k = grind arith
-
-pub some-if : {A : Type 0} (b : Bool) (x y : A) (r : Option A) → r ≡ (let one : Option A = if b then Some x else None in one) → r ≡ Some y → (b ≡ true) × (y ≡ x)
-some-if b x y r e h = grind arith
-
-pub none-if : {A : Type 0} (b : Bool) (x : A) (r : Option A) → r ≡ (let one : Option A = if b then Some x else None in one) → r ≡ None → b ≡ false
-none-if b x r e h = grind arith

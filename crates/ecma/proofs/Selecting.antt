@@ -42,12 +42,9 @@ with_off-made rendition made old others bits pair few same left colours is =
 
 -- ---- numbers of parameters
 
-pub number_of-parameter_of : (default : ℕ) (digits : List ℕ) → number_of default (parameter_of digits) ≡ number_or default digits
-number_of-parameter_of default digits = grind (arith, ne_eqb)
-
 numbers-kept : (digits : List (List ℕ)) → map (number_or 0) digits ≡ map (number_of 0) (map parameter_of digits)
 numbers-kept [] = refl
-numbers-kept (first ∷ digits) = grind (arith, number_of-parameter_of, (numbers-kept digits))
+numbers-kept (first ∷ digits) = grind (arith, ne_eqb, (numbers-kept digits))
 
 -- what the parameters select
 abbrev pub selected_by : List Parameter → Rendition → Option Rendition
@@ -57,12 +54,9 @@ pub select_all-kept : (digits : List (List ℕ)) (parameters : List Parameter) (
     → select_all (map (number_or 0) digits) rendition ≡ selected_by parameters rendition
 select_all-kept digits parameters rendition e = grind (arith, numbers-kept)
 
-then-nothing : (o : Option Rendition) → option_and_then (select_all []) o ≡ o
-then-nothing o = grind arith
-
 selected_by-push : (parameters : List Parameter) (last : Parameter) (rendition selected : Rendition) → selected_by parameters rendition ≡ Some selected
     → selected_by (parameters ++ last ∷ []) rendition ≡ select (number_of 0 last) selected
-selected_by-push parameters last rendition selected e = grind (arith, map_push, select_all-append, then-nothing)
+selected_by-push parameters last rendition selected e = grind (arith, map_push, select_all-append)
 
 pub selected-next : (ended : List Parameter) (i : ℕ) (parameter : Parameter) (rendition selected : Rendition) → i < length ended → parameter ≡ get_or ended i parameter
     → selected_by (take i ended) rendition ≡ Some selected

@@ -1,15 +1,16 @@
 -- No effect changes the size of the picture.
-use Rattle.std.proofs.Common.{◌≡◌, ℕ, zero, suc, ◌+◌, ◌<◌, Bool, true, false, cond, List, [], ◌∷◌, ◌++◌, length, set, take, drop, map, Option, Some, None, ◌∙◌, subst, arith, length-append}
+use Rattle.std.proofs.Common.{◌≡◌, ℕ, zero, suc, ◌+◌, ◌<◌, Bool, true, false, cond, List, [], ◌∷◌, length, set, take, drop, map, Option, Some, None, ◌∙◌, subst, arith, length-append}
 use Rattle.std.proofs.Common.{length-take, length-drop}
 use Rattle.std.specs.Option.{option_map, option_and_then}
 use Rattle.std.specs.List.{AllByRecursion}
 use Rattle.std.proofs.lemmas.List.{length-set, length-map}
 use Rattle.cell.specs.Shown.{Shown, shown_blank, shown_with, is_empty}
-use Rattle.cell.specs.Pictures.{Picture, Place, line_of, is_place, HasSize}
+use Rattle.cell.specs.Pictures.{Picture, Place, line_of, HasSize}
 use Rattle.ecma.specs.declared.token.Erase.{Erase}
 use Rattle.ecma.specs.declared.token.Erase.TheVariants.{ToEnd, FromStart, All}
 use Rattle.ecma.specs.Items.{Item, Printable, Control, Unfinished, CUP, ED, EL, SGR}
-use Rattle.ecma.specs.Terminals.{Terminal, blank_line, erased_line, erased_at, erased_page, erase_line, erase_page, move_to, print_at, effect, effects, position, erasure, select_all, number_or}
+use Rattle.ecma.specs.Terminals.{Terminal, blank_line, erased_line, erased_at, erased_page, erase_line, erase_page, print_at, effect, effects, erasure}
+use Rattle.ecma.proofs.Each.{each-append}
 use Rattle.ecma.proofs.Joining.{effects_first}
 
 abbrev AreWide : ℕ → Picture → Type 0
@@ -29,10 +30,6 @@ wide-drop : (columns n : ℕ) (lines : Picture) → AreWide columns lines → Ar
 wide-drop columns zero lines h = h
 wide-drop columns (suc n) [] h = tt
 wide-drop columns (suc n) (line ∷ lines) h = wide-drop columns n lines h.1
-
-wide-append : (columns : ℕ) (a b : Picture) → AreWide columns a → AreWide columns b → AreWide columns (a ++ b)
-wide-append columns [] b h k = k
-wide-append columns (line ∷ a) b h k = (h.0, wide-append columns a b h.1 k)
 
 wide-blank : (columns : ℕ) (lines : Picture) → AreWide columns lines → AreWide columns (map blank_line lines)
 wide-blank columns [] h = tt
@@ -58,14 +55,14 @@ size-erased_page lines columns ToEnd place picture h =
     let at = size-erased_at lines columns ToEnd place picture h in
     record {
       height = simp (length-append, length-map, length-take, length-drop, length-set) (omega (arith, h.height));
-      width = wide-append columns (take (place.0 + 1) (erased_at ToEnd place picture)) (map blank_line (drop (place.0 + 1) picture))
+      width = each-append (λ line. length line ≡ columns) (take (place.0 + 1) (erased_at ToEnd place picture)) (map blank_line (drop (place.0 + 1) picture))
           (wide-take columns (place.0 + 1) (erased_at ToEnd place picture) at.width) (wide-blank columns (drop (place.0 + 1) picture) (wide-drop columns (place.0 + 1) picture h.width));
     }
 size-erased_page lines columns FromStart place picture h =
     let at = size-erased_at lines columns FromStart place picture h in
     record {
       height = simp (length-append, length-map, length-take, length-drop, length-set) (omega (arith, h.height));
-      width = wide-append columns (map blank_line (take place.0 picture)) (drop place.0 (erased_at FromStart place picture))
+      width = each-append (λ line. length line ≡ columns) (map blank_line (take place.0 picture)) (drop place.0 (erased_at FromStart place picture))
           (wide-blank columns (take place.0 picture) (wide-take columns place.0 picture h.width)) (wide-drop columns place.0 (erased_at FromStart place picture) at.width);
     }
 size-erased_page lines columns All place picture h = record { height = length-map picture blank_line ∙ h.height; width = wide-blank columns picture h.width }
@@ -81,8 +78,7 @@ keeps-none : (lines columns : ℕ) → Keeps lines columns None
 keeps-none lines columns u e = absurd cc
 
 keeps-map : {A : Type 0} (lines columns : ℕ) (f : A → Terminal) (o : Option A) → ((x : A) → HasSize lines columns (f x).picture) → Keeps lines columns (option_map f o)
-keeps-map lines columns f None h = keeps-none lines columns
-keeps-map lines columns f (Some x) h = keeps-some lines columns (f x) (h x)
+keeps-map lines columns = grind (arith, keeps-none, keeps-some)
 
 keeps-then : {A : Type 0} (lines columns : ℕ) (f : A → Option Terminal) (o : Option A) → ((x : A) → Keeps lines columns (f x)) → Keeps lines columns (option_and_then f o)
 keeps-then lines columns f None h = keeps-none lines columns
@@ -103,14 +99,12 @@ size-erase_page lines columns All t h = keeps-cond lines columns (is_empty t.ren
 size-effect : (lines columns : ℕ) (item : Item) (t : Terminal) → HasSize lines columns t.picture → Keeps lines columns (effect item t)
 size-effect lines columns (Printable byte) t h = keeps-map lines columns (print_at byte t) t.cursor
     (λ place. size-row lines columns t.picture place.0 (set (line_of t.picture place.0) place.1 (shown_with t.rendition byte)) h (length-set (line_of t.picture place.0) place.1 _))
-size-effect lines columns (Control CUP parameters) t h = keeps-then lines columns (λ place. move_to place t) (position parameters)
-    (λ place. keeps-cond lines columns (is_place t.picture place) (Some (record t { cursor = Some place })) (keeps-some lines columns (record t { cursor = Some place }) h))
+size-effect lines columns (Control CUP parameters) t h = grind (arith, keeps-then, keeps-cond, keeps-some)
 size-effect lines columns (Control ED parameters) t h = keeps-then lines columns (λ how. erase_page how t) (erasure parameters) (λ how. size-erase_page lines columns how t h)
 size-effect lines columns (Control EL parameters) t h = keeps-then lines columns (λ how. erase_line how t) (erasure parameters)
     (λ how. keeps-cond lines columns (is_empty t.rendition) _ (keeps-map lines columns (λ place. record t { picture = erased_at how place t.picture }) t.cursor
     (λ place. size-erased_at lines columns how place t.picture h)))
-size-effect lines columns (Control SGR parameters) t h = keeps-map lines columns (λ rendition. record t { rendition = rendition }) (select_all (map (number_or 0) parameters) t.rendition)
-    (λ rendition. h)
+size-effect lines columns (Control SGR parameters) t h = grind (arith, keeps-map)
 size-effect lines columns (Unfinished begun) t h = keeps-some lines columns t h
 
 pub size-effects : (lines columns : ℕ) (items : List Item) (t u : Terminal) → HasSize lines columns t.picture → effects items t ≡ Some u → HasSize lines columns u.picture

@@ -1,5 +1,5 @@
 -- Where no item with an effect begins, the stream fails, whatever follows.
-use Rattle.std.proofs.Common.{◌≡◌, ℕ, ◌+◌, ◌-◌, ◌<◌, ◌≤◌, List, [], ◌∷◌, ◌++◌, length, Option, Some, None, inl, inr, refl, sym, ap, ◌∙◌, subst, arith, append_assoc, length-append}
+use Rattle.std.proofs.Common.{◌≡◌, ℕ, ◌+◌, ◌-◌, ◌<◌, ◌≤◌, List, [], ◌∷◌, ◌++◌, length, Option, Some, None, inl, inr, refl, sym, ap, ◌∙◌, subst, arith, append_assoc, length-append, rules}
 use Rattle.std.proofs.lemmas.Bool.{cases_lt}
 use Rattle.std.proofs.lemmas.List.{append-nil}
 use Rattle.ecma.specs.Items.{Item, Printable, Control, Unfinished, IsItem, IsBeginning, bytes_of, MayPrecede, EndsOrEscapes, Splits}
@@ -19,30 +19,13 @@ reaches_less rest (item ∷ more) left last u none h e less = grind (arith, effe
 -- the stream fails at what is left of it
 pub FailsAt-rest : (stream : List ℕ) (items : List Item) (rest : List ℕ) (offset : ℕ) (first last : Terminal) → Splits stream items rest → effects items first ≡ Some last
     → offset + length rest ≡ length stream → 0 < length rest → NoEffect rest last → FailsAt stream first offset last
-FailsAt-rest stream items rest offset first last h e at some none = record {
-  reaches = record { items = items; rest = rest; splits = h; at = at; have_effect = e };
-  short = omega arith;
-  greatest = λ further u r. elim (cases_lt offset further) [
-    | inl beyond ↦
-        let there = r.at in
-        let less : length r.rest < length rest = omega arith in
-        let prefix = Splits-prefix stream items r.items rest r.rest h r.splits (omega arith) in
-        let both : effects (items ++ prefix.0) first ≡ Some u = sym (ap (λ (row : List Item). effects row first) prefix.1) ∙ r.have_effect in
-        let last_part : effects prefix.0 last ≡ Some u = effects-rest items prefix.0 first last u e both in
-        absurd (reaches_less rest prefix.0 r.rest last u none prefix.2 last_part less)
-    | inr le ↦ le
-  ];
-} where
-  effects-rest : (prefix back : List Item) (t u v : Terminal) → effects prefix t ≡ Some u → effects (prefix ++ back) t ≡ Some v → effects back u ≡ Some v
-  effects-rest prefix back t u v one both = rw (effects-append prefix back t, one) at both
+FailsAt-rest stream items rest offset first last h e at some none = grind (arith, cases_lt, Splits-prefix, reaches_less, effects-append)
 
 -- ---- failing at once
 
 -- after items of which the last is finished
 pub FailsAt-leads : (stream : List ℕ) (byte : ℕ) (first last : Terminal) → LeadsWithBreaks stream first last → NoEffect (byte ∷ []) last → FailsAt (stream ++ byte ∷ []) first (length stream) last
-FailsAt-leads stream byte first last h none =
-    FailsAt-rest (stream ++ byte ∷ []) h.items (byte ∷ []) (length stream) first last (Splits-ends_then stream h.items (byte ∷ []) h.splits h.ends_finished) h.have_effect
-    (sym (length-append stream (byte ∷ []))) (omega arith) none
+FailsAt-leads stream byte first last h none = search (rules, FailsAt-rest, Splits-ends_then, length-append)
 
 -- where an escape begins what has no effect
 pub FailsAt-escape : (prefix rest : List ℕ) (first last : Terminal) → IsInProfile prefix first last → EndsOrEscapes rest → 0 < length rest → NoEffect rest last
@@ -70,26 +53,14 @@ split (x ∷ a) b (y ∷ c) d e h =
     record { between = rest.between; long = cc; after = rest.after }
 
 MayPrecede-prefix : (item : Item) (bytes more : List ℕ) → MayPrecede item (bytes ++ more) → MayPrecede item bytes
-MayPrecede-prefix (Printable byte) bytes more h = tt
-MayPrecede-prefix (Control function parameters) bytes more h = tt
-MayPrecede-prefix (Unfinished begun) [] more h = tt
-MayPrecede-prefix (Unfinished begun) (byte ∷ bytes) more h = h
+MayPrecede-prefix item bytes more h = grind arith
 
 -- what is shorter than an item is one itself
 beginning-of : (rest missing : List ℕ) (item : Item) → 0 < length rest → 0 < length missing → IsItem item → rest ++ missing ≡ bytes_of item → IsBeginning rest
 beginning-of rest missing (Printable byte) some more h e =
     let long : length (rest ++ missing) ≡ 1 = ap length e in absurd (omega (arith, length-append rest missing))
-beginning-of rest missing (Control function parameters) some more h e =
-    record { begun = some; function = function; parameters = parameters; missing = missing; well_formed = h; not_finished = more; goes_on = e }
-beginning-of rest missing (Unfinished begun) some more h e = record {
-  begun = some;
-  function = h.function;
-  parameters = h.parameters;
-  missing = missing ++ h.missing;
-  well_formed = h.well_formed;
-  not_finished = omega (arith, length-append missing h.missing);
-  goes_on = sym (append_assoc rest missing h.missing) ∙ ap (λ (prefix : List ℕ). prefix ++ h.missing) e ∙ h.goes_on;
-}
+beginning-of rest missing (Control function parameters) some more h e = grind arith
+beginning-of rest missing (Unfinished begun) some more h e = grind (arith, length-append, append_assoc)
 
 NoEffect-append : (rest more : List ℕ) (t : Terminal) → 0 < length rest → NoEffect rest t → NoEffect (rest ++ more) t
 NoEffect-append rest more t some none = record {

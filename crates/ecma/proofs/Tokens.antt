@@ -7,7 +7,6 @@ use Rattle.std.proofs.lemmas.Fmt.{length-decimal-le}
 use Rattle.std.proofs.lemmas.Bool.{lt-ltb}
 use Rattle.cell.specs.Shown.{Rendition, IsRendition, no_rendition}
 use Rattle.ecma.specs.declared.token.Erase.{Erase}
-use Rattle.ecma.specs.declared.token.Erase.TheVariants.{ToEnd, FromStart, All}
 use Rattle.ecma.specs.declared.token.Token.{Token}
 use Rattle.ecma.specs.declared.token.Token.TheVariants.{Print, Cup, Sgr, El, Ed}
 use Rattle.ecma.specs.Items.{Printable, Control, CUP, ED, EL, SGR, IsDigit, AreParameters}
@@ -84,9 +83,7 @@ erasure_of-spelling : (how : Erase) → erasure_of (number_or 0 (erasure_spellin
 erasure_of-spelling how = grind arith
 
 erasing : (how : Erase) → AreParameters (erasure_spelling how ∷ [])
-erasing ToEnd = record { one = omega arith; most = omega arith; digits = (tt, tt); short = (omega arith, tt) }
-erasing FromStart = record { one = omega arith; most = omega arith; digits = ((((omega arith), (omega arith)), tt), tt); short = (omega arith, tt) }
-erasing All = record { one = omega arith; most = omega arith; digits = ((((omega arith), (omega arith)), tt), tt); short = (omega arith, tt) }
+erasing how = grind arith
 
 pub is_item_of : (token : Token) → IsToken token → IsItemOf (spelling token) token
 unfolding spelling

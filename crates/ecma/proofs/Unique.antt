@@ -1,11 +1,12 @@
 -- A stream is one sequence of items at most, and so is each prefix of it.
 use Rattle.std.proofs.Common.{◌≡◌, ℕ, ◌<◌, ◌≤◌, List, [], ◌∷◌, ◌++◌, length, refl, sym, ap, ◌∙◌, subst, arith, append_assoc, length-append, inl, inr}
 use Rattle.std.specs.Prelude.{◌⊎◌, ⊤}
+use Rattle.ecma.proofs.Each.{each-append, each-weaker}
 use Rattle.ecma.proofs.Joining.{bytes_of_some}
 use Rattle.ecma.proofs.Printing.{from_space}
 use Rattle.std.proofs.lemmas.List.{append-nil}
 use Rattle.std.specs.List.{AllByRecursion, join_with_byte}
-use Rattle.ecma.specs.Items.{Function, CUP, ED, EL, SGR, Item, Printable, Control, Unfinished, IsDigit, AreParameters, IsBeginning, IsItem, MayPrecede, EndsOrEscapes, Splits, final_byte, bytes_of}
+use Rattle.ecma.specs.Items.{Function, Item, Control, Unfinished, IsDigit, AreParameters, IsBeginning, IsItem, MayPrecede, EndsOrEscapes, Splits, final_byte, bytes_of}
 
 -- a digit or a semicolon
 abbrev pub IsInner : ℕ → Type 0
@@ -34,28 +35,19 @@ cut P (x ∷ a) (y ∷ b) f g ha hb hf hg e =
     let first : a ≡ b = rest.first in
     record { first = cc; second = rest.second }
 
-pub All-append : (a b : List ℕ) → AllByRecursion IsInner a → AllByRecursion IsInner b → AllByRecursion IsInner (a ++ b)
-All-append [] b ha hb = hb
-All-append (x ∷ a) b ha hb = (ha.0, All-append a b ha.1 hb)
-
-pub All-prefix : (a b : List ℕ) → AllByRecursion IsInner (a ++ b) → AllByRecursion IsInner a
-All-prefix [] b h = tt
-All-prefix (x ∷ a) b h = (h.0, All-prefix a b h.1)
-
-digits-inner : (digits : List ℕ) → AllByRecursion IsDigit digits → AllByRecursion IsInner digits
-digits-inner [] h = tt
-digits-inner (digit ∷ digits) h = ((h.0.0, omega (arith, h.0.1)), digits-inner digits h.1)
+-- what holds of a separator and of digits holds of parameters one after another
+pub joined-each : (P : ℕ → Type 0) → P 59 → ((digit : ℕ) → IsDigit digit → P digit) → (parameters : List (List ℕ)) → AllByRecursion (AllByRecursion IsDigit) parameters
+    → AllByRecursion P (join_with_byte 59 parameters)
+joined-each P stop to [] h = tt
+joined-each P stop to (digits ∷ []) h = each-weaker IsDigit P to digits h.0
+joined-each P stop to (digits ∷ next ∷ parameters) h =
+    each-append P digits (59 ∷ join_with_byte 59 (next ∷ parameters)) (each-weaker IsDigit P to digits h.0) (stop, joined-each P stop to (next ∷ parameters) h.1)
 
 pub joined-inner : (parameters : List (List ℕ)) → AllByRecursion (AllByRecursion IsDigit) parameters → AllByRecursion IsInner (join_with_byte 59 parameters)
-joined-inner [] h = tt
-joined-inner (digits ∷ []) h = digits-inner digits h.0
-joined-inner (digits ∷ next ∷ parameters) h = grind (arith, All-append, digits-inner, (joined-inner (next ∷ parameters) h.1))
+joined-inner = joined-each IsInner (omega arith, omega arith) (λ digit h. (h.0, omega (arith, h.1)))
 
 pub final-stops : (function : Function) (bytes : List ℕ) → Stops IsInner (final_byte function ∷ bytes)
-final-stops CUP bytes = λ h. omega (arith, h.1)
-final-stops ED bytes = λ h. omega (arith, h.1)
-final-stops EL bytes = λ h. omega (arith, h.1)
-final-stops SGR bytes = λ h. omega (arith, h.1)
+final-stops function bytes = grind arith
 
 pub not-final : (function : Function) → final_byte function ≡ 27 → ⊥
 not-final function e = grind arith
@@ -109,20 +101,16 @@ shape : (bytes missing : List ℕ) (function : Function) (parameters : List (Lis
 shape [] missing function parameters some more h e = absurd (omega arith)
 shape (x ∷ bytes) [] function parameters some more h e = absurd (omega arith)
 shape (x ∷ []) (m ∷ missing) function parameters some more h e = inl cc
-shape (x ∷ y ∷ p) (m ∷ missing) function parameters some more h e =
-    let tail : p ++ m ∷ missing ≡ join_with_byte 59 parameters ++ final_byte function ∷ [] = cc in
-    inr (record { inner = p; is = cc; each = prefix-inner p (join_with_byte 59 parameters) m missing (final_byte function) (joined-inner parameters h.digits) tail })
+shape (x ∷ y ∷ p) (m ∷ missing) function parameters some more h e = grind (arith, prefix-inner, joined-inner)
 
 pub shape-of : (bytes : List ℕ) → IsBeginning bytes → (bytes ≡ 27 ∷ []) ⊎ Inner bytes
 shape-of bytes h = shape bytes h.missing h.function h.parameters h.begun h.not_finished h.well_formed h.goes_on
 
 escape-stops : (bytes : List ℕ) → EndsOrEscapes bytes → Stops IsInner bytes
-escape-stops [] h = tt
-escape-stops (byte ∷ bytes) h = λ inner. omega (arith, inner.0)
+escape-stops bytes h = grind arith
 
 pub not-escape : (byte : ℕ) (bytes g : List ℕ) → (byte ≡ 27 → ⊥) → byte ∷ bytes ≡ g → EndsOrEscapes g → ⊥
-not-escape byte bytes [] h e k = cc
-not-escape byte bytes (first ∷ g) h e k = let same : byte ≡ first = cc in h (same ∙ k)
+not-escape byte bytes g h e k = grind arith
 
 -- ---- the first item
 
@@ -146,10 +134,7 @@ control-control a (p ∷ ps) b (q ∷ qs) f g h k e =
     record { item = cc; rest = cc }
 
 control-unfinished : (a : Function) (ps : List (List ℕ)) (begun f g : List ℕ) → AreParameters ps → EndsOrEscapes g → (begun ≡ 27 ∷ []) ⊎ Inner begun → bytes_of (Control a ps) ++ f ≡ begun ++ g → ⊥
-control-unfinished a ps begun f g h stop (inl lone) e =
-    let whole : 27 ∷ 91 ∷ ((join_with_byte 59 ps ++ final_byte a ∷ []) ++ f) ≡ 27 ∷ g = e ∙ ap (λ (prefix : List ℕ). prefix ++ g) lone in
-    let after : 91 ∷ ((join_with_byte 59 ps ++ final_byte a ∷ []) ++ f) ≡ g = cc in
-    not-escape 91 ((join_with_byte 59 ps ++ final_byte a ∷ []) ++ f) g (λ same. omega arith) after stop
+control-unfinished a ps begun f g h stop (inl lone) e = grind (arith, not-escape)
 control-unfinished a ps begun f g h stop (inr begins) e =
     let whole : 27 ∷ 91 ∷ ((join_with_byte 59 ps ++ final_byte a ∷ []) ++ f) ≡ 27 ∷ 91 ∷ (begins.inner ++ g) = e ∙ ap (λ (prefix : List ℕ). prefix ++ g) begins.is in
     let after : (join_with_byte 59 ps ++ final_byte a ∷ []) ++ f ≡ begins.inner ++ g = cc in
@@ -158,38 +143,13 @@ control-unfinished a ps begun f g h stop (inr begins) e =
     not-escape (final_byte a) f g (not-final a) both.second stop
 
 unfinished-unfinished : (p q f g : List ℕ) → EndsOrEscapes f → EndsOrEscapes g → (p ≡ 27 ∷ []) ⊎ Inner p → (q ≡ 27 ∷ []) ⊎ Inner q → p ++ f ≡ q ++ g → SameItem (Unfinished p) (Unfinished q) f g
-unfinished-unfinished p q f g h k (inl a) (inl b) e =
-    let whole : 27 ∷ f ≡ 27 ∷ g = sym (ap (λ (prefix : List ℕ). prefix ++ f) a) ∙ e ∙ ap (λ (prefix : List ℕ). prefix ++ g) b in
-    let same : p ≡ q = a ∙ sym b in
-    record { item = cc; rest = cc }
-unfinished-unfinished p q f g h k (inl a) (inr b) e =
-    let whole : 27 ∷ f ≡ 27 ∷ 91 ∷ (b.inner ++ g) = sym (ap (λ (prefix : List ℕ). prefix ++ f) a) ∙ e ∙ ap (λ (prefix : List ℕ). prefix ++ g) b.is in
-    let after : 91 ∷ (b.inner ++ g) ≡ f = cc in
-    absurd (not-escape 91 (b.inner ++ g) f (λ same. omega arith) after h)
-unfinished-unfinished p q f g h k (inr a) (inl b) e =
-    let whole : 27 ∷ 91 ∷ (a.inner ++ f) ≡ 27 ∷ g = sym (ap (λ (prefix : List ℕ). prefix ++ f) a.is) ∙ e ∙ ap (λ (prefix : List ℕ). prefix ++ g) b in
-    let after : 91 ∷ (a.inner ++ f) ≡ g = cc in
-    absurd (not-escape 91 (a.inner ++ f) g (λ same. omega arith) after k)
-unfinished-unfinished p q f g h k (inr a) (inr b) e =
-    let whole : 27 ∷ 91 ∷ (a.inner ++ f) ≡ 27 ∷ 91 ∷ (b.inner ++ g) = sym (ap (λ (prefix : List ℕ). prefix ++ f) a.is) ∙ e ∙ ap (λ (prefix : List ℕ). prefix ++ g) b.is in
-    let after : a.inner ++ f ≡ b.inner ++ g = cc in
-    let both = cut IsInner a.inner b.inner f g a.each b.each (escape-stops f h) (escape-stops g k) after in
-    let same : p ≡ q = a.is ∙ ap (λ (inner : List ℕ). 27 ∷ 91 ∷ inner) both.first ∙ sym b.is in
-    record { item = cc; rest = both.second }
+unfinished-unfinished p q f g h k e h2 h3 = grind (arith, not-escape, cut, escape-stops)
 
 printable-unfinished : (byte : ℕ) (begun f g : List ℕ) → 32 ≤ byte → (begun ≡ 27 ∷ []) ⊎ Inner begun → byte ∷ f ≡ begun ++ g → ⊥
 printable-unfinished byte begun f g h h5 e = grind arith
 
 pub same-first : (i j : Item) (f g : List ℕ) → IsItem i → IsItem j → MayPrecede i f → MayPrecede j g → bytes_of i ++ f ≡ bytes_of j ++ g → SameItem i j f g
-same-first (Printable a) (Printable b) f g h k p q e = record { item = cc; rest = cc }
-same-first (Printable a) (Control b qs) f g h k p q e = absurd (let same : a ≡ 27 = cc in omega (arith, from_space a h))
-same-first (Printable a) (Unfinished b) f g h k p q e = absurd (printable-unfinished a b f g (from_space a h) (shape-of b k) e)
-same-first (Control a ps) (Printable b) f g h k p q e = absurd (let same : b ≡ 27 = cc in omega (arith, from_space b k))
-same-first (Control a ps) (Control b qs) f g h k p q e = grind (arith, control-control)
-same-first (Control a ps) (Unfinished b) f g h k p q e = absurd (control-unfinished a ps b f g h q (shape-of b k) e)
-same-first (Unfinished a) (Printable b) f g h k p q e = absurd (printable-unfinished b a g f (from_space b k) (shape-of a h) (sym e))
-same-first (Unfinished a) (Control b qs) f g h k p q e = absurd (control-unfinished b qs a g f k p (shape-of a h) (sym e))
-same-first (Unfinished a) (Unfinished b) f g h k p q e = unfinished-unfinished a b f g p q (shape-of a h) (shape-of b k) e
+same-first i j f g h k p q e = grind (arith, from_space, printable-unfinished, shape-of, control-control, control-unfinished, unfinished-unfinished)
 
 -- ---- the items of a beginning
 

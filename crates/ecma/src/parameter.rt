@@ -13,7 +13,7 @@ use std::marker::Model;
 const MOST_DIGITS: u8 = 3;
 
 /// A parameter as far as it was read: the number that its digits write, and how many there are.
-#[derive(Clone, Copy, PartialEq, Eq, Debug)]
+#[derive(Clone, Copy)]
 pub struct Parameter {
     value: u16,
     digits: u8,

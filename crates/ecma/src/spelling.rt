@@ -1,12 +1,15 @@
 //! The spelling of tokens.
 
-ghost use Rattle.std.specs.Prelude.{◌≡◌, ◌+◌, ◌≤◌, ◌++◌, length, take};
+ghost use Rattle.std.specs.Prelude.{◌≡◌, ◌+◌, ◌<◌, ◌≤◌, [], ◌∷◌, ◌++◌, length, take};
 ghost use Rattle.cell.specs.Attributes.{bits_of};
+ghost use Rattle.cell.specs.Shown.{IsRendition};
+ghost use Rattle.cell.specs.declared.limits.TheConstants.{LARGEST_SCREEN};
+ghost use Rattle.ecma.specs.Items.{introducer};
 ghost use Rattle.ecma.specs.Spelling.{spelling, selection, codes_of_attributes, code_of_colour, erasure_spelling, longest, IsToken, IsItemOf};
 
 use crate::token::{Erase, Token};
 use bitflags::Flags;
-use cell::{Attr, Colour};
+use cell::{Attr, Colour, Rendition};
 use itoa::Buffer;
 
 /// The most bytes that the spelling of a token has.
@@ -51,33 +54,53 @@ pub fn spell(token: &Token, out: &mut [u8; LONGEST_SPELLING]) -> usize
 {
     match *token {
         Token::Print(byte) => append(out, 0, &[byte]),
-        Token::Cup(line, column) => {
-            let mut digits = Buffer::new();
-            let at = append(out, 0, INTRODUCER);
-            let at = append(out, at, digits.format(line + 1).as_bytes());
-            let at = append(out, at, b";");
-            let at = append(out, at, digits.format(column + 1).as_bytes());
-            append(out, at, b"H")
-        }
-        Token::Sgr(rendition) => {
-            let pair = rendition.colours();
-            let at = append(out, 0, b"\x1b[0");
-            let at = append_codes(out, at, rendition.attrs());
-            let at = append_colour(out, at, FIRST_FOREGROUND, pair.foreground);
-            let at = append_colour(out, at, FIRST_BACKGROUND, pair.background);
-            append(out, at, b"m")
-        }
-        Token::El(erasure) => {
-            let at = append(out, 0, INTRODUCER);
-            let at = append(out, at, erasure_text(erasure));
-            append(out, at, b"K")
-        }
-        Token::Ed(erasure) => {
-            let at = append(out, 0, INTRODUCER);
-            let at = append(out, at, erasure_text(erasure));
-            append(out, at, b"J")
-        }
+        Token::Cup(line, column) => spell_place(line, column, out),
+        Token::Sgr(rendition) => spell_rendition(rendition, out),
+        Token::El(erasure) => spell_erasure(erasure, b'K', out),
+        Token::Ed(erasure) => spell_erasure(erasure, b'J', out),
     }
+}
+
+#[tactic(auto, unfolding(crate::specs::Spelling::spelling))]
+fn spell_place(line: u16, column: u16, out: &mut [u8; LONGEST_SPELLING]) -> usize
+    requires line { line < LARGEST_SCREEN }
+    requires column { column < LARGEST_SCREEN }
+    ensures length { result ≡ length (spelling (Token.Cup line column)) }
+    ensures text { take result out.new ≡ spelling (Token.Cup line column) }
+    ensures short { result ≤ 10 }
+{
+    let mut digits = Buffer::new();
+    let at = append(out, 0, INTRODUCER);
+    let at = append(out, at, digits.format(line + 1).as_bytes());
+    let at = append(out, at, b";");
+    let at = append(out, at, digits.format(column + 1).as_bytes());
+    append(out, at, b"H")
+}
+
+#[tactic(auto, unfolding(crate::specs::Spelling::spelling))]
+fn spell_rendition(rendition: Rendition, out: &mut [u8; LONGEST_SPELLING]) -> usize
+    requires { IsRendition rendition }
+    ensures length { result ≡ length (spelling (Token.Sgr rendition)) }
+    ensures text { take result out.new ≡ spelling (Token.Sgr rendition) }
+    ensures short { result ≤ 22 }
+{
+    let pair = rendition.colours();
+    let at = append(out, 0, b"\x1b[0");
+    let at = append_codes(out, at, rendition.attrs());
+    let at = append_colour(out, at, FIRST_FOREGROUND, pair.foreground);
+    let at = append_colour(out, at, FIRST_BACKGROUND, pair.background);
+    append(out, at, b"m")
+}
+
+/// Writes what erases in the line or in the page, by the byte that ends it.
+fn spell_erasure(erasure: Erase, last: u8, out: &mut [u8; LONGEST_SPELLING]) -> usize
+    ensures length { result ≡ length (introducer ++ erasure_spelling erasure ++ last ∷ []) }
+    ensures text { take result out.new ≡ introducer ++ erasure_spelling erasure ++ last ∷ [] }
+    ensures short { result ≤ 4 }
+{
+    let at = append(out, 0, INTRODUCER);
+    let at = append(out, at, erasure_text(erasure));
+    append(out, at, &[last])
 }
 
 fn append_codes(out: &mut [u8; LONGEST_SPELLING], at: usize, attr: Attr) -> usize

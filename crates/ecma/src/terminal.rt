@@ -16,13 +16,13 @@ use std::marker::Model;
 
 /// A stream isn't in the profile: no item with an effect begins at this offset. An offset past the greatest u64 is
 /// given as that.
-#[derive(Clone, Copy, PartialEq, Eq, Debug)]
+#[derive(Clone, Copy, PartialEq, Eq)]
 pub struct NotInProfile {
     pub at: u64,
 }
 
 /// Where the bytes read so far end.
-#[derive(Clone, Copy, PartialEq, Eq, Debug)]
+#[derive(Clone, Copy)]
 pub enum State {
     /// After an item, or at the start.
     Text,

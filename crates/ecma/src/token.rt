@@ -3,7 +3,7 @@
 use cell::Rendition;
 
 /// What is erased of a line or of the page. The cursor's own place is erased too.
-#[derive(Clone, Copy, PartialEq, Eq, Debug)]
+#[derive(Clone, Copy, PartialEq, Eq)]
 pub enum Erase {
     /// From the cursor to the end.
     ToEnd,
@@ -14,7 +14,7 @@ pub enum Erase {
 }
 
 /// One character or control function for a terminal.
-#[derive(Clone, Copy, PartialEq, Eq, Debug)]
+#[derive(Clone, Copy)]
 pub enum Token {
     /// The character is printed at the cursor. It is one that a cell can hold.
     Print(u8),

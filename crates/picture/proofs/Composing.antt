@@ -1,5 +1,5 @@
 -- Damaged lines are composed one after another.
-use Rattle.std.proofs.Common.{◌≡◌, ℕ, zero, suc, ◌+◌, ◌-◌, ◌*◌, ◌<◌, ◌≤◌, Bool, true, false, ◌==◌, ◌&&◌, nat_le, nat_lt, if◌then◌else◌, Option, Some, None, List, length, inl, inr, refl, sym, ap}
+use Rattle.std.proofs.Common.{◌≡◌, ℕ, zero, suc, ◌+◌, ◌-◌, ◌*◌, ◌<◌, ◌≤◌, false, ◌==◌, ◌&&◌, nat_le, nat_lt, if◌then◌else◌, Option, Some, None, List, length, refl, sym, ap}
 use Rattle.std.proofs.Common.{subst, ◌∙◌, arith, get_or-set_other, get_or-set_same}
 use Rattle.std.specs.Prelude.{slice_set}
 use Rattle.std.proofs.Math.Nat.{mul-le-mul_left, mul-le-mul_right}
@@ -10,24 +10,15 @@ use Rattle.cell.specs.Pictures.{Picture, HasSize, shown_at}
 use Rattle.cell.specs.Shown.{Shown}
 use Rattle.cell.specs.declared.limits.TheConstants.{LARGEST_SCREEN}
 use Rattle.world.specs.Sound.{AreColumnsWithin}
-use Rattle.world.specs.calls.Refresh.{among}
 use Rattle.world.specs.declared.settings.Columns.{Columns}
 use Rattle.picture.specs.Damages.{cells_above, cells_of_line, columns_of, has_damage_at}
 use Rattle.picture.proofs.Lines.{ShownAbove}
 
 -- ---- how many cells
 
-line-most : (columns : ℕ) (c : Option Columns) → AreColumnsWithin columns c → cells_of_line c ≤ columns
-line-most columns None h = omega arith
-line-most columns (Some r) h = let last = h.1 in omega (arith, last)
-
 above-most : (columns : ℕ) (d : List (Option Columns)) → ((y : ℕ) → AreColumnsWithin columns (columns_of d y)) → (y : ℕ) → cells_above d y ≤ y * columns
 above-most columns d h zero = omega arith
-above-most columns d h (suc y) =
-    let above = above-most columns d h y in
-    let line = line-most columns (columns_of d y) (h y) in
-    let sum : suc y * columns ≡ columns + y * columns = grind arith in
-    rw sum (omega (arith, above, line))
+above-most columns d h (suc y) = grind (arith, (above-most columns d h y))
 
 -- with one line more they are fewer than can be counted
 pub fits-more : (lines columns : ℕ) (d : List (Option Columns)) → ((y : ℕ) → AreColumnsWithin columns (columns_of d y)) → lines ≤ LARGEST_SCREEN → columns ≤ LARGEST_SCREEN
@@ -68,93 +59,25 @@ pub record ComposedAbove (f : ℕ → ℕ → Shown) (lines columns : ℕ) (befo
 module _ (f : ℕ → ℕ → Shown) (lines columns : ℕ) (before : List (Option Columns)) (old : Picture)
     (covered : (y x : ℕ) → y < lines → x < columns → has_damage_at before y x ≡ false → shown_at old (y, x) ≡ f y x) where
   pub composed-none : length before ≡ lines → HasSize lines columns old → ComposedAbove f lines columns before old 0 before old
-  composed-none height size = record {
-    height = height;
-    above = record { size = size; shown = λ v u never left. absurd (let h = never in omega (arith, h)) };
-    below = λ v u from. refl;
-    left = λ v from. refl;
-    done = λ v never. absurd (let h = never in omega (arith, h));
-  }
+  composed-none height size = grind arith
 
   -- a line that isn't damaged
   pub composed-bare : (y : ℕ) (damage : List (Option Columns)) (now : Picture) → ComposedAbove f lines columns before old y damage now → y < lines → columns_of damage y ≡ None
       → ComposedAbove f lines columns before old (y + 1) damage now
-  composed-bare y damage now h inside none = record {
-    height = h.height;
-    above = record {
-      size = h.above.size;
-      shown = λ v u upto left. elim (cases_eq v y) [
-        | inl same ↦
-            let bare : columns_of before v ≡ None = ap (columns_of before) same ∙ sym (h.left y (omega arith)) ∙ none in
-            h.below v u (omega (arith, same)) ∙ covered v u (omega (arith, same, inside)) left (ap (λ o. among o u) bare)
-        | inr other ↦ h.above.shown v u (let a = upto in let b = other in omega (arith, a, b)) left
-      ];
-    };
-    below = λ v u from. h.below v u (let a = from in omega (arith, a));
-    left = λ v from. h.left v (let a = from in omega (arith, a));
-    done = λ v upto. elim (cases_eq v y) [
-      | inl same ↦ ap (columns_of damage) same ∙ none
-      | inr other ↦ h.done v (let a = upto in let b = other in omega (arith, a, b))
-    ];
-  }
-
-  in-line : (line inside : Bool) (one other : Shown) → line ≡ true → (inside ≡ false → other ≡ one) → (if line && inside then one else other) ≡ one
-  in-line true true one other is h = refl
-  in-line true false one other is h = h refl
-  in-line false inside one other is h = cc
-
-  off-line : (line inside : Bool) (one other : Shown) → line ≡ false → (if line && inside then one else other) ≡ other
-  off-line true inside one other is = cc
-  off-line false inside one other is = refl
-
-  among-end : (r : Columns) (u : ℕ) → (nat_le r.first u && nat_lt u (r.last + 1)) ≡ (nat_le r.first u && nat_le u r.last)
-  among-end r u = grind (arith, nat_tests)
+  composed-bare y damage now h inside none = grind (arith, cases_eq)
 
   -- a line with damaged columns
   pub composed-more : (y : ℕ) (r : Columns) (damage : List (Option Columns)) (now next : Picture) → ComposedAbove f lines columns before old y damage now → y < lines → columns_of damage y ≡ Some r
       → ((v u : ℕ) → shown_at next (v, u) ≡ (if (v == y) && (nat_le r.first u && nat_lt u (r.last + 1)) then f y u else shown_at now (v, u))) → HasSize lines columns next
       → ComposedAbove f lines columns before old (y + 1) (slice_set damage y None) next
-  composed-more y r damage now next h inside some line size = record {
-    height = length-set damage y None ∙ h.height;
-    above = record {
-      size = size;
-      shown = λ v u upto left. elim (cases_eq v y) [
-        | inl same ↦
-            let are : columns_of before v ≡ Some r = ap (columns_of before) same ∙ sym (h.left y (omega arith)) ∙ some in
-            line v u
-            ∙ in-line (v == y) (nat_le r.first u && nat_lt u (r.last + 1)) (f y u) (shown_at now (v, u)) (eq-eqb v y same)
-            (λ off. h.below v u (omega (arith, same)) ∙ covered v u (omega (arith, same, inside)) left (ap (λ o. among o u) are ∙ sym (among-end r u) ∙ off) ∙ ap (λ k. f k u) same)
-            ∙ ap (λ k. f k u) (sym same)
-        | inr other ↦
-            line v u ∙ off-line (v == y) (nat_le r.first u && nat_lt u (r.last + 1)) (f y u) (shown_at now (v, u)) (ne_eqb v y other)
-            ∙ h.above.shown v u (let a = upto in let b = other in omega (arith, a, b)) left
-      ];
-    };
-    below = λ v u from.
-        let apart : v ≡ y → ⊥ = λ same. absurd (let a = from in let b = same in omega (arith, a, b)) in
-        line v u ∙ off-line (v == y) (nat_le r.first u && nat_lt u (r.last + 1)) (f y u) (shown_at now (v, u)) (ne_eqb v y apart) ∙ h.below v u (let a = from in omega (arith, a));
-    left = λ v from. get_or-set_other damage y v None None (λ same. absurd (let a = from in let b = same in omega (arith, a, b))) ∙ h.left v (let a = from in omega (arith, a));
-    done = λ v upto. elim (cases_eq v y) [
-      | inl same ↦ ap (columns_of (slice_set damage y None)) same ∙ get_or-set_same damage y None None (let height = h.height in omega (arith, height, inside))
-      | inr other ↦ get_or-set_other damage y v None None other ∙ h.done v (let a = upto in let b = other in omega (arith, a, b))
-    ];
-  }
+  composed-more y r damage now next h inside some line size = grind (arith, length-set, cases_eq, eq-eqb, nat_tests, ne_eqb, get_or-set_other, get_or-set_same)
 
   -- lines that aren't damaged
   composed-steps : (y n : ℕ) (damage : List (Option Columns)) (now : Picture) → ComposedAbove f lines columns before old y damage now → y + n ≤ lines
       → ((v : ℕ) → y ≤ v → v < y + n → columns_of damage v ≡ None) → ComposedAbove f lines columns before old (y + n) damage now
-  composed-steps y zero damage now h inside none =
-      let is : y ≡ y + zero = omega arith in
-      subst (λ k. ComposedAbove f lines columns before old k damage now) is h
-  composed-steps y (suc n) damage now h inside none =
-      let is : y + n + 1 ≡ y + suc n = omega arith in
-      let first = composed-steps y n damage now h (omega (arith, inside)) (λ v a b. none v a (let c = b in omega (arith, c))) in
-      subst (λ k. ComposedAbove f lines columns before old k damage now) is
-      (composed-bare (y + n) damage now first (omega (arith, inside)) (none (y + n) (omega arith) (omega arith)))
+  composed-steps y zero damage now h inside none = grind arith
+  composed-steps y (suc n) damage now h inside none = grind (arith, composed-bare, (composed-steps y n damage now h (omega (arith, inside)) (λ v a b. none v a (let c = b in omega (arith, c)))))
 
   pub composed-to : (y to : ℕ) (damage : List (Option Columns)) (now : Picture) → ComposedAbove f lines columns before old y damage now → y ≤ to → to ≤ lines
       → ((v : ℕ) → y ≤ v → v < to → columns_of damage v ≡ None) → ComposedAbove f lines columns before old to damage now
-  composed-to y to damage now h upto inside none =
-      let is : y + (to - y) ≡ to = omega (arith, upto) in
-      subst (λ k. ComposedAbove f lines columns before old k damage now) is
-      (composed-steps y (to - y) damage now h (omega (arith, is, inside)) (λ v a b. none v a (let c = b in omega (arith, c, is))))
+  composed-to y to damage now h upto inside none = grind (arith, composed-steps)

@@ -1,14 +1,14 @@
 -- A place that a rectangle holds lies between its sides, and one that a window's rectangle holds is a place of the window.
-use Rattle.std.proofs.Common.{◌≡◌, ℕ, ◌+◌, ◌-◌, ◌<◌, ◌≤◌, true, false, ◌&&◌, nat_le, nat_lt, Option, Some, None, refl, arith}
-use Rattle.std.specs.Prelude.{IsSomeAnd, is_some, unwrap_or}
+use Rattle.std.proofs.Common.{◌≡◌, ℕ, ◌-◌, ◌<◌, ◌≤◌, true, false, Option, arith}
+use Rattle.std.specs.Prelude.{IsSomeAnd, is_some}
 use Rattle.std.specs.Option.{option_map_or}
 use Rattle.std.proofs.lemmas.Bool.{and_parts, leb-true, ltb-true}
-use Rattle.cell.specs.Pictures.{Place, origin}
+use Rattle.cell.specs.Pictures.{origin}
 use Rattle.cell.specs.declared.window.Rect.{Rect}
 use Rattle.world.specs.Panels.{holds, holds_place, place_of, screen_place}
 use Rattle.world.specs.calls.Making.{is_no_pad}
 use Rattle.world.specs.Windows.{HasPlace, Window, WindowMap}
-use Rattle.picture.specs.Parts.{frame_has_line, frame_holds}
+use Rattle.picture.specs.Parts.{frame_holds}
 
 pub record IsBetween (r : Rect) (y x : ℕ) : Type 0 where
   pub top : r.top ≤ y
@@ -17,51 +17,18 @@ pub record IsBetween (r : Rect) (y x : ℕ) : Type 0 where
   pub right : x ≤ r.right
 
 pub held-between : (r : Rect) (y x : ℕ) → frame_holds r y x ≡ true → IsBetween r y x
-held-between r y x h =
-    let both = and_parts (frame_has_line r y) (nat_le r.left x && nat_le x r.right) h in
-    let line = and_parts (nat_le r.top y) (nat_le y r.bottom) both.0 in
-    let column = and_parts (nat_le r.left x) (nat_le x r.right) both.1 in
-    record { top = leb-true r.top y line.0; bottom = leb-true y r.bottom line.1; left = leb-true r.left x column.0; right = leb-true x r.right column.1 }
-
-placed-inside : (place : Option Place) (lines columns y x : ℕ)
-    → option_map_or (λ p. (nat_le p.0 y && nat_lt y (p.0 + lines)) && (nat_le p.1 x && nat_lt x (p.1 + columns))) place false ≡ true
-    → (y - (unwrap_or place origin).0 < lines) × (x - (unwrap_or place origin).1 < columns)
-placed-inside None lines columns y x h = cc
-placed-inside (Some p) lines columns y x h =
-    let both = and_parts (nat_le p.0 y && nat_lt y (p.0 + lines)) (nat_le p.1 x && nat_lt x (p.1 + columns)) h in
-    let line = and_parts (nat_le p.0 y) (nat_lt y (p.0 + lines)) both.0 in
-    let column = and_parts (nat_le p.1 x) (nat_lt x (p.1 + columns)) both.1 in
-    let from_line = leb-true p.0 y line.0 in
-    let to_line = ltb-true y (p.0 + lines) line.1 in
-    let from_column = leb-true p.1 x column.0 in
-    let to_column = ltb-true x (p.1 + columns) column.1 in
-    (omega arith, omega arith)
+held-between r y x h = grind (arith, and_parts, leb-true)
 
 held_place : (o : Option Window) (y x : ℕ) → option_map_or (holds_place y x) o false ≡ true
     → IsSomeAnd o (λ a. (y - (option_map_or screen_place o origin).0 < a.lines) × (x - (option_map_or screen_place o origin).1 < a.columns))
-held_place None y x h = cc
-held_place (Some a) y x h = placed-inside a.place a.lines a.columns y x h
+held_place o y x h = grind (arith, and_parts, leb-true, ltb-true)
 
 pub held-place : (window : WindowMap) (w y x : ℕ) → holds window w y x ≡ true → HasPlace window w (y - (place_of window w).0) (x - (place_of window w).1)
 held-place window w y x h = held_place (window w) y x h
 
-placed-before : (place : Option Place) (lines columns y x : ℕ)
-    → option_map_or (λ p. (nat_le p.0 y && nat_lt y (p.0 + lines)) && (nat_le p.1 x && nat_lt x (p.1 + columns))) place false ≡ true
-    → ((unwrap_or place origin).0 ≤ y) × ((unwrap_or place origin).1 ≤ x)
-placed-before None lines columns y x h = cc
-placed-before (Some p) lines columns y x h =
-    let both = and_parts (nat_le p.0 y && nat_lt y (p.0 + lines)) (nat_le p.1 x && nat_lt x (p.1 + columns)) h in
-    (leb-true p.0 y (and_parts (nat_le p.0 y) (nat_lt y (p.0 + lines)) both.0).0, leb-true p.1 x (and_parts (nat_le p.1 x) (nat_lt x (p.1 + columns)) both.1).0)
-
-placed-some : (place : Option Place) (lines columns y x : ℕ)
-    → option_map_or (λ p. (nat_le p.0 y && nat_lt y (p.0 + lines)) && (nat_le p.1 x && nat_lt x (p.1 + columns))) place false ≡ true → is_some place ≡ true
-placed-some None lines columns y x h = cc
-placed-some (Some p) lines columns y x h = refl
-
 held_before : (o : Option Window) (y x : ℕ) → option_map_or (holds_place y x) o false ≡ true
     → ((option_map_or screen_place o origin).0 ≤ y) × ((option_map_or screen_place o origin).1 ≤ x)
-held_before None y x h = cc
-held_before (Some a) y x h = placed-before a.place a.lines a.columns y x h
+held_before o y x h = grind (arith, and_parts, leb-true)
 
 -- the window begins no later than a place that it holds
 pub held-before : (window : WindowMap) (w y x : ℕ) → holds window w y x ≡ true → ((place_of window w).0 ≤ y) × ((place_of window w).1 ≤ x)
@@ -69,8 +36,7 @@ held-before window w y x h = held_before (window w) y x h
 
 -- it is no pad
 no_pad : (o : Option Window) (y x : ℕ) → option_map_or (holds_place y x) o false ≡ true → option_map_or (λ a. is_some a.place) o false ≡ true
-no_pad None y x h = cc
-no_pad (Some a) y x h = placed-some a.place a.lines a.columns y x h
+no_pad o y x h = grind arith
 
 pub held-no-pad : (window : WindowMap) (w y x : ℕ) → holds window w y x ≡ true → is_no_pad window w ≡ true
 held-no-pad window w y x h = no_pad (window w) y x h

@@ -14,8 +14,6 @@ pub mod Searching
 pub mod Runs
 -- the search from the bottom, for find_owners
 pub mod OwnerLaws
--- counts that grow, for compose_row and show_damaged
-pub mod Counting
 -- a picture made line by line, for show_damaged and compose_row
 pub mod Lines
 -- a piece of a row, for piece

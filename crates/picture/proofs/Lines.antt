@@ -1,7 +1,5 @@
 -- A picture is made line by line, and a line column by column.
-use Rattle.std.proofs.Common.{◌≡◌, ℕ, ◌<◌, ◌≤◌, Bool, true, false, ◌==◌, ◌&&◌, nat_le, nat_lt, if◌then◌else◌, length, inl, inr, refl, sym, ap, ◌∙◌, arith}
-use Rattle.std.proofs.lemmas.Bool.{cases_lt}
-use Rattle.std.proofs.lemmas.Bool.Decides.{nat_tests}
+use Rattle.std.proofs.Common.{◌≡◌, ℕ, ◌<◌, ◌≤◌, ◌==◌, ◌&&◌, nat_le, nat_lt, if◌then◌else◌, length, sym, ◌∙◌, arith}
 use Rattle.cell.specs.Shown.{Shown, shown_blank}
 use Rattle.cell.specs.Pictures.{Picture, HasSize, picture_of, line_of, shown_at}
 use Rattle.cell.proofs.PictureLemmas.{HasSize-lines_from, same_pictures, cell_or-lines_from}
@@ -17,33 +15,6 @@ pub record LineShown (f : ℕ → Shown) (y start x : ℕ) (old picture : Pictur
 pub record ShownAbove (f : ℕ → ℕ → Shown) (lines columns y : ℕ) (picture : Picture) : Type 0 where
   pub size : HasSize lines columns picture
   pub shown : (v u : ℕ) → v < y → u < columns → shown_at picture (v, u) ≡ f v u
-
--- What is made from x on, up to an end, follows what was made before x.
-joined : (line : Bool) (start x end u : ℕ) (made new old : Shown) → start ≤ x → x ≤ end → (x ≤ u → u < end → new ≡ made)
-    → (if line && (nat_le x u && nat_lt u end) then new else (if line && (nat_le start u && nat_lt u x) then made else old)) ≡ (if line && (nat_le start u && nat_lt u end) then made else old)
-joined false start x end u made new old begins ordered same = refl
-joined true start x end u made new old begins ordered same = elim (cases_lt u x) [
-  | inl before ↦ grind (arith, nat_tests)
-  | inr from ↦ elim (cases_lt u end) [
-    | inl inside ↦ rw (same (omega arith) inside) (grind (arith, nat_tests))
-    | inr after ↦ grind (arith, nat_tests)
-  ]
-]
-
--- a piece more
-pub LineShown-more : (f g : ℕ → Shown) (y start x end : ℕ) (old now new : Picture) → LineShown f y start x old now → start ≤ x → x ≤ end → ((u : ℕ) → x ≤ u → u < end → g u ≡ f u)
-    → ((v u : ℕ) → shown_at new (v, u) ≡ (if (v == y) && (nat_le x u && nat_lt u end) then g u else shown_at now (v, u)))
-    → ((lines columns : ℕ) → HasSize lines columns now → HasSize lines columns new) → length new ≡ length now → length (line_of new y) ≡ length (line_of now y)
-    → LineShown f y start end old new
-LineShown-more f g y start x end old now new so_far from ordered same span size height width = record {
-  shown = λ v u.
-      span v u
-      ∙ ap (λ (rest : Shown). if (v == y) && (nat_le x u && nat_lt u end) then g u else rest) (so_far.shown v u)
-      ∙ joined (v == y) start x end u (f u) (g u) (shown_at old (v, u)) from ordered (same u);
-  size = λ lines columns h. size lines columns (so_far.size lines columns h);
-  height = height ∙ so_far.height;
-  width = width ∙ so_far.width;
-}
 
 pub shown-all : (f : ℕ → ℕ → Shown) (lines columns y : ℕ) (picture : Picture) → lines ≤ y → ShownAbove f lines columns y picture → picture ≡ picture_of lines columns f
 shown-all f lines columns y picture all so_far =

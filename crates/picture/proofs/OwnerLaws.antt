@@ -1,6 +1,6 @@
 -- The window of a column is found from the bottom up as well: each visible panel that holds the column takes it over.
-use Rattle.std.proofs.Common.{◌≡◌, ℕ, Bool, true, false, if◌then◌else◌, Option, Some, None, List, [], ◌∷◌, reverse, refl, sym, ap, ◌∙◌}
-use Rattle.std.specs.Prelude.{find, unwrap_or}
+use Rattle.std.proofs.Common.{◌≡◌, ℕ, Bool, if◌then◌else◌, Option, Some, List, [], ◌∷◌, reverse, refl, ap, ◌∙◌, arith}
+use Rattle.std.specs.Prelude.{find}
 use Rattle.std.specs.Option.{option_map_or, option_or}
 use Rattle.std.proofs.lemmas.List.{reverse-append}
 use Rattle.std.proofs.lemmas.List.Folds.{find-append}
@@ -14,9 +14,7 @@ last_or_other f g rest other = option_map_or g (find f (reverse rest)) other
 
 after : (f : ℕ → Bool) (g : ℕ → ℕ) (p other : ℕ) (o : Option ℕ) (b : Bool) → f p ≡ b
     → option_map_or g (option_or o (find f (p ∷ []))) other ≡ option_map_or g o (if b then g p else other)
-after f g p other (Some q) b is = refl
-after f g p other None true is = rw is refl
-after f g p other None false is = rw is refl
+after f g p other o b is = grind arith
 
 -- the first of the list takes the other number's place, where it passes
 pub last_or_other-first : (f : ℕ → Bool) (g : ℕ → ℕ) (p : ℕ) (rest : List ℕ) (other : ℕ) → last_or_other f g (p ∷ rest) other ≡ last_or_other f g rest (if f p then g p else other)
@@ -29,10 +27,4 @@ pub owner-step : (window : WindowMap) (panels : Panels) (y x p w : ℕ) (rest : 
     → owner_window window panels y x ≡ last_or_other (panel_holds window panels y x) (λ q. window_or_standard panels (Some q)) (p ∷ rest) old
     → panels.window p ≡ Some w → holds window w y x ≡ test → new ≡ (if test then w else old)
     → owner_window window panels y x ≡ last_or_other (panel_holds window panels y x) (λ q. window_or_standard panels (Some q)) rest new
-owner-step window panels y x p w rest old new test found has held laid =
-    let f : ℕ → Bool = panel_holds window panels y x in
-    let g : ℕ → ℕ = λ q. window_or_standard panels (Some q) in
-    let does : f p ≡ test = ap (λ (o : Option ℕ). option_map_or (λ v. holds window v y x) o false) has ∙ held in
-    let number : g p ≡ w = ap (λ (o : Option ℕ). unwrap_or o 0) has in
-    found ∙ last_or_other-first f g p rest old
-    ∙ ap (last_or_other f g rest) (ap (λ (b : Bool). if b then g p else old) does ∙ ap (λ (v : ℕ). if test then v else old) number ∙ sym laid)
+owner-step window panels y x p w rest old new test found has held laid = grind (arith, last_or_other-first)

@@ -1,11 +1,11 @@
 -- A window is at a place of the screen.
-use Rattle.std.proofs.Common.{◌≡◌, ℕ, ◌+◌, ◌<◌, ◌≤◌, Option, Some, None, refl, ap, subst, ◌∙◌}
-use Rattle.std.specs.Prelude.{MatchOption, ⊤, option_and_then}
+use Rattle.std.proofs.Common.{◌≡◌, ℕ, ◌+◌, ◌<◌, ◌≤◌, Option, Some, None, refl, ap, ◌∙◌, arith}
+use Rattle.std.specs.Prelude.{option_and_then}
 use Rattle.std.specs.Option.{option_map}
 use Rattle.cell.specs.Pictures.{Place}
 use Rattle.cell.specs.declared.limits.TheConstants.{LARGEST_SCREEN}
 use Rattle.world.specs.Windows.{Window, Windows}
-use Rattle.world.specs.Sound.{AreColumnsWithin, AreSoundWindows, IsSoundWindow}
+use Rattle.world.specs.Sound.{AreColumnsWithin, AreSoundWindows}
 use Rattle.world.specs.calls.Queries.{place_on_screen, window_size}
 
 -- the window is there, at this place of the screen
@@ -24,25 +24,7 @@ pub record IsPlacedAt (windows : Windows) (w : ℕ) (place : Place) (lines : ℕ
 placed_at-from : (windows : Windows) (w : ℕ) (place : Place) (lines : ℕ) (o : Option Window) → windows.window w ≡ o → AreSoundWindows windows
     → option_and_then (λ (a : Window). a.place) o ≡ Some place → (size : Option (ℕ × ℕ)) → option_map (λ (a : Window). (a.lines, a.columns)) o ≡ size
     → (columns : ℕ) → size ≡ Some (lines, columns) → IsPlacedAt windows w place lines
-placed_at-from windows w place lines None e sound place_is size size_is columns known = cc
-placed_at-from windows w place lines (Some a) e sound place_is size size_is columns known =
-    let window : IsSoundWindow windows w a = subst (λ (o : Option Window). MatchOption o ⊤ (IsSoundWindow windows w)) e (sound.each w) in
-    let on : MatchOption (Some place) ⊤ (λ p. (p.0 + a.lines ≤ windows.lines) × (p.1 + a.columns ≤ windows.columns)) =
-    subst (λ (o : Option Place). MatchOption o ⊤ (λ p. (p.0 + a.lines ≤ windows.lines) × (p.1 + a.columns ≤ windows.columns))) place_is window.on_screen in
-    let both : (a.lines, a.columns) ≡ (lines, columns) = cc in
-    let height : a.lines ≡ lines = ap (λ (p : ℕ × ℕ). p.0) both in
-    record {
-      window = a;
-      there = e;
-      height = height;
-      at = place_is;
-      down = on.0;
-      right = on.1;
-      few_lines = sound.few_lines;
-      few_columns = sound.few_columns;
-      has_column = window.has_column;
-      touched = window.touched;
-    }
+placed_at-from windows w place lines o e sound place_is size size_is columns known = grind arith
 
 pub placed_at : (windows : Windows) (w : ℕ) (place : Place) (lines columns : ℕ) → AreSoundWindows windows → place_on_screen windows.window w ≡ Some place
     → window_size windows.window w ≡ Some (lines, columns)

@@ -1,5 +1,5 @@
 -- A piece of a window's line is cut out of its row.
-use Rattle.std.proofs.Common.{◌≡◌, ℕ, ◌+◌, ◌-◌, ◌<◌, ◌≤◌, Option, Some, None, List, length, take, drop, ◌∙◌, arith}
+use Rattle.std.proofs.Common.{◌≡◌, ℕ, ◌+◌, ◌-◌, ◌<◌, ◌≤◌, Option, List, length, take, drop, ◌∙◌, arith}
 use Rattle.std.specs.Prelude.{IsSomeAnd}
 use Rattle.std.proofs.lemmas.List.{get_or-drop, get_or-take, length-drop, length-take}
 use Rattle.cell.specs.Glyphs.{Glyph, blank}
@@ -10,8 +10,7 @@ use Rattle.picture.specs.Parts.{IsPiece}
 
 -- a place further left on the same line
 place_before : (o : Option Window) (y x z : ℕ) → IsSomeAnd o (λ a. (y < a.lines) × (x < a.columns)) → z ≤ x → IsSomeAnd o (λ a. (y < a.lines) × (z < a.columns))
-place_before None y x z h before = absurd h
-place_before (Some a) y x z h before = let left = h.1 in (h.0, omega arith)
+place_before o y x z h before = grind arith
 
 pub place-before : (window : WindowMap) (w y x z : ℕ) → HasPlace window w y x → z ≤ x → HasPlace window w y z
 place-before window w y x z h before = place_before (window w) y x z h before

@@ -1,41 +1,21 @@
 -- A line of the picture is made run by run, each from a piece of one window's line.
-use Rattle.std.proofs.Common.{◌≡◌, ℕ, ◌+◌, ◌-◌, ◌<◌, ◌≤◌, ◌==◌, ◌&&◌, true, false, if◌then◌else◌, Option, Some, None, List, length, nat_le, nat_lt, refl, sym, ap, subst, ◌∙◌, arith}
-use Rattle.std.specs.Prelude.{slice_index_or, unwrap_or}
-use Rattle.std.specs.Option.{option_map_or}
+use Rattle.std.proofs.Common.{◌≡◌, ℕ, ◌+◌, ◌-◌, ◌≤◌, ◌==◌, ◌&&◌, true, if◌then◌else◌, List, length, nat_le, nat_lt, ap, ◌∙◌, arith, add_assoc}
+use Rattle.std.specs.Prelude.{slice_index_or}
 use Rattle.std.proofs.lemmas.Bool.Decides.{nat_tests}
 use Rattle.cell.specs.Glyphs.{Glyph, blank}
-use Rattle.cell.specs.Pictures.{HasSize, Picture, Place, line_of, origin, shown_at}
+use Rattle.cell.specs.Pictures.{HasSize, Picture, Place, line_of, shown_at}
 use Rattle.cell.specs.Shown.{Pairs, shown}
 use Rattle.cell.specs.declared.window.Rect.{Rect}
-use Rattle.world.specs.Windows.{HasPlace, Window, WindowMap, Windows, cell_at}
+use Rattle.world.specs.Windows.{HasPlace, Windows}
 use Rattle.world.specs.calls.Making.{is_no_pad}
-use Rattle.world.specs.Panels.{Panels, cell_on_screen, found_from_top, holds, holds_place, owner, place_of, screen_place, standard_screen, window_or_standard}
+use Rattle.world.specs.Panels.{Panels, found_from_top, holds, place_of, standard_screen}
 use Rattle.picture.specs.Counts.{GrewBy}
 use Rattle.picture.specs.Parts.{IsPiece, frame_holds}
 use Rattle.picture.specs.steps.Owners.{IsRun}
-use Rattle.picture.proofs.Counting.{grew-more}
 use Rattle.picture.proofs.Held.{IsBetween, held-between, held-no-pad, held-place}
-use Rattle.picture.proofs.Lines.{LineShown, LineShown-more}
+use Rattle.picture.proofs.Lines.{LineShown}
 use Rattle.picture.proofs.Searching.{owner-held}
-
-placed-left : (place : Option Place) (lines columns y x : ℕ) → option_map_or (λ p. (nat_le p.0 y && nat_lt y (p.0 + lines)) && (nat_le p.1 x && nat_lt x (p.1 + columns))) place false ≡ true
-    → (unwrap_or place origin).1 ≤ x
-placed-left None lines columns y x held = cc
-placed-left (Some p) lines columns y x held = grind (arith, nat_tests)
-
-held-left : (o : Option Window) (y x : ℕ) → option_map_or (holds_place y x) o false ≡ true → (option_map_or screen_place o origin).1 ≤ x
-held-left None y x held = cc
-held-left (Some a) y x held = placed-left a.place a.lines a.columns y x held
-
--- the cell at u of a piece of a window's line that begins at x, where the search finds that window at u
-pub run-cell : (window : WindowMap) (panels : Panels) (w y x u : ℕ) (place : Place) → place ≡ place_of window w → holds window w y x ≡ true → x ≤ u
-    → w ≡ window_or_standard panels (owner window panels y u) → cell_at window w (y - place.0) (x - place.1 + (u - x)) ≡ found_from_top window panels y u
-run-cell window panels w y x u place placed held from owned =
-    let left = held-left (window w) y x held in
-    let column : x - (place_of window w).1 + (u - x) ≡ u - (place_of window w).1 = omega (arith, left) in
-    ap (λ (p : Place). cell_at window w (y - p.0) (x - p.1 + (u - x))) placed
-    ∙ ap (λ k. cell_at window w (y - (place_of window w).0) k) column
-    ∙ ap (λ v. cell_on_screen window v y u) owned
+use Rattle.std.proofs.Math.Nat.{mod-add-mod}
 
 -- A run of columns of which a window is the owner, where the standard screen holds the line. The windows are those before.
 pub record IsHeldRun (old now : Windows) (panels : Panels) (y x edge w last : ℕ) : Type 0 where
@@ -45,20 +25,12 @@ pub record IsHeldRun (old now : Windows) (panels : Panels) (y x edge w last : �
 
 pub held_run : {old now : Windows} {panels : Panels} {y left x edge w last : ℕ} → now ≡ old → IsRun now.window panels y x edge w last → left ≤ x
     → ((u : ℕ) → left ≤ u → u ≤ edge → holds old.window standard_screen y u ≡ true) → IsHeldRun old now panels y x edge w last
-held_run {panels = panels} {y = y} {x = x} {edge = edge} {w = w} {last = last} kept run begun standard = record {
-  kept = kept;
-  run = subst (λ (ws : Windows). IsRun ws.window panels y x edge w last) kept run;
-  standard = λ u after upto. standard u (omega (arith, begun, after)) upto;
-}
+held_run {panels = panels} {y = y} {x = x} {edge = edge} {w = w} {last = last} kept run begun standard = grind arith
 
 module _ {old now : Windows} {panels : Panels} {y x edge w last : ℕ} (h : IsHeldRun old now panels y x edge w last) where
   -- it holds those columns
   held-from : (u : ℕ) → x ≤ u → u ≤ last → holds old.window w y u ≡ true
-  held-from u from upto =
-      let s = h.run in
-      let within = s.within in
-      ap (λ v. holds old.window v y u) (sym (s.same u from upto))
-      ∙ owner-held old.window panels y u (owner old.window panels y u) refl (h.standard u from (omega (arith, upto, within)))
+  held-from u from upto = grind (arith, owner-held)
 
   pub run-held : (u : ℕ) → x ≤ u → u ≤ last → holds now.window w y u ≡ true
   run-held u from upto = ap (λ (ws : Windows). holds ws.window w y u) h.kept ∙ held-from u from upto
@@ -92,41 +64,13 @@ module _ {old now : Windows} {panels : Panels} {y x edge w last : ℕ} {r : Rect
   many : last - r.left - (x - r.left) + 1 ≡ last + 1 - x
   many = let s = run in let from = s.from in let b = between in let left = b.left in omega (arith, from, left)
 
-  -- as many cells as the run has columns
-  pub run-number : x + length cells ≡ last + 1
-  run-number = let s = run in let from = s.from in let p = h.piece in let n = p.number in let m = many in omega (arith, from, n, m)
-
-  pub run-cells : (u : ℕ) → x ≤ u → u < x + length cells → slice_index_or cells (u - x) blank ≡ found_from_top old.window panels y u
-  run-cells u from before =
-      let n = run-number in
-      let m = many in
-      let upto : u ≤ last = omega (arith, before, n) in
-      let held = h.held in
-      let kept = held.kept in
-      let piece : IsPiece old.window w (y - r.top) (x - r.left) (last - r.left - (x - r.left) + 1) cells =
-      subst (λ (ws : Windows). IsPiece ws.window w (y - r.top) (x - r.left) (last - r.left - (x - r.left) + 1) cells) kept h.piece in
-      let place : (r.top, r.left) ≡ place_of old.window w = subst (λ (ws : Windows). (r.top, r.left) ≡ place_of ws.window w) kept h.place in
-      let s = run in
-      piece.each (u - x) (omega (arith, from, upto, m))
-      ∙ run-cell old.window panels w y x u (r.top, r.left) place (held-from h.held x (omega arith) s.from) from (sym (s.same u from upto))
-
   -- with them the line is made a run further
   pub run-line : (pairs : Pairs) (start : ℕ) (before after new : Picture) → LineShown (λ u. shown pairs (found_from_top old.window panels y u)) y start x before after → start ≤ x
       → ((v u : ℕ) → shown_at new (v, u) ≡ (if (v == y) && (nat_le x u && nat_lt u (x + length cells)) then shown pairs (slice_index_or cells (u - x) blank) else shown_at after (v, u)))
       → ((lines columns : ℕ) → HasSize lines columns after → HasSize lines columns new) → length new ≡ length after → length (line_of new y) ≡ length (line_of after y)
       → LineShown (λ u. shown pairs (found_from_top old.window panels y u)) y start (last + 1) before new
-  run-line pairs start before after new so_far begun put size height width =
-      subst (λ k. LineShown (λ u. shown pairs (found_from_top old.window panels y u)) y start k before new) run-number
-      (LineShown-more (λ u. shown pairs (found_from_top old.window panels y u)) (λ u. shown pairs (slice_index_or cells (u - x) blank)) y start x (x + length cells) before after new so_far begun
-      (omega arith)
-      (λ u from upto. ap (shown pairs) (run-cells u from upto)) put size height width)
+  run-line pairs start before after new so_far begun put size height width = grind (arith, many, run, nat_tests, held-from)
 
   -- and as many were read
   pub run-grew : (start a b c : ℕ) → start ≤ x → GrewBy (x - start) a b → GrewBy (last - r.left - (x - r.left) + 1) b c → GrewBy (last + 1 - start) a c
-  run-grew start a b c begun before more =
-      let s = run in
-      let from = s.from in
-      let held = between in
-      let left = held.left in
-      let sum : x - start + (last - r.left - (x - r.left) + 1) ≡ last + 1 - start = omega (arith, begun, from, left) in
-      subst (λ n. GrewBy n a c) sum (grew-more (x - start) (last - r.left - (x - r.left) + 1) a b c before more)
+  run-grew start a b c begun before more = grind (arith, run, between, mod-add-mod, add_assoc)

@@ -1,8 +1,7 @@
 -- The search goes along the panels from the top, and the columns that stay alike grow fewer.
-use Rattle.std.proofs.Common.{◌≡◌, ◌≢◌, ℕ, suc, ◌+◌, ◌-◌, ◌<◌, ◌≤◌, Bool, true, false, Option, Some, None, List, [], ◌∷◌, length, reverse, inl, inr, refl, sym, ap, subst, ◌∙◌, arith}
-use Rattle.std.specs.Prelude.{All, AllPairs, IsSomeAnd, find, not, unwrap_or}
+use Rattle.std.proofs.Common.{◌≡◌, ◌≢◌, ℕ, suc, ◌+◌, ◌-◌, ◌<◌, ◌≤◌, Bool, true, Option, Some, List, [], ◌∷◌, reverse, refl, arith}
+use Rattle.std.specs.Prelude.{All, AllPairs, IsSomeAnd, find, not}
 use Rattle.std.specs.List.{AllByRecursion}
-use Rattle.std.specs.Option.{option_map_or}
 use Rattle.std.proofs.lemmas.Bool.{cases_lt}
 use Rattle.std.proofs.lemmas.List.{get_or-reverse, length-reverse}
 use Rattle.std.proofs.lemmas.List.Elements.{recursion_from_All}
@@ -15,12 +14,7 @@ use Rattle.world.specs.Windows.{WindowMap}
 -- ---- a list without duplicates has none when it is read backwards
 
 pairs-back : (xs : List ℕ) → AllPairs (λ p q. p ≢ q) xs → AllPairs (λ p q. p ≢ q) (reverse xs)
-pairs-back xs h i j d before below =
-    let all : length (reverse xs) ≡ length xs = length-reverse xs in
-    let last : j < length xs = omega (arith, below, all) in
-    let first : i < length xs = omega (arith, before, last) in
-    λ same. h (length xs - 1 - j) (length xs - 1 - i) d (omega (arith, before, last)) (omega (arith, first))
-    (sym (get_or-reverse xs j d last) ∙ sym same ∙ get_or-reverse xs i d first)
+pairs-back xs h i j d before below = grind (arith, length-reverse, get_or-reverse)
 
 out-from : (p : ℕ) (xs : List ℕ) → AllByRecursion (λ q. p ≢ q) xs → IsOut p xs
 out-from p [] h = tt
@@ -37,39 +31,23 @@ pub once-back : (xs : List ℕ) → AllPairs (λ p q. p ≢ q) xs → AreOnce (r
 once-back xs h = once-from (reverse xs) (pairs-back xs h)
 
 all-back : (P : ℕ → Type 0) (xs : List ℕ) → All P xs → All P (reverse xs)
-all-back P xs h k d below =
-    let all : length (reverse xs) ≡ length xs = length-reverse xs in
-    let inside : k < length xs = omega (arith, below, all) in
-    subst P (sym (get_or-reverse xs k d inside)) (h (length xs - 1 - k) d (omega (arith, inside)))
+all-back P xs h k d below = grind (arith, length-reverse, get_or-reverse)
 
 pub each-back : (P : ℕ → Type 0) (xs : List ℕ) → All P xs → AllByRecursion P (reverse xs)
 each-back P xs h = recursion_from_All P (reverse xs) (all-back P xs h)
 
 -- ---- the first that does
 
-first-is : (f : ℕ → Bool) (p : ℕ) (rest : List ℕ) → f p ≡ true → find f (p ∷ rest) ≡ Some p
-first-is f p rest e = rw e refl
-
-first-is_not : (f : ℕ → Bool) (p : ℕ) (rest : List ℕ) → f p ≡ false → find f (p ∷ rest) ≡ find f rest
-first-is_not f p rest e = rw e refl
-
 first-does : (f : ℕ → Bool) (x : ℕ) (xs : List ℕ) (p : ℕ) (b : Bool) → f x ≡ b → find f (x ∷ xs) ≡ Some p → (find f xs ≡ Some p → f p ≡ true) → f p ≡ true
-first-does f x xs p true on is rest = let same : Some x ≡ Some p = sym (first-is f x xs on) ∙ is in let one : x ≡ p = cc in sym (ap f one) ∙ on
-first-does f x xs p false off is rest = rest (sym (first-is_not f x xs off) ∙ is)
+first-does f x xs p b on is rest = grind arith
 
 found-does : (f : ℕ → Bool) (xs : List ℕ) (p : ℕ) → find f xs ≡ Some p → f p ≡ true
 found-does f [] p is = cc
 found-does f (x ∷ xs) p is = first-does f x xs p (f x) refl is (found-does f xs p)
 
--- the window that the search finds holds the place, where the standard screen does
-panel-held : (window : WindowMap) (o : Option ℕ) (y x : ℕ) → option_map_or (λ w. holds window w y x) o false ≡ true → holds window (unwrap_or o standard_screen) y x ≡ true
-panel-held window None y x h = cc
-panel-held window (Some w) y x h = h
-
 pub owner-held : (window : WindowMap) (panels : Panels) (y x : ℕ) (o : Option ℕ) → owner window panels y x ≡ o → holds window standard_screen y x ≡ true
     → holds window (window_or_standard panels o) y x ≡ true
-owner-held window panels y x None is standard = standard
-owner-held window panels y x (Some p) is standard = panel-held window (panels.window p) y x (found-does (panel_holds window panels y x) (reverse panels.visible) p is)
+owner-held window panels y x o is standard = grind (arith, found-does)
 
 -- ---- the search
 
@@ -92,34 +70,10 @@ pub record IsAlong (f : ℕ → ℕ → Bool) (p x end last : ℕ) (held : Bool)
 pub along-of : (window : WindowMap) (panels : Panels) (y p w : ℕ) (r : Rect) (x end last : ℕ) (held : Bool) → panels.window p ≡ Some w → ((v u : ℕ) → frame_holds r v u ≡ holds window w v u)
     → x ≤ last → last ≤ end → ((u : ℕ) → x ≤ u → u ≤ last → frame_holds r y u ≡ held) → (last < end → frame_holds r y (last + 1) ≡ not held)
     → IsAlong (λ u q. panel_holds window panels y u q) p x end last held
-along-of window panels y p w r x end last held has rect from within same another = record {
-  from = from;
-  within = within;
-  same = λ u begun upto. is u ∙ same u begun upto;
-  another = λ before. is (last + 1) ∙ another before;
-} where
-  is : (u : ℕ) → panel_holds window panels y u p ≡ frame_holds r y u
-  is u = ap (λ (o : Option ℕ). option_map_or (λ v. holds window v y u) o false) has ∙ sym (rect y u)
-
-other-than : (o : Option ℕ) (p : ℕ) (rest : List ℕ) → IsSomeAnd o (λ q. IsOut q (p ∷ rest)) → o ≢ Some p
-other-than None p rest h = absurd h
-other-than (Some q) p rest h = λ same. let one : q ≡ p = cc in h.0 one
+along-of window panels y p w r x end last held has rect from within same another = grind arith
 
 module _ (f : ℕ → ℕ → Bool) (o : ℕ → Option ℕ) (x edge end : ℕ) where
   -- one that does
   pub searched-held : (p : ℕ) (rest : List ℕ) (last : ℕ) → Searched f o x edge end (p ∷ rest) → IsAlong f p x end last true
       → ((u : ℕ) → x ≤ u → u ≤ last → o u ≡ Some p) × (last < edge → o (last + 1) ≢ Some p)
-  searched-held p rest last h along =
-      let shorter = along.within in
-      let from = along.from in (
-        λ u begun upto. h.owner u begun (let a = upto in omega (arith, a, shorter)) ∙ first-is (f u) p rest (along.same u begun upto),
-        λ inside. elim (cases_lt last end) [
-          | inl before ↦ λ same.
-              let is : find (f (last + 1)) (p ∷ rest) ≡ Some p = sym (h.owner (last + 1) (omega (arith, from)) (let b = before in omega (arith, b))) ∙ same in
-              let never : true ≡ false = sym (found-does (f (last + 1)) (p ∷ rest) p is) ∙ along.another before in
-              cc
-          | inr to_end ↦
-              let same : last ≡ end = let t = to_end in omega (arith, t, shorter) in
-              other-than (o (last + 1)) p rest (subst (λ e. IsSomeAnd (o (e + 1)) (λ q. IsOut q (p ∷ rest))) (sym same) (h.passed (let i = inside in omega (arith, i, same))))
-        ],
-      )
+  searched-held p rest last h along = grind (arith, cases_lt, found-does)

@@ -22,7 +22,7 @@ const PART: usize = 256;
 const FEW: u8 = 16;
 
 /// Columns side by side at which the search finds one window, up to the last of them.
-#[derive(Clone, Copy, PartialEq, Eq, Debug)]
+#[derive(Clone, Copy)]
 pub struct Run {
     pub win: WinId,
     pub last: u16,

@@ -1,5 +1,5 @@
 -- Chains of nodes that name one another, over the two functions that say which is above and which below.
-use Rattle.std.proofs.Common.{◌≡◌, ℕ, zero, suc, ◌<◌, ◌≤◌, List, [], ◌∷◌, ◌++◌, length, reverse, sym, ap, subst, ◌∙◌, refl, arith}
+use Rattle.std.proofs.Common.{◌≡◌, ℕ, zero, suc, ◌<◌, ◌≤◌, List, [], ◌∷◌, ◌++◌, length, reverse, sym, ap, subst, ◌∙◌, arith}
 use mathlib.Core.List.{reverse_aux}
 use Rattle.std.specs.List.{AllByRecursion}
 use Rattle.std.proofs.lemmas.Bool.{ne_eqb}
@@ -45,19 +45,13 @@ module _ (above below : ℕ → ℕ) where
   chain-reverse a (x ∷ xs) z h = chain-reverse_aux x xs [] z a h.1 (h.0.1, h.0.0)
 
 way-end : (next : ℕ → ℕ) (n : ℕ) → way n next 0 ≡ []
-way-end next zero = refl
-way-end next (suc n) = refl
-
-way-step : (next : ℕ → ℕ) (n p : ℕ) → 0 < p → way (suc n) next p ≡ p ∷ way n next (next p)
-way-step next n p lt = rw (ne_eqb p 0 (omega arith)) refl
+way-end next n = grind arith
 
 -- the way through a chain is the chain
 pub way-chain : (above below : ℕ → ℕ) (a : ℕ) (xs : List ℕ) (n : ℕ) → IsChain above below a xs 0 → AllByRecursion (λ q. 0 < q) xs → length xs ≤ n → way n above (above a) ≡ xs
 way-chain above below a [] n h each le = ap (way n above) h.0 ∙ way-end above n
 way-chain above below a (x ∷ xs) zero h each le = absurd (omega arith)
-way-chain above below a (x ∷ xs) (suc n) h each le =
-    ap (way (suc n) above) h.0.0 ∙ way-step above n x each.0
-    ∙ ap (λ l. x ∷ l) (way-chain above below x xs n h.1 each.1 (omega arith))
+way-chain above below a (x ∷ xs) (suc n) h each le = grind (arith, ne_eqb, (way-chain above below x xs n h.1 each.1 (omega arith)))
 
 -- ---- a chain that is changed
 
@@ -73,8 +67,7 @@ module _ (above below above' below' : ℕ → ℕ) where
   pub chain-same : (a : ℕ) (xs : List ℕ) (z : ℕ) → above' a ≡ above a → AllByRecursion (λ q. above' q ≡ above q) xs → AllByRecursion (λ q. below' q ≡ below q) xs → below' z ≡ below z
       → IsChain above below a xs z → IsChain above' below' a xs z
   chain-same a [] z first aboves belows last h = (first ∙ h.0, last ∙ h.1)
-  chain-same a (x ∷ xs) z first aboves belows last h =
-      ((first ∙ h.0.0, belows.0 ∙ h.0.1), chain-same x xs z aboves.0 aboves.1 belows.1 last h.1)
+  chain-same a (x ∷ xs) z first aboves belows last h = grind (arith, (chain-same x xs z aboves.0 aboves.1 belows.1 last h.1))
 
   -- the neighbours of p became neighbours
   pub record Removed (p : ℕ) : Type 0 where
@@ -85,23 +78,8 @@ module _ (above below above' below' : ℕ → ℕ) where
 
   pub chain-removed : (p : ℕ) → Removed p → (a : ℕ) (xs ys : List ℕ) (z : ℕ) → IsChain above below a (xs ++ p ∷ ys) z → AreOnce (xs ++ p ∷ ys) → IsOut a (xs ++ p ∷ ys) → IsOut z (xs ++ p ∷ ys)
       → IsChain above' below' a (xs ++ ys) z
-  chain-removed p r a [] [] z h once oa oz =
-      let lower = r.lower in
-      let upper = r.upper in
-      (cc, cc)
-  chain-removed p r a [] (y ∷ ys) z h once oa oz =
-      let lower = r.lower in
-      let upper = r.upper in
-      let below_p : below p ≡ a = h.0.1 in
-      let above_p : above p ≡ y = h.1.0.0 in
-      let first : above' y ≡ above y = r.aboves y (λ e. once.0.0 (sym e)) (λ e. oa.1.0 (sym (e ∙ below_p))) in
-      let last : below' z ≡ below z = r.belows z oz.0 (λ e. oz.1.0 (e ∙ above_p)) in (
-        (cc, cc),
-        chain-same y ys z first
-            (same-each above above' p (below p) r.aboves ys once.0.1 (subst (λ q. IsOut q ys) (sym below_p) oa.1.1))
-            (same-each below below' p (above p) r.belows ys once.0.1 (subst (λ q. IsOut q ys) (sym above_p) once.1.0))
-            last h.1.1,
-      )
+  chain-removed p r a [] [] z h once oa oz = grind arith
+  chain-removed p r a [] (y ∷ ys) z h once oa oz = grind (arith, chain-same, same-each)
   chain-removed p r a (x ∷ xs) ys z h once oa oz =
       let prefix = chain-prefix above below x p xs ys z h.1 in
       let back = chain-back above below x p xs ys z h.1 in
@@ -125,36 +103,10 @@ module _ (above below above' below' : ℕ → ℕ) where
 
   pub chain-pushed : (p a : ℕ) (xs : List ℕ) (z : ℕ) → Inserted (below z) p z → IsChain above below a xs z → AreOnce xs → (a ≡ p → ⊥) → IsOut a xs → IsOut z xs → IsOut p xs
       → IsChain above' below' a (xs ++ p ∷ []) z
-  chain-pushed p a [] z r h once ap oa oz op =
-      let lower_above = r.lower_above in
-      let lower_below = r.lower_below in
-      ((cc, cc), (r.upper_above, r.upper_below))
-  chain-pushed p a (x ∷ xs) z r h once ap oa oz op = (
-    (
-      r.aboves a ap (not-last above below a x xs z h.1 oa.0 oa.1) ∙ h.0.0,
-      r.belows x (λ e. op.0 (sym e)) (λ e. oz.0 (sym e)) ∙ h.0.1,
-    ),
-    chain-pushed p x xs z r h.1 once.1 (λ e. op.0 (sym e)) once.0 oz.1 op.1,
-  )
+  chain-pushed p a [] z r h once ap oa oz op = grind arith
+  chain-pushed p a (x ∷ xs) z r h once ap oa oz op = grind (arith, not-last, (chain-pushed p x xs z r h.1 once.1 (λ e. op.0 (sym e)) once.0 oz.1 op.1))
 
   pub chain-put : (p a : ℕ) (xs : List ℕ) (z : ℕ) → Inserted a p (above a) → IsChain above below a xs z → AreOnce xs → (z ≡ p → ⊥) → IsOut a xs → IsOut z xs → IsOut p xs
       → IsChain above' below' a (p ∷ xs) z
-  chain-put p a [] z r h once zp oa oz op =
-      let upper_above = r.upper_above in
-      let upper_below = r.upper_below in
-      ((r.lower_above, r.lower_below), (cc, cc))
-  chain-put p a (y ∷ ys) z r h once zp oa oz op =
-      let upper_above = r.upper_above in
-      let upper_below = r.upper_below in
-      let above_a : above a ≡ y = h.0.0 in
-      let first : above' y ≡ above y = r.aboves y (λ e. op.0 (sym e)) (λ e. oa.0 (sym e)) in
-      let last : below' z ≡ below z = r.belows z zp (λ e. oz.0 (e ∙ above_a)) in (
-        (r.lower_above, r.lower_below),
-        (
-          (cc, cc),
-          chain-same y ys z first
-              (same-each above above' p a r.aboves ys op.1 oa.1)
-              (same-each below below' p (above a) r.belows ys op.1 (subst (λ q. IsOut q ys) (sym above_a) once.0))
-              last h.1,
-        ),
-      )
+  chain-put p a [] z r h once zp oa oz op = grind arith
+  chain-put p a (y ∷ ys) z r h once zp oa oz op = grind (arith, chain-same, same-each)

@@ -1,15 +1,15 @@
 -- How the numbers that are taken and the panels of windows follow the nodes.
-use Rattle.std.proofs.Common.{◌≡◌, ℕ, zero, suc, ◌+◌, ◌-◌, ◌<◌, ◌≤◌, ◌==◌, if◌then◌else◌, ◌⊎◌, Option, None}
-use Rattle.std.proofs.Common.{Some, is_some, MatchOption, List, [], ◌∷◌, ◌++◌, length, set, take, replicate, slice_index_or, Bool}
-use Rattle.std.proofs.Common.{length-set, get_or-set_same, get_or-set_other, sym, ap, ◌∙◌, refl, inl, inr, arith}
+use Rattle.std.proofs.Common.{◌≡◌, ℕ, zero, suc, ◌+◌, ◌-◌, ◌<◌, ◌≤◌, ◌==◌, if◌then◌else◌, Option, None, rules, []}
+use Rattle.std.proofs.Common.{Some, is_some, MatchOption, List, ◌∷◌, ◌++◌, length, set, take, replicate, slice_index_or}
+use Rattle.std.proofs.Common.{length-set, get_or-set_same, get_or-set_other, refl, arith}
 use Rattle.std.proofs.lemmas.Bool.{cases_eq, eq-eqb, ne_eqb}
 use Rattle.std.proofs.lemmas.List.{length_push, take_all}
 use Rattle.cell.specs.declared.limits.TheConstants.{MOST_PANELS}
 use Rattle.cell.specs.declared.window.WinId.{WinId}
 use Rattle.std.specs.Option.{option_map}
 use Rattle.world.specs.Effects.{with_entry}
-use Rattle.stack.specs.Indexes.{held_by, holder_at, is_taken, window_limit, IsIndexed}
-use Rattle.stack.specs.Nodes.{no_node, node_at, above_at, below_at, window_at, window_in}
+use Rattle.stack.specs.Indexes.{held_by, holder_at, window_limit, IsIndexed}
+use Rattle.stack.specs.Nodes.{node_at, above_at, below_at, window_at, window_in}
 use Rattle.stack.specs.steps.Entries.{Windowed}
 use Rattle.stack.specs.declared.nodes.Node.{Node}
 use Rattle.small_set.specs.Sets.{contains}
@@ -18,27 +18,12 @@ use Rattle.stack.proofs.Windows.{given-other, given-same, window-free}
 -- nothing that they say changed
 pub indexed-same : (old new : List Node) (numbers holders holders' : List ℕ) → IsIndexed old numbers holders → length new ≤ MOST_PANELS + 1 → (1 < length new → window_limit ≤ length holders')
     → ((p : ℕ) → window_at new p ≡ window_at old p) → ((w : ℕ) → holder_at holders' w ≡ holder_at holders w) → IsIndexed new numbers holders'
-indexed-same old new numbers holders holders' h few room windows same = record {
-  few = few;
-  room = room;
-  number = λ p. h.number p ∙ ap (is_taken p) (sym (windows p));
-  panel = λ p w is. same w ∙ h.panel p w (sym (windows p) ∙ is);
-  window = λ w some. windows (holder_at holders' w) ∙ ap (window_at old) (same w) ∙ h.window w (let e = same w in omega arith);
-}
+indexed-same old new numbers holders holders' h few room windows same = grind arith
 
 -- a node has other neighbours, or is another panel's
 module _ (nodes : List Node) (p : ℕ) (node : Node) (lt : p < length nodes) where
-  node-set_same : (q : ℕ) → q ≡ p → node_at (set nodes p node) q ≡ node
-  node-set_same q same = rw same (get_or-set_same nodes p node no_node lt)
-
-  node-set_other : (q : ℕ) → (q ≡ p → ⊥) → node_at (set nodes p node) q ≡ node_at nodes q
-  node-set_other q other = get_or-set_other nodes p q node no_node other
-
   field-set : {A : Type 0} (field : Node → A) → field node ≡ field (node_at nodes p) → (q : ℕ) → field (node_at (set nodes p node) q) ≡ field (node_at nodes q)
-  field-set field is q = elim (cases_eq q p) [
-    | inl same ↦ ap field (node-set_same q same) ∙ is ∙ ap (λ (k : ℕ). field (node_at nodes k)) (sym same)
-    | inr other ↦ ap field (node-set_other q other)
-  ]
+  field-set field is q = grind (arith, cases_eq, get_or-set_same, get_or-set_other)
 
   pub indexed-set : (numbers holders : List ℕ) → IsIndexed nodes numbers holders → window_in node ≡ window_at nodes p → IsIndexed (set nodes p node) numbers holders
   indexed-set numbers holders h is =
@@ -46,27 +31,16 @@ module _ (nodes : List Node) (p : ℕ) (node : Node) (lt : p < length nodes) whe
       indexed-same nodes (set nodes p node) numbers holders holders h (let few = h.few in omega arith) (λ some. h.room (omega arith)) (field-set window_in is) (λ w. refl)
 
   pub windowed-set : node.above ≡ above_at nodes p → node.below ≡ below_at nodes p → Windowed nodes (set nodes p node) p (window_in node)
-  windowed-set above below = record {
-    length = length-set nodes p node;
-    window = λ q. elim (cases_eq q p) [
-      | inl same ↦ ap window_in (node-set_same q same) ∙ sym (given-same (window_at nodes) p (window_in node) q same)
-      | inr other ↦ ap window_in (node-set_other q other) ∙ sym (given-other (window_at nodes) p (window_in node) q other)
-    ];
-    above = field-set (λ n. n.above) above;
-    below = field-set (λ n. n.below) below;
-  }
+  windowed-set above below = grind (arith, length-set, cases_eq, get_or-set_same, given-same, get_or-set_other, given-other, field-set)
 
 -- as the code writes it, which has the end beside the others
 pub set-past : (end : Node) (nodes : List Node) (p : ℕ) (node : Node) → 0 < p → set (end ∷ nodes) p node ≡ end ∷ set nodes (p - 1) node
-set-past end nodes zero node some = absurd (omega arith)
-set-past end nodes (suc p) node some = let e : p ≡ suc p - 1 = omega arith in ap (λ (k : ℕ). end ∷ set nodes k node) e
+set-past end nodes p node some = grind arith
 
 -- a node that no panel has
 pub indexed-pushed : (nodes : List Node) (node : Node) (numbers holders holders' : List ℕ) → IsIndexed nodes numbers holders → length nodes ≤ MOST_PANELS → window_in node ≡ None
     → window_limit ≤ length holders' → ((w : ℕ) → holder_at holders' w ≡ holder_at holders w) → IsIndexed (nodes ++ node ∷ []) numbers holders'
-indexed-pushed nodes node numbers holders holders' h few none room same =
-    indexed-same nodes (nodes ++ node ∷ []) numbers holders holders' h (let more = length_push nodes node in omega arith) (λ some. room)
-    (window-free nodes node none) same
+indexed-pushed nodes node numbers holders holders' h few none room same = grind (arith, indexed-same, length_push, window-free)
 
 zeros : (n k : ℕ) → ◌≡◌ {A = ℕ} (slice_index_or (replicate n 0) k 0) 0
 zeros zero k = refl
@@ -84,79 +58,27 @@ holder-grown holders n m few w = rw (take_all n holders few) (appended-zeros hol
 
 -- ---- a window changes
 
--- a window, or another
-cases_window : (o : Option ℕ) (w : ℕ) → (o ≡ Some w) ⊎ (o ≡ Some w → ⊥)
-cases_window None w = inr (λ e. cc)
-cases_window (Some u) w = elim (cases_eq u w) [
-  | inl same ↦ inl (ap Some same)
-  | inr other ↦ inr (λ e. other cc)
-]
-
 held-same : (o : Option ℕ) (p : ℕ) (holder : ℕ → ℕ) (w : ℕ) → o ≡ Some w → held_by o p holder w ≡ p
-held-same None p holder w is = cc
-held-same (Some u) p holder w is = let e : w ≡ u = cc in rw (eq-eqb w u e) refl
+held-same o p holder w is = grind (arith, eq-eqb)
 
 held-other : (o : Option ℕ) (p : ℕ) (holder : ℕ → ℕ) (w : ℕ) → (o ≡ Some w → ⊥) → held_by o p holder w ≡ holder w
-held-other None p holder w other = refl
-held-other (Some u) p holder w other = rw (ne_eqb w u (λ e. other (ap Some (sym e)))) refl
-
-taken-given : (window : ℕ → Option ℕ) (p : ℕ) (o : Option ℕ) (q : ℕ) → 0 < p → is_taken q (with_entry window p o q) ≡ (if q == p then is_some o else is_taken q (window q))
-taken-given window p o q positive = elim (cases_eq q p) [
-  | inl same ↦ rw (eq-eqb q p same) (rw (ne_eqb q 0 (λ e. omega arith)) refl)
-  | inr other ↦ rw (ne_eqb q p other) refl
-]
+held-other o p holder w other = grind (arith, ne_eqb)
 
 -- the panel p has the window o now, which was in none
 module _ (old new : List Node) (numbers numbers' holders middle holders' : List ℕ) (p : ℕ) (o : Option ℕ) (h : IsIndexed old numbers holders) (positive : 0 < p) (lt : p < length old) where
   module _ (len : length new ≡ length old) (windows : (q : ℕ) → window_at new q ≡ with_entry (window_at old) p o q) (free : (q w : ℕ) → o ≡ Some w → window_at old q ≡ Some w → ⊥) where
     module _ (released : (w : ℕ) → holder_at middle w ≡ held_by (window_at old p) 0 (holder_at holders) w) (held : (w : ℕ) → holder_at holders' w ≡ held_by o p (holder_at middle) w) where
-      held-new : (w : ℕ) → o ≡ Some w → holder_at holders' w ≡ p
-      held-new w is = held w ∙ held-same o p (holder_at middle) w is
-
-      held-old : (w : ℕ) → (o ≡ Some w → ⊥) → (window_at old p ≡ Some w → ⊥) → holder_at holders' w ≡ holder_at holders w
-      held-old w other differs = held w ∙ held-other o p (holder_at middle) w other ∙ released w ∙ held-other (window_at old p) 0 (holder_at holders) w differs
-
-      held-none : (w : ℕ) → (o ≡ Some w → ⊥) → window_at old p ≡ Some w → holder_at holders' w ≡ 0
-      held-none w other is = held w ∙ held-other o p (holder_at middle) w other ∙ released w ∙ held-same (window_at old p) 0 (holder_at holders) w is
-
       panel-windowed : (q w : ℕ) → window_at new q ≡ Some w → holder_at holders' w ≡ q
-      panel-windowed q w is = elim (cases_eq q p) [
-        | inl same ↦ held-new w (sym (windows q ∙ given-same (window_at old) p o q same) ∙ is) ∙ sym same
-        | inr other ↦
-            let was = sym (windows q ∙ given-other (window_at old) p o q other) ∙ is in
-            held-old w (λ e. free q w e was) (λ e. other (sym (h.panel q w was) ∙ h.panel p w e)) ∙ h.panel q w was
-      ]
-
-      window-windowed : (w : ℕ) → 0 < holder_at holders' w → window_at new (holder_at holders' w) ≡ Some w
-      window-windowed w some = elim (cases_window o w) [
-        | inl is ↦ ap (window_at new) (held-new w is) ∙ windows p ∙ given-same (window_at old) p o p refl ∙ is
-        | inr other ↦ elim (cases_window (window_at old p) w) [
-          | inl had ↦ let none = held-none w other had in absurd (omega arith)
-          | inr differs ↦
-              let kept = held-old w other differs in
-              let was = h.window w (omega arith) in
-              ap (window_at new) kept ∙ windows (holder_at holders w)
-              ∙ given-other (window_at old) p o (holder_at holders w) (λ e. differs (ap (window_at old) (sym e) ∙ was)) ∙ was
-        ]
-      ]
+      panel-windowed q w is = search (rules, cases_eq, held-same, given-same, given-other, held-other)
 
       pub indexed-windowed : length middle ≡ length holders → length holders' ≡ length middle
           → ((q : ℕ) → contains numbers' q ≡ (if q == p then is_some o else contains numbers q)) → IsIndexed new numbers' holders'
-      indexed-windowed first second taken = record {
-        few = let few = h.few in omega arith;
-        room = λ some. let room = h.room (omega arith) in omega arith;
-        number = λ q. taken q ∙ ap (λ (b : Bool). if q == p then is_some o else b) (h.number q)
-            ∙ sym (taken-given (window_at old) p o q positive) ∙ ap (is_taken q) (sym (windows q));
-        panel = panel-windowed;
-        window = window-windowed;
-      }
+      indexed-windowed first second taken = grind (arith, cases_eq, eq-eqb, ne_eqb, panel-windowed, held-same, given-same, held-other, given-other)
 
 -- as the code has the window
 pub free-window : (nodes : List Node) (win : Option WinId) → MatchOption win (Unit {0}) (λ u. (q : ℕ) → window_at nodes q ≡ Some u.0 → ⊥) → (q w : ℕ) → option_map (λ (u : WinId). u.0) win ≡ Some w
     → window_at nodes q ≡ Some w → ⊥
-free-window nodes None h q w e is = cc
-free-window nodes (Some u) h q w e is = h q (is ∙ sym e)
+free-window nodes win h q w e is = grind arith
 
 pub some-window : (win : Option WinId) → is_some win ≡ is_some (option_map (λ (u : WinId). u.0) win)
-some-window None = refl
-some-window (Some u) = refl
+some-window win = grind arith

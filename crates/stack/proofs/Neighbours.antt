@@ -1,5 +1,5 @@
 -- What the nodes say of the neighbours of a panel is what the order says.
-use Rattle.std.proofs.Common.{◌≡◌, ℕ, ◌<◌, true, false, not, ◌==◌, if◌then◌else◌, Option, None, Some, List, [], ◌∷◌, ◌++◌, reverse, sym, ap, subst, ◌∙◌, refl, inl, inr, arith}
+use Rattle.std.proofs.Common.{◌≡◌, ℕ, ◌<◌, false, not, ◌==◌, if◌then◌else◌, Option, None, Some, List, [], ◌∷◌, ◌++◌, reverse, sym, ap, subst, ◌∙◌, refl, arith}
 use mathlib.Core.List.{reverse_aux}
 use Rattle.std.specs.List.{AllByRecursion, last_or, list_any}
 use Rattle.std.proofs.lemmas.Bool.{eq-eqb, ne_eqb}
@@ -15,26 +15,15 @@ use Rattle.stack.proofs.Threads.{panel-below, positive}
 abbrev pub panel_or_none : ℕ → Option ℕ
 panel_or_none p = if p == 0 then None else Some p
 
-none-at : (p : ℕ) → p ≡ 0 → panel_or_none p ≡ None
-none-at p e = rw (eq-eqb p 0 e) refl
-
-some-at : (p q : ℕ) → p ≡ q → 0 < q → panel_or_none p ≡ Some q
-some-at p q e lt = rw (ne_eqb p 0 (omega arith)) (ap Some e)
-
 -- above the start of a chain is its first
 chain-first : (above below : ℕ → ℕ) (a : ℕ) (xs : List ℕ) → IsChain above below a xs 0 → AllByRecursion (λ q. 0 < q) xs → panel_or_none (above a) ≡ first_in xs
-chain-first above below a [] h each = none-at (above a) h.0
-chain-first above below a (x ∷ xs) h each = some-at (above a) x h.0.0 each.0
+chain-first above below a xs h each = grind (arith, eq-eqb, ne_eqb)
 
 -- ---- the last is the first from the other end
 
 last-first : (x : ℕ) (xs ys : List ℕ) → last_or (Some x) xs ≡ first_in (reverse_aux xs (x ∷ ys))
 last-first x [] ys = refl
 last-first x (y ∷ xs) ys = last-first y xs (x ∷ ys)
-
-last-reverse : (xs : List ℕ) → last_or None xs ≡ first_in (reverse xs)
-last-reverse [] = refl
-last-reverse (x ∷ xs) = last-first x xs []
 
 reverse-split : (p : ℕ) (xs ys : List ℕ) → reverse (xs ++ p ∷ ys) ≡ reverse ys ++ p ∷ reverse xs
 reverse-split p xs ys =
@@ -45,17 +34,10 @@ reverse-split p xs ys =
 module _ (nodes : List Node) (order : List ℕ) (h : IsThreaded nodes order) where
   -- a visible panel is in the order
   visible-split : (p : ℕ) → not (list_any (λ q. q == p) order) ≡ false → Split p order
-  visible-split p shown = elim (out_or_in p order) [
-    | inl out ↦ let any = any_is-out p order out in let t : true ≡ false = sym (ap not any) ∙ shown in cc
-    | inr split ↦ split
-  ]
+  visible-split p shown = grind (arith, out_or_in, any_is-out)
 
   pub last-is : panel_or_none (below_at nodes 0) ≡ last_or None order
-  last-is =
-      chain-first (below_at nodes) (above_at nodes) 0 (reverse order)
-      (chain-reverse (above_at nodes) (below_at nodes) 0 order 0 h.chain)
-      (each-reverse (λ q. 0 < q) order (positive nodes order h))
-      ∙ sym (last-reverse order)
+  last-is = grind (arith, chain-first, chain-reverse, each-reverse, positive, last-first)
 
   pub above-is : (p : ℕ) → not (list_any (λ q. q == p) order) ≡ false → panel_or_none (above_at nodes p) ≡ next_in p order
   above-is p shown =
@@ -86,18 +68,4 @@ module _ (nodes : List Node) (order : List ℕ) (h : IsThreaded nodes order) whe
 
   -- a hidden panel's node names itself, and no other panel's does
   pub hidden-is : (p : ℕ) → IsPanel nodes p → (above_at nodes p == p) ≡ not (list_any (λ q. q == p) order)
-  hidden-is p panel = elim (out_or_in p order) [
-    | inl out ↦
-        eq-eqb (above_at nodes p) p (h.others p panel.0 (panel-below nodes p panel) out).0
-        ∙ sym (ap not (any_is-out p order out))
-    | inr split ↦
-        let xs = split.before in
-        let ys = split.after in
-        let chain = subst (λ (l : List ℕ). IsChain (above_at nodes) (below_at nodes) 0 l 0) split.is h.chain in
-        let once = subst AreOnce split.is h.once in
-        let lt = panel.0 in
-        let other = not-first (above_at nodes) (below_at nodes) p p ys 0
-        (chain-back (above_at nodes) (below_at nodes) 0 p xs ys 0 chain) (λ e. omega arith) (once-after p xs ys once) in
-        ne_eqb (above_at nodes p) p (λ e. other (sym e))
-        ∙ sym (ap not (ap (list_any (λ q. q == p)) split.is ∙ any-split p xs ys))
-  ]
+  hidden-is p panel = grind (arith, out_or_in, eq-eqb, panel-below, any_is-out, not-first, chain-back, once-after, ne_eqb, any-split)

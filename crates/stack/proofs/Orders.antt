@@ -1,5 +1,5 @@
 -- Lists of numbers without duplicates.
-use Rattle.std.proofs.Common.{◌≡◌, ℕ, ◌<◌, ◌≤◌, Bool, true, false, ◌==◌, ◌||◌, List, [], ◌∷◌, ◌++◌, length, reverse, sym, ap, subst, ◌⊎◌, inl, inr, refl, eqb}
+use Rattle.std.proofs.Common.{◌≡◌, ℕ, ◌<◌, ◌≤◌, Bool, true, false, ◌==◌, ◌||◌, List, [], ◌∷◌, ◌++◌, length, reverse, sym, ap, subst, ◌⊎◌, inl, inr, refl, eqb, arith}
 use mathlib.Core.List.{reverse_aux}
 use Rattle.std.specs.List.{AllByRecursion, IsDistinct, list_any}
 use Rattle.std.proofs.lemmas.Bool.{cases_eq, eq-eqb, ne_eqb, or_cases, eqb-true}
@@ -132,10 +132,7 @@ without-split p (x ∷ xs) ys h =
 
 pub out-without : (p : ℕ) (xs : List ℕ) → IsOut p (without p xs)
 out-without p [] = tt
-out-without p (x ∷ xs) = elim (cases_eq x p) [
-  | inl same ↦ rw (eq-eqb x p same) (out-without p xs)
-  | inr other ↦ rw (ne_eqb x p other) (λ e. other (sym e), out-without p xs)
-]
+out-without p (x ∷ xs) = grind (arith, cases_eq, eq-eqb, ne_eqb, (out-without p xs), (out-without p xs))
 
 -- ---- neighbours
 
@@ -144,8 +141,7 @@ next_in-split p [] ys h = rw (eq-eqb p p refl) refl
 next_in-split p (x ∷ xs) ys h = rw (ne_eqb x p (λ e. h.0 (sym e))) (next_in-split p xs ys h.1)
 
 or-true : (b : Bool) → (b || true) ≡ true
-or-true true = refl
-or-true false = refl
+or-true b = grind arith
 
 pub any-split : (p : ℕ) (xs ys : List ℕ) → list_any (λ q. q == p) (xs ++ p ∷ ys) ≡ true
 any-split p [] ys = rw (eq-eqb p p refl) refl

@@ -1,10 +1,9 @@
 -- The search for the number of the next panel, and for the panel of a window, step by step.
 use Rattle.std.proofs.Common.{◌≡◌, ℕ, zero, suc, ◌+◌, ◌-◌, ◌<◌, ◌≤◌, ◌==◌, ◌||◌, Bool, if◌then◌else◌, true, false}
-use Rattle.std.proofs.Common.{Option, None, Some, IfSome, is_none, is_some, List, length, find, sym, ap, ◌∙◌, refl, inl}
-use Rattle.std.proofs.Common.{inr, arith}
+use Rattle.std.proofs.Common.{Option, None, Some, is_none, is_some, List, find, sym, ap, ◌∙◌, refl}
+use Rattle.std.proofs.Common.{arith}
 use Rattle.std.specs.List.{range_with_len}
 use Rattle.std.proofs.lemmas.Bool.{cases_eq, eq-eqb, false≢true, ne_eqb, false_from_ne_true}
-use Rattle.std.proofs.lemmas.Option.{same_Some}
 use Rattle.cell.specs.declared.limits.TheConstants.{MOST_PANELS}
 use Rattle.world.specs.Panels.{is_in_panel, panel_limit}
 use Rattle.world.specs.calls.Stacking.{new_panel_number, panel_number}
@@ -23,17 +22,14 @@ unfolding panel_limit
 limit-is = refl
 
 or-true : (b : Bool) → (b || true) ≡ true
-or-true true = refl
-or-true false = refl
+or-true b = grind arith
 
 -- what it says of a node that its number is taken
 taken-none : (p : ℕ) (o : Option ℕ) → is_taken p o ≡ false → o ≡ None
-taken-none p None h = refl
-taken-none p (Some w) h = absurd (false≢true (sym h ∙ or-true (p == 0)))
+taken-none p o h = grind (arith, false≢true, or-true)
 
 taken-some : (p : ℕ) (o : Option ℕ) → 0 < p → is_taken p o ≡ true → is_none o ≡ false
-taken-some p None positive h = absurd (false≢true (sym (rw (ne_eqb p 0 (λ z. omega (arith, positive, z))) refl) ∙ h))
-taken-some p (Some w) positive h = refl
+taken-some p o positive h = grind (arith, false≢true, ne_eqb)
 
 module _ (nodes : List Node) where
   -- from the number k on
@@ -55,20 +51,13 @@ module _ (nodes : List Node) where
   -- over numbers that are taken
   search-skip : (d k : ℕ) → ((p : ℕ) → k ≤ p → p < k + d → is_none (window_at nodes p) ≡ false) → k + d ≤ MOST_PANELS + 1 → search_from k ≡ search_from (k + d)
   search-skip zero k taken few = let e : k ≡ k + 0 = omega arith in ap search_from e
-  search-skip (suc d) k taken few =
-      let e : k + 1 + d ≡ k + suc d = omega arith in
-      search-more k (omega arith) (taken k (omega arith) (omega arith))
-      ∙ search-skip d (k + 1) (λ p from to. taken p (omega arith) (omega arith)) (omega arith)
-      ∙ ap search_from e
+  search-skip (suc d) k taken few = grind (arith, search-more, (search-skip d (k + 1) (λ p from to. taken p (omega arith) (omega arith)) (omega arith)))
 
 -- the least number that isn't taken
 module _ (nodes : List Node) (table : IsPanelTable nodes) (n : ℕ) (free : is_taken n (window_at nodes n) ≡ false)
     (taken : (p : ℕ) → p < n → is_taken p (window_at nodes p) ≡ true) where
   least-positive : 0 < n
-  least-positive = elim (cases_eq n 0) [
-    | inl zero_is ↦ absurd (false≢true (sym free ∙ rw zero_is refl))
-    | inr other ↦ omega arith
-  ]
+  least-positive = grind (arith, cases_eq, false≢true)
 
   below-taken : (p : ℕ) → 1 ≤ p → p < n → is_none (window_at nodes p) ≡ false
   below-taken p from lt = taken-some p (window_at nodes p) (omega arith) (taken p lt)
@@ -90,10 +79,6 @@ module _ (nodes : List Node) (table : IsPanelTable nodes) (n : ℕ) (free : is_t
 
 -- ---- the panel of a window
 
-some-number : (r : Option PanelId) → is_some r ≡ is_some (panel_number r)
-some-number None = refl
-some-number (Some p) = refl
-
 module _ (nodes : List Node) (h : IsPanelTable nodes) (w : ℕ) where
   pub in-panel : (p : ℕ) → window_at nodes p ≡ Some w → is_in_panel (panels (table_of nodes)) w ≡ true
   in-panel p is =
@@ -105,34 +90,10 @@ module _ (nodes : List Node) (h : IsPanelTable nodes) (w : ℕ) where
   abbrev pub NoneHas : ℕ → Type 0
   NoneHas n = (p : ℕ) → p < n → window_at nodes p ≡ Some w → ⊥
 
-  pub in-no-panel : NoneHas (length nodes) → is_in_panel (panels (table_of nodes)) w ≡ false
-  in-no-panel none = false_from_ne_true (is_in_panel (panels (table_of nodes)) w) (λ yes.
-      let found = in_panel-true (panels (table_of nodes)) w yes in
-      let is = sym (window-is nodes found.0) ∙ found.1 in
-      none found.0 (panel-below nodes found.0 (is-panel nodes h found.0 w is)) is)
-
   -- as the code finds it, where 0 is none
   module _ (p : ℕ) (window : 0 < p → window_at nodes p ≡ Some w) (only : (q : ℕ) → window_at nodes q ≡ Some w → p ≡ q) where
     pub holder-some : (r : Option PanelId) → panel_number r ≡ (if p == 0 then None else Some p) → is_some r ≡ is_in_panel (panels (table_of nodes)) w
-    holder-some r is = elim (cases_eq p 0) [
-      | inl none ↦
-          let e : panel_number r ≡ None = is ∙ rw (eq-eqb p 0 none) refl in
-          some-number r ∙ ap (λ (o : Option ℕ). is_some o) e
-          ∙ sym (in-no-panel (λ q lt has. let panel = is-panel nodes h q w has in let from_one = panel.0 in let same = only q has in omega arith))
-      | inr other ↦
-          let e : panel_number r ≡ Some p = is ∙ rw (ne_eqb p 0 other) refl in
-          some-number r ∙ ap (λ (o : Option ℕ). is_some o) e ∙ sym (in-panel p (window (omega arith)))
-    ]
-
-    pub holder-panel : (r : Option PanelId) → panel_number r ≡ (if p == 0 then None else Some p) → IfSome r (λ q. window_at nodes q.0 ≡ Some w)
-    holder-panel None is = tt
-    holder-panel (Some q) is = elim (cases_eq p 0) [
-      | inl none ↦ absurd (let e : panel_number (Some q) ≡ None = is ∙ rw (eq-eqb p 0 none) refl in cc)
-      | inr other ↦
-          let e : panel_number (Some q) ≡ Some p = is ∙ rw (ne_eqb p 0 other) refl in
-          let same : q.0 ≡ p = same_Some q.0 p e in
-          ap (window_at nodes) same ∙ window (omega arith)
-    ]
+    holder-some r is = grind (arith, cases_eq, eq-eqb, false_from_ne_true, in_panel-true, window-is, panel-below, is-panel, ne_eqb, in-panel)
 
   -- where the world says so, none has it
   pub none-has : is_in_panel (panels (table_of nodes)) w ≡ false → (p : ℕ) → window_at nodes p ≡ Some w → ⊥

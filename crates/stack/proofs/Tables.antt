@@ -1,13 +1,12 @@
 -- Tables of panels: what is known of each, and each call's table.
 use Rattle.std.proofs.Common.{◌≡◌, ℕ, zero, suc, true, false, ◌<◌, ◌==◌, if◌then◌else◌, ◌⊎◌, Option, None, Some, IsSome, MatchOption, List, [], ◌∷◌, ◌++◌, length, slice_index_or, sym, ap, subst}
-use Rattle.std.proofs.Common.{◌∙◌, refl, inl, inr, arith, lit≤, eqb, All}
+use Rattle.std.proofs.Common.{◌∙◌, refl, inl, inr, arith, eqb, All, rules}
 use Rattle.std.specs.List.{AllByRecursion}
-use Rattle.std.specs.Option.{is_none, is_some, option_map}
-use Rattle.std.proofs.lemmas.Bool.{eqb-false}
+use Rattle.std.specs.Option.{is_none, is_some}
+use Rattle.std.proofs.lemmas.Bool.{eqb-false, cases_eq}
 use Rattle.std.proofs.lemmas.List.{length_push}
 use Rattle.std.proofs.lemmas.Map.Keys.{apart_from_distinct}
 use Rattle.cell.specs.declared.refusal.Refusal.TheVariants.{Hidden}
-use Rattle.cell.specs.declared.window.WinId.{WinId}
 use Rattle.cell.specs.Refusals.{first_of}
 use Rattle.world.specs.Panels.{Panels, first_panels}
 use Rattle.world.specs.calls.Stacking.{after_del_panel, after_replace_panel, is_hidden, without, IsSoundEntry, IsSoundOrder, visible_tests}
@@ -18,8 +17,8 @@ use Rattle.stack.specs.steps.Entries.{Entered, IsFree, NodeMade, Windowed}
 use Rattle.stack.specs.steps.Links.{Reordered}
 use Rattle.stack.specs.declared.nodes.Node.{Node}
 use Rattle.stack.proofs.Orders.{distinct-once, out-each}
-use Rattle.stack.proofs.Threads.{from_bottom-is, panel-below, panel-same, twice-windows}
-use Rattle.stack.proofs.Windows.{apart-given, given-other, panels-are, threaded-windowed, window-is, threaded-pushed, window-free}
+use Rattle.stack.proofs.Threads.{from_bottom-is, panel-below, panel-same}
+use Rattle.stack.proofs.Windows.{given-other, panels-are, threaded-windowed, window-is, threaded-pushed, window-free, given-same}
 
 -- ---- what is known of each
 
@@ -38,21 +37,10 @@ module _ (nodes : List Node) (h : IsPanelTable nodes) where
 
   -- what has a window is a panel
   pub is-panel : (p w : ℕ) → window_at nodes p ≡ Some w → IsPanel nodes p
-  is-panel zero w is = let end = h.end in cc
-  is-panel (suc p) w is = (omega arith, subst (λ (o : Option ℕ). IsSome o) (sym is) refl)
+  is-panel p w is = grind arith
 
   sound-entry : (p : ℕ) (o : Option ℕ) → window_at nodes p ≡ o → MatchOption o (Unit {0}) (IsSoundEntry (panels (table_of nodes)) p)
-  sound-entry p None is = tt
-  sound-entry p (Some w) is =
-      let panel = is-panel p w is in
-      let lt = panel-below nodes p panel in
-      let few = h.few_nodes in
-      let from_one = panel.0 in
-      record {
-        from_one = omega arith;
-        number = omega arith;
-        alone = λ q has. h.alone q p w (sym (window-is nodes q) ∙ has) is;
-      }
+  sound-entry p o is = grind (arith, is-panel, panel-below, window-is)
 
   pub sound : IsSoundOrder (panels (table_of nodes))
   sound = record {
@@ -70,28 +58,16 @@ sound_shown nodes t is h = subst (λ (t : PanelTable). IsSoundOrder (panels t)) 
 -- ---- a new stack
 
 first-window : (p : ℕ) → window_at (no_node ∷ []) p ≡ None
-first-window zero = refl
-first-window (suc p) = refl
+first-window p = grind arith
 
 first-threaded : IsThreaded (no_node ∷ []) []
-first-threaded = record {
-  chain = (refl, refl);
-  once = tt;
-  panels = tt;
-  others = λ p some few out. absurd (omega arith);
-}
+first-threaded = grind arith
 
 pub first-is : from_bottom (no_node ∷ []) ≡ []
 first-is = from_bottom-is (no_node ∷ []) [] first-threaded
 
 pub first-table : IsPanelTable (no_node ∷ [])
-first-table = record {
-  some_node = omega arith;
-  few_nodes = lit≤ tt;
-  end = refl;
-  alone = λ p q w a b. let none = first-window p in cc;
-  threaded = subst (λ (l : List ℕ). IsThreaded (no_node ∷ []) l) (sym first-is) first-threaded;
-}
+first-table = grind (arith, first-window, first-is, first-threaded)
 
 pub first-panels : panels (table_of (no_node ∷ [])) ≡ first_panels
 first-panels = panels-are (no_node ∷ []) [] (λ p. None) first-is first-window
@@ -99,29 +75,10 @@ first-panels = panels-are (no_node ∷ []) [] (λ p. None) first-is first-window
 -- ---- the order changed
 
 pub reordered-panels : (old new : List Node) (order : List ℕ) → Reordered old new order → panels (table_of new) ≡ record (panels (table_of old)) { visible = order }
-reordered-panels old new order h =
-    panels-are new order ((panels (table_of old)).window) h.is (λ p. h.windows.window p ∙ sym (window-is old p))
-
--- once, and once more
-pub reordered-twice : (old mid new : List Node) (order : List ℕ) (change : List ℕ → List ℕ) → Reordered old mid order → Reordered mid new (change (from_bottom mid)) → Reordered old new (change order)
-reordered-twice old mid new order change h k = record {
-  threaded = k.threaded;
-  is = k.is ∙ ap change h.is;
-  windows = twice-windows old mid new h.windows k.windows;
-}
+reordered-panels old new order h = grind (arith, panels-are, window-is)
 
 pub reordered-table : (old new : List Node) (order : List ℕ) → IsPanelTable old → Reordered old new order → IsPanelTable new
-reordered-table old new order table h =
-    let length = h.windows.length in
-    let some = table.some_node in
-    let few = table.few_nodes in
-    record {
-      some_node = omega arith;
-      few_nodes = omega arith;
-      end = h.windows.window 0 ∙ table.end;
-      alone = λ p q w a b. table.alone p q w (sym (h.windows.window p) ∙ a) (sym (h.windows.window q) ∙ b);
-      threaded = h.threaded;
-    }
+reordered-table old new order table h = grind arith
 
 -- ---- a window changed
 
@@ -129,27 +86,11 @@ module _ (old new : List Node) (p : ℕ) (o : Option ℕ) (table : IsPanelTable 
   windowed-threaded : IsSome o ⊎ IsOut p (from_bottom old) → IsThreaded new (from_bottom old)
   windowed-threaded some = threaded-windowed old new p o windowed (from_bottom old) some table.threaded
 
-  pub windowed-is : IsSome o ⊎ IsOut p (from_bottom old) → from_bottom new ≡ from_bottom old
-  windowed-is some = from_bottom-is new (from_bottom old) (windowed-threaded some)
-
   pub windowed-table : IsSome o ⊎ IsOut p (from_bottom old) → ((q w : ℕ) → o ≡ Some w → window_at old q ≡ Some w → ⊥) → IsPanelTable new
-  windowed-table some apart =
-      let length = windowed.length in
-      let has = table.some_node in
-      let few = table.few_nodes in
-      let positive = panel.0 in
-      record {
-        some_node = omega arith;
-        few_nodes = omega arith;
-        end = windowed.window 0 ∙ given-other (window_at old) p o 0 (λ e. omega arith) ∙ table.end;
-        alone = λ a b w ha hb. apart-given (window_at old) p o table.alone apart a b w (sym (windowed.window a) ∙ ha) (sym (windowed.window b) ∙ hb);
-        threaded = subst (λ (l : List ℕ). IsThreaded new l) (sym (windowed-is some)) (windowed-threaded some);
-      }
+  windowed-table some apart = search (rules, given-other, cases_eq, given-same, from_bottom-is, windowed-threaded)
 
   pub windowed-panels : IsSome o ⊎ IsOut p (from_bottom old) → panels (table_of new) ≡ record { visible = from_bottom old; window = with_entry ((panels (table_of old)).window) p o }
-  windowed-panels some =
-      panels-are new (from_bottom old) (with_entry ((panels (table_of old)).window) p o) (windowed-is some)
-      (λ q. windowed.window q ∙ ap (λ (w : Option ℕ). if q == p then o else w) (sym (window-is old q)))
+  windowed-panels some = grind (arith, panels-are, from_bottom-is, windowed-threaded, window-is)
 
 -- ---- the calls
 
@@ -181,31 +122,18 @@ module _ (old new : List Node) (p w : ℕ) (table : IsPanelTable old) (panel : I
 -- a panel is made
 module _ (old mid new : List Node) (p w : ℕ) (table : IsPanelTable old) (free : IsFree old p) (entered : Entered old mid p w) (order : Reordered mid new (from_bottom mid ++ p ∷ [])) where
   entered-table : ((q : ℕ) → window_at old q ≡ Some w → ⊥) → IsPanelTable mid
-  entered-table none =
-      let positive = free.from_one in
-      record {
-        some_node = entered.some;
-        few_nodes = entered.few;
-        end = entered.window 0 ∙ given-other (window_at old) p (Some w) 0 (λ e. omega arith) ∙ table.end;
-        alone = λ a b v ha hb. apart-given (window_at old) p (Some w) table.alone (λ q u same is. none q (is ∙ sym same)) a b v (sym (entered.window a) ∙ ha) (sym (entered.window b) ∙ hb);
-        threaded = entered.threaded;
-      }
+  entered-table none = grind (arith, given-other, cases_eq, given-same)
 
   pub made-table : ((q : ℕ) → window_at old q ≡ Some w → ⊥) → IsPanelTable new
   made-table none = reordered-table mid new (from_bottom mid ++ p ∷ []) (entered-table none) order
 
   pub made-panels : panels (table_of new) ≡ with_panel (panels (table_of old)) p w
-  made-panels =
-      reordered-panels mid new (from_bottom mid ++ p ∷ []) order
-      ∙ ap (λ (a : Panels). record { visible = a.visible ++ p ∷ []; window = a.window })
-      (panels-are mid (from_bottom old) (with_entry ((panels (table_of old)).window) p (Some w)) entered.is
-      (λ q. entered.window q ∙ ap (λ (o : Option ℕ). if q == p then Some w else o) (sym (window-is old q))))
+  made-panels = grind (arith, reordered-panels, panels-are, window-is)
 
 -- a number is a panel's
 module _ (old new : List Node) (p w : ℕ) (table : IsPanelTable old) (free : IsFree old p) where
   free-out : IsOut p (from_bottom old)
-  free-out = out-each (λ q. IsPanel old q) p (λ panel. let some = panel.1 in let none = free.free in subst (λ (o : Option ℕ). IsSome o → ⊥) (sym none) (λ h. cc) some)
-      (from_bottom old) table.threaded.panels
+  free-out = grind (arith, out-each)
 
   pub entered-windowed : p < length old → Windowed old new p (Some w) → Entered old new p w
   entered-windowed lt windowed =
@@ -226,12 +154,7 @@ module _ (old new : List Node) (p w : ℕ) (table : IsPanelTable old) (free : Is
 -- its node was made before
 module _ (old mid new : List Node) (p w : ℕ) (free : IsFree old p) (made : NodeMade old mid p) where
   made-free : IsFree mid p
-  made-free = let within = made.within in record {
-    free = made.window p ∙ free.free;
-    from_one = free.from_one;
-    few = free.few;
-    next = omega arith;
-  }
+  made-free = grind arith
 
   pub entered-made : Windowed mid new p (Some w) → Entered old new p w
   entered-made windowed =
@@ -252,38 +175,15 @@ module _ (old : List Node) (p : ℕ) (table : IsPanelTable old) (free : IsFree o
         (subst (λ (k : ℕ). IsOut k (from_bottom old)) last (free-out old old p 0 table free)) table.threaded
 
     pub made-pushed : NodeMade old (old ++ node ∷ []) p
-    made-pushed =
-        let more = length_push old node in
-        let few = free.few in
-        let is = from_bottom-is (old ++ node ∷ []) (from_bottom old) pushed-threaded in
-        let same = window-free old node window in
-        record {
-          table = record {
-            some_node = omega arith;
-            few_nodes = omega arith;
-            end = same 0 ∙ table.end;
-            alone = λ a b w ha hb. table.alone a b w (sym (same a) ∙ ha) (sym (same b) ∙ hb);
-            threaded = subst (λ (l : List ℕ). IsThreaded (old ++ node ∷ []) l) (sym is) pushed-threaded;
-          };
-          within = omega arith;
-          window = same;
-          is = is;
-        }
+    made-pushed = grind (arith, length_push, from_bottom-is, pushed-threaded, window-free)
 
 -- ---- tests
 
-some-from : (o : Option WinId) → is_some o ≡ true → IsSome (option_map (λ w. w.0) o)
-some-from None h = cc
-some-from (Some w) h = refl
-
 pub panel-from : (nodes : List Node) (table : IsPanelTable nodes) (p : ℕ) (node : Node) → node ≡ node_at nodes p → is_some node.window ≡ true → IsPanel nodes p
-panel-from nodes table zero node is has = let end = table.end in absurd (let some = subst (λ (n : Node). IsSome (window_in n)) is (some-from node.window has) in subst
-    (λ (o : Option ℕ). IsSome o → ⊥) (sym end) (λ h. cc) some)
-panel-from nodes table (suc p) node is has = (omega arith, subst (λ (n : Node). IsSome (window_in n)) is (some-from node.window has))
+panel-from nodes table p node is has = grind arith
 
 is_none-some : (o : Option ℕ) → IsSome o → is_none o ≡ false
-is_none-some None h = cc
-is_none-some (Some w) h = refl
+is_none-some o h = grind arith
 
 pub taken : (nodes : List Node) (p : ℕ) → IsPanel nodes p → is_none ((panels (table_of nodes)).window p) ≡ false
 taken nodes p panel = is_none-some ((panels (table_of nodes)).window p) (subst (λ (o : Option ℕ). IsSome o) (sym (window-is nodes p)) panel.1)

@@ -5,7 +5,7 @@ use Rattle.std.specs.List.{AllByRecursion}
 use Rattle.std.proofs.lemmas.Bool.{cases_eq, eq-eqb, ne_eqb, cases_lt}
 use Rattle.std.proofs.lemmas.List.{get_or_past, length-reverse}
 use Rattle.world.specs.calls.Stacking.{without}
-use Rattle.stack.specs.Nodes.{no_node, node_at, above_at, below_at, window_in, IsAlone, IsChain, IsOut, IsPanel, IsThreaded, from_bottom, from_top}
+use Rattle.stack.specs.Nodes.{node_at, above_at, below_at, IsAlone, IsChain, IsOut, IsPanel, IsThreaded, from_bottom, from_top}
 use Rattle.stack.specs.steps.Links.{Linked, Reordered, SameWindows}
 use Rattle.stack.specs.declared.nodes.Node.{Node}
 use Rattle.stack.proofs.Chains.{Inserted, Removed, chain-back, chain-prefix, chain-pushed, chain-put, chain-removed, chain-reverse, first-each, last-each, not-first, not-last, way-chain}
@@ -16,10 +16,7 @@ use Rattle.stack.proofs.Orders.{out-prefix, out_or_in, without-out, without-spli
 
 -- a panel's number is among the nodes'
 pub panel-below : (nodes : List Node) (p : ℕ) → IsPanel nodes p → p < length nodes
-panel-below nodes p h = elim (cases_lt p (length nodes)) [
-  | inl lt ↦ lt
-  | inr ge ↦ let none : IsSome (window_in no_node) = subst (λ (node : Node). IsSome (window_in node)) (get_or_past nodes p no_node ge) h.1 in cc
-]
+panel-below nodes p h = grind (arith, cases_lt, get_or_past)
 
 module _ (nodes : List Node) (order : List ℕ) (h : IsThreaded nodes order) where
   pub positive : AllByRecursion (λ q. 0 < q) order
@@ -57,34 +54,10 @@ module _ (nodes : List Node) (order : List ℕ) (h : IsThreaded nodes order) (so
   each-node = each-weaker (IsPanel nodes) (λ q. q < length nodes) (panel-below nodes) order h.panels
 
   pub above-below : (p : ℕ) → IsPanel nodes p → above_at nodes p < length nodes
-  above-below p panel = elim (out_or_in p order) [
-    | inl out ↦
-        let alone = (h.others p panel.0 (panel-below nodes p panel) out).0 in
-        let lt = panel-below nodes p panel in
-        subst (λ (k : ℕ). k < length nodes) (sym alone) lt
-    | inr split ↦
-        let ys = split.after in
-        let chain = subst (λ (l : List ℕ). IsChain (above_at nodes) (below_at nodes) 0 l 0) split.is h.chain in
-        let each = subst (λ (l : List ℕ). AllByRecursion (λ q. q < length nodes) l) split.is each-node in
-        first-each (above_at nodes) (below_at nodes) (λ q. q < length nodes) p ys 0
-        (chain-back (above_at nodes) (below_at nodes) 0 p split.before ys 0 chain)
-        (each-back (λ q. q < length nodes) split.before (p ∷ ys) each).1 some
-  ]
+  above-below p panel = grind (arith, out_or_in, panel-below, each-node, first-each, chain-back, each-back)
 
   pub below-below : (p : ℕ) → IsPanel nodes p → below_at nodes p < length nodes
-  below-below p panel = elim (out_or_in p order) [
-    | inl out ↦
-        let alone = (h.others p panel.0 (panel-below nodes p panel) out).1 in
-        let lt = panel-below nodes p panel in
-        subst (λ (k : ℕ). k < length nodes) (sym alone) lt
-    | inr split ↦
-        let xs = split.before in
-        let chain = subst (λ (l : List ℕ). IsChain (above_at nodes) (below_at nodes) 0 l 0) split.is h.chain in
-        let each = subst (λ (l : List ℕ). AllByRecursion (λ q. q < length nodes) l) split.is each-node in
-        last-each (above_at nodes) (below_at nodes) (λ q. q < length nodes) 0 xs p
-        (chain-prefix (above_at nodes) (below_at nodes) 0 p xs split.after 0 chain)
-        (each-prefix (λ q. q < length nodes) xs (p ∷ split.after) each) some
-  ]
+  below-below p panel = grind (arith, out_or_in, panel-below, each-node, last-each, chain-prefix, each-prefix)
 
   pub top-below : below_at nodes 0 < length nodes
   top-below = last-each (above_at nodes) (below_at nodes) (λ q. q < length nodes) 0 order 0 h.chain each-node some
@@ -93,9 +66,7 @@ module _ (nodes : List Node) (order : List ℕ) (h : IsThreaded nodes order) (so
   bottom-below = first-each (above_at nodes) (below_at nodes) (λ q. q < length nodes) 0 order 0 h.chain each-node some
 
 pub reordered : (old new : List Node) (order : List ℕ) → SameWindows old new → IsThreaded new order → Reordered old new order
-reordered old new order windows h =
-    let is = from_bottom-is new order h in
-    record { threaded = subst (λ (l : List ℕ). IsThreaded new l) (sym is) h; is = is; windows = windows }
+reordered old new order windows h = grind (arith, from_bottom-is)
 
 -- ---- two links
 
@@ -111,57 +82,41 @@ pub record Twice (above below above' below' : ℕ → ℕ) (lower upper v w : �
   pub belows : (q : ℕ) → below' q ≡ (if q == w then v else (if q == upper then lower else below q))
 
 pub twice : (old mid new : List Node) (lower upper v w : ℕ) → Linked old mid lower upper → Linked mid new v w → Twice (above_at old) (below_at old) (above_at new) (below_at new) lower upper v w
-twice old mid new lower upper v w h k = record {
-  aboves = λ q. k.above q ∙ ap (λ (x : ℕ). if q == v then w else x) (h.above q);
-  belows = λ q. k.below q ∙ ap (λ (x : ℕ). if q == w then v else x) (h.below q);
-}
+twice old mid new lower upper v w h k = grind arith
 
 pub twice-windows : (old mid new : List Node) → SameWindows old mid → SameWindows mid new → SameWindows old new
 twice-windows old mid new h k = record { length = k.length ∙ h.length; window = λ q. k.window q ∙ h.window q }
 
 module _ (above below above' below' : ℕ → ℕ) where
-  twice-other : (lower upper v w q : ℕ) → Twice above below above' below' lower upper v w → (q ≡ v → ⊥) → (q ≡ lower → ⊥) → above' q ≡ above q
-  twice-other lower upper v w q t nv nl =
-      t.aboves q ∙ if-other q v w (if q == lower then upper else above q) nv ∙ if-other q lower upper (above q) nl
-
-  twice-other-below : (lower upper v w q : ℕ) → Twice above below above' below' lower upper v w → (q ≡ w → ⊥) → (q ≡ upper → ⊥) → below' q ≡ below q
-  twice-other-below lower upper v w q t nw nu =
-      t.belows q ∙ if-other q w v (if q == upper then lower else below q) nw ∙ if-other q upper lower (below q) nu
-
   -- the neighbours of p became neighbours, and p alone
   removed : (p : ℕ) → Twice above below above' below' (below p) (above p) p p → (p ≡ below p → ⊥) → (p ≡ above p → ⊥) → Removed above below above' below' p
-  removed p t nl nu = record {
-    lower = t.aboves (below p) ∙ if-other (below p) p p (if below p == below p then above p else above (below p)) (λ e. nl (sym e)) ∙ if-same (below p) (below p) (above p) (above (below p)) refl;
-    upper = t.belows (above p) ∙ if-other (above p) p p (if above p == above p then below p else below (above p)) (λ e. nu (sym e)) ∙ if-same (above p) (above p) (below p) (below (above p)) refl;
-    aboves = λ q np nb. twice-other (below p) (above p) p p q t np nb;
-    belows = λ q np na. twice-other-below (below p) (above p) p p q t np na;
-  }
+  removed p t nl nu = grind (arith, if-other, if-same)
 
   -- p is between lower and upper
   inserted : (lower p upper : ℕ) → Twice above below above' below' lower p p upper → (p ≡ lower → ⊥) → (p ≡ upper → ⊥) → Inserted above below above' below' lower p upper
-  inserted lower p upper t nl nu = record {
-    lower_above = t.aboves lower ∙ if-other lower p upper (if lower == lower then p else above lower) (λ e. nl (sym e)) ∙ if-same lower lower p (above lower) refl;
-    lower_below = t.belows p ∙ if-other p upper p (if p == p then lower else below p) nu ∙ if-same p p lower (below p) refl;
-    upper_above = t.aboves p ∙ if-same p p upper (if p == lower then p else above p) refl;
-    upper_below = t.belows upper ∙ if-same upper upper p (if upper == p then lower else below upper) refl;
-    aboves = λ q np nl. twice-other lower p p upper q t np nl;
-    belows = λ q np nu. twice-other-below lower p p upper q t nu np;
-  }
+  inserted lower p upper t nl nu = grind (arith, if-other, if-same)
 
   -- a panel that was alone, was alone already
   kept-above : (p : ℕ) → Twice above below above' below' (below p) (above p) p p → above p ≡ p → below p ≡ p → (q : ℕ) → above' q ≡ above q
-  kept-above p t ap_is bp_is q = elim (cases_eq q p) [
-    | inl same ↦ t.aboves q ∙ if-same q p p (if q == below p then above p else above q) same ∙ sym (ap above same ∙ ap_is)
-    | inr other ↦ twice-other (below p) (above p) p p q t other (λ e. other (e ∙ bp_is))
-  ]
+  kept-above p t ap_is bp_is q = grind (arith, cases_eq, if-same, if-other)
 
   kept-below : (p : ℕ) → Twice above below above' below' (below p) (above p) p p → above p ≡ p → below p ≡ p → (q : ℕ) → below' q ≡ below q
-  kept-below p t ap_is bp_is q = elim (cases_eq q p) [
-    | inl same ↦ t.belows q ∙ if-same q p p (if q == above p then below p else below q) same ∙ sym (ap below same ∙ bp_is)
-    | inr other ↦ twice-other-below (below p) (above p) p p q t other (λ e. other (e ∙ ap_is))
-  ]
+  kept-below p t ap_is bp_is q = grind (arith, cases_eq, if-same, if-other)
 
 -- ---- panels with the same windows
+
+-- the links are the same, and each of the order is a panel still
+pub threaded-kept : (old new : List Node) (order : List ℕ) → length new ≡ length old → ((q : ℕ) → above_at new q ≡ above_at old q) → ((q : ℕ) → below_at new q ≡ below_at old q) → IsThreaded old order
+    → AllByRecursion (IsPanel new) order → IsThreaded new order
+threaded-kept old new order long aboves belows h panels =
+    let f : above_at old ≡ above_at new = fun_ext (λ q. sym (aboves q)) in
+    let g : below_at old ≡ below_at new = fun_ext (λ q. sym (belows q)) in
+    record {
+      chain = subst (λ (k : ℕ → ℕ). IsChain (above_at new) k 0 order 0) g (subst (λ (k : ℕ → ℕ). IsChain k (below_at old) 0 order 0) f h.chain);
+      once = h.once;
+      panels = panels;
+      others = λ q lt few out. let alone = h.others q lt (subst (λ (n : ℕ). q < n) long few) out in (aboves q ∙ alone.0, belows q ∙ alone.1);
+    }
 
 module _ (old new : List Node) (same : SameWindows old new) where
   pub panel-same : (q : ℕ) → IsPanel old q → IsPanel new q
@@ -170,29 +125,12 @@ module _ (old new : List Node) (same : SameWindows old new) where
   panels-same : (order : List ℕ) → AllByRecursion (IsPanel old) order → AllByRecursion (IsPanel new) order
   panels-same order h = each-weaker (IsPanel old) (IsPanel new) panel-same order h
 
-  -- the links are the same too
-  threaded-same : (order : List ℕ) → ((q : ℕ) → above_at new q ≡ above_at old q) → ((q : ℕ) → below_at new q ≡ below_at old q) → IsThreaded old order → IsThreaded new order
-  threaded-same order aboves belows h =
-      let f : above_at old ≡ above_at new = fun_ext (λ q. sym (aboves q)) in
-      let g : below_at old ≡ below_at new = fun_ext (λ q. sym (belows q)) in
-      record {
-        chain = subst (λ (k : ℕ → ℕ). IsChain (above_at new) k 0 order 0) g (subst (λ (k : ℕ → ℕ). IsChain k (below_at old) 0 order 0) f h.chain);
-        once = h.once;
-        panels = panels-same order h.panels;
-        others = λ q lt few out.
-            let alone = h.others q lt (subst (λ (n : ℕ). q < n) same.length few) out in
-            (aboves q ∙ alone.0, belows q ∙ alone.1);
-      }
-
 -- ---- a panel leaves
 
 module _ (old new : List Node) (p : ℕ) (windows : SameWindows old new) (t : Twice (above_at old) (below_at old) (above_at new) (below_at new) (below_at old p) (above_at old p) p p)
     (panel : IsPanel old p) where
   alone : IsAlone new p
-  alone = (
-    t.aboves p ∙ if-same p p p (if p == below_at old p then above_at old p else above_at old p) refl,
-    t.belows p ∙ if-same p p p (if p == above_at old p then below_at old p else below_at old p) refl,
-  )
+  alone = grind (arith, if-same)
 
   not-end : p ≡ 0 → ⊥
   not-end e = let lt = panel.0 in omega arith
@@ -228,9 +166,9 @@ module _ (old new : List Node) (p : ℕ) (windows : SameWindows old new) (t : Tw
     | inl out ↦
         let is = h.others p panel.0 (panel-below old p panel) out in
         subst (λ (l : List ℕ). IsThreaded new l) (sym (without-out p order out))
-        (threaded-same old new windows order
+        (threaded-kept old new order windows.length
         (kept-above (above_at old) (below_at old) (above_at new) (below_at new) p t is.0 is.1)
-        (kept-below (above_at old) (below_at old) (above_at new) (below_at new) p t is.0 is.1) h)
+        (kept-below (above_at old) (below_at old) (above_at new) (below_at new) p t is.0 is.1) h (panels-same old new windows order h.panels))
     | inr split ↦
         let xs = split.before in
         let ys = split.after in
@@ -245,40 +183,10 @@ module _ (old new : List Node) (p : ℕ) (windows : SameWindows old new) (panel 
   not-0 e = let lt = panel.0 in omega arith
 
   pub entered-top : Twice (above_at old) (below_at old) (above_at new) (below_at new) (below_at old 0) p p 0 → IsThreaded new (order ++ p ∷ [])
-  entered-top t =
-      let out_0 = out-end old order h in
-      let r = inserted (above_at old) (below_at old) (above_at new) (below_at new) (below_at old 0) p 0 t
-      (not-last (above_at old) (below_at old) p 0 order 0 h.chain not-0 out) not-0 in
-      record {
-        chain = chain-pushed (above_at old) (below_at old) (above_at new) (below_at new) p 0 order 0 r h.chain h.once (λ e. not-0 (sym e)) out_0 out_0 out;
-        once = once-push p order h.once out;
-        panels = panels-same old new windows (order ++ p ∷ []) (each-append (IsPanel old) order (p ∷ []) h.panels (panel, tt));
-        others = λ q lt few out_q.
-            let out_order = out-prefix q order (p ∷ []) out_q in
-            let other = (out-back q order (p ∷ []) out_q).0 in
-            let was = h.others q lt (subst (λ (n : ℕ). q < n) windows.length few) out_order in
-            let q_0 : q ≡ 0 → ⊥ = λ e. omega arith in (
-              r.aboves q other (not-last (above_at old) (below_at old) q 0 order 0 h.chain q_0 out_order) ∙ was.0,
-              r.belows q other q_0 ∙ was.1,
-            );
-      }
+  entered-top t = grind (arith, out-end, inserted, not-last, not-0, chain-pushed, once-push, panels-same, each-append, few, out-prefix, out-back)
 
   pub entered-bottom : Twice (above_at old) (below_at old) (above_at new) (below_at new) 0 p p (above_at old 0) → IsThreaded new (p ∷ order)
-  entered-bottom t =
-      let out_0 = out-end old order h in
-      let r = inserted (above_at old) (below_at old) (above_at new) (below_at new) 0 p (above_at old 0) t not-0
-      (not-first (above_at old) (below_at old) p 0 order 0 h.chain not-0 out) in
-      record {
-        chain = chain-put (above_at old) (below_at old) (above_at new) (below_at new) p 0 order 0 r h.chain h.once (λ e. not-0 (sym e)) out_0 out_0 out;
-        once = (out, h.once);
-        panels = panels-same old new windows (p ∷ order) (panel, h.panels);
-        others = λ q lt few out_q.
-            let was = h.others q lt (subst (λ (n : ℕ). q < n) windows.length few) out_q.1 in
-            let q_0 : q ≡ 0 → ⊥ = λ e. omega arith in (
-              r.aboves q out_q.0 q_0 ∙ was.0,
-              r.belows q out_q.0 (not-first (above_at old) (below_at old) q 0 order 0 h.chain q_0 out_q.1) ∙ was.1,
-            );
-      }
+  entered-bottom t = grind (arith, out-end, inserted, not-0, not-first, chain-put, panels-same, few)
 
 -- ---- by two links
 

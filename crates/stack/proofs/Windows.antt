@@ -1,17 +1,16 @@
 -- The windows of panels, and where one of them changes.
-use Rattle.std.proofs.Common.{◌≡◌, ℕ, zero, suc, ◌<◌, Option, None, Some, IsSome, List, [], ◌∷◌, ◌++◌, length, map, slice_index_or, sym, ap, subst, ◌∙◌, ◌⊎◌, refl, inl, inr, arith}
-use mathlib.Core.Path.{fun_ext}
+use Rattle.std.proofs.Common.{◌≡◌, ℕ, zero, suc, ◌<◌, Option, None, IsSome, List, [], ◌∷◌, ◌++◌, length, map, slice_index_or, sym, ap, ◌∙◌, ◌⊎◌, refl, inl, inr, arith}
 use Rattle.std.specs.List.{AllByRecursion}
 use Rattle.std.proofs.lemmas.Bool.{cases_eq, cases_order, eq-eqb, ne_eqb}
 use Rattle.std.proofs.lemmas.List.{get_or_append_left, get_or_past, get_or_push, length_push}
 use Rattle.world.specs.Effects.{with_entry}
-use Rattle.stack.specs.Nodes.{no_node, node_at, above_at, below_at, window_at, window_in, from_bottom, IsChain, IsOut, IsPanel, IsThreaded}
+use Rattle.stack.specs.Nodes.{no_node, node_at, above_at, below_at, window_at, window_in, from_bottom, IsOut, IsPanel, IsThreaded}
 use Rattle.stack.specs.Tables.{panels, table_of}
 use Rattle.stack.specs.steps.Entries.{Windowed}
 use Rattle.stack.specs.declared.nodes.Node.{Node}
 use Rattle.stack.proofs.Chains.{chain-same}
 use Rattle.stack.proofs.Orders.{each-weaker}
-use Rattle.stack.proofs.Threads.{panel-below}
+use Rattle.stack.proofs.Threads.{panel-below, threaded-kept}
 
 pub window-is : (nodes : List Node) (p : ℕ) → slice_index_or (map window_in nodes) p None ≡ window_at nodes p
 window-is [] p = refl
@@ -21,9 +20,7 @@ window-is (node ∷ nodes) (suc p) = window-is nodes p
 -- panels with this order and these windows
 pub panels-are : (nodes : List Node) (visible : List ℕ) (window : ℕ → Option ℕ) → from_bottom nodes ≡ visible → ((p : ℕ) → window_at nodes p ≡ window p)
     → panels (table_of nodes) ≡ record { visible = visible; window = window }
-panels-are nodes visible window e f =
-    let g : (λ (p : ℕ). slice_index_or (map window_in nodes) p None) ≡ window = fun_ext (λ p. window-is nodes p ∙ f p) in
-    λ i. record { visible = e i; window = g i }
+panels-are nodes visible window e f = grind (arith, window-is)
 
 -- ---- one window changes
 
@@ -33,52 +30,16 @@ given-same window p o q e = rw (eq-eqb q p e) refl
 pub given-other : (window : ℕ → Option ℕ) (p : ℕ) (o : Option ℕ) (q : ℕ) → (q ≡ p → ⊥) → with_entry window p o q ≡ window q
 given-other window p o q e = rw (ne_eqb q p e) refl
 
--- no window is in two panels
-abbrev pub AreApart : (ℕ → Option ℕ) → Type 0
-AreApart window = (p q w : ℕ) → window p ≡ Some w → window q ≡ Some w → p ≡ q
-
--- nor is it where a panel's window was in none
-pub apart-given : (window : ℕ → Option ℕ) (p : ℕ) (o : Option ℕ) → AreApart window → ((q w : ℕ) → o ≡ Some w → window q ≡ Some w → ⊥) → AreApart (with_entry window p o)
-apart-given window p o apart new a b w ha hb = elim (cases_eq a p) [
-  | inl same_a ↦ elim (cases_eq b p) [
-    | inl same_b ↦ same_a ∙ sym same_b
-    | inr other_b ↦ absurd (new b w (sym (given-same window p o a same_a) ∙ ha) (sym (given-other window p o b other_b) ∙ hb))
-  ]
-  | inr other_a ↦ elim (cases_eq b p) [
-    | inl same_b ↦ absurd (new a w (sym (given-same window p o b same_b) ∙ hb) (sym (given-other window p o a other_a) ∙ ha))
-    | inr other_b ↦ apart a b w (sym (given-other window p o a other_a) ∙ ha) (sym (given-other window p o b other_b) ∙ hb)
-  ]
-]
-
 -- ---- the order stays
-
--- each of the order still has a window
-given-panel : (old new : List Node) (p : ℕ) (o : Option ℕ) → ((q : ℕ) → window_at new q ≡ with_entry (window_at old) p o q) → (q : ℕ) → (q ≡ p → IsSome o) → IsPanel old q → IsPanel new q
-given-panel old new p o windows q some h = elim (cases_eq q p) [
-  | inl same ↦ (h.0, subst (λ (w : Option ℕ). IsSome w) (sym (windows q ∙ given-same (window_at old) p o q same)) (some same))
-  | inr other ↦ (h.0, subst (λ (w : Option ℕ). IsSome w) (sym (windows q ∙ given-other (window_at old) p o q other)) h.1)
-]
 
 given-panels : (old new : List Node) (p : ℕ) (o : Option ℕ) → ((q : ℕ) → window_at new q ≡ with_entry (window_at old) p o q) → (order : List ℕ) → IsSome o ⊎ IsOut p order
     → AllByRecursion (IsPanel old) order → AllByRecursion (IsPanel new) order
 given-panels old new p o windows [] some h = tt
-given-panels old new p o windows (x ∷ order) (inl some) h =
-    (given-panel old new p o windows x (λ _. some) h.0, given-panels old new p o windows order (inl some) h.1)
-given-panels old new p o windows (x ∷ order) (inr out) h =
-    (given-panel old new p o windows x (λ e. absurd (out.0 (sym e))) h.0, given-panels old new p o windows order (inr out.1) h.1)
+given-panels old new p o windows (x ∷ order) (inl some) h = grind (arith, cases_eq, given-same, given-other, (given-panels old new p o windows order (inl some) h.1))
+given-panels old new p o windows (x ∷ order) (inr out) h = grind (arith, cases_eq, given-same, given-other, (given-panels old new p o windows order (inr out.1) h.1))
 
 pub threaded-windowed : (old new : List Node) (p : ℕ) (o : Option ℕ) → Windowed old new p o → (order : List ℕ) → IsSome o ⊎ IsOut p order → IsThreaded old order → IsThreaded new order
-threaded-windowed old new p o windowed order some h =
-    let f : above_at old ≡ above_at new = fun_ext (λ q. sym (windowed.above q)) in
-    let g : below_at old ≡ below_at new = fun_ext (λ q. sym (windowed.below q)) in
-    record {
-      chain = subst (λ (k : ℕ → ℕ). IsChain (above_at new) k 0 order 0) g (subst (λ (k : ℕ → ℕ). IsChain k (below_at old) 0 order 0) f h.chain);
-      once = h.once;
-      panels = given-panels old new p o windowed.window order some h.panels;
-      others = λ q lt few out.
-          let alone = h.others q lt (subst (λ (n : ℕ). q < n) windowed.length few) out in
-          (windowed.above q ∙ alone.0, windowed.below q ∙ alone.1);
-    }
+threaded-windowed old new p o windowed order some h = threaded-kept old new order windowed.length windowed.above windowed.below h (given-panels old new p o windowed.window order some h.panels)
 
 -- ---- a node after the last
 
@@ -89,25 +50,11 @@ module _ (nodes : List Node) (node : Node) where
   pub node-last : (q : ℕ) → q ≡ length nodes → node_at (nodes ++ node ∷ []) q ≡ node
   node-last q e = get_or_push nodes node no_node q (sym e)
 
-  pub node-past : (q : ℕ) → length nodes < q → node_at (nodes ++ node ∷ []) q ≡ node_at nodes q
-  node-past q lt =
-      get_or_past (nodes ++ node ∷ []) q no_node (omega (arith, length_push nodes node))
-      ∙ sym (get_or_past nodes q no_node (omega arith))
-
   pub window-pushed : (q : ℕ) → window_at (nodes ++ node ∷ []) q ≡ with_entry (window_at nodes) (length nodes) (window_in node) q
-  window-pushed q = elim (cases_order q (length nodes)) [
-    | inl same ↦ ap window_in (node-last q same) ∙ sym (given-same (window_at nodes) (length nodes) (window_in node) q same)
-    | inr differ ↦ elim differ [
-      | inl lt ↦ ap window_in (node-below q lt) ∙ sym (given-other (window_at nodes) (length nodes) (window_in node) q (λ e. omega arith))
-      | inr gt ↦ ap window_in (node-past q gt) ∙ sym (given-other (window_at nodes) (length nodes) (window_in node) q (λ e. omega arith))
-    ]
-  ]
+  window-pushed q = grind (arith, cases_order, node-last, given-same, node-below, given-other, get_or_past, length_push)
 
   pub window-free : window_in node ≡ None → (q : ℕ) → window_at (nodes ++ node ∷ []) q ≡ window_at nodes q
-  window-free none q = elim (cases_eq q (length nodes)) [
-    | inl last ↦ ap window_in (node-last q last) ∙ none ∙ ap window_in (sym (get_or_past nodes q no_node (omega arith)))
-    | inr other ↦ window-pushed q ∙ given-other (window_at nodes) (length nodes) (window_in node) q other
-  ]
+  window-free none q = grind (arith, cases_eq, node-last, get_or_past, window-pushed, given-other)
 
   same-below : (f : Node → ℕ) (order : List ℕ) → AllByRecursion (λ q. q < length nodes) order → AllByRecursion (λ q. f (node_at (nodes ++ node ∷ []) q) ≡ f (node_at nodes q)) order
   same-below f order each = each-weaker (λ q. q < length nodes) (λ q. f (node_at (nodes ++ node ∷ []) q) ≡ f (node_at nodes q)) (λ q lt. ap f (node-below q lt)) order each

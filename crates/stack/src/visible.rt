@@ -28,6 +28,7 @@ impl<'a> Model for Visible<'a> {
 }
 
 impl<'a> Visible<'a> {
+    #[tactic(auto, unfolding(crate::specs::Nodes::from_bottom))]
     pub(crate) fn from_bottom(nodes: &'a Nodes) -> Visible<'a>
         ensures { result ≡ from_bottom nodes.now }
     {
@@ -39,6 +40,7 @@ impl<'a> Visible<'a> {
         }
     }
 
+    #[tactic(auto, unfolding(crate::specs::Nodes::from_top))]
     pub(crate) fn from_top(nodes: &'a Nodes) -> Visible<'a>
         ensures { result ≡ from_top nodes.now }
     {

@@ -92,7 +92,7 @@ fn is_selected(
 #[test]
 fn tokens_have_their_bytes(rt: HostRuntime) {
     for (token, bytes) in SPELLINGS {
-        assert!(rt; is_spelled(token, bytes), "at {token:?}");
+        assert!(rt; is_spelled(token, bytes), "at {bytes:?}");
     }
     for (bits, foreground, background, bytes) in SELECTIONS {
         assert!(rt;

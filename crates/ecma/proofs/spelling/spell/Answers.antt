@@ -1,8 +1,6 @@
--- `spell`: how many bytes a token has (`Lengths`); the spelling of a token is one item, with the token's effect (`Tokens`).
-use Rattle.std.proofs.Common.{rules, arith}
-use Rattle.std.proofs.lemmas.Grind.{common_steps}
+-- `spell`: the spelling of a token is one item, with the token's effect (`Tokens`).
+use Rattle.std.proofs.Common.{rules}
 use Rattle.ecma.specs.Spelling.{spelling}
-use Rattle.ecma.proofs.Lengths.{three_digits}
 use Rattle.ecma.proofs.Tokens.{is_item_of_bytes}
 use Rattle.ecma.proofs.spelling.spell.Goals as goal
 
@@ -12,11 +10,11 @@ returns-in-Print-clause-item c = is_item_of_bytes c.args.token.now _ c.requires 
 
 pub returns-in-Cup-clause-item : goal.returns-in-Cup-clause-item
 unfolding spelling
-returns-in-Cup-clause-item c = is_item_of_bytes c.args.token.now _ c.requires (grind (arith, common_steps))
+returns-in-Cup-clause-item c = is_item_of_bytes c.args.token.now _ c.requires (search rules)
 
 pub returns-in-Sgr-clause-item : goal.returns-in-Sgr-clause-item
 unfolding spelling
-returns-in-Sgr-clause-item c = is_item_of_bytes c.args.token.now _ c.requires (grind (arith, common_steps))
+returns-in-Sgr-clause-item c = is_item_of_bytes c.args.token.now _ c.requires (search rules)
 
 pub returns-in-El-clause-item : goal.returns-in-El-clause-item
 unfolding spelling
@@ -25,6 +23,3 @@ returns-in-El-clause-item c = is_item_of_bytes c.args.token.now _ c.requires (se
 pub returns-in-Ed-clause-item : goal.returns-in-Ed-clause-item
 unfolding spelling
 returns-in-Ed-clause-item c = is_item_of_bytes c.args.token.now _ c.requires (search rules)
-
-pub returns-in-Cup-clause-short : goal.returns-in-Cup-clause-short
-returns-in-Cup-clause-short c = grind (arith, three_digits)

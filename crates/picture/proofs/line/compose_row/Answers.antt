@@ -1,11 +1,10 @@
 -- Each run of columns has one owner, whose cells are put into the line; so the line is that of the picture.
-use Rattle.std.proofs.Common.{rules, ◌≡◌, ℕ, ◌+◌, ◌-◌, refl, sym, ap, subst, ◌∙◌, arith}
+use Rattle.std.proofs.Common.{rules, ◌≡◌, ℕ, ◌+◌, ◌-◌, refl, ap, subst, ◌∙◌, arith}
 use Rattle.cell.specs.Shown.{Shown, shown}
 use Rattle.world.specs.Windows.{Windows}
 use Rattle.world.specs.Panels.{found_from_top}
 use Rattle.stack.specs.Tables.{panels}
 use Rattle.picture.specs.Counts.{GrewBy}
-use Rattle.picture.specs.Spans.{HasPanelWindows}
 use Rattle.picture.specs.steps.Owners.{KnowsOwners}
 use Rattle.picture.proofs.Lines.{LineShown}
 use Rattle.picture.proofs.Runs.{IsRead, held_run, run-between, run-grew, run-line, run-no-pad, run-place}
@@ -21,55 +20,31 @@ loop-owners-init g c = record {
   line = search rules;
 }
 
-pub run-run-requires : goal.run-run-requires
-run-run-requires g c κs =
-    let a = c.args in
-    let l = c.loop-owners in
-    let ps = panels a.stack.now in (
-      (refl, record {}),
-      (
-        subst (λ (ws : Windows). HasPanelWindows ws.window ps) (sym l.invariant.same) c.requires.panels,
-        (l.invariant.within, subst (λ (ws : Windows). KnowsOwners ws.window ps a.y l.owners) (sym l.invariant.same) l.invariant.known),
-      ),
-    )
-
 pub rect-rect-requires : goal.rect-rect-requires
 rect-rect-requires g c κs =
-    let l = c.loop-owners in
-    let held = held_run l.invariant.same c.run-run.ensures.run l.invariant.from c.requires.standard in
+    let held = held_run c.loop-owners.invariant.same c.run-run.ensures.run c.loop-owners.invariant.from c.requires.standard in
     ((refl, record {}), run-no-pad held)
 
 pub overflow_sub-y : goal.overflow_sub-y
 overflow_sub-y g c =
-    let l = c.loop-owners in
-    let held = held_run l.invariant.same c.run-run.ensures.run l.invariant.from c.requires.standard in
-    let between = run-between held c.rect-rect.result c.rect-rect.ensures.holds in
-    between.top
+    let held = held_run c.loop-owners.invariant.same c.run-run.ensures.run c.loop-owners.invariant.from c.requires.standard in
+    (run-between held c.rect-rect.result c.rect-rect.ensures.holds).top
 
 pub overflow_sub-x : goal.overflow_sub-x
 overflow_sub-x g c =
-    let l = c.loop-owners in
-    let held = held_run l.invariant.same c.run-run.ensures.run l.invariant.from c.requires.standard in
-    let between = run-between held c.rect-rect.result c.rect-rect.ensures.holds in
-    between.left
+    let held = held_run c.loop-owners.invariant.same c.run-run.ensures.run c.loop-owners.invariant.from c.requires.standard in
+    (run-between held c.rect-rect.result c.rect-rect.ensures.holds).left
 
 pub overflow_sub-run : goal.overflow_sub-run
 overflow_sub-run g c =
-    let l = c.loop-owners in
-    let held = held_run l.invariant.same c.run-run.ensures.run l.invariant.from c.requires.standard in
-    let run = held.run in
-    let from = run.from in
+    let held = held_run c.loop-owners.invariant.same c.run-run.ensures.run c.loop-owners.invariant.from c.requires.standard in
     let between = run-between held c.rect-rect.result c.rect-rect.ensures.holds in
-    let left = between.left in
-    omega (arith, left, from)
+    omega (arith, held.run.from, between.left)
 
 pub read-cells-requires : goal.read-cells-requires
 read-cells-requires g c κs =
-    let l = c.loop-owners in
-    let held = held_run l.invariant.same c.run-run.ensures.run l.invariant.from c.requires.standard in
-    let run = held.run in
-    let from = run.from in
-    ((refl, record {}), (omega (arith, from), run-place held c.rect-rect.result c.rect-rect.ensures.place))
+    let held = held_run c.loop-owners.invariant.same c.run-run.ensures.run c.loop-owners.invariant.from c.requires.standard in
+    ((refl, record {}), (omega (arith, held.run.from), run-place held c.rect-rect.result c.rect-rect.ensures.place))
 
 pub returns-then-run-right-clause-shown : goal.returns-then-run-right-clause-shown
 returns-then-run-right-clause-shown g c =

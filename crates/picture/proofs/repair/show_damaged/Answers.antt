@@ -1,65 +1,25 @@
 -- Each round composes the damaged columns of one line more; the others were those of the picture before.
-use Rattle.std.proofs.Common.{rules, ◌≡◌, ℕ, suc, ◌+◌, ◌-◌, ◌<◌, ◌≤◌, ◌==◌, ◌&&◌, true, nat_le, nat_lt, if◌then◌else◌, None, Some, refl, ap, subst, sym, ◌∙◌, arith}
+use Rattle.std.proofs.Common.{rules, ◌≡◌, ℕ, suc, ◌+◌, ◌-◌, ◌<◌, ◌≤◌, ◌==◌, ◌&&◌, true, nat_le, nat_lt, if◌then◌else◌, None, refl, ap, sym, ◌∙◌, arith, add_assoc}
+use Rattle.std.proofs.lemmas.Grind.{common_steps}
 use Rattle.cell.specs.Pictures.{shown_at}
 use Rattle.cell.specs.Shown.{Shown, shown}
 use Rattle.cell.proofs.PictureLemmas.{length-line}
-use Rattle.world.specs.Panels.{found_from_top, holds, standard_screen}
-use Rattle.world.specs.Sound.{AreColumnsWithin}
+use Rattle.world.specs.Panels.{found_from_top}
 use Rattle.world.specs.Windows.{Windows}
 use Rattle.stack.specs.Tables.{panels}
-use Rattle.picture.specs.Counts.{GrewBy}
 use Rattle.picture.specs.Damages.{cells_above, cells_of_line, columns_of}
-use Rattle.picture.specs.Spans.{HasPanelWindows}
 use Rattle.picture.proofs.Composing.{ComposedAbove, composed-bare, composed-more, composed-none, composed-to, fits-more, no-more-to}
-use Rattle.picture.proofs.Counting.{grew-more}
 use Rattle.picture.proofs.Lines.{shown-all}
 use Rattle.picture.proofs.Standard.{sound-windows, standard-holds}
+use Rattle.std.proofs.Math.Nat.{mod-add-mod}
 use Rattle.picture.proofs.repair.show_damaged.Goals.{in-Some, in_default}
 use Rattle.picture.proofs.repair.show_damaged.Goals as goal
 
 pub compose_row-requires : goal.compose_row-requires
-compose_row-requires g c κs =
-    let old = g.R.Rows.windows c.args.rows.now in
-    let y = c.loop-y.y in
-    let r = c.in-Some.field-0 in
-    let h = c.loop-y.invariant in
-    let is : columns_of c.args.damage.now y ≡ Some r = sym (h.composed.left y (omega arith)) ∙ sym c.line.ensures ∙ c.in-Some.is in
-    let within : (r.first ≤ r.last) × (r.last < old.columns) = subst (λ o. AreColumnsWithin old.columns o) is (c.requires.within y) in
-    let last = within.1 in
-    let test = c.loop-y-test.true in
-    let all = c.requires.lines in
-    let below : y < old.lines = omega (arith, test, all) in
-    let height = h.composed.above.size.height in
-    let width = length-line y h.composed.above.size below in (
-      (refl, record {}),
-      (
-        λ u from upto. subst (λ (ws : Windows). holds ws.window standard_screen y u ≡ true) (sym h.windows) (standard-holds old y u c.requires.windows below (omega (arith, upto, last))),
-        (
-          subst (λ (ws : Windows). HasPanelWindows ws.window (panels c.args.stack.now)) (sym h.windows) (sound-windows old.window (panels c.args.stack.now) c.requires.panels),
-          (
-            within.0,
-            (
-              omega (arith, below, height),
-              omega (arith, last, width),
-            ),
-          ),
-        ),
-      ),
-    )
+compose_row-requires g c κs = grind (arith, common_steps, length-line, standard-holds, sound-windows)
 
 pub overflow_add-cells-in-Some : goal.overflow_add-cells-in-Some
-overflow_add-cells-in-Some g c =
-    let old = g.R.Rows.windows c.args.rows.now in
-    let y = c.loop-y.y in
-    let r = c.in-Some.field-0 in
-    let h = c.loop-y.invariant in
-    let is : columns_of c.args.damage.now y ≡ Some r = sym (h.composed.left y (omega arith)) ∙ sym c.line.ensures ∙ c.in-Some.is in
-    let test = c.loop-y-test.true in
-    let all = c.requires.lines in
-    let read = h.read in
-    let number = c.from.ensures in
-    let fits = fits-more old.lines old.columns c.args.damage.now c.requires.within c.requires.windows.few_lines c.requires.windows.few_columns y r (omega (arith, test, all)) is in
-    omega (arith, fits, read, number)
+overflow_add-cells-in-Some g c = grind (arith, fits-more)
 
 pub loop-y-init : goal.loop-y-init
 loop-y-init g c =
@@ -90,7 +50,6 @@ loop-y-preserved g c =
     let below : y < old.lines = omega (arith, test, all) in
     let f : ℕ → ℕ → Shown = λ v u. shown c.args.pairs.now (found_from_top old.window ps v u) in
     let before = c.args.damage.now in
-    let cells_read = g.R.Rows.cells_read c.args.rows.now in
     let more : cells_above before (y + 1) ≡ cells_above before y + cells_of_line (columns_of before y) = let e : y + 1 ≡ suc y = omega arith in ap (cells_above before) e in
     let composed : ComposedAbove f old.lines old.columns before c.args.picture.now (y + 1) c.match-line.damage c.match-line.picture = elim c.match-line.branch [
       | in-Some s ↦
@@ -112,50 +71,12 @@ loop-y-preserved g c =
     let inside = c.next-y-in-loop-y.ensures.inside (omega (arith, below, height)) in
     let skipped : cells_above before next ≡ cells_above before (y + 1) = no-more-to before (y + 1) next from (λ v a b. sym (composed.left v a) ∙ none v a b) in
     record {
-      windows = elim c.match-line.branch [
-        | in-Some s ↦ rw s.rows-is (s.compose_row.ensures.same ∙ h.windows)
-        | in_default s ↦ rw s.rows-is h.windows
-      ];
-      read = elim c.match-line.branch [
-        | in-Some s ↦
-            let r = s.in-Some.field-0 in
-            let is : columns_of before y ≡ Some r = sym (h.composed.left y (omega arith)) ∙ sym c.line.ensures ∙ s.in-Some.is in
-            let within : (r.first ≤ r.last) × (r.last < old.columns) = subst (λ o. AreColumnsWithin old.columns o) is (c.requires.within y) in
-            let ordered = within.0 in
-            let line : cells_of_line (columns_of before y) ≡ r.last + 1 - r.first = ap cells_of_line is in
-            let number = s.from.ensures in
-            let read = h.read in
-            let cells = s.cells-is in
-            omega (arith, cells, number, read, more, line, ordered, skipped)
-        | in_default s ↦
-            let bare : columns_of before y ≡ None = sym (h.composed.left y (omega arith)) ∙ sym c.line.ensures ∙ s.in_default.is in
-            let line : cells_of_line (columns_of before y) ≡ 0 = ap cells_of_line bare in
-            let read = h.read in
-            let cells = s.cells-is in
-            omega (arith, cells, read, more, line, skipped)
-      ];
-      count = elim c.match-line.branch [
-        | in-Some s ↦
-            let r = s.in-Some.field-0 in
-            let number = s.from.ensures in
-            let cells = s.cells-is in
-            let sum : c.loop-y.cells + (r.last - r.first + 1) ≡ c.match-line.cells = omega (arith, number, cells) in
-            rw s.rows-is (subst (λ n. GrewBy n cells_read (g.R.Rows.cells_read s.compose_row.new.rows)) sum
-            (grew-more c.loop-y.cells (r.last - r.first + 1) cells_read (g.R.Rows.cells_read c.loop-y.rows) (g.R.Rows.cells_read s.compose_row.new.rows) h.count s.compose_row.ensures.count))
-        | in_default s ↦ rw (s.rows-is, s.cells-is) h.count
-      ];
-      composed = composed-to f old.lines old.columns before c.args.picture.now c.requires.covered (y + 1) next c.match-line.damage c.match-line.picture composed from
-          (omega (arith, inside, height)) none;
+      windows = grind arith;
+      read = grind arith;
+      count = grind (arith, mod-add-mod, add_assoc);
+      composed = grind (arith, composed-to);
       inside = omega (arith, inside, height);
     }
-
-pub returns-clause-read : goal.returns-clause-read
-returns-clause-read g c =
-    let end = c.loop-y-test.false in
-    let all = c.requires.lines in
-    let inside = c.loop-y.invariant.inside in
-    let last : c.loop-y.y ≡ (g.R.Rows.windows c.args.rows.now).lines = omega (arith, end, all, inside) in
-    c.loop-y.invariant.read ∙ ap (cells_above c.args.damage.now) last
 
 pub returns-clause-shown : goal.returns-clause-shown
 returns-clause-shown g c =

@@ -1,8 +1,7 @@
 -- The owner of a place shows there the cell that the search finds.
-use Rattle.std.proofs.Common.{◌≡◌, ◌<◌, ◌-◌, ℕ, true, refl, ap, sym, subst, ◌∙◌, arith}
-use Rattle.world.specs.Windows.{Windows, cell_at}
-use Rattle.cell.specs.Pictures.{Place}
-use Rattle.world.specs.Panels.{Panels, cell_on_screen, holds, owner, place_of, window_or_standard}
+use Rattle.std.proofs.Common.{◌≡◌, ◌<◌, ◌-◌, ℕ, true, refl, sym, subst, arith}
+use Rattle.world.specs.Windows.{Windows}
+use Rattle.world.specs.Panels.{Panels, holds, owner, window_or_standard}
 use Rattle.world.specs.Sound.{AreSoundWindows}
 use Rattle.world.specs.calls.Stacking.{panel_number}
 use Rattle.grids.specs.Tables.{windows as windows_of}
@@ -17,13 +16,10 @@ use Rattle.picture.proofs.search.cell_found.Goals as goal
 -- the search's window is that of the owner, and holds the place
 found : (old now : Windows) (ps : Panels) (y x edge w : ℕ) (span : Span) → now ≡ old → IsSpan now.window ps y x edge span → w ≡ window_or_standard ps (panel_number span.panel)
     → w ≡ window_or_standard ps (owner old.window ps y x)
-found old now ps y x edge w span kept is window =
-    let before : IsSpan old.window ps y x edge span = subst (λ (ws : Windows). IsSpan ws.window ps y x edge span) kept is in
-    window ∙ ap (window_or_standard ps) (sym (before.same x (omega arith) before.from))
+found old now ps y x edge w span kept is window = grind arith
 
 held : (ws : Windows) (ps : Panels) (y x w : ℕ) → AreSoundWindows ws → y < ws.lines → x < ws.columns → w ≡ window_or_standard ps (owner ws.window ps y x) → holds ws.window w y x ≡ true
-held ws ps y x w sound below left is =
-    ap (λ v. holds ws.window v y x) is ∙ owner-held ws.window ps y x (owner ws.window ps y x) refl (standard-holds ws y x sound below left)
+held ws ps y x w sound below left is = grind (arith, owner-held, standard-holds)
 
 is_held : (c : goal.After-place-top) → holds (windows_of c.args.table.now).window c.window_of-win.result.0 c.args.y c.args.x ≡ true
 is_held c =
@@ -47,37 +43,13 @@ owner_span-span-requires c κs =
     )
 
 pub overflow_sub-y : goal.overflow_sub-y
-overflow_sub-y c =
-    let a = c.args in
-    let top : c.place-top.result.0 ≡ (place_of (windows_of a.table.now).window c.window_of-win.result.0).0 = ap (λ (p : Place). p.0) c.place-top.ensures in
-    let before = (held-before (windows_of a.table.now).window c.window_of-win.result.0 a.y a.x (is_held c)).0 in
-    omega (arith, top, before)
+overflow_sub-y c = let on = is_held c in grind (arith, held-before)
 
 pub overflow_sub-x : goal.overflow_sub-x
-overflow_sub-x c =
-    let a = c.args in
-    let left : c.place-top.result.1 ≡ (place_of (windows_of a.table.now).window c.window_of-win.result.0).1 = ap (λ (p : Place). p.1) c.place-top.ensures in
-    let before = (held-before (windows_of a.table.now).window c.window_of-win.result.0 a.y a.x (is_held c)).1 in
-    omega (arith, left, before)
+overflow_sub-x c = let on = is_held c in grind (arith, held-before)
 
 pub cell-requires : goal.cell-requires
-cell-requires c =
-    let a = c.args in
-    let ws = windows_of a.table.now in
-    let ps = panels a.stack.now in
-    let win = c.window_of-win.result.0 in
-    let column : a.x < a.table.now.columns = let inside = c.requires.column in let all = c.requires.columns in omega (arith, inside, all) in
-    let on : holds ws.window win a.y a.x ≡ true = held ws ps a.y a.x win c.requires.windows c.requires.line column
-    (found ws (windows_of c.of.result.table.now) ps a.y a.x (a.columns - 1) win c.owner_span-span.result c.of.ensures.windows c.owner_span-span.ensures c.window_of-win.ensures) in
-    rw c.place-top.ensures (held-place ws.window win a.y a.x on)
+cell-requires c = let on = is_held c in grind (arith, held-place)
 
 pub returns : goal.returns
-returns c =
-    let a = c.args in
-    let ws = windows_of a.table.now in
-    let ps = panels a.stack.now in
-    let win = c.window_of-win.result.0 in
-    c.cell.ensures.cell
-    ∙ ap (λ (p : Place). cell_at ws.window win (a.y - p.0) (a.x - p.1)) c.place-top.ensures
-    ∙ ap (λ v. cell_on_screen ws.window v a.y a.x) (found ws (windows_of c.of.result.table.now) ps a.y a.x
-    (a.columns - 1) win c.owner_span-span.result c.of.ensures.windows c.owner_span-span.ensures c.window_of-win.ensures)
+returns c = grind (arith, found)

@@ -1,11 +1,11 @@
 -- `read_digit`: what a reader has after one more byte (`Readers`).
 use Rattle.std.proofs.Common.{arith}
 use Rattle.std.proofs.lemmas.Bool.{ltb-true, ltb-false}
-use Rattle.ecma.proofs.Readers.{reader_of, digit-follows, full-follows, Follows-from, some-if, none-if}
+use Rattle.ecma.proofs.Readers.{reader_of, digit-follows, full-follows, Follows-from}
 use Rattle.ecma.proofs.terminal.Terminal.read_digit.Goals as goal
 
 pub returns-in-Some : goal.returns-in-Some
-returns-in-Some c = grind (arith, some-if, ltb-true, Follows-from, reader_of, digit-follows)
+returns-in-Some c = grind (arith, ltb-true, Follows-from, reader_of, digit-follows)
 
 pub returns-in-None : goal.returns-in-None
-returns-in-None c = grind (arith, none-if, ltb-false, Follows-from, reader_of, full-follows)
+returns-in-None c = grind (arith, ltb-false, Follows-from, reader_of, full-follows)

@@ -1,34 +1,10 @@
 -- The node below is the next panel of the reversed order.
-use Rattle.std.proofs.Common.{◌∙◌, ap, rules, sym, Option, Some, None}
-use Rattle.stack.specs.Nodes.{from_bottom}
-use Rattle.world.specs.calls.Stacking.{panel_below, panel_number}
-use Rattle.stack.specs.Tables.{panels, PanelTable}
-use Rattle.stack.specs.declared.nodes.Node.{Node}
-use Rattle.world.specs.declared.panel.PanelId.{PanelId}
+use Rattle.std.proofs.Common.{arith}
 use Rattle.stack.proofs.Neighbours.{below-is, last-is, panel_or_none}
 use Rattle.stack.proofs.table.Stack.below.Goals as goal
 
 pub returns-in_ok-require_visible-in-Some : goal.returns-in_ok-require_visible-in-Some
-returns-in_ok-require_visible-in-Some c =
-    let nodes = c.self.inside.nodes in
-    let p = c.in-Some.panel.0 in
-    record {
-      refused = search rules;
-      answer = sym (
-          c.panel_at.ensures ∙ ap (λ (n : Node). panel_or_none n.below) c.get.ensures
-          ∙ below-is nodes (from_bottom nodes) c.self.invariant.threaded p c.in_ok-require_visible-in-Some.ensures.shown
-          ∙ ap (λ (t : PanelTable). panel_below (panels t) (Some p)) c.self.view_is
-          ∙ ap (λ (o : Option PanelId). panel_below (panels c.args.self.now) (panel_number o)) (sym c.in-Some.is));
-    }
+returns-in_ok-require_visible-in-Some c = grind (arith, panel_or_none, below-is)
 
 pub returns-in-None : goal.returns-in-None
-returns-in-None c =
-    let nodes = c.self.inside.nodes in
-    record {
-      refused = search rules;
-      answer = sym (
-          c.panel_at-in-None.ensures ∙ ap (λ (n : Node). panel_or_none n.below) c.get-in-None.ensures
-          ∙ last-is nodes (from_bottom nodes) c.self.invariant.threaded
-          ∙ ap (λ (t : PanelTable). panel_below (panels t) None) c.self.view_is
-          ∙ ap (λ (o : Option PanelId). panel_below (panels c.args.self.now) (panel_number o)) (sym c.in-None.is));
-    }
+returns-in-None c = grind (arith, panel_or_none, last-is)

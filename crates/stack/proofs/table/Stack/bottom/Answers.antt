@@ -1,21 +1,7 @@
 -- The order is that of the others with the panel before them.
-use Rattle.std.proofs.Common.{◌∷◌, ap, ◌∙◌, rules, refl}
-use Rattle.world.specs.calls.Stacking.{after_bottom_panel, without}
-use Rattle.stack.specs.Nodes.{from_bottom}
-use Rattle.stack.specs.Tables.{panels, PanelTable}
+use Rattle.std.proofs.Common.{arith}
 use Rattle.stack.proofs.Tables.{reordered-panels, reordered-table, sound}
 use Rattle.stack.proofs.table.Stack.bottom.Goals as goal
 
 pub returns : goal.returns
-returns c = record {
-  refused = search rules;
-  reply = refl;
-  arranged =
-      let old = c.self.inside.nodes in
-      let p = c.args.panel.0 in
-      let order = without p (from_bottom old) in
-      reordered-panels old c.move_to_bottom.new.nodes (p ∷ order) c.move_to_bottom.ensures
-      ∙ ap (λ (t : PanelTable). after_bottom_panel (panels t) p) c.self.view_is;
-  unchanged = tt;
-  sound = sound c.move_to_bottom.new.nodes (reordered-table c.self.inside.nodes c.move_to_bottom.new.nodes _ c.self.invariant c.move_to_bottom.ensures);
-}
+returns c = grind (arith, reordered-panels, sound, reordered-table)

@@ -10,16 +10,10 @@ use Rattle.stack.proofs.Tables.{made-panels, made-table, sound}
 use Rattle.stack.proofs.table.Stack.new_panel.Goals as goal
 
 pub enter-requires-clause-window : goal.enter-requires-clause-window
-enter-requires-clause-window c = none-has c.self.inside.nodes c.self.invariant c.args.win.0 (grind (arith, c.holder.ensures.some))
+enter-requires-clause-window c = grind (arith, none-has)
 
 pub invariant_of-self-2 : goal.invariant_of-self-2
-invariant_of-self-2 c =
-    let old = c.self.inside.nodes in
-    let number = c.in_ok-number.number in
-    let w = c.args.win.0 in
-    let free : IsFree old number = search rules in
-    let none = none-has old c.self.invariant w (grind (arith, c.holder.ensures.some)) in
-    made-table old c.enter.new.nodes c.put_on_top.new.nodes number w c.self.invariant free c.in_ok-enter.ensures.entered c.put_on_top.ensures none
+invariant_of-self-2 c = search (rules, none-has, made-table)
 
 pub returns : goal.returns
 returns c =
@@ -27,7 +21,6 @@ returns c =
     let number = c.in_ok-number.number in
     let w = c.args.win.0 in
     let free : IsFree old number = search rules in
-    let none = none-has old c.self.invariant w (grind (arith, c.holder.ensures.some)) in
     record {
       refused = search rules;
       reply = search rules;
@@ -38,6 +31,5 @@ returns c =
           ∙ ap (λ (t : PanelTable). with_panel (panels t) number w) c.self.view_is
           ∙ ap (λ p. with_panel (panels c.args.self.now) p w) (sym next);
       unchanged = tt;
-      sound = sound c.put_on_top.new.nodes
-          (made-table old c.enter.new.nodes c.put_on_top.new.nodes number w c.self.invariant free c.in_ok-enter.ensures.entered c.put_on_top.ensures none);
+      sound = sound c.put_on_top.new.nodes (invariant_of-self-2 c);
     }

@@ -7,7 +7,7 @@ use Rattle.stack.proofs.Tables.{replaced-panels, replaced-table, sound}
 use Rattle.stack.proofs.table.Stack.replace.Goals as goal
 
 pub set_window-requires-clause-free : goal.set_window-requires-clause-free
-set_window-requires-clause-free c = none-has c.self.inside.nodes c.self.invariant c.args.win.0 (grind (arith, c.holder.ensures.some))
+set_window-requires-clause-free c = grind (arith, none-has)
 
 pub invariant_of-self : goal.invariant_of-self
 invariant_of-self c =
@@ -25,8 +25,5 @@ returns c = record {
       c.self.invariant c.in_ok-require_panel.ensures.panel c.set_window.ensures
       ∙ ap (λ (t : PanelTable). after_replace_panel (panels t) c.args.panel.0 c.args.win.0) c.self.view_is;
   unchanged = tt;
-  sound =
-      let free = none-has c.self.inside.nodes c.self.invariant c.args.win.0 (grind (arith, c.holder.ensures.some)) in
-      sound c.set_window.new.self (replaced-table c.self.inside.nodes c.set_window.new.self c.args.panel.0 c.args.win.0
-      c.self.invariant c.in_ok-require_panel.ensures.panel c.set_window.ensures free);
+  sound = sound c.set_window.new.self (invariant_of-self c);
 }
