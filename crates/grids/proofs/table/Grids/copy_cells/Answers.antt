@@ -20,7 +20,7 @@ hold-requires c =
     let leads = rw c.deref.ensures.value at o.ensures.leads in
     let read = rw c.deref-3.ensures.value at c.row_in.ensures.row in
     let piece = piece-read t.slots a.from.win.0 a.from.line a.from.column a.n (record { grid = o.result.grid; line = o.result.line; column = o.result.column }) c.row_in.result.now leads read in
-    let from = rw (← c.self.view_is) at c.requires.from in
+    let from = rw (← c.self.view_is) at c.requires.there.from in
     let below = column_below t.slots a.from.win.0 a.from.line (a.from.column + a.n - 1) from in
     let columns = rw c.deref.ensures.value at o.ensures.columns in
     let few = rw c.deref.ensures.value at o.ensures.few_columns in
@@ -35,7 +35,7 @@ put_row-requires-clause-columns_in c =
     let read = rw c.deref-3.ensures.value at c.row_in.ensures.row in
     let piece = piece-read t.slots a.from.win.0 a.from.line a.from.column a.n (record { grid = o.result.grid; line = o.result.line; column = o.result.column }) c.row_in.result.now leads read in
     let all : length c.cells.result.now ≡ a.n = ap (length {A = Glyph}) (c.cells.ensures ∙ c.hold.ensures) ∙ piece.all in
-    let to = rw (← c.self.view_is) at c.requires.to in
+    let to = rw (← c.self.view_is) at c.requires.there.to in
     let below = column_below t.slots a.to.win.0 a.to.line (a.to.column + a.n - 1) to in
     let columns = rw c.deref-2.ensures.value at c.origin_of-target.ensures.columns in
     omega (arith, all, below, columns, c.requires.some)
@@ -50,8 +50,8 @@ invariant_of-self c =
     IsWindowTable-changed (record t { slots = c.put_row.new.slots.items }) c.touch_row.new.slots.items a.to.win.0 (with_touched a.to.line a.to.column (a.to.column + a.n - 1)) s c.touch_row.ensures
     (λ b. refl)
 
-pub returns-clause-written : goal.returns-clause-written
-returns-clause-written c =
+pub returns : goal.returns
+returns c =
     let a = c.args in
     let t = the_view c.self.inside in
     let o = c.origin_of-source in
@@ -61,13 +61,11 @@ returns-clause-written c =
     let read = rw c.deref-3.ensures.value at c.row_in.ensures.row in
     let piece = piece-read t.slots a.from.win.0 a.from.line a.from.column a.n (record { grid = o.result.grid; line = o.result.line; column = o.result.column }) c.row_in.result.now leads_from read in
     let held : IsPiece (window_map t.slots) a.from.win.0 a.from.line a.from.column a.n c.cells.result.now = rw (c.cells.ensures, c.hold.ensures) piece in
-    let to = rw (← c.self.view_is) at c.requires.to in
-    rw (← c.self.view_is)
-    (windows-copied t c.put_row.new.slots.items c.touch_row.new.slots.items a.from.win.0 a.to.win.0
-    (record { grid = d.result.grid; line = d.result.line; column = d.result.column }) a.from.line a.from.column a.to.line a.to.column a.n c.cells.result.now
-    to c.requires.some leads_to held.all held.each c.put_row.ensures c.touch_row.ensures)
-
-pub returns-clause-frame : goal.returns-clause-frame
-returns-clause-frame c =
-    let a = c.args in
-    sym (whole-frame (windows a.self.now) a.from.win.0 a.to.win.0 a.from.line a.from.column a.to.line a.to.column a.n c.requires.to c.requires.some)
+    let to = rw (← c.self.view_is) at c.requires.there.to in
+    record {
+      written = rw (← c.self.view_is)
+          (windows-copied t c.put_row.new.slots.items c.touch_row.new.slots.items a.from.win.0 a.to.win.0
+          (record { grid = d.result.grid; line = d.result.line; column = d.result.column }) a.from.line a.from.column a.to.line a.to.column a.n c.cells.result.now
+          to c.requires.some leads_to held.all held.each c.put_row.ensures c.touch_row.ensures);
+      frame = sym (whole-frame (windows a.self.now) a.from.win.0 a.to.win.0 a.from.line a.from.column a.to.line a.to.column a.n c.requires.there.to c.requires.some);
+    }
