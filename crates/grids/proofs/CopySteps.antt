@@ -10,8 +10,8 @@ use Rattle.world.specs.Effects.{drawing_frame}
 use Rattle.world.proofs.FrameLaws.{drawing_frame-over, drawing_frame-put}
 use Rattle.world.proofs.WindowLaws.{own-onward, put-put, cell_at-kept, put-nothing, HasPlace-put}
 use Rattle.slots.specs.declared.place.Place.{Place}
+use Rattle.slots.proofs.Chain.{some_of}
 use Rattle.grids.specs.Copies.{AreRectanglesThere, AreRowsThere, AreThere, Drawn, RowCopied}
-use Rattle.grids.proofs.Ancestors.{some_window}
 use Rattle.grids.proofs.Copies.{copied-same}
 use Rattle.grids.proofs.CopyFrames.{nothing-frame}
 
@@ -75,9 +75,10 @@ module _ (w : Windows) (from to : Place) (source target : GridPlace) (leads_from
   pub row-copied : {v next : Windows} {f g : Drawing} {before one both : Option Rect} (n : ℕ) (overlay : Bool) → IsSome (w.window to.win.0) → Drawn w to.win.0 f before v
       → ((j : ℕ) → j < n → target.line ≤ source.line + from.line → target.column ≤ source.column + (from.column + j)
       → f (source.line + from.line - target.line) (source.column + (from.column + j) - target.column) ≡ None)
-      → over (copied_cells w.window from.win.0 from.line from.column to.line to.column n overlay) f ≡ g → RowCopied v from to n overlay one next → both ≡ frame_of_two before one → Drawn w to.win.0 g both next
+      → over (copied_cells w.window from.win.0 from.line from.column to.line to.column n overlay) f ≡ g
+      → RowCopied v from to n overlay one next → both ≡ frame_of_two before one → Drawn w to.win.0 g both next
   row-copied {v = v} {f = f} n overlay there before missing join step both =
-      let a = some_window (w.window to.win.0) there in
+      let a = some_of (w.window to.win.0) there in
       Drawn-over before
       (ap (λ (u : Windows). copied_cells u.window from.win.0 from.line from.column to.line to.column n overlay) before.written
       ∙ copied-same (put_windows w.window to.win.0 f) w.window from.win.0 from.line from.column to.line to.column n overlay

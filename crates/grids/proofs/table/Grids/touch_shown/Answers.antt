@@ -7,7 +7,8 @@ use Rattle.grids.specs.declared.table.Grids.{Grids}
 use Rattle.grids.specs.Tables.{windows}
 use Rattle.slots.specs.Slots.{depth_at}
 use Rattle.grids.specs.steps.Syncs.{shows_touched, touched_shown}
-use Rattle.grids.proofs.Touches.{none-before, all-before, at-line, next-none, next-some, there-and}
+use Rattle.grids.proofs.Touches.{none-before, all-before, at-line, next-none, next-some}
+use Rattle.slots.proofs.Chain.{some_and}
 use Rattle.grids.proofs.table.Grids.touch_shown.Goals as goal
 use Rattle.grids.proofs.table.Grids.touch_shown.Goals.{in-Some, in_default}
 
@@ -72,6 +73,6 @@ returns-clause-touched c =
     let a = c.args in
     let w = windows a.self.now in
     let test = touched_shown w.window a.source a.source_at a.at in
-    let b = there-and (w.window a.win) (λ b. (a.at.0 + b.lines ≤ LARGEST_PAD) × (a.at.1 + b.columns ≤ LARGEST_PAD)) c.requires.window in
+    let b = some_and (w.window a.win) (λ b. (a.at.0 + b.lines ≤ LARGEST_PAD) × (a.at.1 + b.columns ≤ LARGEST_PAD)) c.requires.window in
     let size = rw b.1 at c.size-lines.ensures in
     c.loop-y.invariant.touched ∙ all-before w a.win test b.0 b.1 c.loop-y.y (omega (arith, c.loop-y-test.false, size.0))
