@@ -194,6 +194,10 @@ module _ (w : Windows) (win : ℕ) (test : ℕ → ℕ → Bool) where
   pub touched-other : (k : ℕ) (cur : Windows) (u : ℕ) → cur ≡ touched_before k → u ≢ win → cur.window u ≡ w.window u
   touched-other k cur u is other = ap (λ (v : Windows). v.window u) is ∙ changed-other w.window win (with_touches (before k test)) u other
 
+-- a window that is there, for crates that don't use `slots`
+pub there-and : (o : Option Window) (P : Window → Type 0) → IsSomeAnd o P → (a : Window) × (o ≡ Some a) × P a
+there-and o P h = some_and o P h
+
 -- ---- a window that is touched where it shows what is touched of another, at its line y
 
 -- The window ends within the limits and has the line; the lines above are touched, and the other window is as it was.

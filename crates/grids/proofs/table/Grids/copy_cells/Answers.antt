@@ -1,12 +1,10 @@
 -- The row that was read is one write in the other window, which touches the columns written.
 use Rattle.std.proofs.Common.{◌≡◌, ◌+◌, ◌-◌, length, arith, refl, ap, sym, ◌∙◌}
 use Rattle.cell.specs.Glyphs.{Glyph}
-use Rattle.world.specs.Rows.{listed_cells}
 use Rattle.grids.specs.contracts.table.Grids.{the_view}
 use Rattle.slots.specs.Slots.{window_map}
 use Rattle.grids.specs.Tables.{windows}
-use Rattle.slots.specs.Changes.{with_touched, with_drawing}
-use Rattle.grids.proofs.Changes.{IsWindowTable-changed}
+use Rattle.grids.proofs.Changes.{IsWindowTable-twice}
 use Rattle.grids.proofs.Showing.{IsPiece, piece-read, column_below}
 use Rattle.grids.proofs.Writes.{windows-copied}
 use Rattle.grids.proofs.CopyFrames.{whole-frame}
@@ -41,14 +39,7 @@ put_row-requires-clause-columns_in c =
     omega (arith, all, below, columns, c.requires.some)
 
 pub invariant_of-self : goal.invariant_of-self
-invariant_of-self c =
-    let a = c.args in
-    let o = c.origin_of-target.result in
-    let t = the_view c.self.inside in
-    let s = IsWindowTable-changed t c.put_row.new.slots.items o.grid (with_drawing (listed_cells (o.line + a.to.line) (o.column + a.to.column) c.cells.result.now)) c.self.invariant c.put_row.ensures
-    (λ b. refl) in
-    IsWindowTable-changed (record t { slots = c.put_row.new.slots.items }) c.touch_row.new.slots.items a.to.win.0 (with_touched a.to.line a.to.column (a.to.column + a.n - 1)) s c.touch_row.ensures
-    (λ b. refl)
+invariant_of-self c = IsWindowTable-twice c.self.invariant c.put_row.ensures c.touch_row.ensures (λ a. refl) (λ a. refl)
 
 pub returns : goal.returns
 returns c =

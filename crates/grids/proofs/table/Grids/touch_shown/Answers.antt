@@ -18,21 +18,11 @@ loop-y-init c =
     let w = windows a.self.now in
     record { touched = none-before w a.win (touched_shown w.window a.source a.source_at a.at); depths = λ u. refl }
 
-pub shown_columns-requires-clause-line : goal.shown_columns-requires-clause-line
-shown_columns-requires-clause-line c =
+pub shown_columns-requires : goal.shown_columns-requires
+shown_columns-requires c =
     let l = at-line _ _ _ _ _ _ _ _ c.requires.other c.requires.window c.size-lines.ensures c.loop-y-test.true c.loop-y.invariant.touched in
     let sound = rw l.there at (c.has_window.ensures.sound.each c.args.win) in
-    rw l.here (l.below, sound.has_column)
-
-pub shown_columns-requires-clause-window : goal.shown_columns-requires-clause-window
-shown_columns-requires-clause-window c =
-    let l = at-line _ _ _ _ _ _ _ _ c.requires.other c.requires.window c.size-lines.ensures c.loop-y-test.true c.loop-y.invariant.touched in
-    rw l.here l.fits
-
-pub shown_columns-requires-clause-source : goal.shown_columns-requires-clause-source
-shown_columns-requires-clause-source c =
-    let l = at-line _ _ _ _ _ _ _ _ c.requires.other c.requires.window c.size-lines.ensures c.loop-y-test.true c.loop-y.invariant.touched in
-    rw l.same c.requires.source
+    record { line = rw l.here (l.below, sound.has_column); window = rw l.here l.fits; source = rw l.same c.requires.source }
 
 pub touch_columns-requires-clause-there : goal.touch_columns-requires-clause-there
 touch_columns-requires-clause-there c =
