@@ -16,8 +16,7 @@ returns-clause-written c =
     let t = the_view c.self.inside in
     let there = rw (← c.self.view_is) at c.requires.there in
     let leads = rw c.deref.ensures.value at o.ensures.leads in
-    rw (← c.self.view_is) (windows-put_row t c.fill_row.new.slots.items c.touch_row.new.slots.items a.win.0
-    (record { grid = o.result.grid; line = o.result.line; column = o.result.column }) a.y a.left a.right a.cell
+    rw (← c.self.view_is) (windows-put_row t c.fill_row.new.slots.items c.touch_row.new.slots.items a.win.0 _ a.y a.left a.right a.cell
     there c.requires.ordered leads c.fill_row.ensures c.touch_row.ensures)
 
 pub returns-clause-sound : goal.returns-clause-sound

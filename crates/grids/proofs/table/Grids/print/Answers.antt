@@ -25,8 +25,7 @@ returns-clause-written c =
     let there = rw (← c.self.view_is) at c.requires.there in
     let leads = rw c.deref.ensures.value at o.ensures.leads in
     rw (← c.self.view_is)
-    (windows-listed t c.print_row.new.slots.items c.touch_row.new.slots.items a.win.0
-    (record { grid = o.result.grid; line = o.result.line; column = o.result.column }) a.y a.left cells
+    (windows-listed t c.print_row.new.slots.items c.touch_row.new.slots.items a.win.0 _ a.y a.left cells
     (subst (λ n. HasPlace (window_map t.slots) a.win.0 a.y (a.left + n - 1)) all there)
     (subst (λ n. 0 < n) all c.requires.some) leads c.print_row.ensures
     (subst (λ n. Changed c.print_row.new.slots.items c.touch_row.new.slots.items a.win.0 (with_touched a.y a.left (a.left + n - 1))) all c.touch_row.ensures))

@@ -16,8 +16,7 @@ returns-clause-written c =
     let t = the_view c.self.inside in
     let there = rw (← c.self.view_is) at c.requires in
     let leads = rw c.deref.ensures.value at o.ensures.leads in
-    rw (← c.self.view_is) (windows-put_row t c.fill_row.new.slots.items c.touch_row.new.slots.items a.win.0
-    (record { grid = o.result.grid; line = o.result.line; column = o.result.column }) a.y a.x a.x a.cell
+    rw (← c.self.view_is) (windows-put_row t c.fill_row.new.slots.items c.touch_row.new.slots.items a.win.0 _ a.y a.x a.x a.cell
     there (omega arith) leads c.fill_row.ensures c.touch_row.ensures)
 
 pub returns-clause-sound : goal.returns-clause-sound
