@@ -10,8 +10,8 @@ use Rattle.slots.specs.declared.slot.Part.{Part}
 use Rattle.slots.specs.declared.place.Place.{Place}
 use Rattle.slots.specs.Slots.{in_parent}
 use Rattle.grids.specs.steps.Syncs.{part_in_parent}
-use Rattle.slots.proofs.Chain.{from_parent, no_parent}
-use Rattle.slots.proofs.LongerWalks.{own_of_part, own-parent, some_place}
+use Rattle.slots.proofs.Chain.{from_parent, no_parent, some_and, some_of}
+use Rattle.slots.proofs.LongerWalks.{own_of_part, own-parent}
 
 -- ---- ancestors
 
@@ -47,7 +47,7 @@ anc_parent (suc n) window u b part s e is h =
 pub ancestors-parent : (window : WindowMap) (u : ℕ) (b : Window) (part : Part) → window u ≡ Some b → b.backing ≡ part_of part.parent part.line part.column → IsSome (own window u 0 0)
     → ancestors window u ≡ part.parent ∷ ancestors window part.parent
 ancestors-parent window u b part e is ends =
-    let end = some_place (own window u 0 0) ends in
+    let end = some_of (own window u 0 0) ends in
     anc_parent window_limit window u b part end.0 e is end.1
 
 anc_none : (limit : ℕ) (window : WindowMap) (u : ℕ) (b : Window) (cells : ℕ → ℕ → Glyph) → window u ≡ Some b → b.backing ≡ own_grid cells → ancestors_within limit window u ≡ []
@@ -80,13 +80,9 @@ pub record Walk (window : WindowMap) (w u line column : ℕ) : Type 0 where
   pub columns : column + below.columns ≤ above.columns
   pub leads : (y x : ℕ) → own window w y x ≡ own window u (y + line) (x + column)
 
-pub some_window : (o : Option Window) → IsSome o → (a : Window) × (o ≡ Some a)
-some_window None h = cc
-some_window (Some a) h = (a, refl)
-
 pub Walk-start : (window : WindowMap) (w : ℕ) → IsSome (window w) → Walk window w w 0 0
 Walk-start window w h =
-    let a = some_window (window w) h in
+    let a = some_of (window w) h in
     record {
       below = a.0;
       above = a.0;
@@ -97,22 +93,15 @@ Walk-start window w h =
       leads = λ y x. λ i. own window w ((let e : y ≡ y + 0 = omega arith in e) i) ((let e : x ≡ x + 0 = omega arith in e) i);
     }
 
-sound_at : (windows : Windows) (u : ℕ) (b : Window) → AreSoundWindows windows → windows.window u ≡ Some b → IsSoundWindow windows u b
-sound_at windows u b s e = rw e at (s.each u)
-
 pub sound-there : (windows : Windows) (u : ℕ) (b : Window) → AreSoundWindows windows → windows.window u ≡ Some b → IsSoundWindow windows u b
-sound-there windows u b s e = sound_at windows u b s e
-
-parent_there : (o : Option Window) (P : Window → Type 0) → IsSomeAnd o P → (a : Window) × (o ≡ Some a) × P a
-parent_there None P h = absurd h
-parent_there (Some a) P h = (a, refl, h)
+sound-there windows u b s e = rw e at (s.each u)
 
 pub Walk-step : (windows : Windows) (w u line column : ℕ) (part : Part) → AreSoundWindows windows → (h : Walk windows.window w u line column)
     → h.above.backing ≡ part_of part.parent part.line part.column
     → Walk windows.window w part.parent (line + part.line) (column + part.column)
 Walk-step windows w u line column part s h is =
-    let sound = sound_at windows u h.above s h.at_is in
-    let p = parent_there (windows.window part.parent) (IsPartOf part.line part.column h.above) (subst (λ (b : Backing). HasCells windows.window h.above b) is sound.cells) in
+    let sound = sound-there windows u h.above s h.at_is in
+    let p = some_and (windows.window part.parent) (IsPartOf part.line part.column h.above) (subst (λ (b : Backing). HasCells windows.window h.above b) is sound.cells) in
     record {
       below = h.below;
       above = p.0;
@@ -130,7 +119,7 @@ Walk-step windows w u line column part s h is =
 -- a window has its first place
 pub first-there : (windows : Windows) (u : ℕ) → AreSoundWindows windows → IsSome (windows.window u) → HasPlace windows.window u 0 0
 first-there windows u sound h =
-    let a = some_window (windows.window u) h in
+    let a = some_of (windows.window u) h in
     let s = sound-there windows u a.0 sound a.1 in
     rw a.1 (s.has_line, s.has_column)
 
@@ -140,13 +129,13 @@ module _ (windows : Windows) (sound : AreSoundWindows windows) (w : ℕ) (at : P
   pub derives-next : (next : Place) → IsSomeAnd (windows.window at.win.0) (λ a. Some next ≡ option_map (in_parent at) (part_in_parent a.backing))
       → derives windows.window w at.win.0 ≡ ((next.win.0 == w) || derives windows.window w next.win.0)
   derives-next next h =
-      let a = parent_there (windows.window at.win.0) (λ a. Some next ≡ option_map (in_parent at) (part_in_parent a.backing)) h in
+      let a = some_and (windows.window at.win.0) (λ a. Some next ≡ option_map (in_parent at) (part_in_parent a.backing)) h in
       let part = from_parent at next (part_in_parent a.0.backing) a.2 in
       ap (list_any (λ v. v == w)) (ancestors-parent windows.window at.win.0 a.0 part.0 a.1 (part-some a.0.backing part.0 part.1) (sound-there windows at.win.0 a.0 sound a.1).chain_ends)
       ∙ ap (λ (p : Place). (p.win.0 == w) || derives windows.window w p.win.0) (sym part.2)
 
   pub derives-none : IsSomeAnd (windows.window at.win.0) (λ a. None ≡ option_map (in_parent at) (part_in_parent a.backing)) → derives windows.window w at.win.0 ≡ false
   derives-none h =
-      let a = parent_there (windows.window at.win.0) (λ a. None ≡ option_map (in_parent at) (part_in_parent a.backing)) h in
+      let a = some_and (windows.window at.win.0) (λ a. None ≡ option_map (in_parent at) (part_in_parent a.backing)) h in
       let grid = part-none a.0.backing (no_parent at (part_in_parent a.0.backing) a.2) in
       ap (list_any (λ v. v == w)) (ancestors-none windows.window at.win.0 a.0 grid.0 a.1 grid.1)

@@ -110,6 +110,11 @@ module _ (t : WindowTable) (new : List (Option Kept)) (at : ℕ) (change : Windo
   pub IsWindowTable-moved : IsOnScreen t.lines t.columns (change (window_of h.before)) → at ≢ 0 → IsWindowTable (record t { slots = new })
   IsWindowTable-moved placed other = IsWindowTable-change (subst (IsOnScreen t.lines t.columns) (sym h.window) placed) (λ same. absurd (other same))
 
+-- two windows were changed one after the other, and each stays where it is
+pub IsWindowTable-twice : {t : WindowTable} {mid new : List (Option Kept)} {at win : ℕ} {f g : Window → Window} → IsWindowTable t → Changed t.slots mid at f → Changed mid new win g
+    → ((a : Window) → (f a).place ≡ a.place) → ((a : Window) → (g a).place ≡ a.place) → IsWindowTable (record t { slots = new })
+IsWindowTable-twice {t = t} {mid = mid} s one other keeps too = IsWindowTable-changed (record t { slots = mid }) _ _ _ (IsWindowTable-changed t _ _ _ s one keeps) other too
+
 pub replaced-changed : (window : WindowMap) (w : ℕ) (change : Window → Window) (a : Window) → window w ≡ Some a → with_window window w (Some (change a)) ≡ with_change window w change
 replaced-changed window w change a e = fun_ext (λ u.
     elim (cases_eq u w) [

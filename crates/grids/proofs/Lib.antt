@@ -12,12 +12,12 @@ pub mod Deletion
 pub mod NewWindows
 -- the cells that a window shows, for cell and row
 pub mod Showing
--- copies cell by cell, for copy_row and overlay_cells
+-- the drawings of copies, for copy_rectangle and what it calls
 pub mod Copies
+-- copies step by step, for overlay_cells and copy_lines
+pub mod CopySteps
 -- the rectangle of a copy, for copy_row, overlay_cells and copy_lines
 pub mod CopyFrames
--- copies line by line, for copy_lines and copy_rectangle
-pub mod LineCopies
 -- a window touched line by line, for touch_shown
 pub mod Touches
 -- the ancestors of a window, for derives, hand_up and take_down

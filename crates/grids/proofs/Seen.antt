@@ -1,6 +1,6 @@
 -- The rectangle of a window in which it shows a part of another.
-use Rattle.std.proofs.Common.{◌≡◌, ℕ, ◌+◌, ◌-◌, ◌<◌, ◌≤◌, true, ◌&&◌, nat_le, Option, Some, None, IsSomeAnd, arith, refl, sym, ◌∙◌, subst}
-use Rattle.std.proofs.lemmas.Bool.{and_from, and_parts, le-leb, leb-true}
+use Rattle.std.proofs.Common.{◌≡◌, ℕ, ◌+◌, ◌-◌, ◌<◌, ◌≤◌, ◌&&◌, nat_le, Option, Some, None, IsSomeAnd, arith, refl, sym, subst}
+use Rattle.std.proofs.lemmas.Bool.Decides.{nat_tests}
 use Rattle.cell.specs.declared.window.Rect.{Rect}
 use Rattle.world.specs.Frames.{AreRectangle}
 use Rattle.world.specs.Sharing.{SharesPart}
@@ -16,29 +16,14 @@ module _ (first last from to size : ℕ) where
   abbrev pub Clips : Option Columns → Type 0
   Clips o = (x : ℕ) → x < size → (nat_le from (to + x) && has_column (Some (record { first = first; last = last })) (to + x - from)) ≡ has_column o x
 
-  clip-there : (o : Option Columns) → Clips o → (x : ℕ) → x < size → from + first ≤ to + x → to + x ≤ from + last → has_column o x ≡ true
-  clip-there o h x below l u =
-      sym (h x below)
-      ∙ and_from (nat_le from (to + x)) (nat_le first (to + x - from) && nat_le (to + x - from) last) (le-leb from (to + x) (omega (arith, l)))
-      (and_from (nat_le first (to + x - from)) (nat_le (to + x - from) last) (le-leb first (to + x - from) (omega (arith, l))) (le-leb (to + x - from) last (omega (arith, u))))
-
   clip-none : Clips None → (x : ℕ) → x < size → from + first ≤ to + x → to + x ≤ from + last → ⊥
-  clip-none h x below l u = let clash = clip-there None h x below l u in cc
+  clip-none h x below l u = grind (arith, nat_tests, h x below)
 
   clip-some : (c : Columns) → Clips (Some c) → (x : ℕ) → x < size → from + first ≤ to + x → to + x ≤ from + last → (c.first ≤ x) × (x ≤ c.last)
-  clip-some c h x below l u =
-      let parts = and_parts (nat_le c.first x) (nat_le x c.last) (clip-there (Some c) h x below l u) in
-      (leb-true c.first x parts.0, leb-true x c.last parts.1)
+  clip-some c h x below l u = (grind (arith, nat_tests, h x below), grind (arith, nat_tests, h x below))
 
   clip-back : (c : Columns) → Clips (Some c) → (x : ℕ) → x < size → c.first ≤ x → x ≤ c.last → (from + first ≤ to + x) × (to + x ≤ from + last)
-  clip-back c h x below l u =
-      let on = h x below ∙ and_from (nat_le c.first x) (nat_le x c.last) (le-leb c.first x l) (le-leb x c.last u) in
-      let parts = and_parts (nat_le from (to + x)) (nat_le first (to + x - from) && nat_le (to + x - from) last) on in
-      let ends = and_parts (nat_le first (to + x - from)) (nat_le (to + x - from) last) parts.1 in
-      let begins = leb-true from (to + x) parts.0 in
-      let above = leb-true first (to + x - from) ends.0 in
-      let under = leb-true (to + x - from) last ends.1 in
-      (omega (arith, begins, above), omega (arith, begins, under))
+  clip-back c h x below l u = (grind (arith, nat_tests, h x below), grind (arith, nat_tests, h x below))
 
 -- ---- window w begins at the place p of a grid, and window u at q
 
@@ -98,10 +83,7 @@ module _ (window : WindowMap) (w u : ℕ) (r : Rect) (b : Window) (p q : GridPla
 
 clips-itself : (from first last x : ℕ)
     → (nat_le from (from + x) && has_column (Some (record { first = first; last = last })) (from + x - from)) ≡ has_column (Some (record { first = first; last = last })) x
-clips-itself from first last x =
-    let after : nat_le from (from + x) ≡ true = le-leb from (from + x) (omega arith) in
-    let same : from + x - from ≡ x = omega arith in
-    rw (after, same) refl
+clips-itself from first last x = grind (arith, nat_tests)
 
 pub seen-itself : (window : WindowMap) (w : ℕ) (r : Rect) (b : Window) (p : GridPlace) → window w ≡ Some b → own window w 0 0 ≡ Some p → r.top ≤ r.bottom → r.left ≤ r.right
     → (r.bottom < b.lines) × (r.right < b.columns) → AreRectangle (SharesPart window w r w) (Some r)

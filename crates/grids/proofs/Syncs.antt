@@ -18,7 +18,7 @@ use Rattle.slots.specs.declared.place.Place.{Place}
 use Rattle.slots.specs.declared.slot.Part.{Part}
 use Rattle.slots.specs.Slots.{in_parent}
 use Rattle.grids.specs.steps.Syncs.{has_column, is_touched_at, part_in_parent, shows_touched, touched_shown}
-use Rattle.slots.proofs.Chain.{from_parent, no_parent}
+use Rattle.slots.proofs.Chain.{from_parent, no_parent, some_of}
 use Rattle.grids.proofs.Shared.{shared-in, from-shared}
 use Rattle.grids.proofs.Touches.{changed-here, changed-nothing, changed-other, changed-same, changed-twice, touching-is, touching-none}
 use Rattle.grids.proofs.Ancestors.{Walk, Walk-start, Walk-step, ancestors-none, ancestors-parent, part-none, part-some, sound-there}
@@ -89,13 +89,9 @@ module _ (window : WindowMap) (s t : ℕ) (a : Window) (g : GridPlace) (p0 p1 q0
 
 -- ---- of a window and one from which it derives
 
-some_place : (o : Option GridPlace) → IsSome o → (p : GridPlace) × (o ≡ Some p)
-some_place None h = cc
-some_place (Some p) h = (p, refl)
-
 module _ (windows : Windows) (w u line column : ℕ) (sound : AreSoundWindows windows) (h : Walk windows.window w u line column) where
   end : (p : GridPlace) × (own windows.window u 0 0 ≡ Some p)
-  end = some_place (own windows.window u 0 0) (sound-there windows u h.above sound h.at_is).chain_ends
+  end = some_of (own windows.window u 0 0) (sound-there windows u h.above sound h.at_is).chain_ends
 
   leads_u : own windows.window u 0 0 ≡ Some (onward 0 0 end.0)
   leads_u = own-onward windows.window u 0 0 ∙ ap (option_map (onward 0 0)) end.1
@@ -217,10 +213,6 @@ place-reached old cur w u line column sound walk same =
 
 pub handed-none : (windows : Windows) (w : ℕ) → IsSome (windows.window w) → IsHandedTo windows windows w w 0 0
 handed-none windows w there = record { walk = Walk-start windows.window w there; size = refl; same = λ v. refl; source = refl; rest = λ v. refl }
-
-agree : (o : Option Window) (f g : Window → Window) → ((a : Window) → f a ≡ g a) → option_map f o ≡ option_map g o
-agree None f g h = refl
-agree (Some a) f g h = ap Some (h a)
 
 module _ (old : Windows) (sound : AreSoundWindows old) (w u line column : ℕ) (part : Part) (walk : Walk old.window w u line column)
     (part_is : part_in_parent walk.above.backing ≡ Some part) where

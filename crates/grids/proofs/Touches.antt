@@ -12,6 +12,7 @@ use Rattle.world.specs.calls.Copying.{with_touches}
 use Rattle.world.specs.declared.settings.Columns.{Columns}
 use Rattle.slots.specs.Changes.{with_touched}
 use Rattle.grids.specs.steps.Syncs.{EndsWithin}
+use Rattle.slots.proofs.Chain.{some_and}
 use Rattle.grids.proofs.Writes.{touched-none, touched-past}
 
 -- ---- one window changed twice, and not at all
@@ -193,10 +194,9 @@ module _ (w : Windows) (win : ℕ) (test : ℕ → ℕ → Bool) where
   pub touched-other : (k : ℕ) (cur : Windows) (u : ℕ) → cur ≡ touched_before k → u ≢ win → cur.window u ≡ w.window u
   touched-other k cur u is other = ap (λ (v : Windows). v.window u) is ∙ changed-other w.window win (with_touches (before k test)) u other
 
--- a window that is there
+-- a window that is there, for crates that don't use `slots`
 pub there-and : (o : Option Window) (P : Window → Type 0) → IsSomeAnd o P → (a : Window) × (o ≡ Some a) × P a
-there-and None P h = absurd h
-there-and (Some a) P h = (a, refl, h)
+there-and o P h = some_and o P h
 
 -- ---- a window that is touched where it shows what is touched of another, at its line y
 
@@ -212,7 +212,7 @@ pub record IsAtLine (w cur : Windows) (win source : ℕ) (at : Place) (test : �
 pub at-line : (w cur : Windows) (win source : ℕ) (at size : Place) (test : ℕ → ℕ → Bool) (y : ℕ) → win ≢ source → EndsWithin w.window win at
     → IsSomeAnd (w.window win) (λ a. (size.0 ≡ a.lines) × (size.1 ≡ a.columns)) → y < size.0 → cur ≡ touched_before w win test y → IsAtLine w cur win source at test y
 at-line w cur win source at size test y other ends sized above touched =
-    let b = there-and (w.window win) (λ b. (at.0 + b.lines ≤ LARGEST_PAD) × (at.1 + b.columns ≤ LARGEST_PAD)) ends in
+    let b = some_and (w.window win) (λ b. (at.0 + b.lines ≤ LARGEST_PAD) × (at.1 + b.columns ≤ LARGEST_PAD)) ends in
     let lines = (rw b.1 at sized).0 in
     record {
       window = b.0;

@@ -4,4 +4,5 @@ pub use Rattle.slots.specs.Changes
 pub use Rattle.slots.specs.Inks
 pub mod Tables
 pub mod Calls
+pub mod Copies
 pub mod steps

@@ -1,10 +1,8 @@
 //! Copies of a rectangle.
 
-ghost use Rattle.std.specs.Prelude.{◌≡◌, ℕ, ◌<◌, ◌+◌, ◌-◌};
-ghost use Rattle.world.specs.Windows.{HasPlace, put};
+ghost use Rattle.std.specs.Prelude.{◌<◌};
 ghost use Rattle.world.specs.Sound.{AreSoundWindows};
-ghost use Rattle.world.specs.calls.Copying.{rectangle_copied};
-ghost use Rattle.world.specs.Effects.{drawing_frame};
+ghost use Rattle.grids.specs.Copies.{AreRectanglesThere, RectangleCopied};
 ghost use Rattle.grids.specs.Tables.{windows};
 
 use crate::frame::frame_of_two;
@@ -29,23 +27,14 @@ impl Grids {
         columns: u16,
         overlay: bool,
     ) -> Option<Rect>
-        requires from { 0 < lines → 0 < columns → HasPlace (windows self.old).window src.0 (sy + lines - 1) (sx + columns - 1) }
-        requires to { 0 < lines → 0 < columns → HasPlace (windows self.old).window dst.0 (dy + lines - 1) (dx + columns - 1) }
-        ensures written { windows self.new ≡ put (windows self.old) dst.0 (rectangle_copied (windows self.old).window src.0 sy sx dy dx lines columns overlay) }
-        ensures frame { result ≡ drawing_frame (windows self.old) dst.0 (λ a. rectangle_copied
-            (windows self.old).window src.0 sy sx dy dx lines columns overlay) }
+        requires { 0 < lines → 0 < columns → AreRectanglesThere (windows self.old).window
+            (record { win = src; line = sy; column = sx }) (record { win = dst; line = dy; column = dx }) lines columns }
+        ensures copied { RectangleCopied (windows self.old) (record { win = src; line = sy; column = sx })
+            (record { win = dst; line = dy; column = dx }) lines columns overlay result (windows self.new) }
         ensures sound { AreSoundWindows (windows self.new) }
     {
-        let from = Place {
-            win: src,
-            line: sy,
-            column: sx,
-        };
-        let to = Place {
-            win: dst,
-            line: dy,
-            column: dx,
-        };
+        let from = Place::new(src, sy, sx);
+        let to = Place::new(dst, dy, dx);
         let frame = if lines > 0 && columns > 0 {
             self.copy_lines(from, to, lines, columns, overlay)
         } else {
@@ -66,12 +55,8 @@ impl Grids {
     ) -> Option<Rect>
         requires some_line { 0 < lines }
         requires some_column { 0 < columns }
-        requires from { HasPlace (windows self.old).window from.win.0 (from.line + lines - 1) (from.column + columns - 1) }
-        requires to { HasPlace (windows self.old).window to.win.0 (to.line + lines - 1) (to.column + columns - 1) }
-        ensures written { windows self.new ≡ put (windows self.old) to.win.0 (rectangle_copied
-            (windows self.old).window from.win.0 from.line from.column to.line to.column lines columns overlay) }
-        ensures frame { result ≡ drawing_frame (windows self.old) to.win.0 (λ a. rectangle_copied
-            (windows self.old).window from.win.0 from.line from.column to.line to.column lines columns overlay) }
+        requires there { AreRectanglesThere (windows self.old).window from to lines columns }
+        ensures { RectangleCopied (windows self.old) from to lines columns overlay result (windows self.new) }
     {
         let source = origin_of(&self.slots, from.win.0);
         let target = origin_of(&self.slots, to.win.0);

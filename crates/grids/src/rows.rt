@@ -7,7 +7,7 @@ ghost use Rattle.slots.specs.Inks.{printed_cell};
 ghost use Rattle.world.specs.Windows.{HasPlace, cell_at, put};
 ghost use Rattle.world.specs.Sound.{AreSoundWindows};
 ghost use Rattle.world.specs.Rows.{filled_cells, listed_cells, overlaid_cell, copied_cells, line_shown};
-ghost use Rattle.world.specs.Effects.{drawing_frame};
+ghost use Rattle.grids.specs.Copies.{AreRowsThere, AreThere, RowCopied};
 ghost use Rattle.grids.specs.Tables.{windows};
 
 use crate::frame::{frame_of_two, place};
@@ -120,21 +120,13 @@ impl Grids {
         n: u16,
         overlay: bool,
     )
-        requires from { 0 < n → HasPlace (windows self.old).window src.0 sy (sx + n - 1) }
-        requires to { 0 < n → HasPlace (windows self.old).window dst.0 dy (dx + n - 1) }
+        requires { 0 < n → AreRowsThere (windows self.old).window (record { win = src; line = sy; column = sx })
+            (record { win = dst; line = dy; column = dx }) n }
         ensures written { windows self.new ≡ put (windows self.old) dst.0 (copied_cells (windows self.old).window src.0 sy sx dy dx n overlay) }
         ensures sound { AreSoundWindows (windows self.new) }
     {
-        let from = Place {
-            win: src,
-            line: sy,
-            column: sx,
-        };
-        let to = Place {
-            win: dst,
-            line: dy,
-            column: dx,
-        };
+        let from = Place::new(src, sy, sx);
+        let to = Place::new(dst, dy, dx);
         if n > 0 {
             self.copy_line(from, to, n, overlay);
         }
@@ -150,12 +142,8 @@ impl Grids {
         overlay: bool,
     ) -> Option<Rect>
         requires some { 0 < n }
-        requires from { HasPlace (windows self.old).window from.win.0 from.line (from.column + n - 1) }
-        requires to { HasPlace (windows self.old).window to.win.0 to.line (to.column + n - 1) }
-        ensures written { windows self.new ≡ put (windows self.old) to.win.0 (copied_cells
-            (windows self.old).window from.win.0 from.line from.column to.line to.column n overlay) }
-        ensures frame { result ≡ drawing_frame (windows self.old) to.win.0 (λ a. copied_cells
-            (windows self.old).window from.win.0 from.line from.column to.line to.column n overlay) }
+        requires there { AreRowsThere (windows self.old).window from to n }
+        ensures { RowCopied (windows self.old) from to n overlay result (windows self.new) }
     {
         if overlay {
             self.overlay_cells(from, to, n)
@@ -167,12 +155,8 @@ impl Grids {
     /// Copies all cells: it reads them into the spare line, and then writes that.
     fn copy_cells(&mut self, from: Place, to: Place, n: u16) -> Option<Rect>
         requires some { 0 < n }
-        requires from { HasPlace (windows self.old).window from.win.0 from.line (from.column + n - 1) }
-        requires to { HasPlace (windows self.old).window to.win.0 to.line (to.column + n - 1) }
-        ensures frame { result ≡ drawing_frame (windows self.old) to.win.0 (λ a. copied_cells
-            (windows self.old).window from.win.0 from.line from.column to.line to.column n false) }
-        ensures written { windows self.new ≡ put (windows self.old) to.win.0 (copied_cells
-            (windows self.old).window from.win.0 from.line from.column to.line to.column n false) }
+        requires there { AreRowsThere (windows self.old).window from to n }
+        ensures { RowCopied (windows self.old) from to n false result (windows self.new) }
     {
         let source = origin_of(&self.slots, from.win.0);
         let target = origin_of(&self.slots, to.win.0);
@@ -203,12 +187,8 @@ impl Grids {
     /// Copies the cells that aren't spaces, from the end at which no cell is written before it is read.
     fn overlay_cells(&mut self, from: Place, to: Place, n: u16) -> Option<Rect>
         requires some { 0 < n }
-        requires from { HasPlace (windows self.old).window from.win.0 from.line (from.column + n - 1) }
-        requires to { HasPlace (windows self.old).window to.win.0 to.line (to.column + n - 1) }
-        ensures written { windows self.new ≡ put (windows self.old) to.win.0 (copied_cells
-            (windows self.old).window from.win.0 from.line from.column to.line to.column n true) }
-        ensures frame { result ≡ drawing_frame (windows self.old) to.win.0 (λ a. copied_cells
-            (windows self.old).window from.win.0 from.line from.column to.line to.column n true) }
+        requires there { AreRowsThere (windows self.old).window from to n }
+        ensures { RowCopied (windows self.old) from to n true result (windows self.new) }
     {
         let source = origin_of(&self.slots, from.win.0);
         let target = origin_of(&self.slots, to.win.0);
@@ -229,12 +209,8 @@ impl Grids {
 
     /// Copies one cell unless it is a space.
     fn overlay_cell(&mut self, from: Place, to: Place) -> Option<Rect>
-        requires from { HasPlace (windows self.old).window from.win.0 from.line from.column }
-        requires to { HasPlace (windows self.old).window to.win.0 to.line to.column }
-        ensures written { windows self.new ≡ put (windows self.old) to.win.0 (copied_cells
-            (windows self.old).window from.win.0 from.line from.column to.line to.column 1 true) }
-        ensures frame { result ≡ drawing_frame (windows self.old) to.win.0 (λ a. copied_cells
-            (windows self.old).window from.win.0 from.line from.column to.line to.column 1 true) }
+        requires { AreThere (windows self.old).window from to }
+        ensures { RowCopied (windows self.old) from to 1 true result (windows self.new) }
     {
         let cell = self.cell(from.win, from.line, from.column);
         if is_visible(cell) {

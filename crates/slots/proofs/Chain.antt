@@ -18,13 +18,13 @@ from_match : (o : Option Kept) (P : Kept → Type 0) → MatchOption o ⊥ P →
 from_match None P h = absurd h
 from_match (Some k) P h = (k, refl, h)
 
-pub some_of : (o : Option Kept) → IsSome o → (k : Kept) × (o ≡ Some k)
+pub some_of : {A : Type 0} (o : Option A) → IsSome o → (a : A) × (o ≡ Some a)
 some_of None h = cc
-some_of (Some k) h = (k, refl)
+some_of (Some a) h = (a, refl)
 
-pub some_and : (o : Option Kept) (P : Kept → Type 0) → IsSomeAnd o P → (k : Kept) × (o ≡ Some k) × P k
+pub some_and : {A : Type 0} (o : Option A) (P : A → Type 0) → IsSomeAnd o P → (a : A) × (o ≡ Some a) × P a
 some_and None P h = absurd h
-some_and (Some k) P h = (k, refl, h)
+some_and (Some a) P h = (a, refl, h)
 
 pub each_at : (slots : List (Option Kept)) → IsChained slots → (w : ℕ) (k : Kept) → slot_at slots w ≡ Some k → IsKept k × HasParentIn slots k k.cells
 each_at slots s w k e = rw e at (s.each w)

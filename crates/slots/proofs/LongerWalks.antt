@@ -5,6 +5,7 @@ use Rattle.std.specs.Option.{option_map}
 use Rattle.world.specs.Windows.{Backing, own_grid, part_of, GridPlace, Window, WindowMap, leads, onward, own, own_within, window_limit}
 use Rattle.world.proofs.WindowLaws.{own-onward}
 use Rattle.slots.specs.declared.slot.Part.{Part}
+use Rattle.slots.proofs.Chain.{some_of}
 
 leads-more : (f g : ℕ → ℕ → ℕ → Option GridPlace) (s : GridPlace) → ((w y x : ℕ) → f w y x ≡ Some s → g w y x ≡ Some s) → (w y x : ℕ) (b : Backing) → leads f w y x b ≡ Some s
     → leads g w y x b ≡ Some s
@@ -33,13 +34,9 @@ own_parent zero window u b part y x s e is h = cc
 own_parent (suc n) window u b part y x s e is h =
     own-more n (suc n) (omega arith) window part.parent (y + part.line) (x + part.column) s (sym (own_of_part n window u b part y x e is) ∙ h)
 
-pub some_place : (o : Option GridPlace) → IsSome o → (p : GridPlace) × (o ≡ Some p)
-some_place None h = cc
-some_place (Some p) h = (p, refl)
-
 pub own-parent : (window : WindowMap) (u : ℕ) (b : Window) (part : Part) → window u ≡ Some b → b.backing ≡ part_of part.parent part.line part.column → IsSome (own window u 0 0)
     → (y x : ℕ) → own window u y x ≡ own window part.parent (y + part.line) (x + part.column)
 own-parent window u b part e is ends y x =
-    let end = some_place (own window u 0 0) ends in
+    let end = some_of (own window u 0 0) ends in
     let here : own window u y x ≡ Some (onward y x end.0) = own-onward window u y x ∙ ap (option_map (onward y x)) end.1 in
     here ∙ sym (own_parent window_limit window u b part y x (onward y x end.0) e is here)

@@ -13,6 +13,13 @@ pub struct Place {
 }
 
 impl Place {
+    /// The place at this line and column of a window.
+    pub fn new(win: WinId, line: u16, column: u16) -> Place
+        ensures { result ≡ record { win = win; line = line; column = column } }
+    {
+        Place { win, line, column }
+    }
+
     /// The first place of a window.
     pub fn first_of(win: u16) -> Place
         ensures { result ≡ record { win = record { 0 = win }; line = 0; column = 0 } }

@@ -25,7 +25,7 @@ returns c =
       ← c.overlap-columns.ensures.source,
       ← c.overlap-columns.ensures.target,
       ← c.overlap-columns.ensures.len,
-    ) c.copy_rectangle.ensures.written)
+    ) c.copy_rectangle.ensures.copied.written)
     ∙ sym (drawn-there (windows a.table.now) a.dst.0 t.ensures.state.window (common_cells (windows a.table.now).window a.src.0 a.dst.0 a.overlay) t.ensures.state.there))
     (rw (
       s.ensures.state.lines,
@@ -38,6 +38,6 @@ returns c =
       ← c.overlap-columns.ensures.source,
       ← c.overlap-columns.ensures.target,
       ← c.overlap-columns.ensures.len,
-    ) c.copy_rectangle.ensures.frame
+    ) c.copy_rectangle.ensures.copied.frame
     ∙ common-frame (windows a.table.now) a.src.0 a.dst.0 s.ensures.state.window t.ensures.state.window c.in_ok-from.from c.in_ok-to.to s.ensures.state.there t.ensures.state.there
     c.in_ok-from.ensures.answer c.in_ok-to.ensures.answer a.overlay) (search rules)

@@ -1,21 +1,13 @@
 -- The filled line is one write, which touches the columns written.
-use Rattle.std.proofs.Common.{◌+◌, refl}
-use Rattle.world.specs.Rows.{filled_cells}
+use Rattle.std.proofs.Common.{refl}
 use Rattle.grids.specs.contracts.table.Grids.{the_view}
-use Rattle.slots.specs.Changes.{with_touched, with_drawing}
-use Rattle.grids.proofs.Changes.{IsWindowTable-changed}
+use Rattle.grids.proofs.Changes.{IsWindowTable-twice}
 use Rattle.grids.proofs.Writes.{windows-put_row}
 use Rattle.grids.proofs.Sounds.{sound}
 use Rattle.grids.proofs.table.Grids.fill.Goals as goal
 
 pub invariant_of-self : goal.invariant_of-self
-invariant_of-self c =
-    let a = c.args in
-    let o = c.origin_of-origin.result in
-    let t = the_view c.self.inside in
-    let s = IsWindowTable-changed t c.fill_row.new.slots.items o.grid (with_drawing (filled_cells (o.line + a.y) (o.column + a.left) (o.column + a.right) a.cell)) c.self.invariant c.fill_row.ensures
-    (λ b. refl) in
-    IsWindowTable-changed (record t { slots = c.fill_row.new.slots.items }) c.touch_row.new.slots.items a.win.0 (with_touched a.y a.left a.right) s c.touch_row.ensures (λ b. refl)
+invariant_of-self c = IsWindowTable-twice c.self.invariant c.fill_row.ensures c.touch_row.ensures (λ a. refl) (λ a. refl)
 
 pub returns-clause-written : goal.returns-clause-written
 returns-clause-written c =
@@ -24,8 +16,7 @@ returns-clause-written c =
     let t = the_view c.self.inside in
     let there = rw (← c.self.view_is) at c.requires.there in
     let leads = rw c.deref.ensures.value at o.ensures.leads in
-    rw (← c.self.view_is) (windows-put_row t c.fill_row.new.slots.items c.touch_row.new.slots.items a.win.0
-    (record { grid = o.result.grid; line = o.result.line; column = o.result.column }) a.y a.left a.right a.cell
+    rw (← c.self.view_is) (windows-put_row t c.fill_row.new.slots.items c.touch_row.new.slots.items a.win.0 _ a.y a.left a.right a.cell
     there c.requires.ordered leads c.fill_row.ensures c.touch_row.ensures)
 
 pub returns-clause-sound : goal.returns-clause-sound

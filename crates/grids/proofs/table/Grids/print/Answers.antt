@@ -2,26 +2,18 @@
 -- (`Writes`).
 use Rattle.std.proofs.Common.{◌≡◌, ◌+◌, ◌-◌, ◌<◌, length, map, refl, sym, subst}
 use Rattle.std.proofs.lemmas.List.{length-map}
-use Rattle.world.specs.Rows.{listed_cells}
 use Rattle.world.specs.Windows.{HasPlace}
-use Rattle.slots.specs.Changes.{Changed, with_touched, with_drawing}
+use Rattle.slots.specs.Changes.{Changed, with_touched}
 use Rattle.slots.specs.Slots.{window_map}
 use Rattle.slots.specs.Inks.{printed_cell}
 use Rattle.grids.specs.contracts.table.Grids.{the_view}
-use Rattle.grids.proofs.Changes.{IsWindowTable-changed}
+use Rattle.grids.proofs.Changes.{IsWindowTable-twice}
 use Rattle.grids.proofs.Writes.{windows-listed}
 use Rattle.grids.proofs.Sounds.{sound}
 use Rattle.grids.proofs.table.Grids.print.Goals as goal
 
 pub invariant_of-self : goal.invariant_of-self
-invariant_of-self c =
-    let a = c.args in
-    let o = c.origin_of-origin.result in
-    let t = the_view c.self.inside in
-    let s = IsWindowTable-changed t c.print_row.new.slots.items o.grid (with_drawing (listed_cells (o.line + a.y) (o.column + a.left) (map (printed_cell a.pen) a.text.now))) c.self.invariant
-    c.print_row.ensures (λ b. refl) in
-    IsWindowTable-changed (record t { slots = c.print_row.new.slots.items }) c.touch_row.new.slots.items a.win.0 (with_touched a.y a.left (a.left + length a.text.now - 1)) s c.touch_row.ensures
-    (λ b. refl)
+invariant_of-self c = IsWindowTable-twice c.self.invariant c.print_row.ensures c.touch_row.ensures (λ a. refl) (λ a. refl)
 
 pub returns-clause-written : goal.returns-clause-written
 returns-clause-written c =
@@ -33,8 +25,7 @@ returns-clause-written c =
     let there = rw (← c.self.view_is) at c.requires.there in
     let leads = rw c.deref.ensures.value at o.ensures.leads in
     rw (← c.self.view_is)
-    (windows-listed t c.print_row.new.slots.items c.touch_row.new.slots.items a.win.0
-    (record { grid = o.result.grid; line = o.result.line; column = o.result.column }) a.y a.left cells
+    (windows-listed t c.print_row.new.slots.items c.touch_row.new.slots.items a.win.0 _ a.y a.left cells
     (subst (λ n. HasPlace (window_map t.slots) a.win.0 a.y (a.left + n - 1)) all there)
     (subst (λ n. 0 < n) all c.requires.some) leads c.print_row.ensures
     (subst (λ n. Changed c.print_row.new.slots.items c.touch_row.new.slots.items a.win.0 (with_touched a.y a.left (a.left + n - 1))) all c.touch_row.ensures))

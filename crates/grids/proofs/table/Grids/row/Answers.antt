@@ -12,7 +12,7 @@ returns-clause-row c =
     let columns = rw c.deref-2.ensures.value at c.columns_of-columns.ensures in
     let read = rw c.deref-3.ensures.value at c.row_in.ensures.row in
     let there = rw (← c.self.view_is) at c.requires in
-    rw (← c.self.view_is) (row-read t.slots c.args.win.0 c.args.y c.columns_of-columns.result (record { grid = o.result.grid; line = o.result.line; column = o.result.column }) c.row_in.result.now
+    rw (← c.self.view_is) (row-read t.slots c.args.win.0 c.args.y c.columns_of-columns.result _ c.row_in.result.now
     there columns leads read)
 
 pub returns-clause-sound : goal.returns-clause-sound

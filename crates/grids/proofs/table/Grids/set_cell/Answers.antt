@@ -1,21 +1,13 @@
 -- One cell is a line of one column, which is touched.
-use Rattle.std.proofs.Common.{◌+◌, refl, arith}
-use Rattle.world.specs.Rows.{filled_cells}
+use Rattle.std.proofs.Common.{refl, arith}
 use Rattle.grids.specs.contracts.table.Grids.{the_view}
-use Rattle.slots.specs.Changes.{with_touched, with_drawing}
-use Rattle.grids.proofs.Changes.{IsWindowTable-changed}
+use Rattle.grids.proofs.Changes.{IsWindowTable-twice}
 use Rattle.grids.proofs.Writes.{windows-put_row}
 use Rattle.grids.proofs.Sounds.{sound}
 use Rattle.grids.proofs.table.Grids.set_cell.Goals as goal
 
 pub invariant_of-self : goal.invariant_of-self
-invariant_of-self c =
-    let a = c.args in
-    let o = c.origin_of-origin.result in
-    let t = the_view c.self.inside in
-    let s = IsWindowTable-changed t c.fill_row.new.slots.items o.grid (with_drawing (filled_cells (o.line + a.y) (o.column + a.x) (o.column + a.x) a.cell)) c.self.invariant c.fill_row.ensures
-    (λ b. refl) in
-    IsWindowTable-changed (record t { slots = c.fill_row.new.slots.items }) c.touch_row.new.slots.items a.win.0 (with_touched a.y a.x a.x) s c.touch_row.ensures (λ b. refl)
+invariant_of-self c = IsWindowTable-twice c.self.invariant c.fill_row.ensures c.touch_row.ensures (λ a. refl) (λ a. refl)
 
 pub returns-clause-written : goal.returns-clause-written
 returns-clause-written c =
@@ -24,8 +16,7 @@ returns-clause-written c =
     let t = the_view c.self.inside in
     let there = rw (← c.self.view_is) at c.requires in
     let leads = rw c.deref.ensures.value at o.ensures.leads in
-    rw (← c.self.view_is) (windows-put_row t c.fill_row.new.slots.items c.touch_row.new.slots.items a.win.0
-    (record { grid = o.result.grid; line = o.result.line; column = o.result.column }) a.y a.x a.x a.cell
+    rw (← c.self.view_is) (windows-put_row t c.fill_row.new.slots.items c.touch_row.new.slots.items a.win.0 _ a.y a.x a.x a.cell
     there (omega arith) leads c.fill_row.ensures c.touch_row.ensures)
 
 pub returns-clause-sound : goal.returns-clause-sound

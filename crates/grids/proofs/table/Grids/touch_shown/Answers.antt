@@ -7,7 +7,8 @@ use Rattle.grids.specs.declared.table.Grids.{Grids}
 use Rattle.grids.specs.Tables.{windows}
 use Rattle.slots.specs.Slots.{depth_at}
 use Rattle.grids.specs.steps.Syncs.{shows_touched, touched_shown}
-use Rattle.grids.proofs.Touches.{none-before, all-before, at-line, next-none, next-some, there-and}
+use Rattle.grids.proofs.Touches.{none-before, all-before, at-line, next-none, next-some}
+use Rattle.slots.proofs.Chain.{some_and}
 use Rattle.grids.proofs.table.Grids.touch_shown.Goals as goal
 use Rattle.grids.proofs.table.Grids.touch_shown.Goals.{in-Some, in_default}
 
@@ -17,21 +18,11 @@ loop-y-init c =
     let w = windows a.self.now in
     record { touched = none-before w a.win (touched_shown w.window a.source a.source_at a.at); depths = λ u. refl }
 
-pub shown_columns-requires-clause-line : goal.shown_columns-requires-clause-line
-shown_columns-requires-clause-line c =
+pub shown_columns-requires : goal.shown_columns-requires
+shown_columns-requires c =
     let l = at-line _ _ _ _ _ _ _ _ c.requires.other c.requires.window c.size-lines.ensures c.loop-y-test.true c.loop-y.invariant.touched in
     let sound = rw l.there at (c.has_window.ensures.sound.each c.args.win) in
-    rw l.here (l.below, sound.has_column)
-
-pub shown_columns-requires-clause-window : goal.shown_columns-requires-clause-window
-shown_columns-requires-clause-window c =
-    let l = at-line _ _ _ _ _ _ _ _ c.requires.other c.requires.window c.size-lines.ensures c.loop-y-test.true c.loop-y.invariant.touched in
-    rw l.here l.fits
-
-pub shown_columns-requires-clause-source : goal.shown_columns-requires-clause-source
-shown_columns-requires-clause-source c =
-    let l = at-line _ _ _ _ _ _ _ _ c.requires.other c.requires.window c.size-lines.ensures c.loop-y-test.true c.loop-y.invariant.touched in
-    rw l.same c.requires.source
+    record { line = rw l.here (l.below, sound.has_column); window = rw l.here l.fits; source = rw l.same c.requires.source }
 
 pub touch_columns-requires-clause-there : goal.touch_columns-requires-clause-there
 touch_columns-requires-clause-there c =
@@ -72,6 +63,6 @@ returns-clause-touched c =
     let a = c.args in
     let w = windows a.self.now in
     let test = touched_shown w.window a.source a.source_at a.at in
-    let b = there-and (w.window a.win) (λ b. (a.at.0 + b.lines ≤ LARGEST_PAD) × (a.at.1 + b.columns ≤ LARGEST_PAD)) c.requires.window in
+    let b = some_and (w.window a.win) (λ b. (a.at.0 + b.lines ≤ LARGEST_PAD) × (a.at.1 + b.columns ≤ LARGEST_PAD)) c.requires.window in
     let size = rw b.1 at c.size-lines.ensures in
     c.loop-y.invariant.touched ∙ all-before w a.win test b.0 b.1 c.loop-y.y (omega (arith, c.loop-y-test.false, size.0))
