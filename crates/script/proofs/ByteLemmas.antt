@@ -127,27 +127,12 @@ gathered_failed old mid new unused left rest line g n h =
     let j = all_gathered old mid new unused left line g n.0 n.2 in
     record { bytes = g.bytes ++ []; read = j.0; is_line = ((j.1, n.1), h); no_newline = g.no_newline; at_end = λ e. cc }
 
--- ---- a line, taken at once
+-- ---- a line that is read where it is
 
--- A line and its newline were among the bytes that were not used.
-pub record TakesLine (unused left line : List ℕ) : Type 0 where
-  pub all : unused ≡ line ++ newline ∷ left
-  pub no_newline : HasNoNewline line
-  pub short : length line ≤ LONGEST_LINE
-
-pub taken_line : (seen : SourceSeen) (unused left line : List ℕ) → TakesLine unused left line → ReadsLine seen seen unused left line (Some Newline)
-taken_line seen unused left line t = record {
-  bytes = [];
-  read = Consumes-nil seen.left;
-  is_line = (append-nil unused ∙ t.all, t.short);
-  no_newline = t.no_newline;
-  at_end = λ e. cc;
-}
-
-none_before : (xs : List ℕ) (i : ℕ) → ((k : ℕ) → k < i → is_newline (get_or xs k 0) ≡ false) → HasNoNewline (take i xs)
-none_before xs zero h = refl
-none_before [] (suc i) h = refl
-none_before (x ∷ xs) (suc i) h = let first = h 0 (omega arith) in rw first (none_before xs i (λ k below. h (suc k) (omega arith)))
+no_newline_before : (xs : List ℕ) (i : ℕ) → ((k : ℕ) → k < i → is_newline (get_or xs k 0) ≡ false) → HasNoNewline (take i xs)
+no_newline_before xs zero h = refl
+no_newline_before [] (suc i) h = refl
+no_newline_before (x ∷ xs) (suc i) h = let first = h 0 (omega arith) in rw first (no_newline_before xs i (λ k below. h (suc k) (omega arith)))
 
 -- what a call that didn't fail says
 pub ok_parts : {T E : Type 0} (r : Result T E) (P Q : Type 0) → false ≡ is_err r → OnOk r P → IsOk r ↔ Q → P × Q
@@ -155,21 +140,23 @@ ok_parts (Ok t) P Q h said alike = (said, alike.0 refl)
 ok_parts (Err e) P Q h said alike = cc
 
 -- the bytes up to the first newline, which comes early enough
-pub newline_found : (unused : List ℕ) (at : ℕ) → Some at ≡ position is_newline unused → at < LONGEST_PIECE → TakesLine unused (drop (at + 1) unused) (take at unused)
-newline_found unused at found early =
+newline_found : (seen : SourceSeen) (unused : List ℕ) (at : ℕ) → Some at ≡ position is_newline unused → at < LONGEST_PIECE
+    → ReadsLine seen seen unused (drop (at + 1) unused) (take at unused) (Some Newline)
+newline_found seen unused at found early =
     let found_at = position-Some is_newline unused at 0 (sym found) in
+    let here = drop-cons unused at 0 found_at.0 ∙ ap (λ b. b ∷ drop (suc at) unused) (eqb-true (get_or unused at 0) newline found_at.1) in
+    let all = sym (take-append-drop at unused) ∙ ap (λ l. take at unused ++ l) (here ∙ ap (λ n. newline ∷ drop n unused) (sym (add-one at))) in
     record {
-      all = sym (take-append-drop at unused)
-          ∙ ap (λ l. take at unused ++ l) (drop-cons unused at 0 found_at.0 ∙ ap (λ b. b ∷ drop (suc at) unused) (eqb-true (get_or unused at 0) newline found_at.1)
-          ∙ ap (λ n. newline ∷ drop n unused) (sym (add-one at)));
-      no_newline = none_before unused at found_at.2;
-      short = omega (arith, length-take at unused);
+      bytes = [];
+      read = Consumes-nil seen.left;
+      is_line = (append-nil unused ∙ all, omega (arith, length-take at unused));
+      no_newline = no_newline_before unused at found_at.2;
+      at_end = λ e. cc;
     }
 
--- a line that is read where it is
 pub unread_line : (seen : SourceSeen) (unused bytes gathered : List ℕ) (at : ℕ) → bytes ≡ unused → Some at ≡ position is_newline bytes → at < LONGEST_PIECE
     → ReadsLine seen seen unused (drop (at + 1) bytes) (if at + 1 == 0 then gathered else take (at + 1 - 1) bytes) (Some Newline)
-unread_line seen unused bytes gathered at same found early = grind (arith, nat_tests, taken_line, newline_found)
+unread_line seen unused bytes gathered at same found early = grind (arith, nat_tests, newline_found)
 
 -- the bytes of a piece from one on, without the first
 pub first_left_out : (piece : List ℕ) (from to count : ℕ) → count ≤ length (take (to - from) (drop from piece)) → from ≤ to
