@@ -16,11 +16,13 @@ loop-number-preserved g c =
 pub returns-in-ScriptEnd : goal.returns-in-ScriptEnd
 returns-in-ScriptEnd g c =
     let read = c.next_whole_line-end.ensures in
+    let more = rw (sym c.finding_of_read-finding.ensures, c.line.ensures.line) at c.report_finding-report.ensures in
     checked _ _ _ _ _ _ _ _ _ _ _ _ _ _ _
-    c.loop-number.invariant read.line.reads read.line.keeps (ap has_newline c.in-ScriptEnd.is) (ap met_end c.in-ScriptEnd.is) read.ends (rw (sym c.finding_of_read-finding.ensures, c.line.ensures.line) at c.report_finding-report.ensures)
+    c.loop-number.invariant read.line.reads read.line.keeps (ap has_newline c.in-ScriptEnd.is) (ap met_end c.in-ScriptEnd.is) read.ends more
 
 pub returns-in-ReadFailed : goal.returns-in-ReadFailed
 returns-in-ReadFailed g c =
     let read = c.next_whole_line-end.ensures in
+    let more = rw (sym c.finding_of_read-finding.ensures, c.line.ensures.line) at c.report_finding-report.ensures in
     checked _ _ _ _ _ _ _ _ _ _ _ _ _ _ _
-    c.loop-number.invariant read.line.reads read.line.keeps (ap has_newline c.in-ReadFailed.is) (ap met_end c.in-ReadFailed.is) read.ends (rw (sym c.finding_of_read-finding.ensures, c.line.ensures.line) at c.report_finding-report.ensures)
+    c.loop-number.invariant read.line.reads read.line.keeps (ap has_newline c.in-ReadFailed.is) (ap met_end c.in-ReadFailed.is) read.ends more
