@@ -9,7 +9,7 @@ use Rattle.std.proofs.lemmas.List.Splits.{length-slice_split, slice_split_at, sl
 use Rattle.std.proofs.Math.Seq.{take-append-add}
 use Rattle.std.proofs.KnownBytes.{Appends-trans, Consumes-nil, Consumes-trans}
 use Rattle.std.specs.List.{All, flat_map, slice_split}
-use Rattle.std.specs.Io.KnownBytes.{Consumes}
+use Rattle.std.specs.Io.KnownBytes.{Consumes, IsAtEnd}
 use Rattle.streams.specs.Counts.{count_after, next_count}
 use Rattle.streams.specs.Sinks.{Seen}
 use Rattle.streams.specs.Sources.{SourceSeen}
@@ -21,6 +21,7 @@ use Rattle.script.specs.declared.fault.TextFault.TheVariants.{LineTooLong}
 use Rattle.script.specs.declared.limits.TheConstants.{LONGEST_LINE}
 use Rattle.script.specs.steps.Bytes.{EndsLine, HasNoNewline, IsKept, ReadingEnds, ReadsToEnd, end_failed, has_newline, met_end}
 use Rattle.commands.specs.Checks.{count_line, count_of, report, findings, findings_from, finding_of, finding_of_rest}
+use Rattle.commands.specs.Shows.{IsWholeAt}
 use Rattle.commands.specs.Written.{IsNotWritten, WritingEnds}
 use Rattle.commands.specs.declared.check.Report.{Report}
 use Rattle.commands.specs.steps.Checking.{IsReported, ReportsMore, ReportsScript, finding_of_read}
@@ -123,17 +124,12 @@ checking_none input out unused report e written none = record {
 abbrev pub LineReadingEnds : SourceSeen → SourceSeen → List ℕ → List ℕ → LineEnd → Type 0
 LineReadingEnds old new unused left end = ReadingEnds old new unused left (met_end end) (end_failed end) (has_newline end)
 
-newline_ends : (end : LineEnd) (all line left : List ℕ) → end ≡ Newline → EndsLine end all line left → all ≡ line ++ 10 ∷ left
-newline_ends Newline all line left e h = h
-newline_ends ScriptEnd all line left e h = cc
-newline_ends ReadFailed all line left e h = cc
-
 pub checking_next : (input r1 r2 : SourceSeen) (out o1 o2 : Seen) (unused left kept : List ℕ) (n : ℕ) (before after : Report) (is_kept : Bool) (end : LineEnd)
     → Checking input r1 out o1 unused n before → (r : ReadsToEnd r1 r2 unused left end) → IsKept is_kept r.line kept → end ≡ Newline
     → LineReadingEnds r1 r2 unused left end
     → ReportsMore o1 o2 before after (finding_of_read n kept is_kept end) → Checking input r2 out o2 left (next_number n) after
 checking_next input r1 r2 out o1 o2 unused left kept n before after is_kept end s r k is reading more =
-    let all = newline_ends end (unused ++ r.bytes) r.line left is r.ends in
+    let all : unused ++ r.bytes ≡ r.line ++ 10 ∷ left = rw is at r.ends in
     let same = found_is n r.line kept is_kept end k (ap end_failed is) in
     record {
       text = s.text ++ r.bytes;
@@ -151,55 +147,42 @@ checking_next input r1 r2 out o1 o2 unused left kept n before after is_kept end 
           ∙ sym (append_assoc s.lines (finding_of_read n kept is_kept end) (findings_from failed (next_number n) (slice_split is_newline (left ++ m))));
     }
 
-end_is_all : (end : LineEnd) (all line left : List ℕ) → end ≡ ScriptEnd → EndsLine end all line left → all ≡ line
-end_is_all Newline all line left e h = cc
-end_is_all ScriptEnd all line left e h = h.0
-end_is_all ReadFailed all line left e h = cc
+-- the findings of the last line
+last_found : (end : LineEnd) (n : ℕ) (all line left kept : List ℕ) (is_kept : Bool) → has_newline end ≡ false → EndsLine end all line left → HasNoNewline line → IsKept is_kept line kept
+    → findings_from (end_failed end) n (slice_split is_newline all) ≡ finding_of_read n kept is_kept end
+last_found Newline n all line left kept is_kept last e h k = cc
+last_found ScriptEnd n all line left kept is_kept last e h k =
+    ap (λ l. findings_from false n (slice_split is_newline l)) e.0 ∙ ap (findings_from false n) (slice_split_none is_newline line (no_newlines line h))
+    ∙ append-nil (finding_of n line (parse_line line)) ∙ sym (found_is n line kept is_kept ScriptEnd k refl)
+last_found ReadFailed n all line left kept is_kept last e h k =
+    ap (λ l. findings_from true n (slice_split is_newline l)) e.0 ∙ ap (findings_from true n) (slice_split_none is_newline line (no_newlines line h))
+    ∙ sym (found_is_rest n line kept is_kept k)
 
-failed_is_all : (end : LineEnd) (all line left : List ℕ) → end ≡ ReadFailed → EndsLine end all line left → all ≡ line
-failed_is_all Newline all line left e h = cc
-failed_is_all ScriptEnd all line left e h = cc
-failed_is_all ReadFailed all line left e h = h.0
+failed_unless_whole : (end : LineEnd) → has_newline end ≡ false → end_failed end ≡ not (met_end end)
+failed_unless_whole Newline last = cc
+failed_unless_whole ScriptEnd last = refl
+failed_unless_whole ReadFailed last = refl
 
-pub checked_all : (input r1 r2 : SourceSeen) (out o1 o2 : Seen) (unused left kept : List ℕ) (n : ℕ) (before after : Report) (is_kept : Bool) (end : LineEnd)
-    → Checking input r1 out o1 unused n before → (r : ReadsToEnd r1 r2 unused left end) → IsKept is_kept r.line kept → end ≡ ScriptEnd
+whole_at : (is_whole : Bool) (seen : SourceSeen) → (is_whole ≡ true → (seen.met_end ≡ true) × IsAtEnd seen.left) → IsWholeAt is_whole seen
+whole_at true seen h = h refl
+whole_at false seen h = tt
+
+pub checked : (input r1 r2 : SourceSeen) (out o1 o2 : Seen) (unused left kept : List ℕ) (n : ℕ) (before after : Report) (is_kept is_whole : Bool) (end : LineEnd)
+    → Checking input r1 out o1 unused n before → (r : ReadsToEnd r1 r2 unused left end) → IsKept is_kept r.line kept → has_newline end ≡ false → met_end end ≡ is_whole
     → LineReadingEnds r1 r2 unused left end
-    → ReportsMore o1 o2 before after (finding_of_read n kept is_kept end) → ReportsScript input r2 out o2 true after
-checked_all input r1 r2 out o1 o2 unused left kept n before after is_kept end s r k is reading more =
-    let all = end_is_all end (unused ++ r.bytes) r.line left is r.ends in
-    let says : findings false (s.text ++ r.bytes) ≡ s.lines ++ finding_of_read n kept is_kept end =
-    s.says false r.bytes
-    ∙ ap (λ l. s.lines ++ findings_from false n (slice_split is_newline l)) all
-    ∙ ap (λ ps. s.lines ++ findings_from false n ps) (slice_split_none is_newline r.line (no_newlines r.line r.no_newline))
-    ∙ ap (λ l. s.lines ++ l) (append-nil (finding_of n r.line (parse_line r.line)) ∙ sym (found_is n r.line kept is_kept end k (ap end_failed is))) in
+    → ReportsMore o1 o2 before after (finding_of_read n kept is_kept end) → ReportsScript input r2 out o2 is_whole after
+checked input r1 r2 out o1 o2 unused left kept n before after is_kept is_whole end s r k last whole reading more =
+    let failed : end_failed end ≡ not is_whole = failed_unless_whole end last ∙ ap not whole in
+    let says : findings (not is_whole) (s.text ++ r.bytes) ≡ s.lines ++ finding_of_read n kept is_kept end =
+    s.says (not is_whole) r.bytes
+    ∙ ap (λ b. s.lines ++ findings_from b n (slice_split is_newline (unused ++ r.bytes))) (sym failed)
+    ∙ ap (λ l. s.lines ++ l) (last_found end n (unused ++ r.bytes) r.line left kept is_kept last r.ends r.no_newline k) in
     record {
       text = s.text ++ r.bytes;
       reads = record {
         read = Consumes-trans _ _ _ _ _ s.read r.read;
-        whole = (reading.ended ∙ ap (λ e. met_end e || r1.met_end) is, r.at_end (ap met_end is));
-        failures = reading.failures ∙ ap (λ e. count_after (end_failed e) r1.failures) is ∙ s.failures;
-        read_once = λ unmet. reading.past (s.met ∙ unmet) ∙ s.read_once unmet;
-      };
-      reported = subst (IsReported out o2 after) (sym says) (more out s.lines s.reported);
-    }
-
-pub checked_prefix : (input r1 r2 : SourceSeen) (out o1 o2 : Seen) (unused left kept : List ℕ) (n : ℕ) (before after : Report) (is_kept : Bool) (end : LineEnd)
-    → Checking input r1 out o1 unused n before → (r : ReadsToEnd r1 r2 unused left end) → IsKept is_kept r.line kept → end ≡ ReadFailed
-    → LineReadingEnds r1 r2 unused left end
-    → ReportsMore o1 o2 before after (finding_of_read n kept is_kept end) → ReportsScript input r2 out o2 false after
-checked_prefix input r1 r2 out o1 o2 unused left kept n before after is_kept end s r k is reading more =
-    let all = failed_is_all end (unused ++ r.bytes) r.line left is r.ends in
-    let says : findings true (s.text ++ r.bytes) ≡ s.lines ++ finding_of_read n kept is_kept end =
-    s.says true r.bytes
-    ∙ ap (λ l. s.lines ++ findings_from true n (slice_split is_newline l)) all
-    ∙ ap (λ ps. s.lines ++ findings_from true n ps) (slice_split_none is_newline r.line (no_newlines r.line r.no_newline))
-    ∙ ap (λ l. s.lines ++ l) (sym (found_is_rest n r.line kept is_kept k) ∙ ap (finding_of_read n kept is_kept) (sym is)) in
-    record {
-      text = s.text ++ r.bytes;
-      reads = record {
-        read = Consumes-trans _ _ _ _ _ s.read r.read;
-        whole = tt;
-        failures = reading.failures ∙ ap (λ e. count_after (end_failed e) r1.failures) is ∙ ap (count_after true) s.failures;
+        whole = whole_at is_whole r2 (λ e. (reading.ended ∙ ap (λ b. b || r1.met_end) (whole ∙ e), r.at_end (whole ∙ e)));
+        failures = reading.failures ∙ ap (λ b. count_after b r1.failures) failed ∙ ap (count_after (not is_whole)) s.failures;
         read_once = λ unmet. reading.past (s.met ∙ unmet) ∙ s.read_once unmet;
       };
       reported = subst (IsReported out o2 after) (sym says) (more out s.lines s.reported);

@@ -6,14 +6,10 @@ pub mod JobLemmas
 pub mod KeptRows
 -- A text is written piece by piece; for `print`, `put`, `put_lines` and others
 pub mod PutLemmas
--- A text with its bytes escaped is written piece by piece; for `put_escaped`
-pub mod EscapeLemmas
 -- Where clap refuses nothing of the words, the subcommand at which its walk stops is one of the program's; for `TakenLemmas`
 pub mod KindIsNamed
 -- Where clap refuses nothing of the words, they name a subcommand and give both numbers; for `job`
 pub mod TakenLemmas
--- The text of a rendition, put together piece by piece; for `append_rendition`
-pub mod PrintLemmas
 -- The text of a picture around one of its lines; for `put_lines`
 pub mod PictureTexts
 -- A stream is read into a terminal piece by piece; for `read_stream`

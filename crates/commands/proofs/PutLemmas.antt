@@ -1,5 +1,5 @@
 -- A text is written piece by piece.
-use Rattle.std.proofs.Common.{◌≡◌, ◌+◌, ◌≤◌, ℕ, Bool, true, false, not, List, [], ◌++◌, length, take, drop, Result, Ok, Err, refl, sym, ap, ap₂, ◌∙◌, arith, append_assoc}
+use Rattle.std.proofs.Common.{◌≡◌, ◌+◌, ℕ, Bool, true, false, not, List, [], ◌++◌, length, take, drop, Result, Ok, Err, refl, sym, ap, subst, ◌∙◌, arith, append_assoc}
 use Rattle.std.proofs.Common.{take-append-drop, length-append}
 use Rattle.std.proofs.lemmas.List.{take-append-le}
 use Rattle.std.proofs.Math.Seq.{take-append-add, take-length}
@@ -13,71 +13,6 @@ use Rattle.streams.specs.Sending.{Sends}
 use Rattle.streams.specs.declared.sending.WriteFault.{WriteFault}
 use Rattle.commands.specs.Written.{IsNotWritten, TakesPrefix, WritingEnds}
 use Rattle.commands.specs.steps.Putting.{PuttingEnds}
-
--- a prefix of a text was written, and the rest wasn't yet
-pub record IsPartlyPut (old new : Seen) (text rest : List ℕ) : Type 0 where
-  pub prefix : List ℕ
-  pub whole : text ≡ prefix ++ rest
-  pub taken : Appends old.taken new.taken prefix
-  pub failures : new.failures ≡ old.failures
-  pub flushes : new.flushes ≡ old.flushes
-
-cut_rest : (rest piece after : List ℕ) (at : ℕ) → piece ≡ take at rest → after ≡ drop at rest → rest ≡ piece ++ after
-cut_rest rest piece after at prefix back = sym (ap₂ ◌++◌ prefix back ∙ take-append-drop at rest)
-
-pub more_put : (old mid new : Seen) (text rest piece after : List ℕ) (at n : ℕ) → IsPartlyPut old mid text rest → Sends mid new 0 piece (Ok n)
-    → piece ≡ take at rest → after ≡ drop at rest → IsPartlyPut old new text after
-more_put old mid new text rest piece after at n p s prefix back = record {
-  prefix = p.prefix ++ piece;
-  whole = p.whole ∙ ap (λ l. p.prefix ++ l) (cut_rest rest piece after at prefix back) ∙ sym (append_assoc p.prefix piece after);
-  taken = Appends-trans _ _ _ _ _ p.taken s.ends.1;
-  failures = s.ends.2 ∙ p.failures;
-  flushes = s.flushes ∙ p.flushes;
-}
-
--- a write failed
-pub cut_put : (old mid new : Seen) (text rest piece after : List ℕ) (at : ℕ) (fault : WriteFault) → IsPartlyPut old mid text rest → Sends mid new 0 piece (Err fault)
-    → piece ≡ take at rest → after ≡ drop at rest → PuttingEnds false old new text
-cut_put old mid new text rest piece after at fault p s prefix back =
-    let whole : text ≡ p.prefix ++ (piece ++ after) = p.whole ∙ ap (λ l. p.prefix ++ l) (cut_rest rest piece after at prefix back) in
-    let short : s.ends.0 ≤ length piece = omega (arith, s.ends.1) in
-    let taken : take (length p.prefix + s.ends.0) text ≡ p.prefix ++ take s.ends.0 piece = grind (arith, whole, take-append-add, take-append-le) in
-    record {
-      taken = λ e. cc;
-      cut = grind (arith, whole, length-append, taken, Appends-trans);
-      flushes = s.flushes ∙ p.flushes;
-      failures = s.ends.4 ∙ ap next_count p.failures;
-    }
-
--- ---- a text, and a flush after it
-
-pub not_put : (old new : Seen) (text : List ℕ) (is_put : Bool) → PuttingEnds is_put old new text → is_put ≡ false → IsNotWritten old new text
-not_put old new text is_put p is =
-    let prefix = p.cut is in
-    record {
-      sent = prefix.sent;
-      within = omega (arith, prefix.within);
-      taken = prefix.taken;
-      failure = p.failures ∙ ap (λ b. count_after (not b) old.failures) is;
-      flushes = p.flushes ∙ sym (cut-unflushed prefix.sent text old.flushes prefix.within);
-    }
-
-pub flushed_after : {T E : Type 0} (old mid new : Seen) (text : List ℕ) (is_put : Bool) (r : Result T E) → PuttingEnds is_put old mid text → is_put ≡ true
-    → Keeps mid.taken new.taken → new.failures ≡ count_after (is_err r) mid.failures → new.flushes ≡ next_count mid.flushes
-    → new.flushed ≡ flushed_after_flush mid.flushed r → WritingEnds (is_ok r) old new text
-flushed_after old mid new text is_put (Ok x) p is kept failure flush flushed = record {
-  taken = Appends-keeps old.taken mid.taken new.taken text (p.taken is) kept;
-  no_failure = failure ∙ p.failures ∙ ap (λ b. count_after (not b) old.failures) is;
-  flushes = flush ∙ ap next_count p.flushes;
-  flushed = flushed;
-}
-flushed_after old mid new text is_put (Err e) p is kept failure flush flushed = record {
-  sent = length text;
-  within = omega arith;
-  taken = rw (take-length text) (Appends-keeps old.taken mid.taken new.taken text (p.taken is) kept);
-  failure = failure ∙ ap next_count (p.failures ∙ ap (λ b. count_after (not b) old.failures) is);
-  flushes = flush ∙ ap next_count p.flushes ∙ sym (whole-flushed (length text) text old.flushes refl);
-}
 
 -- ---- one of several texts
 
@@ -115,4 +50,74 @@ cut_before old new text after is_put p is = record {
   cut = λ e. prefix_of _ _ _ _ (p.cut is);
   flushes = p.flushes;
   failures = p.failures ∙ ap (λ b. count_after (not b) old.failures) is;
+}
+
+-- ---- a text, piece by piece
+
+pub sent_piece : (old new : Seen) (piece : List ℕ) (r : Result ℕ WriteFault) → Sends old new 0 piece r → PuttingEnds (is_ok r) old new piece
+sent_piece old new piece (Ok n) s = record { taken = λ e. s.ends.1; cut = λ e. cc; flushes = s.flushes; failures = s.ends.2 }
+sent_piece old new piece (Err fault) s = record {
+  taken = λ e. cc;
+  cut = λ e. record { sent = s.ends.0; within = omega (arith, s.ends.1); taken = s.ends.3 };
+  flushes = s.flushes;
+  failures = s.ends.4;
+}
+
+-- A prefix of a text was written, in the form that bytes are written in, and the rest wasn't yet.
+pub record IsPartlyPut (form : List ℕ → List ℕ) (old new : Seen) (text rest : List ℕ) : Type 0 where
+  pub prefix : List ℕ
+  pub whole : text ≡ prefix ++ rest
+  pub put : PuttingEnds true old new (form prefix)
+
+through : (text prefix rest piece after : List ℕ) (at : ℕ) → text ≡ prefix ++ rest → piece ≡ take at rest → after ≡ drop at rest → text ≡ (prefix ++ piece) ++ after
+through text prefix rest piece after at whole is rest_is = grind (arith, whole, take-append-drop, append_assoc)
+
+module _ (form : List ℕ → List ℕ) (joins : (a b : List ℕ) → form (a ++ b) ≡ form a ++ form b) where
+  piece_put : (old mid new : Seen) (text rest piece : List ℕ) (written : Bool) (p : IsPartlyPut form old mid text rest) → PuttingEnds written mid new (form piece)
+      → PuttingEnds written old new (form (p.prefix ++ piece))
+  piece_put old mid new text rest piece written p h = rw (joins p.prefix piece) (put_after _ _ _ _ _ true written p.put refl h)
+
+  pub more_put : (old mid new : Seen) (text rest piece after : List ℕ) (at : ℕ) (written : Bool) → IsPartlyPut form old mid text rest → PuttingEnds written mid new (form piece)
+      → written ≡ true → piece ≡ take at rest → after ≡ drop at rest → IsPartlyPut form old new text after
+  more_put old mid new text rest piece after at written p h is prefix back = record {
+    prefix = p.prefix ++ piece;
+    whole = through text p.prefix rest piece after at p.whole prefix back;
+    put = subst (λ w. PuttingEnds w old new (form (p.prefix ++ piece))) is (piece_put old mid new text rest piece written p h);
+  }
+
+  -- a write failed
+  pub cut_put : (old mid new : Seen) (text rest piece after : List ℕ) (at : ℕ) (written : Bool) → IsPartlyPut form old mid text rest → PuttingEnds written mid new (form piece)
+      → written ≡ false → piece ≡ take at rest → after ≡ drop at rest → PuttingEnds false old new (form text)
+  cut_put old mid new text rest piece after at written p h is prefix back =
+      let cut = cut_before old new (form (p.prefix ++ piece)) (form after) written (piece_put old mid new text rest piece written p h) is in
+      subst (PuttingEnds false old new) (sym (ap form (through text p.prefix rest piece after at p.whole prefix back) ∙ joins (p.prefix ++ piece) after)) cut
+
+-- ---- a text, and a flush after it
+
+pub not_put : (old new : Seen) (text : List ℕ) (is_put : Bool) → PuttingEnds is_put old new text → is_put ≡ false → IsNotWritten old new text
+not_put old new text is_put p is =
+    let prefix = p.cut is in
+    record {
+      sent = prefix.sent;
+      within = omega (arith, prefix.within);
+      taken = prefix.taken;
+      failure = p.failures ∙ ap (λ b. count_after (not b) old.failures) is;
+      flushes = p.flushes ∙ sym (cut-unflushed prefix.sent text old.flushes prefix.within);
+    }
+
+pub flushed_after : {T E : Type 0} (old mid new : Seen) (text : List ℕ) (is_put : Bool) (r : Result T E) → PuttingEnds is_put old mid text → is_put ≡ true
+    → Keeps mid.taken new.taken → new.failures ≡ count_after (is_err r) mid.failures → new.flushes ≡ next_count mid.flushes
+    → new.flushed ≡ flushed_after_flush mid.flushed r → WritingEnds (is_ok r) old new text
+flushed_after old mid new text is_put (Ok x) p is kept failure flush flushed = record {
+  taken = Appends-keeps old.taken mid.taken new.taken text (p.taken is) kept;
+  no_failure = failure ∙ p.failures ∙ ap (λ b. count_after (not b) old.failures) is;
+  flushes = flush ∙ ap next_count p.flushes;
+  flushed = flushed;
+}
+flushed_after old mid new text is_put (Err e) p is kept failure flush flushed = record {
+  sent = length text;
+  within = omega arith;
+  taken = rw (take-length text) (Appends-keeps old.taken mid.taken new.taken text (p.taken is) kept);
+  failure = failure ∙ ap next_count (p.failures ∙ ap (λ b. count_after (not b) old.failures) is);
+  flushes = flush ∙ ap next_count p.flushes ∙ sym (whole-flushed (length text) text old.flushes refl);
 }

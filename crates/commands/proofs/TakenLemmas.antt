@@ -179,16 +179,9 @@ job_named words t = (
 )
 
 -- such words ask for something
-is_asked : (words : List Text) → IsTaken words → ((job : Job) × AsksIn (subcommand_of curspan words) job) ⊎ AsksCheckIn (subcommand_of curspan words)
-is_asked words none = go (taken words none)
-  where
-    go : NamesOne words → ((job : Job) × AsksIn (subcommand_of curspan words) job) ⊎ AsksCheckIn (subcommand_of curspan words)
-    go (inl t) = inl (job_named words t)
-    go (inr check) = inr check
-
 pub nothing_else : (words : List Text) → IsTaken words → ((job : Job) → AsksIn (subcommand_of curspan words) job → ⊥) → (AsksCheckIn (subcommand_of curspan words) → ⊥) → ⊥
-nothing_else words none no_job no_check = go (is_asked words none)
+nothing_else words none no_job no_check = go (taken words none)
   where
-    go : ((job : Job) × AsksIn (subcommand_of curspan words) job) ⊎ AsksCheckIn (subcommand_of curspan words) → ⊥
-    go (inl asked) = no_job asked.0 asked.1
+    go : NamesOne words → ⊥
+    go (inl t) = let asked = job_named words t in no_job asked.0 asked.1
     go (inr check) = no_check check

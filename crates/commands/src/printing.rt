@@ -184,25 +184,7 @@ fn put_lines<O: Sink>(out: &mut O, picture: &Grid<Shown>, lines: u16) -> bool
     true
 }
 
-/// Prints a picture of so many lines, the cursor and the rendition, and answers whether all went out. Nothing is flushed.
-fn put_picture<O: Sink>(
-    out: &mut O,
-    picture: &Grid<Shown>,
-    lines: u16,
-    cursor: Option<(u16, u16)>,
-    rendition: Rendition,
-) -> bool
-    requires lines { length picture.now ≡ lines }
-    requires columns { All (λ line. length line ≤ LARGEST_SCREEN) picture.now }
-    ensures { PuttingEnds result (O.seen out.old) (O.seen out.new) (printed_picture picture.now cursor rendition) }
-{
-    if !put_lines(out, picture, lines) {
-        return false;
-    }
-    put(out, ending(cursor, rendition).as_slice())
-}
-
-/// Prints a picture as `put_picture` does and flushes, and answers whether all of it went out.
+/// Prints a picture of so many lines, the cursor and the rendition, and flushes; it answers whether all of it went out.
 pub fn print<O: Sink>(
     out: &mut O,
     picture: &Grid<Shown>,
@@ -214,7 +196,10 @@ pub fn print<O: Sink>(
     requires columns { All (λ line. length line ≤ LARGEST_SCREEN) picture.now }
     ensures { WritingEnds result (O.seen out.old) (O.seen out.new) (printed_picture picture.now cursor rendition) }
 {
-    if !put_picture(out, picture, lines, cursor, rendition) {
+    if !put_lines(out, picture, lines) {
+        return false;
+    }
+    if !put(out, ending(cursor, rendition).as_slice()) {
         return false;
     }
     out.flush().is_ok()

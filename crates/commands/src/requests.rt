@@ -1,7 +1,7 @@
 //! What a command line asks for.
 
 /// The subcommand.
-#[derive(Clone, Copy, PartialEq, Eq, Debug)]
+#[derive(Clone, Copy)]
 pub enum Kind {
     /// Runs a script.
     Run,
@@ -12,7 +12,7 @@ pub enum Kind {
 }
 
 /// What is asked for.
-#[derive(Clone, Copy, PartialEq, Eq, Debug)]
+#[derive(Clone, Copy)]
 pub enum Request {
     /// A job on a screen.
     Job(Job),
@@ -21,7 +21,7 @@ pub enum Request {
 }
 
 /// What is asked for, on a screen of that many lines and columns.
-#[derive(Clone, Copy, PartialEq, Eq, Debug)]
+#[derive(Clone, Copy)]
 pub struct Job {
     pub kind: Kind,
     pub lines: u16,

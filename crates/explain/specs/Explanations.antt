@@ -24,12 +24,13 @@ count_text n = decimal n ++ (if n == 1 then codes " argument" else codes " argum
 abbrev pub ill_formed_text : List ℕ → IllFormed → List ℕ
 ill_formed_text word ill = word ++ codes " wants " ++ requirement ill.form ++ codes ", not " ++ quotation ill.argument ++ reason ill.form ill.argument
 
--- what is said of a bad byte, of a word that is no call, and of a wrong number of arguments
+-- what is said of a bad byte, of a word that is no call (of no word, since the line begins with a space), and of a wrong number of arguments
 abbrev pub bad_byte_text : ℕ → List ℕ
 bad_byte_text byte = codes "bad byte " ++ hex_digits byte ++ codes ": " ++ byte_advice byte
 
 abbrev pub unknown_text : List ℕ → List ℕ
-unknown_text word = codes "unknown call " ++ quotation word ++ call_advice word
+unknown_text word = if length word == 0 then codes "the line begins with a space, and not with a call"
+    else codes "unknown call " ++ quotation word ++ call_advice word
 
 abbrev pub number_text : List ℕ → ℕ → ℕ → List ℕ
 number_text word taken given = word ++ codes " takes " ++ count_text taken ++ codes ", " ++ decimal given ++ codes " given"

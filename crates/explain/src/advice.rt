@@ -6,7 +6,7 @@ ghost use Rattle.explain.specs.Advice.{advice_on, advice_text, call_after_prefix
 use script::Word;
 
 /// What is said of a name of curses.
-#[derive(Clone, Copy, Debug, PartialEq, Eq)]
+#[derive(Clone, Copy)]
 pub enum Advice {
     Refresh,
     PadRefresh,

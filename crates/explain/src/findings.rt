@@ -103,13 +103,16 @@ fn append_advice(text: &mut Finding, word: &[u8])
     }
 }
 
-/// Appends what is said of a word that is no call.
+/// Appends what is said of a word that is no call. It is empty where a line begins with a space.
 fn append_unknown(text: &mut Finding, word: &[u8])
     requires room { length text.old.items ≤ 64 }
     requires word { length word.now ≤ LONGEST_LINE }
     ensures text { text.new.items ≡ text.old.items ++ unknown_text word.now }
     ensures short { length text.new.items < FINDING_ROOM }
 {
+    if word.is_empty() {
+        return append(text, b"the line begins with a space, and not with a call");
+    }
     append(text, b"unknown call ");
     append_quoted(text, word);
     append_advice(text, word);

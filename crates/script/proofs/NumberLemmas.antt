@@ -73,9 +73,6 @@ later_by text count false early digits below here =
     let none = below_more (λ k. is_space (get_or text k 0) ≡ false) count (λ k h. no_space_before text count k digits (omega arith) h) here at (omega arith) in
     absurd (cc)
 
-not_plain : (most : ℕ) (piece : List ℕ) → is_plain_number piece ≡ false → number_up_to most piece ≡ None
-not_plain most piece h = rw h refl
-
 -- a piece that goes on after its first digits, or is too long
 no_plain : (piece : List ℕ) (count : ℕ) (b : Bool) → nat_lt count MOST_DIGITS ≡ b → count ≤ MOST_DIGITS → count < length piece
     → (count < MOST_DIGITS → is_ascii_digit (get_or piece count 0) ≡ false) → is_plain_number piece ≡ false
@@ -92,4 +89,5 @@ no_number most text count digits below here few stops =
     let later : count < at = later_by text count (nat_lt count at) refl digits below here in
     let long : count < length (before_first is_space text) = omega (arith, length-take at text) in
     let other = λ (h : count < MOST_DIGITS). ap is_ascii_digit (get_or-take at text count 0 later) ∙ stops h in
-    (before_first is_space text, first.0, first.1, not_plain most (before_first is_space text) (no_plain (before_first is_space text) count (nat_lt count MOST_DIGITS) refl few long other))
+    let plain = no_plain (before_first is_space text) count (nat_lt count MOST_DIGITS) refl few long other in
+    (before_first is_space text, first.0, first.1, rw plain refl)

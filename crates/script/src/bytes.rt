@@ -2,7 +2,7 @@
 
 ghost use Rattle.std.specs.Prelude.{◌≡◌, ◌≤◌, ◌<◌, ◌+◌, ◌∷◌, ℕ, [], length, slice_index, take, drop, position, IfSome, true, false};
 ghost use Rattle.script.specs.Characters.{is_newline};
-ghost use Rattle.script.specs.steps.Bytes.{ReadingEnds, ReadsByte, ReadsLine, ReadsToEnd, ReadsWhole, byte_ended, byte_failed, end_failed, goes_on, has_newline, is_byte, line_ended, line_failed, met_end};
+ghost use Rattle.script.specs.steps.Bytes.{ReadingEnds, ReadsByte, ReadsLine, ReadsWhole, byte_ended, byte_failed, end_failed, goes_on, has_newline, is_byte, line_ended, line_failed, met_end};
 
 use crate::limits::LONGEST_LINE;
 use arrayvec::ArrayVec;
@@ -14,7 +14,7 @@ use streams::Source;
 const LONGEST_PIECE: usize = 512;
 
 /// What comes next of a script.
-#[derive(Clone, Copy, Debug)]
+#[derive(Clone, Copy)]
 enum Next {
     Byte(u8),
     End,
@@ -22,7 +22,7 @@ enum Next {
 }
 
 /// What follows a line.
-#[derive(Clone, Copy, Debug, PartialEq, Eq)]
+#[derive(Clone, Copy, PartialEq, Eq)]
 pub enum LineEnd {
     Newline,
     /// The script ends.
@@ -188,24 +188,6 @@ impl Bytes {
             }
         }
     }
-
-    /// Leaves out the bytes up to the next newline.
-    fn skip_line<R: Source>(&mut self, source: &mut R) -> LineEnd
-        ensures line { ReadsToEnd (R.seen source.old) (R.seen source.new) self.old self.new result }
-        ensures ends { ReadingEnds (R.seen source.old) (R.seen source.new) self.old self.new (met_end result) (end_failed result) (has_newline result) }
-    {
-        loop {
-            match self.next(source) {
-                Next::Byte(byte) => {
-                    if byte == b'\n' {
-                        return LineEnd::Newline;
-                    }
-                }
-                Next::End => return LineEnd::ScriptEnd,
-                Next::Failed => return LineEnd::ReadFailed,
-            }
-        }
-    }
 }
 
 /// The lines of a script, one after another. A line that is whole in one piece, its newline too, is read there, and not copied.
@@ -276,17 +258,6 @@ impl Lines {
         }
     }
 
-    /// Leaves out the bytes up to the next newline.
-    fn skip_line<R: Source>(&mut self, source: &mut R) -> LineEnd
-        ensures line { ReadsToEnd (R.seen source.old) (R.seen source.new) self.old.unused self.new.unused result }
-        ensures ends { ReadingEnds (R.seen source.old) (R.seen source.new) self.old.unused self.new.unused
-            (met_end result) (end_failed result) (has_newline result) }
-    {
-        self.bytes.leave_out(self.used);
-        self.used = 0;
-        self.bytes.skip_line(source)
-    }
-
     /// Reads the bytes up to the next newline, where they are no more than a line may have; else they are left out. It
     /// answers what follows them, and whether they were kept. Where the end is met, nothing is read after it.
     pub fn next_whole_line<R: Source>(&mut self, source: &mut R) -> (LineEnd, bool)
@@ -294,9 +265,12 @@ impl Lines {
         ensures ends { ReadingEnds (R.seen source.old) (R.seen source.new) self.old.unused self.new.unused
             (met_end result.0) (end_failed result.0) (has_newline result.0) }
     {
-        match self.next_line(source) {
-            Some(end) => (end, true),
-            None => (self.skip_line(source), false),
+        let mut is_kept = true;
+        loop {
+            match self.next_line(source) {
+                Some(end) => return (end, is_kept),
+                None => is_kept = false,
+            }
         }
     }
 }

@@ -24,7 +24,7 @@ use world::Call;
 pub use writing::WritingWord;
 
 /// The form of an argument.
-#[derive(Clone, Copy, Debug, PartialEq, Eq)]
+#[derive(Clone, Copy)]
 pub enum Form {
     /// A number up to the greatest.
     Number,
@@ -43,7 +43,7 @@ pub enum Form {
 }
 
 /// A call by its script word, in the group that it is in.
-#[derive(Clone, Copy, Debug, PartialEq, Eq)]
+#[derive(Clone, Copy)]
 pub enum Word {
     Making(MakingWord),
     Writing(WritingWord),

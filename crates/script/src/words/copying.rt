@@ -11,7 +11,7 @@ use world::{Call, Copying};
 
 /// A call that copies cells or is on what is touched, by its word.
 #[rattlefmt::skip]
-#[derive(Clone, Copy, Debug, PartialEq, Eq)]
+#[derive(Clone, Copy)]
 pub enum CopyingWord {
     Overlay, Overwrite, Copywin, Touchwin, Untouchwin, Touchline, Touchln, Syncup, Syncdown, IsLinetouched,
     IsWintouched,

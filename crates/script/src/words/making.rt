@@ -11,7 +11,7 @@ use world::{Call, Making};
 
 /// A call that makes windows or pads, deletes them or places them, by its word.
 #[rattlefmt::skip]
-#[derive(Clone, Copy, Debug, PartialEq, Eq)]
+#[derive(Clone, Copy)]
 pub enum MakingWord {
     Newwin, Subwin, Derwin, Newpad, Subpad, Delwin, Mvwin, Mvderwin,
 }

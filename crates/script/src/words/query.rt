@@ -11,7 +11,7 @@ use world::{Call, Query};
 
 /// A call that asks about a window or pad, by its word.
 #[rattlefmt::skip]
-#[derive(Clone, Copy, Debug, PartialEq, Eq)]
+#[derive(Clone, Copy)]
 pub enum QueryWord {
     Getyx, Getbegyx, Getmaxyx, Getparyx, Inch,
 }

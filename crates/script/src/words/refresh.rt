@@ -11,7 +11,7 @@ use world::{Call, Refresh};
 
 /// A call that refreshes or sets the colours of a pair, by its word.
 #[rattlefmt::skip]
-#[derive(Clone, Copy, Debug, PartialEq, Eq)]
+#[derive(Clone, Copy)]
 pub enum RefreshWord {
     Noutrefresh, Pnoutrefresh, UpdatePanels, Doupdate, InitPair,
 }

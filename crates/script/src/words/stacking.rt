@@ -11,7 +11,7 @@ use world::{Call, PanelId, Stacking};
 
 /// A call on panels, by its word.
 #[rattlefmt::skip]
-#[derive(Clone, Copy, Debug, PartialEq, Eq)]
+#[derive(Clone, Copy)]
 pub enum StackingWord {
     NewPanel, DelPanel, ShowPanel, HidePanel, TopPanel, BottomPanel, MovePanel, ReplacePanel, PanelAbove, PanelBelow,
     PanelWindow, PanelHidden,

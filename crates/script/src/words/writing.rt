@@ -11,7 +11,7 @@ use world::{Call, Writing};
 
 /// A call that writes, or sets how a window is written in, by its word.
 #[rattlefmt::skip]
-#[derive(Clone, Copy, Debug, PartialEq, Eq)]
+#[derive(Clone, Copy)]
 pub enum WritingWord {
     Move, Addch, Addstr, Insch, Delch, Insertln, Deleteln, Erase, Clear, Clrtoeol, Clrtobot, Scrl, Setscrreg, Scrollok,
     Clearok, Attrset, Attron, Attroff, Bkgdset, ColorSet, Bkgdpair,

@@ -1,7 +1,7 @@
 -- `report_lines`: the findings of a script, a line at a time (`CheckLemmas`).
 use Rattle.std.proofs.Common.{ap, refl, sym}
-use Rattle.script.specs.steps.Bytes.{Held}
-use Rattle.commands.proofs.CheckLemmas.{checked_all, checked_prefix, checking_next, checking_none}
+use Rattle.script.specs.steps.Bytes.{Held, has_newline, met_end}
+use Rattle.commands.proofs.CheckLemmas.{checked, checking_next, checking_none}
 use Rattle.commands.proofs.check.report_lines.Goals as goal
 
 pub loop-number-init : goal.loop-number-init
@@ -16,11 +16,13 @@ loop-number-preserved g c =
 pub returns-in-ScriptEnd : goal.returns-in-ScriptEnd
 returns-in-ScriptEnd g c =
     let read = c.next_whole_line-end.ensures in
-    checked_all _ _ _ _ _ _ _ _ _ _ _ _ _ _
-    c.loop-number.invariant read.line.reads read.line.keeps c.in-ScriptEnd.is read.ends (rw (sym c.finding_of_read-finding.ensures, c.line.ensures.line) at c.report_finding-report.ensures)
+    let more = rw (sym c.finding_of_read-finding.ensures, c.line.ensures.line) at c.report_finding-report.ensures in
+    checked _ _ _ _ _ _ _ _ _ _ _ _ _ _ _
+    c.loop-number.invariant read.line.reads read.line.keeps (ap has_newline c.in-ScriptEnd.is) (ap met_end c.in-ScriptEnd.is) read.ends more
 
 pub returns-in-ReadFailed : goal.returns-in-ReadFailed
 returns-in-ReadFailed g c =
     let read = c.next_whole_line-end.ensures in
-    checked_prefix _ _ _ _ _ _ _ _ _ _ _ _ _ _
-    c.loop-number.invariant read.line.reads read.line.keeps c.in-ReadFailed.is read.ends (rw (sym c.finding_of_read-finding.ensures, c.line.ensures.line) at c.report_finding-report.ensures)
+    let more = rw (sym c.finding_of_read-finding.ensures, c.line.ensures.line) at c.report_finding-report.ensures in
+    checked _ _ _ _ _ _ _ _ _ _ _ _ _ _ _
+    c.loop-number.invariant read.line.reads read.line.keeps (ap has_newline c.in-ReadFailed.is) (ap met_end c.in-ReadFailed.is) read.ends more

@@ -1,9 +1,10 @@
 use Rattle.std.proofs.Common.{length}
-use Rattle.commands.proofs.EscapeLemmas.{IsPartlyEscaped}
+use Rattle.commands.specs.Escapes.{escaped_text}
+use Rattle.commands.proofs.PutLemmas.{IsPartlyPut}
 use Rattle.commands.proofs.escapes.put_escaped.Given as goal
 
 abbrev pub invariant-loop-rest : goal.invariant-loop-rest
-invariant-loop-rest g l = IsPartlyEscaped (g.W.Sink.seen l.fn.sink) (g.W.Sink.seen l.sink) l.text l.rest
+invariant-loop-rest g l = IsPartlyPut escaped_text (g.W.Sink.seen l.fn.sink) (g.W.Sink.seen l.sink) l.text l.rest
 
 abbrev pub decreases-loop-rest : goal.decreases-loop-rest
 decreases-loop-rest g l = length l.rest

@@ -1,5 +1,5 @@
-use Rattle.script.proofs.WordLaws.{word_read}
+use Rattle.script.proofs.WordLaws.{found_both_ways}
 use Rattle.script.proofs.laws.each_word_is_read.Goals as goal
 
 pub returns : goal.returns
-returns c = word_read
+returns c = λ word. (found_both_ways word).0

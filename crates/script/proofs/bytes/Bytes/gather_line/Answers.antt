@@ -1,6 +1,6 @@
 -- The bytes before the newline are the line, up to the greatest length.
 use Rattle.std.proofs.Common.{◌<◌, length, arith}
-use Rattle.script.proofs.ByteLemmas.{ends_then, gathered_failed, gathered_last, gathered_line, gathered_more, gathered_none, gathered_too_long, more_read, none_read, not_newline, full_line}
+use Rattle.script.proofs.ByteLemmas.{gathered_failed, gathered_last, gathered_line, gathered_more, gathered_none, gathered_too_long, more_read, none_read, not_newline, full_line}
 use Rattle.script.proofs.ByteLemmas.{room_left}
 use Rattle.script.specs.declared.limits.TheConstants.{LONGEST_LINE}
 use Rattle.script.proofs.bytes.Bytes.gather_line.Goals as goal
@@ -12,15 +12,9 @@ pub returns-then-byte-eq10-clause-line : goal.returns-then-byte-eq10-clause-line
 returns-then-byte-eq10-clause-line g c =
     gathered_line _ _ _ _ _ _ _ _ c.loop-byte.invariant.gathered c.in-Byte.ensures.byte c.if-byte-eq10.true c.loop-byte.invariant.short
 
-pub returns-then-byte-eq10-clause-ends : goal.returns-then-byte-eq10-clause-ends
-returns-then-byte-eq10-clause-ends g c = ends_then _ _ _ _ _ _ _ _ _ c.loop-byte.invariant.reads_on c.in-Byte.ensures.ends
-
 pub returns-then-is_full-clause-line : goal.returns-then-is_full-clause-line
 returns-then-is_full-clause-line g c =
     gathered_too_long _ _ _ _ _ _ _ _ c.loop-byte.invariant.gathered c.in-Byte.ensures.byte (not_newline _ c.if-byte-eq10.false) (full_line _ c.if-is_full.ensures.value)
-
-pub returns-then-is_full-clause-ends : goal.returns-then-is_full-clause-ends
-returns-then-is_full-clause-ends g c = ends_then _ _ _ _ _ _ _ _ _ c.loop-byte.invariant.reads_on c.in-Byte.ensures.ends
 
 pub loop-byte-preserved : goal.loop-byte-preserved
 loop-byte-preserved g c =
@@ -34,11 +28,5 @@ loop-byte-preserved g c =
 pub returns-in-End-clause-line : goal.returns-in-End-clause-line
 returns-in-End-clause-line g c = gathered_last _ _ _ _ _ _ _ c.loop-byte.invariant.gathered c.in-End.ensures.byte c.loop-byte.invariant.short
 
-pub returns-in-End-clause-ends : goal.returns-in-End-clause-ends
-returns-in-End-clause-ends g c = ends_then _ _ _ _ _ _ _ _ _ c.loop-byte.invariant.reads_on c.in-End.ensures.ends
-
 pub returns-in-Failed-clause-line : goal.returns-in-Failed-clause-line
 returns-in-Failed-clause-line g c = gathered_failed _ _ _ _ _ _ _ c.loop-byte.invariant.gathered c.in-Failed.ensures.byte c.loop-byte.invariant.short
-
-pub returns-in-Failed-clause-ends : goal.returns-in-Failed-clause-ends
-returns-in-Failed-clause-ends g c = ends_then _ _ _ _ _ _ _ _ _ c.loop-byte.invariant.reads_on c.in-Failed.ensures.ends

@@ -1,12 +1,18 @@
--- A line that is kept is the one that was read.
-use Rattle.script.proofs.ByteLemmas.{ends_then, kept, left_out, more_read, none_read}
+-- What is left out of a line that is too long is a beginning of it, which has no newline.
+use Rattle.script.proofs.ByteLemmas.{ends_then, more_read, none_read, passed_end, passed_more, passed_none}
 use Rattle.script.proofs.bytes.Lines.next_whole_line.Goals as goal
 
+pub loop-end-init : goal.loop-end-init
+loop-end-init g c = record { passed = passed_none _ _; reads_on = none_read _ _ }
+
 pub returns-in-Some-clause-line : goal.returns-in-Some-clause-line
-returns-in-Some-clause-line g c = kept _ _ _ _ _ _ c.in-Some.ensures.line
+returns-in-Some-clause-line g c = passed_end _ _ _ _ _ _ _ _ _ c.loop-end.invariant.passed c.in-Some.ensures.line
 
-pub returns-in-None-clause-line : goal.returns-in-None-clause-line
-returns-in-None-clause-line g c = left_out _ _ _ _ _ _ _ _ _ c.in-None.ensures.line c.skip_line.ensures.line
+pub returns-in-Some-clause-ends : goal.returns-in-Some-clause-ends
+returns-in-Some-clause-ends g c = ends_then _ _ _ _ _ _ _ _ _ c.loop-end.invariant.reads_on c.in-Some.ensures.ends
 
-pub returns-in-None-clause-ends : goal.returns-in-None-clause-ends
-returns-in-None-clause-ends g c = ends_then _ _ _ _ _ _ _ _ _ (more_read _ _ _ _ _ _ (none_read _ _) c.in-None.ensures.ends) c.skip_line.ensures.ends
+pub loop-end-preserved : goal.loop-end-preserved
+loop-end-preserved g c = record {
+  passed = passed_more _ _ _ _ _ _ _ _ c.loop-end.invariant.passed c.in-None.ensures.line;
+  reads_on = more_read _ _ _ _ _ _ c.loop-end.invariant.reads_on c.in-None.ensures.ends;
+}
