@@ -19,7 +19,7 @@ use Rattle.ecma.proofs.Leading.{Leads-nothing}
 use Rattle.ecma.proofs.Sizes.{size-effects}
 use Rattle.streams.specs.Counts.{count_after}
 use Rattle.streams.specs.Sinks.{Seen}
-use Rattle.paint.specs.Updates.{Agrees, PainterState}
+use Rattle.paint.specs.Updates.{Agrees, PainterState, ShownPicture}
 use Rattle.streams.specs.declared.sending.WriteFault.{WriteFault}
 use Rattle.paint.proofs.Repair.{Agrees-update, Agrees-fault, IsKnown, reads-known}
 use Rattle.desk.proofs.MakesLemmas.{Makes-nothing, Makes-one}
@@ -31,7 +31,7 @@ use Rattle.compose.specs.Desks.{DeskTable, world}
 use Rattle.desk.specs.Ends.{CallEnds, IsCut, Makes, RunEnds, Stops, cut_of}
 use Rattle.desk.specs.Methods.{CallMade}
 use Rattle.desk.specs.States.{state_of}
-use Rattle.desk.specs.Showing.{EndsInDoupdate, EndsInUpdate, ShowsWorld, RunShows, showing_virtual}
+use Rattle.desk.specs.Showing.{EndsInDoupdate, EndsInUpdate, ShowsWorld, RunShows}
 use Rattle.world.specs.declared.call.Call.{Call}
 use Rattle.world.specs.declared.call.Call.TheVariants as calls
 use Rattle.world.specs.declared.call.Refresh.TheVariants.{UpdatePanels, Doupdate}
@@ -249,49 +249,39 @@ module _ {W : Type 0} (seen : W → Seen) (old at_stop new : ScreenOver W) (cs m
       subst (λ p. LeadsOn old.desk.windows.lines old.desk.windows.columns p (all_sent outcomes) t) (sym makes.state.painter)
       (leads-run old.desk.windows.lines old.desk.windows.columns (state_of old) made outcomes t (screen-size old one_size) fits makes.run none)
 
-  -- every call was made, and no write failed
-  shows-virtual : EndsInDoupdate made → (stream : List ℕ) (t : Terminal) → HasSize old.desk.windows.lines old.desk.windows.columns t.picture → Agrees old.painter stream t
-      → LeadsWithBreaks (stream ++ all_sent outcomes) t (showing_virtual (world at_stop.desk))
-  shows-virtual ends stream t fits h =
-      let a = agrees-stop stream t fits h in
-      subst (λ o. MatchOption o ⊤ (λ shown. LeadsWithBreaks (stream ++ all_sent outcomes) t (showing shown.picture shown.cursor))) (known ends) a.leads
+  -- every call was made, and no write failed: a terminal shows what the painter showed last
+  shows-last : (shown : ShownPicture) → at_stop.painter.last ≡ Some shown → (stream : List ℕ) (t : Terminal) → HasSize old.desk.windows.lines old.desk.windows.columns t.picture
+      → Agrees old.painter stream t → LeadsWithBreaks (stream ++ all_sent outcomes) t (showing shown.picture shown.cursor)
+  shows-last shown last stream t fits h =
+      subst (λ o. MatchOption o ⊤ (λ shown. LeadsWithBreaks (stream ++ all_sent outcomes) t (showing shown.picture shown.cursor))) last (agrees-stop stream t fits h).leads
 
-  shows-virtual_on_any : EndsInDoupdate made → old.painter.last ≡ None → (t : Terminal) → HasSize old.desk.windows.lines old.desk.windows.columns t.picture
-      → Leads (all_sent outcomes) t (showing_virtual (world at_stop.desk))
-  shows-virtual_on_any ends nothing t fits =
+  shows-last_on_any : (shown : ShownPicture) → at_stop.painter.last ≡ Some shown → old.painter.last ≡ None → (t : Terminal)
+      → HasSize old.desk.windows.lines old.desk.windows.columns t.picture → Leads (all_sent outcomes) t (showing shown.picture shown.cursor)
+  shows-last_on_any shown last nothing t fits =
       let r = leads-stop nothing t fits in
-      let last : r.last ≡ showing_virtual (world at_stop.desk) = subst (λ o. MatchOption o ⊤ (λ shown. r.last ≡ showing shown.picture shown.cursor)) (known ends) r.known in
-      subst (λ u. Leads (all_sent outcomes) t u) last r.leads
+      subst (Leads (all_sent outcomes) t) (subst (λ o. MatchOption o ⊤ (λ shown. r.last ≡ showing shown.picture shown.cursor)) last r.known) r.leads
 
   shows-whole : EndsInUpdate made → (stream : List ℕ) (t : Terminal) → HasSize old.desk.windows.lines old.desk.windows.columns t.picture → Agrees old.painter stream t
       → (u : Terminal) × LeadsWithBreaks (stream ++ all_sent outcomes) t u × ShowsWorld (world at_stop.desk) u
   shows-whole ends stream t fits h =
       let e = ended ends in
-      let a = agrees-stop stream t fits h in (
-        showing (wanted (after_update_panels e.before)).picture (wanted (after_update_panels e.before)).cursor,
-        subst (λ o. MatchOption o ⊤ (λ shown. LeadsWithBreaks (stream ++ all_sent outcomes) t (showing shown.picture shown.cursor))) e.last_is a.leads,
-        shows-after e,
-      )
+      let shown = wanted (after_update_panels e.before) in
+      (showing shown.picture shown.cursor, shows-last shown e.last_is stream t fits h, shows-after e)
 
   shows-whole_on_any : EndsInUpdate made → old.painter.last ≡ None → (t : Terminal) → HasSize old.desk.windows.lines old.desk.windows.columns t.picture
       → (u : Terminal) × Leads (all_sent outcomes) t u × ShowsWorld (world at_stop.desk) u
   shows-whole_on_any ends nothing t fits =
       let e = ended ends in
-      let r = leads-stop nothing t fits in
-      let last : r.last ≡ showing (wanted (after_update_panels e.before)).picture (wanted (after_update_panels e.before)).cursor =
-      subst (λ o. MatchOption o ⊤ (λ shown. r.last ≡ showing shown.picture shown.cursor)) e.last_is r.known in (
-        showing (wanted (after_update_panels e.before)).picture (wanted (after_update_panels e.before)).cursor,
-        subst (λ u. Leads (all_sent outcomes) t u) last r.leads,
-        shows-after e,
-      )
+      let shown = wanted (after_update_panels e.before) in
+      (showing shown.picture shown.cursor, shows-last_on_any shown e.last_is nothing t fits, shows-after e)
 
   pub shows-unbroken : cs ≡ made → new ≡ at_stop → RunShows seen old new cs None
   shows-unbroken whole same = subst (λ s. RunShows seen old s cs None) (sym same) (record {
     bytes = all_sent outcomes;
     taken = makes.writes.taken;
     agrees = agrees-stop;
-    shows_virtual = λ ends none. shows-virtual (ends.0, sym whole ∙ ends.1);
-    shows_virtual_on_any = λ ends none. shows-virtual_on_any (ends.0, sym whole ∙ ends.1);
+    shows_virtual = λ ends none. shows-last (wanted (world at_stop.desk)) (known (ends.0, sym whole ∙ ends.1));
+    shows_virtual_on_any = λ ends none. shows-last_on_any (wanted (world at_stop.desk)) (known (ends.0, sym whole ∙ ends.1));
     shows = λ ends none. shows-whole (ends.0, sym whole ∙ ends.1);
     shows_on_any = λ ends none. shows-whole_on_any (ends.0, sym whole ∙ ends.1);
   })

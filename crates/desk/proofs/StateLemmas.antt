@@ -27,9 +27,8 @@ AreAmong few more = (line : ℕ) → few line ≡ true → more line ≡ true
 
 after-among : (ends few more affected : Bool) → (few ≡ true → more ≡ true) → (if ends then false else few || affected) ≡ true → (if ends then false else more || affected) ≡ true
 after-among true few more affected h e = e
-after-among false true true affected h e = refl
+after-among false few true affected h e = refl
 after-among false true false affected h e = let no : false ≡ true = h refl in cc
-after-among false false true affected h e = refl
 after-among false false false affected h e = e
 
 lines-among : (w : World) (few more : ℕ → Bool) (call : Call) → AreAmong few more → AreAmong (affected_after w few call) (affected_after w more call)
