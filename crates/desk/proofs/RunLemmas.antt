@@ -1,8 +1,8 @@
 -- A run goes on by one call.
-use Rattle.std.proofs.Common.{◌≡◌, ℕ, ◌+◌, ◌≤◌, ◌++◌, List, [], ◌∷◌, length, take, drop, get_or, None, Some, ◌<◌, Ok, Err, refl, sym, ap, ◌∙◌, subst, count_by, sum_by, Bool, cond, add-zero}
+use Rattle.std.proofs.Common.{◌≡◌, ℕ, ◌+◌, ◌≤◌, ◌++◌, List, [], ◌∷◌, length, take, drop, get_or, None, Some, ◌<◌, Ok, Err, refl, sym, ap, ◌∙◌, subst, count_by, sum_by, cond, add-zero}
 use Rattle.std.proofs.Common.{append-nil, take-append-drop, take_all}
 use Rattle.std.proofs.lemmas.List.{drop_more, take_more}
-use Rattle.std.proofs.lemmas.List.Sums.{fold_push, sum_by_push}
+use Rattle.std.proofs.lemmas.List.Sums.{sum_by_push}
 use Rattle.cell.specs.declared.refusal.Refusal.{Refusal}
 use Rattle.streams.specs.Sinks.{Seen}
 use Rattle.streams.specs.declared.sending.WriteFault.{WriteFault}
@@ -17,9 +17,6 @@ use Rattle.world.specs.declared.call.Reply.{Reply}
 use Rattle.desk.specs.declared.screen.Fault.TheVariants.{Refused, Write}
 use Rattle.desk.specs.declared.screen.RunEnd.{RunEnd}
 use Rattle.desk.specs.States.{ScreenOver, state_of}
-
-count_by-push : {A : Type 0} (p : A → Bool) (xs : List A) (x : A) → count_by p (xs ++ x ∷ []) ≡ count_by p xs + cond (p x) 1 0
-count_by-push p xs x = fold_push _ 0 xs x
 
 module _ {W : Type 0} (seen : W → Seen) where
   -- a run, with what was counted of it
@@ -48,8 +45,8 @@ module _ {W : Type 0} (seen : W → Seen) where
       rw (take_more calls i call h) (record {
         outcomes = so_far.outcomes ++ outcome ∷ [];
         makes = Makes-append seen so_far.makes (Makes-one seen mid new (get_or calls i call) (Ok reply) ends.1.0 ends.1.1 ends.0 ends.1.2);
-        is_done = ap (λ n. n + 1) so_far.is_done ∙ sym (count_by-push is_accepted so_far.outcomes outcome);
-        is_refused = so_far.is_refused ∙ sym (count_by-push is_refused so_far.outcomes outcome ∙ add-zero _);
+        is_done = ap (λ n. n + 1) so_far.is_done ∙ sym (sum_by_push (λ (o : Outcome). cond (is_accepted o) 1 0) so_far.outcomes outcome);
+        is_refused = so_far.is_refused ∙ sym (sum_by_push (λ (o : Outcome). cond (is_refused o) 1 0) so_far.outcomes outcome ∙ add-zero _);
         is_composed = ap (λ n. n + cells_of_reply reply) so_far.is_composed ∙ sym (sum_by_push cells_read so_far.outcomes outcome);
       })
 
@@ -63,8 +60,8 @@ module _ {W : Type 0} (seen : W → Seen) where
         outcomes = so_far.outcomes ++ outcome ∷ [];
         makes = Makes-append seen so_far.makes (Makes-one seen mid new made (Err refusal) [] (ends.0, refl) (is-kept ends.1)
             (subst (λ s. Writes seen mid s (made ∷ []) []) (sym ends.1) (Writes-refused seen mid made refusal ends.0)));
-        is_done = so_far.is_done ∙ sym (count_by-push is_accepted so_far.outcomes outcome ∙ add-zero _);
-        is_refused = ap (λ n. n + 1) so_far.is_refused ∙ sym (count_by-push is_refused so_far.outcomes outcome);
+        is_done = so_far.is_done ∙ sym (sum_by_push (λ (o : Outcome). cond (is_accepted o) 1 0) so_far.outcomes outcome ∙ add-zero _);
+        is_refused = ap (λ n. n + 1) so_far.is_refused ∙ sym (sum_by_push (λ (o : Outcome). cond (is_refused o) 1 0) so_far.outcomes outcome);
         is_composed = so_far.is_composed ∙ sym (sum_by_push cells_read so_far.outcomes outcome ∙ add-zero _);
       })
 

@@ -1,7 +1,7 @@
 -- A script is run a line at a time.
-use Rattle.std.proofs.Common.{◌≡◌, ℕ, ◌≤◌, ◌<◌, List, [], ◌∷◌, ◌++◌, length, get_or, zero, suc, Bool, true, false, ◌||◌, take, Option, None, Some, Ok, Err, Result, refl, ap, subst, sym, ◌∙◌}
+use Rattle.std.proofs.Common.{◌≡◌, ℕ, ◌≤◌, ◌<◌, List, [], ◌∷◌, ◌++◌, length, Bool, true, false, ◌||◌, take, Option, None, Some, Ok, Err, Result, refl, ap, subst, sym, ◌∙◌}
 use Rattle.std.proofs.Common.{append-nil, append_assoc, length-append, arith, nat_lt, is_some, not, if◌then◌else◌, inl, inr}
-use Rattle.std.proofs.lemmas.Bool.{or_parts}
+use Rattle.std.proofs.lemmas.Bool.{false_from_ne_true, or_parts}
 use Rattle.std.proofs.lemmas.Bool.Decides.{nat_tests}
 use Rattle.world.specs.declared.call.Call.TheVariants.{Refresh}
 use Rattle.world.specs.declared.call.Refresh.TheVariants.{Doupdate}
@@ -11,7 +11,7 @@ use Rattle.script.specs.declared.fault.TextFault.TheVariants.{LineTooLong}
 use Rattle.script.specs.declared.fault.ScriptFault.TheVariants.{Text, Reading as Reading_fault, Write, Log}
 use Rattle.std.proofs.lemmas.Grind.{flat_map-append}
 use Rattle.std.proofs.lemmas.List.{map-append}
-use Rattle.std.proofs.lemmas.List.Folds.{list_any-append}
+use Rattle.std.proofs.lemmas.List.Folds.{list_any-append, list_any_at}
 use Rattle.std.specs.List.{All, list_any, onto_first, slice_split}
 use Rattle.std.specs.Io.KnownBytes.{Appends, Consumes, IsAtEnd}
 use Rattle.std.proofs.KnownBytes.{Appends-nil, Appends-trans, Consumes-nil, Consumes-trans}
@@ -59,13 +59,8 @@ line_first false n line (p ∷ ps) some = refl
 short_line : (line : List ℕ) → length line ≤ LONGEST_LINE → nat_lt LONGEST_LINE (length line) ≡ false
 short_line line h = grind (arith, nat_tests)
 
-each_fails : (p : ℕ → Bool) (xs : List ℕ) (k d : ℕ) → list_any p xs ≡ false → k < length xs → p (get_or xs k d) ≡ false
-each_fails p [] k d h lt = absurd (omega arith)
-each_fails p (x ∷ xs) zero d h lt = (or_parts _ _ h).0
-each_fails p (x ∷ xs) (suc k) d h lt = each_fails p xs k d (or_parts _ _ h).1 (omega arith)
-
 no_newlines : (line : List ℕ) → HasNoNewline line → All (λ b. is_newline b ≡ false) line
-no_newlines line h = λ k d lt. each_fails is_newline line k d h lt
+no_newlines line h = λ k d lt. false_from_ne_true _ (λ found. let no : true ≡ false = sym (list_any_at is_newline line k d lt found) ∙ h in cc)
 
 -- What a script says whose next line ends with a newline.
 line_of_script : (failed : Bool) (n : ℕ) (line left : List ℕ) → HasNoNewline line
@@ -101,9 +96,8 @@ too_long_says n line more b h e long =
 log_lines-append : (state : State) (calls more : List (ℕ × Call)) (outcomes others : List Outcome) → Run state (calls_of calls) outcomes
     → log_lines (calls ++ more) (outcomes ++ others) ≡ log_lines calls outcomes ++ log_lines more others
 log_lines-append state [] more [] others run = refl
-log_lines-append state [] more (o ∷ os) others run = absurd run
-log_lines-append state (c ∷ cs) more [] others run = absurd run
 log_lines-append state (c ∷ cs) more (o ∷ os) others run = ap (λ l. log_line c.0 o.answer ∷ l) (log_lines-append (state_after state c.1 o.answer) cs more os others run.1)
+log_lines-append state calls more outcomes others run = absurd run
 
 -- the text of the lines of both
 log_text-append : (state : State) (calls more : List (ℕ × Call)) (outcomes others : List Outcome) → Run state (calls_of calls) outcomes

@@ -107,12 +107,11 @@ agrees-call lines columns s call (Ok r) sent stream t size fits may h =
 pub agrees-run : (lines columns : ℕ) (s : State) (cs : List Call) (outcomes : List Outcome) (stream : List ℕ) (t : Terminal) → HasScreenSize lines columns s → HasSize lines columns t.picture
     → Run s cs outcomes → Agrees s.painter stream t → Agrees (state_at_end s cs outcomes).painter (stream ++ all_sent outcomes) t
 agrees-run lines columns s [] [] stream t size fits run h = rw append-nil h
-agrees-run lines columns s [] (o ∷ os) stream t size fits run h = absurd run
-agrees-run lines columns s (c ∷ cs) [] stream t size fits run h = absurd run
 agrees-run lines columns s (c ∷ cs) (o ∷ os) stream t size fits run h =
     subst (λ bytes. Agrees (state_at_end (state_after s c o.answer) cs os).painter bytes t) (append_assoc stream o.sent (all_sent os))
     (agrees-run lines columns (state_after s c o.answer) cs os (stream ++ o.sent) t (size-after lines columns s c o.answer size) fits run.1
     (agrees-call lines columns s c o.answer o.sent stream t size fits run.0 h))
+agrees-run lines columns s cs outcomes stream t size fits run h = absurd run
 
 -- ---- the bytes of a run alone, read by a terminal
 
@@ -146,12 +145,11 @@ leads-call lines columns s call (Ok r) sent t size fits may h =
 pub leads-run : (lines columns : ℕ) (s : State) (cs : List Call) (outcomes : List Outcome) (t : Terminal) → HasScreenSize lines columns s → HasSize lines columns t.picture
     → Run s cs outcomes → IsKnown s.painter.last t → LeadsOn lines columns (state_at_end s cs outcomes).painter (all_sent outcomes) t
 leads-run lines columns s [] [] t size fits run h = leads-nothing lines columns s.painter [] t refl fits h
-leads-run lines columns s [] (o ∷ os) t size fits run h = absurd run
-leads-run lines columns s (c ∷ cs) [] t size fits run h = absurd run
 leads-run lines columns s (c ∷ cs) (o ∷ os) t size fits run h =
     let first = leads-call lines columns s c o.answer o.sent t size fits run.0 h in
     let rest = leads-run lines columns (state_after s c o.answer) cs os first.last (size-after lines columns s c o.answer size) first.fits run.1 first.known in
     record { last = rest.last; leads = Leads-append o.sent (all_sent os) t first.last rest.last first.leads rest.leads; fits = rest.fits; known = rest.known }
+leads-run lines columns s cs outcomes t size fits run h = absurd run
 
 -- ---- a run that ends in doupdate
 
@@ -168,11 +166,10 @@ one-doupdate s (Err e) sent h = absurd (never-refused s.world Doupdate e refl re
 
 pub virtual-known : (s : State) (others : List Call) (outcomes : List Outcome) → Run s (others ++ calls.Refresh Doupdate ∷ []) outcomes
     → VirtualIsKnown (state_at_end s (others ++ calls.Refresh Doupdate ∷ []) outcomes)
-virtual-known s [] [] run = absurd run
 virtual-known s [] (o ∷ []) run = one-doupdate s o.answer o.sent run.0
 virtual-known s [] (o ∷ p ∷ os) run = absurd run.1
-virtual-known s (c ∷ cs) [] run = absurd run
 virtual-known s (c ∷ cs) (o ∷ os) run = virtual-known (state_after s c o.answer) cs os run.1
+virtual-known s others outcomes run = absurd run
 
 -- ---- a run that ends in update_panels and doupdate
 
@@ -194,12 +191,11 @@ two-calls s (Err e) other sent more h k = absurd (never-refused s.world UpdatePa
 
 pub ends-shown : (s : State) (others : List Call) (outcomes : List Outcome) → Run s (others ++ calls.Refresh UpdatePanels ∷ calls.Refresh Doupdate ∷ []) outcomes
     → EndsShown (state_at_end s (others ++ calls.Refresh UpdatePanels ∷ calls.Refresh Doupdate ∷ []) outcomes)
-ends-shown s [] [] run = absurd run
 ends-shown s [] (o ∷ []) run = absurd run.1
 ends-shown s [] (o ∷ p ∷ []) run = two-calls s o.answer p.answer o.sent p.sent run.0 run.1.0
 ends-shown s [] (o ∷ p ∷ q ∷ os) run = absurd run.1.1
-ends-shown s (c ∷ cs) [] run = absurd run
 ends-shown s (c ∷ cs) (o ∷ os) run = ends-shown (state_after s c o.answer) cs os run.1
+ends-shown s others outcomes run = absurd run
 
 -- what the doupdate showed is the world after it
 pub shows-world : (w : World) → ShowsWorld (after_doupdate (after_update_panels w)) (showing (wanted (after_update_panels w)).picture (wanted (after_update_panels w)).cursor)

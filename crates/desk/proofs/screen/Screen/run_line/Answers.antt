@@ -1,8 +1,7 @@
 -- `run_line`: how a line of a script ends (`LineEndLemmas`).
-use Rattle.std.proofs.Common.{◌≡◌, Option, None, Ok, Err, Result, is_some, refl, ap, ◌∙◌}
+use Rattle.std.proofs.Common.{◌≡◌, ℕ, Ok, Err, Result, is_some}
 use Rattle.cell.specs.declared.refusal.Refusal.{Refusal}
 use Rattle.streams.specs.Counts.{count_after}
-use Rattle.streams.specs.declared.sending.WriteFault.{WriteFault}
 use Rattle.world.specs.declared.call.Reply.{Reply}
 use Rattle.desk.specs.Ends.{cut_of}
 use Rattle.desk.specs.declared.screen.Fault.TheVariants.{Write}
@@ -46,16 +45,12 @@ returns-in-Err-answer-clause-line g c =
 
 -- ---- a call that wasn't cut short has no failed write
 
-uncut : (answer : Result Reply Refusal) → cut_of (call_end (Ok answer)) ≡ None
-uncut (Ok reply) = refl
-uncut (Err refusal) = refl
+uncut : (answer : Result Reply Refusal) (old new : ℕ) → new ≡ count_after (is_some (cut_of (call_end (Ok answer)))) old → new ≡ old
+uncut (Ok reply) old new h = h
+uncut (Err refusal) old new h = h
 
 pub returns-in-Ok-log_answer-clause-writer : goal.returns-in-Ok-log_answer-clause-writer
-returns-in-Ok-log_answer-clause-writer g c =
-    rw c.script_end-in-Ok-log_answer.ensures
-    (c.in-Ok.ensures.failures ∙ ap (λ (cut : Option WriteFault). count_after (is_some cut) (g.W.Sink.seen c.args.self.now.writer).failures) (uncut c.in-Ok.answer))
+returns-in-Ok-log_answer-clause-writer g c = rw c.script_end-in-Ok-log_answer.ensures (uncut c.in-Ok.answer _ _ c.in-Ok.ensures.failures)
 
 pub returns-in-Err-log_answer-clause-writer : goal.returns-in-Err-log_answer-clause-writer
-returns-in-Err-log_answer-clause-writer g c =
-    rw c.script_end-in-Err-log_answer.ensures
-    (c.in-Ok.ensures.failures ∙ ap (λ (cut : Option WriteFault). count_after (is_some cut) (g.W.Sink.seen c.args.self.now.writer).failures) (uncut c.in-Ok.answer))
+returns-in-Err-log_answer-clause-writer g c = rw c.script_end-in-Err-log_answer.ensures (uncut c.in-Ok.answer _ _ c.in-Ok.ensures.failures)
