@@ -144,7 +144,7 @@ fn paint<R: Source, O: Sink, L: Sink>(
     };
     let status = paint_screen(&mut screen, input, out, log);
     // The screen is taken apart, and so no way out of here drops one.
-    screen.into_writer();
+    let _ = screen.into_writer();
     status
 }
 
