@@ -1,9 +1,8 @@
 -- How a line of a script ends.
-use Rattle.std.proofs.Common.{◌≡◌, ◌<◌, ℕ, List, [], ◌∷◌, length, Bool, true, false, take, Option, None, Some, Ok, Err, Result, is_err, is_ok, not, refl, ap, subst, sym, ◌∙◌, append-nil, ◌||◌}
+use Rattle.std.proofs.Common.{◌≡◌, ℕ, List, [], ◌∷◌, Bool, true, false, Option, None, Some, Ok, Err, Result, is_err, is_ok, not, refl, ap, sym, ◌∙◌, ◌||◌}
 use Rattle.std.proofs.KnownBytes.{Appends-nil}
 use Rattle.std.proofs.Math.Bool.{or-false}
-use Rattle.std.specs.Io.KnownBytes.{Appends}
-use Rattle.streams.specs.Counts.{count_after, next_count}
+use Rattle.streams.specs.Counts.{count_after}
 use Rattle.streams.specs.Sinks.{Seen}
 use Rattle.world.specs.calls.Dispatch.{is_doupdate}
 use Rattle.desk.specs.Ends.{CallEnds}
@@ -21,9 +20,8 @@ use Rattle.cell.specs.declared.refusal.Refusal.{Refusal}
 use Rattle.streams.specs.declared.sending.WriteFault.{WriteFault}
 use Rattle.desk.specs.States.{ScreenOver}
 use Rattle.desk.specs.steps.Quiet.{each-call}
-use Rattle.script.specs.declared.fault.TextFault.{TextFault}
 use Rattle.script.specs.declared.fault.ScriptFault.{ScriptFault}
-use Rattle.script.specs.declared.fault.ScriptFault.TheVariants.{Text, Write, Log}
+use Rattle.script.specs.declared.fault.ScriptFault.TheVariants.{Write}
 use Rattle.desk.specs.declared.screen.Fault.TheVariants.{Write as Cut}
 
 the_doupdate : (call : Call) → is_doupdate call ≡ true → call ≡ Refresh Doupdate
@@ -35,7 +33,7 @@ refused_is (Err refusal) r e = e
 
 module _ {W : Type 0} (seen : W → Seen) where
   -- No call was made.
-  line_without_call : {old new : ScreenOver W} {n : ℕ} {line : List ℕ} {log : Seen} (fault : Option ScriptFault) → LineStops seen n (parse_line line) None old fault new
+  pub line_without_call : {old new : ScreenOver W} {n : ℕ} {line : List ℕ} {log : Seen} (fault : Option ScriptFault) → LineStops seen n (parse_line line) None old fault new
       → Logs log log [] fault → log.failures ≡ count_after (log_failed fault) log.failures → LineEnds seen old new n line log log (record { refused = false; fault = fault })
   line_without_call {old} fault stop logs failures = record {
     call = None;
@@ -50,7 +48,7 @@ module _ {W : Type 0} (seen : W → Seen) where
   }
 
   -- A call was made, and not cut short.
-  line_of_call : {old new : ScreenOver W} {n : ℕ} {line : List ℕ} {log written : Seen} {r : Bool} (call : Call) (answer : Result Reply Refusal) (fault : Option ScriptFault)
+  pub line_of_call : {old new : ScreenOver W} {n : ℕ} {line : List ℕ} {log written : Seen} {r : Bool} (call : Call) (answer : Result Reply Refusal) (fault : Option ScriptFault)
       → LineStops seen n (parse_line line) (Some call) new fault new → CallEnds seen old call (call_end (Ok answer)) new → r ≡ is_err answer
       → Logs log written (log_line n answer ∷ []) fault → written.failures ≡ count_after (log_failed fault) log.failures → written.flushes ≡ log.flushes
       → LineEnds seen old new n line log written (record { refused = r; fault = fault })
@@ -65,29 +63,6 @@ module _ {W : Type 0} (seen : W → Seen) where
     flushes = flushes;
     refused = refused_is answer r e ∙ sym (or-false _);
   }
-
-  pub line_says_nothing : (old : ScreenOver W) (n : ℕ) (line : List ℕ) (log : Seen) → parse_line line ≡ Ok None
-      → LineEnds seen old old n line log log (record { refused = false; fault = None })
-  line_says_nothing old n line log said = line_without_call None (said, refl) (Appends-nil _) refl
-
-  pub line_has_fault : (old : ScreenOver W) (n : ℕ) (line : List ℕ) (log : Seen) (fault : TextFault) → parse_line line ≡ Err fault
-      → LineEnds seen old old n line log log (record { refused = false; fault = Some (Text n fault) })
-  line_has_fault old n line log fault said = line_without_call (Some (Text n fault)) (refl, said, refl, refl) (Appends-nil _) refl
-
-  pub line_is_run : (old new : ScreenOver W) (n : ℕ) (line : List ℕ) (log written : Seen) (call : Call) (answer : Result Reply Refusal) (r : Bool)
-      → parse_line line ≡ Ok (Some call) → CallEnds seen old call (call_end (Ok answer)) new → r ≡ is_err answer
-      → Appends log.taken written.taken (log_line n answer) → written.failures ≡ log.failures → written.flushes ≡ log.flushes
-      → LineEnds seen old new n line log written (record { refused = r; fault = None })
-  line_is_run old new n line log written call answer r said h e logs failures flushes =
-      line_of_call call answer None (said, refl) h e (subst (Appends _ _) (sym (append-nil (log_line n answer))) logs) failures flushes
-
-  pub line_is_not_logged : (old new : ScreenOver W) (n : ℕ) (line : List ℕ) (log written : Seen) (call : Call) (answer : Result Reply Refusal) (r : Bool) (sent : ℕ)
-      → parse_line line ≡ Ok (Some call) → CallEnds seen old call (call_end (Ok answer)) new → r ≡ is_err answer
-      → sent < length (log_line n answer) → Appends log.taken written.taken (take sent (log_line n answer))
-      → written.failures ≡ next_count log.failures → written.flushes ≡ log.flushes
-      → LineEnds seen old new n line log written (record { refused = r; fault = Some Log })
-  line_is_not_logged old new n line log written call answer r sent said h e within logs failures flushes =
-      line_of_call call answer (Some Log) (said, refl) h e (record { whole = []; last = log_line n answer; parts = refl; sent = sent; within = within; taken = logs }) failures flushes
 
   pub line_is_cut : (old new : ScreenOver W) (n : ℕ) (line : List ℕ) (log : Seen) (call : Call) (fault : WriteFault)
       → parse_line line ≡ Ok (Some call) → CallEnds seen old call (Err (Cut fault)) new
