@@ -1,2 +1,2 @@
--- A picture that was written, or could not be; for `paint_screen`
+-- What is printed, by whether a script ended with a fault; for `paint_screen`
 pub mod PictureLemmas

@@ -138,10 +138,14 @@ fn paint<R: Source, O: Sink, L: Sink>(
         (outputs (O.seen out.new) (L.seen log.new)) result }
     ensures log { result < 2 → (L.seen log.new).failures ≡ (L.seen log.old).failures }
 {
-    match blank_screen(alloc, job) {
-        Ok(mut screen) => paint_screen(&mut screen, input, out, log),
-        Err(_) => no_memory(log),
-    }
+    let mut screen = match blank_screen(alloc, job) {
+        Ok(screen) => screen,
+        Err(_) => return no_memory(log),
+    };
+    let status = paint_screen(&mut screen, input, out, log);
+    // The screen is taken apart, and so no way out of here drops one.
+    let _ = screen.into_writer();
+    status
 }
 
 /// Does what the words ask for, and answers the status. Where clap refuses the words, nothing is read, and help is on the

@@ -1,8 +1,8 @@
 -- How a line of a script ends.
-use Rattle.std.proofs.Common.{◌≡◌, ◌<◌, ℕ, List, [], ◌∷◌, length, Bool, true, false, take, None, Some, Ok, Err, Result, is_err, is_ok, not, refl, ap, subst, sym, ◌∙◌, append-nil, ◌||◌}
+use Rattle.std.proofs.Common.{◌≡◌, ℕ, List, [], ◌∷◌, Bool, true, false, Option, None, Some, Ok, Err, Result, is_err, is_ok, not, refl, ap, sym, ◌∙◌, ◌||◌}
 use Rattle.std.proofs.KnownBytes.{Appends-nil}
-use Rattle.std.specs.Io.KnownBytes.{Appends}
-use Rattle.streams.specs.Counts.{next_count}
+use Rattle.std.proofs.Math.Bool.{or-false}
+use Rattle.streams.specs.Counts.{count_after}
 use Rattle.streams.specs.Sinks.{Seen}
 use Rattle.world.specs.calls.Dispatch.{is_doupdate}
 use Rattle.desk.specs.Ends.{CallEnds}
@@ -11,7 +11,7 @@ use Rattle.desk.specs.steps.Answers.{call_end}
 use Rattle.desk.proofs.AnswerLemmas.{is_answered}
 use Rattle.script.specs.Readings.{parse_line}
 use Rattle.script.specs.Log.{log_line}
-use Rattle.desk.specs.ScriptEnds.{LineEnds}
+use Rattle.desk.specs.ScriptEnds.{LineEnds, LineStops, Logs, log_failed}
 use Rattle.world.specs.declared.call.Call.{Call}
 use Rattle.world.specs.declared.call.Call.TheVariants.{Refresh}
 use Rattle.world.specs.declared.call.Refresh.TheVariants.{Doupdate}
@@ -20,94 +20,52 @@ use Rattle.cell.specs.declared.refusal.Refusal.{Refusal}
 use Rattle.streams.specs.declared.sending.WriteFault.{WriteFault}
 use Rattle.desk.specs.States.{ScreenOver}
 use Rattle.desk.specs.steps.Quiet.{each-call}
-use Rattle.script.specs.declared.fault.TextFault.{TextFault}
-use Rattle.script.specs.declared.fault.ScriptFault.TheVariants.{Text, Write, Log}
+use Rattle.script.specs.declared.fault.ScriptFault.{ScriptFault}
+use Rattle.script.specs.declared.fault.ScriptFault.TheVariants.{Write}
 use Rattle.desk.specs.declared.screen.Fault.TheVariants.{Write as Cut}
 
 the_doupdate : (call : Call) → is_doupdate call ≡ true → call ≡ Refresh Doupdate
 the_doupdate call h = each-call (λ call. is_doupdate call ≡ true → call ≡ Refresh Doupdate) (λ call other h. let no : false ≡ true = sym other ∙ h in cc) (λ h. refl) call h
-
-or_nothing : (b : Bool) → (b || false) ≡ b
-or_nothing true = refl
-or_nothing false = refl
 
 refused_is : (answer : Result Reply Refusal) (r : Bool) → r ≡ is_err answer → r ≡ not (is_ok answer)
 refused_is (Ok reply) r e = e
 refused_is (Err refusal) r e = e
 
 module _ {W : Type 0} (seen : W → Seen) where
-  pub line_says_nothing : (old : ScreenOver W) (n : ℕ) (line : List ℕ) (log : Seen) → parse_line line ≡ Ok None
-      → LineEnds seen old old n line log log (record { refused = false; fault = None })
-  line_says_nothing old n line log said = record {
+  -- No call was made.
+  pub line_without_call : {old new : ScreenOver W} {n : ℕ} {line : List ℕ} {log : Seen} (fault : Option ScriptFault) → LineStops seen n (parse_line line) None old fault new
+      → Logs log log [] fault → log.failures ≡ count_after (log_failed fault) log.failures → LineEnds seen old new n line log log (record { refused = false; fault = fault })
+  line_without_call {old} fault stop logs failures = record {
     call = None;
     outcomes = [];
     at_stop = old;
     makes = Makes-nothing seen old;
-    stop = (said, refl);
-    logs = Appends-nil _;
-    failures = refl;
+    stop = stop;
+    logs = logs;
+    failures = failures;
     flushes = refl;
     refused = refl;
   }
 
-  pub line_has_fault : (old : ScreenOver W) (n : ℕ) (line : List ℕ) (log : Seen) (fault : TextFault) → parse_line line ≡ Err fault
-      → LineEnds seen old old n line log log (record { refused = false; fault = Some (Text n fault) })
-  line_has_fault old n line log fault said = record {
-    call = None;
-    outcomes = [];
-    at_stop = old;
-    makes = Makes-nothing seen old;
-    stop = (refl, said, refl, refl);
-    logs = Appends-nil _;
-    failures = refl;
-    flushes = refl;
-    refused = refl;
-  }
-
-  pub line_is_run : (old new : ScreenOver W) (n : ℕ) (line : List ℕ) (log written : Seen) (call : Call) (answer : Result Reply Refusal) (r : Bool)
-      → parse_line line ≡ Ok (Some call) → CallEnds seen old call (call_end (Ok answer)) new → r ≡ is_err answer
-      → Appends log.taken written.taken (log_line n answer) → written.failures ≡ log.failures → written.flushes ≡ log.flushes
-      → LineEnds seen old new n line log written (record { refused = r; fault = None })
-  line_is_run old new n line log written call answer r said h e logs failures flushes = let a = is_answered seen old call answer new h in record {
+  -- A call was made, and not cut short.
+  pub line_of_call : {old new : ScreenOver W} {n : ℕ} {line : List ℕ} {log written : Seen} {r : Bool} (call : Call) (answer : Result Reply Refusal) (fault : Option ScriptFault)
+      → LineStops seen n (parse_line line) (Some call) new fault new → CallEnds seen old call (call_end (Ok answer)) new → r ≡ is_err answer
+      → Logs log written (log_line n answer ∷ []) fault → written.failures ≡ count_after (log_failed fault) log.failures → written.flushes ≡ log.flushes
+      → LineEnds seen old new n line log written (record { refused = r; fault = fault })
+  line_of_call {old} {new} {r} call answer fault stop h e logs failures flushes = let a = is_answered seen old call answer new h in record {
     call = Some call;
     outcomes = record { answer = answer; sent = a.1.0 } ∷ [];
     at_stop = new;
     makes = Makes-one seen old new call answer a.1.0 a.1.1 a.0 a.1.2;
-    stop = (said, refl);
-    logs = subst (Appends _ _) (sym (append-nil (log_line n answer))) logs;
+    stop = stop;
+    logs = logs;
     failures = failures;
     flushes = flushes;
-    refused = refused_is answer r e ∙ sym (or_nothing _);
-  }
-
-  pub line_is_not_logged : (old new : ScreenOver W) (n : ℕ) (line : List ℕ) (log written : Seen) (call : Call) (answer : Result Reply Refusal) (r : Bool) (sent : ℕ)
-      → parse_line line ≡ Ok (Some call) → CallEnds seen old call (call_end (Ok answer)) new → r ≡ is_err answer
-      → sent < length (log_line n answer) → Appends log.taken written.taken (take sent (log_line n answer))
-      → written.failures ≡ next_count log.failures → written.flushes ≡ log.flushes
-      → LineEnds seen old new n line log written (record { refused = r; fault = Some Log })
-  line_is_not_logged old new n line log written call answer r sent said h e within logs failures flushes = let a = is_answered seen old call answer new h in record {
-    call = Some call;
-    outcomes = record { answer = answer; sent = a.1.0 } ∷ [];
-    at_stop = new;
-    makes = Makes-one seen old new call answer a.1.0 a.1.1 a.0 a.1.2;
-    stop = (said, refl);
-    logs = record { whole = []; last = log_line n answer; parts = refl; sent = sent; within = within; taken = logs };
-    failures = failures;
-    flushes = flushes;
-    refused = refused_is answer r e ∙ sym (or_nothing _);
+    refused = refused_is answer r e ∙ sym (or-false _);
   }
 
   pub line_is_cut : (old new : ScreenOver W) (n : ℕ) (line : List ℕ) (log : Seen) (call : Call) (fault : WriteFault)
       → parse_line line ≡ Ok (Some call) → CallEnds seen old call (Err (Cut fault)) new
       → LineEnds seen old new n line log log (record { refused = false; fault = Some (Write n fault) })
-  line_is_cut old new n line log call fault said a = record {
-    call = None;
-    outcomes = [];
-    at_stop = old;
-    makes = Makes-nothing seen old;
-    stop = (refl, said ∙ ap (λ c. Ok (Some c)) (the_doupdate call a.0), refl, a.1);
-    logs = Appends-nil _;
-    failures = refl;
-    flushes = refl;
-    refused = refl;
-  }
+  line_is_cut old new n line log call fault said a =
+      line_without_call (Some (Write n fault)) (refl, said ∙ ap (λ c. Ok (Some c)) (the_doupdate call a.0), refl, a.1) (Appends-nil _) refl

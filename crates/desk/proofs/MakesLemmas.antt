@@ -16,16 +16,14 @@ use Rattle.world.specs.declared.call.Reply.{Reply}
 Run-append : (state : State) (calls more : List Call) (outcomes others : List Outcome) → Run state calls outcomes
     → Run (state_at_end state calls outcomes) more others → Run state (calls ++ more) (outcomes ++ others)
 Run-append state [] more [] others run next = next
-Run-append state [] more (o ∷ os) others run next = absurd run
-Run-append state (c ∷ cs) more [] others run next = absurd run
 Run-append state (c ∷ cs) more (o ∷ os) others run next = (run.0, Run-append (state_after state c o.answer) cs more os others run.1 next)
+Run-append state calls more outcomes others run next = absurd run
 
 state_at_end-append : (state : State) (calls more : List Call) (outcomes others : List Outcome) → Run state calls outcomes
     → state_at_end state (calls ++ more) (outcomes ++ others) ≡ state_at_end (state_at_end state calls outcomes) more others
 state_at_end-append state [] more [] others run = refl
-state_at_end-append state [] more (o ∷ os) others run = absurd run
-state_at_end-append state (c ∷ cs) more [] others run = absurd run
 state_at_end-append state (c ∷ cs) more (o ∷ os) others run = state_at_end-append (state_after state c o.answer) cs more os others run.1
+state_at_end-append state calls more outcomes others run = absurd run
 
 module _ {W : Type 0} (seen : W → Seen) where
   -- what follows of a run

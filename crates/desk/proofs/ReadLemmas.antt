@@ -53,15 +53,12 @@ pub record CallReads (s : State) (call : Call) (cells : ℕ) : Type 0 where
 reads-nothing : (s : State) (call : Call) (cells : ℕ) → is_update_panels call ≡ false → cells ≡ 0 → CallReads s call cells
 reads-nothing s call cells other none = rw none (record { least = rw other (omega arith); most = omega arith })
 
-same-no_cells : (reply other : Reply) → reply ≡ other → cells_of_reply other ≡ 0 → cells_of_reply reply ≡ 0
-same-no_cells reply other is none = ap cells_of_reply is ∙ none
-
 call-reads : (s : State) (call : Call) (reply : Reply) (sent : List ℕ) → MayAnswer s call (Ok reply) sent → CallReads s call (cells_of_reply reply)
 call-reads s (calls.Refresh UpdatePanels) reply sent may =
     let read = may.1.1.1 in
     rw may.1.1.2 (record { least = read.at_least; most = read.at_most })
-call-reads s (calls.Refresh Doupdate) reply sent may = reads-nothing s (calls.Refresh Doupdate) _ refl (same-no_cells reply _ may.1.1 refl)
-call-reads s call reply sent may = reads-nothing s call _ refl (same-no_cells reply _ may.1.1 (reply_of-no_cells s.world call))
+call-reads s (calls.Refresh Doupdate) reply sent may = reads-nothing s (calls.Refresh Doupdate) _ refl (ap cells_of_reply may.1.1)
+call-reads s call reply sent may = reads-nothing s call _ refl (ap cells_of_reply may.1.1 ∙ reply_of-no_cells s.world call)
 
 -- ---- a run
 
@@ -74,8 +71,7 @@ reads-next s call (Err e) sent others cells may few = record { at_least = omega 
 
 pub reads-run : (s : State) (calls : List Call) (outcomes : List Outcome) → Run s calls outcomes → ReadsFew s (with_acceptance calls outcomes) (sum_by cells_read outcomes)
 reads-run s [] [] run = record { at_least = omega arith; at_most = omega arith }
-reads-run s [] (o ∷ os) run = absurd run
-reads-run s (c ∷ cs) [] run = absurd run
 reads-run s (c ∷ cs) (o ∷ os) run =
     subst (ReadsFew s (with_acceptance (c ∷ cs) (o ∷ os))) (sym (sum_by-cons cells_read o os))
     (reads-next s c o.answer o.sent (with_acceptance cs os) (sum_by cells_read os) run.0 (reads-run (state_after s c o.answer) cs os run.1))
+reads-run s calls outcomes run = absurd run

@@ -1,6 +1,7 @@
 -- A script is run a line at a time.
-use Rattle.std.proofs.Common.{◌≡◌, ℕ, ◌≤◌, ◌<◌, List, [], ◌∷◌, ◌++◌, length, get_or, zero, suc, Bool, true, false, ◌||◌, take, Option, None, Some, Ok, Err, Result, refl, ap, subst, sym, ◌∙◌}
+use Rattle.std.proofs.Common.{◌≡◌, ℕ, ◌≤◌, ◌<◌, List, [], ◌∷◌, ◌++◌, length, Bool, true, false, ◌||◌, take, Option, None, Some, Ok, Err, Result, refl, ap, subst, sym, ◌∙◌}
 use Rattle.std.proofs.Common.{append-nil, append_assoc, length-append, arith, nat_lt, is_some, not, if◌then◌else◌, inl, inr}
+use Rattle.std.proofs.lemmas.Bool.{false_from_ne_true, or_parts}
 use Rattle.std.proofs.lemmas.Bool.Decides.{nat_tests}
 use Rattle.world.specs.declared.call.Call.TheVariants.{Refresh}
 use Rattle.world.specs.declared.call.Refresh.TheVariants.{Doupdate}
@@ -10,7 +11,7 @@ use Rattle.script.specs.declared.fault.TextFault.TheVariants.{LineTooLong}
 use Rattle.script.specs.declared.fault.ScriptFault.TheVariants.{Text, Reading as Reading_fault, Write, Log}
 use Rattle.std.proofs.lemmas.Grind.{flat_map-append}
 use Rattle.std.proofs.lemmas.List.{map-append}
-use Rattle.std.proofs.lemmas.List.Folds.{list_any-append}
+use Rattle.std.proofs.lemmas.List.Folds.{list_any-append, list_any_at}
 use Rattle.std.specs.List.{All, list_any, onto_first, slice_split}
 use Rattle.std.specs.Io.KnownBytes.{Appends, Consumes, IsAtEnd}
 use Rattle.std.proofs.KnownBytes.{Appends-nil, Appends-trans, Consumes-nil, Consumes-trans}
@@ -58,17 +59,8 @@ line_first false n line (p ∷ ps) some = refl
 short_line : (line : List ℕ) → length line ≤ LONGEST_LINE → nat_lt LONGEST_LINE (length line) ≡ false
 short_line line h = grind (arith, nat_tests)
 
-or_split : (a b : Bool) → (a || b) ≡ false → (a ≡ false) × (b ≡ false)
-or_split true b h = cc
-or_split false b h = (refl, h)
-
-each_fails : (p : ℕ → Bool) (xs : List ℕ) (k d : ℕ) → list_any p xs ≡ false → k < length xs → p (get_or xs k d) ≡ false
-each_fails p [] k d h lt = absurd (omega arith)
-each_fails p (x ∷ xs) zero d h lt = (or_split _ _ h).0
-each_fails p (x ∷ xs) (suc k) d h lt = each_fails p xs k d (or_split _ _ h).1 (omega arith)
-
 no_newlines : (line : List ℕ) → HasNoNewline line → All (λ b. is_newline b ≡ false) line
-no_newlines line h = λ k d lt. each_fails is_newline line k d h lt
+no_newlines line h = λ k d lt. false_from_ne_true _ (λ found. let no : true ≡ false = sym (list_any_at is_newline line k d lt found) ∙ h in cc)
 
 -- What a script says whose next line ends with a newline.
 line_of_script : (failed : Bool) (n : ℕ) (line left : List ℕ) → HasNoNewline line
@@ -88,8 +80,8 @@ has_first (p ∷ ps) h = (p, ps, refl)
 first_piece : (xs ys : List ℕ) → HasNoNewline xs → (head : List ℕ) × (tail : List (List ℕ)) × (slice_split is_newline (xs ++ ys) ≡ (xs ++ head) ∷ tail)
 first_piece [] ys h = has_first (slice_split is_newline ys) (omega (arith, length-slice_split is_newline ys))
 first_piece (x ∷ xs) ys h =
-    let rest = first_piece xs ys (or_split _ _ h).1 in
-    (rest.0, rest.1, slice_split-cons_no is_newline x (xs ++ ys) (or_split _ _ h).0 ∙ ap (onto_first x) rest.2)
+    let rest = first_piece xs ys (or_parts _ _ h).1 in
+    (rest.0, rest.1, slice_split-cons_no is_newline x (xs ++ ys) (or_parts _ _ h).0 ∙ ap (onto_first x) rest.2)
 
 -- However it goes on, a line of more than LONGEST_LINE bytes is too long.
 too_long_says : (n : ℕ) (line more : List ℕ) (b : ℕ) → HasNoNewline line → is_newline b ≡ false → LONGEST_LINE ≤ length line
@@ -104,9 +96,8 @@ too_long_says n line more b h e long =
 log_lines-append : (state : State) (calls more : List (ℕ × Call)) (outcomes others : List Outcome) → Run state (calls_of calls) outcomes
     → log_lines (calls ++ more) (outcomes ++ others) ≡ log_lines calls outcomes ++ log_lines more others
 log_lines-append state [] more [] others run = refl
-log_lines-append state [] more (o ∷ os) others run = absurd run
-log_lines-append state (c ∷ cs) more [] others run = absurd run
 log_lines-append state (c ∷ cs) more (o ∷ os) others run = ap (λ l. log_line c.0 o.answer ∷ l) (log_lines-append (state_after state c.1 o.answer) cs more os others run.1)
+log_lines-append state calls more outcomes others run = absurd run
 
 -- the text of the lines of both
 log_text-append : (state : State) (calls more : List (ℕ × Call)) (outcomes others : List Outcome) → Run state (calls_of calls) outcomes
@@ -237,10 +228,6 @@ module _ {W : Type 0} (seen : W → Seen) where
 
   logs_after : (old : State) (a b : List (ℕ × Call)) (xs ys : List Outcome) (log l1 l2 : Seen) (fault : Option ScriptFault) → Run old (calls_of a) xs
       → Appends log.taken l1.taken (log_text (log_lines a xs)) → Logs l1 l2 (log_lines b ys) fault → Logs log l2 (log_lines (a ++ b) (xs ++ ys)) fault
-  logs_after old a b xs ys log l1 l2 None run first second = all_logged old a b xs ys log l1 l2 run first second
-  logs_after old a b xs ys log l1 l2 (Some (Text line fault)) run first second = all_logged old a b xs ys log l1 l2 run first second
-  logs_after old a b xs ys log l1 l2 (Some Reading_fault) run first second = all_logged old a b xs ys log l1 l2 run first second
-  logs_after old a b xs ys log l1 l2 (Some (Write line fault)) run first second = all_logged old a b xs ys log l1 l2 run first second
   logs_after old a b xs ys log l1 l2 (Some Log) run first second = record {
     whole = log_lines a xs ++ second.whole;
     last = second.last;
@@ -252,6 +239,7 @@ module _ {W : Type 0} (seen : W → Seen) where
         ∙ append_assoc (log_text (log_lines a xs)) (log_text second.whole) (take second.sent second.last)))
         (Appends-trans _ _ _ _ _ first second.taken);
   }
+  logs_after old a b xs ys log l1 l2 fault run first second = all_logged old a b xs ys log l1 l2 run first second
 
   -- The script ends at a line.
   ends_at_line : (old mid now : ScreenOver W) (input r1 r2 : SourceSeen) (log l1 l2 : Seen) (unused line bytes : List ℕ) (n : ℕ) (b : Bool) (end : ScriptEnd) (z : List ℕ → Reading)
@@ -297,32 +285,39 @@ module _ {W : Type 0} (seen : W → Seen) where
       ∙ ap (λ ps. prepend s.made (reading_of false n ps)) (slice_split_none is_newline line (no_newlines line r.no_newline)))
       (λ none. (ended, refl)) (λ none. r.at_end refl)
 
-  -- A read failed.
-  pub ends_in_failed_read : (old mid : ScreenOver W) (input r1 r2 : SourceSeen) (log l1 : Seen) (unused left line : List ℕ) (n : ℕ) (b : Bool)
-      → SoFar old mid input r1 log l1 unused n b → ReadsLine r1 r2 unused left line (Some ReadFailed) → ReadsOnce r1 r2
-      → RunsLines seen old mid input r2 log l1 (record { refused = b; fault = Some Reading_fault })
-  ends_in_failed_read old mid input r1 r2 log l1 unused left line n b s r once = record {
-    text = s.text ++ r.bytes;
+  -- The script ends after the lines that were run.
+  ends_after_lines : {old mid : ScreenOver W} {input r1 r2 : SourceSeen} {log l1 : Seen} {unused : List ℕ} {n : ℕ} {b : Bool} (bytes : List ℕ) (fault : ScriptFault)
+      (s : SoFar old mid input r1 log l1 unused n b) → Consumes r1.left r2.left bytes → ReadsOnce r1 r2 → Logs log l1 (log_lines s.made s.outcomes) (Some fault)
+      → l1.failures ≡ count_after (log_failed (Some fault)) log.failures → ScriptStops seen r2.met_end (s.text ++ bytes) s.made mid (Some fault) mid
+      → RunsLines seen old mid input r2 log l1 (record { refused = b; fault = Some fault })
+  ends_after_lines {mid} {input} {r1} {r2} bytes fault s read once logs failures stop = record {
+    text = s.text ++ bytes;
     made = s.made;
     outcomes = s.outcomes;
     at_stop = mid;
-    read = Consumes-trans _ _ _ _ _ s.read r.read;
+    read = Consumes-trans _ _ _ _ _ s.read read;
     makes = s.makes;
-    stop = (
-      ap (reading true) (ap (λ l. s.text ++ l) (sym (append-nil r.bytes))) ∙ s.says true (r.bytes ++ [])
-          ∙ ap (λ l. prepend s.made (reading_of true n (slice_split is_newline l))) (ap (λ l. unused ++ l) (append-nil r.bytes) ∙ r.is_line.0.0)
-          ∙ ap (λ ps. prepend s.made (reading_of true n ps)) (slice_split_none is_newline line (no_newlines line r.no_newline))
-          ∙ ap (λ (t : Bool). let x : Reading = record { calls = s.made ++ []; fault = Some (if t then Text n LineTooLong else Reading_fault) } in x) (short_line line r.is_line.1)
-          ∙ ap (λ (calls : List (ℕ × Call)). let x : Reading = record { calls = calls; fault = Some Reading_fault } in x) (append-nil s.made),
-      refl,
-    );
-    logs = s.logs;
-    failures = s.failures;
+    stop = stop;
+    logs = logs;
+    failures = failures;
     flushes = s.flushes;
     refused = s.is_refused;
     at_end = λ none. cc;
     read_once = still_once input r1 r2 s.met s.read_once once;
   }
+
+  -- A read failed.
+  pub ends_in_failed_read : (old mid : ScreenOver W) (input r1 r2 : SourceSeen) (log l1 : Seen) (unused left line : List ℕ) (n : ℕ) (b : Bool)
+      → SoFar old mid input r1 log l1 unused n b → ReadsLine r1 r2 unused left line (Some ReadFailed) → ReadsOnce r1 r2
+      → RunsLines seen old mid input r2 log l1 (record { refused = b; fault = Some Reading_fault })
+  ends_in_failed_read old mid input r1 r2 log l1 unused left line n b s r once = ends_after_lines r.bytes Reading_fault s r.read once s.logs s.failures (
+    ap (reading true) (ap (λ l. s.text ++ l) (sym (append-nil r.bytes))) ∙ s.says true (r.bytes ++ [])
+        ∙ ap (λ l. prepend s.made (reading_of true n (slice_split is_newline l))) (ap (λ l. unused ++ l) (append-nil r.bytes) ∙ r.is_line.0.0)
+        ∙ ap (λ ps. prepend s.made (reading_of true n ps)) (slice_split_none is_newline line (no_newlines line r.no_newline))
+        ∙ ap (λ (t : Bool). let x : Reading = record { calls = s.made ++ []; fault = Some (if t then Text n LineTooLong else Reading_fault) } in x) (short_line line r.is_line.1)
+        ∙ ap (λ (calls : List (ℕ × Call)). let x : Reading = record { calls = calls; fault = Some Reading_fault } in x) (append-nil s.made),
+    refl,
+  )
 
   -- A line is too long.
   pub ends_too_long : (old mid : ScreenOver W) (input r1 r2 : SourceSeen) (log l1 : Seen) (unused left line : List ℕ) (n : ℕ) (b : Bool)
@@ -330,33 +325,18 @@ module _ {W : Type 0} (seen : W → Seen) where
       → RunsLines seen old mid input r2 log l1 (record { refused = b; fault = Some (Text n LineTooLong) })
   ends_too_long old mid input r1 r2 log l1 unused left line n b s r once =
       let byte = r.is_line.0 in
-      record {
-        text = s.text ++ r.bytes;
-        made = s.made;
-        outcomes = s.outcomes;
-        at_stop = mid;
-        read = Consumes-trans _ _ _ _ _ s.read r.read;
-        makes = s.makes;
-        stop = (
-          λ more h.
-              ap (reading false) (append_assoc s.text r.bytes more) ∙ s.says false (r.bytes ++ more)
-              ∙ ap (λ l. prepend s.made (reading_of false n (slice_split is_newline l))) (sym (append_assoc unused r.bytes more) ∙ ap (λ l. l ++ more) r.is_line.1
-              ∙ append_assoc line (byte ∷ left) more)
-              ∙ ap (prepend s.made) (too_long_says n line (left ++ more) byte r.no_newline r.is_line.2 r.is_line.3)
-              ∙ ap (λ (calls : List (ℕ × Call)). let x : Reading = record { calls = calls; fault = Some (Text n LineTooLong) } in x) (append-nil s.made),
-          refl,
-        );
-        logs = s.logs;
-        failures = s.failures;
-        flushes = s.flushes;
-        refused = s.is_refused;
-        at_end = λ none. cc;
-        read_once = still_once input r1 r2 s.met s.read_once once;
-      }
+      ends_after_lines r.bytes (Text n LineTooLong) s r.read once s.logs s.failures (
+        λ more h.
+            ap (reading false) (append_assoc s.text r.bytes more) ∙ s.says false (r.bytes ++ more)
+            ∙ ap (λ l. prepend s.made (reading_of false n (slice_split is_newline l))) (sym (append_assoc unused r.bytes more) ∙ ap (λ l. l ++ more) r.is_line.1
+            ∙ append_assoc line (byte ∷ left) more)
+            ∙ ap (prepend s.made) (too_long_says n line (left ++ more) byte r.no_newline r.is_line.2 r.is_line.3)
+            ∙ ap (λ (calls : List (ℕ × Call)). let x : Reading = record { calls = calls; fault = Some (Text n LineTooLong) } in x) (append-nil s.made),
+        refl,
+      )
 
 pub some_fault : (fault : Option ScriptFault) → true ≡ is_some fault → fault ≡ None → ⊥
-some_fault None h e = cc
-some_fault (Some f) h e = cc
+some_fault fault h e = let none : is_some fault ≡ false = ap is_some e in cc
 
 pub no_fault : (fault : Option ScriptFault) → false ≡ is_some fault → fault ≡ None
 no_fault None h = refl
@@ -366,10 +346,8 @@ module _ {W : Type 0} (seen : W → Seen) where
   lines_show : (old at_stop new : ScreenOver W) (calls : List Call) (outcomes : List Outcome) (made : List (ℕ × Call)) (met_end : Bool) (text : List ℕ) (fault : Option ScriptFault)
       → Makes seen old calls outcomes at_stop → HasOneSize old.desk old.painter → ScriptStops seen met_end text made at_stop fault new → RunShows seen old new calls (write_fault fault)
   lines_show old at_stop new calls outcomes made met_end text None makes one_size stop = shows-unbroken seen old at_stop new calls calls outcomes makes one_size refl stop.2
-  lines_show old at_stop new calls outcomes made met_end text (Some (Text line fault)) makes one_size stop = shows-unbroken seen old at_stop new calls calls outcomes makes one_size refl stop.1
-  lines_show old at_stop new calls outcomes made met_end text (Some Reading_fault) makes one_size stop = shows-unbroken seen old at_stop new calls calls outcomes makes one_size refl stop.1
   lines_show old at_stop new calls outcomes made met_end text (Some (Write line fault)) makes one_size stop = shows-broken seen old at_stop new calls calls outcomes makes one_size fault stop.1
-  lines_show old at_stop new calls outcomes made met_end text (Some Log) makes one_size stop = shows-unbroken seen old at_stop new calls calls outcomes makes one_size refl stop.1
+  lines_show old at_stop new calls outcomes made met_end text (Some fault) makes one_size stop = shows-unbroken seen old at_stop new calls calls outcomes makes one_size refl stop.1
 
   same_size : (at_stop new : ScreenOver W) → new ≡ at_stop → KeepsSize at_stop.desk new.desk
   same_size at_stop new e = subst (λ s. KeepsSize at_stop.desk s.desk) (sym e) (record { lines = refl; columns = refl })
@@ -377,10 +355,8 @@ module _ {W : Type 0} (seen : W → Seen) where
   stops_keep_size : (at_stop new : ScreenOver W) (made : List (ℕ × Call)) (met_end : Bool) (text : List ℕ) (fault : Option ScriptFault) → ScriptStops seen met_end text made at_stop fault new
       → KeepsSize at_stop.desk new.desk
   stops_keep_size at_stop new made met_end text None stop = same_size at_stop new stop.2
-  stops_keep_size at_stop new made met_end text (Some (Text line fault)) stop = same_size at_stop new stop.1
-  stops_keep_size at_stop new made met_end text (Some Reading_fault) stop = same_size at_stop new stop.1
   stops_keep_size at_stop new made met_end text (Some (Write line fault)) stop = cut-keeps_size seen at_stop new fault stop.1
-  stops_keep_size at_stop new made met_end text (Some Log) stop = same_size at_stop new stop.1
+  stops_keep_size at_stop new made met_end text (Some fault) stop = same_size at_stop new stop.1
 
   pub lines_keep_size : {old now : ScreenOver W} {input rest : SourceSeen} {log logged : Seen} {end : ScriptEnd} → HasOneSize old.desk old.painter → RunsLines seen old now input rest log logged end
       → KeepsSize old.desk now.desk
@@ -404,32 +380,21 @@ module _ {W : Type 0} (seen : W → Seen) where
 
 -- A write of the log had failed.
 pub closes_failed : (fault : Option ScriptFault) (logged : Seen) → true ≡ log_failed fault → LogCloses fault logged logged fault
-closes_failed None logged h = cc
-closes_failed (Some (Text line fault)) logged h = cc
-closes_failed (Some Reading_fault) logged h = cc
-closes_failed (Some (Write line fault)) logged h = cc
 closes_failed (Some Log) logged h = (refl, refl)
+closes_failed fault logged h = cc
 
 -- The flush succeeded.
 pub closes_flushed : (fault : Option ScriptFault) (logged written : Seen) → false ≡ log_failed fault → FlushSucceeds logged written → LogCloses fault logged written fault
 closes_flushed None logged written h f = inl (f, refl)
-closes_flushed (Some (Text line fault)) logged written h f = (inl f, refl)
-closes_flushed (Some Reading_fault) logged written h f = (inl f, refl)
-closes_flushed (Some (Write line fault)) logged written h f = (inl f, refl)
 closes_flushed (Some Log) logged written h f = cc
+closes_flushed (Some fault) logged written h f = (inl f, refl)
 
 -- The flush failed, after another fault.
 pub closes_after_fault : (fault : Option ScriptFault) (logged written : Seen) → false ≡ log_failed fault → is_some fault ≡ not false → FlushFails logged written → LogCloses fault logged written fault
 closes_after_fault None logged written h some f = cc
-closes_after_fault (Some (Text line fault)) logged written h some f = (inr f, refl)
-closes_after_fault (Some Reading_fault) logged written h some f = (inr f, refl)
-closes_after_fault (Some (Write line fault)) logged written h some f = (inr f, refl)
 closes_after_fault (Some Log) logged written h some f = cc
+closes_after_fault (Some fault) logged written h some f = (inr f, refl)
 
 -- The flush failed, and nothing else.
 pub closes_unflushed : (fault : Option ScriptFault) (logged written : Seen) → fault ≡ None → FlushFails logged written → LogCloses fault logged written (Some Log)
 closes_unflushed fault logged written none f = subst (λ f. LogCloses f logged written (Some Log)) (sym none) (inr (f, refl))
-
-pub none_is : (fault : Option ScriptFault) → is_some fault ≡ not true → fault ≡ None
-none_is None h = refl
-none_is (Some f) h = cc

@@ -19,6 +19,5 @@ short-call s call (Ok r) sent may =
 
 pub short-run : (s : State) (cs : List Call) (outcomes : List Outcome) → Run s cs outcomes → AreShort s cs outcomes
 short-run s [] [] run = tt
-short-run s [] (o ∷ os) run = absurd run
-short-run s (c ∷ cs) [] run = absurd run
 short-run s (c ∷ cs) (o ∷ os) run = (short-call s c o.answer o.sent run.0, short-run (state_after s c o.answer) cs os run.1)
+short-run s calls outcomes run = absurd run

@@ -19,7 +19,7 @@ use Rattle.ecma.proofs.Leading.{Leads-nothing}
 use Rattle.ecma.proofs.Sizes.{size-effects}
 use Rattle.streams.specs.Counts.{count_after}
 use Rattle.streams.specs.Sinks.{Seen}
-use Rattle.paint.specs.Updates.{Agrees, PainterState}
+use Rattle.paint.specs.Updates.{Agrees, PainterState, ShownPicture}
 use Rattle.streams.specs.declared.sending.WriteFault.{WriteFault}
 use Rattle.paint.proofs.Repair.{Agrees-update, Agrees-fault, IsKnown, reads-known}
 use Rattle.desk.proofs.MakesLemmas.{Makes-nothing, Makes-one}
@@ -31,7 +31,7 @@ use Rattle.compose.specs.Desks.{DeskTable, world}
 use Rattle.desk.specs.Ends.{CallEnds, IsCut, Makes, RunEnds, Stops, cut_of}
 use Rattle.desk.specs.Methods.{CallMade}
 use Rattle.desk.specs.States.{state_of}
-use Rattle.desk.specs.Showing.{EndsInDoupdate, EndsInUpdate, ShowsWorld, RunShows, showing_virtual}
+use Rattle.desk.specs.Showing.{EndsInDoupdate, EndsInUpdate, ShowsWorld, RunShows}
 use Rattle.world.specs.declared.call.Call.{Call}
 use Rattle.world.specs.declared.call.Call.TheVariants as calls
 use Rattle.world.specs.declared.call.Refresh.TheVariants.{UpdatePanels, Doupdate}
@@ -107,12 +107,11 @@ agrees-call lines columns s call (Ok r) sent stream t size fits may h =
 pub agrees-run : (lines columns : ℕ) (s : State) (cs : List Call) (outcomes : List Outcome) (stream : List ℕ) (t : Terminal) → HasScreenSize lines columns s → HasSize lines columns t.picture
     → Run s cs outcomes → Agrees s.painter stream t → Agrees (state_at_end s cs outcomes).painter (stream ++ all_sent outcomes) t
 agrees-run lines columns s [] [] stream t size fits run h = rw append-nil h
-agrees-run lines columns s [] (o ∷ os) stream t size fits run h = absurd run
-agrees-run lines columns s (c ∷ cs) [] stream t size fits run h = absurd run
 agrees-run lines columns s (c ∷ cs) (o ∷ os) stream t size fits run h =
     subst (λ bytes. Agrees (state_at_end (state_after s c o.answer) cs os).painter bytes t) (append_assoc stream o.sent (all_sent os))
     (agrees-run lines columns (state_after s c o.answer) cs os (stream ++ o.sent) t (size-after lines columns s c o.answer size) fits run.1
     (agrees-call lines columns s c o.answer o.sent stream t size fits run.0 h))
+agrees-run lines columns s cs outcomes stream t size fits run h = absurd run
 
 -- ---- the bytes of a run alone, read by a terminal
 
@@ -146,12 +145,11 @@ leads-call lines columns s call (Ok r) sent t size fits may h =
 pub leads-run : (lines columns : ℕ) (s : State) (cs : List Call) (outcomes : List Outcome) (t : Terminal) → HasScreenSize lines columns s → HasSize lines columns t.picture
     → Run s cs outcomes → IsKnown s.painter.last t → LeadsOn lines columns (state_at_end s cs outcomes).painter (all_sent outcomes) t
 leads-run lines columns s [] [] t size fits run h = leads-nothing lines columns s.painter [] t refl fits h
-leads-run lines columns s [] (o ∷ os) t size fits run h = absurd run
-leads-run lines columns s (c ∷ cs) [] t size fits run h = absurd run
 leads-run lines columns s (c ∷ cs) (o ∷ os) t size fits run h =
     let first = leads-call lines columns s c o.answer o.sent t size fits run.0 h in
     let rest = leads-run lines columns (state_after s c o.answer) cs os first.last (size-after lines columns s c o.answer size) first.fits run.1 first.known in
     record { last = rest.last; leads = Leads-append o.sent (all_sent os) t first.last rest.last first.leads rest.leads; fits = rest.fits; known = rest.known }
+leads-run lines columns s cs outcomes t size fits run h = absurd run
 
 -- ---- a run that ends in doupdate
 
@@ -168,11 +166,10 @@ one-doupdate s (Err e) sent h = absurd (never-refused s.world Doupdate e refl re
 
 pub virtual-known : (s : State) (others : List Call) (outcomes : List Outcome) → Run s (others ++ calls.Refresh Doupdate ∷ []) outcomes
     → VirtualIsKnown (state_at_end s (others ++ calls.Refresh Doupdate ∷ []) outcomes)
-virtual-known s [] [] run = absurd run
 virtual-known s [] (o ∷ []) run = one-doupdate s o.answer o.sent run.0
 virtual-known s [] (o ∷ p ∷ os) run = absurd run.1
-virtual-known s (c ∷ cs) [] run = absurd run
 virtual-known s (c ∷ cs) (o ∷ os) run = virtual-known (state_after s c o.answer) cs os run.1
+virtual-known s others outcomes run = absurd run
 
 -- ---- a run that ends in update_panels and doupdate
 
@@ -194,12 +191,11 @@ two-calls s (Err e) other sent more h k = absurd (never-refused s.world UpdatePa
 
 pub ends-shown : (s : State) (others : List Call) (outcomes : List Outcome) → Run s (others ++ calls.Refresh UpdatePanels ∷ calls.Refresh Doupdate ∷ []) outcomes
     → EndsShown (state_at_end s (others ++ calls.Refresh UpdatePanels ∷ calls.Refresh Doupdate ∷ []) outcomes)
-ends-shown s [] [] run = absurd run
 ends-shown s [] (o ∷ []) run = absurd run.1
 ends-shown s [] (o ∷ p ∷ []) run = two-calls s o.answer p.answer o.sent p.sent run.0 run.1.0
 ends-shown s [] (o ∷ p ∷ q ∷ os) run = absurd run.1.1
-ends-shown s (c ∷ cs) [] run = absurd run
 ends-shown s (c ∷ cs) (o ∷ os) run = ends-shown (state_after s c o.answer) cs os run.1
+ends-shown s others outcomes run = absurd run
 
 -- what the doupdate showed is the world after it
 pub shows-world : (w : World) → ShowsWorld (after_doupdate (after_update_panels w)) (showing (wanted (after_update_panels w)).picture (wanted (after_update_panels w)).cursor)
@@ -249,49 +245,39 @@ module _ {W : Type 0} (seen : W → Seen) (old at_stop new : ScreenOver W) (cs m
       subst (λ p. LeadsOn old.desk.windows.lines old.desk.windows.columns p (all_sent outcomes) t) (sym makes.state.painter)
       (leads-run old.desk.windows.lines old.desk.windows.columns (state_of old) made outcomes t (screen-size old one_size) fits makes.run none)
 
-  -- every call was made, and no write failed
-  shows-virtual : EndsInDoupdate made → (stream : List ℕ) (t : Terminal) → HasSize old.desk.windows.lines old.desk.windows.columns t.picture → Agrees old.painter stream t
-      → LeadsWithBreaks (stream ++ all_sent outcomes) t (showing_virtual (world at_stop.desk))
-  shows-virtual ends stream t fits h =
-      let a = agrees-stop stream t fits h in
-      subst (λ o. MatchOption o ⊤ (λ shown. LeadsWithBreaks (stream ++ all_sent outcomes) t (showing shown.picture shown.cursor))) (known ends) a.leads
+  -- every call was made, and no write failed: a terminal shows what the painter showed last
+  shows-last : (shown : ShownPicture) → at_stop.painter.last ≡ Some shown → (stream : List ℕ) (t : Terminal) → HasSize old.desk.windows.lines old.desk.windows.columns t.picture
+      → Agrees old.painter stream t → LeadsWithBreaks (stream ++ all_sent outcomes) t (showing shown.picture shown.cursor)
+  shows-last shown last stream t fits h =
+      subst (λ o. MatchOption o ⊤ (λ shown. LeadsWithBreaks (stream ++ all_sent outcomes) t (showing shown.picture shown.cursor))) last (agrees-stop stream t fits h).leads
 
-  shows-virtual_on_any : EndsInDoupdate made → old.painter.last ≡ None → (t : Terminal) → HasSize old.desk.windows.lines old.desk.windows.columns t.picture
-      → Leads (all_sent outcomes) t (showing_virtual (world at_stop.desk))
-  shows-virtual_on_any ends nothing t fits =
+  shows-last_on_any : (shown : ShownPicture) → at_stop.painter.last ≡ Some shown → old.painter.last ≡ None → (t : Terminal)
+      → HasSize old.desk.windows.lines old.desk.windows.columns t.picture → Leads (all_sent outcomes) t (showing shown.picture shown.cursor)
+  shows-last_on_any shown last nothing t fits =
       let r = leads-stop nothing t fits in
-      let last : r.last ≡ showing_virtual (world at_stop.desk) = subst (λ o. MatchOption o ⊤ (λ shown. r.last ≡ showing shown.picture shown.cursor)) (known ends) r.known in
-      subst (λ u. Leads (all_sent outcomes) t u) last r.leads
+      subst (Leads (all_sent outcomes) t) (subst (λ o. MatchOption o ⊤ (λ shown. r.last ≡ showing shown.picture shown.cursor)) last r.known) r.leads
 
   shows-whole : EndsInUpdate made → (stream : List ℕ) (t : Terminal) → HasSize old.desk.windows.lines old.desk.windows.columns t.picture → Agrees old.painter stream t
       → (u : Terminal) × LeadsWithBreaks (stream ++ all_sent outcomes) t u × ShowsWorld (world at_stop.desk) u
   shows-whole ends stream t fits h =
       let e = ended ends in
-      let a = agrees-stop stream t fits h in (
-        showing (wanted (after_update_panels e.before)).picture (wanted (after_update_panels e.before)).cursor,
-        subst (λ o. MatchOption o ⊤ (λ shown. LeadsWithBreaks (stream ++ all_sent outcomes) t (showing shown.picture shown.cursor))) e.last_is a.leads,
-        shows-after e,
-      )
+      let shown = wanted (after_update_panels e.before) in
+      (showing shown.picture shown.cursor, shows-last shown e.last_is stream t fits h, shows-after e)
 
   shows-whole_on_any : EndsInUpdate made → old.painter.last ≡ None → (t : Terminal) → HasSize old.desk.windows.lines old.desk.windows.columns t.picture
       → (u : Terminal) × Leads (all_sent outcomes) t u × ShowsWorld (world at_stop.desk) u
   shows-whole_on_any ends nothing t fits =
       let e = ended ends in
-      let r = leads-stop nothing t fits in
-      let last : r.last ≡ showing (wanted (after_update_panels e.before)).picture (wanted (after_update_panels e.before)).cursor =
-      subst (λ o. MatchOption o ⊤ (λ shown. r.last ≡ showing shown.picture shown.cursor)) e.last_is r.known in (
-        showing (wanted (after_update_panels e.before)).picture (wanted (after_update_panels e.before)).cursor,
-        subst (λ u. Leads (all_sent outcomes) t u) last r.leads,
-        shows-after e,
-      )
+      let shown = wanted (after_update_panels e.before) in
+      (showing shown.picture shown.cursor, shows-last_on_any shown e.last_is nothing t fits, shows-after e)
 
   pub shows-unbroken : cs ≡ made → new ≡ at_stop → RunShows seen old new cs None
   shows-unbroken whole same = subst (λ s. RunShows seen old s cs None) (sym same) (record {
     bytes = all_sent outcomes;
     taken = makes.writes.taken;
     agrees = agrees-stop;
-    shows_virtual = λ ends none. shows-virtual (ends.0, sym whole ∙ ends.1);
-    shows_virtual_on_any = λ ends none. shows-virtual_on_any (ends.0, sym whole ∙ ends.1);
+    shows_virtual = λ ends none. shows-last (wanted (world at_stop.desk)) (known (ends.0, sym whole ∙ ends.1));
+    shows_virtual_on_any = λ ends none. shows-last_on_any (wanted (world at_stop.desk)) (known (ends.0, sym whole ∙ ends.1));
     shows = λ ends none. shows-whole (ends.0, sym whole ∙ ends.1);
     shows_on_any = λ ends none. shows-whole_on_any (ends.0, sym whole ∙ ends.1);
   })

@@ -27,9 +27,8 @@ AreAmong few more = (line : ℕ) → few line ≡ true → more line ≡ true
 
 after-among : (ends few more affected : Bool) → (few ≡ true → more ≡ true) → (if ends then false else few || affected) ≡ true → (if ends then false else more || affected) ≡ true
 after-among true few more affected h e = e
-after-among false true true affected h e = refl
+after-among false few true affected h e = refl
 after-among false true false affected h e = let no : false ≡ true = h refl in cc
-after-among false false true affected h e = refl
 after-among false false false affected h e = e
 
 lines-among : (w : World) (few more : ℕ → Bool) (call : Call) → AreAmong few more → AreAmong (affected_after w few call) (affected_after w more call)
@@ -38,8 +37,7 @@ lines-among w few more call h = λ line e. after-among (is_update_panels call) (
 bit-among : (few more : Bool) → (few ≡ true → more ≡ true) → cond few 1 0 ≤ cond more 1 0
 bit-among true true h = omega arith
 bit-among true false h = let no : false ≡ true = h refl in cc
-bit-among false true h = omega arith
-bit-among false false h = omega arith
+bit-among false more h = omega arith
 
 count-among : (few more : ℕ → Bool) → AreAmong few more → (xs : List ℕ) → count_by few xs ≤ count_by more xs
 count-among few more h xs = sum_by-le-sum_by (λ x. cond (few x) 1 0) (λ x. cond (more x) 1 0) xs (λ x. bit-among (few x) (more x) (h x))
@@ -95,12 +93,11 @@ state_at_end-within {s = s} {t = t} (c ∷ cs) (o ∷ os) h =
 
 pub Run-within : {s t : State} (calls : List Call) (outcomes : List Outcome) → IsWithin s t → Run s calls outcomes → Run t calls outcomes
 Run-within [] [] h run = run
-Run-within [] (o ∷ os) h run = absurd run
-Run-within (c ∷ cs) [] h run = absurd run
 Run-within {s = s} {t = t} (c ∷ cs) (o ∷ os) h run = (
   MayAnswer-within c o.answer o.sent h run.0,
   Run-within {s = state_after s c o.answer} {t = state_after t c o.answer} cs os (state_after-within c o.answer h) run.1,
 )
+Run-within calls outcomes h run = absurd run
 
 -- ---- what always holds of a screen
 

@@ -38,8 +38,7 @@ flushes_after-append flushes [] more = refl
 flushes_after-append flushes (call ∷ calls) more = flushes_after-append (count_after (is_doupdate call) flushes) calls more
 
 or-damaged : (damaged affected : Bool) → damaged ≡ true → (damaged || affected) ≡ true
-or-damaged true affected h = refl
-or-damaged false affected h = cc
+or-damaged damaged affected h = rw h refl
 
 or_turned : (a b c : Bool) → (b || (a || c)) ≡ ((a || b) || c)
 or_turned true true c = refl

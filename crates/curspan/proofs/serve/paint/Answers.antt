@@ -2,9 +2,9 @@
 use Rattle.std.proofs.Common.{inr}
 use Rattle.curspan.proofs.serve.paint.Goals as goal
 
-pub returns-in-Ok-clause-painted : goal.returns-in-Ok-clause-painted
-returns-in-Ok-clause-painted g c =
-    let painted = c.paint_screen.ensures.painted in
+pub returns-clause-painted : goal.returns-clause-painted
+returns-clause-painted g c =
+    let painted = c.paint_screen-status.ensures.painted in
     inr (record {
       last = painted.last;
       end = painted.end;

@@ -1,12 +1,11 @@
--- `paint_screen`: a picture that was written, or could not be (`PictureLemmas`).
-use Rattle.std.proofs.Common.{◌≡◌, false, true, Some, ap, refl, subst, sym, ◌∙◌}
+-- `paint_screen`: a picture that was written, or could not be, or none (`PictureLemmas`).
+use Rattle.std.proofs.Common.{◌≡◌, false, true, Some, ap, inl, inr, refl, subst, sym, ◌∙◌}
 use Rattle.std.specs.Prelude.{is_some}
-use Rattle.curspan.proofs.PictureLemmas.{Prints-failed, Prints-nothing, Prints-written}
-use Rattle.compose.specs.Desks.{world}
+use Rattle.curspan.proofs.PictureLemmas.{of-some, without}
 use Rattle.world.specs.World.{World}
 use Rattle.cell.specs.Shown.{no_rendition}
 use Rattle.commands.specs.Printing.{printed_picture}
-use Rattle.commands.specs.Written.{IsNotWritten, IsWritten, outputs}
+use Rattle.commands.specs.Written.{IsNotWritten, IsWritten}
 use Rattle.curspan.proofs.serve.paint_screen.Goals as goal
 
 pub returns-else-print_desk-clause-painted : goal.returns-else-print_desk-clause-painted
@@ -19,9 +18,7 @@ returns-else-print_desk-clause-painted g c =
       end = c.run_and_log-end.result;
       log_after = g.L.Sink.seen c.run_and_log-end.new.log;
       runs = c.run_and_log-end.ensures.ran;
-      prints = Prints-failed c.run_and_log-end.result (world c.run_and_log-end.new.screen.desk) (g.L.Sink.seen c.run_and_log-end.new.log)
-          (outputs (g.O.Sink.seen c.args.out.now) (g.L.Sink.seen c.args.log.now)) (outputs (g.O.Sink.seen c.print_desk.new.out) (g.L.Sink.seen c.log_failure.new.log))
-          c.log_failure.result fault c.log_failure.ensures.status not_written c.log_failure.ensures.logs;
+      prints = without _ _ fault (inr (c.log_failure.ensures.status, not_written, c.log_failure.ensures.logs));
     }
 
 pub returns-then-print_desk-clause-painted : goal.returns-then-print_desk-clause-painted
@@ -34,9 +31,7 @@ returns-then-print_desk-clause-painted g c =
       end = c.run_and_log-end.result;
       log_after = g.L.Sink.seen c.run_and_log-end.new.log;
       runs = c.run_and_log-end.ensures.ran;
-      prints = Prints-written c.run_and_log-end.result (world c.run_and_log-end.new.screen.desk) (g.L.Sink.seen c.run_and_log-end.new.log)
-          (outputs (g.O.Sink.seen c.args.out.now) (g.L.Sink.seen c.args.log.now)) (outputs (g.O.Sink.seen c.print_desk.new.out) (g.L.Sink.seen c.run_and_log-end.new.log))
-          c.status_of-then-print_desk.result fault c.status_of-then-print_desk.ensures.status written refl;
+      prints = without _ _ fault (inl (c.status_of-then-print_desk.ensures.status, written, refl));
     }
 
 pub returns-then-is_some-clause-painted : goal.returns-then-is_some-clause-painted
@@ -47,7 +42,5 @@ returns-then-is_some-clause-painted g c =
       end = c.run_and_log-end.result;
       log_after = g.L.Sink.seen c.run_and_log-end.new.log;
       runs = c.run_and_log-end.ensures.ran;
-      prints = Prints-nothing c.run_and_log-end.result (world c.run_and_log-end.new.screen.desk) (g.L.Sink.seen c.run_and_log-end.new.log)
-          (outputs (g.O.Sink.seen c.args.out.now) (g.L.Sink.seen c.args.log.now)) (outputs (g.O.Sink.seen c.args.out.now) (g.L.Sink.seen c.run_and_log-end.new.log))
-          c.status_of.result fault c.status_of.ensures.status refl refl;
+      prints = of-some _ _ _ fault (λ _. (c.status_of.ensures.status, refl, refl));
     }

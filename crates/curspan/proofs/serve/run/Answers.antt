@@ -1,17 +1,21 @@
 -- `run`: lemmas of std alone.
-use Rattle.std.proofs.Common.{inr, refl, rules, sym}
+use Rattle.std.proofs.Common.{None, ap, inr, rules, sym, ◌∙◌}
+use Rattle.paint.specs.Updates.{PainterState}
+use Rattle.compose.specs.Desks.{world}
+use Rattle.desk.specs.States.{ScreenOver}
 use Rattle.curspan.proofs.serve.run.Goals as goal
 
 pub returns-clause-ran : goal.returns-clause-ran
 returns-clause-ran g c =
+    let is = c.with_writer-screen.ensures in
     inr (record {
       last = c.run_and_log-end.new.screen;
       end = c.run_and_log-end.result;
       script = record {
         first = c.with_writer-screen.result;
-        blank = rw c.with_writer-screen.ensures c.in-Ok.ensures.world;
-        unpainted = rw (c.with_writer-screen.ensures, c.in-Ok.ensures.painter) refl;
-        over = rw c.with_writer-screen.ensures refl;
+        blank = ap (λ (s : ScreenOver _). world s.desk) is ∙ c.in-Ok.ensures.world;
+        unpainted = ap (λ (s : ScreenOver _). s.painter) is ∙ ap (λ (p : PainterState). let new : PainterState = record p { last = None } in new) c.in-Ok.ensures.painter;
+        over = ap (λ (s : ScreenOver _). g.O.Sink.seen s.writer.now) is;
         runs = c.run_and_log-end.ensures.ran;
       };
       output = rw (sym c.into_writer.ensures) (search rules);

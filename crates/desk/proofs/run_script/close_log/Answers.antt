@@ -1,7 +1,7 @@
 -- `close_log`: what the flush of a log leaves of it (`ScriptLemmas`).
 use Rattle.std.proofs.Common.{ap, refl, sym}
 use Rattle.desk.specs.ScriptEnds.{read_failed, write_fault}
-use Rattle.desk.proofs.ScriptLemmas.{closes_after_fault, closes_failed, closes_flushed, closes_unflushed, none_is}
+use Rattle.desk.proofs.ScriptLemmas.{closes_after_fault, closes_failed, closes_flushed, closes_unflushed, no_fault}
 use Rattle.desk.proofs.run_script.close_log.Goals as goal
 
 pub returns-then-log_failed-clause-closes : goal.returns-then-log_failed-clause-closes
@@ -18,7 +18,7 @@ returns-in-Ok-clause-closes g c =
 
 pub returns-in-Err : goal.returns-in-Err
 returns-in-Err g c =
-    let none = none_is _ c.if-is_none.ensures in
+    let none = no_fault _ (sym c.if-is_none.ensures) in
     rw c.script_end.ensures (record {
       closes = closes_unflushed _ _ _ none (record { kept = c.in-Err.ensures.bytes; failure = c.in-Err.ensures.failures; flushes = c.in-Err.ensures.flushes });
       refused = refl;
