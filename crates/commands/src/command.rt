@@ -83,7 +83,7 @@ fn command<'a>(alloc: Global) -> Result<Command<'a>, AllocError>
     let paint = subcommand(
         alloc,
         "paint",
-        "Run the script on standard input, and print the picture that it leaves",
+        "Run the script on standard input, and print its panels over the standard screen",
     )?;
     let show = subcommand(
         alloc,
