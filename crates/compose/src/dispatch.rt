@@ -116,6 +116,7 @@ pub(crate) fn copy(windows: &mut Windows, copying: Copying) -> Result<Outcome, R
     }
 }
 
+#[tactic(auto, unfolding(crate::specs::steps::Outcomes::Affects))]
 impl Outcome {
     /// Of a call that drew in a window.
     #[inline(always)]

@@ -17,10 +17,10 @@ use Rattle.picture.specs.Damages.{Damages}
 use Rattle.compose.specs.declared.dispatch.Outcome.{Outcome}
 use Rattle.compose.specs.steps.Changes.{affected_by}
 
--- a call was made, and what it affects is what its change does
-pub record Affects (old : WindowTable) (refusal : Option Refusal) (change : Change) (r : Result Outcome Refusal) (new : WindowTable) : Type 0 where
-  pub call : Changed (λ outcome. outcome.reply) old refusal change r new
-  pub affected : IfOk r (λ outcome. outcome.affected ≡ affected_by (windows old) change)
+-- A call was made, and what it affects is what its change does. Only the proofs of a kind of call, and of what is damaged, look into it.
+unfoldable pub Affects : WindowTable → Option Refusal → Change → Result Outcome Refusal → WindowTable → Type 0
+Affects old refusal change r new =
+    Changed (λ (outcome : Outcome). outcome.reply) old refusal change r new × IfOk r (λ outcome. outcome.affected ≡ affected_by (windows old) change)
 
 -- a call was made, and what is damaged is what windows show of its change; a refused one damages nothing
 pub record ChangedDamaging (old : WindowTable) (panels : Panels) (refusal : Option Refusal) (change : Change) (damage : List (Option Columns))
