@@ -80,6 +80,7 @@ pub(crate) fn copy_damaging(
 }
 
 /// Makes a call of the table of panels.
+#[tactic(auto, unfolding(crate::specs::steps::Outcomes::Rearranges))]
 pub(crate) fn arrange_damaging(
     table: &mut Grids,
     stack: &mut Stack,
