@@ -62,28 +62,33 @@ possible-for : (old new : Windows) (change : Change) (affected : Option Affected
 possible-for old new change affected is by = rw (is, by) (possible-after old change)
 
 module _ (old new : WindowTable) (refusal : Option Refusal) (change : Change) (outcome : Outcome) (a : Affects old refusal change (Ok outcome) new) where
+  changed : (windows new ≡ after_change (windows old) change) × (outcome.affected ≡ affected_by (windows old) change)
+  unfolding Affects
+  changed = (a.0.changed, a.1)
+
   same-size : SameSize (windows new) (windows old)
-  same-size = subst (λ (ws : Windows). SameSize ws (windows old)) (sym a.call.changed) (size-change (windows old) change)
+  same-size = subst (λ (ws : Windows). SameSize ws (windows old)) (sym changed.0) (size-change (windows old) change)
 
   pub lines-affected : new.lines ≡ old.lines
   lines-affected = same-size.lines
 
   pub possible-affected : MatchOption outcome.affected ⊤ (IsPossible (windows new).window)
-  possible-affected = possible-for (windows old) (windows new) change outcome.affected a.call.changed a.affected
+  possible-affected = possible-for (windows old) (windows new) change outcome.affected changed.0 changed.1
 
   shows : (panels : Panels) (y x : ℕ) → any_shows_at (windows new).window panels outcome.affected y x ≡ change_shows_at (windows old) panels change y x
-  shows panels y x = (λ i. any_shows_at (a.call.changed i).window panels (a.affected i) y x) ∙ shows-after (windows old) panels change y x
+  shows panels y x = (λ i. any_shows_at (changed.0 i).window panels (changed.1 i) y x) ∙ shows-after (windows old) panels change y x
 
   -- it is accepted with its answer, where what it affects is damaged
   pub damaging : (panels : Panels) (before after : List (Option Columns)) → Damages new.columns (any_shows_at (windows new).window panels outcome.affected) before after
       → ChangedDamaging old panels refusal change before (Ok outcome.reply) new after
+  unfolding Affects
   damaging panels before after h = record {
     call = record {
-      refused = refused-as (change_takes_memory change) refusal (λ (o : Outcome). o.reply) (Ok outcome) a.call.refused;
-      reply = a.call.reply;
-      changed = a.call.changed;
+      refused = refused-as (change_takes_memory change) refusal (λ (o : Outcome). o.reply) (Ok outcome) a.0.refused;
+      reply = a.0.reply;
+      changed = a.0.changed;
       unchanged = tt;
-      sound = a.call.sound;
+      sound = a.0.sound;
     };
     damaged = subst (λ n. Damages n (change_shows_at (windows old) panels change) before after) same-size.columns
         (damages-as new.columns (any_shows_at (windows new).window panels outcome.affected) (change_shows_at (windows old) panels change) before after h

@@ -1,5 +1,5 @@
 -- A call on panels: what the stack of panels says of it, and the desk on which it is made.
-use Rattle.std.proofs.Common.{◌≡◌, Bool, true, false, ℕ, Option, Some, None, [], ◌∷◌, ◌++◌, ap, refl, sym, subst, ◌∙◌, Result, Ok, Err, List}
+use Rattle.std.proofs.Common.{◌≡◌, ◌==◌, Bool, true, false, ℕ, Option, Some, None, [], ◌∷◌, ◌++◌, ap, refl, sym, subst, ◌∙◌, Result, Ok, Err, List}
 use Rattle.std.specs.Prelude.{OnErr, OnOk}
 use Rattle.cell.specs.Pictures.{Place}
 use Rattle.cell.specs.Refusals.{first_of}
@@ -7,52 +7,24 @@ use Rattle.cell.specs.declared.refusal.Refusal.{Refusal}
 use Rattle.world.specs.Panels.{Panels}
 use Rattle.world.specs.Sound.{AreSoundPanels, AreSoundWindows}
 use Rattle.world.specs.Windows.{Windows}
-use Rattle.world.specs.Effects.{asks, changes, with_entry, moved_to, order_takes_memory, windows_after}
-use Rattle.world.specs.calls.Stacking.{after_stacking, numbered_panel, panel_number, stacking_order, stacking_refusal}
+use Rattle.world.specs.Effects.{with_entry, moved_to, order_takes_memory, windows_after}
+use Rattle.world.specs.calls.Stacking.{after_stacking, stacking_order, stacking_refusal, stacking_tests}
 use Rattle.world.specs.declared.call.Call.TheVariants as calls
 use Rattle.world.specs.declared.call.Reply.{Reply}
-use Rattle.world.specs.declared.call.Reply.TheVariants.{Panel}
 use Rattle.world.specs.declared.call.Stacking.{Stacking}
-use Rattle.world.specs.declared.panel.PanelId.{PanelId}
 use Rattle.world.specs.declared.settings.Columns.{Columns}
 use Rattle.world.proofs.PlaceLaws.{has_place, keeps-moved, panels-kept}
 use Rattle.world.proofs.Sizes.{SameSize, size-order}
-use Rattle.calls.specs.Methods.{as_reply}
 use Rattle.grids.specs.Tables.{WindowTable, windows}
-use Rattle.stack.specs.Calls.{Arranged, Asked, no_windows}
+use Rattle.stack.specs.Calls.{Arranged, nothing}
 use Rattle.stack.specs.Tables.{PanelTable, panels}
 use Rattle.compose.specs.Calling.{Called}
 use Rattle.compose.specs.Covers.{IsDesk}
 use Rattle.compose.specs.Desks.{DeskTable, world}
 use Rattle.compose.specs.steps.Outcomes.{Ordered, OrderedDamaging}
 use Rattle.compose.proofs.DamageCovers.{call-accepted}
-use Rattle.compose.proofs.DeskLemmas.{accepted-by, call-refused, refused-as}
-use Rattle.compose.proofs.SoundPanels.{MayBeIn, sound-kept, sound-with}
-
--- ---- what the answer of a method is as that of its call
-
-pub answered : {T : Type 0} (reply_of : T → Reply) (old : WindowTable) (ps : PanelTable) (stacking : Stacking) (r : Result T Refusal) (new : WindowTable) (new_ps : PanelTable)
-    → Ordered reply_of old ps stacking r new new_ps → Ordered (λ reply. reply) old ps stacking (as_reply reply_of r) new new_ps
-answered reply_of old ps stacking (Ok t) new new_ps h = record {
-  refused = refused-as (order_takes_memory (stacking_order (panels ps) stacking)) (stacking_refusal (windows old) (panels ps) stacking) reply_of (Ok t) h.refused;
-  reply = h.reply;
-  changed = h.changed;
-  arranged = h.arranged;
-  unchanged = tt;
-  unordered = tt;
-  sound = h.sound;
-  sound_panels = h.sound_panels;
-}
-answered reply_of old ps stacking (Err e) new new_ps h = record {
-  refused = refused-as (order_takes_memory (stacking_order (panels ps) stacking)) (stacking_refusal (windows old) (panels ps) stacking) reply_of (Err e) h.refused;
-  reply = tt;
-  changed = tt;
-  arranged = tt;
-  unchanged = h.unchanged;
-  unordered = h.unordered;
-  sound = h.sound;
-  sound_panels = h.sound_panels;
-}
+use Rattle.compose.proofs.DeskLemmas.{accepted-by, call-refused}
+use Rattle.compose.proofs.SoundPanels.{MayBeIn, given-case, some-is, sound-after, window-of}
 
 -- ---- a call that the stack makes alone
 
@@ -63,45 +35,38 @@ first-after ((true, e) ∷ tests) rest h = cc
 first-after ((false, e) ∷ tests) rest h = first-after tests rest h
 
 module _ (table : WindowTable) (ps : PanelTable) (sound : AreSoundWindows (windows table)) (h : AreSoundPanels (windows table).window (panels ps)) where
-  -- a panel has another window, or none, or all keep theirs
+  -- each panel has a window after it that may be in a panel, or none
   ordered : {T : Type 0} (reply_of : T → Reply) (tests : List (Bool × Refusal)) (stacking : Stacking) (r : Result T Refusal) (new : PanelTable)
       → Arranged reply_of tests ps stacking r new → first_of tests ≡ stacking_refusal (windows table) (panels ps) stacking
-      → windows_after (windows table) (panels ps) (stacking_order (panels ps) stacking) ≡ windows table → AreSoundPanels (windows table).window (panels new)
-      → Ordered reply_of table ps stacking r table new
-  ordered reply_of tests stacking (Ok t) new a same still sound_panels =
-      record { refused = rw (← same) a.refused; reply = a.reply; changed = sym still; arranged = a.arranged; unchanged = tt; unordered = tt; sound = sound; sound_panels = sound_panels }
-  ordered reply_of tests stacking (Err e) new a same still sound_panels =
-      record { refused = rw (← same) a.refused; reply = tt; changed = tt; arranged = tt; unchanged = refl; unordered = a.unchanged; sound = sound; sound_panels = sound_panels }
+      → windows_after (windows table) (panels ps) (stacking_order (panels ps) stacking) ≡ windows table
+      → ((p v : ℕ) → (after_stacking (panels ps) stacking).window p ≡ Some v → MayBeIn (windows table).window v) → Ordered reply_of table ps stacking r table new
+  ordered reply_of tests stacking r new a same still may =
+      made reply_of tests stacking r new a same still (sound-after (windows table).window ps new (after_stacking (panels ps) stacking) r h a.sound may a.arranged a.unchanged) where
+        made : {T : Type 0} (reply_of : T → Reply) (tests : List (Bool × Refusal)) (stacking : Stacking) (r : Result T Refusal) (new : PanelTable)
+            → Arranged reply_of tests ps stacking r new → first_of tests ≡ stacking_refusal (windows table) (panels ps) stacking
+            → windows_after (windows table) (panels ps) (stacking_order (panels ps) stacking) ≡ windows table → AreSoundPanels (windows table).window (panels new)
+            → Ordered reply_of table ps stacking r table new
+        made reply_of tests stacking (Ok t) new a same still sound_panels =
+            record { refused = rw (← same) a.refused; reply = a.reply; changed = sym still; arranged = a.arranged; unchanged = tt; unordered = tt; sound = sound; sound_panels = sound_panels }
+        made reply_of tests stacking (Err e) new a same still sound_panels =
+            record { refused = rw (← same) a.refused; reply = tt; changed = tt; arranged = tt; unchanged = refl; unordered = a.unchanged; sound = sound; sound_panels = sound_panels }
 
-  pub ordered-again : {T : Type 0} (reply_of : T → Reply) (tests : List (Bool × Refusal)) (stacking : Stacking) (r : Result T Refusal) (new : PanelTable)
-      → Arranged reply_of tests ps stacking r new → first_of tests ≡ stacking_refusal (windows table) (panels ps) stacking
-      → windows_after (windows table) (panels ps) (stacking_order (panels ps) stacking) ≡ windows table → (after_stacking (panels ps) stacking).window ≡ (panels ps).window
-      → Ordered reply_of table ps stacking r table new
-  ordered-again reply_of tests stacking r new a same still kept =
-      ordered reply_of tests stacking r new a same still
-      (sound-kept (windows table).window ps new (after_stacking (panels ps) stacking) r h a.sound kept a.arranged a.unchanged)
+  -- it gives no panel a window
+  pub reordered : (stacking : Stacking) (r : Result (Unit {0}) Refusal) (new : PanelTable) → Arranged nothing (stacking_tests (windows table) (panels ps) stacking) ps stacking r new
+      → windows_after (windows table) (panels ps) (stacking_order (panels ps) stacking) ≡ windows table
+      → ((p v : ℕ) → (after_stacking (panels ps) stacking).window p ≡ Some v → (panels ps).window p ≡ Some v) → Ordered nothing table ps stacking r table new
+  reordered stacking r new a still kept =
+      ordered nothing (stacking_tests (windows table) (panels ps) stacking) stacking r new a refl still (λ p v has. window-of (windows table).window (panels ps) p v h (kept p v has))
 
-  pub ordered-given : {T : Type 0} (reply_of : T → Reply) (tests : List (Bool × Refusal)) (stacking : Stacking) (r : Result T Refusal) (new : PanelTable) (p : ℕ) (w : Option ℕ)
+  -- it gives one panel a window
+  pub ordered-given : {T : Type 0} (reply_of : T → Reply) (tests : List (Bool × Refusal)) (stacking : Stacking) (r : Result T Refusal) (new : PanelTable) (p w : ℕ)
       → Arranged reply_of tests ps stacking r new → first_of tests ≡ stacking_refusal (windows table) (panels ps) stacking
-      → windows_after (windows table) (panels ps) (stacking_order (panels ps) stacking) ≡ windows table → (after_stacking (panels ps) stacking).window ≡ with_entry (panels ps).window p w
-      → ((v : ℕ) → w ≡ Some v → MayBeIn (windows table).window v) → Ordered reply_of table ps stacking r table new
+      → windows_after (windows table) (panels ps) (stacking_order (panels ps) stacking) ≡ windows table
+      → (after_stacking (panels ps) stacking).window ≡ with_entry (panels ps).window p (Some w) → MayBeIn (windows table).window w → Ordered reply_of table ps stacking r table new
   ordered-given reply_of tests stacking r new p w a same still gives may =
-      ordered reply_of tests stacking r new a same still
-      (sound-with (windows table).window ps new (after_stacking (panels ps) stacking) p w r h a.sound gives may a.arranged a.unchanged)
-
-  -- a query
-  pub asked : {T A : Type 0} (reply_of : T → Reply) (answer : A) (said_by : T → A) (query : Stacking) (reply : Reply) (r : Result T Refusal) → Asked ps query answer said_by r
-      → stacking_order (panels ps) query ≡ changes (asks reply) → stacking_refusal no_windows (panels ps) query ≡ stacking_refusal (windows table) (panels ps) query
-      → ((t : T) → answer ≡ said_by t → reply_of t ≡ reply) → Ordered reply_of table ps query r table ps
-  asked reply_of answer said_by query reply (Ok t) a is same says =
-      record { refused = rw is (a.refused ∙ same); reply = rw is (says t a.answer); changed = rw is refl; arranged = rw is refl; unchanged = tt; unordered = tt; sound = sound; sound_panels = h }
-  asked reply_of answer said_by query reply (Err e) a is same says =
-      record { refused = rw is (a.refused ∙ same); reply = tt; changed = tt; arranged = tt; unchanged = refl; unordered = refl; sound = sound; sound_panels = h }
-
--- the panel that is answered is that of its number
-pub panel_answered : (n : Option ℕ) (p : Option PanelId) → n ≡ panel_number p → Panel p ≡ Panel (numbered_panel n)
-panel_answered n None is = rw is refl
-panel_answered n (Some p) is = rw is refl
+      let window = (windows table).window in
+      ordered reply_of tests stacking r new a same still (λ q v has.
+      given-case window (q == p) ((panels ps).window q) (Some w) v (ap (λ (f : ℕ → Option ℕ). f q) (sym gives) ∙ has) (some-is window w v may) (window-of window (panels ps) q v h))
 
 -- ---- a call that moves a window
 

@@ -10,7 +10,6 @@ use Rattle.world.specs.Windows.{Window, WindowMap}
 use Rattle.world.specs.Panels.{Panels, standard_screen}
 use Rattle.world.specs.Sound.{AreSoundPanels, IsSoundPanel}
 use Rattle.world.specs.calls.Stacking.{IsSoundEntry, IsSoundOrder, window_tests}
-use Rattle.world.specs.Effects.{with_entry}
 use Rattle.stack.specs.Tables.{PanelTable, panels}
 
 -- a window that may be in a panel
@@ -38,19 +37,9 @@ module _ (window : WindowMap) where
   pub sound-order : (ps : Panels) → IsSoundOrder ps → ((p w : ℕ) → ps.window p ≡ Some w → MayBeIn window w) → AreSoundPanels window ps
   sound-order ps h may = record { once = h.once; visible = h.visible; each = λ p. sound-entry ps p (ps.window p) refl (may p) (h.each p) }
 
-  -- another order of the same panels
-  pub sound-reordered : (old new : Panels) → AreSoundPanels window old → IsSoundOrder new → new.window ≡ old.window → AreSoundPanels window new
-  sound-reordered old new h order same = sound-order new order (λ p w is. window-of old p w h (ap (λ (f : ℕ → Option ℕ). f p) (sym same) ∙ is))
-
-  given-case : (b : Bool) (o w : Option ℕ) (v : ℕ) → (if b then w else o) ≡ Some v → (w ≡ Some v → MayBeIn window v) → (o ≡ Some v → MayBeIn window v) → MayBeIn window v
+  pub given-case : (b : Bool) (o w : Option ℕ) (v : ℕ) → (if b then w else o) ≡ Some v → (w ≡ Some v → MayBeIn window v) → (o ≡ Some v → MayBeIn window v) → MayBeIn window v
   given-case true o w v is new old = new is
   given-case false o w v is new old = old is
-
-  -- the panel p has another window, or none
-  pub sound-given : (old new : Panels) (p : ℕ) (w : Option ℕ) → AreSoundPanels window old → IsSoundOrder new → new.window ≡ with_entry old.window p w
-      → ((v : ℕ) → w ≡ Some v → MayBeIn window v) → AreSoundPanels window new
-  sound-given old new p w h order same may = sound-order new order (λ q v is.
-      given-case (q == p) (old.window q) w v (ap (λ (f : ℕ → Option ℕ). f q) (sym same) ∙ is) (may v) (window-of old q v h))
 
   place-there : (place : Option Place) (e : Refusal) → (if is_none place then Some e else None) ≡ None → IsSome place
   place-there None e h = cc
@@ -68,15 +57,8 @@ module _ (window : WindowMap) where
   pub some-is : (w v : ℕ) → MayBeIn window w → Some w ≡ Some v → MayBeIn window v
   some-is w v may is = let same : w ≡ v = cc in subst (MayBeIn window) same may
 
-  -- the same panels with the same windows
-  pub sound-kept : {T : Type 0} (old new : PanelTable) (after : Panels) (r : Result T Refusal) → AreSoundPanels window (panels old) → IsSoundOrder (panels new) → after.window ≡ (panels old).window
-      → OnOk r (panels new ≡ after) → OnErr r (new ≡ old) → AreSoundPanels window (panels new)
-  sound-kept old new after (Ok done) h order same is unchanged = sound-reordered (panels old) (panels new) h order (ap (λ ps. ps.window) is ∙ same)
-  sound-kept old new after (Err e) h order same is unchanged = subst (λ t. AreSoundPanels window (panels t)) (sym unchanged) h
-
-  -- one panel has another window, or none
-  pub sound-with : {T : Type 0} (old new : PanelTable) (after : Panels) (p : ℕ) (w : Option ℕ) (r : Result T Refusal) → AreSoundPanels window (panels old) → IsSoundOrder (panels new)
-      → after.window ≡ with_entry (panels old).window p w → ((v : ℕ) → w ≡ Some v → MayBeIn window v) → OnOk r (panels new ≡ after) → OnErr r (new ≡ old)
-      → AreSoundPanels window (panels new)
-  sound-with old new after p w (Ok done) h order gives may is unchanged = sound-given (panels old) (panels new) p w h order (ap (λ ps. ps.window) is ∙ gives) may
-  sound-with old new after p w (Err e) h order gives may is unchanged = subst (λ t. AreSoundPanels window (panels t)) (sym unchanged) h
+  -- an order is made, or not, after which the windows of panels may be in panels
+  pub sound-after : {T : Type 0} (old new : PanelTable) (after : Panels) (r : Result T Refusal) → AreSoundPanels window (panels old) → IsSoundOrder (panels new)
+      → ((p v : ℕ) → after.window p ≡ Some v → MayBeIn window v) → OnOk r (panels new ≡ after) → OnErr r (new ≡ old) → AreSoundPanels window (panels new)
+  sound-after old new after (Ok done) h order may is unchanged = sound-order (panels new) order (λ p v has. may p v (ap (λ (ps : Panels). ps.window p) (sym is) ∙ has))
+  sound-after old new after (Err e) h order may is unchanged = subst (λ t. AreSoundPanels window (panels t)) (sym unchanged) h

@@ -29,9 +29,6 @@ twice false false o = refl
 pub unmarked-first : (window : WindowMap) (w : ℕ) (ws : List ℕ) → with_unmarked window (w ∷ ws) ≡ with_unmarked (with_unmarked window (w ∷ [])) ws
 unmarked-first window w ws = fun_ext (λ u. twice (w == u) (list_any (λ v. v == u) ws) (window u))
 
-pub unmarked-none : (window : WindowMap) → with_unmarked window [] ≡ window
-unmarked-none window = fun_ext (λ u. refl)
-
 -- the same of all windows, after the first one was
 pub still-left : (old new : Windows) (w : ℕ) (ws : List ℕ) → new ≡ record old { window = with_unmarked old.window (w ∷ []) }
     → record old { window = with_unmarked old.window (w ∷ ws) } ≡ record new { window = with_unmarked new.window ws }

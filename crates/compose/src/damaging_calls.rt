@@ -26,6 +26,7 @@ use windows::Windows;
 use world::{Copying, Making, PanelId, Reply, Stacking, Writing};
 
 /// Makes a call of the table of making and placing.
+#[tactic(auto, unfolding(crate::specs::steps::Outcomes::Affects))]
 pub(crate) fn make_damaging(
     table: &mut Grids,
     stack: &Stack,
@@ -44,6 +45,7 @@ pub(crate) fn make_damaging(
 
 /// Makes a call of the table of writing.
 #[inline(always)]
+#[tactic(auto, unfolding(crate::specs::steps::Outcomes::Affects))]
 pub(crate) fn write_damaging(
     windows: &mut Windows,
     stack: &Stack,
@@ -61,6 +63,7 @@ pub(crate) fn write_damaging(
 
 /// Makes a call of the table of copies and marks.
 #[inline(always)]
+#[tactic(auto, unfolding(crate::specs::steps::Outcomes::Affects))]
 pub(crate) fn copy_damaging(
     windows: &mut Windows,
     stack: &Stack,
@@ -77,6 +80,7 @@ pub(crate) fn copy_damaging(
 }
 
 /// Makes a call of the table of panels.
+#[tactic(auto, unfolding(crate::specs::steps::Outcomes::Rearranges))]
 pub(crate) fn arrange_damaging(
     table: &mut Grids,
     stack: &mut Stack,

@@ -8,7 +8,7 @@ ghost use Rattle.world.specs.Panels.{is_in_panel, Panels};
 ghost use Rattle.world.specs.Sound.{AreSoundPanels};
 ghost use Rattle.world.specs.calls.Copying.{copying_refusal, copying_change};
 ghost use Rattle.world.specs.calls.Making.{making_refusal, making_change};
-ghost use Rattle.world.specs.calls.Stacking.{panel_number, stacking_order};
+ghost use Rattle.world.specs.calls.Stacking.{numbered_panel, panel_number, stacking_order};
 ghost use Rattle.world.specs.calls.Dispatch.{is_doupdate};
 ghost use Rattle.world.specs.calls.Writing.{writing_refusal, writing_edit};
 ghost use Rattle.world.specs.calls.Queries.{query_refusal, query_reply};
@@ -17,13 +17,12 @@ ghost use Rattle.world.specs.Windows.{Window};
 ghost use Rattle.world.specs.declared.call.Call.{Call};
 ghost use Rattle.world.specs.declared.call.Reply.{Reply};
 ghost use Rattle.grids.specs.Calls.{Changed, its_flag, its_number, nothing as no_answer};
-ghost use Rattle.calls.specs.Methods.{as_reply};
 ghost use Rattle.grids.specs.Tables.{WindowTable, windows as windows_of};
 ghost use Rattle.windows.specs.Calls.{Drew, its_frame, no_frame};
 ghost use Rattle.stack.specs.Calls.{its_panel};
 ghost use Rattle.stack.specs.Tables.{panels};
 ghost use Rattle.compose.specs.steps.Changes.{affected_by, named_panel, order_panel, ordered_panel};
-ghost use Rattle.compose.specs.steps.Outcomes.{Affects, Ordered};
+ghost use Rattle.compose.specs.steps.Outcomes.{Affects, AnswersCall, AnswersOrder, AnswersQuery, Rearranges};
 ghost use Rattle.compose.specs.Calling.{Called};
 
 use crate::damaging::Affected;
@@ -116,6 +115,7 @@ pub(crate) fn copy(windows: &mut Windows, copying: Copying) -> Result<Outcome, R
     }
 }
 
+#[tactic(auto, unfolding(crate::specs::steps::Outcomes::Affects))]
 impl Outcome {
     /// Of a call that drew in a window.
     #[inline(always)]
@@ -211,7 +211,7 @@ pub(crate) fn query(windows: &Windows, query: Query) -> Result<Reply, Refusal>
 #[rattlefmt::skip]
 pub(crate) fn arrange(table: &mut Grids, stack: &mut Stack, stacking: Stacking) -> Result<Reply, Refusal>
     requires { AreSoundPanels (windows_of table.old).window (panels stack.old) }
-    ensures { Ordered (λ reply. reply) table.old stack.old stacking result table.new stack.new }
+    ensures { Rearranges table.old stack.old stacking result table.new stack.new }
 {
     prove!(table.has_window(WinId::STANDARD));
     match stacking {
@@ -283,37 +283,43 @@ pub(crate) fn refresh(desk: &mut Desk, refresh: Refresh) -> Result<Reply, Refusa
 }
 
 /// The answer of a call that answers nothing.
+#[tactic(auto, unfolding(crate::specs::steps::Outcomes::Rearranges))]
 fn done(end: Result<(), Refusal>) -> Result<Reply, Refusal>
-    ensures { result ≡ as_reply no_answer end }
+    ensures made { AnswersCall no_answer end result }
+    ensures reordered { AnswersOrder end result }
 {
     end?;
     Ok(Reply::Nothing)
 }
 
 /// The answer of a call that asked for a panel's window.
+#[tactic(auto, unfolding(crate::specs::steps::Outcomes::Rearranges))]
 fn number(win: Result<WinId, Refusal>) -> Result<Reply, Refusal>
-    ensures { result ≡ as_reply Reply.Number win }
+    ensures { AnswersQuery Reply.Number win result }
 {
     Ok(Reply::Number(win?))
 }
 
 /// The answer of a call that made a panel.
+#[tactic(auto, unfolding(crate::specs::steps::Outcomes::Rearranges))]
 fn new_number(made: Result<PanelId, Refusal>) -> Result<Reply, Refusal>
-    ensures { result ≡ as_reply its_panel made }
+    ensures { AnswersCall its_panel made result }
 {
     Ok(Reply::Panel(Some(made?)))
 }
 
 /// The answer of a call that asked for a panel.
+#[tactic(auto, unfolding(crate::specs::steps::Outcomes::Rearranges))]
 fn panel(panel: Result<Option<PanelId>, Refusal>) -> Result<Reply, Refusal>
-    ensures { result ≡ as_reply Reply.Panel panel }
+    ensures { AnswersQuery (λ p. Reply.Panel (numbered_panel (panel_number p))) panel result }
 {
     Ok(Reply::Panel(panel?))
 }
 
 /// The answer of a call that asked whether something is so.
+#[tactic(auto, unfolding(crate::specs::steps::Outcomes::Rearranges))]
 fn flag(is: Result<bool, Refusal>) -> Result<Reply, Refusal>
-    ensures { result ≡ as_reply Reply.Flag is }
+    ensures { AnswersQuery Reply.Flag is result }
 {
     Ok(Reply::Flag(is?))
 }

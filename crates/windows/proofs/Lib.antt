@@ -14,8 +14,6 @@ pub mod Typing
 pub mod Texts
 -- a run of characters that stay inside a line is one drawing, for type_text
 pub mod Runs
--- settings changed, for the calls that set
-pub mod OptionLemmas
 -- the lines of a region, for scroll
 pub mod Scrolls
 -- two small windows worked out, for a reader of the definitions

@@ -1,12 +1,13 @@
 -- A window keeps its size and its settings where something is written; and other settings are one change of it.
-use Rattle.std.proofs.Common.{◌≡◌, ℕ, ◌<◌, Bool, true, false, if◌then◌else◌, ◌==◌, Option, Some, None, IsSome, IsSomeAnd, ap, arith, refl, sym, subst, ◌∙◌}
+use Rattle.std.proofs.Common.{◌≡◌, ℕ, ◌<◌, ◌-◌, Bool, true, false, if◌then◌else◌, ◌==◌, Option, Some, None, IsSome, IsSomeAnd, ap, arith, refl, sym, subst, ◌∙◌}
 use Rattle.std.specs.Option.{option_map}
 use mathlib.Core.Path.{fun_ext}
 use Rattle.std.proofs.lemmas.Bool.{eqb-true}
-use Rattle.std.proofs.lemmas.Nat.{and_mask}
-use Rattle.cell.specs.Attributes.{bits_of, valid_attributes}
-use Rattle.world.specs.Windows.{Window, WindowMap, Windows, GridPlace, Drawing, own, after_drawing, put_from, put_windows, put, HasPlace}
-use Rattle.world.specs.Settings.{with_settings, after_set_settings, set_in, set}
+use Rattle.std.proofs.lemmas.Nat.{and_le_l, and_mask, or_lt}
+use Rattle.cell.specs.Attributes.{bits_of, valid_attributes, without}
+use Rattle.std.specs.Int.RustNames.{bit_or}
+use Rattle.world.specs.Windows.{Window, WindowMap, Windows, GridPlace, Drawing, own, after_drawing, put_from, put_windows, put, HasPlace, with_change}
+use Rattle.world.specs.Settings.{after_set_settings, set_in, set}
 use Rattle.world.specs.Sound.{AreSoundWindows, IsSoundWindow}
 use Rattle.world.specs.calls.Queries.{window_size}
 use Rattle.std.specs.Prelude.{⊤, MatchOption}
@@ -67,20 +68,31 @@ has_place windows w s y x h below on = place-in (windows.window w) h.window s.li
 pub valid_attributes-small : (bits : ℕ) → bits < 64 → valid_attributes bits ≡ bits
 valid_attributes-small bits h = and_mask bits 6 ∙ omega arith
 
-set-at : (settings : Settings) (change : Settings → Settings) (a : Window) (t : Bool) (o : Option Window) → (t ≡ true → o ≡ Some a)
-    → record settings { attrs = record { 0 = valid_attributes (bits_of settings.attrs) } } ≡ change a.settings
-    → (if t then option_map (with_settings settings) o else o) ≡ (if t then option_map (set_in change) o else o)
-set-at settings change a true o there e =
-    let here = there refl in
-    ap (option_map (with_settings settings)) here ∙ ap (λ (v : Settings). Some (record a { settings = v })) e ∙ sym (ap (option_map (set_in change)) here)
-set-at settings change a false o there e = refl
+-- sets of the six, both together and one without the other
+pub either-few : (a b : ℕ) → a < 64 → b < 64 → bit_or a b < 64
+either-few a b h k = or_lt 6 a b h k
 
-pub set-is : (windows : Windows) (w : ℕ) (s : WindowState) (settings : Settings) (change : Settings → Settings) → IsStateOf windows w s
-    → record settings { attrs = record { 0 = valid_attributes (bits_of settings.attrs) } } ≡ change s.settings
-    → after_set_settings windows w settings ≡ set windows w change
-set-is windows w s settings change h e = λ i. record windows {
-  window = fun_ext (λ u.
-      set-at settings change h.window (u == w) (windows.window u) (λ t. ap windows.window (eqb-true u w t) ∙ h.there) (e ∙ sym (ap change h.settings))) i;
+pub without-few : (a b : ℕ) → a < 64 → without a b < 64
+without-few a b h = let less = and_le_l a (0xff - b) in omega arith
+
+pub ruleset of_the_six = (either-few, without-few)
+
+-- settings of the six attributes are kept as they are
+pub set-all : (windows : Windows) (w : ℕ) (settings : Settings) → bits_of settings.attrs < 64 → after_set_settings windows w settings ≡ set windows w (λ before. settings)
+set-all windows w settings few = λ i. record windows {
+  window = with_change windows.window w (λ a. record a { settings = record settings { attrs = record { 0 = valid_attributes-small (bits_of settings.attrs) few i } } });
+}
+
+set-at : (settings : Settings) (change : Settings → Settings) (a : Window) (t : Bool) (o : Option Window) → (t ≡ true → o ≡ Some a) → a.settings ≡ settings
+    → (if t then option_map (set_in (λ before. change settings)) o else o) ≡ (if t then option_map (set_in change) o else o)
+set-at settings change a true o there are = rw (there refl) (ap (λ v. Some (record a { settings = change v })) (sym are))
+set-at settings change a false o there are = refl
+
+-- a window of a known state is set to what a change makes of its settings
+pub set-known : (windows : Windows) (w : ℕ) (s : WindowState) (change : Settings → Settings) → IsStateOf windows w s
+    → set windows w (λ before. change s.settings) ≡ set windows w change
+set-known windows w s change h = λ i. record windows {
+  window = fun_ext (λ u. set-at s.settings change h.window (u == w) (windows.window u) (λ t. ap windows.window (eqb-true u w t) ∙ h.there) h.settings) i;
 }
 
 -- a window of a sound world has the state that its size and its settings make

@@ -1,9 +1,8 @@
 -- A character written at the cursor of a window of a known state.
-use Rattle.std.proofs.Common.{◌≡◌, ℕ, ◌+◌, ◌-◌, ◌^◌, ◌<◌, ◌≤◌, Bool, true, false, if◌then◌else◌, ◌==◌, ◌&&◌, nat_lt, Option, Some, None, ap, arith, refl, sym, ◌∙◌, eq-eqb}
+use Rattle.std.proofs.Common.{◌≡◌, ℕ, ◌+◌, ◌-◌, ◌<◌, ◌≤◌, Bool, true, false, if◌then◌else◌, ◌==◌, ◌&&◌, nat_lt, Option, Some, None, ap, arith, refl, sym, ◌∙◌, eq-eqb}
 use Rattle.std.specs.Int.RustNames.{bit_or}
 use Rattle.std.proofs.lemmas.Bool.{lt-ltb}
 use Rattle.std.proofs.lemmas.Bool.Decides.{nat_tests}
-use Rattle.std.proofs.lemmas.Nat.{and_mask, or_lt}
 use Rattle.cell.specs.Attributes.{bits_of, valid_attributes}
 use Rattle.cell.specs.Glyphs.{Glyph}
 use Rattle.cell.specs.Pictures.{Place}
@@ -19,6 +18,7 @@ use Rattle.windows.specs.steps.State.{IsStateOf, window_in_state}
 use Rattle.windows.specs.declared.state.WindowState.{WindowState}
 use Rattle.windows.proofs.Rectangles.{frame-at_place, frame-to_end_of_line, frame-lines_up}
 use Rattle.windows.proofs.Calls.{call-is, frame-is}
+use Rattle.windows.proofs.States.{either-few, valid_attributes-small}
 
 pub if_true : {X : Type 0} (t : Bool) (a b : X) → t ≡ true → (if t then a else b) ≡ a
 if_true true a b h = refl
@@ -35,9 +35,7 @@ both false t h k = h
 
 -- attributes of the six are known
 pub valid_attributes-either : (a b : ℕ) → a < 64 → b < 64 → valid_attributes (bit_or a b) ≡ bit_or a b
-valid_attributes-either a b h k =
-    let small : bit_or a b < 2 ^ 6 = or_lt 6 a b h k in
-    and_mask (bit_or a b) 6 ∙ omega arith
+valid_attributes-either a b h k = valid_attributes-small (bit_or a b) (either-few a b h k)
 
 module _ (windows : Windows) (w : ℕ) (s : WindowState) (h : IsStateOf windows w s) where
   -- ---- the end of a line

@@ -1,7 +1,9 @@
-//! What a call reads of its window first, and its cursor.
+//! What a call reads of its window first, and sets of it.
 
-ghost use Rattle.std.specs.Prelude.{◌≡◌, ◌<◌, MatchResult, None};
+ghost use Rattle.std.specs.Prelude.{◌≡◌, ◌<◌, ◌≤◌, IsSomeAnd, MatchResult, None};
+ghost use Rattle.cell.specs.Attributes.{bits_of};
 ghost use Rattle.world.specs.Settings.{set, with_cursor};
+ghost use Rattle.world.specs.Windows.{HasPlace};
 ghost use Rattle.world.specs.Sound.{AreSoundWindows};
 ghost use Rattle.grids.specs.Tables.{windows};
 ghost use Rattle.windows.specs.steps.State.{IsStateOf};
@@ -42,4 +44,16 @@ pub fn set_cursor(table: &mut Grids, win: WinId, state: &WindowState, y: u16, x:
     ensures sound { AreSoundWindows (windows table.new) }
 {
     table.set_cursor(win, y, x);
+}
+
+/// Gives a window these settings, which must be of its size and of the six attributes.
+pub fn set_settings(table: &mut Grids, win: WinId, settings: Settings)
+    requires cursor { HasPlace (windows table.old).window win.0 settings.cursor.0 settings.cursor.1 }
+    requires region_order { settings.region.0 ≤ settings.region.1 }
+    requires region_end { IsSomeAnd ((windows table.old).window win.0) (λ a. settings.region.1 < a.lines) }
+    requires attributes { bits_of settings.attrs < 64 }
+    ensures set { windows table.new ≡ set (windows table.old) win.0 (λ before. settings) }
+    ensures sound { AreSoundWindows (windows table.new) }
+{
+    table.set_settings(win, settings);
 }

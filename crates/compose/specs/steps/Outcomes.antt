@@ -1,26 +1,28 @@
 -- A call made on windows, with what it affects of what is shown, and one with what it damages; and a call on panels.
-use Rattle.std.specs.Prelude.{◌≡◌, IfOk, OnErr, OnOk, Option, List, Result}
+use Rattle.std.specs.Prelude.{◌≡◌, ℕ, IfOk, OnErr, OnOk, Option, Some, List, Result}
+use Rattle.std.specs.Result.{result_err}
 use Rattle.cell.specs.declared.refusal.Refusal.{Refusal}
-use Rattle.world.specs.Effects.{Change, order_reply, order_takes_memory, windows_after}
+use Rattle.world.specs.Effects.{Change, asks, changes, order_reply, order_takes_memory, windows_after}
 use Rattle.world.specs.Panels.{Panels}
 use Rattle.world.specs.Sound.{AreSoundPanels, AreSoundWindows}
 use Rattle.world.specs.calls.Affected.{change_shows_at, order_shows_at}
 use Rattle.world.specs.calls.Refused.{Refused}
-use Rattle.world.specs.calls.Stacking.{after_stacking, stacking_order, stacking_refusal}
+use Rattle.world.specs.calls.Stacking.{after_stacking, stacking_order, stacking_refusal, stacking_tests}
 use Rattle.world.specs.declared.call.Reply.{Reply}
 use Rattle.world.specs.declared.call.Stacking.{Stacking}
 use Rattle.world.specs.declared.settings.Columns.{Columns}
 use Rattle.grids.specs.Calls.{Changed}
 use Rattle.grids.specs.Tables.{WindowTable, windows}
+use Rattle.stack.specs.Calls.{Arranged, nothing}
 use Rattle.stack.specs.Tables.{PanelTable, panels}
 use Rattle.picture.specs.Damages.{Damages}
 use Rattle.compose.specs.declared.dispatch.Outcome.{Outcome}
 use Rattle.compose.specs.steps.Changes.{affected_by}
 
--- a call was made, and what it affects is what its change does
-pub record Affects (old : WindowTable) (refusal : Option Refusal) (change : Change) (r : Result Outcome Refusal) (new : WindowTable) : Type 0 where
-  pub call : Changed (λ outcome. outcome.reply) old refusal change r new
-  pub affected : IfOk r (λ outcome. outcome.affected ≡ affected_by (windows old) change)
+-- A call was made, and what it affects is what its change does. Only the proofs of a kind of call, and of what is damaged, look into it.
+unfoldable pub Affects : WindowTable → Option Refusal → Change → Result Outcome Refusal → WindowTable → Type 0
+Affects old refusal change r new =
+    Changed (λ (outcome : Outcome). outcome.reply) old refusal change r new × IfOk r (λ outcome. outcome.affected ≡ affected_by (windows old) change)
 
 -- a call was made, and what is damaged is what windows show of its change; a refused one damages nothing
 pub record ChangedDamaging (old : WindowTable) (panels : Panels) (refusal : Option Refusal) (change : Change) (damage : List (Option Columns))
@@ -41,6 +43,30 @@ pub record Ordered {T : Type 0} (reply_of : T → Reply) (old : WindowTable) (ol
   pub unordered : OnErr r (new_panels ≡ old_panels)
   pub sound : AreSoundWindows (windows new)
   pub sound_panels : AreSoundPanels (windows new).window (panels new_panels)
+
+-- It was, with this answer. Only the proofs of a kind of call, and of what is damaged, look into it.
+unfoldable pub Rearranges : WindowTable → PanelTable → Stacking → Result Reply Refusal → WindowTable → PanelTable → Type 0
+Rearranges old old_panels stacking r new new_panels = Ordered (λ (reply : Reply). reply) old old_panels stacking r new new_panels
+
+-- this is the answer of any call on panels that a method made, whose answer is r
+abbrev pub AnswersCall : {T : Type 0} → (T → Reply) → Result T Refusal → Result Reply Refusal → Type 0
+AnswersCall reply_of r answer =
+    (old new : WindowTable) (ps after : PanelTable) (stacking : Stacking) → Ordered reply_of old ps stacking r new after → Rearranges old ps stacking answer new after
+
+-- of one that a stack of panels made alone, and that gave no panel a window
+abbrev pub AnswersOrder : Result (Unit {0}) Refusal → Result Reply Refusal → Type 0
+AnswersOrder r answer =
+    (table : WindowTable) (ps after : PanelTable) (stacking : Stacking) → AreSoundWindows (windows table) → AreSoundPanels (windows table).window (panels ps)
+    → Arranged nothing (stacking_tests (windows table) (panels ps) stacking) ps stacking r after
+    → windows_after (windows table) (panels ps) (stacking_order (panels ps) stacking) ≡ windows table
+    → ((p w : ℕ) → (after_stacking (panels ps) stacking).window p ≡ Some w → (panels ps).window p ≡ Some w) → Rearranges table ps stacking answer table after
+
+-- of one that asks about panels
+abbrev pub AnswersQuery : {T : Type 0} → (T → Reply) → Result T Refusal → Result Reply Refusal → Type 0
+AnswersQuery reply_of r answer =
+    (table : WindowTable) (ps : PanelTable) (query : Stacking) → AreSoundWindows (windows table) → AreSoundPanels (windows table).window (panels ps)
+    → result_err r ≡ stacking_refusal (windows table) (panels ps) query → stacking_order (panels ps) query ≡ changes (asks (order_reply (stacking_order (panels ps) query)))
+    → IfOk r (λ t. reply_of t ≡ order_reply (stacking_order (panels ps) query)) → Rearranges table ps query answer table ps
 
 -- it was made, and what is damaged is what windows show of its order; a refused one damages nothing
 pub record OrderedDamaging (old : WindowTable) (old_panels : PanelTable) (stacking : Stacking) (damage : List (Option Columns)) (r : Result Reply Refusal)

@@ -11,7 +11,7 @@ ghost use Rattle.windows.specs.Calls.{Wrote, its_frame, no_frame};
 
 use crate::drawing::{clear_all, clear_below, clear_rest, move_down, move_up};
 use crate::frame::lines_from;
-use crate::state::{set_cursor, state_of};
+use crate::state::{set_cursor, set_settings, state_of};
 use crate::table::Windows;
 use cell::{Rect, Refusal, WinId};
 use world::Settings;
@@ -46,7 +46,7 @@ impl Windows {
             clear: true,
             ..state.settings
         };
-        self.table.set_settings(win, settings);
+        set_settings(&mut self.table, win, settings);
         Ok(Some(frame))
     }
 

@@ -9,12 +9,13 @@ ghost use Rattle.world.specs.declared.call.Writing.{Writing};
 ghost use Rattle.grids.specs.Tables.{windows};
 ghost use Rattle.windows.specs.Calls.{Wrote, its_frame, no_frame};
 
-use crate::state::{set_cursor, state_of};
+use crate::state::{set_cursor, set_settings, state_of};
 use crate::table::Windows;
 use bitflags::Flags;
 use cell::{Attr, Cell, PairId, Refusal, WinId};
 use world::Settings;
 
+#[tactic(auto, using(crate::proofs::States::of_the_six))]
 impl Windows {
     /// Moves the cursor to line `y` and column `x`.
     ///
@@ -43,7 +44,7 @@ impl Windows {
             clear: flag,
             ..state.settings
         };
-        self.table.set_settings(win, settings);
+        set_settings(&mut self.table, win, settings);
         Ok(())
     }
 
@@ -56,10 +57,10 @@ impl Windows {
     {
         let state = state_of(&self.table, win)?;
         let settings = Settings {
-            attrs,
+            attrs: attrs.valid_attributes(),
             ..state.settings
         };
-        self.table.set_settings(win, settings);
+        set_settings(&mut self.table, win, settings);
         Ok(())
     }
 
@@ -75,7 +76,7 @@ impl Windows {
             attrs: state.settings.attrs.union(attrs.valid_attributes()),
             ..state.settings
         };
-        self.table.set_settings(win, settings);
+        set_settings(&mut self.table, win, settings);
         Ok(())
     }
 
@@ -91,7 +92,7 @@ impl Windows {
             attrs: state.settings.attrs.difference(attrs.valid_attributes()),
             ..state.settings
         };
-        self.table.set_settings(win, settings);
+        set_settings(&mut self.table, win, settings);
         Ok(())
     }
 
@@ -108,7 +109,7 @@ impl Windows {
             background,
             ..state.settings
         };
-        self.table.set_settings(win, settings);
+        set_settings(&mut self.table, win, settings);
         Ok(())
     }
 
@@ -125,7 +126,7 @@ impl Windows {
             pair,
             ..state.settings
         };
-        self.table.set_settings(win, settings);
+        set_settings(&mut self.table, win, settings);
         Ok(())
     }
 
@@ -142,7 +143,7 @@ impl Windows {
             background: state.settings.background.with_pair(pair),
             ..state.settings
         };
-        self.table.set_settings(win, settings);
+        set_settings(&mut self.table, win, settings);
         Ok(())
     }
 }

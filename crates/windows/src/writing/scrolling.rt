@@ -13,7 +13,7 @@ ghost use Rattle.windows.specs.steps.State.{IsStateOf, window_in_state};
 
 use crate::drawing::{move_down, move_up};
 use crate::frame::lines_from;
-use crate::state::{WindowState, state_of};
+use crate::state::{WindowState, set_settings, state_of};
 use crate::table::Windows;
 use cell::{Rect, Refusal, WinId};
 use grids::Grids;
@@ -50,7 +50,7 @@ impl Windows {
             region: (top, bot),
             ..state.settings
         };
-        self.table.set_settings(win, settings);
+        set_settings(&mut self.table, win, settings);
         Ok(())
     }
 
@@ -66,7 +66,7 @@ impl Windows {
             scrolling: flag,
             ..state.settings
         };
-        self.table.set_settings(win, settings);
+        set_settings(&mut self.table, win, settings);
         Ok(())
     }
 }

@@ -11,11 +11,13 @@ use Rattle.stack.specs.Tables.{panels}
 use Rattle.picture.specs.Parts.{part_holds}
 use Rattle.picture.proofs.DamageLaws.{damages-as, damages-none, damages-then, part-right}
 use Rattle.compose.specs.steps.Changes.{top_window}
+use Rattle.compose.specs.steps.Outcomes.{Rearranges}
 use Rattle.compose.proofs.Arranging.{size-ordered}
 use Rattle.compose.proofs.Parting.{order_stays, part-within, stacking-parts, stays-where-same, unseen-where-same}
 use Rattle.compose.proofs.damaging_calls.arrange_damaging.Goals as goal
 
 pub damage_part-requires-2-clause-few : goal.damage_part-requires-2-clause-few
+unfolding Rearranges
 damage_part-requires-2-clause-few c =
     let t = c.args.table.now in
     let size = size-ordered _ t c.args.stack.now c.args.stacking c.arrange.result c.arrange.new.table _ c.arrange.ensures in
@@ -25,6 +27,7 @@ damage_part-requires-2-clause-few c =
     omega (arith, lines, few, height)
 
 pub damage_part-requires-2-clause-inside : goal.damage_part-requires-2-clause-inside
+unfolding Rearranges
 damage_part-requires-2-clause-inside c =
     let t = c.args.table.now in
     let new = c.arrange.new.table in
@@ -33,6 +36,7 @@ damage_part-requires-2-clause-inside c =
     part-within new.lines new.columns (length c.damage_part.new.damage) c.part_of-after.result c.part_of-after.ensures.within (size.lines ∙ sym height)
 
 pub returns : goal.returns
+unfolding Rearranges
 returns c =
     let a = c.args in
     let t = a.table.now in
@@ -67,6 +71,7 @@ returns c =
 
 -- where the panel stays on top, no place is affected
 pub returns-then-is_same_window : goal.returns-then-is_same_window
+unfolding Rearranges
 returns-then-is_same_window c =
     let ws = windows c.args.table.now in
     let ps = panels c.args.stack.now in

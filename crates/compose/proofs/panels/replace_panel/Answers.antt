@@ -9,7 +9,7 @@ use Rattle.grids.specs.Tables.{windows}
 use Rattle.stack.specs.Calls.{nothing}
 use Rattle.stack.specs.Tables.{panels}
 use Rattle.compose.proofs.Arranging.{first-after, ordered-given}
-use Rattle.compose.proofs.SoundPanels.{may-be-in, some-is}
+use Rattle.compose.proofs.SoundPanels.{may-be-in}
 use Rattle.compose.proofs.panels.replace_panel.Goals as goal
 
 pub returns : goal.returns
@@ -18,7 +18,7 @@ returns c =
     let window = (windows a.table.now).window in
     let ps = panels a.stack.now in
     let passed : first_of (window_tests window a.win.0) ≡ None = search rules in
-    ordered-given a.table.now a.stack.now c.has_window.ensures.sound c.requires nothing _ _ c.replace.result c.replace.new.self a.panel.0 (Some a.win.0) c.replace.ensures
+    ordered-given a.table.now a.stack.now c.has_window.ensures.sound c.requires nothing _ _ c.replace.result c.replace.new.self a.panel.0 a.win.0 c.replace.ensures
     (ap (λ o. if is_none (ps.window a.panel.0) then Some NoSuchPanel else o)
     (sym (first-after (window_tests window a.win.0) ((is_in_panel ps a.win.0, InPanel) ∷ []) passed)))
-    refl refl (λ v is. some-is window a.win.0 v (may-be-in window a.win.0 passed) is)
+    refl refl (may-be-in window a.win.0 passed)

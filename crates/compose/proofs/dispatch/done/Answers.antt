@@ -1,0 +1,11 @@
+use Rattle.std.proofs.Common.{rules}
+use Rattle.stack.specs.Calls.{nothing}
+use Rattle.compose.specs.steps.Outcomes.{Ordered, Rearranges}
+use Rattle.compose.proofs.Arranging.{reordered}
+use Rattle.compose.proofs.dispatch.done.Goals as goal
+
+pub returns-clause-reordered : goal.returns-clause-reordered
+unfolding Rearranges
+returns-clause-reordered c table ps after stacking sound sound_panels arranged still kept =
+    let ordered : Ordered nothing table ps stacking c.args.end table after = reordered table ps sound sound_panels stacking c.args.end after arranged still kept in
+    search rules
