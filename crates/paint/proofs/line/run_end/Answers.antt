@@ -10,6 +10,8 @@ use Rattle.paint.proofs.line.run_end.Goals as goal
 
 pub loop-x-init : goal.loop-x-init
 loop-x-init c = record {
+  some = omega arith;
+  within = omega arith;
   changed = λ v from to. let is : v ≡ c.args.start = omega arith in rw is c.requires.differs;
   rendition = λ v from to. let is : v ≡ c.args.start = omega arith in ap (λ n. (get_or c.args.wanted.now n shown_blank).rendition) is;
 }
@@ -29,6 +31,8 @@ loop-x-preserved c =
     let alike : (get_or wanted x shown_blank).rendition ≡ (get_or wanted c.args.start shown_blank).rendition =
     ap (λ (cell : Shown). cell.rendition) (sym here) ∙ sym c.rendition.ensures.value ∙ same ∙ c.rendition-rendition.ensures.value ∙ ap (λ (cell : Shown). cell.rendition) first in
     record {
+      some = omega (arith, c.loop-x.invariant.some);
+      within = omega (arith, c.loop-x-test.true);
       changed = λ v from to. elim (cases_lt v x) [
         | inl below ↦ c.loop-x.invariant.changed v from below
         | inr past ↦ let is : v ≡ x = omega arith in rw is differs
