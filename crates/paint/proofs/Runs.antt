@@ -3,7 +3,7 @@ use Rattle.std.proofs.Common.{◌≡◌, Bool, ℕ, zero, suc, ◌+◌, ◌-◌,
 use Rattle.std.proofs.Common.{inl, inr, Some, refl, sym, ap, ◌∙◌, subst, arith, length-append, length-set}
 use Rattle.std.specs.Prelude.{not}
 use Rattle.std.proofs.lemmas.Bool.{cases_lt, lt-ltb}
-use Rattle.std.proofs.lemmas.List.{get_or_past, get_or-drop, get_or-set_same, get_or-take, length-map}
+use Rattle.std.proofs.lemmas.List.{get_or_default, get_or_past, get_or-drop, get_or-set_same, get_or-take, length-map}
 use Rattle.cell.specs.Shown.{IsRendition, IsShown, Rendition, Shown, shown_blank}
 use Rattle.cell.specs.Pictures.{Picture, line_of, with_shown}
 use Rattle.cell.specs.Differences.{same_shown}
@@ -146,6 +146,12 @@ line-run {mid} {now} {pen} {next} {line} {x} {stop} {shown} {wanted} cells same 
 -- a part of the wanted line as a run
 pub part-of : (x stop k : ℕ) (wanted : List Shown) → k < stop - x → get_or (cells_between x stop wanted) k shown_blank ≡ get_or wanted (x + k) shown_blank
 part-of x stop k wanted few = get_or-take (stop - x) (drop x wanted) k shown_blank few ∙ get_or-drop x wanted k shown_blank
+
+-- what a test of two cells of the lines said
+pub same_shown-at : (shown wanted : List Shown) (x : ℕ) {a b : Shown} {same : Bool} → a ≡ get_or shown x a → b ≡ get_or wanted x b → x < length shown → x < length wanted → same ≡ same_shown a b
+    → same_shown (get_or shown x shown_blank) (get_or wanted x shown_blank) ≡ same
+same_shown-at shown wanted x {a} {b} old new inside high is =
+    (λ i. same_shown (sym (old ∙ get_or_default shown x a shown_blank inside) i) (sym (new ∙ get_or_default wanted x b shown_blank high) i)) ∙ sym is
 
 pub not-other : (same : Bool) → not same ≡ false → same ≡ true
 not-other true h = refl

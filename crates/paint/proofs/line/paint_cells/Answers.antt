@@ -1,13 +1,10 @@
 -- `paint_cells`: runs of cells: printed one after another, and drawn in a line (`Runs`); the walk over the cells of a line, and over the lines of a
 -- picture (`Walks`).
-use Rattle.std.proofs.Common.{◌≡◌, ◌<◌, ◌≤◌, ◌∙◌, true, length, get_or, refl, sym, arith}
-use Rattle.std.proofs.lemmas.List.{get_or_default}
-use Rattle.cell.specs.Shown.{shown_blank}
+use Rattle.std.proofs.Common.{◌≡◌, ◌<◌, ◌≤◌, ◌∙◌, length, refl, sym, arith}
 use Rattle.cell.specs.Pictures.{line_of}
-use Rattle.cell.specs.Differences.{same_shown}
 use Rattle.paint.specs.steps.Walks.{cells_between}
 use Rattle.paint.proofs.Prefixes.{between}
-use Rattle.paint.proofs.Runs.{line-run, part-of}
+use Rattle.paint.proofs.Runs.{same_shown-at, line-run, part-of}
 use Rattle.paint.proofs.Walks.{length-between, line-kept}
 use Rattle.paint.proofs.line.paint_cells.Goals as goal
 
@@ -25,10 +22,7 @@ loop-x-preserved-then-eq g c =
     let x = c.loop-x.x in
     let same : length c.args.row.now.shown.now ≡ length c.args.row.now.wanted.now = c.args.row.now.same in
     let inside : x < length c.args.row.now.shown.now = omega (arith, c.loop-x-test.true, c.requires.inside) in
-    let shown = c.index-shown-x.is ∙ get_or_default c.args.row.now.shown.now x c.index-shown-x.result shown_blank inside in
-    let wanted = c.index-wanted-x.is ∙ get_or_default c.args.row.now.wanted.now x c.index-wanted-x.result shown_blank (omega arith) in
-    let alike : same_shown (get_or c.args.row.now.shown.now x shown_blank) (get_or c.args.row.now.wanted.now x shown_blank) ≡ true =
-    (λ i. same_shown (sym shown i) (sym wanted i)) ∙ sym c.if-eq.ensures in
+    let alike = same_shown-at c.args.row.now.shown.now c.args.row.now.wanted.now c.loop-x.x c.index-shown-x.is c.index-wanted-x.is inside (omega arith) c.if-eq.ensures in
     record {
       painted = λ before old h. line-kept same inside (c.loop-x.invariant.painted before old h) alike;
       gap = omega (arith, c.loop-x.invariant.gap);
@@ -39,11 +33,8 @@ loop-x-preserved-then-eq g c =
 
 pub paint_run-x-requires-clause-differs : goal.paint_run-x-requires-clause-differs
 paint_run-x-requires-clause-differs g c =
-    let x = c.loop-x.x in
-    let inside : x < length c.args.row.now.wanted.now = omega (arith, c.loop-x-test.true, c.requires.inside) in
-    let shown = c.index-shown-x.is ∙ get_or_default c.args.row.now.shown.now x c.index-shown-x.result shown_blank (omega (arith, c.args.row.now.same)) in
-    let wanted = c.index-wanted-x.is ∙ get_or_default c.args.row.now.wanted.now x c.index-wanted-x.result shown_blank inside in
-    (λ i. same_shown (sym shown i) (sym wanted i)) ∙ sym c.if-eq.ensures
+    let inside : c.loop-x.x < length c.args.row.now.wanted.now = omega (arith, c.loop-x-test.true, c.requires.inside) in
+    same_shown-at c.args.row.now.shown.now c.args.row.now.wanted.now c.loop-x.x c.index-shown-x.is c.index-wanted-x.is (omega (arith, inside, c.args.row.now.same)) inside c.if-eq.ensures
 
 pub loop-x-preserved : goal.loop-x-preserved
 loop-x-preserved g c =

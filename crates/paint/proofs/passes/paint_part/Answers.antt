@@ -1,5 +1,5 @@
 -- `paint_part`: a cell is left where it is shown already, or another pass draws it, and else drawn in a run (`Choices`, `Runs`, `Walks`).
-use Rattle.std.proofs.Common.{◌≡◌, ℕ, ◌+◌, ◌<◌, ◌≤◌, ◌∙◌, true, length, get_or, inl, inr, refl, sym, ap, subst, arith}
+use Rattle.std.proofs.Common.{◌≡◌, ℕ, ◌+◌, ◌<◌, ◌≤◌, ◌∙◌, length, get_or, inl, inr, refl, sym, ap, subst, arith}
 use Rattle.std.proofs.lemmas.Bool.{cases_lt, eqb-false, eqb-true}
 use Rattle.std.proofs.lemmas.List.{get_or_default}
 use Rattle.cell.specs.Shown.{Shown, shown_blank}
@@ -10,7 +10,7 @@ use Rattle.paint.specs.steps.Passes.{is_drawn, line_after, pass_of as pass_in}
 use Rattle.paint.specs.steps.Walks.{cells_between}
 use Rattle.paint.proofs.Choices.{choices-alike, choices-back, choices-prefix, get-alike, get-in, get-kept, get-out, length-choose, not-yet, now-drawn, other-pass, part-kept, same-cells}
 use Rattle.paint.proofs.Prefixes.{between, drop-later}
-use Rattle.paint.proofs.Runs.{line-run, part-of}
+use Rattle.paint.proofs.Runs.{same_shown-at, line-run, part-of}
 use Rattle.paint.proofs.Walks.{length-between, line-begun, line-kept, line-painted}
 use Rattle.paint.proofs.passes.paint_part.Goals as goal
 
@@ -44,9 +44,7 @@ loop-x-preserved-then-eq g c =
     let q = is_drawn c.args.order.now (c.args.pass + 1) in
     let same : length shown ≡ length wanted = c.args.row.now.same in
     let inside : x < length shown = omega (arith, c.loop-x-test.true, c.requires.part.inside) in
-    let old = c.index-shown-x.is ∙ get_or_default shown x c.index-shown-x.result shown_blank inside in
-    let new = c.index-wanted-x.is ∙ get_or_default wanted x c.index-wanted-x.result shown_blank (omega arith) in
-    let alike : same_shown (get_or shown x shown_blank) (get_or wanted x shown_blank) ≡ true = (λ i. same_shown (sym old i) (sym new i)) ∙ sym c.if-eq.ensures in
+    let alike = same_shown-at shown wanted x c.index-shown-x.is c.index-wanted-x.is inside (omega arith) c.if-eq.ensures in
     let equal = same_shown-equal (get_or shown x shown_blank) (get_or wanted x shown_blank) alike in
     let long = length-choose p shown wanted same in
     record {
