@@ -187,10 +187,10 @@ once-drawn order passes rendition h = lt-ltb (pass_of order rendition) (passes +
 -- ---- whole pictures
 
 module _ (p : Rendition → Bool) {lines columns : ℕ} {shown wanted : Picture} (old_size : HasSize lines columns shown) (new_size : HasSize lines columns wanted) where
-  high : length (choose_lines p shown wanted) ≡ length shown
+  pub high : length (choose_lines p shown wanted) ≡ length shown
   high = length-lines p shown wanted (old_size.height ∙ sym new_size.height)
 
-  line-at : (y : ℕ) → y < lines → line_of (choose_lines p shown wanted) y ≡ choose p (line_of shown y) (line_of wanted y)
+  pub line-at : (y : ℕ) → y < lines → line_of (choose_lines p shown wanted) y ≡ choose p (line_of shown y) (line_of wanted y)
   line-at y below = line-choose p y shown wanted (omega (arith, old_size.height)) (old_size.height ∙ sym new_size.height)
 
   wide : (y : ℕ) → y < lines → length (line_of shown y) ≡ length (line_of wanted y)
@@ -205,6 +205,16 @@ module _ (p : Rendition → Bool) {lines columns : ℕ} {shown wanted : Picture}
   lines-all all = ext_get_or [] (choose_lines p shown wanted) wanted (high ∙ old_size.height ∙ sym new_size.height) (λ y few.
       let below : y < lines = omega (arith, few, high, old_size.height) in
       line-at y below ∙ choose-all p all (line_of shown y) (line_of wanted y) (wide y below))
+
+-- two choices among the lines of two pictures
+module _ (p q : Rendition → Bool) {lines columns : ℕ} {shown wanted : Picture} (old_size : HasSize lines columns shown) (new_size : HasSize lines columns wanted) where
+  pub chosen-heights : length (choose_lines p shown wanted) ≡ length (choose_lines q shown wanted)
+  chosen-heights = high p old_size new_size ∙ sym (high q old_size new_size)
+
+  -- a line that is the same in both pictures is the same after each
+  pub chosen-alike : (y : ℕ) → y < lines → line_of shown y ≡ line_of wanted y → line_of (choose_lines p shown wanted) y ≡ line_of (choose_lines q shown wanted) y
+  chosen-alike y below same =
+      line-at p old_size new_size y below ∙ choices-alike p q (line_of shown y) (line_of wanted y) same ∙ sym (line-at q old_size new_size y below)
 
 -- ---- what a pass may cost is no longer left after it
 

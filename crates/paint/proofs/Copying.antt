@@ -1,17 +1,15 @@
 -- The columns in which two pictures may differ are copied from one to the other.
-use Rattle.std.proofs.Common.{◌≡◌, ℕ, ◌+◌, ◌-◌, ◌<◌, ◌≤◌, ◌==◌, ◌&&◌, nat_le, nat_lt, true, false, inl, inr, List, [], length, get_or, take, drop, Option, Some, None, MatchOption, refl, sym, ap}
+use Rattle.std.proofs.Common.{◌≡◌, ℕ, ◌+◌, ◌-◌, ◌<◌, ◌≤◌, ◌==◌, ◌&&◌, nat_le, nat_lt, true, false, inl, inr, List, [], length, get_or, take, drop, refl, sym, ap}
 use Rattle.std.proofs.Common.{◌∙◌, arith}
-use Rattle.std.specs.Prelude.{⊤, if◌then◌else◌, is_none}
-use Rattle.std.proofs.lemmas.Bool.{cases_eq, cases_lt, false≢true}
+use Rattle.std.specs.Prelude.{if◌then◌else◌}
+use Rattle.std.proofs.lemmas.Bool.{cases_eq, cases_lt}
 use Rattle.std.proofs.lemmas.Bool.Decides.{nat_tests}
 use Rattle.std.proofs.lemmas.List.{get_or-drop, get_or-take, get_or_past}
-use Rattle.cell.specs.Pictures.{Picture, Place, HasSize, line_of, shown_at}
+use Rattle.cell.specs.Pictures.{Picture, HasSize, line_of, shown_at}
 use Rattle.cell.specs.Shown.{Shown, shown_blank}
-use Rattle.cell.proofs.PictureLemmas.{HasSize-all_of, length-line, same_pictures}
-use Rattle.paint.specs.Changes.{DifferOnly, IsWhole, is_in, no_stretch, stretch_of}
-use Rattle.paint.specs.Updates.{first_painter, start_from}
+use Rattle.cell.proofs.PictureLemmas.{length-line, same_pictures}
+use Rattle.paint.specs.Changes.{DifferOnly, is_in, no_stretch, stretch_of}
 use Rattle.paint.specs.declared.changes.Stretch.{Stretch}
-use Rattle.paint.specs.steps.Holding.{last_shown}
 use Rattle.paint.specs.steps.Walks.{IsWithin}
 use Rattle.paint.proofs.Changed.{is_out}
 
@@ -28,24 +26,6 @@ shown-outside {lines} {columns} {picture} size y x out = elim (cases_lt y lines)
 pub same-outside : {lines columns : ℕ} {one other : Picture} → HasSize lines columns one → HasSize lines columns other → (y x : ℕ) → (y < lines → x < columns → ⊥)
     → shown_at one (y, x) ≡ shown_at other (y, x)
 same-outside size other_size y x out = shown-outside size y x out ∙ sym (shown-outside other_size y x out)
-
--- two pictures of one size differ at most everywhere
-pub differ-anywhere : {lines columns : ℕ} {changes : List Stretch} {one other : Picture} → IsWhole lines columns changes → HasSize lines columns one → HasSize lines columns other
-    → DifferOnly changes one other
-differ-anywhere whole size other_size = record { others = λ y x none. same-outside size other_size y x (λ below left. false≢true (sym none ∙ whole.all y x below left)) }
-
--- what is shown at the start has the painter's size
-pub size-start : {lines columns : ℕ} {picture : Picture} (cursor : Option Place) → HasSize lines columns picture
-    → HasSize lines columns (start_from (first_painter lines columns) (last_shown picture cursor)).picture
-size-start {lines} {columns} None size = HasSize-all_of shown_blank lines columns
-size-start (Some cursor) size = size
-
--- where the cursor is known, that is the last picture
-pub start-known : (lines columns : ℕ) {changes : List Stretch} (picture wanted : Picture) (cursor : Option Place) → is_none cursor ≡ false
-    → MatchOption (last_shown picture cursor) ⊤ (λ shown. DifferOnly changes shown.picture wanted)
-    → DifferOnly changes (start_from (first_painter lines columns) (last_shown picture cursor)).picture wanted
-start-known lines columns picture wanted None known only = absurd (false≢true (sym known))
-start-known lines columns picture wanted (Some cursor) known only = only
 
 -- ---- a line is copied
 

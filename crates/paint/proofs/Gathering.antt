@@ -1,22 +1,14 @@
 -- A text that is gathered, appended to, and passed on.
-use Rattle.std.proofs.Common.{◌≡◌, ℕ, ◌+◌, ◌-◌, ◌^◌, ◌<◌, ◌==◌, ◌&&◌, Bool, true, false, List, [], ◌++◌, length, Ok, Err, refl, sym, ap, ◌∙◌, subst, arith, append_assoc, append-nil, length-append}
+use Rattle.std.proofs.Common.{◌≡◌, ℕ, ◌+◌, ◌-◌, ◌^◌, ◌==◌, ◌&&◌, Bool, true, false, List, [], ◌++◌, length, Ok, Err, sym, ap, ◌∙◌, subst, arith, append-nil, length-append}
 use Rattle.std.specs.Prelude.{min, not}
 use Rattle.std.proofs.lemmas.Bool.{eqb-true}
 use Rattle.std.proofs.lemmas.List.{nil_from_length}
 use Rattle.streams.specs.Sinks.{Seen}
 use Rattle.streams.specs.Sending.{Sends}
 use Rattle.streams.specs.declared.sending.WriteFault.{WriteFault}
-use Rattle.streams.proofs.Sends.{Sends-nothing, Sends-then, Sends-prefix}
+use Rattle.streams.proofs.Sends.{Sends-nothing, Sends-then}
 use Rattle.paint.specs.declared.outbox.Outbox.{Outbox}
-use Rattle.paint.specs.steps.Gathering.{GoesOut, IsGathered, gathered_bytes, holds_all, saturating_u32}
-
-pub goes_out-none : (seen : Seen) → GoesOut false seen seen [] 0 []
-goes_out-none seen = ([], refl, omega arith, Sends-nothing)
-
-pub goes_out-append : (failed : Bool) (start now : Seen) (room : List ℕ) (sent : ℕ) (text piece : List ℕ) → GoesOut failed start now room sent text
-    → GoesOut failed start now (room ++ piece) sent (text ++ piece)
-goes_out-append false start now room sent text piece h = (h.0, ap (λ bytes. bytes ++ piece) h.1 ∙ append_assoc h.0 room piece, h.2, h.3)
-goes_out-append true start now room sent text piece h = (h.0, h.1, Sends-prefix piece h.2)
+use Rattle.paint.specs.steps.Gathering.{GoesOut, IsGathered, holds_all}
 
 -- once a write failed the room is of no account
 pub goes_out-failed : (start now : Seen) (sent : ℕ) (text : List ℕ) → GoesOut true start now [] sent text → GoesOut true start now [] sent (text ++ [])
@@ -43,12 +35,7 @@ pub goes_out-faulted : (start mid now : Seen) (room : List ℕ) (sent total : �
 goes_out-faulted start mid now room sent total fault text h k e =
     (length h.0 + fault.sent, omega (arith, h.2), rw (append-nil, h.1) (Sends-then h.3 (Sends-after_fault (length h.0) k)))
 
--- ---- how much was gathered
-
-pub gathered-length : {start now : Seen} {outbox : Outbox} {text : List ℕ} → outbox.failed ≡ false → IsGathered start now outbox text → gathered_bytes outbox ≡ saturating_u32 (length text)
-gathered-length {outbox} {text} goes_on h =
-    let parts = rw goes_on at h.goes_out in
-    omega (arith, parts.2, ap length parts.1, length-append parts.0 outbox.room)
+-- ---- a text of which nothing went out
 
 goes_out-anew : (failed : Bool) (sent : ℕ) (start now seen : Seen) (room text : List ℕ) → (not failed && sent == 0) ≡ true → GoesOut failed start now room sent text
     → GoesOut failed seen seen room sent text
@@ -61,16 +48,3 @@ goes_out-anew false sent start now seen room text h k =
 -- a text of which nothing went out may go to any sink
 pub gathered-anew : {start now : Seen} {outbox : Outbox} {text : List ℕ} (seen : Seen) → holds_all outbox ≡ true → IsGathered start now outbox text → IsGathered seen seen outbox text
 gathered-anew {start} {now} {outbox} {text} seen all h = record { goes_out = goes_out-anew outbox.failed outbox.sent start now seen outbox.room text all h.goes_out }
-
--- ---- the end of a text
-
-pub sent-all : (start now : Seen) (sent : ℕ) (text : List ℕ) → GoesOut false start now [] sent text → length text < 2 ^ 32 → Sends start now 0 text (Ok sent)
-sent-all start now sent text h few =
-    let all : text ≡ h.0 = h.1 ∙ append-nil h.0 in
-    let count : length h.0 ≡ sent = omega (arith, h.2, ap length all) in
-    subst (λ n. Sends start now 0 text (Ok n)) count (rw all h.3)
-
-pub sent-prefix : (start now : Seen) (room : List ℕ) (sent : ℕ) (text : List ℕ) → GoesOut true start now room sent text → length text < 2 ^ 32 → Sends start now 0 text (Err (record { sent = sent }))
-sent-prefix start now room sent text h few =
-    let count : h.0 ≡ sent = omega (arith, h.1, h.2.ends.1, h.2.ends.2) in
-    subst (λ n. Sends start now 0 text (Err (record { sent = n }))) count h.2

@@ -17,7 +17,7 @@ use Rattle.streams.specs.Sinks.{Seen}
 use Rattle.paint.specs.declared.pen.Pen.{Pen}
 use Rattle.paint.specs.Updates.{PainterState, ShownPicture, IsUpdateText, MayRead, known_picture, move, opening, opening_from, start_from, start_of_update}
 use Rattle.paint.specs.steps.Gathering.{IsGathered}
-use Rattle.paint.specs.steps.Holding.{HoldsUpdate, last_shown}
+use Rattle.paint.specs.steps.Holding.{HoldsUpdate}
 use Rattle.paint.specs.steps.Strokes.{change, move_from, under, Draws, Strokes, picture_bytes}
 use Rattle.paint.proofs.Shows.{opening-leads}
 use Rattle.paint.proofs.Strokes.{length-ended, length-move}
@@ -163,10 +163,3 @@ module _ (painter : PainterState) (clear : Bool) (wanted : ShownPicture) {a b c 
       (cursor ∙ ap (λ last. Some (start_from painter last).cursor) is_known) rendition
       (subst (λ picture. Strokes (picture_bytes picture wanted.picture) a b first drawn picture wanted.picture) start strokes)
       (ending wanted.picture (omega (arith, length-line wanted.cursor.0 wanted_size line))) there none
-
--- what is known where a cursor is, unless a clear screen is asked for
-pub known_picture-last : (painter : PainterState) (picture : Picture) (cursor : Option Place) (clear : Bool) (result : Option Place) → painter.last ≡ last_shown picture cursor
-    → result ≡ (if clear then None else cursor)
-    → last_shown picture result ≡ known_picture painter clear
-known_picture-last painter picture cursor true result last is = ap (last_shown picture) is
-known_picture-last painter picture cursor false result last is = ap (last_shown picture) is ∙ sym last

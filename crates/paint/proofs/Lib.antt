@@ -1,4 +1,4 @@
--- A text that is gathered, appended to, and passed on; for `hand_on`
+-- A text that is gathered, appended to, and passed on; for `draw_frame`, `hand_on`
 pub mod Gathering
 -- The strokes of a pen, one after another, and what each shows; for `approach`, `change_length`, `end` and others
 pub mod Strokes
@@ -12,7 +12,7 @@ pub mod Tails
 pub mod Shows
 -- The blank end of a page is erased; for `paint_picture`
 pub mod Pages
--- The strokes of a doupdate make a text of it; for `draw`
+-- The strokes of a doupdate make a text of it; for `draw`, `show`
 pub mod Holding
 -- What a text that was sent means for a painter; for `send_text`
 pub mod Updating

@@ -3,7 +3,7 @@ use Rattle.std.proofs.Common.{◌≡◌, Bool, ℕ, zero, suc, ◌+◌, ◌-◌,
 use Rattle.std.proofs.Common.{inl, inr, Some, refl, sym, ap, ◌∙◌, subst, arith, length-append, length-set}
 use Rattle.std.specs.Prelude.{not}
 use Rattle.std.proofs.lemmas.Bool.{cases_lt, lt-ltb}
-use Rattle.std.proofs.lemmas.List.{get_or_past, get_or-drop, get_or-set_same, get_or-take, length-map}
+use Rattle.std.proofs.lemmas.List.{get_or_default, get_or_past, get_or-drop, get_or-set_same, get_or-take, length-map}
 use Rattle.cell.specs.Shown.{IsRendition, IsShown, Rendition, Shown, shown_blank}
 use Rattle.cell.specs.Pictures.{Picture, line_of, with_shown}
 use Rattle.cell.specs.Differences.{same_shown}
@@ -18,7 +18,7 @@ use Rattle.streams.specs.Sinks.{Seen}
 use Rattle.paint.specs.declared.pen.Pen.{Pen}
 use Rattle.paint.specs.steps.Gathering.{Gathers}
 use Rattle.paint.specs.steps.Strokes.{Draws, Strokes, cell_bytes, characters, line_bytes, most_approach, run_bytes, with_cells, within}
-use Rattle.paint.specs.steps.Walks.{with_prefix, IsLinePainted}
+use Rattle.paint.specs.steps.Walks.{cells_between, with_prefix, IsLinePainted}
 use Rattle.paint.proofs.Prefixes.{length-with_prefix, take-with_prefix}
 use Rattle.paint.proofs.Strokes.{Draws-then, Strokes-then, spelled-print}
 use Rattle.paint.proofs.Walks.{left, line_bytes-other, one-drawn}
@@ -110,52 +110,48 @@ run-cost x (suc n) shown wanted same room differs =
       ap (λ k. line_bytes (drop k shown) (drop k wanted)) next,
     )
 
-pub line-run : {before mid now : Seen} {old pen next : Pen} {line x : ℕ} {shown wanted : List Shown} (cells : List Shown)
-    → length shown ≡ length wanted → 0 < length cells → x + length cells ≤ length shown
+pub line-run : {before mid now : Seen} {old pen next : Pen} {line x stop : ℕ} {shown wanted : List Shown} (cells : List Shown)
+    → length shown ≡ length wanted → x < stop → x + length cells ≡ stop → stop ≤ length shown
     → IsLinePainted before mid old pen line x shown wanted → length shown ≡ old.columns
     → ((k : ℕ) → k < length cells → get_or cells k shown_blank ≡ get_or wanted (x + k) shown_blank)
-    → ((v : ℕ) → x ≤ v → v < x + length cells → same_shown (get_or shown v shown_blank) (get_or wanted v shown_blank) ≡ false)
+    → ((v : ℕ) → x ≤ v → v < stop → same_shown (get_or shown v shown_blank) (get_or wanted v shown_blank) ≡ false)
     → ((picture : Picture) → length (line_of picture line) ≡ pen.columns → take x (line_of picture line) ≡ take x wanted
     → Strokes (run_bytes cells) mid now pen next picture (with_cells picture (line, x) cells))
-    → next.columns ≡ pen.columns → IsLinePainted before now old next line (x + length cells) shown wanted
-line-run {mid} {now} {pen} {next} {line} {x} {shown} {wanted} cells same some room h wide are differs strokes columns = record {
+    → next.columns ≡ pen.columns → IsLinePainted before now old next line stop shown wanted
+line-run {mid} {now} {pen} {next} {line} {x} {stop} {shown} {wanted} cells same some end room h wide are differs strokes columns = record {
   spent = h.spent + run_bytes cells;
   within =
       let here : x + 0 ≡ x = omega arith in
-      let next : x + 1 + (length cells - 1) ≡ x + length cells = omega arith in
-      let first : get_or cells 0 shown_blank ≡ get_or wanted x shown_blank = are 0 some ∙ ap (λ n. get_or wanted n shown_blank) here in
+      let after : x + 1 + (length cells - 1) ≡ stop = omega arith in
+      let first : get_or cells 0 shown_blank ≡ get_or wanted x shown_blank = are 0 (omega arith) ∙ ap (λ n. get_or wanted n shown_blank) here in
       omega (
         arith,
         h.within,
         left x shown wanted same (omega arith),
-        line_bytes-other (get_or shown x shown_blank) (get_or wanted x shown_blank) (drop (x + 1) shown) (drop (x + 1) wanted) (differs x (omega arith) (omega arith)),
+        line_bytes-other (get_or shown x shown_blank) (get_or wanted x shown_blank) (drop (x + 1) shown) (drop (x + 1) wanted) (differs x (omega arith) some),
         run-cost (x + 1) (length cells - 1) shown wanted same (omega arith) (λ v from to. differs v (omega arith) (omega arith)),
-        ap (λ k. line_bytes (drop k shown) (drop k wanted)) next,
+        ap (λ k. line_bytes (drop k shown) (drop k wanted)) after,
         ap cell_bytes first,
       );
   strokes = λ picture high at.
       let row = with_prefix x wanted shown in
       let here : line_of (set picture line row) line ≡ row = get_or-set_same picture line row [] high in
       let long : length (line_of (set picture line row) line) ≡ pen.columns = ap length here ∙ length-with_prefix x wanted shown same ∙ wide ∙ sym h.columns in
-      Strokes-then (h.strokes picture high at) (subst (Strokes (run_bytes cells) mid now pen next (set picture line row)) (run-with_prefix picture line x shown wanted cells high same room are)
+      let drawn = run-with_prefix picture line x shown wanted cells high same (omega (arith, end, room)) are ∙ ap (λ n. set picture line (with_prefix n wanted shown)) end in
+      Strokes-then (h.strokes picture high at) (subst (Strokes (run_bytes cells) mid now pen next (set picture line row)) drawn
       (strokes (set picture line row) long (ap (take x) here ∙ take-with_prefix x wanted shown (omega arith))));
   columns = columns ∙ h.columns;
 }
 
 -- a part of the wanted line as a run
-pub part-of : (x stop k : ℕ) (wanted : List Shown) → k < stop - x → get_or (take (stop - x) (drop x wanted)) k shown_blank ≡ get_or wanted (x + k) shown_blank
+pub part-of : (x stop k : ℕ) (wanted : List Shown) → k < stop - x → get_or (cells_between x stop wanted) k shown_blank ≡ get_or wanted (x + k) shown_blank
 part-of x stop k wanted few = get_or-take (stop - x) (drop x wanted) k shown_blank few ∙ get_or-drop x wanted k shown_blank
 
--- all of which has the rendition of its first cell, if the line has it there
-pub part-alike : (x stop k : ℕ) (wanted : List Shown) → k < stop - x
-    → ((v : ℕ) → x ≤ v → v < stop → (get_or wanted v shown_blank).rendition ≡ (get_or wanted x shown_blank).rendition)
-    → (get_or (take (stop - x) (drop x wanted)) k shown_blank).rendition ≡ (get_or (take (stop - x) (drop x wanted)) 0 shown_blank).rendition
-part-alike x stop k wanted few alike =
-    let here : x ≡ x + 0 = omega arith in
-    ap (λ (cell : Shown). cell.rendition) (part-of x stop k wanted few)
-    ∙ alike (x + k) (omega arith) (omega arith)
-    ∙ ap (λ n. (get_or wanted n shown_blank).rendition) here
-    ∙ ap (λ (cell : Shown). cell.rendition) (sym (part-of x stop 0 wanted (omega arith)))
+-- what a test of two cells of the lines said
+pub same_shown-at : (shown wanted : List Shown) (x : ℕ) {a b : Shown} {same : Bool} → a ≡ get_or shown x a → b ≡ get_or wanted x b → x < length shown → x < length wanted → same ≡ same_shown a b
+    → same_shown (get_or shown x shown_blank) (get_or wanted x shown_blank) ≡ same
+same_shown-at shown wanted x {a} {b} old new inside high is =
+    (λ i. same_shown (sym (old ∙ get_or_default shown x a shown_blank inside) i) (sym (new ∙ get_or_default wanted x b shown_blank high) i)) ∙ sym is
 
 pub not-other : (same : Bool) → not same ≡ false → same ≡ true
 not-other true h = refl

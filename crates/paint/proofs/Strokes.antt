@@ -9,11 +9,9 @@ use Rattle.cell.specs.Shown.{shown_blank, no_rendition, Shown, Rendition, IsRend
 use Rattle.cell.specs.Pictures.{Picture, Place, line_of, with_shown}
 use Rattle.cell.specs.Differences.{same_rendition}
 use Rattle.ecma.specs.declared.token.Token.{Token}
-use Rattle.ecma.specs.declared.token.Token.TheVariants.{Print, Cup, Sgr, El, Ed}
-use Rattle.ecma.specs.declared.token.Erase.TheVariants.{ToEnd}
+use Rattle.ecma.specs.declared.token.Token.TheVariants.{Print, Cup, Sgr}
 use Rattle.std.specs.Fmt.{digits}
 use Rattle.ecma.specs.Spelling.{spelling, codes_of_attributes, token_effect, IsToken}
-use Rattle.ecma.specs.Terminals.{erased_at, erased_page}
 use Rattle.ecma.proofs.Difference.{same_rendition-equal}
 use Rattle.ecma.proofs.Joining.{Leads-append}
 use Rattle.ecma.proofs.Leading.{Leads-nothing, Leads-token}
@@ -196,29 +194,16 @@ printed-more {before} {mid} {chosen} {now} {old} {pen} {selected} {next} {line} 
 
 -- ---- erasing
 
-pub erases-line : {before after : Seen} (old new : Pen) (place : Place) (picture : Picture) → old.cursor ≡ Some place → old.rendition ≡ no_rendition
-    → Gathers before after old.outbox new.outbox (spelling (El ToEnd)) → new ≡ record old { outbox = new.outbox }
-    → Draws (spelling (El ToEnd)) before after old new picture (erased_at ToEnd place picture)
-erases-line old new place picture cursor plain gathers rest =
-    Draws-token (El ToEnd) picture (erased_at ToEnd place picture) tt gathers
-    (rw (cursor, plain) (λ i. Some (record {
-      picture = erased_at ToEnd place picture;
+pub erases : {before after : Seen} (old new : Pen) (token : Token) (place : Place) (picture drawn : Picture) → old.cursor ≡ Some place → old.rendition ≡ no_rendition → IsToken token
+    → token_effect token (record { picture = picture; cursor = Some place; rendition = no_rendition }) ≡ Some (record { picture = drawn; cursor = Some place; rendition = no_rendition })
+    → Gathers before after old.outbox new.outbox (spelling token) → new ≡ record old { outbox = new.outbox } → Draws (spelling token) before after old new picture drawn
+erases old new token place picture drawn cursor plain is effect gathers rest =
+    Draws-token token picture drawn is gathers
+    (rw (cursor, plain) (effect ∙ (λ i. Some (record {
+      picture = drawn;
       cursor = (sym cursor ∙ sym (ap (λ (p : Pen). p.cursor) rest)) i;
-      rendition =
-          (sym plain ∙ sym (ap (λ (p : Pen). p.rendition) rest)) i;
-    })))
-
-pub erases-page : {before after : Seen} (old new : Pen) (place : Place) (picture : Picture) → old.cursor ≡ Some place → old.rendition ≡ no_rendition
-    → Gathers before after old.outbox new.outbox (spelling (Ed ToEnd)) → new ≡ record old { outbox = new.outbox }
-    → Draws (spelling (Ed ToEnd)) before after old new picture (erased_page ToEnd place picture)
-erases-page old new place picture cursor plain gathers rest =
-    Draws-token (Ed ToEnd) picture (erased_page ToEnd place picture) tt gathers
-    (rw (cursor, plain) (λ i. Some (record {
-      picture = erased_page ToEnd place picture;
-      cursor = (sym cursor ∙ sym (ap (λ (p : Pen). p.cursor) rest)) i;
-      rendition =
-          (sym plain ∙ sym (ap (λ (p : Pen). p.rendition) rest)) i;
-    })))
+      rendition = (sym plain ∙ sym (ap (λ (p : Pen). p.rendition) rest)) i;
+    }))))
 
 -- ---- the end: a move after what left the cursor where it was
 

@@ -1,9 +1,8 @@
 -- The blank end of a line.
-use Rattle.std.proofs.Common.{◌≡◌, ℕ, zero, suc, ◌+◌, ◌-◌, ◌<◌, ◌≤◌, get_or, List, [], ◌∷◌, length, map, take, drop, Some, refl, sym, ap, ◌∙◌, arith}
-use Rattle.std.proofs.lemmas.List.{drop-drop, get_or-drop, length-drop, take_rest}
+use Rattle.std.proofs.Common.{◌≡◌, ℕ, zero, suc, ◌+◌, ◌-◌, ◌<◌, ◌≤◌, get_or, List, [], ◌∷◌, length, map, drop, refl, sym, ap, ◌∙◌, arith}
+use Rattle.std.proofs.lemmas.List.{drop-drop, get_or-drop, length-drop}
 use Rattle.cell.specs.Differences.{DiffersAt}
 use Rattle.cell.specs.Shown.{Shown, shown_blank}
-use Rattle.paint.specs.steps.Walks.{IsChangedFrom}
 
 kept-drop : {A : Type 0} (f : A → A) (n : ℕ) (items : List A) → map f items ≡ items → map f (drop n items) ≡ drop n items
 kept-drop f zero items h = h
@@ -34,14 +33,6 @@ differs-later n x old new h = record {
   inside = omega (arith, h.inside, length-drop n old);
   differs = λ same. h.differs (get_or-drop n old x shown_blank ∙ same ∙ sym (get_or-drop n new x shown_blank));
 }
-
-pub changed-from : (shown wanted : List Shown) (start skipped : ℕ)
-    → DiffersAt (take (length shown - start) (drop start shown)) (take (length wanted - start) (drop start wanted)) skipped
-    → IsChangedFrom shown wanted start (Some (start + skipped))
-changed-from shown wanted start skipped differs = (omega arith, differs-later start skipped shown wanted (rw (take_rest shown start, take_rest wanted start) at differs))
-
-pub kept-from : (shown wanted : List Shown) (start : ℕ) → take (length shown - start) (drop start shown) ≡ take (length wanted - start) (drop start wanted) → drop start shown ≡ drop start wanted
-kept-from shown wanted start same = sym (take_rest shown start) ∙ same ∙ take_rest wanted start
 
 -- what differs is before the end of what is changed
 pub differs-before : (n x : ℕ) (shown wanted : List Shown) → length shown ≡ length wanted → drop n shown ≡ drop n wanted → DiffersAt shown wanted x → x < n

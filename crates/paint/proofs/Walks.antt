@@ -15,8 +15,8 @@ use Rattle.ecma.specs.declared.token.Erase.TheVariants.{ToEnd}
 use Rattle.streams.specs.Sinks.{Seen}
 use Rattle.paint.specs.declared.pen.Pen.{Pen}
 use Rattle.paint.specs.steps.Strokes.{change, Draws, Strokes, cell_bytes, line_bytes, picture_bytes}
-use Rattle.paint.specs.steps.Walks.{with_prefix, AreBlank, IsLinePainted, IsPicturePainted, IsReadyToErase}
-use Rattle.paint.proofs.Prefixes.{with_prefix-at, with_prefix-back, with_prefix-prefix, with_prefix-more, with_prefix-same, length-with_prefix, between, take-with_prefix}
+use Rattle.paint.specs.steps.Walks.{cells_between, with_prefix, AreBlank, IsLinePainted, IsPicturePainted, IsReadyToErase}
+use Rattle.paint.proofs.Prefixes.{with_prefix-at, with_prefix-back, with_prefix-prefix, with_prefix-more, with_prefix-same, length-with_prefix, take-with_prefix}
 use Rattle.paint.proofs.Strokes.{Strokes-more, Strokes-nothing, Strokes-then, length-ended}
 
 -- ---- what the cells of a line may cost
@@ -68,24 +68,17 @@ one-drawn picture line x shown wanted cell high same inside is =
     ∙ ap (λ c. set picture line (set row x c)) is
     ∙ ap (set picture line) (with_prefix-more shown_blank x wanted shown inside same)
 
-gap-length : (start x : ℕ) (wanted : List Shown) → start ≤ x → x ≤ length wanted → length (take (x - start) (drop start wanted)) ≡ x - start
-gap-length start x wanted ordered inside = length-take-le (x - start) (drop start wanted) (omega (arith, length-drop start wanted))
+pub length-between : (start x : ℕ) (cells : List Shown) → start ≤ x → x ≤ length cells → length (cells_between start x cells) ≡ x - start
+length-between start x cells ordered inside = length-take-le (x - start) (drop start cells) (omega (arith, length-drop start cells))
 
 -- the gap before a column ends there
-pub gap-ends : (start x : ℕ) (wanted : List Shown) → start ≤ x → x ≤ length wanted → start + length (take (x - start) (drop start wanted)) ≡ x
-gap-ends start x wanted ordered inside = omega (arith, gap-length start x wanted ordered inside)
+pub gap-ends : (start x : ℕ) (wanted : List Shown) → start ≤ x → x ≤ length wanted → start + length (cells_between start x wanted) ≡ x
+gap-ends start x wanted ordered inside = omega (arith, length-between start x wanted ordered inside)
 
--- the gap before a column is that of the wanted line, and ends there
-pub record IsGap (start x : ℕ) (wanted row : List Shown) : Type 0 where
-  pub shown : take (length (take (x - start) (drop start wanted))) (drop start row) ≡ take (x - start) (drop start wanted)
-  pub end : start + length (take (x - start) (drop start wanted)) ≡ x
-
-pub gap-before : (start x : ℕ) (wanted row : List Shown) → start ≤ x → x ≤ length wanted → take x row ≡ take x wanted → IsGap start x wanted row
-gap-before start x wanted row ordered inside prefix =
-    record {
-      shown = ap (λ n. take n (drop start row)) (gap-length start x wanted ordered inside) ∙ between start x row wanted ordered prefix;
-      end = gap-ends start x wanted ordered inside;
-    }
+-- and is shown, where its cells are those of the wanted line
+pub gap-shown : (start x : ℕ) (wanted row : List Shown) → start ≤ x → x ≤ length wanted → cells_between start x row ≡ cells_between start x wanted
+    → take (length (cells_between start x wanted)) (drop start row) ≡ cells_between start x wanted
+gap-shown start x wanted row ordered inside are = ap (λ n. take n (drop start row)) (length-between start x wanted ordered inside) ∙ are
 
 -- the next cell is shown already
 pub line-kept : {before now : Seen} {old pen : Pen} {line x : ℕ} {shown wanted : List Shown} → length shown ≡ length wanted → x < length shown

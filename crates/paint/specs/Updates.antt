@@ -1,6 +1,6 @@
 -- What a doupdate sends, what it leaves of the painter, and which streams agree with a painter.
 -- X/Open Curses Issue 7: doupdate, clearok.
-use Rattle.std.specs.Prelude.{◌≡◌, ℕ, ◌+◌, ◌*◌, ◌≤◌, ◌==◌, ◌&&◌, List, [], ◌∷◌, ◌++◌, Bool, true, length, take, codes, Option, Some, None, ⊤, MatchOption, if◌then◌else◌}
+use Rattle.std.specs.Prelude.{◌≡◌, ℕ, ◌+◌, ◌*◌, ◌≤◌, ◌==◌, ◌&&◌, List, [], ◌∷◌, ◌++◌, Bool, true, length, take, codes, Option, Some, None, ⊤, MatchOption, Result, MatchResult, if◌then◌else◌}
 use Rattle.std.specs.Io.KnownBytes.{Appends}
 use Rattle.cell.specs.Pictures.{Picture, Place, HasSize, blank_picture, origin}
 use Rattle.ecma.specs.declared.token.Token.TheVariants.{Cup}
@@ -13,6 +13,8 @@ use Rattle.ecma.specs.Terminals.{Terminal}
 use Rattle.ecma.specs.Streams.{IsInProfile, LeadsWithBreaks, Shows, showing}
 use Rattle.streams.specs.Counts.{count_after, next_count}
 use Rattle.streams.specs.Sinks.{Seen}
+use Rattle.streams.specs.declared.sending.Sent.{Sent}
+use Rattle.streams.specs.declared.sending.WriteFault.{WriteFault}
 
 -- a picture with a cursor
 pub record ShownPicture : Type 0 where
@@ -107,6 +109,11 @@ pub record BreaksOff (painter : PainterState) (clear : Bool) (old new : Seen) (w
   pub taken : Appends old.taken new.taken (take sent text)
   pub failure : new.failures ≡ next_count old.failures
   pub flushes : new.flushes ≡ count_after (sent == length text) old.flushes
+
+-- a doupdate did the one or the other
+abbrev pub UpdateEnds : PainterState → Bool → Seen → Seen → ShownPicture → Result Sent WriteFault → Type 0
+UpdateEnds painter clear old new wanted result =
+    MatchResult result (λ sent. Updates painter clear old new wanted sent.bytes) (λ fault. BreaksOff painter clear old new wanted fault.sent)
 
 -- ---- streams that agree with a painter
 

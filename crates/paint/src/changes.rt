@@ -1,11 +1,13 @@
 //! The columns of each line in which a picture may differ from the one that was shown last.
 
 ghost use Rattle.std.specs.Prelude.{◌≡◌, ℕ, ◌<◌, ◌≤◌, IfOk, false, length, nat_lt, replicate, slice_set};
+ghost use Rattle.std.proofs.Props.{props};
 ghost use Rattle.cell.specs.declared.limits.TheConstants.{LARGEST_SCREEN};
-ghost use Rattle.paint.specs.Changes.{is_in, join, may_change, no_stretch, stretch_of};
+ghost use Rattle.paint.specs.Changes.{IsFrame, is_in, join, may_change, no_stretch, stretch_of};
 ghost use Rattle.paint.specs.steps.Walks.{IsWithin};
 ghost use Rattle.small_set.specs.Sets.{contains};
 
+use cell::{Grid, Shown};
 use small_set::SmallSet;
 use std::alloc::{AllocError, Global};
 use std::marker::Model;
@@ -156,6 +158,17 @@ impl Changes {
         self.lines = Stretch::NONE;
         self.changed.clear();
     }
+}
+
+/// A wanted picture over the one that is shown, with the columns in which alone it may differ from that.
+#[derive(Drop)]
+pub struct Frame<'a> {
+    pub lines: u16,
+    pub columns: u16,
+    pub shown: &'a Grid<Shown>,
+    pub wanted: &'a Grid<Shown>,
+    pub changes: &'a Changes,
+    pub ghost sound: { IsFrame lines columns changes.now shown.now wanted.now } by { Prim.hlevel props },
 }
 
 /// The first lines, so many.

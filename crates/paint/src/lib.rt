@@ -1,6 +1,6 @@
 //! Sends pictures to a terminal.
 //!
-//! - `changes`: of each line the columns in which a picture may differ from the last one
+//! - `changes`: of each line the columns in which a picture may differ from the last one, and a frame of both
 //! - `frame`: a frame, in one walk or in passes
 //! - `gap`: what is printed again between changed cells
 //! - `laws`: laws of agreement

@@ -1,41 +1,44 @@
 //! The walk over the cells of a line: a pen draws where the wanted one differs from the one that is shown.
 
-ghost use Rattle.std.specs.Prelude.{◌≡◌, ◌+◌, ◌<◌, ◌≤◌, ℕ, ⊤, MatchOption, None, Some, drop, false, length, slice_index_or, take};
+ghost use Rattle.std.specs.Prelude.{◌≡◌, ◌+◌, ◌<◌, ◌≤◌, ⊤, MatchOption, None, Some, false, length, slice_index_or, take};
 ghost use Rattle.cell.specs.Differences.{same_shown};
 ghost use Rattle.cell.specs.Pictures.{Picture, line_of};
 ghost use Rattle.cell.specs.Shown.{no_rendition, shown_blank};
+ghost use Rattle.cell.specs.declared.limits.TheConstants.{LARGEST_SCREEN};
 ghost use Rattle.streams.specs.Sinks.{Seen};
 ghost use Rattle.paint.specs.steps.Strokes.{Strokes, line_bytes, reach_bytes, run_bytes, with_cells};
-ghost use Rattle.paint.specs.steps.Walks.{DifferWithin, IsLinePainted, IsReadyToErase, StrokesLine};
+ghost use Rattle.paint.specs.steps.Walks.{DifferWithin, IsLinePainted, IsReadyToErase, IsRun, StrokesLine, cells_between};
 
 use crate::gap::approach;
 use crate::pen::Pen;
 use crate::tail::{
     changed_end, changed_tail, erased_from, first_changed, is_erased, last_changed, tail_start,
 };
-use cell::{LARGEST_SCREEN, Rendition, Shown};
+use cell::{Rendition, Shown};
 use streams::Sink;
+
+/// A wanted line over the one that is shown, of a screen.
+#[derive(Drop)]
+pub struct Row<'a> {
+    pub line: u16,
+    pub shown: &'a [Shown],
+    pub wanted: &'a [Shown],
+    pub ghost few_lines: { line < LARGEST_SCREEN },
+    pub ghost few_columns: { length wanted.now ≤ LARGEST_SCREEN },
+    pub ghost same: { length shown.now ≡ length wanted.now },
+}
 
 /// Draws a wanted line over the one that is shown, from which it may differ from column `start` on, up to `end`, only. Its blank end is
 /// erased, where that takes fewer bytes.
-pub fn paint_line<W: Sink>(
-    pen: &mut Pen,
-    sink: &mut W,
-    line: u16,
-    shown: &[Shown],
-    wanted: &[Shown],
-    start: usize,
-    end: usize,
-)
-    requires line { line < LARGEST_SCREEN }
-    requires columns { pen.old.columns ≤ LARGEST_SCREEN }
-    requires shown { length shown.now ≡ pen.old.columns }
-    requires wanted { length wanted.now ≡ pen.old.columns }
-    requires part { DifferWithin start end shown.now wanted.now }
-    ensures strokes { StrokesLine (line_bytes shown.now wanted.now) (W.seen sink.old) (W.seen sink.new) pen.old pen.new line shown.now wanted.now }
+pub fn paint_line<W: Sink>(pen: &mut Pen, sink: &mut W, row: &Row<'_>, start: usize, end: usize)
+    requires width { pen.old.columns ≡ length row.now.wanted.now }
+    requires part { DifferWithin start end row.now.shown.now row.now.wanted.now }
+    ensures strokes { StrokesLine (line_bytes row.now.shown.now row.now.wanted.now) (W.seen sink.old) (W.seen sink.new) pen.old pen.new
+        row.now.line row.now.shown.now row.now.wanted.now }
     ensures columns { pen.new.columns ≡ pen.old.columns }
     ensures same { W.name sink.new ≡ W.name sink.old }
 {
+    let (shown, wanted) = (row.shown, row.wanted);
     let Some(first) = first_changed(shown, wanted, start, end) else {
         return;
     };
@@ -43,50 +46,42 @@ pub fn paint_line<W: Sink>(
         return;
     };
     let Some((tail, column)) = changed_tail(shown, wanted, first, last) else {
-        paint_cells(pen, sink, line, shown, wanted, first, first, last + 1);
+        paint_cells(pen, sink, row, first, first, last + 1);
         return;
     };
-    let gap = paint_cells(pen, sink, line, shown, wanted, first, first, column);
-    let from = erased_from(pen, line, wanted, gap, tail, column);
-    if is_erased(pen, line, wanted, gap, from, column, last) {
-        come_to(pen, sink, line, wanted, gap, from);
-        pen.erase_line(sink, line, from as u16);
+    let gap = paint_cells(pen, sink, row, first, first, column);
+    let from = erased_from(pen, row.line, wanted, gap, tail, column);
+    if is_erased(pen, row.line, wanted, gap, from, column, last) {
+        come_to(pen, sink, row, gap, from);
+        pen.erase_line(sink, row.line, from as u16);
         return;
     }
-    paint_cells(pen, sink, line, shown, wanted, gap, column, last + 1);
+    paint_cells(pen, sink, row, gap, column, last + 1);
 }
 
 /// Draws a wanted line, below which all is blank, over the one that is shown, and brings the pen to its blank end, to erase the page from
 /// there: where that end is changed, or where the pen is in it anyway. It answers the column.
-pub fn paint_last_line<W: Sink>(
-    pen: &mut Pen,
-    sink: &mut W,
-    line: u16,
-    shown: &[Shown],
-    wanted: &[Shown],
-) -> Option<usize>
-    requires line { line < LARGEST_SCREEN }
-    requires columns { pen.old.columns ≤ LARGEST_SCREEN }
-    requires shown { length shown.now ≡ pen.old.columns }
-    requires wanted { length wanted.now ≡ pen.old.columns }
-    ensures strokes { result ≡ None → StrokesLine (line_bytes shown.now wanted.now) (W.seen sink.old) (W.seen sink.new) pen.old pen.new
-        line shown.now wanted.now }
-    ensures ready { MatchOption result ⊤ (λ column. IsReadyToErase (line_bytes shown.now wanted.now + 27) (W.seen sink.old)
-        (W.seen sink.new) pen.old pen.new line column shown.now wanted.now) }
+pub fn paint_last_line<W: Sink>(pen: &mut Pen, sink: &mut W, row: &Row<'_>) -> Option<usize>
+    requires width { pen.old.columns ≡ length row.now.wanted.now }
+    ensures strokes { result ≡ None → StrokesLine (line_bytes row.now.shown.now row.now.wanted.now) (W.seen sink.old) (W.seen sink.new) pen.old pen.new
+        row.now.line row.now.shown.now row.now.wanted.now }
+    ensures ready { MatchOption result ⊤ (λ column. IsReadyToErase (line_bytes row.now.shown.now row.now.wanted.now + 27) (W.seen sink.old)
+        (W.seen sink.new) pen.old pen.new row.now.line column row.now.shown.now row.now.wanted.now) }
     ensures columns { pen.new.columns ≡ pen.old.columns }
     ensures same { W.name sink.new ≡ W.name sink.old }
 {
+    let (shown, wanted) = (row.shown, row.wanted);
     let tail = tail_start(wanted);
     match changed_end(shown, wanted, tail) {
         Some((first, column)) => {
-            let gap = paint_cells(pen, sink, line, shown, wanted, first, first, column);
-            let from = erased_from(pen, line, wanted, gap, tail, column);
-            come_to(pen, sink, line, wanted, gap, from);
+            let gap = paint_cells(pen, sink, row, first, first, column);
+            let from = erased_from(pen, row.line, wanted, gap, tail, column);
+            come_to(pen, sink, row, gap, from);
             Some(from)
         }
         None => {
-            paint_line(pen, sink, line, shown, wanted, 0, wanted.len());
-            let column = pen.column_between(line, tail, wanted.len())?;
+            paint_line(pen, sink, row, 0, wanted.len());
+            let column = pen.column_between(row.line, tail, wanted.len())?;
             pen.select(sink, Rendition::NONE);
             Some(column)
         }
@@ -94,23 +89,15 @@ pub fn paint_last_line<W: Sink>(
 }
 
 /// Brings the pen to a column of a line's blank end, over the gap after what was drawn, for an erasure.
-fn come_to<W: Sink>(
-    pen: &mut Pen,
-    sink: &mut W,
-    line: u16,
-    wanted: &[Shown],
-    gap: usize,
-    column: usize,
-)
-    requires line { line < LARGEST_SCREEN }
-    requires columns { pen.old.columns ≤ LARGEST_SCREEN }
-    requires wanted { length wanted.now ≡ pen.old.columns }
-    requires column { column < length wanted.now }
-    ensures strokes { (picture : Picture) → length (line_of picture line) ≡ pen.old.columns → take column (line_of picture line) ≡ take column wanted.now
-        → Strokes (reach_bytes pen.old.cursor pen.old.rendition line wanted.now gap column) (W.seen sink.old) (W.seen sink.new)
+fn come_to<W: Sink>(pen: &mut Pen, sink: &mut W, row: &Row<'_>, gap: usize, column: usize)
+    requires width { pen.old.columns ≡ length row.now.wanted.now }
+    requires column { column < length row.now.wanted.now }
+    ensures strokes { (picture : Picture) → length (line_of picture row.now.line) ≡ pen.old.columns
+        → take column (line_of picture row.now.line) ≡ take column row.now.wanted.now
+        → Strokes (reach_bytes pen.old.cursor pen.old.rendition row.now.line row.now.wanted.now gap column) (W.seen sink.old) (W.seen sink.new)
         pen.old pen.new picture picture }
     ensures rendition { pen.new.rendition ≡ no_rendition }
-    ensures cursor { pen.new.cursor ≡ Some (line, column) }
+    ensures cursor { pen.new.cursor ≡ Some (row.now.line, column) }
     ensures columns { pen.new.columns ≡ pen.old.columns }
     ensures same { W.name sink.new ≡ W.name sink.old }
 {
@@ -118,9 +105,9 @@ fn come_to<W: Sink>(
     approach(
         pen,
         sink,
-        line,
+        row.line,
         start as u16,
-        &wanted[start..column],
+        &row.wanted[start..column],
         Rendition::NONE,
     );
 }
@@ -130,26 +117,22 @@ fn come_to<W: Sink>(
 fn paint_cells<W: Sink>(
     pen: &mut Pen,
     sink: &mut W,
-    line: u16,
-    shown: &[Shown],
-    wanted: &[Shown],
+    row: &Row<'_>,
     gap: usize,
     start: usize,
     end: usize,
 ) -> usize
-    requires line { line < LARGEST_SCREEN }
-    requires columns { pen.old.columns ≤ LARGEST_SCREEN }
-    requires shown { length shown.now ≡ pen.old.columns }
-    requires wanted { length wanted.now ≡ pen.old.columns }
+    requires width { pen.old.columns ≡ length row.now.wanted.now }
     requires gap { gap ≤ start }
     requires ordered { start ≤ end }
-    requires inside { end ≤ length wanted.now }
-    ensures painted { (before : Seen) (old : Pen) → IsLinePainted before (W.seen sink.old) old pen.old line start shown.now wanted.now
-        → IsLinePainted before (W.seen sink.new) old pen.new line end shown.now wanted.now }
+    requires inside { end ≤ length row.now.wanted.now }
+    ensures painted { (before : Seen) (old : Pen) → IsLinePainted before (W.seen sink.old) old pen.old row.now.line start row.now.shown.now row.now.wanted.now
+        → IsLinePainted before (W.seen sink.new) old pen.new row.now.line end row.now.shown.now row.now.wanted.now }
     ensures columns { pen.new.columns ≡ pen.old.columns }
     ensures within { result ≤ end }
     ensures same { W.name sink.new ≡ W.name sink.old }
 {
+    let (shown, wanted) = (row.shown, row.wanted);
     let mut gap = gap;
     let mut x = start;
     while x < end {
@@ -157,33 +140,19 @@ fn paint_cells<W: Sink>(
             x += 1;
             continue;
         }
-        let stop = run_end(shown, wanted, x, end);
-        paint_run(
-            pen,
-            sink,
-            line,
-            gap as u16,
-            &wanted[gap..x],
-            &wanted[x..stop],
-        );
-        gap = stop;
-        x = stop;
+        x = paint_run(pen, sink, row, gap, x, end);
+        gap = x;
     }
     gap
 }
 
 /// Where the run of changed cells of one rendition ends that begins at a column, before an end.
-pub fn run_end(shown: &[Shown], wanted: &[Shown], start: usize, end: usize) -> usize
+fn run_end(shown: &[Shown], wanted: &[Shown], start: usize, end: usize) -> usize
     requires same { length shown.now ≡ length wanted.now }
     requires begun { start < end }
     requires inside { end ≤ length wanted.now }
     requires differs { same_shown (slice_index_or shown.now start shown_blank) (slice_index_or wanted.now start shown_blank) ≡ false }
-    ensures some { start < result }
-    ensures within { result ≤ end }
-    ensures changed { (x : ℕ) → start ≤ x → x < result
-        → same_shown (slice_index_or shown.now x shown_blank) (slice_index_or wanted.now x shown_blank) ≡ false }
-    ensures rendition { (x : ℕ) → start ≤ x → x < result
-        → (slice_index_or wanted.now x shown_blank).rendition ≡ (slice_index_or wanted.now start shown_blank).rendition }
+    ensures { IsRun shown.now wanted.now start end result }
 {
     let rendition = wanted[start].rendition();
     for x in start + 1..end {
@@ -197,27 +166,39 @@ pub fn run_end(shown: &[Shown], wanted: &[Shown], start: usize, end: usize) -> u
     end
 }
 
-/// Draws a run of cells of one rendition after a gap of cells that are shown already.
+/// Draws the run of changed cells of one rendition that begins at a column, before an end, after a gap of cells that are shown already.
+/// It answers where the run ends.
 pub fn paint_run<W: Sink>(
     pen: &mut Pen,
     sink: &mut W,
-    line: u16,
-    start: u16,
-    gap: &[Shown],
-    run: &[Shown],
-)
-    requires line { line < LARGEST_SCREEN }
-    requires some { 0 < length run.now }
-    requires inside { start + length gap.now + length run.now ≤ pen.old.columns }
-    requires columns { pen.old.columns ≤ LARGEST_SCREEN }
-    requires rendition { (k : ℕ) → k < length run.now → (slice_index_or run.now k shown_blank).rendition ≡ (slice_index_or run.now 0 shown_blank).rendition }
-    ensures strokes { (picture : Picture) → length (line_of picture line) ≡ pen.old.columns
-        → take (length gap.now) (drop start (line_of picture line)) ≡ gap.now
-        → Strokes (run_bytes run.now) (W.seen sink.old) (W.seen sink.new) pen.old pen.new picture (with_cells picture (line, start + length gap.now) run.now) }
+    row: &Row<'_>,
+    gap: usize,
+    start: usize,
+    end: usize,
+) -> usize
+    requires width { pen.old.columns ≡ length row.now.wanted.now }
+    requires gap { gap ≤ start }
+    requires begun { start < end }
+    requires inside { end ≤ length row.now.wanted.now }
+    requires differs { same_shown (slice_index_or row.now.shown.now start shown_blank) (slice_index_or row.now.wanted.now start shown_blank) ≡ false }
+    ensures run { IsRun row.now.shown.now row.now.wanted.now start end result }
+    ensures strokes { (picture : Picture) → length (line_of picture row.now.line) ≡ pen.old.columns
+        → cells_between gap start (line_of picture row.now.line) ≡ cells_between gap start row.now.wanted.now
+        → Strokes (run_bytes (cells_between start result row.now.wanted.now)) (W.seen sink.old) (W.seen sink.new) pen.old pen.new picture
+        (with_cells picture (row.now.line, start) (cells_between start result row.now.wanted.now)) }
     ensures columns { pen.new.columns ≡ pen.old.columns }
     ensures same { W.name sink.new ≡ W.name sink.old }
 {
-    let first = run[0];
-    approach(pen, sink, line, start, gap, first.rendition());
-    pen.print_run(sink, line, start + gap.len() as u16, run);
+    let wanted = row.wanted;
+    let stop = run_end(row.shown, wanted, start, end);
+    approach(
+        pen,
+        sink,
+        row.line,
+        gap as u16,
+        &wanted[gap..start],
+        wanted[start].rendition(),
+    );
+    pen.print_run(sink, row.line, start as u16, &wanted[start..stop]);
+    stop
 }

@@ -1,51 +1,50 @@
 //! The walk over the lines of a picture.
 
 ghost use Rattle.std.specs.Prelude.{◌≡◌, ◌≢◌, ℕ, ◌-◌, ◌<◌, ◌≤◌, drop, false, length, map, min};
-ghost use Rattle.cell.specs.Pictures.{HasSize, line_of};
+ghost use Rattle.cell.specs.Pictures.{line_of};
 ghost use Rattle.ecma.specs.Terminals.{blank_line};
-ghost use Rattle.paint.specs.Changes.{DifferOnly, IsFrame, may_change};
+ghost use Rattle.paint.specs.Changes.{may_change};
 ghost use Rattle.paint.specs.steps.Strokes.{Strokes, picture_bytes};
 
-use crate::changes::Changes;
-use crate::line::{paint_last_line, paint_line};
+use crate::changes::{Changes, Frame};
+use crate::line::{Row, paint_last_line, paint_line};
 use crate::pen::Pen;
 use crate::tail::{first_changed, is_written, tail_start};
 use cell::{Grid, Shown};
 use streams::Sink;
 
-/// Draws the wanted picture over the one that is shown, of which there are so many lines, and which may differ from it in some columns
-/// only. Where the page's end is blank and more than one line of it is changed, or the pen is in it, it is erased.
-pub fn paint_picture<W: Sink>(
-    pen: &mut Pen,
-    sink: &mut W,
-    lines: u16,
-    shown: &Grid<Shown>,
-    wanted: &Grid<Shown>,
-    changes: &Changes,
-)
-    requires { IsFrame lines pen.old.columns changes.now shown.now wanted.now }
-    ensures strokes { Strokes (picture_bytes shown.now wanted.now) (W.seen sink.old) (W.seen sink.new) pen.old pen.new shown.now wanted.now }
+/// Draws the wanted picture of a frame over the one that is shown. Where the page's end is blank and more than one line of it is changed,
+/// or the pen is in it, it is erased.
+pub fn paint_picture<W: Sink>(pen: &mut Pen, sink: &mut W, frame: &Frame<'_>)
+    requires { pen.old.columns ≡ frame.now.columns }
+    ensures strokes { Strokes (picture_bytes frame.now.shown.now frame.now.wanted.now) (W.seen sink.old) (W.seen sink.new) pen.old pen.new
+        frame.now.shown.now frame.now.wanted.now }
     ensures columns { pen.new.columns ≡ pen.old.columns }
     ensures same { W.name sink.new ≡ W.name sink.old }
 {
-    let changed = changed_lines(shown, wanted, pen.columns(), changes);
-    let blank = page_end(wanted, lines, changed, changes);
-    let mut line = next_line(pen, changes, blank, 0);
+    let changed = changed_lines(frame);
+    let blank = page_end(frame.wanted, frame.lines, changed, frame.changes);
+    let mut line = next_line(pen, frame.changes, blank, 0);
     while line < changed {
         let at = usize::from(line);
-        let old = shown.row(at);
-        let new = wanted.row(at);
+        let old = frame.shown.row(at);
+        let new = frame.wanted.row(at);
+        let row = Row {
+            line,
+            shown: old,
+            wanted: new,
+        };
         if line + 1 < blank || line + 1 == changed {
-            let (start, end) = changes.within(line, pen.columns());
-            paint_line(pen, sink, line, old, new, start, end);
-            line = next_line(pen, changes, blank, line + 1);
+            let (start, end) = frame.changes.within(line, usize::from(frame.columns));
+            paint_line(pen, sink, &row, start, end);
+            line = next_line(pen, frame.changes, blank, line + 1);
             continue;
         }
-        if let Some(column) = paint_last_line(pen, sink, line, old, new) {
+        if let Some(column) = paint_last_line(pen, sink, &row) {
             pen.erase_page(sink, line, column as u16);
             return;
         }
-        line = next_line(pen, changes, blank, line + 1);
+        line = next_line(pen, frame.changes, blank, line + 1);
     }
 }
 
@@ -96,26 +95,18 @@ fn blank_lines(picture: &Grid<Shown>, lines: u16) -> u16
     start
 }
 
-/// The line from which on none is changed, of two pictures that may differ in some columns only.
-fn changed_lines(
-    shown: &Grid<Shown>,
-    wanted: &Grid<Shown>,
-    columns: usize,
-    changes: &Changes,
-) -> u16
-    requires shown { HasSize (length changes.now) columns shown.now }
-    requires wanted { HasSize (length changes.now) columns wanted.now }
-    requires changes { DifferOnly changes.now shown.now wanted.now }
-    ensures within { result ≤ length changes.now }
-    ensures kept { drop result shown.now ≡ drop result wanted.now }
-    ensures changed { 0 < result → line_of shown.now (result - 1) ≢ line_of wanted.now (result - 1) }
+/// The line from which on none is changed.
+fn changed_lines(frame: &Frame<'_>) -> u16
+    ensures within { result ≤ length frame.now.changes.now }
+    ensures kept { drop result frame.now.shown.now ≡ drop result frame.now.wanted.now }
+    ensures changed { 0 < result → line_of frame.now.shown.now (result - 1) ≢ line_of frame.now.wanted.now (result - 1) }
 {
-    let lines = changes.lines();
+    let lines = frame.changes.lines();
     let mut end = lines.end;
     while end > lines.start {
         let at = usize::from(end - 1);
-        let (from, to) = changes.within(end - 1, columns);
-        if first_changed(shown.row(at), wanted.row(at), from, to).is_some() {
+        let (from, to) = frame.changes.within(end - 1, usize::from(frame.columns));
+        if first_changed(frame.shown.row(at), frame.wanted.row(at), from, to).is_some() {
             return end;
         }
         end -= 1;

@@ -1,17 +1,17 @@
 //! A painter: it sends pictures to terminals of one size.
 
-ghost use Rattle.std.specs.Prelude.{◌≡◌, ℕ, ◌<◌, ◌≤◌, ◌↔◌, ⊤, MatchOption, length, ◌⊎◌, ◌||◌, Bool, IfOk, IfErr, IsErrOf, IsTrue, MatchResult, Some, None, is_ok, if◌then◌else◌};
+ghost use Rattle.std.specs.Prelude.{◌≡◌, ℕ, ◌<◌, ◌≤◌, ◌↔◌, ⊤, MatchOption, length, ◌⊎◌, ◌||◌, Bool, IfOk, IfErr, IsErrOf, IsTrue, Some, None, is_ok, if◌then◌else◌};
 ghost use Rattle.cell.specs.Pictures.{HasSize, blank_picture, origin};
 ghost use Rattle.cell.specs.Limits.{is_no_size};
 ghost use Rattle.cell.specs.declared.limits.TheConstants.{LARGEST_SCREEN};
 ghost use Rattle.cell.specs.Shown.{no_rendition};
 ghost use Rattle.streams.specs.Sinks.{Seen};
 ghost use Rattle.paint.specs.Changes.{DifferOnly};
-ghost use Rattle.paint.specs.Updates.{PainterState, ShownPicture, first_painter, opening, start_from, wanted_of, Updates, BreaksOff};
+ghost use Rattle.paint.specs.Updates.{PainterState, ShownPicture, UpdateEnds, first_painter, known_picture, opening, start_from, wanted_of};
 ghost use Rattle.paint.specs.steps.Gathering.{IsGathered};
-ghost use Rattle.paint.specs.steps.Holding.{HoldsFrom, HoldsUpdate, last_shown};
+ghost use Rattle.paint.specs.steps.Holding.{HoldsUpdate, last_shown};
 
-use crate::changes::Changes;
+use crate::changes::{Changes, Frame};
 use crate::frame::draw_frame;
 use crate::page::paint_picture;
 use crate::pen::Pen;
@@ -95,9 +95,7 @@ impl Painter {
         requires size { HasSize self.old.lines self.old.columns (V.shown screen.now).picture }
         requires line { (V.shown screen.now).cursor.0 < self.old.lines }
         requires column { (V.shown screen.now).cursor.1 < self.old.columns }
-        ensures text { MatchResult result
-            (λ sent. Updates self.old (V.shown screen.now).clear (W.seen sink.old) (W.seen sink.new) (wanted_of (V.shown screen.now)) sent.bytes)
-            (λ fault. BreaksOff self.old (V.shown screen.now).clear (W.seen sink.old) (W.seen sink.new) (wanted_of (V.shown screen.now)) fault.sent) }
+        ensures text { UpdateEnds self.old (V.shown screen.now).clear (W.seen sink.old) (W.seen sink.new) (wanted_of (V.shown screen.now)) result }
         ensures painter { self.new ≡ record self.old { last = (if is_ok result then Some (wanted_of (V.shown screen.now)) else None) } }
         ensures same { W.name sink.new ≡ W.name sink.old }
     {
@@ -105,7 +103,7 @@ impl Painter {
         let cursor = screen.wanted_cursor();
         let known = known_cursor(self.cursor, screen.clear_wanted());
         self.cursor = None;
-        draw(
+        let sent = show(
             &mut self.pen,
             sink,
             (self.lines, self.columns),
@@ -114,8 +112,7 @@ impl Painter {
             picture,
             cursor,
             &self.whole,
-        );
-        let sent = send_text(&mut self.pen, sink)?;
+        )?;
         self.picture.copy_from(picture);
         self.cursor = Some(cursor);
         Ok(sent)
@@ -134,9 +131,7 @@ impl Painter {
         requires column { (V.shown screen.now).cursor.1 < self.old.columns }
         requires height { length changes.now ≡ self.old.lines }
         requires changes { MatchOption self.old.last ⊤ (λ shown. DifferOnly changes.now shown.picture (V.shown screen.now).picture) }
-        ensures text { MatchResult result
-            (λ sent. Updates self.old (V.shown screen.now).clear (W.seen sink.old) (W.seen sink.new) (wanted_of (V.shown screen.now)) sent.bytes)
-            (λ fault. BreaksOff self.old (V.shown screen.now).clear (W.seen sink.old) (W.seen sink.new) (wanted_of (V.shown screen.now)) fault.sent) }
+        ensures text { UpdateEnds self.old (V.shown screen.now).clear (W.seen sink.old) (W.seen sink.new) (wanted_of (V.shown screen.now)) result }
         ensures painter { self.new ≡ record self.old { last = (if is_ok result then Some (wanted_of (V.shown screen.now)) else None) } }
         ensures same { W.name sink.new ≡ W.name sink.old }
     {
@@ -147,7 +142,7 @@ impl Painter {
         let cursor = screen.wanted_cursor();
         let known = self.cursor;
         self.cursor = None;
-        draw(
+        let sent = show(
             &mut self.pen,
             sink,
             (self.lines, self.columns),
@@ -156,16 +151,16 @@ impl Painter {
             picture,
             cursor,
             changes,
-        );
-        let sent = send_text(&mut self.pen, sink)?;
+        )?;
         copy_changes(&mut self.picture, picture, self.columns, changes);
         self.cursor = Some(cursor);
         Ok(sent)
     }
 }
 
-/// Draws what differs from what is known to be shown, or from a blank picture after the opening. It may differ in some columns only.
-fn draw<W: Sink>(
+/// Sends what differs from what is known to be shown, or the opening and what differs from a blank picture. It may differ in some columns
+/// only.
+fn show<W: Sink>(
     pen: &mut Pen,
     sink: &mut W,
     size: (u16, u16),
@@ -174,7 +169,7 @@ fn draw<W: Sink>(
     picture: &Grid<Shown>,
     cursor: (u16, u16),
     changes: &Changes,
-)
+) -> Result<Sent, WriteFault>
     requires width { pen.old.columns ≡ size.1 }
     requires lines { size.0 ≤ LARGEST_SCREEN }
     requires columns { size.1 ≤ LARGEST_SCREEN }
@@ -184,20 +179,39 @@ fn draw<W: Sink>(
     requires column { cursor.1 < size.1 }
     requires height { length changes.now ≡ size.0 }
     requires changes { DifferOnly changes.now (start_from (first_painter size.0 size.1) (last_shown shown.old known)).picture picture.now }
-    ensures holds { HoldsFrom size.0 size.1 (last_shown shown.old known) (record { picture = picture.now; cursor = cursor })
-        (W.seen sink.old) (W.seen sink.new) pen.new.outbox }
+    ensures text { (painter : PainterState) (clear : Bool) → painter.lines ≡ size.0 → painter.columns ≡ size.1
+        → last_shown shown.old known ≡ known_picture painter clear
+        → UpdateEnds painter clear (W.seen sink.old) (W.seen sink.new) (record { picture = picture.now; cursor = cursor }) result }
     ensures columns { pen.new.columns ≡ pen.old.columns }
     ensures shown { shown.new ≡ (start_from (first_painter size.0 size.1) (last_shown shown.old known)).picture }
     ensures size { HasSize size.0 size.1 shown.new }
     ensures same { W.name sink.new ≡ W.name sink.old }
 {
-    let (lines, _) = size;
+    let (lines, columns) = size;
     match known {
-        Some(from) => draw_frame(pen, sink, lines, shown, picture, changes, from, cursor),
+        Some(from) => {
+            let frame = Frame {
+                lines,
+                columns,
+                shown,
+                wanted: picture,
+                changes,
+            };
+            draw_frame(pen, sink, &frame, from, cursor);
+            send_text(pen, sink)
+        }
         None => {
             open(pen, sink, shown);
-            paint_picture(pen, sink, lines, shown, picture, changes);
+            let frame = Frame {
+                lines,
+                columns,
+                shown,
+                wanted: picture,
+                changes,
+            };
+            paint_picture(pen, sink, &frame);
             pen.end(sink, cursor);
+            send_text(pen, sink)
         }
     }
 }
@@ -245,8 +259,7 @@ fn open<W: Sink>(pen: &mut Pen, sink: &mut W, shown: &mut Grid<Shown>)
 fn send_text<W: Sink>(pen: &mut Pen, sink: &mut W) -> Result<Sent, WriteFault>
     ensures text { (painter : PainterState) (clear : Bool) (wanted : ShownPicture) (start : Seen)
         → HoldsUpdate painter clear wanted start (W.seen sink.old) pen.old.outbox
-        → MatchResult result (λ sent. Updates painter clear start (W.seen sink.new) wanted sent.bytes)
-        (λ fault. BreaksOff painter clear start (W.seen sink.new) wanted fault.sent) }
+        → UpdateEnds painter clear start (W.seen sink.new) wanted result }
     ensures columns { pen.new.columns ≡ pen.old.columns }
     ensures same { W.name sink.new ≡ W.name sink.old }
 {

@@ -1,20 +1,17 @@
 //! Drawing in passes: of a picture first the cells of one rendition, then those of another, where that takes fewer bytes.
 
 ghost use Rattle.std.specs.Prelude.{◌≡◌, ◌+◌, ◌<◌, ◌≤◌, ◌==◌, ◌++◌, ◌∷◌, [], List, if◌then◌else◌, length, nat_lt};
-ghost use Rattle.cell.specs.Pictures.{HasSize};
 ghost use Rattle.cell.specs.Shown.{Rendition as AnyRendition};
-ghost use Rattle.cell.specs.declared.limits.TheConstants.{LARGEST_SCREEN};
-ghost use Rattle.paint.specs.Changes.{DifferOnly, IsFrame};
 ghost use Rattle.paint.specs.steps.Passes.{HasNoted, changed_renditions, line_after, line_renditions, order_for, pass_of, picture_after, saturating_usize, selections, with_pass};
 ghost use Rattle.paint.specs.steps.Strokes.{Strokes, all_have, line_bytes, picture_bytes};
 ghost use Rattle.paint.specs.steps.Walks.{DifferWithin, StrokesLine};
 
-use crate::changes::Changes;
-use crate::line::{paint_run, run_end};
+use crate::changes::Frame;
+use crate::line::{Row, paint_run};
 use crate::page::paint_picture;
 use crate::pen::Pen;
 use crate::tail::first_changed;
-use cell::{Grid, Rendition, Shown};
+use cell::{Rendition, Shown};
 use std::marker::Model;
 use streams::Sink;
 
@@ -97,29 +94,25 @@ fn is_drawn_in(order: &[Rendition], pass: usize, rendition: Rendition) -> bool
     pass_of(order, rendition) == pass
 }
 
-/// Draws what a pass draws of a wanted line, which may differ from the one that is shown from a column on, up to another, only.
+/// Draws what a pass draws of a line, which may differ from the one that is shown from a column on, up to another, only.
 fn paint_part<W: Sink>(
     pen: &mut Pen,
     sink: &mut W,
-    line: u16,
-    shown: &[Shown],
-    wanted: &[Shown],
+    row: &Row<'_>,
     start: usize,
     end: usize,
     order: &[Rendition],
     pass: usize,
 )
-    requires line { line < LARGEST_SCREEN }
-    requires columns { pen.old.columns ≤ LARGEST_SCREEN }
-    requires shown { length shown.now ≡ pen.old.columns }
-    requires wanted { length wanted.now ≡ pen.old.columns }
-    requires part { DifferWithin start end shown.now wanted.now }
-    ensures strokes { StrokesLine (line_bytes (line_after order.now pass shown.now wanted.now) (line_after order.now (pass + 1) shown.now wanted.now))
-        (W.seen sink.old) (W.seen sink.new) pen.old pen.new line (line_after order.now pass shown.now wanted.now)
-        (line_after order.now (pass + 1) shown.now wanted.now) }
+    requires width { pen.old.columns ≡ length row.now.wanted.now }
+    requires part { DifferWithin start end row.now.shown.now row.now.wanted.now }
+    ensures strokes { let before = line_after order.now pass row.now.shown.now row.now.wanted.now in
+        let after = line_after order.now (pass + 1) row.now.shown.now row.now.wanted.now in
+        StrokesLine (line_bytes before after) (W.seen sink.old) (W.seen sink.new) pen.old pen.new row.now.line before after }
     ensures columns { pen.new.columns ≡ pen.old.columns }
     ensures same { W.name sink.new ≡ W.name sink.old }
 {
+    let (shown, wanted) = (row.shown, row.wanted);
     let Some(first) = first_changed(shown, wanted, start, end) else {
         return;
     };
@@ -135,17 +128,8 @@ fn paint_part<W: Sink>(
             gap = x;
             continue;
         }
-        let stop = run_end(shown, wanted, x, end);
-        paint_run(
-            pen,
-            sink,
-            line,
-            gap as u16,
-            &wanted[gap..x],
-            &wanted[x..stop],
-        );
-        gap = stop;
-        x = stop;
+        x = paint_run(pen, sink, row, gap, x, end);
+        gap = x;
     }
 }
 
@@ -153,79 +137,59 @@ fn paint_part<W: Sink>(
 fn paint_pass<W: Sink>(
     pen: &mut Pen,
     sink: &mut W,
-    shown: &Grid<Shown>,
-    wanted: &Grid<Shown>,
-    changes: &Changes,
+    frame: &Frame<'_>,
     order: &[Rendition],
     pass: usize,
 )
-    requires { IsFrame (length changes.now) pen.old.columns changes.now shown.now wanted.now }
-    ensures strokes { Strokes (picture_bytes (picture_after order.now pass shown.now wanted.now) (picture_after order.now (pass + 1) shown.now wanted.now))
-        (W.seen sink.old) (W.seen sink.new) pen.old pen.new (picture_after order.now pass shown.now wanted.now)
-        (picture_after order.now (pass + 1) shown.now wanted.now) }
+    requires { pen.old.columns ≡ frame.now.columns }
+    ensures strokes { let before = picture_after order.now pass frame.now.shown.now frame.now.wanted.now in
+        let after = picture_after order.now (pass + 1) frame.now.shown.now frame.now.wanted.now in
+        Strokes (picture_bytes before after) (W.seen sink.old) (W.seen sink.new) pen.old pen.new before after }
     ensures columns { pen.new.columns ≡ pen.old.columns }
     ensures same { W.name sink.new ≡ W.name sink.old }
 {
-    let end = changes.lines().end;
-    let mut line = changes.next(0);
+    let end = frame.changes.lines().end;
+    let mut line = frame.changes.next(0);
     while line < end {
         let at = usize::from(line);
-        let (start, stop) = changes.within(line, pen.columns());
-        paint_part(
-            pen,
-            sink,
+        let (start, stop) = frame.changes.within(line, usize::from(frame.columns));
+        let row = Row {
             line,
-            shown.row(at),
-            wanted.row(at),
-            start,
-            stop,
-            order,
-            pass,
-        );
-        line = changes.next(line + 1);
+            shown: frame.shown.row(at),
+            wanted: frame.wanted.row(at),
+        };
+        paint_part(pen, sink, &row, start, stop, order, pass);
+        line = frame.changes.next(line + 1);
     }
 }
 
-/// Draws the wanted picture over the one that is shown, from which it may differ in some columns only, in passes.
-fn paint_passes<W: Sink>(
-    pen: &mut Pen,
-    sink: &mut W,
-    shown: &Grid<Shown>,
-    wanted: &Grid<Shown>,
-    changes: &Changes,
-    order: &[Rendition],
-)
-    requires { IsFrame (length changes.now) pen.old.columns changes.now shown.now wanted.now }
-    ensures strokes { Strokes (picture_bytes shown.now wanted.now) (W.seen sink.old) (W.seen sink.new) pen.old pen.new shown.now wanted.now }
+/// Draws the wanted picture of a frame over the one that is shown, in passes.
+fn paint_passes<W: Sink>(pen: &mut Pen, sink: &mut W, frame: &Frame<'_>, order: &[Rendition])
+    requires { pen.old.columns ≡ frame.now.columns }
+    ensures strokes { Strokes (picture_bytes frame.now.shown.now frame.now.wanted.now) (W.seen sink.old) (W.seen sink.new) pen.old pen.new
+        frame.now.shown.now frame.now.wanted.now }
     ensures columns { pen.new.columns ≡ pen.old.columns }
     ensures same { W.name sink.new ≡ W.name sink.old }
 {
     let mut pass = 0;
     while pass <= order.len() {
-        paint_pass(pen, sink, shown, wanted, changes, order, pass);
+        paint_pass(pen, sink, frame, order, pass);
         pass += 1;
     }
 }
 
-/// Draws the wanted picture over the one that is shown, from which it may differ in some columns only, in the passes of an order.
-pub fn paint<W: Sink>(
-    pen: &mut Pen,
-    sink: &mut W,
-    lines: u16,
-    shown: &Grid<Shown>,
-    wanted: &Grid<Shown>,
-    changes: &Changes,
-    order: &Order,
-)
-    requires { IsFrame lines pen.old.columns changes.now shown.now wanted.now }
-    ensures strokes { Strokes (picture_bytes shown.now wanted.now) (W.seen sink.old) (W.seen sink.new) pen.old pen.new shown.now wanted.now }
+/// Draws the wanted picture of a frame over the one that is shown, in the passes of an order.
+pub fn paint<W: Sink>(pen: &mut Pen, sink: &mut W, frame: &Frame<'_>, order: &Order)
+    requires { pen.old.columns ≡ frame.now.columns }
+    ensures strokes { Strokes (picture_bytes frame.now.shown.now frame.now.wanted.now) (W.seen sink.old) (W.seen sink.new) pen.old pen.new
+        frame.now.shown.now frame.now.wanted.now }
     ensures columns { pen.new.columns ≡ pen.old.columns }
     ensures same { W.name sink.new ≡ W.name sink.old }
 {
     if order.renditions().is_empty() {
-        paint_picture(pen, sink, lines, shown, wanted, changes);
+        paint_picture(pen, sink, frame);
     } else {
-        paint_passes(pen, sink, shown, wanted, changes, order.renditions());
+        paint_passes(pen, sink, frame, order.renditions());
     }
 }
 
@@ -320,24 +284,18 @@ fn all_have(rendition: Rendition, cells: &[Shown]) -> bool
 
 /// The order of the passes for the renditions of changed cells, where they select these less often than one walk over all lines, and else
 /// none.
-pub fn order_of(
-    shown: &Grid<Shown>,
-    wanted: &Grid<Shown>,
-    columns: usize,
-    changes: &Changes,
-) -> Order
-    requires shown { HasSize (length changes.now) columns shown.now }
-    requires wanted { HasSize (length changes.now) columns wanted.now }
-    ensures { DifferOnly changes.now shown.now wanted.now → result ≡ order_for (changed_renditions shown.now wanted.now) }
+pub fn order_of(frame: &Frame<'_>) -> Order
+    ensures { result ≡ order_for (changed_renditions frame.now.shown.now frame.now.wanted.now) }
 {
     let mut renditions = Renditions::new();
-    let end = changes.lines().end;
-    let mut line = changes.next(0);
+    let end = frame.changes.lines().end;
+    let mut line = frame.changes.next(0);
     while line < end {
         let at = usize::from(line);
-        let (start, stop) = changes.within(line, columns);
-        renditions.note_part(&shown.row(at)[start..stop], &wanted.row(at)[start..stop]);
-        line = changes.next(line + 1);
+        let (start, stop) = frame.changes.within(line, usize::from(frame.columns));
+        let shown = &frame.shown.row(at)[start..stop];
+        renditions.note_part(shown, &frame.wanted.row(at)[start..stop]);
+        line = frame.changes.next(line + 1);
     }
     if renditions.are_saved() {
         renditions.order

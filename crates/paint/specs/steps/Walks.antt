@@ -1,8 +1,8 @@
 -- How far a pen has come in a line, and in a picture.
-use Rattle.std.specs.Prelude.{◌≡◌, ℕ, ◌+◌, ◌<◌, ◌≤◌, false, List, ◌++◌, length, map, take, drop, slice_set, Option, Some, None, ⊤}
+use Rattle.std.specs.Prelude.{◌≡◌, ℕ, ◌+◌, ◌-◌, ◌<◌, ◌≤◌, false, List, ◌++◌, length, map, take, drop, slice_index_or, slice_set, Option, Some, None, ⊤}
 use Rattle.cell.specs.Shown.{Shown, no_rendition, shown_blank}
 use Rattle.cell.specs.Pictures.{Picture, line_of}
-use Rattle.cell.specs.Differences.{DiffersAt}
+use Rattle.cell.specs.Differences.{DiffersAt, same_shown}
 use Rattle.streams.specs.Sinks.{Seen}
 use Rattle.paint.specs.declared.pen.Pen.{Pen}
 use Rattle.paint.specs.declared.changes.Stretch.{Stretch}
@@ -12,6 +12,17 @@ use Rattle.paint.specs.steps.Strokes.{Strokes, line_bytes, picture_bytes}
 -- a list whose first items are those of another one
 abbrev pub with_prefix : {A : Type 0} → ℕ → List A → List A → List A
 with_prefix x new old = take x new ++ drop x old
+
+-- a line's cells from a column up to another, which isn't one of them
+abbrev pub cells_between : ℕ → ℕ → List Shown → List Shown
+cells_between start end cells = take (end - start) (drop start cells)
+
+-- Changed cells of one rendition, from a column up to another, which isn't one of them, and isn't past an end.
+pub record IsRun (shown wanted : List Shown) (start end stop : ℕ) : Type 0 where
+  pub some : start < stop
+  pub within : stop ≤ end
+  pub changed : (x : ℕ) → start ≤ x → x < stop → same_shown (slice_index_or shown x shown_blank) (slice_index_or wanted x shown_blank) ≡ false
+  pub rendition : (x : ℕ) → start ≤ x → x < stop → (slice_index_or wanted x shown_blank).rendition ≡ (slice_index_or wanted start shown_blank).rendition
 
 -- two lines of one length differ in no other columns than those from the first up to the second, which isn't one of them
 pub record DifferWithin (start end : ℕ) (shown wanted : List Shown) : Type 0 where

@@ -6,8 +6,8 @@ use Rattle.paint.proofs.line.paint_cells.Given as goal
 
 abbrev pub invariant-loop-x : goal.invariant-loop-x
 invariant-loop-x g l = record {
-  painted : (before : Seen) (old : Pen) → IsLinePainted before (g.W.Sink.seen l.fn.sink) old l.fn.pen l.line l.start l.shown l.wanted
-      → IsLinePainted before (g.W.Sink.seen l.sink) old l.pen l.line l.x l.shown l.wanted;
+  painted : (before : Seen) (old : Pen) → IsLinePainted before (g.W.Sink.seen l.fn.sink) old l.fn.pen l.row.line l.start l.row.shown.now l.row.wanted.now
+      → IsLinePainted before (g.W.Sink.seen l.sink) old l.pen l.row.line l.x l.row.shown.now l.row.wanted.now;
   gap : l.gap ≤ l.x;
   within : l.x ≤ l.end;
   columns : l.pen.columns ≡ l.fn.pen.columns;

@@ -10,24 +10,25 @@ use Rattle.paint.proofs.line.paint_last_line.Goals as goal
 
 pub returns-in-Some-clause-ready : goal.returns-in-Some-clause-ready
 returns-in-Some-clause-ready g c =
-    let shown = c.args.shown.now in
-    let wanted = c.args.wanted.now in
+    let shown = c.args.row.now.shown.now in
+    let wanted = c.args.row.now.wanted.now in
     let from = c.erased_from-from.result in
-    let same : length shown ≡ length wanted = c.requires.shown ∙ sym c.requires.wanted in
-    let painted = c.paint_cells-gap.ensures.painted _ _ (line-begun _ _ c.args.line c.in-Some.first shown wanted c.in-Some.ensures.0) in
+    let same : length shown ≡ length wanted = c.args.row.now.same in
+    let painted = c.paint_cells-gap.ensures.painted _ _ (line-begun _ _ c.args.row.now.line c.in-Some.first shown wanted c.in-Some.ensures.0) in
     let blank : AreBlank (drop from wanted) = kept-later (λ _. shown_blank) c.tail_start-tail.result from wanted c.erased_from-from.ensures.from c.tail_start-tail.ensures.blank in
     let changed = c.in-Some.ensures.3 in
-    let few = reach-most c.paint_cells-gap.new.pen.cursor c.paint_cells-gap.new.pen.rendition c.args.line wanted c.paint_cells-gap.result from c.requires.line
-    (omega (arith, c.erased_from-from.ensures.to, changed.inside)) (omega (arith, c.requires.wanted, c.requires.columns)) in
+    let few = reach-most c.paint_cells-gap.new.pen.cursor c.paint_cells-gap.new.pen.rendition c.args.row.now.line wanted c.paint_cells-gap.result from c.args.row.now.few_lines
+    (omega (arith, c.erased_from-from.ensures.to, changed.inside)) c.args.row.now.few_columns in
     ready-more
-    (line-ready same c.requires.shown painted c.erased_from-from.ensures.to blank changed c.come_to.ensures.strokes few c.come_to.ensures.cursor c.come_to.ensures.rendition c.come_to.ensures.columns)
+    (line-ready same (c.args.row.now.same ∙ sym c.requires.width) painted c.erased_from-from.ensures.to blank changed
+    c.come_to.ensures.strokes few c.come_to.ensures.cursor c.come_to.ensures.rendition c.come_to.ensures.columns)
     (omega arith)
 
 pub returns-in_ok-column-in-None-clause-ready : goal.returns-in_ok-column-in-None-clause-ready
 returns-in_ok-column-in-None-clause-ready g c =
     let column = c.in_ok-column-in-None.column in
-    let wanted = c.args.wanted.now in
-    let same : length c.args.shown.now ≡ length wanted = c.requires.shown ∙ sym c.requires.wanted in
+    let wanted = c.args.row.now.wanted.now in
+    let same : length c.args.row.now.shown.now ≡ length wanted = c.args.row.now.same in
     let blank : AreBlank (drop column wanted) = kept-later (λ _. shown_blank) c.tail_start-tail.result column wanted c.in_ok-column-in-None.ensures.1 c.tail_start-tail.ensures.blank in
     line-at_cursor same c.paint_line.ensures.strokes c.paint_line.ensures.columns blank c.in_ok-column-in-None.ensures.2 c.select.ensures.draws
     (c.select.ensures.cursor ∙ c.in_ok-column-in-None.ensures.0) c.select.ensures.rendition c.select.ensures.columns

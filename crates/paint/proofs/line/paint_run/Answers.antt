@@ -1,22 +1,69 @@
 -- `paint_run`: runs of cells: printed one after another, and drawn in a line (`Runs`); the strokes of a pen, one after another, and what each shows
--- (`Strokes`).
-use Rattle.std.proofs.Common.{◌≡◌, ◌+◌, ◌<◌, ◌≤◌, ◌∙◌, get_or, length, sym, ap, subst, arith}
+-- (`Strokes`); the walk over the cells of a line (`Walks`).
+use Rattle.std.proofs.Common.{◌≡◌, ◌+◌, ◌<◌, ◌≤◌, ◌∙◌, Some, get_or, length, sym, ap, subst, arith}
 use Rattle.std.proofs.lemmas.List.{get_or_default}
 use Rattle.cell.specs.Shown.{IsRendition, Shown, shown_blank}
+use Rattle.cell.specs.Pictures.{line_of}
 use Rattle.cell.specs.declared.limits.TheConstants.{LARGEST_SCREEN}
 use Rattle.paint.specs.steps.Strokes.{approach_bytes, most_approach}
-use Rattle.paint.proofs.Runs.{run-strokes}
+use Rattle.paint.specs.steps.Walks.{cells_between}
+use Rattle.paint.proofs.Runs.{part-of, run-strokes}
 use Rattle.paint.proofs.Strokes.{approach-most}
+use Rattle.paint.proofs.Walks.{gap-ends, gap-shown, length-between}
 use Rattle.paint.proofs.line.paint_run.Goals as goal
+
+pub approach-requires-clause-inside : goal.approach-requires-clause-inside
+approach-requires-clause-inside g c = omega (arith, gap-ends c.args.gap c.args.start c.args.row.now.wanted.now c.requires.gap (omega arith))
+
+pub print_run-requires-clause-cursor : goal.print_run-requires-clause-cursor
+print_run-requires-clause-cursor g c =
+    c.approach.ensures.cursor ∙ ap (λ n. Some (c.args.row.now.line, n)) (gap-ends c.args.gap c.args.start c.args.row.now.wanted.now c.requires.gap (omega arith))
+
+pub print_run-requires-clause-rendition : goal.print_run-requires-clause-rendition
+print_run-requires-clause-rendition g c =
+    let x = c.args.start in
+    let wanted = c.args.row.now.wanted.now in
+    let run = c.run_end-stop.ensures in
+    let long = length-between x c.run_end-stop.result wanted (omega (arith, run.some)) (omega (arith, run.within, c.requires.inside)) in
+    let first = c.index-wanted-start.is ∙ get_or_default wanted x c.index-wanted-start.result shown_blank (omega (arith, c.requires.begun, c.requires.inside)) in
+    λ k few.
+    ap (λ (cell : Shown). cell.rendition) (part-of x c.run_end-stop.result k wanted (omega (arith, long)))
+    ∙ run.rendition (x + k) (omega arith) (omega (arith, few, long))
+    ∙ sym (c.approach.ensures.rendition ∙ c.rendition.ensures.value ∙ ap (λ (cell : Shown). cell.rendition) first)
+
+pub print_run-requires-clause-some : goal.print_run-requires-clause-some
+print_run-requires-clause-some g c =
+    let run = c.run_end-stop.ensures in
+    omega (arith, run.some, length-between c.args.start c.run_end-stop.result c.args.row.now.wanted.now (omega (arith, run.some)) (omega (arith, run.within, c.requires.inside)))
+
+pub print_run-requires-clause-inside : goal.print_run-requires-clause-inside
+print_run-requires-clause-inside g c =
+    let run = c.run_end-stop.ensures in
+    omega (
+      arith,
+      run.within,
+      c.approach.ensures.columns,
+      length-between c.args.start c.run_end-stop.result c.args.row.now.wanted.now (omega (arith, run.some)) (omega (arith, run.within, c.requires.inside)),
+    )
 
 pub returns-clause-strokes : goal.returns-clause-strokes
 returns-clause-strokes g c = λ picture wide are.
-    let run = c.args.run.now in
-    let first : c.index-run-0.result ≡ get_or run 0 shown_blank = c.index-run-0.is ∙ get_or_default run 0 c.index-run-0.result shown_blank c.requires.some in
+    let x = c.args.start in
+    let wanted = c.args.row.now.wanted.now in
+    let run = c.run_end-stop.ensures in
+    let cells = cells_between x c.run_end-stop.result wanted in
+    let some : 0 < length cells = omega (arith, run.some, length-between x c.run_end-stop.result wanted (omega (arith, run.some)) (omega (arith, run.within, c.requires.inside))) in
+    let here : x + 0 ≡ x = omega arith in
+    let first : c.index-wanted-start.result ≡ get_or cells 0 shown_blank =
+    c.index-wanted-start.is ∙ get_or_default wanted x c.index-wanted-start.result shown_blank (omega (arith, c.requires.begun, c.requires.inside))
+    ∙ ap (λ n. get_or wanted n shown_blank) (sym here) ∙ sym (part-of x c.run_end-stop.result 0 wanted (omega (arith, run.some))) in
     let is = subst (λ (cell : Shown). IsRendition cell.rendition) first c.rendition.ensures.sound.rendition in
-    let column : c.args.start + length c.args.gap.now < LARGEST_SCREEN = omega (arith, c.requires.some, c.requires.inside, c.requires.columns) in
-    let few : approach_bytes c.args.pen.now.cursor c.args.pen.now.rendition (c.args.line, c.args.start) c.args.gap.now c.rendition.result ≤ most_approach (get_or run 0 shown_blank).rendition =
-    subst (λ r. approach_bytes c.args.pen.now.cursor c.args.pen.now.rendition (c.args.line, c.args.start) c.args.gap.now c.rendition.result ≤ most_approach r)
+    let gap = cells_between c.args.gap x wanted in
+    let column : c.args.gap + length gap < LARGEST_SCREEN =
+    omega (arith, gap-ends c.args.gap x wanted c.requires.gap (omega arith), c.requires.begun, c.requires.inside, c.args.row.now.few_columns) in
+    let few : approach_bytes c.args.pen.now.cursor c.args.pen.now.rendition (c.args.row.now.line, c.args.gap) gap c.rendition.result ≤ most_approach (get_or cells 0 shown_blank).rendition =
+    subst (λ r. approach_bytes c.args.pen.now.cursor c.args.pen.now.rendition (c.args.row.now.line, c.args.gap) gap c.rendition.result ≤ most_approach r)
     (c.rendition.ensures.value ∙ ap (λ (cell : Shown). cell.rendition) first)
-    (approach-most c.args.pen.now.cursor c.args.pen.now.rendition (c.args.line, c.args.start) c.args.gap.now c.rendition.result c.requires.line column) in
-    run-strokes run is c.requires.some few (c.approach.ensures.strokes picture wide are) (c.print_run.ensures.draws picture (wide ∙ sym c.approach.ensures.columns))
+    (approach-most c.args.pen.now.cursor c.args.pen.now.rendition (c.args.row.now.line, c.args.gap) gap c.rendition.result c.args.row.now.few_lines column) in
+    run-strokes cells is some few (c.approach.ensures.strokes picture wide (gap-shown c.args.gap x wanted (line_of picture c.args.row.now.line) c.requires.gap (omega arith) are))
+    (c.print_run.ensures.draws picture (wide ∙ sym c.approach.ensures.columns))

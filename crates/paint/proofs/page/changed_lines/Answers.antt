@@ -8,21 +8,23 @@ use Rattle.paint.proofs.page.changed_lines.Goals as goal
 pub loop-end-init : goal.loop-end-init
 loop-end-init c = record {
   within = c.lines-lines.ensures.inside;
-  kept = lines-back c.requires.shown c.requires.wanted c.requires.changes c.lines-lines.result.end
+  kept = lines-back c.args.frame.now.sound.shown c.args.frame.now.sound.wanted c.args.frame.now.sound.changes c.lines-lines.result.end
       (λ y from. c.lines-lines.ensures.others y (is_out c.lines-lines.result y (inr from)));
 }
 
 pub first_changed-requires : goal.first_changed-requires
 first_changed-requires c =
+    let f = c.args.frame.now.sound in
     let y = c.loop-end.end - 1 in
-    rw (c.row.ensures.row, c.row-in-loop-end.ensures.row, c.from-at.ensures) (line-part c.requires.shown c.requires.wanted c.requires.changes y
-    (omega (arith, c.loop-end.invariant.within)) c.within-from.ensures)
+    rw (c.row.ensures.row, c.row-in-loop-end.ensures.row, c.from-at.ensures) (line-part f.shown f.wanted f.changes y
+    (omega (arith, c.loop-end.invariant.within)) (rw c.from.ensures at c.within-from.ensures))
 
 pub returns-clause-kept : goal.returns-clause-kept
 returns-clause-kept c =
+    let f = c.args.frame.now.sound in
     let end = c.loop-end.end in
-    let shown = c.args.shown.now in
-    let wanted = c.args.wanted.now in
-    let prefix : take end shown ≡ take end wanted = lines-prefix c.requires.shown c.requires.wanted c.requires.changes end
+    let shown = c.args.frame.now.shown.now in
+    let wanted = c.args.frame.now.wanted.now in
+    let prefix : take end shown ≡ take end wanted = lines-prefix f.shown f.wanted f.changes end
     (λ y before. c.lines-lines.ensures.others y (is_out c.lines-lines.result y (inl (omega (arith, c.loop-end-test.false))))) in
     sym (take-append-drop end shown) ∙ (λ i. prefix i ++ c.loop-end.invariant.kept i) ∙ take-append-drop end wanted

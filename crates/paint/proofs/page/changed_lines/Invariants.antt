@@ -3,8 +3,8 @@ use Rattle.paint.proofs.page.changed_lines.Given as goal
 
 abbrev pub invariant-loop-end : goal.invariant-loop-end
 invariant-loop-end l = record {
-  within : l.end ≤ length l.changes;
-  kept : drop l.end l.shown ≡ drop l.end l.wanted;
+  within : l.end ≤ length l.frame.changes.now;
+  kept : drop l.end l.frame.shown.now ≡ drop l.end l.frame.wanted.now;
 }
 
 abbrev pub decreases-loop-end : goal.decreases-loop-end

@@ -4,8 +4,8 @@ use Rattle.paint.proofs.page.paint_picture.Given as goal
 
 abbrev pub invariant-loop-line : goal.invariant-loop-line
 invariant-loop-line g l = record {
-  painted : IsPicturePainted (g.W.Sink.seen l.fn.sink) (g.W.Sink.seen l.sink) l.fn.pen l.pen l.line l.shown l.wanted;
-  inside : l.line ≤ l.lines;
+  painted : IsPicturePainted (g.W.Sink.seen l.fn.sink) (g.W.Sink.seen l.sink) l.fn.pen l.pen l.line l.frame.shown.now l.frame.wanted.now;
+  inside : l.line ≤ l.frame.lines;
   same : g.W.Sink.name l.sink ≡ g.W.Sink.name l.fn.sink;
 }
 

@@ -1,18 +1,17 @@
 -- `paint_part`: a cell is left where it is shown already, or another pass draws it, and else drawn in a run (`Choices`, `Runs`, `Walks`).
-use Rattle.std.proofs.Common.{◌≡◌, ℕ, ◌+◌, ◌-◌, ◌<◌, ◌≤◌, ◌∙◌, true, length, get_or, take, drop, inl, inr, refl, sym, ap, subst, arith}
+use Rattle.std.proofs.Common.{◌≡◌, ℕ, ◌+◌, ◌<◌, ◌≤◌, ◌∙◌, length, get_or, inl, inr, refl, sym, ap, subst, arith}
 use Rattle.std.proofs.lemmas.Bool.{cases_lt, eqb-false, eqb-true}
-use Rattle.std.proofs.lemmas.List.{get_or_default, length-drop, length-take-le}
+use Rattle.std.proofs.lemmas.List.{get_or_default}
 use Rattle.cell.specs.Shown.{Shown, shown_blank}
 use Rattle.cell.specs.EqualityLaws.{same_shown-equal}
-use Rattle.cell.specs.Pictures.{Picture, line_of}
+use Rattle.cell.specs.Pictures.{line_of}
 use Rattle.cell.specs.Differences.{same_shown}
 use Rattle.paint.specs.steps.Passes.{is_drawn, line_after, pass_of as pass_in}
-use Rattle.paint.specs.steps.Strokes.{Strokes, run_bytes, with_cells}
-use Rattle.paint.specs.steps.Walks.{IsLinePainted}
+use Rattle.paint.specs.steps.Walks.{cells_between}
 use Rattle.paint.proofs.Choices.{choices-alike, choices-back, choices-prefix, get-alike, get-in, get-kept, get-out, length-choose, not-yet, now-drawn, other-pass, part-kept, same-cells}
-use Rattle.paint.proofs.Prefixes.{drop-later}
-use Rattle.paint.proofs.Runs.{line-run, part-alike, part-of}
-use Rattle.paint.proofs.Walks.{gap-before, gap-ends, line-begun, line-kept, line-painted}
+use Rattle.paint.proofs.Prefixes.{between, drop-later}
+use Rattle.paint.proofs.Runs.{same_shown-at, line-run, part-of}
+use Rattle.paint.proofs.Walks.{length-between, line-begun, line-kept, line-painted}
 use Rattle.paint.proofs.passes.paint_part.Goals as goal
 
 pub loop-x-init : goal.loop-x-init
@@ -20,9 +19,9 @@ loop-x-init g c =
     let p = is_drawn c.args.order.now c.args.pass in
     let q = is_drawn c.args.order.now (c.args.pass + 1) in
     record {
-      painted = line-begun _ _ c.args.line c.in-Some.first (line_after c.args.order.now c.args.pass c.args.shown.now c.args.wanted.now)
-          (line_after c.args.order.now (c.args.pass + 1) c.args.shown.now c.args.wanted.now)
-          (choices-prefix p q c.in-Some.first c.args.shown.now c.args.wanted.now c.in-Some.ensures.1);
+      painted = line-begun _ _ c.args.row.now.line c.in-Some.first (line_after c.args.order.now c.args.pass c.args.row.now.shown.now c.args.row.now.wanted.now)
+          (line_after c.args.order.now (c.args.pass + 1) c.args.row.now.shown.now c.args.row.now.wanted.now)
+          (choices-prefix p q c.in-Some.first c.args.row.now.shown.now c.args.row.now.wanted.now c.in-Some.ensures.1);
       gap = omega arith;
       kept = λ v from to. absurd (omega arith);
       same = refl;
@@ -33,21 +32,19 @@ returns-in_default-clause-strokes g c =
     let p = is_drawn c.args.order.now c.args.pass in
     let q = is_drawn c.args.order.now (c.args.pass + 1) in
     let same = rw c.in_default.is at c.first_changed.ensures in
-    line-painted (line-begun _ _ c.args.line 0 (line_after c.args.order.now c.args.pass c.args.shown.now c.args.wanted.now)
-    (line_after c.args.order.now (c.args.pass + 1) c.args.shown.now c.args.wanted.now) refl) (choices-alike p q c.args.shown.now c.args.wanted.now same)
+    line-painted (line-begun _ _ c.args.row.now.line 0 (line_after c.args.order.now c.args.pass c.args.row.now.shown.now c.args.row.now.wanted.now)
+    (line_after c.args.order.now (c.args.pass + 1) c.args.row.now.shown.now c.args.row.now.wanted.now) refl) (choices-alike p q c.args.row.now.shown.now c.args.row.now.wanted.now same)
 
 pub loop-x-preserved-then-eq : goal.loop-x-preserved-then-eq
 loop-x-preserved-then-eq g c =
     let x = c.loop-x.x in
-    let shown = c.args.shown.now in
-    let wanted = c.args.wanted.now in
+    let shown = c.args.row.now.shown.now in
+    let wanted = c.args.row.now.wanted.now in
     let p = is_drawn c.args.order.now c.args.pass in
     let q = is_drawn c.args.order.now (c.args.pass + 1) in
-    let same : length shown ≡ length wanted = c.requires.shown ∙ sym c.requires.wanted in
+    let same : length shown ≡ length wanted = c.args.row.now.same in
     let inside : x < length shown = omega (arith, c.loop-x-test.true, c.requires.part.inside) in
-    let old = c.index-shown-x.is ∙ get_or_default shown x c.index-shown-x.result shown_blank inside in
-    let new = c.index-wanted-x.is ∙ get_or_default wanted x c.index-wanted-x.result shown_blank (omega arith) in
-    let alike : same_shown (get_or shown x shown_blank) (get_or wanted x shown_blank) ≡ true = (λ i. same_shown (sym old i) (sym new i)) ∙ sym c.if-eq.ensures in
+    let alike = same_shown-at shown wanted x c.index-shown-x.is c.index-wanted-x.is inside (omega arith) c.if-eq.ensures in
     let equal = same_shown-equal (get_or shown x shown_blank) (get_or wanted x shown_blank) alike in
     let long = length-choose p shown wanted same in
     record {
@@ -66,11 +63,11 @@ loop-x-preserved-then-not-is_drawn_in g c =
     let x = c.loop-x.x in
     let order = c.args.order.now in
     let pass = c.args.pass in
-    let shown = c.args.shown.now in
-    let wanted = c.args.wanted.now in
+    let shown = c.args.row.now.shown.now in
+    let wanted = c.args.row.now.wanted.now in
     let p = is_drawn order pass in
     let q = is_drawn order (pass + 1) in
-    let same : length shown ≡ length wanted = c.requires.shown ∙ sym c.requires.wanted in
+    let same : length shown ≡ length wanted = c.args.row.now.same in
     let inside : x < length shown = omega (arith, c.loop-x-test.true, c.requires.part.inside) in
     let new = c.index-wanted-x-in-loop-x.is ∙ get_or_default wanted x c.index-wanted-x-in-loop-x.result shown_blank (omega arith) in
     let drawn_in : pass_in order c.rendition.result ≡ pass_in order (get_or wanted x shown_blank).rendition =
@@ -87,68 +84,49 @@ loop-x-preserved-then-not-is_drawn_in g c =
       same = c.loop-x.invariant.same;
     }
 
-pub paint_run-requires-clause-rendition : goal.paint_run-requires-clause-rendition
-paint_run-requires-clause-rendition g c =
-    let x = c.loop-x.x in
-    let stop = c.run_end-stop.result in
-    let wanted = c.args.wanted.now in
-    let long : length (take (stop - x) (drop x wanted)) ≡ stop - x = length-take-le (stop - x) (drop x wanted)
-    (omega (arith, length-drop x wanted, c.run_end-stop.ensures.within, c.requires.part.inside)) in
-    λ k few. part-alike x stop k wanted (omega (arith, long)) c.run_end-stop.ensures.rendition
-
 pub loop-x-preserved : goal.loop-x-preserved
 loop-x-preserved g c =
     let x = c.loop-x.x in
     let gap = c.loop-x.gap in
-    let stop = c.run_end-stop.result in
+    let stop = c.paint_run-x.result in
+    let run = c.paint_run-x.ensures.run in
     let order = c.args.order.now in
     let pass = c.args.pass in
-    let shown = c.args.shown.now in
-    let wanted = c.args.wanted.now in
+    let shown = c.args.row.now.shown.now in
+    let wanted = c.args.row.now.wanted.now in
     let p = is_drawn order pass in
     let q = is_drawn order (pass + 1) in
-    let same : length shown ≡ length wanted = c.requires.shown ∙ sym c.requires.wanted in
+    let same : length shown ≡ length wanted = c.args.row.now.same in
     let ordered : gap ≤ x = c.loop-x.invariant.gap in
-    let some : x < stop = c.run_end-stop.ensures.some in
-    let within : stop ≤ c.args.end = c.run_end-stop.ensures.within in
-    let inside : stop ≤ length shown = omega (arith, within, same, c.requires.part.inside) in
-    let cells = take (stop - x) (drop x wanted) in
-    let many : length cells ≡ stop - x = length-take-le (stop - x) (drop x wanted) (omega (arith, length-drop x wanted, inside, same)) in
-    let end : x + length cells ≡ stop = omega (arith, many, some) in
+    let some : x < stop = run.some in
+    let inside : stop ≤ length shown = omega (arith, run.within, same, c.requires.part.inside) in
+    let many = length-between x stop wanted (omega (arith, some)) (omega (arith, inside, same)) in
     let new = c.index-wanted-x-in-loop-x.is ∙ get_or_default wanted x c.index-wanted-x-in-loop-x.result shown_blank (omega arith) in
     let drawn_in : pass_in order (get_or wanted x shown_blank).rendition ≡ pass =
     ap (pass_in order) (sym (c.rendition.ensures.value ∙ ap (λ (cell : Shown). cell.rendition) new))
     ∙ eqb-true (pass_in order c.rendition.result) pass (sym c.is_drawn_in.ensures ∙ c.if-not-is_drawn_in.false) in
-    let now = λ (v : ℕ) (from : x ≤ v) (to : v < stop). ap (pass_in order) (c.run_end-stop.ensures.rendition v from to) ∙ drawn_in in
+    let now = λ (v : ℕ) (from : x ≤ v) (to : v < stop). ap (pass_in order) (run.rendition v from to) ∙ drawn_in in
     let before = λ (v : ℕ) (from : x ≤ v) (to : v < stop). get-out p v shown wanted same (omega (arith, to, inside)) (not-yet _ pass (now v from to)) in
     let after = λ (v : ℕ) (from : x ≤ v) (to : v < stop). get-in q v shown wanted same (omega (arith, to, inside)) (now-drawn _ pass (now v from to)) in
     let long = length-choose p shown wanted same in
     let wide = length-choose q shown wanted same in
-    let before_line = line_after order pass shown wanted in
-    let after_line = line_after order (pass + 1) shown wanted in
-    let slice : take (x - gap) (drop gap after_line) ≡ take (x - gap) (drop gap wanted) =
-    part-kept q gap x shown wanted same ordered (omega (arith, some, inside)) c.loop-x.invariant.kept in
-    let strokes = λ (picture : Picture) (columns : length (line_of picture c.args.line) ≡ c.loop-x.pen.columns)
-    (prefix : take x (line_of picture c.args.line) ≡ take x after_line).
-    let there = gap-before gap x after_line (line_of picture c.args.line) ordered (omega (arith, wide, some, inside)) prefix in
-    subst (λ at. Strokes (run_bytes cells) (g.W.Sink.seen c.loop-x.sink) (g.W.Sink.seen c.paint_run.new.sink) c.loop-x.pen c.paint_run.new.pen picture
-    (with_cells picture (c.args.line, at) cells)) (gap-ends gap x wanted ordered (omega (arith, same, some, inside)))
-    (c.paint_run.ensures.strokes picture columns (subst (λ part. take (length part) (drop gap (line_of picture c.args.line)) ≡ part) slice there.shown)) in
+    let slice = part-kept q gap x shown wanted same ordered (omega (arith, some, inside)) c.loop-x.invariant.kept in
     record {
-      painted = subst (λ n. IsLinePainted (g.W.Sink.seen c.args.sink.now) (g.W.Sink.seen c.paint_run.new.sink) c.args.pen.now c.paint_run.new.pen c.args.line n
-          (line_after order pass shown wanted) after_line) end
-          (line-run cells (long ∙ sym wide) (omega (arith, many, some)) (omega (arith, end, inside, long)) c.loop-x.invariant.painted (long ∙ c.requires.shown)
+      painted = line-run (cells_between x stop wanted) (long ∙ sym wide) some (omega (arith, many, some)) (omega (arith, inside, long)) c.loop-x.invariant.painted
+          (long ∙ c.args.row.now.same ∙ sym c.requires.width)
           (λ k few. part-of x stop k wanted (omega (arith, many)) ∙ sym (after (x + k) (omega arith) (omega (arith, few, many))))
-          (λ v from to. let below : v < stop = omega (arith, to, end) in (λ i. same_shown (before v from below i) (after v from below i)) ∙ c.run_end-stop.ensures.changed v from below)
-          strokes c.paint_run.ensures.columns);
+          (λ v from to. (λ i. same_shown (before v from to i) (after v from to i)) ∙ run.changed v from to)
+          (λ picture columns prefix. c.paint_run-x.ensures.strokes picture columns
+          (between gap x (line_of picture c.args.row.now.line) (line_after order (pass + 1) shown wanted) ordered prefix ∙ slice))
+          c.paint_run-x.ensures.columns;
       gap = omega arith;
       kept = λ v from to. absurd (omega arith);
-      same = c.paint_run.ensures.same ∙ c.loop-x.invariant.same;
+      same = c.paint_run-x.ensures.same ∙ c.loop-x.invariant.same;
     }
 
 pub returns-clause-strokes : goal.returns-clause-strokes
 returns-clause-strokes g c =
     let p = is_drawn c.args.order.now c.args.pass in
     let q = is_drawn c.args.order.now (c.args.pass + 1) in
-    line-painted c.loop-x.invariant.painted (choices-back p q c.loop-x.x c.args.shown.now c.args.wanted.now
-    (drop-later c.args.end c.loop-x.x c.args.shown.now c.args.wanted.now c.loop-x-test.false c.requires.part.after))
+    line-painted c.loop-x.invariant.painted (choices-back p q c.loop-x.x c.args.row.now.shown.now c.args.row.now.wanted.now
+    (drop-later c.args.end c.loop-x.x c.args.row.now.shown.now c.args.row.now.wanted.now c.loop-x-test.false c.requires.part.after))

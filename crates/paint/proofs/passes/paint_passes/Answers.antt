@@ -8,13 +8,14 @@ use Rattle.paint.proofs.passes.paint_passes.Goals as goal
 
 pub loop-pass-init : goal.loop-pass-init
 loop-pass-init g c =
-    let start : picture_after c.args.order.now 0 c.args.shown.now c.args.wanted.now ≡ c.args.shown.now =
-    lines-none (is_drawn c.args.order.now 0) c.requires.shown c.requires.wanted (none-before c.args.order.now) in
+    let f = c.args.frame.now.sound in
+    let start : picture_after c.args.order.now 0 c.args.frame.now.shown.now c.args.frame.now.wanted.now ≡ c.args.frame.now.shown.now =
+    lines-none (is_drawn c.args.order.now 0) f.shown f.wanted (none-before c.args.order.now) in
     record {
       passed = record {
         spent = 0;
         within = rw start (omega arith);
-        strokes = subst (Strokes 0 _ _ c.args.pen.now c.args.pen.now c.args.shown.now) (sym start) (Strokes-nothing _ c.args.pen.now c.args.shown.now);
+        strokes = subst (Strokes 0 _ _ c.args.pen.now c.args.pen.now c.args.frame.now.shown.now) (sym start) (Strokes-nothing _ c.args.pen.now c.args.frame.now.shown.now);
         columns = refl;
       };
       few = omega arith;
@@ -26,11 +27,11 @@ loop-pass-preserved g c =
     let order = c.args.order.now in
     let passed = c.loop-pass.invariant.passed in
     let left = lines-left (is_drawn order c.loop-pass.pass) (is_drawn order (c.loop-pass.pass + 1))
-    (once-drawn order c.loop-pass.pass) c.args.shown.now c.args.wanted.now in
+    (once-drawn order c.loop-pass.pass) c.args.frame.now.shown.now c.args.frame.now.wanted.now in
     record {
       passed = record {
-        spent = passed.spent + picture_bytes (picture_after order c.loop-pass.pass c.args.shown.now c.args.wanted.now)
-            (picture_after order (c.loop-pass.pass + 1) c.args.shown.now c.args.wanted.now);
+        spent = passed.spent + picture_bytes (picture_after order c.loop-pass.pass c.args.frame.now.shown.now c.args.frame.now.wanted.now)
+            (picture_after order (c.loop-pass.pass + 1) c.args.frame.now.shown.now c.args.frame.now.wanted.now);
         within = omega (arith, passed.within, left);
         strokes = Strokes-then passed.strokes c.paint_pass.ensures.strokes;
         columns = c.paint_pass.ensures.columns ∙ passed.columns;
@@ -41,10 +42,11 @@ loop-pass-preserved g c =
 
 pub returns-clause-strokes : goal.returns-clause-strokes
 returns-clause-strokes g c =
+    let f = c.args.frame.now.sound in
     let order = c.args.order.now in
     let passed = c.loop-pass.invariant.passed in
     let last : c.loop-pass.pass ≡ length order + 1 = omega (arith, c.loop-pass.invariant.few, c.loop-pass-test.false) in
-    let end : picture_after order c.loop-pass.pass c.args.shown.now c.args.wanted.now ≡ c.args.wanted.now =
-    (λ i. picture_after order (last i) c.args.shown.now c.args.wanted.now) ∙ lines-all (is_drawn order (length order + 1)) c.requires.shown c.requires.wanted (all-after order) in
-    subst (Strokes (picture_bytes c.args.shown.now c.args.wanted.now) _ _ c.args.pen.now c.loop-pass.pen c.args.shown.now) end
+    let end : picture_after order c.loop-pass.pass c.args.frame.now.shown.now c.args.frame.now.wanted.now ≡ c.args.frame.now.wanted.now =
+    (λ i. picture_after order (last i) c.args.frame.now.shown.now c.args.frame.now.wanted.now) ∙ lines-all (is_drawn order (length order + 1)) f.shown f.wanted (all-after order) in
+    subst (Strokes (picture_bytes c.args.frame.now.shown.now c.args.frame.now.wanted.now) _ _ c.args.pen.now c.loop-pass.pen c.args.frame.now.shown.now) end
     (Strokes-more passed.strokes (omega (arith, passed.within)))

@@ -1,11 +1,11 @@
 -- `note_cells`: a cell that is shown already, or has the last rendition, needs no note (`Orders`).
 use Rattle.std.proofs.Common.{◌≡◌, ◌+◌, ◌<◌, ◌≤◌, ◌∙◌, [], ◌∷◌, ◌++◌, true, false, length, get_or, take, sym, ap, subst, refl, arith, append_assoc}
 use Rattle.std.proofs.lemmas.List.{get_or_default, take_all}
-use Rattle.cell.specs.Differences.{same_rendition, same_shown}
+use Rattle.cell.specs.Differences.{same_rendition}
 use Rattle.cell.specs.Shown.{Rendition, Shown, shown_blank}
 use Rattle.paint.specs.steps.Passes.{HasNoted, line_renditions, with_pass}
 use Rattle.paint.proofs.Orders.{noted-all, noted-cell, noted-shown, renditions-next}
-use Rattle.paint.proofs.Runs.{not-other, not-same}
+use Rattle.paint.proofs.Runs.{same_shown-at, not-other, not-same}
 use Rattle.paint.proofs.passes.Renditions.note_cells.Goals as goal
 use Rattle.paint.proofs.passes.Renditions.note_cells.Goals.{then-ne+then-ne-2, else-ne, else-ne-via-then-ne+else-ne-2, else-ne-via-else-ne}
 
@@ -26,9 +26,7 @@ loop-x-preserved c = λ came h.
     append_assoc came (line_renditions (take x shown) (take x wanted)) (line_renditions (a ∷ []) (b ∷ [])) ∙ ap (λ l. came ++ l) (sym (renditions-next x shown wanted high c.requires)) in
     subst (HasNoted c.if-ne.self) next (elim c.if-ne.branch [
       | then-ne+then-ne-2 w ↦
-          let old = w.index-shown-x.is ∙ get_or_default shown x w.index-shown-x.result shown_blank high in
-          let new = w.index-wanted-x-then-ne.is ∙ get_or_default wanted x w.index-wanted-x-then-ne.result shown_blank inside in
-          let differs : same_shown a b ≡ false = (λ i. same_shown (sym old i) (sym new i)) ∙ not-same _ (sym w.ne-then-ne.ensures ∙ w.if-ne-2.true) in
+          let differs = same_shown-at shown wanted x w.index-shown-x.is w.index-wanted-x-then-ne.is high inside (sym (not-same _ (sym w.ne-then-ne.ensures ∙ w.if-ne-2.true))) in
           let other : same_rendition b.rendition last ≡ false = ap (λ r. same_rendition r last) (sym rendition) ∙ not-same _ (sym c.ne.ensures ∙ w.if-ne.true) in
           let is : w.rendition-then-ne-2.result ≡ b.rendition =
           w.rendition-then-ne-2.ensures.value
@@ -36,9 +34,7 @@ loop-x-preserved c = λ came h.
           rw w.self-is (noted-cell a b so_far differs other (w.note.ensures.order ∙ ap (with_pass c.loop-x.self.order) is) (w.note.ensures.last ∙ is) w.note.ensures.switches)
       | else-ne w ↦ elim w.else-ne.branch [
         | else-ne-via-then-ne+else-ne-2 v ↦
-            let old = v.index-shown-x.is ∙ get_or_default shown x v.index-shown-x.result shown_blank high in
-            let new = v.index-wanted-x-then-ne.is ∙ get_or_default wanted x v.index-wanted-x-then-ne.result shown_blank inside in
-            let same : same_shown a b ≡ true = (λ i. same_shown (sym old i) (sym new i)) ∙ not-other _ (sym v.ne-then-ne.ensures ∙ v.if-ne-2.false) in
+            let same = same_shown-at shown wanted x v.index-shown-x.is v.index-wanted-x-then-ne.is high inside (sym (not-other _ (sym v.ne-then-ne.ensures ∙ v.if-ne-2.false))) in
             rw w.self-is (noted-shown a b so_far same)
         | else-ne-via-else-ne v ↦
             let same : same_rendition b.rendition last ≡ true = ap (λ r. same_rendition r last) (sym rendition) ∙ not-other _ (sym c.ne.ensures ∙ v.if-ne.false) in

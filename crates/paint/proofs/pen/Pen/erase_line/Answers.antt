@@ -1,6 +1,11 @@
-use Rattle.paint.proofs.Strokes.{erases-line}
+use Rattle.std.proofs.Common.{refl}
+use Rattle.ecma.specs.Terminals.{erased_at}
+use Rattle.ecma.specs.declared.token.Erase.TheVariants.{ToEnd}
+use Rattle.ecma.specs.declared.token.Token.TheVariants.{El}
+use Rattle.paint.proofs.Strokes.{erases}
 use Rattle.paint.proofs.pen.Pen.erase_line.Goals as goal
 
 pub returns-clause-draws : goal.returns-clause-draws
 returns-clause-draws g c = λ picture.
-    erases-line c.args.self.now c.put.new.self (c.args.line, c.args.column) picture c.requires.cursor c.requires.rendition c.put.ensures.gathers c.put.ensures.rest
+    erases c.args.self.now c.put.new.self (El ToEnd) (c.args.line, c.args.column) picture (erased_at ToEnd (c.args.line, c.args.column) picture) c.requires.cursor c.requires.rendition tt refl
+    c.put.ensures.gathers c.put.ensures.rest

@@ -1,6 +1,11 @@
-use Rattle.paint.proofs.Strokes.{erases-page}
+use Rattle.std.proofs.Common.{refl}
+use Rattle.ecma.specs.Terminals.{erased_page}
+use Rattle.ecma.specs.declared.token.Erase.TheVariants.{ToEnd}
+use Rattle.ecma.specs.declared.token.Token.TheVariants.{Ed}
+use Rattle.paint.proofs.Strokes.{erases}
 use Rattle.paint.proofs.pen.Pen.erase_page.Goals as goal
 
 pub returns-clause-draws : goal.returns-clause-draws
 returns-clause-draws g c = λ picture.
-    erases-page c.args.self.now c.put.new.self (c.args.line, c.args.column) picture c.requires.cursor c.requires.rendition c.put.ensures.gathers c.put.ensures.rest
+    erases c.args.self.now c.put.new.self (Ed ToEnd) (c.args.line, c.args.column) picture (erased_page ToEnd (c.args.line, c.args.column) picture) c.requires.cursor c.requires.rendition tt refl
+    c.put.ensures.gathers c.put.ensures.rest
