@@ -1,21 +1,20 @@
 -- Where all windows but one are as they were: what each window shows that neither is that one nor derives from it.
-use Rattle.std.proofs.Common.{◌≡◌, ℕ, zero, suc, false, ◌==◌, Option, Some, None, [], ◌∷◌, ap, refl, ◌∙◌, arith}
+use Rattle.std.proofs.Common.{◌≡◌, ℕ, zero, suc, false, ◌==◌, Option, Some, [], ◌∷◌, ap, refl, arith}
 use Rattle.std.specs.Prelude.{option_and_then}
 use Rattle.std.specs.Option.{option_map_or}
 use Rattle.std.specs.List.{list_any}
 use mathlib.Core.Path.{fun_ext}
 use Rattle.std.proofs.lemmas.Bool.{eqb-false, ne_eqb, or_parts}
-use Rattle.cell.specs.Glyphs.{blank}
-use Rattle.world.specs.Windows.{Backing, Window, WindowMap, Windows, GridPlace, ancestors_within, cell_at, cell_in_grid, cell_of, with_change, derives, leads, own, own_within}
+use Rattle.world.specs.Windows.{Backing, Window, WindowMap, Windows, GridPlace, ancestors_within, cell_at, with_change, derives, leads, own_within}
 use Rattle.world.specs.Windows.{parent_number, parent_of, with_window, window_limit}
 use Rattle.world.proofs.ViewLaws.{same-if}
-use Rattle.world.specs.Effects.{shifted_to, with_offset, with_part}
+use Rattle.world.specs.Effects.{shifted_to, with_offset}
 
 pub changed-off : (window : WindowMap) (w : ℕ) (change : Window → Window) (v : ℕ) → (v ≡ w → ⊥) → with_change window w change v ≡ window v
-changed-off window w change v other = let apart = ne_eqb v w other in rw apart refl
+changed-off window w change v other = grind (arith, ne_eqb)
 
 pub replaced-off : (window : WindowMap) (w : ℕ) (o : Option Window) (v : ℕ) → (v ≡ w → ⊥) → with_window window w o v ≡ window v
-replaced-off window w o v other = let apart = ne_eqb v w other in rw apart refl
+replaced-off window w o v other = grind (arith, ne_eqb)
 
 module _ (new old : WindowMap) (w : ℕ) (same : (v : ℕ) → (v ≡ w → ⊥) → new v ≡ old v) where
   -- within n windows of the chain from window u on, which is another, none is window w
@@ -54,14 +53,10 @@ module _ (new old : WindowMap) (w : ℕ) (same : (v : ℕ) → (v ≡ w → ⊥)
 
   own_within-elsewhere : (n u y x : ℕ) (p : GridPlace) → (u ≡ w → ⊥) → Beside n u → own_within n old u y x ≡ Some p → p.grid ≡ w → ⊥
   own_within-elsewhere zero u y x p other h found is = cc
-  own_within-elsewhere (suc n) u y x p other h found is = then-elsewhere n (own_within-elsewhere n) u y x p (old u) other h found is
+  own_within-elsewhere (suc n) u y x p other h found is = grind (arith, then-elsewhere, (own_within-elsewhere n))
 
   pub cell_at-beside : (u y x : ℕ) → (u ≡ w → ⊥) → derives old w u ≡ false → cell_at new u y x ≡ cell_at old u y x
-  cell_at-beside u y x other apart = ap (cell_in_grid new) (own_within-kept window_limit u y x other apart) ∙ in-grid (own old u y x) refl where
-    in-grid : (o : Option GridPlace) → own old u y x ≡ o → cell_in_grid new o ≡ cell_in_grid old o
-    in-grid None found = refl
-    in-grid (Some p) found =
-        ap (λ o. option_map_or (λ a. cell_of a.backing p.line p.column) o blank) (same p.grid (λ is. own_within-elsewhere window_limit u y x p other apart found is))
+  cell_at-beside u y x other apart = grind (arith, own_within-kept, own_within-elsewhere)
 
 -- what a shift leaves as it is
 pub cell_at-moved : (windows : Windows) (w y x u v z : ℕ) → (u ≡ w → ⊥) → derives windows.window w u ≡ false → cell_at (shifted_to windows w (y, x)).window u v z ≡ cell_at windows.window u v z
@@ -73,7 +68,7 @@ offset-parent y x s = grind arith
 
 module _ (windows : Windows) (w y x : ℕ) where
   parent-moved : (u : ℕ) → parent_of (shifted_to windows w (y, x)).window u ≡ parent_of windows.window u
-  parent-moved u = same-if (λ o. option_and_then (λ a. parent_number a.backing) o) (with_part y x) (λ a. offset-parent y x a.backing) (u == w) (windows.window u)
+  parent-moved u = grind (arith, same-if, offset-parent)
 
   ancestors-moved : (n : ℕ) → ancestors_within n (shifted_to windows w (y, x)).window ≡ ancestors_within n windows.window
   ancestors-moved zero = refl

@@ -13,13 +13,7 @@ pub record FoundBelow (n : ℕ) (test : ℕ → Bool) : Type 0 where
 
 pub any_below-true : (n : ℕ) (test : ℕ → Bool) → any_below n test ≡ true → FoundBelow n test
 any_below-true zero test h = cc
-any_below-true (suc n) test h = elim (or_cases (test n) (any_below n test) h) [
-  | inl here ↦ record { number = n; below = omega arith; passes = here }
-  | inr before ↦
-      let found = any_below-true n test before in
-      let below = found.below in
-      record { number = found.number; below = omega arith; passes = found.passes }
-]
+any_below-true (suc n) test h = grind (arith, or_cases, (any_below-true n test))
 
 pub any_below-some : (n : ℕ) (test : ℕ → Bool) (k : ℕ) → k < n → test k ≡ true → any_below n test ≡ true
 any_below-some zero test k h is = absurd (omega arith)

@@ -75,4 +75,4 @@ shown-by window w a spot f y x None there leads below left is =
 
 pub shown-put : (window : WindowMap) (w : ℕ) (a : Window) (spot : GridPlace) (f : Drawing) (y x : ℕ) → window w ≡ Some a → own window w 0 0 ≡ Some spot
     → y < a.lines → x < a.columns → cell_at (put_windows window w f) w y x ≡ unwrap_or (f y x) (cell_at window w y x)
-shown-put window w a spot f y x there leads below left = shown-by window w a spot f y x (f y x) there leads below left refl
+shown-put window w a spot f y x there leads below left = grind (arith, shown-by)
