@@ -1,5 +1,5 @@
 -- Making, deleting and moving windows: which places of the screen keep what the search finds there.
-use Rattle.std.proofs.Common.{◌≡◌, ℕ, zero, suc, ◌+◌, ◌<◌, Bool, true, false, ◌==◌, ◌&&◌, ◌||◌, Option, Some, None, IsSome, IsSomeAnd, MatchOption, [], ◌∷◌, subst, ap, arith, refl, sym, ◌∙◌}
+use Rattle.std.proofs.Common.{◌≡◌, ℕ, zero, suc, ◌+◌, ◌<◌, Bool, true, false, ◌==◌, ◌&&◌, ◌||◌, Option, Some, None, IsSome, IsSomeAnd, MatchOption, [], ◌∷◌, ap, arith, refl, sym, ◌∙◌}
 use Rattle.std.specs.Prelude.{is_some, option_and_then, ⊤}
 use Rattle.std.specs.Option.{option_map_or}
 use Rattle.std.specs.List.{list_any}
@@ -9,7 +9,7 @@ use Rattle.cell.specs.declared.limits.TheConstants.{MOST_WINDOWS}
 use Rattle.world.specs.Windows.{Backing, GridPlace, Window, WindowMap, Windows, ancestors_within, derives, leads, own, own_within, parent_number, parent_of, window_limit}
 use Rattle.world.specs.Panels.{Panels, cell_on_screen, found_from_top, holds, standard_screen, windows_from_top}
 use Rattle.world.specs.Sound.{AreSoundPanels, AreSoundWindows, IsSoundWindow, IsStandardScreen}
-use Rattle.world.specs.Effects.{Change, after_change, asks, deletes, edits, makes, after_marks, marks, moved_to, moves, under_number, shifted_to, shifts, with_part, with_place}
+use Rattle.world.specs.Effects.{Change, after_change, deletes, after_marks, moved_to, moves, under_number, shifted_to}
 use Rattle.world.specs.calls.Making.{has_derived, has_no_parent, is_own, is_part_of}
 use Rattle.world.specs.calls.Affected.{change_shows_at, follows_at, move_shows_at}
 use Rattle.world.proofs.Allowed.{IsAllowed, not-in-panel, sound-panel}
@@ -36,7 +36,7 @@ standard-beside windows w sound = grind (arith, no_ancestors, standard-parent)
 
 module _ (windows : Windows) (w v z : ℕ) where
   window-moved : (u : ℕ) → outline_of ((shifted_to windows w (v, z)).window u) ≡ outline_of (windows.window u)
-  window-moved u = same-if (λ o. outline_of o) (with_part v z) (λ a. refl) (u == w) (windows.window u)
+  window-moved u = grind (arith, same-if)
 
   pub move_shows-moved : (panels : Panels) (y x : ℕ) → move_shows_at (shifted_to windows w (v, z)).window panels w y x ≡ move_shows_at windows.window panels w y x
   move_shows-moved panels y x = ap (λ (test : ℕ → Bool). list_any test (windows_from_top panels)) (fun_ext (λ u. λ i.
@@ -81,8 +81,7 @@ module _ (new old : WindowMap) (panels : Panels) (w : ℕ) (same : (v : ℕ) →
       (λ p u is there fails. apart-kept y x u (apart p u is)) (apart-kept y x standard_screen standard)
 
 there-some : (o : Option Window) (P : Window → Type 0) → IsSomeAnd o P → IsSome o
-there-some None P h = elim h [ ]
-there-some (Some a) P h = refl
+there-some o P h = grind arith
 
 -- ---- delwin
 
@@ -103,8 +102,7 @@ module _ (window : WindowMap) (w : ℕ) (none : (v : ℕ) (a : Window) → windo
   underived (suc n) u = window-underived n (underived n) u (window u) refl
 
 window-sound : (windows : Windows) (v : ℕ) (a : Window) (o : Option Window) → o ≡ Some a → MatchOption o ⊤ (IsSoundWindow windows v) → IsSoundWindow windows v a
-window-sound windows v a None is h = cc
-window-sound windows v a (Some b) is h = let same : b ≡ a = cc in subst (λ (c : Window). IsSoundWindow windows v c) same h
+window-sound windows v a o is h = grind arith
 
 no-part : (windows : Windows) (w : ℕ) → AreSoundWindows windows → has_derived windows.window w ≡ false
     → (v : ℕ) (a : Window) → windows.window v ≡ Some a → is_part_of w a.backing ≡ false
@@ -144,7 +142,7 @@ module _ (window : WindowMap) (n : ℕ) (free : window n ≡ None) where
   window-leading : (k : ℕ) → Leading k → (u y x : ℕ) (p : GridPlace) (o : Option Window) → option_and_then (λ a. leads (own_within k window) u y x a.backing) o ≡ Some p
       → list_any (λ v. v == n) (option_map_or (λ parent. parent ∷ ancestors_within k window parent) (option_and_then (λ a. parent_number a.backing) o) []) ≡ false
   window-leading k before u y x p None found = cc
-  window-leading k before u y x p (Some a) found = backing-leading k before u y x p a.backing found
+  window-leading k before u y x p (Some a) found = grind (arith, backing-leading)
 
   leading : (k u y x : ℕ) (p : GridPlace) → own_within k window u y x ≡ Some p → list_any (λ v. v == n) (ancestors_within k window u) ≡ false
   leading zero u y x p found = cc
@@ -154,8 +152,7 @@ module _ (window : WindowMap) (n : ℕ) (free : window n ≡ None) where
   leading-some u o found some = grind (arith, leading)
 
 chain-ends : (windows : Windows) (u : ℕ) (o : Option Window) → MatchOption o ⊤ (IsSoundWindow windows u) → IsSome o → IsSome (own windows.window u 0 0)
-chain-ends windows u None h some = cc
-chain-ends windows u (Some a) h some = h.chain_ends
+chain-ends windows u o h some = grind arith
 
 found-new : (windows : Windows) (panels : Panels) (n : ℕ) (o : Option Window) (y x : ℕ) → AreSoundWindows windows → AreSoundPanels windows.window panels → windows.window n ≡ None
     → found_from_top (under_number windows n o).window panels y x ≡ found_from_top windows.window panels y x
@@ -176,13 +173,13 @@ found-new windows panels n o y x sound panels_sound free =
 
 module _ (windows : Windows) (w v z : ℕ) where
   backing-placed : (u : ℕ) → backing_of ((moved_to windows w (v, z)).window u) ≡ backing_of (windows.window u)
-  backing-placed u = same-if (λ o. backing_of o) (with_place v z) (λ a. refl) (u == w) (windows.window u)
+  backing-placed u = grind (arith, same-if)
 
   outline-placed : (u : ℕ) → (u ≡ w → ⊥) → outline_of ((moved_to windows w (v, z)).window u) ≡ outline_of (windows.window u)
-  outline-placed u other = ap (λ o. outline_of o) (changed-off windows.window w (with_place v z) u other)
+  outline-placed u other = grind (arith, changed-off)
 
   pub holds-placed : (y x u : ℕ) → (u ≡ w → ⊥) → holds (moved_to windows w (v, z)).window u y x ≡ holds windows.window u y x
-  holds-placed y x u other = holds-same (moved_to windows w (v, z)).window windows.window u (outline-placed u other) y x
+  holds-placed y x u other = grind (arith, holds-same, outline-placed)
 
   pub cell-placed : (y x u : ℕ) → (u ≡ w → ⊥) → cell_on_screen (moved_to windows w (v, z)).window u y x ≡ cell_on_screen windows.window u y x
   cell-placed y x u other = grind (arith, on_screen-same, outline-placed, cell_at-same, backing-placed)
@@ -205,10 +202,4 @@ marked-cells windows test change = grind (arith, same-if, outline_of, backing_of
 pub found-change : (windows : Windows) (panels : Panels) (change : Change) (y x : ℕ) → AreSoundWindows windows → AreSoundPanels windows.window panels
     → y < windows.lines → x < windows.columns → IsAllowed windows panels change → change_shows_at windows panels change y x ≡ false
     → found_from_top (after_change windows change).window panels y x ≡ found_from_top windows.window panels y x
-found-change windows panels (asks reply) y x sound panels_sound below left allowed free = refl
-found-change windows panels (edits edit) y x sound panels_sound below left allowed free = found-edit windows panels edit y x sound below left free
-found-change windows panels (marks test change) y x sound panels_sound below left allowed free = search (arith, found-dressed, marked-cells)
-found-change windows panels (makes n a) y x sound panels_sound below left allowed free = found-new windows panels n a y x sound panels_sound allowed
-found-change windows panels (deletes w) y x sound panels_sound below left allowed free = found-deleted windows panels w y x sound panels_sound allowed
-found-change windows panels (moves w place) y x sound panels_sound below left allowed free = found-placed windows panels w place.0 place.1 y x panels_sound allowed
-found-change windows panels (shifts w place) y x sound panels_sound below left allowed free = found-moved windows panels w place.0 place.1 y x sound allowed free
+found-change windows panels change y x sound panels_sound below left allowed free = grind (arith, found-edit, found-dressed, marked-cells, found-new, found-deleted, found-placed, found-moved)

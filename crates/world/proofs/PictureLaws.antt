@@ -1,10 +1,10 @@
 -- A write through a window leaves the picture as it is at every place of the screen where its frame isn't shown.
-use Rattle.std.proofs.Common.{◌≡◌, ℕ, ◌-◌, ◌<◌, Bool, true, false, Option, Some, None, is_some, IsSome, IsSomeAnd, List, [], ◌∷◌, inl, inr, ap, arith, refl, sym, ◌∙◌}
+use Rattle.std.proofs.Common.{◌≡◌, ℕ, ◌-◌, ◌<◌, Bool, true, false, Option, Some, None, is_some, IsSome, IsSomeAnd, List, [], ◌∷◌, ap, arith, refl, sym, ◌∙◌}
 use Rattle.std.specs.Option.{option_map, option_map_or}
 use Rattle.std.specs.List.{list_any}
 use mathlib.Core.Path.{fun_ext}
 use Rattle.std.proofs.lemmas.Bool.{and_parts, and_from, false_from_ne_true, le-leb, lt-ltb, or_cases, or_left, or_parts, or_right}
-use Rattle.world.specs.Windows.{Drawing, GridPlace, HasPlace, Window, WindowMap, Windows, cell_at, cell_in_grid, after_drawing, own, put_from, put_windows}
+use Rattle.world.specs.Windows.{Drawing, GridPlace, HasPlace, Window, WindowMap, Windows, cell_at, after_drawing, own, put_from, put_windows}
 use Rattle.world.specs.Frames.{Covers, IsFrameOf, IsIn, frame_of, frame_of_two}
 use Rattle.world.specs.Panels.{Panels, cell_on_screen, found_from_top, holds, holds_place, place_of, standard_screen, windows_from_top, windows_of_picture}
 use Rattle.world.specs.Sharing.{any_in, is_same_place, shows_part_of}
@@ -27,7 +27,7 @@ module _ (window : WindowMap) (w : ℕ) (f : Drawing) where
   outline-from u m s = grind (arith, outline-drawn)
 
   pub outline-put : (u : ℕ) → outline_of (put_windows window w f u) ≡ outline_of (window u)
-  outline-put u = outline-from u (window w) (own window w 0 0)
+  outline-put u = grind (arith, outline-from)
 
 -- ---- windows of the same sizes and places, whose places lead where they led: a frame is shown where it was
 
@@ -37,7 +37,7 @@ pub record SameView (new old : WindowMap) : Type 0 where
 
 module _ (new old : WindowMap) (same : SameView new old) where
   own-alike : own new ≡ own old
-  own-alike = fun_ext (λ u. fun_ext (λ y. fun_ext (λ x. same.places u y x)))
+  own-alike = grind arith
 
   shows-same : (w : ℕ) (r : Rect) (y x u : ℕ) → shows_at new w r y x u ≡ shows_at old w r y x u
   shows-same w r y x u = grind (arith, holds-same, own-alike, place-same)
@@ -49,11 +49,8 @@ module _ (new old : WindowMap) (same : SameView new old) where
 -- ---- the frame of two drawings is shown where either one's is
 
 pub any-more : (test more : ℕ → Bool) → ((u : ℕ) → test u ≡ true → more u ≡ true) → (us : List ℕ) → list_any test us ≡ true → list_any more us ≡ true
-any-more test more h [] some = some
-any-more test more h (u ∷ us) some = elim (or_cases (test u) (list_any test us) some) [
-  | inl here ↦ or_left (more u) (list_any more us) (h u here)
-  | inr later ↦ or_right (more u) (list_any more us) (any-more test more h us later)
-]
+any-more test more h [] some = grind arith
+any-more test more h (u ∷ us) some = grind (arith, or_cases, or_left, or_right, (any-more test more h us))
 
 module _ (window : WindowMap) (panels : Panels) (w y x : ℕ) where
   shows-more : (r s : Rect) → ((v z : ℕ) → IsIn r v z → IsIn s v z) → (u : ℕ) → shows_at window w r y x u ≡ true → shows_at window w s y x u ≡ true
@@ -71,18 +68,14 @@ module _ (window : WindowMap) (panels : Panels) (w y x : ℕ) where
 
   pub joined-free : (o p : Option Rect) → frame_shows_at window panels w (frame_of_two o p) y x ≡ false
       → (frame_shows_at window panels w o y x ≡ false) × (frame_shows_at window panels w p y x ≡ false)
-  joined-free None p free = (refl, free)
-  joined-free (Some r) None free = (free, refl)
+  joined-free None p free = grind arith
+  joined-free (Some r) None free = grind arith
   joined-free (Some r) (Some s) free = grind (arith, unless-more)
 
 -- ---- one write
 
 same-self : (o p : Option GridPlace) → is_some o ≡ true → o ≡ p → is_same_place o p ≡ true
-same-self None p some e = cc
-same-self (Some s) None some e = cc
-same-self (Some s) (Some t) some e =
-    let same : s ≡ t = cc in
-    true-same s t (record { grid = ap (λ q. q.grid) same; line = ap (λ q. q.line) same; column = ap (λ q. q.column) same })
+same-self o p some e = grind (arith, true-same)
 
 in-size : (a : Window) (v z : ℕ) (o : Option Window) → outline_of o ≡ Some (outline a) → IsSomeAnd o (λ c. (v < c.lines) × (z < c.columns)) → (v < a.lines) × (z < a.columns)
 in-size a v z o is has = grind arith
@@ -114,19 +107,18 @@ module _ (window : WindowMap) (panels : Panels) (w : ℕ) (a : Window) (f : Draw
           cc
 
     cell-by : (o : Option GridPlace) → own window u line column ≡ o → cell_at (put_windows window w f) u line column ≡ cell_at window u line column
-    cell-by None leads = ap (cell_in_grid (put_windows window w f)) (own-put window w f u line column ∙ leads) ∙ sym (ap (cell_in_grid window) leads)
-    cell-by (Some s) leads = put-keeps window w f u line column (apart s leads)
+    cell-by o leads = grind (arith, own-put, put-keeps, apart)
 
     cell-kept : cell_on_screen (put_windows window w f) u y x ≡ cell_on_screen window u y x
     unfolding line column
-    cell-kept = on_screen-same (put_windows window w f) window u (outline-put window w f u) y x (cell-by (own window u line column) refl)
+    cell-kept = grind (arith, on_screen-same, outline-put, cell-by)
 
   -- where the frame isn't shown, no window shows it
   each-free : (o : Option Rect) → frame_shows_at window panels w o y x ≡ false
       → (option_map_or (λ r. shows_at window w r y x standard_screen) o false ≡ false)
       × (list_any (λ u. option_map_or (λ r. shows_at window w r y x u) o false) (windows_from_top panels) ≡ false)
   each-free None h = (refl, passes-none (windows_from_top panels))
-  each-free (Some r) h = or_parts (shows_at window w r y x standard_screen) (list_any (shows_at window w r y x) (windows_from_top panels)) h
+  each-free (Some r) h = grind (arith, or_parts)
 
   pub found-put : holds window standard_screen y x ≡ true → frame_shows_at window panels w (frame_of a f) y x ≡ false
       → found_from_top (put_windows window w f) panels y x ≡ found_from_top window panels y x
@@ -142,4 +134,4 @@ standard-at : (windows : Windows) (y x : ℕ) → y < windows.lines → x < wind
 standard-at windows y x below left o h = grind (arith, line, column, and_from, le-leb, lt-ltb)
 
 pub standard-holds : (windows : Windows) (y x : ℕ) → AreSoundWindows windows → y < windows.lines → x < windows.columns → holds windows.window standard_screen y x ≡ true
-standard-holds windows y x sound below left = standard-at windows y x below left (windows.window standard_screen) sound.standard
+standard-holds windows y x sound below left = grind (arith, standard-at)

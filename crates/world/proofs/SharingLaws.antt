@@ -1,6 +1,5 @@
 -- The places at which one window shows cells of a rectangle of another are a rectangle, or there are none.
-use Rattle.std.proofs.Common.{◌≡◌, ℕ, ◌+◌, ◌-◌, ◌<◌, ◌≤◌, min, true, ◌==◌, ◌&&◌, Option, Some, None, IsSomeAnd, subst, inl, inr, ap, arith, refl, sym, ◌∙◌, eq-eqb}
-use Rattle.std.specs.Option.{option_map}
+use Rattle.std.proofs.Common.{◌≡◌, ℕ, ◌+◌, ◌-◌, ◌<◌, ◌≤◌, min, true, Option, Some, None, IsSomeAnd, subst, arith, refl, sym, ◌∙◌, eq-eqb}
 use Rattle.std.proofs.lemmas.Bool.{cases_eq, cases_lt, and_parts, and_from, eqb-true}
 use Rattle.world.specs.Windows.{Window, WindowMap, GridPlace, onward, own}
 use Rattle.world.specs.Frames.{AreRectangle}
@@ -17,10 +16,7 @@ pub record SamePlace (p q : GridPlace) : Type 0 where
   pub column : p.column ≡ q.column
 
 pub same-true : (p q : GridPlace) → is_same_place (Some p) (Some q) ≡ true → SamePlace p q
-same-true p q h =
-    let grid = and_parts (p.grid == q.grid) (p.line == q.line && p.column == q.column) h in
-    let place = and_parts (p.line == q.line) (p.column == q.column) grid.1 in
-    record { grid = eqb-true p.grid q.grid grid.0; line = eqb-true p.line q.line place.0; column = eqb-true p.column q.column place.1 }
+same-true p q h = grind (arith, and_parts, eqb-true)
 
 pub true-same : (p q : GridPlace) → SamePlace p q → is_same_place (Some p) (Some q) ≡ true
 true-same p q h = grind (arith, and_from, eq-eqb)
@@ -35,13 +31,13 @@ module _ (window : WindowMap) (w : ℕ) (r : Rect) (u : ℕ) where
   Rectangle = (o : Option Rect) × AreRectangle (SharesPart window w r u) o
 
   nowhere : ((y x : ℕ) → SharesPart window w r u y x → ⊥) → Rectangle
-  nowhere never = (None, (never, λ y x h. elim h [ ]))
+  nowhere never = grind arith
 
   onward-none : (v z : ℕ) (t : ℕ) → own window t 0 0 ≡ None → own window t v z ≡ None
-  onward-none v z t h = own-onward window t v z ∙ ap (option_map (onward v z)) h
+  onward-none v z t h = grind (arith, own-onward)
 
   unless-there : window u ≡ None → Rectangle
-  unless-there h = nowhere (λ y x has. subst (λ (o : Option Window). IsSomeAnd o (λ a. (y < a.lines) × (x < a.columns))) h has.0)
+  unless-there h = grind (arith, nowhere)
 
   unless-first : own window w 0 0 ≡ None → Rectangle
   unless-first h = nowhere (λ y x has.
@@ -67,13 +63,13 @@ module _ (window : WindowMap) (w : ℕ) (r : Rect) (u : ℕ) where
       before : x < b.columns
 
     place_w : (v z : ℕ) → own window w v z ≡ Some (onward v z p)
-    place_w v z = own-onward window w v z ∙ ap (option_map (onward v z)) leads_w
+    place_w v z = grind (arith, own-onward)
 
     place_u : (y x : ℕ) → own window u y x ≡ Some (onward y x q)
-    place_u y x = own-onward window u y x ∙ ap (option_map (onward y x)) leads_u
+    place_u y x = grind (arith, own-onward)
 
     test-is : (v z y x : ℕ) → is_same_place (own window w v z) (own window u y x) ≡ is_same_place (Some (onward v z p)) (Some (onward y x q))
-    test-is v z y x = ap (λ o. is_same_place o (own window u y x)) (place_w v z) ∙ ap (λ o. is_same_place (Some (onward v z p)) o) (place_u y x)
+    test-is v z y x = grind (arith, place_w, place_u)
 
     in-numbers : (y x : ℕ) → SharesPart window w r u y x → Within y x
     in-numbers y x has =
@@ -126,23 +122,11 @@ module _ (window : WindowMap) (w : ℕ) (r : Rect) (u : ℕ) where
 
     in-range : (y x : ℕ) → Within y x → InRange y x
     unfolding first_line first_column end_line end_column
-    in-range y x h =
-        let top_ = h.top in
-        let bottom_ = h.bottom in
-        let left_ = h.left in
-        let right_ = h.right in
-        let below_ = h.below in
-        let before_ = h.before in
-        record { top_is = omega arith; bottom_is = omega arith; left_is = omega arith; right_is = omega arith }
+    in-range y x h = grind arith
 
     from-range : (y x : ℕ) → p.grid ≡ q.grid → InRange y x → Within y x
     unfolding first_line first_column end_line end_column
-    from-range y x grid h =
-        let top_ = h.top_is in
-        let bottom_ = h.bottom_is in
-        let left_ = h.left_is in
-        let right_ = h.right_is in
-        record { grid = grid; top = omega arith; bottom = omega arith; left = omega arith; right = omega arith; below = omega arith; before = omega arith }
+    from-range y x grid h = grind arith
 
     shared-at : (y x : ℕ) → p.grid ≡ q.grid → first_line ≤ y → y < end_line → first_column ≤ x → x < end_column → SharesPart window w r u y x
     shared-at y x grid a c d e = from-numbers y x (from-range y x grid (record { top_is = a; bottom_is = c; left_is = d; right_is = e }))
@@ -178,7 +162,7 @@ module _ (window : WindowMap) (w : ℕ) (r : Rect) (u : ℕ) where
         )
 
     apart : (p.grid ≡ q.grid → ⊥) → Rectangle
-    apart other = nowhere (λ y x has. let numbers = in-numbers y x has in other numbers.grid)
+    apart other = grind (arith, nowhere, in-numbers)
 
     above : end_line ≤ first_line → Rectangle
     above h = nowhere (λ y x has.
@@ -195,13 +179,7 @@ module _ (window : WindowMap) (w : ℕ) (r : Rect) (u : ℕ) where
         omega arith)
 
     rectangle-there : Rectangle
-    rectangle-there = elim (cases_eq p.grid q.grid) [
-      | inr other ↦ apart other
-      | inl grid ↦ elim (cases_lt first_line end_line) [
-        | inr none ↦ above none
-        | inl lines ↦ elim (cases_lt first_column end_column) [ inr none ↦ beside none | inl columns ↦ rectangle-of grid lines columns ]
-      ]
-    ]
+    rectangle-there = grind (arith, cases_eq, apart, cases_lt, above, beside, rectangle-of)
 
   rectangle-by : (o : Option Window) (s t : Option GridPlace) → window u ≡ o → own window w 0 0 ≡ s → own window u 0 0 ≡ t → Rectangle
   rectangle-by None s t there leads_w leads_u = unless-there there

@@ -1,6 +1,6 @@
 -- A call on a panel leaves the picture as it is at every place of the screen where the panel isn't seen, before or
 -- after.
-use Rattle.std.proofs.Common.{◌≡◌, ◌≢◌, ℕ, ◌<◌, Bool, true, false, not, ◌==◌, ◌&&◌, ◌||◌, Option, Some, None, List, [], ◌∷◌, ◌++◌, inl, inr, ap, refl, sym, ◌∙◌, arith}
+use Rattle.std.proofs.Common.{◌≡◌, ◌≢◌, ℕ, ◌<◌, Bool, true, false, not, ◌==◌, ◌&&◌, ◌||◌, Option, Some, None, List, [], ◌∷◌, ◌++◌, inl, inr, ap, refl, ◌∙◌, arith}
 use Rattle.std.specs.Prelude.{cond, find, if◌then◌else◌, is_none, reverse, unwrap_or, ⊤}
 use Rattle.std.specs.List.{last_or, list_any}
 use Rattle.std.specs.Option.{option_map_or}
@@ -19,7 +19,6 @@ use Rattle.world.specs.calls.Stacking.{stacking_order, stacking_refusal, without
 use Rattle.world.proofs.Allowed.{IsAllowed, passed, sound-panel}
 use Rattle.world.proofs.MoveLaws.{cell-placed, found-change, holds-placed}
 use Rattle.world.specs.declared.call.Stacking.{Stacking}
-use Rattle.world.specs.declared.call.Stacking.TheVariants.{MovePanel}
 
 -- ---- a search that passes the panel p by
 
@@ -38,15 +37,15 @@ module _ (p : ℕ) (test : ℕ → Bool) where
   step-off q qs acc rest b is later unseen same = grind (arith, eqb-true, and_right)
 
   search-off : (qs : List ℕ) → Searches qs
-  search-off [] acc rest unseen same = same
-  search-off (q ∷ qs) acc rest unseen same = step-off q qs acc rest (q == p) refl (search-off qs) unseen same
+  search-off [] acc rest unseen same = grind arith
+  search-off (q ∷ qs) acc rest unseen same = grind (arith, step-off, (search-off qs))
 
 passing-at : (test : ℕ → Bool) (k q : ℕ) (rest : Option ℕ) (b : Bool) → test k ≡ b → cond b (Some k) rest ≡ Some q → (rest ≡ Some q → test q ≡ true) → test q ≡ true
 passing-at test k q rest b is found later = grind arith
 
 passing : (test : ℕ → Bool) (ks : List ℕ) (q : ℕ) → find test ks ≡ Some q → test q ≡ true
 passing test [] q found = cc
-passing test (k ∷ ks) q found = passing-at test k q (find test ks) (test k) refl found (passing test ks q)
+passing test (k ∷ ks) q found = grind (arith, passing-at, (passing test ks q))
 
 -- ---- the others stay as they were
 
@@ -60,7 +59,7 @@ module _ (new old : WindowMap) (after before : Panels) (p y x : ℕ) where
 
   module _ (kept : AreOthersKept) (unseen : (panel_shows_at old before p y x || panel_shows_at new after p y x) ≡ false) where
     both : (panel_shows_at old before p y x ≡ false) × (panel_shows_at new after p y x ≡ false)
-    both = or_parts (panel_shows_at old before p y x) (panel_shows_at new after p y x) unseen
+    both = grind (arith, or_parts)
 
     off-same : off p (panel_holds new after y x) ≡ off p (panel_holds old before y x)
     off-same = fun_ext (λ q. elim (cases_eq q p) [
@@ -75,11 +74,11 @@ module _ (new old : WindowMap) (after before : Panels) (p y x : ℕ) where
     owner-before = search-off p (panel_holds old before y x) before.visible [] [] both.0 refl
 
     is-other : (q : ℕ) → not (q == p) ≡ true → q ≢ p
-    is-other q h same = let is = eq-eqb q p same in absurd (true≢false (sym h ∙ ap not is))
+    is-other q h same = grind (arith, eq-eqb, true≢false)
 
     cell-by : (o : Option ℕ) → find (off p (panel_holds old before y x)) (reverse (without p before.visible)) ≡ o
         → cell_on_screen new (window_or_standard after o) y x ≡ cell_on_screen old (window_or_standard before o) y x
-    cell-by None found = kept.standard
+    cell-by None found = grind arith
     cell-by (Some q) found =
         let parts = and_parts (not (q == p)) (panel_holds old before y x q) (passing (off p (panel_holds old before y x)) (reverse (without p before.visible)) q found) in
         kept.cells q (is-other q parts.0) parts.1
@@ -90,36 +89,26 @@ module _ (new old : WindowMap) (after before : Panels) (p y x : ℕ) where
 -- where no window changes
 reordered : (window : WindowMap) (after before : Panels) (p y x : ℕ) → without p after.visible ≡ without p before.visible → ((q : ℕ) → q ≢ p → after.window q ≡ before.window q)
     → (panel_shows_at window before p y x || panel_shows_at window after p y x) ≡ false → found_from_top window after y x ≡ found_from_top window before y x
-reordered window after before p y x order others =
-    found-kept window window after before p y x (record {
-      order = order;
-      hold = λ q other. ap (λ o. option_map_or (λ w. holds window w y x) o false) (others q other);
-      cells = λ q other there. ap (λ o. cell_on_screen window (unwrap_or o standard_screen) y x) (others q other);
-      standard = refl;
-    })
+reordered window after before p y x order others = grind (arith, found-kept)
 
 -- ---- where the panel p is on top and stays there
 
 -- the topmost panel, if it holds the place, is found first
 last-found : (test : ℕ → Bool) (p x : ℕ) (qs acc : List ℕ) → last_or (Some x) qs ≡ Some p → test p ≡ true → find test (reverse_aux qs (x ∷ acc)) ≡ Some p
-last-found test p x [] acc is holds = let same : x ≡ p = cc in ap (λ k. find test (k ∷ acc)) same ∙ ap (λ b. cond b (Some p) (find test acc)) holds
-last-found test p x (q ∷ qs) acc is holds = last-found test p q qs (x ∷ acc) is holds
+last-found test p x [] acc is holds = grind arith
+last-found test p x (q ∷ qs) acc is holds = grind (arith, (last-found test p q qs (x ∷ acc) is holds))
 
 top-found : (test : ℕ → Bool) (p : ℕ) (qs : List ℕ) → last_or None qs ≡ Some p → test p ≡ true → find test (reverse qs) ≡ Some p
 top-found test p [] is holds = cc
-top-found test p (q ∷ qs) is holds = last-found test p q qs [] is holds
+top-found test p (q ∷ qs) is holds = grind (arith, last-found)
 
 -- what it says that the panel p is on top with a window
 module _ (p : ℕ) where
   top-by : (top : Option ℕ) (own : Option ℕ) (w : ℕ) → (if option_map_or (λ q. q == p) top false then own else None) ≡ Some w → (top ≡ Some p) × (own ≡ Some w)
-  top-by None own w is = cc
-  top-by (Some q) own w is = by-test (q == p) refl is where
-    by-test : (b : Bool) → (q == p) ≡ b → (if b then own else None) ≡ Some w → (Some q ≡ Some p) × (own ≡ Some w)
-    by-test true same is = (ap Some (eqb-true q p same), is)
-    by-test false other is = cc
+  top-by top own w is = grind (arith, eqb-true)
 
   pub on-top : (panels : Panels) (w : ℕ) → window_on_top panels p ≡ Some w → (topmost panels ≡ Some p) × (panels.window p ≡ Some w)
-  on-top panels w is = top-by (topmost panels) (panels.window p) w is
+  on-top panels w is = grind (arith, top-by)
 
   same-by : (o n : Option ℕ) → option_map_or (λ w. option_map_or (λ u. u == w) n false) o false ≡ true → (w : ℕ) × (o ≡ Some w) × (n ≡ Some w)
   same-by o n is = grind (arith, eqb-true)
@@ -129,15 +118,12 @@ module _ (p : ℕ) where
     both-on-top = grind (arith, same-by, on-top)
 
     held : (panels : Panels) (w : ℕ) → panels.window p ≡ Some w → panel_holds window panels y x p ≡ holds window w y x
-    held panels w is = ap (λ o. option_map_or (λ u. holds window u y x) o false) is
+    held panels w is = grind arith
 
     stays-by : (w : ℕ) → before.window p ≡ Some w → after.window p ≡ Some w → topmost before ≡ Some p → topmost after ≡ Some p
         → without p after.visible ≡ without p before.visible → ((q : ℕ) → q ≢ p → after.window q ≡ before.window q)
         → (b : Bool) → holds window w y x ≡ b → found_from_top window after y x ≡ found_from_top window before y x
-    stays-by w was is top tops order others true there =
-        ap (λ o. cell_on_screen window (window_or_standard after o) y x) (top-found (panel_holds window after y x) p after.visible tops (held after w is ∙ there))
-        ∙ ap (λ o. cell_on_screen window (unwrap_or o standard_screen) y x) (is ∙ sym was)
-        ∙ ap (λ o. cell_on_screen window (window_or_standard before o) y x) (sym (top-found (panel_holds window before y x) p before.visible top (held before w was ∙ there)))
+    stays-by w was is top tops order others true there = grind (arith, top-found, held)
     stays-by w was is top tops order others false there =
         let old : panel_shows_at window before p y x ≡ false = rw (held before w was ∙ there) (and-false (list_any (λ q. q == p) before.visible)) in
         let new : panel_shows_at window after p y x ≡ false = rw (held after w is ∙ there) (and-false (list_any (λ q. q == p) after.visible)) in
@@ -159,34 +145,32 @@ module _ (p : ℕ) where
   without-itself qs = rw itself refl
 
   without-last : (qs : List ℕ) → without p (qs ++ p ∷ []) ≡ without p qs
-  without-last qs = filter-append (λ q. not (q == p)) qs (p ∷ []) ∙ ap (λ l. without p qs ++ l) (without-itself []) ∙ append-nil (without p qs)
+  without-last qs = grind (arith, filter-append, without-itself, append-nil)
 
   twice-at : (q : ℕ) (qs : List ℕ) (b : Bool) → (q == p) ≡ b → without p qs ≡ qs → without p (cond (not b) (q ∷ qs) qs) ≡ cond (not b) (q ∷ qs) qs
   twice-at q qs b is same = grind arith
 
   without-twice : (qs : List ℕ) → without p (without p qs) ≡ without p qs
   without-twice [] = refl
-  without-twice (q ∷ qs) = twice-at q (without p qs) (q == p) refl (without-twice qs)
+  without-twice (q ∷ qs) = grind (arith, twice-at, (without-twice qs))
 
   shown-order : (qs : List ℕ) → without p (without p qs ++ p ∷ []) ≡ without p qs
-  shown-order qs = without-last (without p qs) ∙ without-twice qs
+  shown-order qs = grind (arith, without-last, without-twice)
 
   given-other : (window : ℕ → Option ℕ) (w : Option ℕ) (q : ℕ) → q ≢ p → with_entry window p w q ≡ window q
-  given-other window w q other = let apart = ne_eqb q p other in rw apart refl
+  given-other window w q other = grind (arith, ne_eqb)
 
 -- ---- move_panel
 
 module _ (windows : Windows) (panels : Panels) (p v z y x : ℕ) (sound : AreSoundPanels windows.window panels) where
   other-window-by : (o : Option ℕ) → panels.window p ≡ o → (q u : ℕ) → q ≢ p → panels.window q ≡ Some u → u ≢ unwrap_or o standard_screen
-  other-window-by None is q u other has same = (sound-panel windows.window panels sound q u has).not_standard same
-  other-window-by (Some w) is q u other has same = other (sym ((sound-panel windows.window panels sound q u has).alone p (is ∙ ap Some (sym same))))
+  other-window-by o is q u other has same = grind (arith, sound-panel)
 
   other-window : (q u : ℕ) → q ≢ p → panels.window q ≡ Some u → u ≢ window_or_standard panels (Some p)
-  other-window = other-window-by (panels.window p) refl
+  other-window = grind (arith, other-window-by)
 
   other-standard : (o : Option ℕ) → panels.window p ≡ o → is_none o ≡ false → standard_screen ≢ unwrap_or o standard_screen
-  other-standard None is some same = cc
-  other-standard (Some w) is some same = (sound-panel windows.window panels sound p w is).not_standard (sym same)
+  other-standard o is some same = grind (arith, sound-panel)
 
   holds-by : (q : ℕ) → q ≢ p → (o : Option ℕ) → panels.window q ≡ o
       → option_map_or (λ u. holds (moved_to windows (window_or_standard panels (Some p)) (v, z)).window u y x) o false ≡ option_map_or (λ u. holds windows.window u y x) o false
@@ -217,19 +201,14 @@ IsOrdered windows panels (orders p order) = (without p order.visible ≡ without
 IsOrdered windows panels (carries p place) = is_none (panels.window p) ≡ false
 
 pub ordered-stacking : (windows : Windows) (panels : Panels) (stacking : Stacking) → stacking_refusal windows panels stacking ≡ None → IsOrdered windows panels (stacking_order panels stacking)
-ordered-stacking windows panels (MovePanel panel line column) accepted = (passed (is_none (panels.window panel.0)) _ _ accepted).0
-ordered-stacking windows panels stacking accepted = grind (arith, without-itself, without-twice, shown-order, given-other)
+ordered-stacking windows panels stacking accepted = grind (arith, passed, without-itself, without-twice, shown-order, given-other)
 
 -- ---- each effect
 
 pub found-order : (windows : Windows) (panels : Panels) (order : Order) (y x : ℕ) → AreSoundWindows windows → AreSoundPanels windows.window panels
     → y < windows.lines → x < windows.columns → IsOrdered windows panels order → order_shows_at windows panels order y x ≡ false
     → found_from_top (windows_after windows panels order).window (panels_after panels order) y x ≡ found_from_top windows.window panels y x
-found-order windows panels (changes change) y x sound panels_sound below left ordered unseen = found-change windows panels change y x sound panels_sound below left ordered unseen
+found-order windows panels (changes change) y x sound panels_sound below left ordered unseen = grind (arith, found-change)
 found-order windows panels (adds p w) y x sound panels_sound below left ordered unseen = search (arith, reordered, without-last, given-other)
-found-order windows panels (orders p order) y x sound panels_sound below left ordered unseen = by-test (stays_on_top panels order p) refl unseen where
-  by-test : (b : Bool) → stays_on_top panels order p ≡ b → (not b && (panel_shows_at windows.window panels p y x || panel_shows_at windows.window order p y x)) ≡ false
-      → found_from_top windows.window order y x ≡ found_from_top windows.window panels y x
-  by-test true stays unseen = stays-found p windows.window order panels y x stays ordered.0 ordered.1
-  by-test false moves unseen = reordered windows.window order panels p y x ordered.0 ordered.1 unseen
+found-order windows panels (orders p order) y x sound panels_sound below left ordered unseen = grind (arith, stays-found, reordered)
 found-order windows panels (carries p place) y x sound panels_sound below left ordered unseen = grind (arith, found-move_panel)

@@ -9,7 +9,7 @@ use Rattle.std.proofs.lemmas.Bool.{or_parts}
 use Rattle.cell.specs.Glyphs.{blank}
 use Rattle.cell.specs.Pictures.{Place, origin}
 use Rattle.world.specs.Windows.{Backing, GridPlace, Window, WindowMap, Windows, cell_at, cell_in_grid, cell_of, with_change, leads, own, own_within, window_limit}
-use Rattle.world.specs.Settings.{set, set_in}
+use Rattle.world.specs.Settings.{set}
 use Rattle.world.specs.Panels.{Panels, cell_on_screen, found_from_top, holds, holds_place, owner, panel_holds, place_of, screen_place, standard_screen, window_or_standard, windows_from_top}
 use Rattle.world.specs.declared.settings.Settings.{Settings}
 
@@ -36,22 +36,21 @@ outline_holds y x r = option_map_or (λ p. (nat_le p.0 y && nat_lt y (p.0 + r.li
 
 holds-outline : (y x : ℕ) (o : Option Window) → option_map_or (holds_place y x) o false ≡ option_map_or (outline_holds y x) (outline_of o) false
 unfolding outline_holds
-holds-outline y x None = refl
-holds-outline y x (Some a) = refl
+holds-outline y x o = grind arith
 
 place-outline : (o : Option Window) → option_map_or screen_place o origin ≡ option_map_or (λ (r : Outline). unwrap_or r.place origin) (outline_of o) origin
 place-outline o = grind arith
 
 module _ (new old : WindowMap) (u : ℕ) (same : outline_of (new u) ≡ outline_of (old u)) where
   pub holds-same : (y x : ℕ) → holds new u y x ≡ holds old u y x
-  holds-same y x = holds-outline y x (new u) ∙ ap (λ o. option_map_or (outline_holds y x) o false) same ∙ sym (holds-outline y x (old u))
+  holds-same y x = grind (arith, holds-outline)
 
   pub place-same : place_of new u ≡ place_of old u
-  place-same = place-outline (new u) ∙ ap (λ o. option_map_or (λ (r : Outline). unwrap_or r.place origin) o origin) same ∙ sym (place-outline (old u))
+  place-same = grind (arith, place-outline)
 
   pub on_screen-same : (y x : ℕ) → cell_at new u (y - (place_of old u).0) (x - (place_of old u).1) ≡ cell_at old u (y - (place_of old u).0) (x - (place_of old u).1)
       → cell_on_screen new u y x ≡ cell_on_screen old u y x
-  on_screen-same y x h = ap (λ p. cell_at new u (y - p.0) (x - p.1)) place-same ∙ h
+  on_screen-same y x h = grind (arith, place-same)
 
 -- ---- cells
 
@@ -82,7 +81,7 @@ module _ (new old : WindowMap) (same : (u : ℕ) → backing_of (new u) ≡ back
   in_grid-same o = grind (arith, cell-backing)
 
   pub cell_at-same : (u y x : ℕ) → cell_at new u y x ≡ cell_at old u y x
-  cell_at-same u y x = ap (cell_in_grid new) (own-same u y x) ∙ in_grid-same (own old u y x)
+  cell_at-same u y x = grind (arith, own-same, in_grid-same)
 
 -- ---- the owner is among the windows of the visible panels
 
@@ -97,19 +96,11 @@ module _ (window : WindowMap) (panels : Panels) (y x : ℕ) (test : ℕ → Bool
   found-at : (q p : ℕ) (qs : List ℕ) (o : Option ℕ) (b : Bool) → panels.window q ≡ o → option_map_or (λ u. holds window u y x) o false ≡ b
       → list_any test (cons_option o (filter_map panels.window qs)) ≡ false → cond b (Some q) (find (panel_holds window panels y x) qs) ≡ Some p
       → (list_any test (filter_map panels.window qs) ≡ false → find (panel_holds window panels y x) qs ≡ Some p → IsFound window panels y x test p) → IsFound window panels y x test p
-  found-at q p qs None true is holds none found later = cc
-  found-at q p qs None false is holds none found later = later none found
-  found-at q p qs (Some u) true is holds none found later =
-      let parts = or_parts (test u) (list_any test (filter_map panels.window qs)) none in
-      let same : q ≡ p = cc in
-      record { number = u; is = ap panels.window (sym same) ∙ is; there = holds; fails = parts.0 }
-  found-at q p qs (Some u) false is holds none found later =
-      let parts = or_parts (test u) (list_any test (filter_map panels.window qs)) none in
-      later parts.1 found
+  found-at q p qs o b is holds none found later = grind (arith, or_parts)
 
   found-in : (p : ℕ) (ps : List ℕ) → list_any test (filter_map panels.window ps) ≡ false → find (panel_holds window panels y x) ps ≡ Some p → IsFound window panels y x test p
   found-in p [] none found = cc
-  found-in p (q ∷ qs) none found = found-at q p qs (panels.window q) (panel_holds window panels y x q) refl refl none found (found-in p qs)
+  found-in p (q ∷ qs) none found = grind (arith, found-at, (found-in p qs))
 
 -- ---- where the search finds the same
 
@@ -163,4 +154,4 @@ pub changed-cells : (window : WindowMap) (w : ℕ) (change : Window → Window) 
 changed-cells window w change outlines backings = grind (arith, outlines, same-if, backings)
 
 pub set-cells : (windows : Windows) (w : ℕ) (change : Settings → Settings) → SameCells (set windows w change).window windows.window
-set-cells windows w change = changed-cells windows.window w (set_in change) (λ a. refl) (λ a. refl)
+set-cells windows w change = grind (arith, changed-cells)

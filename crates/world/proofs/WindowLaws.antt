@@ -1,6 +1,6 @@
 -- Laws of windows that share cells.
-use Rattle.std.proofs.Common.{◌≡◌, ℕ, zero, suc, ◌+◌, ◌-◌, ◌<◌, Bool, true, false, if◌then◌else◌, ◌==◌, ◌&&◌, ◌||◌, nat_lt, Option, Some, None, is_some, IsSome, IsSomeAnd}
-use Rattle.std.proofs.Common.{unwrap_or, subst, ◌≤◌, inl, inr, ap, arith, refl, sym, ◌∙◌, zero-add, eq-eqb}
+use Rattle.std.proofs.Common.{◌≡◌, ℕ, zero, suc, ◌+◌, ◌<◌, Bool, true, false, if◌then◌else◌, ◌==◌, ◌&&◌, ◌||◌, nat_lt, Option, Some, None, is_some, IsSome, IsSomeAnd}
+use Rattle.std.proofs.Common.{unwrap_or, ap, arith, refl, sym, ◌∙◌, zero-add, eq-eqb}
 use Rattle.std.specs.Prelude.{option_and_then}
 use Rattle.std.specs.Option.{option_map, option_map_or}
 use mathlib.Core.Path.{fun_ext}
@@ -22,7 +22,7 @@ and_then-leads further h w y x a b o = grind (arith, leads-onward)
 
 own_within-onward : (n : ℕ) (window : WindowMap) (w y x a b : ℕ) → own_within n window w (y + a) (x + b) ≡ option_map (onward a b) (own_within n window w y x)
 own_within-onward zero window w y x a b = refl
-own_within-onward (suc n) window w y x a b = and_then-leads (own_within n window) (own_within-onward n window) w y x a b (window w)
+own_within-onward (suc n) window w y x a b = grind (arith, and_then-leads, (own_within-onward n window))
 
 pub own-onward : (window : WindowMap) (w y x : ℕ) → own window w y x ≡ option_map (onward y x) (own window w 0 0)
 own-onward window w y x = ap (λ k. own window w k x) (sym (zero-add y)) ∙ ap (λ k. own window w (0 + y) k) (sym (zero-add x)) ∙ own_within-onward window_limit window w 0 0 y x
@@ -46,7 +46,7 @@ own_within-put_from (suc n) window w (Some a) None d u y x = refl
 own_within-put_from (suc n) window w (Some a) (Some spot) d u y x = grind (arith, step-drawn, (own_within-put_from n window w (Some a) (Some spot) d))
 
 pub own-put : (window : WindowMap) (w : ℕ) (d : Drawing) (u y x : ℕ) → own (put_windows window w d) u y x ≡ own window u y x
-own-put window w d u y x = own_within-put_from window_limit window w (window w) (own window w 0 0) d u y x
+own-put window w d u y x = grind (arith, own_within-put_from)
 
 abbrev widened : Option Columns → ℕ → Option Columns
 widened r x = joined_columns r x x
@@ -62,7 +62,7 @@ by_test n x t p q h = grind (arith, widened_swap)
 
 touched-widened : (n : ℕ) (test : ℕ → Bool) (r : Option Columns) (x : ℕ) → touched_below n test (widened r x) ≡ widened (touched_below n test r) x
 touched-widened zero test r x = refl
-touched-widened (suc n) test r x = by_test n x (test n) (touched_below n test (widened r x)) (touched_below n test r) (touched-widened n test r x)
+touched-widened (suc n) test r x = grind (arith, by_test, (touched-widened n test r x))
 
 by_tests : (n : ℕ) (s : ℕ → Bool) (p q : Bool) (t r : Option Columns) → touched_below n s t ≡ r → (if p then widened (touched_below n s (if q then widened t n else t)) n else touched_below n s
     (if q then widened t n else t)) ≡ (if p || q then widened r n else r)
@@ -70,7 +70,7 @@ by_tests n s p q t r h = grind (arith, touched-widened, widened-twice)
 
 pub touched-touched : (n : ℕ) (s t : ℕ → Bool) (r : Option Columns) → touched_below n s (touched_below n t r) ≡ touched_below n (λ x. s x || t x) r
 touched-touched zero s t r = refl
-touched-touched (suc n) s t r = by_tests n s (s n) (t n) (touched_below n t r) (touched_below n (λ x. s x || t x) r) (touched-touched n s t r)
+touched-touched (suc n) s t r = grind (arith, by_tests, (touched-touched n s t r))
 
 -- a second drawing over a first one, at one place
 laid-point : (t1 t2 : Bool) (g f : Option Glyph) (c : Glyph) → unwrap_or (if t1 then (if t2 then g else None) else None) (unwrap_or (if t1 then (if t2 then f else None) else None) c)
@@ -130,13 +130,13 @@ laid-nothing t f s h = grind arith
 
 touched-nothing : (n : ℕ) (test : ℕ → Bool) (r : Option Columns) → ((x : ℕ) → test x ≡ false) → touched_below n test r ≡ r
 touched-nothing zero test r h = refl
-touched-nothing (suc n) test r h = let last : test n ≡ false = h n in rw last (touched-nothing n test r h)
+touched-nothing (suc n) test r h = grind (arith, (touched-nothing n test r h))
 
 none_either : (t : Bool) (o : Option Glyph) → o ≡ None → (if t then o else None) ≡ None
 none_either t o h = grind arith
 
 nothing-within : (a : Window) (f : Drawing) → ((y x : ℕ) → f y x ≡ None) → (y x : ℕ) → within a f y x ≡ None
-nothing-within a f h y x = let none : f y x ≡ None = h y x in none_either (nat_lt y a.lines && nat_lt x a.columns) (f y x) none
+nothing-within a f h y x = grind (arith, none_either)
 
 run-nothing : (t : Bool) (f : Drawing) (b : Window) → ((y x : ℕ) → f y x ≡ None) → (if t then touched_by f b else b.touched) ≡ b.touched
 run-nothing t f b h = grind (arith, touched-nothing, nothing-within)
@@ -169,7 +169,7 @@ Ends window s = (g : Window) × (cells : ℕ → ℕ → Glyph) × (window s.gri
 ends-leads : (window : WindowMap) (further : ℕ → ℕ → ℕ → Option GridPlace) → ((w y x : ℕ) (s : GridPlace) → further w y x ≡ Some s → Ends window s) → (w y x : ℕ) (a : Window) (src : Backing)
     → window w ≡ Some a → a.backing ≡ src → (s : GridPlace) → leads further w y x src ≡ Some s → Ends window s
 ends-leads window further h w y x a (own_grid cells) e is s found = let same : w ≡ s.grid = cc in (a, cells, ap window (sym same) ∙ e, is)
-ends-leads window further h w y x a (part_of parent line column) e is s found = h parent (y + line) (x + column) s found
+ends-leads window further h w y x a (part_of parent line column) e is s found = grind arith
 
 ends-at : (window : WindowMap) (further : ℕ → ℕ → ℕ → Option GridPlace) → ((w y x : ℕ) (s : GridPlace) → further w y x ≡ Some s → Ends window s) → (w y x : ℕ) (o : Option Window) → window w ≡ o
     → (s : GridPlace) → option_and_then (λ c. leads further w y x c.backing) o ≡ Some s → Ends window s
@@ -212,44 +212,20 @@ kept-grid w a p f s o h = grind (arith, kept-if)
 
 -- the drawing leaves out what the premise rules out
 left-out : (a : Window) (f : Drawing) (y x : ℕ) → (y < a.lines → x < a.columns → IsSome (f y x) → ⊥) → within a f y x ≡ None
-left-out a f y x h = elim (cases_lt y a.lines) [
-  | inl line ↦ elim (cases_lt x a.columns) [
-    | inl column ↦ let l = lt-ltb y a.lines line in let c = lt-ltb x a.columns column in rw (l, c) (none-from (f y x) (h line column))
-    | inr column ↦ let l = lt-ltb y a.lines line in let c = le-ltb x a.columns column in rw (l, c) refl
-  ]
-  | inr line ↦ let l = le-ltb y a.lines line in rw l refl
-] where
-  none-from : (o : Option Glyph) → (IsSome o → ⊥) → o ≡ None
-  none-from o k = grind arith
+left-out a f y x h = grind (arith, cases_lt, lt-ltb, le-ltb)
 
 module _ (window : WindowMap) (w : ℕ) (f : Drawing) (u v z : ℕ)
     (apart : (y x : ℕ) → HasPlace window w y x → IsSome (f y x) → own window w y x ≡ own window u v z → ⊥) where
   moved-left_out : (a : Window) (p s : GridPlace) → window w ≡ Some a → own window w 0 0 ≡ Some p → own window u v z ≡ Some s → (s.grid == p.grid) ≡ true
       → grid_drawing p (within a f) s.line s.column ≡ None
-  moved-left_out a p s e leads_w leads_u same = elim (cases_lt s.line p.line) [
-    | inl above ↦ let l = lt-leb p.line s.line above in rw l refl
-    | inr line ↦ elim (cases_lt s.column p.column) [
-      | inl before ↦ let l = le-leb p.line s.line line in let c = lt-leb p.column s.column before in rw (l, c) refl
-      | inr column ↦
-          let l = le-leb p.line s.line line in let c = le-leb p.column s.column column in
-          rw (l, c) (left-out a f (s.line - p.line) (s.column - p.column) (λ in_lines in_columns some.
-          apart (s.line - p.line) (s.column - p.column) (subst (λ o. IsSomeAnd o (λ b. (s.line - p.line < b.lines) × (s.column - p.column < b.columns))) (sym e) (in_lines, in_columns)) some
-          (own-onward window w (s.line - p.line) (s.column - p.column) ∙ ap (option_map (onward (s.line - p.line) (s.column - p.column))) leads_w ∙ there line column ∙ sym leads_u)))
-    ]
-  ] where
-    there : p.line ≤ s.line → p.column ≤ s.column → option_map (onward (s.line - p.line) (s.column - p.column)) (Some p) ≡ Some s
-    there line column =
-        let g : p.grid ≡ s.grid = sym (eqb-true s.grid p.grid same) in
-        let l : p.line + (s.line - p.line) ≡ s.line = omega arith in
-        let c : p.column + (s.column - p.column) ≡ s.column = omega arith in
-        λ i. Some (record { grid = g i; line = l i; column = c i })
+  moved-left_out a p s e leads_w leads_u same = grind (arith, cases_lt, lt-leb, le-leb, left-out, own-onward, eqb-true)
 
   kept-from : (o : Option Window) (leads_w leads_u : Option GridPlace) → window w ≡ o → own window w 0 0 ≡ leads_w → own window u v z ≡ leads_u
       → cell_in_grid (put_from window w o leads_w f) leads_u ≡ cell_in_grid window leads_u
   kept-from o leads_w leads_u e lw lu = grind (arith, kept-grid, moved-left_out)
 
   pub put-keeps : cell_at (put_windows window w f) u v z ≡ cell_at window u v z
-  put-keeps = ap (cell_in_grid (put_windows window w f)) (own-put window w f u v z) ∙ kept-from (window w) (own window w 0 0) (own window u v z) refl refl refl
+  put-keeps = grind (arith, own-put, kept-from)
 
 -- the places of a window with a grid of its own lead to the grid's
 own_within-own_grid : (limit : ℕ) → 0 < limit → (window : WindowMap) (w : ℕ) (a : Window) (cells : ℕ → ℕ → Glyph) (y x : ℕ) → window w ≡ Some a → a.backing ≡ own_grid cells
@@ -259,4 +235,4 @@ own_within-own_grid limit h window w a cells y x e is = grind arith
 pub own-own_grid : (window : WindowMap) (w : ℕ) (a : Window) (cells : ℕ → ℕ → Glyph) (y x : ℕ) → window w ≡ Some a → a.backing ≡ own_grid cells
     → own window w y x ≡ Some (record { grid = w; line = y; column = x })
 unfolding window_limit
-own-own_grid window w a cells y x e is = own_within-own_grid window_limit (omega arith) window w a cells y x e is
+own-own_grid window w a cells y x e is = grind (arith, own_within-own_grid)

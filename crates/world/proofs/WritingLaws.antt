@@ -1,5 +1,5 @@
 -- What an edit writes: it leaves the picture as it is at every place of the screen where its frame isn't shown.
-use Rattle.std.proofs.Common.{◌≡◌, ℕ, ◌+◌, ◌<◌, ◌≤◌, Bool, true, false, if◌then◌else◌, ◌||◌, nat_lt, Option, Some, None, List, [], ◌∷◌, IsSomeAnd, ap, arith, refl, sym, ◌∙◌}
+use Rattle.std.proofs.Common.{◌≡◌, ℕ, ◌+◌, ◌<◌, ◌≤◌, Bool, true, false, if◌then◌else◌, ◌||◌, nat_lt, Option, Some, None, List, [], ◌∷◌, IsSomeAnd, ap, arith, ◌∙◌}
 use Rattle.std.specs.Prelude.{MatchOption, max, option_and_then, ⊤}
 use Rattle.std.specs.Option.{option_map_or}
 use Rattle.cell.specs.Pictures.{Place}
@@ -15,7 +15,7 @@ use Rattle.world.specs.Effects.{Edit, after_edit, draws, edit_frame, edit_window
 use Rattle.world.specs.calls.Affected.{edit_shows_at, frame_shows_at}
 use Rattle.world.proofs.FrameLaws.{frame_of-is}
 use Rattle.world.proofs.PictureLaws.{SameView, found-put, frame_shows-same, joined-free, outline-put, standard-holds}
-use Rattle.world.proofs.ViewLaws.{Outline, SameCells, found-dressed, holds-same, outline, outline_of, own-same, set-cells}
+use Rattle.world.proofs.ViewLaws.{SameCells, found-dressed, holds-same, outline, outline_of, own-same, set-cells}
 use Rattle.world.proofs.WindowLaws.{own-put}
 use Rattle.cell.specs.declared.window.Rect.{Rect}
 use Rattle.world.specs.declared.settings.Settings.{Settings}
@@ -23,7 +23,7 @@ use Rattle.world.specs.declared.settings.Settings.{Settings}
 -- ---- what stays
 
 cells-view : (new old : WindowMap) → SameCells new old → SameView new old
-cells-view new old same = record { outlines = same.outlines; places = own-same new old same.backings }
+cells-view new old same = grind (arith, own-same)
 
 put-view : (window : WindowMap) (w : ℕ) (f : Drawing) → SameView (put_windows window w f) window
 put-view window w f = record { outlines = outline-put window w f; places = own-put window w f }
@@ -36,11 +36,7 @@ pub record IsInside (window : WindowMap) (w : ℕ) (r : Rect) : Type 0 where
   pub last : HasPlace window w r.bottom r.right
 
 has-size : (a : Window) (y x : ℕ) (o : Option Window) → outline_of o ≡ Some (outline a) → y < a.lines → x < a.columns → IsSomeAnd o (λ b. (y < b.lines) × (x < b.columns))
-has-size a y x None is below left = cc
-has-size a y x (Some b) is below left =
-    let lines : b.lines ≡ a.lines = ap (λ o. option_map_or (λ (r : Outline). r.lines) o 0) is in
-    let columns : b.columns ≡ a.columns = ap (λ o. option_map_or (λ (r : Outline). r.columns) o 0) is in
-    (omega arith, omega arith)
+has-size a y x o is below left = grind arith
 
 same-size : (y x : ℕ) (o p : Option Window) → outline_of o ≡ outline_of p → IsSomeAnd p (λ b. (y < b.lines) × (x < b.columns)) → IsSomeAnd o (λ b. (y < b.lines) × (x < b.columns))
 same-size y x o p is h = grind (arith, has-size)
@@ -51,32 +47,14 @@ both-sizes y x v z o h k = grind arith
 
 drawing-inside : (window : WindowMap) (w : ℕ) (a : Window) (f : Drawing) → outline_of (window w) ≡ Some (outline a)
     → (o : Option Rect) → IsFrameOf (Covers f a.columns a.lines) o → MatchOption o ⊤ (IsInside window w)
-drawing-inside window w a f size None frame = tt
-drawing-inside window w a f size (Some r) frame =
-    let top = frame.top in
-    let left = frame.left in
-    let bottom = frame.bottom in
-    let right = frame.right in record {
-      lines = (frame.holds r.top top.0 top.1).bottom;
-      columns = (frame.holds left.0 r.left left.1).right;
-      last = has-size a r.bottom r.right (window w) size bottom.1.below right.1.left;
-    }
+drawing-inside window w a f size o frame = grind (arith, has-size)
 
 joined-inside : (window : WindowMap) (w : ℕ) (o p : Option Rect) → MatchOption o ⊤ (IsInside window w) → MatchOption p ⊤ (IsInside window w)
     → MatchOption (frame_of_two o p) ⊤ (IsInside window w)
-joined-inside window w None p h k = k
-joined-inside window w (Some r) None h k = h
-joined-inside window w (Some r) (Some s) h k =
-    let lines = h.lines in
-    let columns = h.columns in record {
-      lines = omega arith;
-      columns = omega arith;
-      last = both-sizes r.bottom r.right s.bottom s.right (window w) h.last k.last;
-    }
+joined-inside window w o p h k = grind (arith, both-sizes)
 
 inside-before : (new old : WindowMap) (w : ℕ) → outline_of (new w) ≡ outline_of (old w) → (o : Option Rect) → MatchOption o ⊤ (IsInside new w) → MatchOption o ⊤ (IsInside old w)
-inside-before new old w same None h = tt
-inside-before new old w same (Some r) h = record { lines = h.lines; columns = h.columns; last = same-size r.bottom r.right (old w) (new w) (sym same) h.last }
+inside-before new old w same o h = grind (arith, same-size)
 
 -- ---- what a call does that writes in a frame
 
@@ -90,14 +68,10 @@ module _ (panels : Panels) (w y x : ℕ) where
 
   -- nothing
   nothing-written : (old new : Windows) → SameCells new.window old.window → Writes old None new
-  nothing-written old new same = record {
-    view = cells-view new.window old.window same;
-    kept = λ standard free. found-dressed new.window old.window same panels y x;
-    inside = tt;
-  }
+  nothing-written old new same = grind (arith, cells-view, found-dressed)
 
   as-it-was : (old : Windows) → Writes old None old
-  as-it-was old = nothing-written old old (record { outlines = λ u. refl; backings = λ u. refl })
+  as-it-was old = grind (arith, nothing-written)
 
   -- a drawing, in a window of the size of a
   drawn : (old : Windows) (a : Window) (f : Drawing) → outline_of (old.window w) ≡ Some (outline a) → Writes old (frame_of a f) (put old w f)
@@ -109,18 +83,7 @@ module _ (panels : Panels) (w y x : ℕ) where
 
   -- one frame and then another
   and-then : (old middle new : Windows) (one other : Option Rect) → Writes old one middle → Writes middle other new → Writes old (frame_of_two one other) new
-  and-then old middle new one other first second = record {
-    view = record {
-      outlines = λ u. second.view.outlines u ∙ first.view.outlines u;
-      places = λ u v z. second.view.places u v z ∙ first.view.places u v z;
-    };
-    kept = λ standard free.
-        let both = joined-free old.window panels w y x one other free in
-        second.kept (holds-same middle.window old.window standard_screen (first.view.outlines standard_screen) y x ∙ standard)
-        (frame_shows-same middle.window old.window first.view panels w other y x ∙ both.1)
-        ∙ first.kept standard both.0;
-    inside = joined-inside old.window w one other first.inside (inside-before middle.window old.window w (first.view.outlines w) other second.inside);
-  }
+  and-then old middle new one other first second = grind (arith, joined-free, holds-same, frame_shows-same, joined-inside, inside-before)
 
   -- and then settings
   and-set : (old middle : Windows) (frame : Option Rect) (change : Settings → Settings) → Writes old frame middle → Writes old frame (set middle w change)
@@ -138,13 +101,11 @@ module _ (panels : Panels) (w y x : ℕ) where
   settings-set old change = and-set old old None change (as-it-was old)
 
   chosen : (b : Bool) (old one other : Windows) (f g : Option Rect) → Writes old f one → Writes old g other → Writes old (if b then f else g) (if b then one else other)
-  chosen true old one other f g h k = h
-  chosen false old one other f g h k = k
+  chosen b old one other f g h k = grind arith
 
   in-window : (old : Windows) (o : Option Window) (frame : Window → Option Rect) (change : Window → Windows)
       → ((a : Window) → o ≡ Some a → Writes old (frame a) (change a)) → Writes old (option_and_then frame o) (option_map_or change o old)
-  in-window old None frame change h = as-it-was old
-  in-window old (Some a) frame change h = h a refl
+  in-window old o frame change h = grind (arith, as-it-was)
 
   -- ---- characters
 
@@ -154,7 +115,7 @@ module _ (panels : Panels) (w y x : ℕ) where
     Sized windows = outline_of (windows.window w) ≡ Some (outline a)
 
     sized-put : (windows : Windows) (f : Drawing) → Sized windows → Sized (put windows w f)
-    sized-put windows f size = outline-put windows.window w f w ∙ size
+    sized-put windows f size = grind (arith, outline-put)
 
     to-next-line : (windows : Windows) (place : Place) → Sized windows → Writes windows (next_line_frame windows.window w a) (to_next_line windows w a place)
     to-next-line windows place size =
@@ -189,9 +150,7 @@ module _ (panels : Panels) (w y x : ℕ) where
     -- a carriage return, a backspace or a printed character
     moved-or-printed : (left right : Bool) (old one other printing : Windows) (f : Option Rect) → Writes old None one → Writes old None other → Writes old f printing
         → Writes old (if left || right then None else f) (if left then one else if right then other else printing)
-    moved-or-printed true right old one other printing f h k l = h
-    moved-or-printed false true old one other printing f h k l = k
-    moved-or-printed false false old one other printing f h k l = l
+    moved-or-printed left right old one other printing f h k l = grind arith
 
     typed : (windows : Windows) (character : ℕ) → Sized windows → Writes windows (typed_frame windows w character a) (typed_in windows w character a)
     typed windows character size = search (arith, chosen, ended, moved-or-printed, settings-set, printed)
@@ -248,4 +207,4 @@ pub view-edit : (windows : Windows) (edit : Edit) → SameView (after_edit windo
 view-edit windows edit = (write first_panels 0 0 windows edit).view
 
 pub there-still : (new old : WindowMap) → SameView new old → (w y x : ℕ) → HasPlace old w y x → HasPlace new w y x
-there-still new old same w y x h = same-size y x (new w) (old w) (same.outlines w) h
+there-still new old same w y x h = grind (arith, same-size)
