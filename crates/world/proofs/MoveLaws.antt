@@ -6,11 +6,11 @@ use Rattle.std.specs.List.{list_any}
 use mathlib.Core.Path.{fun_ext}
 use Rattle.std.proofs.lemmas.Bool.{and_cases, eqb-false, false_from_ne_true, or_from, or_parts, ne_eqb}
 use Rattle.cell.specs.declared.limits.TheConstants.{MOST_WINDOWS}
-use Rattle.world.specs.Windows.{Backing, GridPlace, Window, WindowMap, Windows, ancestors_within, derives, leads, own, own_within, parent_number, parent_of, window_limit}
+use Rattle.world.specs.Windows.{Backing, GridPlace, Window, WindowMap, Windows, ancestors_within, derives, leads, own, own_within, parent_number, window_limit}
 use Rattle.world.specs.Panels.{Panels, cell_on_screen, found_from_top, holds, standard_screen, windows_from_top}
-use Rattle.world.specs.Sound.{AreSoundPanels, AreSoundWindows, IsSoundWindow, IsStandardScreen}
+use Rattle.world.specs.Sound.{AreSoundPanels, AreSoundWindows, IsSoundWindow}
 use Rattle.world.specs.Effects.{Change, after_change, deletes, after_marks, moved_to, moves, under_number, shifted_to}
-use Rattle.world.specs.calls.Making.{has_derived, has_no_parent, is_own, is_part_of}
+use Rattle.world.specs.calls.Making.{has_derived, has_no_parent, is_part_of}
 use Rattle.world.specs.calls.Affected.{change_shows_at, follows_at, move_shows_at}
 use Rattle.world.proofs.Allowed.{IsAllowed, not-in-panel, sound-panel}
 use Rattle.world.proofs.AncestorLaws.{cell_at-beside, cell_at-moved, changed-off, derives-moved, replaced-off}
@@ -20,17 +20,8 @@ use Rattle.world.proofs.WritingLaws.{found-edit}
 
 -- ---- the standard screen derives from none, and isn't moved
 
-standard-parent : (windows : Windows) (o : Option Window) → IsSomeAnd o (IsStandardScreen windows) → option_and_then (λ a. parent_number a.backing) o ≡ None
-standard-parent windows o h = grind arith
-
-standard-own : (windows : Windows) (o : Option Window) → IsSomeAnd o (IsStandardScreen windows) → option_map_or (λ a. is_own a.backing) o false ≡ true
-standard-own windows o h = grind arith
-
-no_ancestors : (n : ℕ) (window : WindowMap) (u : ℕ) → parent_of window u ≡ None → ancestors_within n window u ≡ []
-no_ancestors n window u h = grind arith
-
 standard-beside : (windows : Windows) (w : ℕ) → AreSoundWindows windows → derives windows.window w standard_screen ≡ false
-standard-beside windows w sound = grind (arith, no_ancestors, standard-parent)
+standard-beside windows w sound = grind arith
 
 -- ---- which windows show other cells after mvderwin is the same before it and after
 
@@ -49,7 +40,7 @@ module _ (windows : Windows) (panels : Panels) (w v z y x : ℕ) (sound : AreSou
   moved = (shifted_to windows w (v, z)).window
 
   other-standard : standard_screen ≡ w → ⊥
-  other-standard same = grind (arith, standard-own)
+  other-standard same = grind arith
 
   moved-kept : (u : ℕ) → (u ≡ w → ⊥) → derives windows.window w u ≡ false → cell_on_screen moved u y x ≡ cell_on_screen windows.window u y x
   unfolding moved
@@ -126,23 +117,16 @@ found-deleted windows panels w y x sound panels_sound allowed =
 -- ---- a new window has a number that no window had
 
 module _ (window : WindowMap) (n : ℕ) (free : window n ≡ None) where
-  nowhere : (k y x : ℕ) → own_within k window n y x ≡ None
-  nowhere k y x = grind arith
-
   other-parent : (k parent y x : ℕ) (p : GridPlace) → own_within k window parent y x ≡ Some p → parent ≡ n → ⊥
-  other-parent k parent y x p found same = grind (arith, nowhere)
+  other-parent k parent y x p found same = grind arith
 
   abbrev Leading : ℕ → Type 0
   Leading k = (u y x : ℕ) (p : GridPlace) → own_within k window u y x ≡ Some p → list_any (λ v. v == n) (ancestors_within k window u) ≡ false
 
-  backing-leading : (k : ℕ) → Leading k → (u y x : ℕ) (p : GridPlace) (s : Backing) → leads (own_within k window) u y x s ≡ Some p
-      → list_any (λ v. v == n) (option_map_or (λ parent. parent ∷ ancestors_within k window parent) (parent_number s) []) ≡ false
-  backing-leading k before u y x p s found = grind (arith, or_from, ne_eqb, other-parent)
-
   window-leading : (k : ℕ) → Leading k → (u y x : ℕ) (p : GridPlace) (o : Option Window) → option_and_then (λ a. leads (own_within k window) u y x a.backing) o ≡ Some p
       → list_any (λ v. v == n) (option_map_or (λ parent. parent ∷ ancestors_within k window parent) (option_and_then (λ a. parent_number a.backing) o) []) ≡ false
   window-leading k before u y x p None found = cc
-  window-leading k before u y x p (Some a) found = grind (arith, backing-leading)
+  window-leading k before u y x p (Some a) found = grind (arith, or_from, ne_eqb, other-parent)
 
   leading : (k u y x : ℕ) (p : GridPlace) → own_within k window u y x ≡ Some p → list_any (λ v. v == n) (ancestors_within k window u) ≡ false
   leading zero u y x p found = cc
@@ -172,9 +156,6 @@ found-new windows panels n o y x sound panels_sound free =
 -- ---- mvwin
 
 module _ (windows : Windows) (w v z : ℕ) where
-  backing-placed : (u : ℕ) → backing_of ((moved_to windows w (v, z)).window u) ≡ backing_of (windows.window u)
-  backing-placed u = grind (arith, same-if)
-
   outline-placed : (u : ℕ) → (u ≡ w → ⊥) → outline_of ((moved_to windows w (v, z)).window u) ≡ outline_of (windows.window u)
   outline-placed u other = grind (arith, changed-off)
 
@@ -182,7 +163,7 @@ module _ (windows : Windows) (w v z : ℕ) where
   holds-placed y x u other = grind (arith, holds-same, outline-placed)
 
   pub cell-placed : (y x u : ℕ) → (u ≡ w → ⊥) → cell_on_screen (moved_to windows w (v, z)).window u y x ≡ cell_on_screen windows.window u y x
-  cell-placed y x u other = grind (arith, on_screen-same, outline-placed, cell_at-same, backing-placed)
+  cell-placed y x u other = grind (arith, on_screen-same, outline-placed, cell_at-same, same-if)
 
 found-placed : (windows : Windows) (panels : Panels) (w v z y x : ℕ) → AreSoundPanels windows.window panels → IsAllowed windows panels (moves w (v, z))
     → found_from_top (moved_to windows w (v, z)).window panels y x ≡ found_from_top windows.window panels y x

@@ -1,16 +1,15 @@
 -- Which windows have a place on the screen after each effect, and that panels stay sound.
 use Rattle.std.proofs.Common.{◌≡◌, ℕ, Bool, true, false, if◌then◌else◌, Option, Some, None, ◌≢◌, arith}
-use Rattle.std.specs.Prelude.{IsSome, IsSomeAnd, MatchOption, is_some, ⊤}
+use Rattle.std.specs.Prelude.{IsSome, IsSomeAnd, is_some}
 use Rattle.std.specs.Option.{option_map, option_map_or}
 use Rattle.std.proofs.lemmas.Bool.{ne_eqb}
 use Rattle.cell.specs.Pictures.{Place}
 use Rattle.world.specs.Windows.{Window, WindowMap, Windows, with_change}
 use Rattle.world.specs.Panels.{Panels, standard_screen}
-use Rattle.world.specs.Sound.{AreSoundPanels, IsSoundPanel}
-use Rattle.world.specs.Effects.{Change, Edit, after_change, after_edit, asks, deletes, edits, makes, marks, moved_to, moves, under_number, shifts, with_place}
+use Rattle.world.specs.Sound.{AreSoundPanels}
+use Rattle.world.specs.Effects.{Change, Edit, after_change, after_edit, asks, deletes, edits, makes, marks, moved_to, moves, under_number, shifts}
 use Rattle.world.proofs.Allowed.{IsAllowed, not-in-panel}
 use Rattle.world.proofs.PictureLaws.{SameView}
-use Rattle.world.proofs.ViewLaws.{Outline, outline_of}
 use Rattle.world.proofs.WritingLaws.{view-edit}
 
 abbrev pub has_place : Option Window → Bool
@@ -20,12 +19,9 @@ has_place o = option_map_or (λ a. is_some a.place) o false
 abbrev pub SamePlaces : Windows → Windows → Type 0
 SamePlaces one other = (u : ℕ) → has_place (one.window u) ≡ has_place (other.window u)
 
-same_mapped : (o : Option Window) (change : Window → Window) → ((a : Window) → is_some (change a).place ≡ is_some a.place) → has_place (option_map change o) ≡ has_place o
-same_mapped o change h = grind arith
-
 pub same_if : (b : Bool) (o : Option Window) (change : Window → Window) → ((a : Window) → is_some (change a).place ≡ is_some a.place)
     → has_place (if b then option_map change o else o) ≡ has_place o
-same_if b o change h = grind (arith, same_mapped)
+same_if b o change h = grind arith
 
 -- ---- one change
 
@@ -35,12 +31,9 @@ places-changed windows w change h u = grind (arith, same_if)
 
 -- ---- edits and marks
 
-place-outline : (o : Option Window) → has_place o ≡ option_map_or (λ (r : Outline). is_some r.place) (outline_of o) false
-place-outline o = grind arith
-
 -- windows of the same outlines
 places-view : (new old : Windows) → SameView new.window old.window → SamePlaces new old
-places-view new old view u = grind (arith, place-outline)
+places-view new old view u = grind arith
 
 pub places-edit : (windows : Windows) (edit : Edit) → SamePlaces (after_edit windows edit) windows
 places-edit windows edit = grind (arith, places-view, view-edit)
@@ -50,18 +43,8 @@ places-edit windows edit = grind (arith, places-view, view-edit)
 pub keeps-other : (windows : Windows) (n : ℕ) (o : Option Window) (w : ℕ) → w ≢ n → has_place (windows.window w) ≡ true → has_place ((under_number windows n o).window w) ≡ true
 keeps-other windows n o w other h = grind (arith, ne_eqb)
 
--- a new window's number is no number of a window that has a place
-has-none : (window : WindowMap) (n w : ℕ) → window n ≡ None → has_place (window w) ≡ true → w ≢ n
-has-none window n w free h same = grind arith
-
-moved-there : (o : Option Window) (y x : ℕ) → has_place o ≡ true → has_place (option_map (with_place y x) o) ≡ true
-moved-there o y x h = grind arith
-
-moved-if : (b : Bool) (o : Option Window) (y x : ℕ) → has_place o ≡ true → has_place (if b then option_map (with_place y x) o else o) ≡ true
-moved-if b o y x h = grind (arith, moved-there)
-
 pub keeps-moved : (windows : Windows) (v : ℕ) (place : Place) (w : ℕ) → has_place (windows.window w) ≡ true → has_place ((moved_to windows v place).window w) ≡ true
-keeps-moved windows v place w h = grind (arith, moved-if)
+keeps-moved windows v place w h = grind arith
 
 -- the window of a panel
 pub keeps-change : (windows : Windows) (panels : Panels) (change : Change) → AreSoundPanels windows.window panels → IsAllowed windows panels change
@@ -69,7 +52,7 @@ pub keeps-change : (windows : Windows) (panels : Panels) (change : Change) → A
 keeps-change windows panels (asks reply) sound allowed p w is h = grind arith
 keeps-change windows panels (edits edit) sound allowed p w is h = grind (arith, places-edit)
 keeps-change windows panels (marks test change) sound allowed p w is h = grind (arith, same_if)
-keeps-change windows panels (makes n a) sound allowed p w is h = grind (arith, keeps-other, has-none)
+keeps-change windows panels (makes n a) sound allowed p w is h = grind (arith, keeps-other)
 keeps-change windows panels (deletes v) sound allowed p w is h = keeps-other windows v None w (λ same. not-in-panel windows.window panels v sound allowed.1 p w is same) h
 keeps-change windows panels (moves v place) sound allowed p w is h = grind (arith, keeps-moved)
 keeps-change windows panels (shifts v place) sound allowed p w is h = grind (arith, places-changed)
@@ -83,9 +66,6 @@ pub true-there : (o : Option Window) → has_place o ≡ true → IsSomeAnd o (�
 true-there o h = grind arith
 
 module _ (panels : Panels) (old new : WindowMap) (keeps : (p w : ℕ) → panels.window p ≡ Some w → w ≢ standard_screen → has_place (old w) ≡ true → has_place (new w) ≡ true) where
-  panel-kept : (p : ℕ) (o : Option ℕ) → panels.window p ≡ o → MatchOption o ⊤ (IsSoundPanel old panels p) → MatchOption o ⊤ (IsSoundPanel new panels p)
-  panel-kept p o is h = grind (arith, true-there, there-true)
-
   -- panels whose windows keep their places stay sound
   pub panels-kept : AreSoundPanels old panels → AreSoundPanels new panels
-  panels-kept h = grind (arith, panel-kept)
+  panels-kept h = grind (arith, true-there, there-true)

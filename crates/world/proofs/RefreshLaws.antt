@@ -1,7 +1,7 @@
 -- Refreshing windows changes neither what the search from the top finds nor the topmost's cursor.
 use Rattle.std.proofs.Common.{◌≡◌, ℕ, Bool, List, refl, arith}
 use Rattle.world.specs.Windows.{WindowMap, Windows, with_change}
-use Rattle.world.specs.Panels.{Panels, cursor_of_topmost, cursor_on_screen, found_from_top}
+use Rattle.world.specs.Panels.{Panels, cursor_of_topmost, found_from_top}
 use Rattle.world.specs.World.{World}
 use Rattle.world.specs.Effects.{composed_windows, unmarked_lines, with_unmarked}
 use Rattle.world.specs.calls.Dispatch.{world_after}
@@ -17,11 +17,8 @@ module _ (window : WindowMap) (ws : List ℕ) where
   pub found-unmarked : (panels : Panels) (y x : ℕ) → found_from_top (with_unmarked window ws) panels y x ≡ found_from_top window panels y x
   found-unmarked panels y x = found-dressed (with_unmarked window ws) window unmarked-cells panels y x
 
-  cursor_on_screen-unmarked : (w : ℕ) → cursor_on_screen (with_unmarked window ws) w ≡ cursor_on_screen window w
-  cursor_on_screen-unmarked w = grind (arith, place-same, same-if)
-
   pub cursor-unmarked : (panels : Panels) → cursor_of_topmost (with_unmarked window ws) panels ≡ cursor_of_topmost window panels
-  cursor-unmarked panels = grind (arith, cursor_on_screen-unmarked)
+  cursor-unmarked panels = grind (arith, place-same, same-if)
 
 -- ---- some lines of a window
 

@@ -1,10 +1,10 @@
 -- The places at which one window shows cells of a rectangle of another are a rectangle, or there are none.
-use Rattle.std.proofs.Common.{◌≡◌, ℕ, ◌+◌, ◌-◌, ◌<◌, ◌≤◌, min, true, Option, Some, None, IsSomeAnd, subst, arith, refl, sym, ◌∙◌, eq-eqb}
+use Rattle.std.proofs.Common.{◌≡◌, ℕ, ◌+◌, ◌-◌, ◌<◌, ◌≤◌, min, true, Option, Some, None, arith, refl, eq-eqb}
 use Rattle.std.proofs.lemmas.Bool.{cases_eq, cases_lt, and_parts, and_from, eqb-true}
 use Rattle.world.specs.Windows.{Window, WindowMap, GridPlace, onward, own}
 use Rattle.world.specs.Frames.{AreRectangle}
 use Rattle.world.specs.Sharing.{SharesPart, is_same_place}
-use Rattle.world.proofs.Below.{any_in-some, any_in-true}
+use Rattle.world.proofs.Below.{FoundIn, any_in-some, any_in-true}
 use Rattle.world.proofs.WindowLaws.{own-onward}
 use Rattle.cell.specs.declared.window.Rect.{Rect}
 
@@ -33,23 +33,17 @@ module _ (window : WindowMap) (w : ℕ) (r : Rect) (u : ℕ) where
   nowhere : ((y x : ℕ) → SharesPart window w r u y x → ⊥) → Rectangle
   nowhere never = grind arith
 
+  found : (y x : ℕ) → SharesPart window w r u y x → FoundIn r (λ v z. is_same_place (own window w v z) (own window u y x))
+  found y x has = any_in-true r (λ v z. is_same_place (own window w v z) (own window u y x)) has.1
+
   onward-none : (v z : ℕ) (t : ℕ) → own window t 0 0 ≡ None → own window t v z ≡ None
   onward-none v z t h = grind (arith, own-onward)
 
-  unless-there : window u ≡ None → Rectangle
-  unless-there h = grind (arith, nowhere)
-
   unless-first : own window w 0 0 ≡ None → Rectangle
-  unless-first h = nowhere (λ y x has.
-      let found = any_in-true r (λ v z. is_same_place (own window w v z) (own window u y x)) has.1 in
-      let lost : is_same_place None (own window u y x) ≡ true = subst (λ (o : Option GridPlace). is_same_place o (own window u y x) ≡ true) (onward-none found.line found.column w h) found.passes in
-      cc)
+  unless-first h = nowhere (λ y x has. let at = found y x has in grind (arith, onward-none))
 
   unless-second : own window u 0 0 ≡ None → Rectangle
-  unless-second h = nowhere (λ y x has.
-      let found = any_in-true r (λ v z. is_same_place (own window w v z) (own window u y x)) has.1 in
-      none-same (own window w found.line found.column)
-      (subst (λ (o : Option GridPlace). is_same_place (own window w found.line found.column) o ≡ true) (onward-none y x u h) found.passes))
+  unless-second h = nowhere (λ y x has. let at = found y x has in grind (arith, onward-none, none-same))
 
   module _ (b : Window) (p q : GridPlace) (there : window u ≡ Some b) (leads_w : own window w 0 0 ≡ Some p) (leads_u : own window u 0 0 ≡ Some q) where
     -- what it is to be shared, in numbers
@@ -62,44 +56,14 @@ module _ (window : WindowMap) (w : ℕ) (r : Rect) (u : ℕ) where
       below : y < b.lines
       before : x < b.columns
 
-    place_w : (v z : ℕ) → own window w v z ≡ Some (onward v z p)
-    place_w v z = grind (arith, own-onward)
-
-    place_u : (y x : ℕ) → own window u y x ≡ Some (onward y x q)
-    place_u y x = grind (arith, own-onward)
-
     test-is : (v z y x : ℕ) → is_same_place (own window w v z) (own window u y x) ≡ is_same_place (Some (onward v z p)) (Some (onward y x q))
-    test-is v z y x = grind (arith, place_w, place_u)
+    test-is v z y x = grind (arith, own-onward)
 
     in-numbers : (y x : ℕ) → SharesPart window w r u y x → Within y x
-    in-numbers y x has =
-        let found = any_in-true r (λ v z. is_same_place (own window w v z) (own window u y x)) has.1 in
-        let same = same-true (onward found.line found.column p) (onward y x q) (sym (test-is found.line found.column y x) ∙ found.passes) in
-        let place = subst (λ (o : Option Window). IsSomeAnd o (λ a. (y < a.lines) × (x < a.columns))) there has.0 in
-        let top = found.inside.top in
-        let bottom = found.inside.bottom in
-        let left = found.inside.left in
-        let right = found.inside.right in
-        let line : p.line + found.line ≡ q.line + y = same.line in
-        let column : p.column + found.column ≡ q.column + x = same.column in
-        record { grid = same.grid; top = omega arith; bottom = omega arith; left = omega arith; right = omega arith; below = place.0; before = place.1 }
+    in-numbers y x has = let at = found y x has in grind (arith, and_parts, eqb-true, own-onward)
 
     from-numbers : (y x : ℕ) → Within y x → SharesPart window w r u y x
-    from-numbers y x h =
-        let top = h.top in
-        let bottom = h.bottom in
-        let left = h.left in
-        let right = h.right in
-        let v = q.line + y - p.line in
-        let z = q.column + x - p.column in
-        let line : p.line + (q.line + y - p.line) ≡ q.line + y = omega arith in
-        let column : p.column + (q.column + x - p.column) ≡ q.column + x = omega arith in (
-          subst (λ (o : Option Window). IsSomeAnd o (λ a. (y < a.lines) × (x < a.columns))) (sym there) (h.below, h.before),
-          any_in-some r (λ v z. is_same_place (own window w v z) (own window u y x)) (q.line + y - p.line) (q.column + x - p.column)
-              (record { top = omega arith; bottom = omega arith; left = omega arith; right = omega arith })
-              (test-is (q.line + y - p.line) (q.column + x - p.column) y x
-              ∙ true-same (onward (q.line + y - p.line) (q.column + x - p.column) p) (onward y x q) (record { grid = h.grid; line = line; column = column })),
-        )
+    from-numbers y x h = grind (arith, (any_in-some r (λ v z. is_same_place (own window w v z) (own window u y x)) (q.line + y - p.line) (q.column + x - p.column)), true-same, test-is)
 
     -- the first line and column, and the first ones after them that aren't shared
     first_line : ℕ
@@ -182,7 +146,7 @@ module _ (window : WindowMap) (w : ℕ) (r : Rect) (u : ℕ) where
     rectangle-there = grind (arith, cases_eq, apart, cases_lt, above, beside, rectangle-of)
 
   rectangle-by : (o : Option Window) (s t : Option GridPlace) → window u ≡ o → own window w 0 0 ≡ s → own window u 0 0 ≡ t → Rectangle
-  rectangle-by None s t there leads_w leads_u = unless-there there
+  rectangle-by None s t there leads_w leads_u = grind (arith, nowhere)
   rectangle-by (Some b) None t there leads_w leads_u = unless-first leads_w
   rectangle-by (Some b) (Some p) None there leads_w leads_u = unless-second leads_u
   rectangle-by (Some b) (Some p) (Some q) there leads_w leads_u = rectangle-there b p q there leads_w leads_u

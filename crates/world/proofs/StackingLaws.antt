@@ -1,7 +1,7 @@
 -- A call on a panel leaves the picture as it is at every place of the screen where the panel isn't seen, before or
 -- after.
 use Rattle.std.proofs.Common.{◌≡◌, ◌≢◌, ℕ, ◌<◌, Bool, true, false, not, ◌==◌, ◌&&◌, ◌||◌, Option, Some, None, List, [], ◌∷◌, ◌++◌, inl, inr, ap, refl, ◌∙◌, arith}
-use Rattle.std.specs.Prelude.{cond, find, if◌then◌else◌, is_none, reverse, unwrap_or, ⊤}
+use Rattle.std.specs.Prelude.{find, is_none, reverse, unwrap_or, ⊤}
 use Rattle.std.specs.List.{last_or, list_any}
 use Rattle.std.specs.Option.{option_map_or}
 use mathlib.Core.List.{reverse_aux}
@@ -14,7 +14,7 @@ use Rattle.world.specs.Windows.{WindowMap, Windows}
 use Rattle.world.specs.Panels.{Panels, cell_on_screen, found_from_top, holds, owner, panel_holds, standard_screen, topmost, window_or_standard}
 use Rattle.world.specs.Sound.{AreSoundPanels, AreSoundWindows}
 use Rattle.world.specs.Effects.{Order, adds, carries, changes, with_entry, moved_to, orders, panels_after, windows_after}
-use Rattle.world.specs.calls.Affected.{order_shows_at, panel_shows_at, stays_on_top, window_on_top}
+use Rattle.world.specs.calls.Affected.{order_shows_at, panel_shows_at, stays_on_top}
 use Rattle.world.specs.calls.Stacking.{stacking_order, stacking_refusal, without}
 use Rattle.world.proofs.Allowed.{IsAllowed, passed, sound-panel}
 use Rattle.world.proofs.MoveLaws.{cell-placed, found-change, holds-placed}
@@ -31,21 +31,13 @@ module _ (p : ℕ) (test : ℕ → Bool) where
   Searches qs = (acc rest : List ℕ) → (list_any (λ k. k == p) qs && test p) ≡ false → find test acc ≡ find (off p test) rest
       → find test (reverse_aux qs acc) ≡ find (off p test) (reverse_aux (without p qs) rest)
 
-  step-off : (q : ℕ) (qs acc rest : List ℕ) (b : Bool) → (q == p) ≡ b → Searches qs → ((b || list_any (λ k. k == p) qs) && test p) ≡ false
-      → find test acc ≡ find (off p test) rest
-      → find test (reverse_aux qs (q ∷ acc)) ≡ find (off p test) (reverse_aux (cond (not b) (q ∷ without p qs) (without p qs)) rest)
-  step-off q qs acc rest b is later unseen same = grind (arith, eqb-true, and_right)
-
   search-off : (qs : List ℕ) → Searches qs
   search-off [] acc rest unseen same = grind arith
-  search-off (q ∷ qs) acc rest unseen same = grind (arith, step-off, (search-off qs))
-
-passing-at : (test : ℕ → Bool) (k q : ℕ) (rest : Option ℕ) (b : Bool) → test k ≡ b → cond b (Some k) rest ≡ Some q → (rest ≡ Some q → test q ≡ true) → test q ≡ true
-passing-at test k q rest b is found later = grind arith
+  search-off (q ∷ qs) acc rest unseen same = grind (arith, eqb-true, and_right, (search-off qs))
 
 passing : (test : ℕ → Bool) (ks : List ℕ) (q : ℕ) → find test ks ≡ Some q → test q ≡ true
 passing test [] q found = cc
-passing test (k ∷ ks) q found = grind (arith, passing-at, (passing test ks q))
+passing test (k ∷ ks) q found = grind (arith, (passing test ks q))
 
 -- ---- the others stay as they were
 
@@ -104,18 +96,9 @@ top-found test p (q ∷ qs) is holds = grind (arith, last-found)
 
 -- what it says that the panel p is on top with a window
 module _ (p : ℕ) where
-  top-by : (top : Option ℕ) (own : Option ℕ) (w : ℕ) → (if option_map_or (λ q. q == p) top false then own else None) ≡ Some w → (top ≡ Some p) × (own ≡ Some w)
-  top-by top own w is = grind (arith, eqb-true)
-
-  pub on-top : (panels : Panels) (w : ℕ) → window_on_top panels p ≡ Some w → (topmost panels ≡ Some p) × (panels.window p ≡ Some w)
-  on-top panels w is = grind (arith, top-by)
-
-  same-by : (o n : Option ℕ) → option_map_or (λ w. option_map_or (λ u. u == w) n false) o false ≡ true → (w : ℕ) × (o ≡ Some w) × (n ≡ Some w)
-  same-by o n is = grind (arith, eqb-true)
-
   module _ (window : WindowMap) (after before : Panels) (y x : ℕ) (stays : stays_on_top before after p ≡ true) where
     both-on-top : (w : ℕ) × (topmost before ≡ Some p) × (before.window p ≡ Some w) × (topmost after ≡ Some p) × (after.window p ≡ Some w)
-    both-on-top = grind (arith, same-by, on-top)
+    both-on-top = grind (arith, eqb-true)
 
     held : (panels : Panels) (w : ℕ) → panels.window p ≡ Some w → panel_holds window panels y x p ≡ holds window w y x
     held panels w is = grind arith
@@ -147,15 +130,9 @@ module _ (p : ℕ) where
   without-last : (qs : List ℕ) → without p (qs ++ p ∷ []) ≡ without p qs
   without-last qs = grind (arith, filter-append, without-itself, append-nil)
 
-  twice-at : (q : ℕ) (qs : List ℕ) (b : Bool) → (q == p) ≡ b → without p qs ≡ qs → without p (cond (not b) (q ∷ qs) qs) ≡ cond (not b) (q ∷ qs) qs
-  twice-at q qs b is same = grind arith
-
   without-twice : (qs : List ℕ) → without p (without p qs) ≡ without p qs
   without-twice [] = refl
-  without-twice (q ∷ qs) = grind (arith, twice-at, (without-twice qs))
-
-  shown-order : (qs : List ℕ) → without p (without p qs ++ p ∷ []) ≡ without p qs
-  shown-order qs = grind (arith, without-last, without-twice)
+  without-twice (q ∷ qs) = grind (arith, (without-twice qs))
 
   given-other : (window : ℕ → Option ℕ) (w : Option ℕ) (q : ℕ) → q ≢ p → with_entry window p w q ≡ window q
   given-other window w q other = grind (arith, ne_eqb)
@@ -163,11 +140,8 @@ module _ (p : ℕ) where
 -- ---- move_panel
 
 module _ (windows : Windows) (panels : Panels) (p v z y x : ℕ) (sound : AreSoundPanels windows.window panels) where
-  other-window-by : (o : Option ℕ) → panels.window p ≡ o → (q u : ℕ) → q ≢ p → panels.window q ≡ Some u → u ≢ unwrap_or o standard_screen
-  other-window-by o is q u other has same = grind (arith, sound-panel)
-
   other-window : (q u : ℕ) → q ≢ p → panels.window q ≡ Some u → u ≢ window_or_standard panels (Some p)
-  other-window = grind (arith, other-window-by)
+  other-window = grind (arith, sound-panel)
 
   other-standard : (o : Option ℕ) → panels.window p ≡ o → is_none o ≡ false → standard_screen ≢ unwrap_or o standard_screen
   other-standard o is some same = grind (arith, sound-panel)
@@ -201,7 +175,7 @@ IsOrdered windows panels (orders p order) = (without p order.visible ≡ without
 IsOrdered windows panels (carries p place) = is_none (panels.window p) ≡ false
 
 pub ordered-stacking : (windows : Windows) (panels : Panels) (stacking : Stacking) → stacking_refusal windows panels stacking ≡ None → IsOrdered windows panels (stacking_order panels stacking)
-ordered-stacking windows panels stacking accepted = grind (arith, passed, without-itself, without-twice, shown-order, given-other)
+ordered-stacking windows panels stacking accepted = grind (arith, passed, without-itself, without-twice, without-last, given-other)
 
 -- ---- each effect
 

@@ -1,16 +1,15 @@
 -- What determines which windows hold a place of the screen, and which cells they show; and where the search from the
 -- top finds the same.
-use Rattle.std.proofs.Common.{◌≡◌, ℕ, zero, suc, ◌-◌, Bool, true, false, if◌then◌else◌, ◌&&◌, nat_lt, nat_le, ◌+◌, Option, Some, None, unwrap_or, List, [], ◌∷◌, ap, refl, sym, ◌∙◌, arith}
-use Rattle.std.specs.Prelude.{cond, find, option_and_then, reverse}
+use Rattle.std.proofs.Common.{◌≡◌, ℕ, zero, suc, ◌-◌, Bool, true, false, if◌then◌else◌, Option, Some, None, unwrap_or, List, [], ◌∷◌, ap, refl, sym, ◌∙◌, arith}
+use Rattle.std.specs.Prelude.{find, option_and_then, reverse}
 use Rattle.std.specs.Option.{option_map, option_map_or}
-use Rattle.std.specs.List.{cons_option, filter_map, list_any}
+use Rattle.std.specs.List.{filter_map, list_any}
 use mathlib.Core.Path.{fun_ext}
 use Rattle.std.proofs.lemmas.Bool.{or_parts}
-use Rattle.cell.specs.Glyphs.{blank}
-use Rattle.cell.specs.Pictures.{Place, origin}
-use Rattle.world.specs.Windows.{Backing, GridPlace, Window, WindowMap, Windows, cell_at, cell_in_grid, cell_of, with_change, leads, own, own_within, window_limit}
+use Rattle.cell.specs.Pictures.{Place}
+use Rattle.world.specs.Windows.{Backing, GridPlace, Window, WindowMap, Windows, cell_at, with_change, leads, own, own_within, window_limit}
 use Rattle.world.specs.Settings.{set}
-use Rattle.world.specs.Panels.{Panels, cell_on_screen, found_from_top, holds, holds_place, owner, panel_holds, place_of, screen_place, standard_screen, window_or_standard, windows_from_top}
+use Rattle.world.specs.Panels.{Panels, cell_on_screen, found_from_top, holds, owner, panel_holds, place_of, standard_screen, window_or_standard, windows_from_top}
 use Rattle.world.specs.declared.settings.Settings.{Settings}
 
 -- what doesn't look at what a change changes is the same
@@ -31,22 +30,12 @@ outline a = record { lines = a.lines; columns = a.columns; place = a.place }
 abbrev pub outline_of : Option Window → Option Outline
 outline_of o = option_map outline o
 
-outline_holds : ℕ → ℕ → Outline → Bool
-outline_holds y x r = option_map_or (λ p. (nat_le p.0 y && nat_lt y (p.0 + r.lines)) && (nat_le p.1 x && nat_lt x (p.1 + r.columns))) r.place false
-
-holds-outline : (y x : ℕ) (o : Option Window) → option_map_or (holds_place y x) o false ≡ option_map_or (outline_holds y x) (outline_of o) false
-unfolding outline_holds
-holds-outline y x o = grind arith
-
-place-outline : (o : Option Window) → option_map_or screen_place o origin ≡ option_map_or (λ (r : Outline). unwrap_or r.place origin) (outline_of o) origin
-place-outline o = grind arith
-
 module _ (new old : WindowMap) (u : ℕ) (same : outline_of (new u) ≡ outline_of (old u)) where
   pub holds-same : (y x : ℕ) → holds new u y x ≡ holds old u y x
-  holds-same y x = grind (arith, holds-outline)
+  holds-same y x = grind arith
 
   pub place-same : place_of new u ≡ place_of old u
-  place-same = grind (arith, place-outline)
+  place-same = grind arith
 
   pub on_screen-same : (y x : ℕ) → cell_at new u (y - (place_of old u).0) (x - (place_of old u).1) ≡ cell_at old u (y - (place_of old u).0) (x - (place_of old u).1)
       → cell_on_screen new u y x ≡ cell_on_screen old u y x
@@ -61,10 +50,6 @@ then-backing : (f : ℕ → ℕ → ℕ → Option GridPlace) (u y x : ℕ) (o :
     → option_and_then (λ a. leads f u y x a.backing) o ≡ option_and_then (leads f u y x) (backing_of o)
 then-backing f u y x o = grind arith
 
-cell-backing : (p : GridPlace) (o : Option Window)
-    → option_map_or (λ a. cell_of a.backing p.line p.column) o blank ≡ option_map_or (λ s. cell_of s p.line p.column) (backing_of o) blank
-cell-backing p o = grind arith
-
 module _ (new old : WindowMap) (same : (u : ℕ) → backing_of (new u) ≡ backing_of (old u)) where
   own_within-same : (n : ℕ) → own_within n new ≡ own_within n old
   own_within-same zero = refl
@@ -77,11 +62,8 @@ module _ (new old : WindowMap) (same : (u : ℕ) → backing_of (new u) ≡ back
   pub own-same : (u y x : ℕ) → own new u y x ≡ own old u y x
   own-same u y x = ap (λ f. f u y x) (own_within-same window_limit)
 
-  in_grid-same : (o : Option GridPlace) → cell_in_grid new o ≡ cell_in_grid old o
-  in_grid-same o = grind (arith, cell-backing)
-
   pub cell_at-same : (u y x : ℕ) → cell_at new u y x ≡ cell_at old u y x
-  cell_at-same u y x = grind (arith, own-same, in_grid-same)
+  cell_at-same u y x = grind (arith, own-same)
 
 -- ---- the owner is among the windows of the visible panels
 
@@ -93,14 +75,9 @@ pub record IsFound (window : WindowMap) (panels : Panels) (y x : ℕ) (test : �
   pub fails : test number ≡ false
 
 module _ (window : WindowMap) (panels : Panels) (y x : ℕ) (test : ℕ → Bool) where
-  found-at : (q p : ℕ) (qs : List ℕ) (o : Option ℕ) (b : Bool) → panels.window q ≡ o → option_map_or (λ u. holds window u y x) o false ≡ b
-      → list_any test (cons_option o (filter_map panels.window qs)) ≡ false → cond b (Some q) (find (panel_holds window panels y x) qs) ≡ Some p
-      → (list_any test (filter_map panels.window qs) ≡ false → find (panel_holds window panels y x) qs ≡ Some p → IsFound window panels y x test p) → IsFound window panels y x test p
-  found-at q p qs o b is holds none found later = grind (arith, or_parts)
-
   found-in : (p : ℕ) (ps : List ℕ) → list_any test (filter_map panels.window ps) ≡ false → find (panel_holds window panels y x) ps ≡ Some p → IsFound window panels y x test p
   found-in p [] none found = cc
-  found-in p (q ∷ qs) none found = grind (arith, found-at, (found-in p qs))
+  found-in p (q ∷ qs) none found = grind (arith, or_parts, (found-in p qs))
 
 -- ---- where the search finds the same
 

@@ -1,6 +1,6 @@
 -- What an edit writes: it leaves the picture as it is at every place of the screen where its frame isn't shown.
 use Rattle.std.proofs.Common.{◌≡◌, ℕ, ◌+◌, ◌<◌, ◌≤◌, Bool, true, false, if◌then◌else◌, ◌||◌, nat_lt, Option, Some, None, List, [], ◌∷◌, IsSomeAnd, ap, arith, ◌∙◌}
-use Rattle.std.specs.Prelude.{MatchOption, max, option_and_then, ⊤}
+use Rattle.std.specs.Prelude.{MatchOption, option_and_then, ⊤}
 use Rattle.std.specs.Option.{option_map_or}
 use Rattle.cell.specs.Pictures.{Place}
 use Rattle.world.specs.Windows.{Drawing, HasPlace, Window, WindowMap, Windows, put, put_windows}
@@ -15,15 +15,12 @@ use Rattle.world.specs.Effects.{Edit, after_edit, draws, edit_frame, edit_window
 use Rattle.world.specs.calls.Affected.{edit_shows_at, frame_shows_at}
 use Rattle.world.proofs.FrameLaws.{frame_of-is}
 use Rattle.world.proofs.PictureLaws.{SameView, found-put, frame_shows-same, joined-free, outline-put, standard-holds}
-use Rattle.world.proofs.ViewLaws.{SameCells, found-dressed, holds-same, outline, outline_of, own-same, set-cells}
+use Rattle.world.proofs.ViewLaws.{found-dressed, holds-same, outline, outline_of, own-same, set-cells}
 use Rattle.world.proofs.WindowLaws.{own-put}
 use Rattle.cell.specs.declared.window.Rect.{Rect}
 use Rattle.world.specs.declared.settings.Settings.{Settings}
 
 -- ---- what stays
-
-cells-view : (new old : WindowMap) → SameCells new old → SameView new old
-cells-view new old same = grind (arith, own-same)
 
 put-view : (window : WindowMap) (w : ℕ) (f : Drawing) → SameView (put_windows window w f) window
 put-view window w f = record { outlines = outline-put window w f; places = own-put window w f }
@@ -41,20 +38,9 @@ has-size a y x o is below left = grind arith
 same-size : (y x : ℕ) (o p : Option Window) → outline_of o ≡ outline_of p → IsSomeAnd p (λ b. (y < b.lines) × (x < b.columns)) → IsSomeAnd o (λ b. (y < b.lines) × (x < b.columns))
 same-size y x o p is h = grind (arith, has-size)
 
-both-sizes : (y x v z : ℕ) (o : Option Window) → IsSomeAnd o (λ b. (y < b.lines) × (x < b.columns)) → IsSomeAnd o (λ b. (v < b.lines) × (z < b.columns))
-    → IsSomeAnd o (λ b. (max y v < b.lines) × (max x z < b.columns))
-both-sizes y x v z o h k = grind arith
-
 drawing-inside : (window : WindowMap) (w : ℕ) (a : Window) (f : Drawing) → outline_of (window w) ≡ Some (outline a)
     → (o : Option Rect) → IsFrameOf (Covers f a.columns a.lines) o → MatchOption o ⊤ (IsInside window w)
 drawing-inside window w a f size o frame = grind (arith, has-size)
-
-joined-inside : (window : WindowMap) (w : ℕ) (o p : Option Rect) → MatchOption o ⊤ (IsInside window w) → MatchOption p ⊤ (IsInside window w)
-    → MatchOption (frame_of_two o p) ⊤ (IsInside window w)
-joined-inside window w o p h k = grind (arith, both-sizes)
-
-inside-before : (new old : WindowMap) (w : ℕ) → outline_of (new w) ≡ outline_of (old w) → (o : Option Rect) → MatchOption o ⊤ (IsInside new w) → MatchOption o ⊤ (IsInside old w)
-inside-before new old w same o h = grind (arith, same-size)
 
 -- ---- what a call does that writes in a frame
 
@@ -67,11 +53,8 @@ module _ (panels : Panels) (w y x : ℕ) where
     inside : MatchOption frame ⊤ (IsInside old.window w)
 
   -- nothing
-  nothing-written : (old new : Windows) → SameCells new.window old.window → Writes old None new
-  nothing-written old new same = grind (arith, cells-view, found-dressed)
-
   as-it-was : (old : Windows) → Writes old None old
-  as-it-was old = grind (arith, nothing-written)
+  as-it-was old = grind (arith, own-same, found-dressed)
 
   -- a drawing, in a window of the size of a
   drawn : (old : Windows) (a : Window) (f : Drawing) → outline_of (old.window w) ≡ Some (outline a) → Writes old (frame_of a f) (put old w f)
@@ -83,7 +66,7 @@ module _ (panels : Panels) (w y x : ℕ) where
 
   -- one frame and then another
   and-then : (old middle new : Windows) (one other : Option Rect) → Writes old one middle → Writes middle other new → Writes old (frame_of_two one other) new
-  and-then old middle new one other first second = grind (arith, joined-free, holds-same, frame_shows-same, joined-inside, inside-before)
+  and-then old middle new one other first second = grind (arith, joined-free, holds-same, frame_shows-same, same-size)
 
   -- and then settings
   and-set : (old middle : Windows) (frame : Option Rect) (change : Settings → Settings) → Writes old frame middle → Writes old frame (set middle w change)
