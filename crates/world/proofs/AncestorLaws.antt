@@ -1,12 +1,9 @@
 -- Where all windows but one are as they were: what each window shows that neither is that one nor derives from it.
-use Rattle.std.proofs.Common.{◌≡◌, ℕ, zero, suc, false, ◌==◌, Option, Some, [], ◌∷◌, ap, refl, arith}
-use Rattle.std.specs.Option.{option_map_or}
+use Rattle.std.proofs.Common.{◌≡◌, ℕ, zero, suc, false, ◌==◌, Option, Some, refl, arith}
 use Rattle.std.specs.List.{list_any}
-use mathlib.Core.Path.{fun_ext}
 use Rattle.std.proofs.lemmas.Bool.{eqb-false, ne_eqb, or_parts}
 use Rattle.world.specs.Windows.{Window, WindowMap, Windows, GridPlace, ancestors_within, cell_at, with_change, derives, own_within}
-use Rattle.world.specs.Windows.{parent_of, with_window, window_limit}
-use Rattle.world.proofs.ViewLaws.{same-if}
+use Rattle.world.specs.Windows.{with_window, window_limit}
 use Rattle.world.specs.Effects.{shifted_to}
 
 pub changed-off : (window : WindowMap) (w : ℕ) (change : Window → Window) (v : ℕ) → (v ≡ w → ⊥) → with_change window w change v ≡ window v
@@ -38,12 +35,9 @@ cell_at-moved windows w y x u v z other apart = grind (arith, cell_at-beside, ch
 
 -- and its parents, and whose descendant a window is
 module _ (windows : Windows) (w y x : ℕ) where
-  parent-moved : (u : ℕ) → parent_of (shifted_to windows w (y, x)).window u ≡ parent_of windows.window u
-  parent-moved u = grind (arith, same-if)
-
-  ancestors-moved : (n : ℕ) → ancestors_within n (shifted_to windows w (y, x)).window ≡ ancestors_within n windows.window
-  ancestors-moved zero = refl
-  ancestors-moved (suc n) = fun_ext (λ u. λ i. option_map_or (λ parent. parent ∷ ancestors-moved n i parent) (parent-moved u i) [])
+  ancestors-moved : (n u : ℕ) → ancestors_within n (shifted_to windows w (y, x)).window u ≡ ancestors_within n windows.window u
+  ancestors-moved zero u = refl
+  ancestors-moved (suc n) u = grind (arith, (ancestors-moved n))
 
   pub derives-moved : (v u : ℕ) → derives (shifted_to windows w (y, x)).window v u ≡ derives windows.window v u
-  derives-moved v u = ap (λ f. list_any (λ k. k == v) (f u)) (ancestors-moved window_limit)
+  derives-moved v u = grind (arith, (ancestors-moved window_limit))

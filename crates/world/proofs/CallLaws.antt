@@ -1,7 +1,6 @@
 -- At a place that a call doesn't affect, neither the picture changes nor what the virtual screen shows.
-use Rattle.std.proofs.Common.{◌≡◌, ℕ, ◌<◌, false, None, ap, refl, arith}
+use Rattle.std.proofs.Common.{◌≡◌, ℕ, ◌<◌, false, None, ap, arith}
 use Rattle.std.specs.Prelude.{⊤}
-use Rattle.std.proofs.lemmas.Bool.{true≢false}
 use Rattle.cell.specs.Pictures.{shown_at}
 use Rattle.cell.proofs.PictureLemmas.{cell_or-lines_from}
 use Rattle.cell.specs.Shown.{shown}
@@ -32,10 +31,8 @@ ready world call accepted = grind (arith, allowed-making, ordered-stacking)
 module _ (world : World) (y x : ℕ) (sound : IsSound world) (below : y < world.windows.lines) (left : x < world.windows.columns) where
   effect-keeps : (effect : Effect) → IsReady world effect → effect_shows_at world effect y x ≡ false → picture (after world effect) y x ≡ picture world y x
   effect-keeps (arranges order) ready free = grind (arith, found-order, ready)
-  effect-keeps (refreshes w test drawing cursor) ready free = grind (arith, found-lines)
   effect-keeps composes ready free = ap (shown world.pairs) (found-unmarked world.windows.window (composed_windows world) world.panels y x)
-  effect-keeps shows ready free = refl
-  effect-keeps (colours pair foreground background) ready free = grind (arith, true≢false)
+  effect-keeps effect ready free = grind (arith, found-lines)
 
   pub picture-kept : (call : Call) → refusal world call ≡ None → affects_place world call y x ≡ false → picture (world_after world call) y x ≡ picture world y x
   picture-kept call accepted free = grind (arith, effect-keeps, ready)

@@ -1,11 +1,10 @@
 -- Making, deleting and moving windows: which places of the screen keep what the search finds there.
-use Rattle.std.proofs.Common.{◌≡◌, ℕ, zero, suc, ◌+◌, ◌<◌, Bool, true, false, ◌==◌, ◌&&◌, ◌||◌, Option, Some, None, IsSome, IsSomeAnd, MatchOption, [], ◌∷◌, ap, arith, refl, sym, ◌∙◌}
-use Rattle.std.specs.Prelude.{is_some, option_and_then, ⊤}
+use Rattle.std.proofs.Common.{◌≡◌, ℕ, zero, suc, ◌<◌, Bool, true, false, ◌==◌, Option, Some, None, IsSome, MatchOption, [], ◌∷◌, ap, arith, refl, sym}
+use Rattle.std.specs.Prelude.{option_and_then, ⊤}
 use Rattle.std.specs.Option.{option_map_or}
 use Rattle.std.specs.List.{list_any}
 use mathlib.Core.Path.{fun_ext}
 use Rattle.std.proofs.lemmas.Bool.{and_cases, eqb-false, false_from_ne_true, or_from, or_parts, ne_eqb}
-use Rattle.cell.specs.declared.limits.TheConstants.{MOST_WINDOWS}
 use Rattle.world.specs.Windows.{Backing, GridPlace, Window, WindowMap, Windows, ancestors_within, derives, leads, own, own_within, parent_number, window_limit}
 use Rattle.world.specs.Panels.{Panels, cell_on_screen, found_from_top, holds, standard_screen, windows_from_top}
 use Rattle.world.specs.Sound.{AreSoundPanels, AreSoundWindows, IsSoundWindow}
@@ -30,8 +29,7 @@ module _ (windows : Windows) (w v z : ℕ) where
   window-moved u = grind (arith, same-if)
 
   pub move_shows-moved : (panels : Panels) (y x : ℕ) → move_shows_at (shifted_to windows w (v, z)).window panels w y x ≡ move_shows_at windows.window panels w y x
-  move_shows-moved panels y x = ap (λ (test : ℕ → Bool). list_any test (windows_from_top panels)) (fun_ext (λ u. λ i.
-      (u == w || derives-moved windows w v z w u i) && holds-same (shifted_to windows w (v, z)).window windows.window u (window-moved u) y x i))
+  move_shows-moved panels y x = ap (λ (test : ℕ → Bool). list_any test (windows_from_top panels)) (fun_ext (λ u. grind (arith, derives-moved, holds-same, window-moved)))
 
 -- ---- mvderwin
 
@@ -51,9 +49,7 @@ module _ (windows : Windows) (panels : Panels) (w v z y x : ℕ) (sound : AreSou
 
   pub found-moved : move_shows_at windows.window panels w y x ≡ false → found_from_top (shifted_to windows w (v, z)).window panels y x ≡ found_from_top windows.window panels y x
   unfolding moved
-  found-moved free =
-      found-same moved windows.window panels y x (follows_at windows.window w y x) free (λ p u is. holds-same moved windows.window u (window-moved windows w v z u) y x)
-      (λ p u is there fails. stays u there fails) (moved-kept standard_screen other-standard (standard-beside windows w sound))
+  found-moved free = grind (arith, (found-same moved windows.window panels y x (follows_at windows.window w y x)), holds-same, window-moved, stays, moved-kept, other-standard, standard-beside)
 
 -- ---- a window in no panel, from which none in a panel derives: whatever becomes of it, no place shows another cell
 
@@ -70,9 +66,6 @@ module _ (new old : WindowMap) (panels : Panels) (w : ℕ) (same : (v : ℕ) →
       found-same new old panels y x (λ u. false) (passes-none (windows_from_top panels))
       (λ p u is. let other = apart p u is in holds-same new old u (ap (λ o. outline_of o) (same u other.0)) y x)
       (λ p u is there fails. apart-kept y x u (apart p u is)) (apart-kept y x standard_screen standard)
-
-there-some : (o : Option Window) (P : Window → Type 0) → IsSomeAnd o P → IsSome o
-there-some o P h = grind arith
 
 -- ---- delwin
 
@@ -98,13 +91,9 @@ window-sound windows v a o is h = grind arith
 no-part : (windows : Windows) (w : ℕ) → AreSoundWindows windows → has_derived windows.window w ≡ false
     → (v : ℕ) (a : Window) → windows.window v ≡ Some a → is_part_of w a.backing ≡ false
 unfolding window_limit
-no-part windows w sound none v a is = false_from_ne_true (is_part_of w a.backing) (λ derives_v.
-    let number = (window-sound windows v a (windows.window v) is (sound.each v)).number in
-    let few : v < MOST_WINDOWS + 1 = omega arith in
-    let test : ℕ → Bool = λ u. option_map_or (λ b. is_part_of w b.backing) (windows.window u) false in
-    let some : has_derived windows.window w ≡ true = any_below-some (MOST_WINDOWS + 1) test v few (ap (λ o. option_map_or (λ b. is_part_of w b.backing) o false) is ∙ derives_v) in
-    let never : true ≡ false = sym some ∙ none in
-    cc)
+no-part windows w sound none v a is = false_from_ne_true _ (λ derives_v.
+    let sound_v = window-sound windows v a (windows.window v) is (sound.each v) in
+    grind (arith, (any_below-some window_limit (λ u. option_map_or (λ b. is_part_of w b.backing) (windows.window u) false) v)))
 
 found-deleted : (windows : Windows) (panels : Panels) (w y x : ℕ) → AreSoundWindows windows → AreSoundPanels windows.window panels
     → IsAllowed windows panels (deletes w) → found_from_top (under_number windows w None).window panels y x ≡ found_from_top windows.window panels y x
@@ -125,8 +114,7 @@ module _ (window : WindowMap) (n : ℕ) (free : window n ≡ None) where
 
   window-leading : (k : ℕ) → Leading k → (u y x : ℕ) (p : GridPlace) (o : Option Window) → option_and_then (λ a. leads (own_within k window) u y x a.backing) o ≡ Some p
       → list_any (λ v. v == n) (option_map_or (λ parent. parent ∷ ancestors_within k window parent) (option_and_then (λ a. parent_number a.backing) o) []) ≡ false
-  window-leading k before u y x p None found = cc
-  window-leading k before u y x p (Some a) found = grind (arith, or_from, ne_eqb, other-parent)
+  window-leading k before u y x p o found = grind (arith, or_from, ne_eqb, other-parent)
 
   leading : (k u y x : ℕ) (p : GridPlace) → own_within k window u y x ≡ Some p → list_any (λ v. v == n) (ancestors_within k window u) ≡ false
   leading zero u y x p found = cc
@@ -141,17 +129,7 @@ chain-ends windows u o h some = grind arith
 found-new : (windows : Windows) (panels : Panels) (n : ℕ) (o : Option Window) (y x : ℕ) → AreSoundWindows windows → AreSoundPanels windows.window panels → windows.window n ≡ None
     → found_from_top (under_number windows n o).window panels y x ≡ found_from_top windows.window panels y x
 found-new windows panels n o y x sound panels_sound free =
-    found-apart (under_number windows n o).window windows.window panels n (replaced-off windows.window n o)
-    (λ p u is. there u (there-some (windows.window u) _ (sound-panel windows.window panels panels_sound p u is).window_is))
-    (there standard_screen (there-some (windows.window standard_screen) _ sound.standard)) y x where
-      there : (u : ℕ) → IsSome (windows.window u) → (u ≡ n → ⊥) × (derives windows.window n u ≡ false)
-      there u some = (
-        λ same.
-            let none : is_some (windows.window u) ≡ false = ap (λ (o : Option Window). is_some o) (ap windows.window same ∙ free) in
-            let never : true ≡ false = sym some ∙ none in
-            cc,
-        leading-some windows.window n free u (own windows.window u 0 0) refl (chain-ends windows u (windows.window u) (sound.each u) some),
-      )
+    grind (arith, (found-apart (under_number windows n o).window windows.window panels n (replaced-off windows.window n o)), sound-panel, leading-some, chain-ends)
 
 -- ---- mvwin
 

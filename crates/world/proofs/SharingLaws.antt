@@ -1,7 +1,7 @@
 -- The places at which one window shows cells of a rectangle of another are a rectangle, or there are none.
 use Rattle.std.proofs.Common.{◌≡◌, ℕ, ◌+◌, ◌-◌, ◌<◌, ◌≤◌, min, true, Option, Some, None, arith, refl, eq-eqb}
 use Rattle.std.proofs.lemmas.Bool.{cases_eq, cases_lt, and_parts, and_from, eqb-true}
-use Rattle.world.specs.Windows.{Window, WindowMap, GridPlace, onward, own}
+use Rattle.world.specs.Windows.{Window, WindowMap, GridPlace, own}
 use Rattle.world.specs.Frames.{AreRectangle}
 use Rattle.world.specs.Sharing.{SharesPart, is_same_place}
 use Rattle.world.proofs.Below.{FoundIn, any_in-some, any_in-true}
@@ -56,14 +56,11 @@ module _ (window : WindowMap) (w : ℕ) (r : Rect) (u : ℕ) where
       below : y < b.lines
       before : x < b.columns
 
-    test-is : (v z y x : ℕ) → is_same_place (own window w v z) (own window u y x) ≡ is_same_place (Some (onward v z p)) (Some (onward y x q))
-    test-is v z y x = grind (arith, own-onward)
-
     in-numbers : (y x : ℕ) → SharesPart window w r u y x → Within y x
     in-numbers y x has = let at = found y x has in grind (arith, and_parts, eqb-true, own-onward)
 
     from-numbers : (y x : ℕ) → Within y x → SharesPart window w r u y x
-    from-numbers y x h = grind (arith, (any_in-some r (λ v z. is_same_place (own window w v z) (own window u y x)) (q.line + y - p.line) (q.column + x - p.column)), true-same, test-is)
+    from-numbers y x h = grind (arith, (any_in-some r (λ v z. is_same_place (own window w v z) (own window u y x)) (q.line + y - p.line) (q.column + x - p.column)), true-same, own-onward)
 
     -- the first line and column, and the first ones after them that aren't shared
     first_line : ℕ

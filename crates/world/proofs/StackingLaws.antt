@@ -1,6 +1,6 @@
 -- A call on a panel leaves the picture as it is at every place of the screen where the panel isn't seen, before or
 -- after.
-use Rattle.std.proofs.Common.{◌≡◌, ◌≢◌, ℕ, ◌<◌, Bool, true, false, not, ◌==◌, ◌&&◌, ◌||◌, Option, Some, None, List, [], ◌∷◌, ◌++◌, inl, inr, ap, refl, ◌∙◌, arith}
+use Rattle.std.proofs.Common.{◌≡◌, ◌≢◌, ℕ, ◌<◌, Bool, true, false, not, ◌==◌, ◌&&◌, ◌||◌, Option, Some, None, List, [], ◌∷◌, ◌++◌, inl, inr, ap, refl, arith}
 use Rattle.std.specs.Prelude.{find, is_none, reverse, unwrap_or, ⊤}
 use Rattle.std.specs.List.{last_or, list_any}
 use Rattle.std.specs.Option.{option_map_or}
@@ -60,7 +60,7 @@ module _ (new old : WindowMap) (after before : Panels) (p y x : ℕ) where
     ])
 
     owner-after : owner new after y x ≡ find (off p (panel_holds old before y x)) (reverse (without p before.visible))
-    owner-after = search-off p (panel_holds new after y x) after.visible [] [] both.1 refl ∙ (λ i. find (off-same i) (reverse (kept.order i)))
+    owner-after = grind (arith, search-off, both, off-same)
 
     owner-before : owner old before y x ≡ find (off p (panel_holds old before y x)) (reverse (without p before.visible))
     owner-before = search-off p (panel_holds old before y x) before.visible [] [] both.0 refl
@@ -70,10 +70,7 @@ module _ (new old : WindowMap) (after before : Panels) (p y x : ℕ) where
 
     cell-by : (o : Option ℕ) → find (off p (panel_holds old before y x)) (reverse (without p before.visible)) ≡ o
         → cell_on_screen new (window_or_standard after o) y x ≡ cell_on_screen old (window_or_standard before o) y x
-    cell-by None found = grind arith
-    cell-by (Some q) found =
-        let parts = and_parts (not (q == p)) (panel_holds old before y x q) (passing (off p (panel_holds old before y x)) (reverse (without p before.visible)) q found) in
-        kept.cells q (is-other q parts.0) parts.1
+    cell-by o found = grind (arith, and_parts, is-other, (passing (off p (panel_holds old before y x)) (reverse (without p before.visible))))
 
     found-kept : found_from_top new after y x ≡ found_from_top old before y x
     found-kept = grind (arith, owner-after, owner-before, cell-by)
@@ -100,23 +97,9 @@ module _ (p : ℕ) where
     both-on-top : (w : ℕ) × (topmost before ≡ Some p) × (before.window p ≡ Some w) × (topmost after ≡ Some p) × (after.window p ≡ Some w)
     both-on-top = grind (arith, eqb-true)
 
-    held : (panels : Panels) (w : ℕ) → panels.window p ≡ Some w → panel_holds window panels y x p ≡ holds window w y x
-    held panels w is = grind arith
-
-    stays-by : (w : ℕ) → before.window p ≡ Some w → after.window p ≡ Some w → topmost before ≡ Some p → topmost after ≡ Some p
-        → without p after.visible ≡ without p before.visible → ((q : ℕ) → q ≢ p → after.window q ≡ before.window q)
-        → (b : Bool) → holds window w y x ≡ b → found_from_top window after y x ≡ found_from_top window before y x
-    stays-by w was is top tops order others true there = grind (arith, top-found, held)
-    stays-by w was is top tops order others false there =
-        let old : panel_shows_at window before p y x ≡ false = rw (held before w was ∙ there) (and-false (list_any (λ q. q == p) before.visible)) in
-        let new : panel_shows_at window after p y x ≡ false = rw (held after w is ∙ there) (and-false (list_any (λ q. q == p) after.visible)) in
-        reordered window after before p y x order others (rw (old, new) refl)
-
     pub stays-found : without p after.visible ≡ without p before.visible → ((q : ℕ) → q ≢ p → after.window q ≡ before.window q)
         → found_from_top window after y x ≡ found_from_top window before y x
-    stays-found order others =
-        let both = both-on-top in
-        stays-by both.0 both.2 both.4 both.1 both.3 order others (holds window both.0 y x) refl
+    stays-found order others = let both = both-on-top in grind (arith, top-found, and-false, (reordered window after before p y x order others))
 
 -- ---- the order without the panel p
 
@@ -158,12 +141,8 @@ module _ (windows : Windows) (panels : Panels) (p v z y x : ℕ) (sound : AreSou
       → (panel_shows_at windows.window panels p y x || panel_shows_at (moved_to windows (window_or_standard panels (Some p)) (v, z)).window panels p y x) ≡ false
       → found_from_top (moved_to windows (window_or_standard panels (Some p)) (v, z)).window panels y x ≡ found_from_top windows.window panels y x
   found-move_panel some unseen =
-      found-kept (moved_to windows (window_or_standard panels (Some p)) (v, z)).window windows.window panels panels p y x (record {
-        order = refl;
-        hold = λ q other. holds-by q other (panels.window q) refl;
-        cells = λ q other there. cells-by q other (panels.window q) refl there;
-        standard = cell-placed windows (window_or_standard panels (Some p)) v z y x standard_screen (other-standard (panels.window p) refl some);
-      }) unseen
+      found-kept (moved_to windows (window_or_standard panels (Some p)) (v, z)).window windows.window panels panels p y x
+      (grind (arith, holds-by, cells-by, cell-placed, other-standard)) unseen
 
 -- ---- what each effect wants, which the tests of its call give
 

@@ -1,13 +1,13 @@
 -- What determines which windows hold a place of the screen, and which cells they show; and where the search from the
 -- top finds the same.
-use Rattle.std.proofs.Common.{◌≡◌, ℕ, zero, suc, ◌-◌, Bool, true, false, if◌then◌else◌, Option, Some, None, unwrap_or, List, [], ◌∷◌, ap, refl, sym, ◌∙◌, arith}
-use Rattle.std.specs.Prelude.{find, option_and_then, reverse}
-use Rattle.std.specs.Option.{option_map, option_map_or}
+use Rattle.std.proofs.Common.{◌≡◌, ℕ, zero, suc, ◌-◌, Bool, true, false, if◌then◌else◌, Option, Some, None, List, [], ◌∷◌, ap, refl, arith}
+use Rattle.std.specs.Prelude.{find, reverse}
+use Rattle.std.specs.Option.{option_map}
 use Rattle.std.specs.List.{filter_map, list_any}
 use mathlib.Core.Path.{fun_ext}
 use Rattle.std.proofs.lemmas.Bool.{or_parts}
 use Rattle.cell.specs.Pictures.{Place}
-use Rattle.world.specs.Windows.{Backing, GridPlace, Window, WindowMap, Windows, cell_at, with_change, leads, own, own_within, window_limit}
+use Rattle.world.specs.Windows.{Backing, Window, WindowMap, Windows, cell_at, with_change, own, own_within, window_limit}
 use Rattle.world.specs.Settings.{set}
 use Rattle.world.specs.Panels.{Panels, cell_on_screen, found_from_top, holds, owner, panel_holds, place_of, standard_screen, window_or_standard, windows_from_top}
 use Rattle.world.specs.declared.settings.Settings.{Settings}
@@ -46,21 +46,13 @@ module _ (new old : WindowMap) (u : ℕ) (same : outline_of (new u) ≡ outline_
 abbrev pub backing_of : Option Window → Option Backing
 backing_of o = option_map (λ (a : Window). a.backing) o
 
-then-backing : (f : ℕ → ℕ → ℕ → Option GridPlace) (u y x : ℕ) (o : Option Window)
-    → option_and_then (λ a. leads f u y x a.backing) o ≡ option_and_then (leads f u y x) (backing_of o)
-then-backing f u y x o = grind arith
-
 module _ (new old : WindowMap) (same : (u : ℕ) → backing_of (new u) ≡ backing_of (old u)) where
-  own_within-same : (n : ℕ) → own_within n new ≡ own_within n old
-  own_within-same zero = refl
-  own_within-same (suc n) = fun_ext (λ u. fun_ext (λ y. fun_ext (λ x.
-      then-backing (own_within n new) u y x (new u)
-      ∙ ap (λ o. option_and_then (leads (own_within n new) u y x) o) (same u)
-      ∙ ap (λ f. option_and_then (leads f u y x) (backing_of (old u))) (own_within-same n)
-      ∙ sym (then-backing (own_within n old) u y x (old u)))))
+  own_within-same : (n u y x : ℕ) → own_within n new u y x ≡ own_within n old u y x
+  own_within-same zero u y x = refl
+  own_within-same (suc n) u y x = grind (arith, same, (own_within-same n))
 
   pub own-same : (u y x : ℕ) → own new u y x ≡ own old u y x
-  own-same u y x = ap (λ f. f u y x) (own_within-same window_limit)
+  own-same = own_within-same window_limit
 
   pub cell_at-same : (u y x : ℕ) → cell_at new u y x ≡ cell_at old u y x
   cell_at-same u y x = grind (arith, own-same)
@@ -90,21 +82,15 @@ module _ (new old : WindowMap) (panels : Panels) (y x : ℕ) where
   abbrev pub HoldAsBefore : Type 0
   HoldAsBefore = (p u : ℕ) → panels.window p ≡ Some u → holds new u y x ≡ holds old u y x
 
-  holds-by : HoldAsBefore → (p : ℕ) (o : Option ℕ) → panels.window p ≡ o → option_map_or (λ u. holds new u y x) o false ≡ option_map_or (λ u. holds old u y x) o false
-  holds-by h p o is = grind (arith, is)
-
   owner-same : HoldAsBefore → owner new panels y x ≡ owner old panels y x
-  owner-same h = ap (λ (test : ℕ → Bool). find test (reverse panels.visible)) (fun_ext (λ p. holds-by h p (panels.window p) refl))
+  owner-same h = ap (λ (test : ℕ → Bool). find test (reverse panels.visible)) (fun_ext (λ p. grind (arith, h)))
 
   owned-same : (test : ℕ → Bool) → list_any test (windows_from_top panels) ≡ false
       → ((p u : ℕ) → panels.window p ≡ Some u → holds old u y x ≡ true → test u ≡ false → cell_on_screen new u y x ≡ cell_on_screen old u y x)
       → cell_on_screen new standard_screen y x ≡ cell_on_screen old standard_screen y x
       → (o : Option ℕ) → owner old panels y x ≡ o → cell_on_screen new (window_or_standard panels o) y x ≡ cell_on_screen old (window_or_standard panels o) y x
   owned-same test none cells standard None found = standard
-  owned-same test none cells standard (Some p) found =
-      let owns = found-in old panels y x test p (reverse panels.visible) none found in
-      let same : unwrap_or (panels.window p) standard_screen ≡ owns.number = ap (λ o. unwrap_or o standard_screen) owns.is in
-      rw same (cells p owns.number owns.is owns.there owns.fails)
+  owned-same test none cells standard (Some p) found = let owns = found-in old panels y x test p (reverse panels.visible) none found in grind arith
 
   -- no window of a visible panel passes the test, and each that fails it shows the cell that it showed
   pub found-same : (test : ℕ → Bool) → list_any test (windows_from_top panels) ≡ false → HoldAsBefore
@@ -120,11 +106,7 @@ pub record SameCells (new old : WindowMap) : Type 0 where
   pub backings : (u : ℕ) → backing_of (new u) ≡ backing_of (old u)
 
 pub found-dressed : (new old : WindowMap) → SameCells new old → (panels : Panels) (y x : ℕ) → found_from_top new panels y x ≡ found_from_top old panels y x
-found-dressed new old same panels y x =
-    found-same new old panels y x (λ u. false) (passes-none (windows_from_top panels)) (λ p u is. holds-same new old u (same.outlines u) y x)
-    (λ p u is there fails. kept u) (kept standard_screen) where
-      kept : (u : ℕ) → cell_on_screen new u y x ≡ cell_on_screen old u y x
-      kept u = on_screen-same new old u (same.outlines u) y x (cell_at-same new old same.backings u (y - (place_of old u).0) (x - (place_of old u).1))
+found-dressed new old same panels y x = grind (arith, (found-same new old panels y x (λ u. false) (passes-none (windows_from_top panels))), holds-same, on_screen-same, cell_at-same)
 
 pub changed-cells : (window : WindowMap) (w : ℕ) (change : Window → Window) → ((a : Window) → outline_of (Some (change a)) ≡ outline_of (Some a))
     → ((a : Window) → backing_of (Some (change a)) ≡ backing_of (Some a)) → SameCells (with_change window w change) window

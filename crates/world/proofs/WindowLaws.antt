@@ -68,13 +68,9 @@ twice-at w a spot f g u None = refl
 twice-at w a spot f g u (Some b) = ap Some (drawn-by (u == spot.grid) (u == w) b (grid_drawing spot (within a f)) (grid_drawing spot (within a g)) (grid_drawing spot (within a (over g f))) f g
     (laid-laid spot a f g b.backing))
 
-twice : (window : WindowMap) (w : ℕ) (o : Option Window) → window w ≡ o → (s : Option GridPlace) (f g : Drawing)
-    → put_from (put_from window w o s f) w (put_from window w o s f w) s g ≡ put_from window w o s (over g f)
-twice window w o e s f g = grind (arith, twice-at)
-
 -- two writes through one window are one
 pub put-put : (window : WindowMap) (w : ℕ) (f g : Drawing) → put_windows (put_windows window w f) w g ≡ put_windows window w (over g f)
-put-put window w f g = search (arith, own-put, twice)
+put-put window w f g = grind (arith, own-put, twice-at)
 
 -- a place that the drawing leaves out keeps its cell
 kept-point : (t : Bool) (f : Drawing) (s : Backing) (y x : ℕ) → f y x ≡ None → cell_of (if t then laid_over f s else s) y x ≡ cell_of s y x
@@ -93,11 +89,8 @@ touched-nothing (suc n) test r h = grind (arith, (touched-nothing n test r h))
 none_either : (t : Bool) (o : Option Glyph) → o ≡ None → (if t then o else None) ≡ None
 none_either t o h = grind arith
 
-nothing-within : (a : Window) (f : Drawing) → ((y x : ℕ) → f y x ≡ None) → (y x : ℕ) → within a f y x ≡ None
-nothing-within a f h y x = grind (arith, none_either)
-
 nothing-at : (w : ℕ) (a : Window) (spot : GridPlace) (f : Drawing) (u : ℕ) (o : Option Window) → ((y x : ℕ) → f y x ≡ None) → option_map (after_drawing w a spot f u) o ≡ o
-nothing-at w a spot f u o h = grind (arith, none_either, nothing-within, touched-nothing)
+nothing-at w a spot f u o h = grind (arith, none_either, touched-nothing)
 
 pub put-nothing : (window : WindowMap) (w : ℕ) (f : Drawing) → ((y x : ℕ) → f y x ≡ None) → put_windows window w f ≡ window
 put-nothing window w f h = grind (arith, nothing-at)

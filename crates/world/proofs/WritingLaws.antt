@@ -1,5 +1,5 @@
 -- What an edit writes: it leaves the picture as it is at every place of the screen where its frame isn't shown.
-use Rattle.std.proofs.Common.{◌≡◌, ℕ, ◌+◌, ◌<◌, ◌≤◌, Bool, true, false, if◌then◌else◌, ◌||◌, nat_lt, Option, Some, None, List, [], ◌∷◌, IsSomeAnd, ap, arith, ◌∙◌}
+use Rattle.std.proofs.Common.{◌≡◌, ℕ, ◌+◌, ◌<◌, ◌≤◌, Bool, true, false, if◌then◌else◌, ◌||◌, nat_lt, Option, Some, None, List, [], ◌∷◌, IsSomeAnd, arith}
 use Rattle.std.specs.Prelude.{MatchOption, option_and_then, ⊤}
 use Rattle.std.specs.Option.{option_map_or}
 use Rattle.cell.specs.Pictures.{Place}
@@ -23,7 +23,7 @@ use Rattle.world.specs.declared.settings.Settings.{Settings}
 -- ---- what stays
 
 put-view : (window : WindowMap) (w : ℕ) (f : Drawing) → SameView (put_windows window w f) window
-put-view window w f = record { outlines = outline-put window w f; places = own-put window w f }
+put-view window w f = grind (arith, (outline-put window w f), (own-put window w f))
 
 -- ---- a frame lies in its window
 
@@ -58,11 +58,7 @@ module _ (panels : Panels) (w y x : ℕ) where
 
   -- a drawing, in a window of the size of a
   drawn : (old : Windows) (a : Window) (f : Drawing) → outline_of (old.window w) ≡ Some (outline a) → Writes old (frame_of a f) (put old w f)
-  drawn old a f size = record {
-    view = put-view old.window w f;
-    kept = found-put old.window panels w a f y x size;
-    inside = drawing-inside old.window w a f size (frame_of a f) (frame_of-is a f);
-  }
+  drawn old a f size = record { view = put-view old.window w f; kept = found-put old.window panels w a f y x size; inside = grind (arith, frame_of-is, drawing-inside) }
 
   -- one frame and then another
   and-then : (old middle new : Windows) (one other : Option Rect) → Writes old one middle → Writes middle other new → Writes old (frame_of_two one other) new
@@ -70,15 +66,7 @@ module _ (panels : Panels) (w y x : ℕ) where
 
   -- and then settings
   and-set : (old middle : Windows) (frame : Option Rect) (change : Settings → Settings) → Writes old frame middle → Writes old frame (set middle w change)
-  and-set old middle frame change first =
-      let settings = set-cells middle w change in record {
-        view = record {
-          outlines = λ u. settings.outlines u ∙ first.view.outlines u;
-          places = λ u v z. own-same (set middle w change).window middle.window settings.backings u v z ∙ first.view.places u v z;
-        };
-        kept = λ standard free. found-dressed (set middle w change).window middle.window settings panels y x ∙ first.kept standard free;
-        inside = first.inside;
-      }
+  and-set old middle frame change first = grind (arith, (set-cells middle w change), (own-same (set middle w change).window middle.window), (found-dressed (set middle w change).window middle.window))
 
   settings-set : (old : Windows) (change : Settings → Settings) → Writes old None (set old w change)
   settings-set old change = and-set old old None change (as-it-was old)
@@ -104,14 +92,10 @@ module _ (panels : Panels) (w y x : ℕ) where
     to-next-line windows place size =
         let below : Windows = set windows w (with_cursor (a.settings.cursor.0 + 1, 0)) in
         let here : Windows = set windows w (with_cursor place) in
-        let region : Drawing = region_up windows.window w a in
-        chosen (scrolls a) windows (drawn_to windows w region (a.settings.cursor.0, 0)) (if is_last_line a a.settings.cursor.0 then here else below) (frame_of a region) None
-        (and-set windows (put windows w region) (frame_of a region) (with_cursor (a.settings.cursor.0, 0)) (drawn windows a region size))
-        (unframed (is_last_line a a.settings.cursor.0) here below (settings-set windows (with_cursor place))
-        (settings-set windows (with_cursor (a.settings.cursor.0 + 1, 0)))) where
+        chosen (scrolls a) windows (drawn_to windows w (region_up windows.window w a) (a.settings.cursor.0, 0)) (if is_last_line a a.settings.cursor.0 then here else below) _ None
+        (search (arith, and-set, drawn)) (unframed (is_last_line a a.settings.cursor.0) here below (settings-set windows _) (settings-set windows _)) where
           unframed : (b : Bool) (one other : Windows) → Writes windows None one → Writes windows None other → Writes windows None (if b then one else other)
-          unframed true one other h k = h
-          unframed false one other h k = k
+          unframed b one other h k = grind arith
 
     printed : (windows : Windows) (character : ℕ) → Sized windows → Writes windows (character_frame windows w character a) (character_printed windows w character a)
     printed windows character size =
@@ -139,27 +123,20 @@ module _ (panels : Panels) (w y x : ℕ) where
     typed windows character size = search (arith, chosen, ended, moved-or-printed, settings-set, printed)
 
   add-character : (windows : Windows) (character : ℕ) → Writes windows (frame_of_character windows w character) (after_character windows w character)
-  add-character windows character =
-      in-window windows (windows.window w) (typed_frame windows w character) (typed_in windows w character)
-      (λ a is. typed a windows character (ap (λ o. outline_of o) is))
+  add-character windows character = in-window windows _ _ _ (λ a is. typed a windows character (grind arith))
 
   add-text : (text : List ℕ) (windows : Windows) → Writes windows (text_frame windows w text) (after_text windows w text)
   add-text [] windows = as-it-was windows
-  add-text (character ∷ text) windows =
-      and-then windows (after_character windows w character) (after_text (after_character windows w character) w text) (frame_of_character windows w character)
-      (text_frame (after_character windows w character) w text) (add-character windows character) (add-text text (after_character windows w character))
+  add-text (character ∷ text) windows = and-then _ _ _ _ _ (add-character windows character) (add-text text (after_character windows w character))
 
   -- ---- one drawing
 
   draw : (windows : Windows) (drawing : Window → Drawing) → Writes windows (edit_frame windows (draws w drawing None)) (after_edit windows (draws w drawing None))
-  draw windows drawing =
-      in-window windows (windows.window w) (λ a. frame_of a (drawing a)) (λ a. put windows w (drawing a)) (λ a is. drawn windows a (drawing a) (ap (λ o. outline_of o) is))
+  draw windows drawing = in-window windows _ _ _ (λ a is. drawn windows a (drawing a) (grind arith))
 
   draw-set : (windows : Windows) (drawing : Window → Drawing) (change : Settings → Settings)
       → Writes windows (edit_frame windows (draws w drawing (Some change))) (after_edit windows (draws w drawing (Some change)))
-  draw-set windows drawing change =
-      in-window windows (windows.window w) (λ a. frame_of a (drawing a)) (λ a. set (put windows w (drawing a)) w change)
-      (λ a is. and-set windows (put windows w (drawing a)) (frame_of a (drawing a)) change (drawn windows a (drawing a) (ap (λ o. outline_of o) is)))
+  draw-set windows drawing change = in-window windows _ _ _ (λ a is. and-set windows _ _ change (drawn windows a (drawing a) (grind arith)))
 
 -- ---- each effect
 
@@ -175,14 +152,9 @@ found-edit windows panels edit y x sound below left free = grind (arith, write, 
 
 -- ---- the frame lies in the window
 
-framed : (window : WindowMap) (w : ℕ) (o : Option Rect) (r : Rect) → o ≡ Some r → MatchOption o ⊤ (IsInside window w) → (r.top ≤ r.bottom) × (r.left ≤ r.right) × HasPlace window w r.bottom r.right
-framed window w o r is h = grind arith
-
 pub inside-edit : (windows : Windows) (edit : Edit) (r : Rect) → edit_frame windows edit ≡ Some r
     → (r.top ≤ r.bottom) × (r.left ≤ r.right) × HasPlace windows.window (edit_window edit) r.bottom r.right
-inside-edit windows edit r is =
-    let written = write first_panels 0 0 windows edit in
-    framed windows.window (edit_window edit) (edit_frame windows edit) r is written.inside
+inside-edit windows edit r is = let written = write first_panels 0 0 windows edit in grind arith
 
 -- ---- what is shown where, and where windows are, is as it was
 
