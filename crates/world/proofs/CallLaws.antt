@@ -30,9 +30,8 @@ ready world call accepted = grind (arith, allowed-making, ordered-stacking)
 
 module _ (world : World) (y x : ℕ) (sound : IsSound world) (below : y < world.windows.lines) (left : x < world.windows.columns) where
   effect-keeps : (effect : Effect) → IsReady world effect → effect_shows_at world effect y x ≡ false → picture (after world effect) y x ≡ picture world y x
-  effect-keeps (arranges order) ready free = grind (arith, found-order, ready)
   effect-keeps composes ready free = ap (shown world.pairs) (found-unmarked world.windows.window (composed_windows world) world.panels y x)
-  effect-keeps effect ready free = grind (arith, found-lines)
+  effect-keeps effect ready free = grind (arith, found-lines, found-order)
 
   pub picture-kept : (call : Call) → refusal world call ≡ None → affects_place world call y x ≡ false → picture (world_after world call) y x ≡ picture world y x
   picture-kept call accepted free = grind (arith, effect-keeps, ready)

@@ -4,17 +4,17 @@ use Rattle.std.specs.Prelude.{option_and_then, ⊤}
 use Rattle.std.specs.Option.{option_map_or}
 use Rattle.std.specs.List.{list_any}
 use mathlib.Core.Path.{fun_ext}
-use Rattle.std.proofs.lemmas.Bool.{and_cases, eqb-false, false_from_ne_true, or_from, or_parts, ne_eqb}
-use Rattle.world.specs.Windows.{Backing, GridPlace, Window, WindowMap, Windows, ancestors_within, derives, leads, own, own_within, parent_number, window_limit}
+use Rattle.std.proofs.lemmas.Bool.{eqb-false, false_from_ne_true, or_from, ne_eqb}
+use Rattle.world.specs.Windows.{Backing, GridPlace, Window, WindowMap, Windows, ancestors_within, derives, own, own_within, parent_number, window_limit}
 use Rattle.world.specs.Panels.{Panels, cell_on_screen, found_from_top, holds, standard_screen, windows_from_top}
 use Rattle.world.specs.Sound.{AreSoundPanels, AreSoundWindows, IsSoundWindow}
 use Rattle.world.specs.Effects.{Change, after_change, deletes, after_marks, moved_to, moves, under_number, shifted_to}
 use Rattle.world.specs.calls.Making.{has_derived, has_no_parent, is_part_of}
 use Rattle.world.specs.calls.Affected.{change_shows_at, follows_at, move_shows_at}
 use Rattle.world.proofs.Allowed.{IsAllowed, not-in-panel, sound-panel}
-use Rattle.world.proofs.AncestorLaws.{cell_at-beside, cell_at-moved, changed-off, derives-moved, replaced-off}
+use Rattle.world.proofs.AncestorLaws.{cell_at-beside, cell_at-moved, derives-moved, replaced-off}
 use Rattle.world.proofs.Below.{any_below-some}
-use Rattle.world.proofs.ViewLaws.{SameCells, backing_of, cell_at-same, found-dressed, found-same, holds-same, on_screen-same, outline_of, passes-none, same-if}
+use Rattle.world.proofs.ViewLaws.{SameCells, cell_at-same, found-dressed, found-same, holds-same, on_screen-same, outline_of, passes-none, same-if}
 use Rattle.world.proofs.WritingLaws.{found-edit}
 
 -- ---- the standard screen derives from none, and isn't moved
@@ -45,7 +45,7 @@ module _ (windows : Windows) (panels : Panels) (w v z y x : ℕ) (sound : AreSou
   moved-kept u other beside = grind (arith, on_screen-same, moved, window-moved, cell_at-moved)
 
   stays : (u : ℕ) → holds windows.window u y x ≡ true → follows_at windows.window w y x u ≡ false → cell_on_screen moved u y x ≡ cell_on_screen windows.window u y x
-  stays u there fails = grind (arith, and_cases, or_parts, moved-kept, eqb-false, there)
+  stays u there fails = grind (arith, moved-kept, eqb-false)
 
   pub found-moved : move_shows_at windows.window panels w y x ≡ false → found_from_top (shifted_to windows w (v, z)).window panels y x ≡ found_from_top windows.window panels y x
   unfolding moved
@@ -109,16 +109,9 @@ module _ (window : WindowMap) (n : ℕ) (free : window n ≡ None) where
   other-parent : (k parent y x : ℕ) (p : GridPlace) → own_within k window parent y x ≡ Some p → parent ≡ n → ⊥
   other-parent k parent y x p found same = grind arith
 
-  abbrev Leading : ℕ → Type 0
-  Leading k = (u y x : ℕ) (p : GridPlace) → own_within k window u y x ≡ Some p → list_any (λ v. v == n) (ancestors_within k window u) ≡ false
-
-  window-leading : (k : ℕ) → Leading k → (u y x : ℕ) (p : GridPlace) (o : Option Window) → option_and_then (λ a. leads (own_within k window) u y x a.backing) o ≡ Some p
-      → list_any (λ v. v == n) (option_map_or (λ parent. parent ∷ ancestors_within k window parent) (option_and_then (λ a. parent_number a.backing) o) []) ≡ false
-  window-leading k before u y x p o found = grind (arith, or_from, ne_eqb, other-parent)
-
   leading : (k u y x : ℕ) (p : GridPlace) → own_within k window u y x ≡ Some p → list_any (λ v. v == n) (ancestors_within k window u) ≡ false
   leading zero u y x p found = cc
-  leading (suc k) u y x p found = window-leading k (leading k) u y x p (window u) found
+  leading (suc k) u y x p found = grind (arith, or_from, ne_eqb, other-parent, (leading k))
 
   leading-some : (u : ℕ) (o : Option GridPlace) → own window u 0 0 ≡ o → IsSome o → derives window n u ≡ false
   leading-some u o found some = grind (arith, leading)
@@ -134,14 +127,11 @@ found-new windows panels n o y x sound panels_sound free =
 -- ---- mvwin
 
 module _ (windows : Windows) (w v z : ℕ) where
-  outline-placed : (u : ℕ) → (u ≡ w → ⊥) → outline_of ((moved_to windows w (v, z)).window u) ≡ outline_of (windows.window u)
-  outline-placed u other = grind (arith, changed-off)
-
   pub holds-placed : (y x u : ℕ) → (u ≡ w → ⊥) → holds (moved_to windows w (v, z)).window u y x ≡ holds windows.window u y x
-  holds-placed y x u other = grind (arith, holds-same, outline-placed)
+  holds-placed y x u other = grind (arith, ne_eqb)
 
   pub cell-placed : (y x u : ℕ) → (u ≡ w → ⊥) → cell_on_screen (moved_to windows w (v, z)).window u y x ≡ cell_on_screen windows.window u y x
-  cell-placed y x u other = grind (arith, on_screen-same, outline-placed, cell_at-same, same-if)
+  cell-placed y x u other = grind (arith, on_screen-same, cell_at-same)
 
 found-placed : (windows : Windows) (panels : Panels) (w v z y x : ℕ) → AreSoundPanels windows.window panels → IsAllowed windows panels (moves w (v, z))
     → found_from_top (moved_to windows w (v, z)).window panels y x ≡ found_from_top windows.window panels y x
@@ -154,7 +144,7 @@ found-placed windows panels w v z y x sound allowed =
 -- ---- marks
 
 marked-cells : (windows : Windows) (test : ℕ → Bool) (change : ℕ → Window → Window) → SameCells (after_marks windows test change).window windows.window
-marked-cells windows test change = grind (arith, same-if, outline_of, backing_of)
+marked-cells windows test change = grind arith
 
 -- ---- each change
 

@@ -1,13 +1,13 @@
 -- A write through a window leaves the picture as it is at every place of the screen where its frame isn't shown.
-use Rattle.std.proofs.Common.{◌≡◌, ℕ, ◌-◌, ◌<◌, Bool, true, false, Option, Some, None, is_some, IsSome, IsSomeAnd, List, [], ◌∷◌, ap, arith, refl, sym, ◌∙◌}
+use Rattle.std.proofs.Common.{◌≡◌, ℕ, ◌-◌, ◌<◌, Bool, true, false, Option, Some, None, is_some, IsSome, IsSomeAnd, List, [], ◌∷◌, ap, arith, refl}
 use Rattle.std.specs.Option.{option_map_or}
 use Rattle.std.specs.List.{list_any}
 use mathlib.Core.Path.{fun_ext}
-use Rattle.std.proofs.lemmas.Bool.{and_parts, and_from, le-leb, lt-ltb, or_cases, or_left, or_parts, or_right}
+use Rattle.std.proofs.lemmas.Bool.{and_parts, and_from, le-leb, lt-ltb, or_parts}
 use Rattle.world.specs.Windows.{Drawing, GridPlace, HasPlace, Window, WindowMap, Windows, own, put_windows}
 use Rattle.world.specs.Frames.{Covers, IsFrameOf, IsIn, frame_of, frame_of_two}
 use Rattle.world.specs.Panels.{Panels, cell_on_screen, found_from_top, holds, place_of, standard_screen, windows_from_top, windows_of_picture}
-use Rattle.world.specs.Sharing.{is_same_place, shows_part_of}
+use Rattle.world.specs.Sharing.{is_same_place}
 use Rattle.world.specs.Sound.{AreSoundWindows}
 use Rattle.world.specs.calls.Affected.{frame_shows_at, shows_at}
 use Rattle.world.proofs.Below.{any_in-some, any_in-true}
@@ -40,15 +40,12 @@ module _ (new old : WindowMap) (same : SameView new old) where
 -- ---- the frame of two drawings is shown where either one's is
 
 pub any-more : (test more : ℕ → Bool) → ((u : ℕ) → test u ≡ true → more u ≡ true) → (us : List ℕ) → list_any test us ≡ true → list_any more us ≡ true
-any-more test more h [] some = grind arith
-any-more test more h (u ∷ us) some = grind (arith, or_cases, or_left, or_right, (any-more test more h us))
+any-more test more h [] some = some
+any-more test more h (u ∷ us) some = grind (arith, (any-more test more h us))
 
 module _ (window : WindowMap) (panels : Panels) (w y x : ℕ) where
   shows-more : (r s : Rect) → ((v z : ℕ) → IsIn r v z → IsIn s v z) → (u : ℕ) → shows_at window w r y x u ≡ true → shows_at window w s y x u ≡ true
-  shows-more r s h u shown =
-      let parts = and_parts _ _ shown in
-      let found = any_in-true r _ parts.1 in
-      and_from _ _ parts.0 (any_in-some s _ found.line found.column (h _ _ found.inside) found.passes)
+  shows-more r s h u shown = let parts = and_parts _ _ shown in let found = any_in-true r _ parts.1 in and_from _ _ parts.0 (any_in-some s _ found.line found.column (h _ _ found.inside) found.passes)
 
   unless-more : (r s : Rect) → ((v z : ℕ) → IsIn r v z → IsIn s v z) → frame_shows_at window panels w (Some s) y x ≡ false → frame_shows_at window panels w (Some r) y x ≡ false
   unless-more r s h free = grind (arith, (any-more (shows_at window w r y x) (shows_at window w s y x) (shows-more r s h) (windows_of_picture panels)))
@@ -78,19 +75,9 @@ module _ (window : WindowMap) (panels : Panels) (w : ℕ) (a : Window) (f : Draw
     apart : (s : GridPlace) → own window u line column ≡ Some s → (v z : ℕ) → HasPlace window w v z → IsSome (f v z) → own window w v z ≡ own window u line column → ⊥
     unfolding line column
     apart s leads v z has some same = by_frame (frame_of a f) (frame_of-is a f) free where
-      covers : Covers f a.columns a.lines v z
-      covers = let place = in-size a v z (window w) size has in record { below = place.0; left = place.1; some = some }
-
       by_frame : (o : Option Rect) → IsFrameOf (Covers f a.columns a.lines) o → option_map_or (λ r. shows_at window w r y x u) o false ≡ false → ⊥
-      by_frame None frame free = frame v z covers
-      by_frame (Some r) frame free =
-          let leads_w : is_some (own window w v z) ≡ true = ap (λ (o : Option GridPlace). is_some o) (same ∙ leads) in
-          let shown : shows_part_of window w r u line column ≡ true =
-          any_in-some r (λ k l. is_same_place (own window w k l) (own window u line column)) v z (frame.holds v z covers)
-          (same-self (own window w v z) (own window u line column) leads_w same) in
-          let seen : shows_at window w r y x u ≡ true = and_from (holds window u y x) (shows_part_of window w r u line column) there shown in
-          let never : true ≡ false = sym seen ∙ free in
-          cc
+      by_frame None frame free = grind (arith, in-size)
+      by_frame (Some r) frame free = grind (arith, in-size, (any_in-some r (λ k l. is_same_place (own window w k l) (own window u line column)) v z), same-self, and_from)
 
     cell-kept : cell_on_screen (put_windows window w f) u y x ≡ cell_on_screen window u y x
     unfolding line column
@@ -106,9 +93,8 @@ module _ (window : WindowMap) (panels : Panels) (w : ℕ) (a : Window) (f : Draw
       → found_from_top (put_windows window w f) panels y x ≡ found_from_top window panels y x
   found-put standard free =
       let none = each-free (frame_of a f) free in
-      found-same (put_windows window w f) window panels y x (λ u. option_map_or (λ r. shows_at window w r y x u) (frame_of a f) false) none.1
-      (λ p u is. holds-same (put_windows window w f) window u (outline-put window w f u) y x)
-      (λ p u is there fails. cell-kept u there fails) (cell-kept standard_screen standard none.0)
+      let kept = found-same (put_windows window w f) window panels y x (λ u. option_map_or (λ r. shows_at window w r y x u) (frame_of a f) false) in
+      grind (arith, holds-same, outline-put, cell-kept)
 
 -- ---- the standard screen holds each place of the screen
 

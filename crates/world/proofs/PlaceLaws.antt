@@ -27,7 +27,7 @@ same_if b o change h = grind arith
 
 pub places-changed : (windows : Windows) (w : ℕ) (change : Window → Window) → ((a : Window) → is_some (change a).place ≡ is_some a.place)
     → SamePlaces (record windows { window = with_change windows.window w change }) windows
-places-changed windows w change h u = grind (arith, same_if)
+places-changed windows w change h u = grind arith
 
 -- ---- edits and marks
 

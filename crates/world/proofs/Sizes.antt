@@ -1,12 +1,11 @@
 -- No effect changes the size of the screen, and so no call.
 use Rattle.std.proofs.Common.{arith}
-use Rattle.std.proofs.Common.{◌≡◌, ℕ, Bool, if◌then◌else◌, Option, List, [], ◌∷◌}
+use Rattle.std.proofs.Common.{◌≡◌, ℕ, Option, List, [], ◌∷◌}
 use Rattle.std.specs.Option.{option_map_or}
-use Rattle.cell.specs.Pictures.{Place}
 use Rattle.world.specs.Windows.{Window, Windows}
 use Rattle.world.specs.Panels.{Panels}
 use Rattle.world.specs.World.{World}
-use Rattle.world.specs.Typing.{after_character, after_text, character_printed, line_ended, to_next_line, typed_in}
+use Rattle.world.specs.Typing.{after_text}
 use Rattle.world.specs.Effects.{Change, Edit, Effect, Order, after, after_change, after_edit}
 use Rattle.world.specs.Effects.{windows_after}
 use Rattle.world.specs.calls.Dispatch.{world_after}
@@ -16,32 +15,14 @@ pub record SameSize (one other : Windows) : Type 0 where
   pub lines : one.lines ≡ other.lines
   pub columns : one.columns ≡ other.columns
 
-chosen : (b : Bool) (one other before : Windows) → SameSize one before → SameSize other before → SameSize (if b then one else other) before
-chosen b one other before h k = grind arith
-
 in_window : (windows : Windows) (o : Option Window) (change : Window → Windows) → ((a : Window) → SameSize (change a) windows) → SameSize (option_map_or change o windows) windows
 in_window windows o change h = grind arith
 
 -- ---- characters
 
-size-to_next_line : (windows : Windows) (w : ℕ) (a : Window) (place : Place) → SameSize (to_next_line windows w a place) windows
-size-to_next_line windows w a place = grind (arith, chosen)
-
-size-character_printed : (windows : Windows) (w character : ℕ) (a : Window) → SameSize (character_printed windows w character a) windows
-size-character_printed windows w character a = grind (arith, size-to_next_line, chosen)
-
-size-line_ended : (windows : Windows) (w : ℕ) (a : Window) → SameSize (line_ended windows w a) windows
-size-line_ended windows w a = grind (arith, size-to_next_line)
-
-size-typed_in : (windows : Windows) (w character : ℕ) (a : Window) → SameSize (typed_in windows w character a) windows
-size-typed_in windows w character a = grind (arith, chosen, size-line_ended, size-character_printed)
-
-size-character : (windows : Windows) (w character : ℕ) → SameSize (after_character windows w character) windows
-size-character windows w character = grind (arith, in_window, size-typed_in)
-
 size-text : (w : ℕ) (text : List ℕ) (windows : Windows) → SameSize (after_text windows w text) windows
 size-text w [] windows = grind arith
-size-text w (character ∷ text) windows = grind (arith, size-character, (size-text w text))
+size-text w (character ∷ text) windows = grind (arith, (size-text w text))
 
 -- ---- effects
 
@@ -55,7 +36,7 @@ pub size-order : (windows : Windows) (panels : Panels) (order : Order) → SameS
 size-order windows panels order = grind (arith, size-change)
 
 size-effect : (world : World) (effect : Effect) → SameSize (after world effect).windows world.windows
-size-effect world effect = grind (arith, size-order)
+size-effect world effect = grind (arith, size-text)
 
 pub size-call : (world : World) (call : Call) → SameSize (world_after world call).windows world.windows
 size-call world call = grind (arith, size-effect)

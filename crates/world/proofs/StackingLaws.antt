@@ -6,12 +6,12 @@ use Rattle.std.specs.List.{last_or, list_any}
 use Rattle.std.specs.Option.{option_map_or}
 use mathlib.Core.List.{reverse_aux}
 use mathlib.Core.Path.{fun_ext}
-use Rattle.std.proofs.lemmas.Bool.{and_parts, and_right, cases_eq, eq-eqb, eqb-true, ne_eqb, or_parts, true≢false}
+use Rattle.std.proofs.lemmas.Bool.{and_parts, cases_eq, eq-eqb, eqb-true, ne_eqb, or_parts}
 use Rattle.std.proofs.Math.Bool.{and-false}
 use Rattle.std.proofs.lemmas.List.{append-nil}
 use Rattle.std.proofs.lemmas.List.Elements.{filter-append}
 use Rattle.world.specs.Windows.{WindowMap, Windows}
-use Rattle.world.specs.Panels.{Panels, cell_on_screen, found_from_top, holds, owner, panel_holds, standard_screen, topmost, window_or_standard}
+use Rattle.world.specs.Panels.{Panels, cell_on_screen, found_from_top, holds, panel_holds, standard_screen, topmost, window_or_standard}
 use Rattle.world.specs.Sound.{AreSoundPanels, AreSoundWindows}
 use Rattle.world.specs.Effects.{Order, adds, carries, changes, with_entry, moved_to, orders, panels_after, windows_after}
 use Rattle.world.specs.calls.Affected.{order_shows_at, panel_shows_at, stays_on_top}
@@ -32,8 +32,8 @@ module _ (p : ℕ) (test : ℕ → Bool) where
       → find test (reverse_aux qs acc) ≡ find (off p test) (reverse_aux (without p qs) rest)
 
   search-off : (qs : List ℕ) → Searches qs
-  search-off [] acc rest unseen same = grind arith
-  search-off (q ∷ qs) acc rest unseen same = grind (arith, eqb-true, and_right, (search-off qs))
+  search-off [] acc rest unseen same = same
+  search-off (q ∷ qs) acc rest unseen same = grind (arith, eqb-true, (search-off qs))
 
 passing : (test : ℕ → Bool) (ks : List ℕ) (q : ℕ) → find test ks ≡ Some q → test q ≡ true
 passing test [] q found = cc
@@ -50,30 +50,21 @@ module _ (new old : WindowMap) (after before : Panels) (p y x : ℕ) where
     standard : cell_on_screen new standard_screen y x ≡ cell_on_screen old standard_screen y x
 
   module _ (kept : AreOthersKept) (unseen : (panel_shows_at old before p y x || panel_shows_at new after p y x) ≡ false) where
-    both : (panel_shows_at old before p y x ≡ false) × (panel_shows_at new after p y x ≡ false)
-    both = grind (arith, or_parts)
-
     off-same : off p (panel_holds new after y x) ≡ off p (panel_holds old before y x)
     off-same = fun_ext (λ q. elim (cases_eq q p) [
       | inl same ↦ let is = eq-eqb q p same in rw is refl
       | inr other ↦ ap (λ b. not (q == p) && b) (kept.hold q other)
     ])
 
-    owner-after : owner new after y x ≡ find (off p (panel_holds old before y x)) (reverse (without p before.visible))
-    owner-after = grind (arith, search-off, both, off-same)
-
-    owner-before : owner old before y x ≡ find (off p (panel_holds old before y x)) (reverse (without p before.visible))
-    owner-before = search-off p (panel_holds old before y x) before.visible [] [] both.0 refl
-
     is-other : (q : ℕ) → not (q == p) ≡ true → q ≢ p
-    is-other q h same = grind (arith, eq-eqb, true≢false)
+    is-other q h same = grind (arith, eq-eqb)
 
     cell-by : (o : Option ℕ) → find (off p (panel_holds old before y x)) (reverse (without p before.visible)) ≡ o
         → cell_on_screen new (window_or_standard after o) y x ≡ cell_on_screen old (window_or_standard before o) y x
     cell-by o found = grind (arith, and_parts, is-other, (passing (off p (panel_holds old before y x)) (reverse (without p before.visible))))
 
     found-kept : found_from_top new after y x ≡ found_from_top old before y x
-    found-kept = grind (arith, owner-after, owner-before, cell-by)
+    found-kept = grind (arith, search-off, off-same, or_parts, cell-by)
 
 -- where no window changes
 reordered : (window : WindowMap) (after before : Panels) (p y x : ℕ) → without p after.visible ≡ without p before.visible → ((q : ℕ) → q ≢ p → after.window q ≡ before.window q)
@@ -99,7 +90,7 @@ module _ (p : ℕ) where
 
     pub stays-found : without p after.visible ≡ without p before.visible → ((q : ℕ) → q ≢ p → after.window q ≡ before.window q)
         → found_from_top window after y x ≡ found_from_top window before y x
-    stays-found order others = let both = both-on-top in grind (arith, top-found, and-false, (reordered window after before p y x order others))
+    stays-found order others = grind (arith, both-on-top, top-found, and-false, (reordered window after before p y x order others))
 
 -- ---- the order without the panel p
 
@@ -161,7 +152,5 @@ ordered-stacking windows panels stacking accepted = grind (arith, passed, withou
 pub found-order : (windows : Windows) (panels : Panels) (order : Order) (y x : ℕ) → AreSoundWindows windows → AreSoundPanels windows.window panels
     → y < windows.lines → x < windows.columns → IsOrdered windows panels order → order_shows_at windows panels order y x ≡ false
     → found_from_top (windows_after windows panels order).window (panels_after panels order) y x ≡ found_from_top windows.window panels y x
-found-order windows panels (changes change) y x sound panels_sound below left ordered unseen = grind (arith, found-change)
 found-order windows panels (adds p w) y x sound panels_sound below left ordered unseen = search (arith, reordered, without-last, given-other)
-found-order windows panels (orders p order) y x sound panels_sound below left ordered unseen = grind (arith, stays-found, reordered)
-found-order windows panels (carries p place) y x sound panels_sound below left ordered unseen = grind (arith, found-move_panel)
+found-order windows panels order y x sound panels_sound below left ordered unseen = grind (arith, found-change, stays-found, reordered, found-move_panel)

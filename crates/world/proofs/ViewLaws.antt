@@ -110,7 +110,7 @@ found-dressed new old same panels y x = grind (arith, (found-same new old panels
 
 pub changed-cells : (window : WindowMap) (w : ℕ) (change : Window → Window) → ((a : Window) → outline_of (Some (change a)) ≡ outline_of (Some a))
     → ((a : Window) → backing_of (Some (change a)) ≡ backing_of (Some a)) → SameCells (with_change window w change) window
-changed-cells window w change outlines backings = grind (arith, outlines, same-if, backings)
+changed-cells window w change outlines backings = grind (arith, outlines, backings)
 
 pub set-cells : (windows : Windows) (w : ℕ) (change : Settings → Settings) → SameCells (set windows w change).window windows.window
-set-cells windows w change = grind (arith, changed-cells)
+set-cells windows w change = grind arith
