@@ -1,11 +1,11 @@
 -- Making, deleting and moving windows: which places of the screen keep what the search finds there.
-use Rattle.std.proofs.Common.{◌≡◌, ℕ, zero, suc, ◌<◌, Bool, true, false, ◌==◌, Option, Some, None, IsSome, MatchOption, [], ◌∷◌, ap, arith, refl, sym}
-use Rattle.std.specs.Prelude.{option_and_then, ⊤}
+use Rattle.std.proofs.Common.{◌≡◌, ℕ, zero, suc, ◌<◌, Bool, true, false, ◌==◌, Option, Some, None, IsSome, MatchOption, ap, arith, refl, sym}
+use Rattle.std.specs.Prelude.{⊤}
 use Rattle.std.specs.Option.{option_map_or}
 use Rattle.std.specs.List.{list_any}
 use mathlib.Core.Path.{fun_ext}
 use Rattle.std.proofs.lemmas.Bool.{eqb-false, false_from_ne_true, or_from, ne_eqb}
-use Rattle.world.specs.Windows.{Backing, GridPlace, Window, WindowMap, Windows, ancestors_within, derives, own, own_within, parent_number, window_limit}
+use Rattle.world.specs.Windows.{GridPlace, Window, WindowMap, Windows, ancestors_within, derives, own, own_within, window_limit}
 use Rattle.world.specs.Panels.{Panels, cell_on_screen, found_from_top, holds, standard_screen, windows_from_top}
 use Rattle.world.specs.Sound.{AreSoundPanels, AreSoundWindows, IsSoundWindow}
 use Rattle.world.specs.Effects.{Change, after_change, deletes, after_marks, moved_to, moves, under_number, shifted_to}
@@ -69,31 +69,16 @@ module _ (new old : WindowMap) (panels : Panels) (w : ℕ) (same : (v : ℕ) →
 
 -- ---- delwin
 
-module _ (window : WindowMap) (w : ℕ) (none : (v : ℕ) (a : Window) → window v ≡ Some a → is_part_of w a.backing ≡ false) where
-  abbrev Underived : ℕ → Type 0
-  Underived n = (u : ℕ) → list_any (λ v. v == w) (ancestors_within n window u) ≡ false
-
-  backing-underived : (n : ℕ) → Underived n → (s : Backing) → is_part_of w s ≡ false
-      → list_any (λ v. v == w) (option_map_or (λ parent. parent ∷ ancestors_within n window parent) (parent_number s) []) ≡ false
-  backing-underived n before s h = grind (arith, or_from)
-
-  window-underived : (n : ℕ) → Underived n → (u : ℕ) (o : Option Window) → window u ≡ o
-      → list_any (λ v. v == w) (option_map_or (λ parent. parent ∷ ancestors_within n window parent) (option_and_then (λ a. parent_number a.backing) o) []) ≡ false
-  window-underived n before u o is = grind (arith, backing-underived)
-
+module _ (window : WindowMap) (w : ℕ) (none : (v : ℕ) → option_map_or (λ a. is_part_of w a.backing) (window v) false ≡ false) where
   underived : (n u : ℕ) → list_any (λ v. v == w) (ancestors_within n window u) ≡ false
   underived zero u = refl
-  underived (suc n) u = window-underived n (underived n) u (window u) refl
-
-window-sound : (windows : Windows) (v : ℕ) (a : Window) (o : Option Window) → o ≡ Some a → MatchOption o ⊤ (IsSoundWindow windows v) → IsSoundWindow windows v a
-window-sound windows v a o is h = grind arith
+  underived (suc n) u = grind (arith, or_from, (none u), (underived n))
 
 no-part : (windows : Windows) (w : ℕ) → AreSoundWindows windows → has_derived windows.window w ≡ false
-    → (v : ℕ) (a : Window) → windows.window v ≡ Some a → is_part_of w a.backing ≡ false
+    → (v : ℕ) → option_map_or (λ a. is_part_of w a.backing) (windows.window v) false ≡ false
 unfolding window_limit
-no-part windows w sound none v a is = false_from_ne_true _ (λ derives_v.
-    let sound_v = window-sound windows v a (windows.window v) is (sound.each v) in
-    grind (arith, (any_below-some window_limit (λ u. option_map_or (λ b. is_part_of w b.backing) (windows.window u) false) v)))
+no-part windows w sound none v = false_from_ne_true _ (λ derives_v.
+    let sound_v = sound.each v in grind (arith, (any_below-some window_limit (λ u. option_map_or (λ a. is_part_of w a.backing) (windows.window u) false) v)))
 
 found-deleted : (windows : Windows) (panels : Panels) (w y x : ℕ) → AreSoundWindows windows → AreSoundPanels windows.window panels
     → IsAllowed windows panels (deletes w) → found_from_top (under_number windows w None).window panels y x ≡ found_from_top windows.window panels y x

@@ -34,7 +34,7 @@ put-same window w a f g there same = grind (arith, drawn-itself, ne_eqb, within-
 -- a write and then another are one write of a drawing that has both
 pub put-then : (window : WindowMap) (w : ℕ) (a : Window) (f g h : Drawing) → window w ≡ Some a → AreSame a (over g f) h
     → put_windows (put_windows window w f) w g ≡ put_windows window w h
-put-then window w a f g h there same = put-put window w f g ∙ put-same window w a (over g f) h there same
+put-then window w a f g h there same = rw put-put (put-same window w a (over g f) h there same)
 
 -- ---- what the window shows after a write
 

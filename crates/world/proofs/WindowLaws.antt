@@ -1,13 +1,13 @@
 -- Laws of windows that share cells.
 use Rattle.std.proofs.Common.{◌≡◌, ℕ, zero, suc, ◌+◌, ◌<◌, Bool, false, if◌then◌else◌, ◌==◌, ◌&&◌, ◌||◌, nat_lt, Option, Some, None, is_some, IsSome}
-use Rattle.std.proofs.Common.{ap, arith, refl, sym, ◌∙◌, zero-add, eq-eqb}
+use Rattle.std.proofs.Common.{ap, arith, refl, sym, ◌∙◌}
 use Rattle.std.specs.Prelude.{option_and_then}
 use Rattle.std.specs.Option.{option_map}
 use mathlib.Core.Path.{fun_ext}
-use Rattle.std.proofs.lemmas.Bool.{cases_lt, lt-ltb, le-ltb, le-leb, lt-leb, eqb-true}
+use Rattle.std.proofs.lemmas.Bool.{eqb-true}
 use Rattle.std.proofs.lemmas.Bool.Decides.{nat_tests}
 use Rattle.cell.specs.Glyphs.{Glyph}
-use Rattle.world.specs.Windows.{Backing, own_grid, part_of, Window, WindowMap, GridPlace, Drawing, leads, own_within, own, cell_of, cell_at, within, grid_drawing, laid_over}
+use Rattle.world.specs.Windows.{Backing, own_grid, part_of, Window, WindowMap, GridPlace, Drawing, leads, own_within, own, cell_at, within, grid_drawing, laid_over}
 use Rattle.world.specs.Windows.{joined_columns, touched_below, touched_by, after_drawing, put_from, put_windows, HasPlace, window_limit, onward, over}
 use Rattle.world.specs.declared.settings.Columns.{Columns}
 
@@ -17,15 +17,13 @@ own_within-onward zero window w y x a b = refl
 own_within-onward (suc n) window w y x a b = grind (arith, (own_within-onward n window))
 
 pub own-onward : (window : WindowMap) (w y x : ℕ) → own window w y x ≡ option_map (onward y x) (own window w 0 0)
-own-onward window w y x = ap (λ k. own window w k x) (sym (zero-add y)) ∙ ap (λ k. own window w (0 + y) k) (sym (zero-add x)) ∙ own_within-onward window_limit window w 0 0 y x
+own-onward window w y x = grind (arith, (own_within-onward window_limit window w 0 0 y x))
 
 -- a write changes no chain
 own_within-put_from : (n : ℕ) (window : WindowMap) (w : ℕ) (a : Option Window) (spot : Option GridPlace) (d : Drawing) (u y x : ℕ)
     → own_within n (put_from window w a spot d) u y x ≡ own_within n window u y x
 own_within-put_from zero window w a spot d u y x = refl
-own_within-put_from (suc n) window w None spot d u y x = refl
-own_within-put_from (suc n) window w (Some a) None d u y x = refl
-own_within-put_from (suc n) window w (Some a) (Some spot) d u y x = grind (arith, (own_within-put_from n window w (Some a) (Some spot) d))
+own_within-put_from (suc n) window w a spot d u y x = grind (arith, (own_within-put_from n window w a spot d))
 
 pub own-put : (window : WindowMap) (w : ℕ) (d : Drawing) (u y x : ℕ) → own (put_windows window w d) u y x ≡ own window u y x
 own-put window w d u y x = grind (arith, own_within-put_from)
@@ -73,24 +71,18 @@ pub put-put : (window : WindowMap) (w : ℕ) (f g : Drawing) → put_windows (pu
 put-put window w f g = grind (arith, own-put, twice-at)
 
 -- a place that the drawing leaves out keeps its cell
-kept-point : (t : Bool) (f : Drawing) (s : Backing) (y x : ℕ) → f y x ≡ None → cell_of (if t then laid_over f s else s) y x ≡ cell_of s y x
-kept-point t f s y x h = grind arith
-
 pub cell_at-kept : (window : WindowMap) (w : ℕ) (a : Window) (spot : GridPlace) (f : Drawing) (u y x : ℕ) (s : GridPlace) → window w ≡ Some a → own window w 0 0 ≡ Some spot
     → own window u y x ≡ Some s →
     grid_drawing spot (within a f) s.line s.column ≡ None → cell_at (put_windows window w f) u y x ≡ cell_at window u y x
-cell_at-kept window w a spot f u y x s e leads_w leads_u h = grind (arith, own-put, kept-point)
+cell_at-kept window w a spot f u y x s e leads_w leads_u h = grind (arith, own-put)
 
 -- a drawing of no cell changes nothing
 touched-nothing : (n : ℕ) (test : ℕ → Bool) (r : Option Columns) → ((x : ℕ) → test x ≡ false) → touched_below n test r ≡ r
 touched-nothing zero test r h = refl
 touched-nothing (suc n) test r h = grind (arith, (touched-nothing n test r h))
 
-none_either : (t : Bool) (o : Option Glyph) → o ≡ None → (if t then o else None) ≡ None
-none_either t o h = grind arith
-
 nothing-at : (w : ℕ) (a : Window) (spot : GridPlace) (f : Drawing) (u : ℕ) (o : Option Window) → ((y x : ℕ) → f y x ≡ None) → option_map (after_drawing w a spot f u) o ≡ o
-nothing-at w a spot f u o h = grind (arith, none_either, touched-nothing)
+nothing-at w a spot f u o h = grind (arith, touched-nothing)
 
 pub put-nothing : (window : WindowMap) (w : ℕ) (f : Drawing) → ((y x : ℕ) → f y x ≡ None) → put_windows window w f ≡ window
 put-nothing window w f h = grind (arith, nothing-at)
@@ -115,19 +107,19 @@ ends-at window further h w y x (Some a) e s found = ends-leads window further h 
 
 pub own-ends : (n : ℕ) (window : WindowMap) (w y x : ℕ) (s : GridPlace) → own_within n window w y x ≡ Some s → Ends window s
 own-ends zero window w y x s h = cc
-own-ends (suc n) window w y x s h = ends-at window (own_within n window) (own-ends n window) w y x (window w) refl s h
+own-ends (suc n) window w y x s h = ends-at _ _ (own-ends n window) w y x _ refl s h
 
 -- each place of the drawing is taken by every window that shows it
 pub put-takes : (window : WindowMap) (w : ℕ) (a : Window) (spot : GridPlace) (f : Drawing) (y x : ℕ) (c : Glyph) (u v z : ℕ) →
     window w ≡ Some a → own window w 0 0 ≡ Some spot → y < a.lines → x < a.columns → f y x ≡ Some c → own window u v z ≡ own window w y x → cell_at (put_windows window w f) u v z ≡ c
-put-takes window w a spot f y x c u v z e leads_w in_lines in_cols is same = grind (arith, own-onward, own-ends, own-put, eq-eqb, nat_tests)
+put-takes window w a spot f y x c u v z e leads_w in_lines in_cols is same = grind (arith, own-onward, own-ends, own-put, nat_tests)
 
 -- ---- a place that no written place of the window shares keeps its cell
 
 module _ (window : WindowMap) (w : ℕ) (f : Drawing) (u v z : ℕ)
     (apart : (y x : ℕ) → HasPlace window w y x → IsSome (f y x) → own window w y x ≡ own window u v z → ⊥) where
   pub put-keeps : cell_at (put_windows window w f) u v z ≡ cell_at window u v z
-  put-keeps = grind (arith, own-put, kept-point, cases_lt, lt-leb, le-leb, lt-ltb, le-ltb, own-onward, eqb-true)
+  put-keeps = grind (arith, own-put, nat_tests, own-onward, eqb-true)
 
 -- the places of a window with a grid of its own lead to the grid's
 pub own-own_grid : (window : WindowMap) (w : ℕ) (a : Window) (cells : ℕ → ℕ → Glyph) (y x : ℕ) → window w ≡ Some a → a.backing ≡ own_grid cells

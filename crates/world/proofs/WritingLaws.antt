@@ -4,7 +4,7 @@ use Rattle.std.specs.Prelude.{MatchOption, option_and_then, ⊤}
 use Rattle.std.specs.Option.{option_map_or}
 use Rattle.cell.specs.Pictures.{Place}
 use Rattle.world.specs.Windows.{Drawing, HasPlace, Window, WindowMap, Windows, put, put_windows}
-use Rattle.world.specs.Settings.{set, with_cursor}
+use Rattle.world.specs.Settings.{set}
 use Rattle.world.specs.Drawings.{at_place, to_end_of_line, written_glyph}
 use Rattle.world.specs.Frames.{Covers, IsFrameOf, frame_of, frame_of_two}
 use Rattle.world.specs.Panels.{Panels, first_panels, found_from_top, holds, standard_screen}
@@ -35,9 +35,6 @@ pub record IsInside (window : WindowMap) (w : ℕ) (r : Rect) : Type 0 where
 has-size : (a : Window) (y x : ℕ) (o : Option Window) → outline_of o ≡ Some (outline a) → y < a.lines → x < a.columns → IsSomeAnd o (λ b. (y < b.lines) × (x < b.columns))
 has-size a y x o is below left = grind arith
 
-same-size : (y x : ℕ) (o p : Option Window) → outline_of o ≡ outline_of p → IsSomeAnd p (λ b. (y < b.lines) × (x < b.columns)) → IsSomeAnd o (λ b. (y < b.lines) × (x < b.columns))
-same-size y x o p is h = grind (arith, has-size)
-
 drawing-inside : (window : WindowMap) (w : ℕ) (a : Window) (f : Drawing) → outline_of (window w) ≡ Some (outline a)
     → (o : Option Rect) → IsFrameOf (Covers f a.columns a.lines) o → MatchOption o ⊤ (IsInside window w)
 drawing-inside window w a f size o frame = grind (arith, has-size)
@@ -54,7 +51,7 @@ module _ (panels : Panels) (w y x : ℕ) where
 
   -- nothing
   as-it-was : (old : Windows) → Writes old None old
-  as-it-was old = grind (arith, own-same, found-dressed)
+  as-it-was old = grind arith
 
   -- a drawing, in a window of the size of a
   drawn : (old : Windows) (a : Window) (f : Drawing) → outline_of (old.window w) ≡ Some (outline a) → Writes old (frame_of a f) (put old w f)
@@ -62,11 +59,11 @@ module _ (panels : Panels) (w y x : ℕ) where
 
   -- one frame and then another
   and-then : (old middle new : Windows) (one other : Option Rect) → Writes old one middle → Writes middle other new → Writes old (frame_of_two one other) new
-  and-then old middle new one other first second = grind (arith, joined-free, holds-same, frame_shows-same, same-size)
+  and-then old middle new one other first second = grind (arith, joined-free, holds-same, frame_shows-same)
 
   -- and then settings
   and-set : (old middle : Windows) (frame : Option Rect) (change : Settings → Settings) → Writes old frame middle → Writes old frame (set middle w change)
-  and-set old middle frame change first = grind (arith, (set-cells middle w change), (own-same (set middle w change).window middle.window), (found-dressed (set middle w change).window middle.window))
+  and-set old middle frame change first = grind (arith, (set-cells middle w change), (own-same _ _ (set-cells middle w change).backings), (found-dressed _ _ (set-cells middle w change)))
 
   settings-set : (old : Windows) (change : Settings → Settings) → Writes old None (set old w change)
   settings-set old change = and-set old old None change (as-it-was old)
@@ -90,29 +87,21 @@ module _ (panels : Panels) (w y x : ℕ) where
 
     to-next-line : (windows : Windows) (place : Place) → Sized windows → Writes windows (next_line_frame windows.window w a) (to_next_line windows w a place)
     to-next-line windows place size =
-        let below : Windows = set windows w (with_cursor (a.settings.cursor.0 + 1, 0)) in
-        let here : Windows = set windows w (with_cursor place) in
-        chosen (scrolls a) windows (drawn_to windows w (region_up windows.window w a) (a.settings.cursor.0, 0)) (if is_last_line a a.settings.cursor.0 then here else below) _ None
-        (search (arith, and-set, drawn)) (unframed (is_last_line a a.settings.cursor.0) here below (settings-set windows _) (settings-set windows _)) where
+        chosen (scrolls a) windows (drawn_to windows w (region_up windows.window w a) (a.settings.cursor.0, 0)) _ _ None
+        (search (arith, and-set, drawn)) (unframed (is_last_line a a.settings.cursor.0) _ _ (settings-set windows _) (settings-set windows _)) where
           unframed : (b : Bool) (one other : Windows) → Writes windows None one → Writes windows None other → Writes windows None (if b then one else other)
           unframed b one other h k = grind arith
 
     printed : (windows : Windows) (character : ℕ) → Sized windows → Writes windows (character_frame windows w character a) (character_printed windows w character a)
     printed windows character size =
-        let glyph : Drawing = at_place a.settings.cursor (written_glyph a.settings character) in
-        chosen (nat_lt (a.settings.cursor.1 + 1) a.columns) windows (drawn_to windows w glyph (a.settings.cursor.0, a.settings.cursor.1 + 1))
-        (to_next_line (put windows w glyph) w a a.settings.cursor) (frame_of a glyph) (frame_of_two (frame_of a glyph) (next_line_frame (put windows w glyph).window w a))
-        (and-set windows (put windows w glyph) (frame_of a glyph) (with_cursor (a.settings.cursor.0, a.settings.cursor.1 + 1)) (drawn windows a glyph size))
-        (and-then windows (put windows w glyph) (to_next_line (put windows w glyph) w a a.settings.cursor) (frame_of a glyph)
-        (next_line_frame (put windows w glyph).window w a) (drawn windows a glyph size)
-        (to-next-line (put windows w glyph) a.settings.cursor (sized-put windows glyph size)))
+        let first = drawn windows a (at_place a.settings.cursor (written_glyph a.settings character)) size in
+        chosen (nat_lt (a.settings.cursor.1 + 1) a.columns) windows _ _ _ _ (and-set windows _ _ _ first)
+        (and-then windows _ _ _ _ first (to-next-line _ a.settings.cursor (sized-put windows _ size)))
 
     ended : (windows : Windows) → Sized windows → Writes windows (line_ended_frame windows w a) (line_ended windows w a)
     ended windows size =
         let rest : Drawing = to_end_of_line a.settings.cursor a.settings.background in
-        and-then windows (put windows w rest) (to_next_line (put windows w rest) w a (a.settings.cursor.0, 0)) (frame_of a rest)
-        (next_line_frame (put windows w rest).window w a) (drawn windows a rest size)
-        (to-next-line (put windows w rest) (a.settings.cursor.0, 0) (sized-put windows rest size))
+        and-then windows _ _ _ _ (drawn windows a rest size) (to-next-line _ _ (sized-put windows rest size))
 
     -- a carriage return, a backspace or a printed character
     moved-or-printed : (left right : Bool) (old one other printing : Windows) (f : Option Rect) → Writes old None one → Writes old None other → Writes old f printing
@@ -154,7 +143,7 @@ found-edit windows panels edit y x sound below left free = grind (arith, write, 
 
 pub inside-edit : (windows : Windows) (edit : Edit) (r : Rect) → edit_frame windows edit ≡ Some r
     → (r.top ≤ r.bottom) × (r.left ≤ r.right) × HasPlace windows.window (edit_window edit) r.bottom r.right
-inside-edit windows edit r is = let written = write first_panels 0 0 windows edit in grind arith
+inside-edit windows edit r is = grind (arith, (write first_panels 0 0 windows edit))
 
 -- ---- what is shown where, and where windows are, is as it was
 
@@ -162,4 +151,4 @@ pub view-edit : (windows : Windows) (edit : Edit) → SameView (after_edit windo
 view-edit windows edit = (write first_panels 0 0 windows edit).view
 
 pub there-still : (new old : WindowMap) → SameView new old → (w y x : ℕ) → HasPlace old w y x → HasPlace new w y x
-there-still new old same w y x h = grind (arith, same-size)
+there-still new old same w y x h = grind arith
