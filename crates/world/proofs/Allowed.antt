@@ -39,7 +39,7 @@ sound-panel window panels sound p u is = grind arith
 
 pub not-in-panel : (window : WindowMap) (panels : Panels) (w : ℕ) → AreSoundPanels window panels → is_in_panel panels w ≡ false
     → (p u : ℕ) → panels.window p ≡ Some u → u ≡ w → ⊥
-not-in-panel window panels w sound none p u is same = grind (arith, sound-panel, in_panel-some)
+not-in-panel window panels w sound none p u is same = grind (arith, in_panel-some)
 
 -- ---- the calls that make, move and delete
 

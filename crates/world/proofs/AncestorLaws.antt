@@ -1,16 +1,13 @@
 -- Where all windows but one are as they were: what each window shows that neither is that one nor derives from it.
 use Rattle.std.proofs.Common.{◌≡◌, ℕ, zero, suc, false, ◌==◌, Option, Some, refl, arith}
 use Rattle.std.specs.List.{list_any}
-use Rattle.std.proofs.lemmas.Bool.{eqb-false, ne_eqb, or_parts}
-use Rattle.world.specs.Windows.{Window, WindowMap, Windows, GridPlace, ancestors_within, cell_at, with_change, derives, own_within}
+use Rattle.std.proofs.lemmas.Bool.{eqb-false, or_parts}
+use Rattle.world.specs.Windows.{Window, WindowMap, Windows, GridPlace, ancestors_within, cell_at, derives, own_within}
 use Rattle.world.specs.Windows.{with_window, window_limit}
 use Rattle.world.specs.Effects.{shifted_to}
 
-pub changed-off : (window : WindowMap) (w : ℕ) (change : Window → Window) (v : ℕ) → (v ≡ w → ⊥) → with_change window w change v ≡ window v
-changed-off window w change v other = grind (arith, ne_eqb)
-
 pub replaced-off : (window : WindowMap) (w : ℕ) (o : Option Window) (v : ℕ) → (v ≡ w → ⊥) → with_window window w o v ≡ window v
-replaced-off window w o v other = grind (arith, ne_eqb)
+replaced-off window w o v other = grind arith
 
 module _ (new old : WindowMap) (w : ℕ) (same : (v : ℕ) → (v ≡ w → ⊥) → new v ≡ old v) where
   -- within n windows of the chain from window u on, which is another, none is window w
@@ -19,19 +16,19 @@ module _ (new old : WindowMap) (w : ℕ) (same : (v : ℕ) → (v ≡ w → ⊥)
 
   own_within-kept : (n u y x : ℕ) → (u ≡ w → ⊥) → Beside n u → own_within n new u y x ≡ own_within n old u y x
   own_within-kept zero u y x other h = refl
-  own_within-kept (suc n) u y x other h = grind (arith, or_parts, eqb-false, (own_within-kept n))
+  own_within-kept (suc n) u y x other h = grind (arith, or_parts, (own_within-kept n))
 
   -- the grid isn't that window's either
   own_within-elsewhere : (n u y x : ℕ) (p : GridPlace) → (u ≡ w → ⊥) → Beside n u → own_within n old u y x ≡ Some p → p.grid ≡ w → ⊥
   own_within-elsewhere zero u y x p other h found is = cc
-  own_within-elsewhere (suc n) u y x p other h found is = grind (arith, or_parts, eqb-false, (own_within-elsewhere n))
+  own_within-elsewhere (suc n) u y x p other h found is = grind (arith, eqb-false, (own_within-elsewhere n))
 
   pub cell_at-beside : (u y x : ℕ) → (u ≡ w → ⊥) → derives old w u ≡ false → cell_at new u y x ≡ cell_at old u y x
   cell_at-beside u y x other apart = grind (arith, own_within-kept, own_within-elsewhere)
 
 -- what a shift leaves as it is
 pub cell_at-moved : (windows : Windows) (w y x u v z : ℕ) → (u ≡ w → ⊥) → derives windows.window w u ≡ false → cell_at (shifted_to windows w (y, x)).window u v z ≡ cell_at windows.window u v z
-cell_at-moved windows w y x u v z other apart = grind (arith, cell_at-beside, changed-off)
+cell_at-moved windows w y x u v z other apart = grind (arith, cell_at-beside)
 
 -- and its parents, and whose descendant a window is
 module _ (windows : Windows) (w y x : ℕ) where

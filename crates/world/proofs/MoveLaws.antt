@@ -1,20 +1,19 @@
 -- Making, deleting and moving windows: which places of the screen keep what the search finds there.
-use Rattle.std.proofs.Common.{◌≡◌, ℕ, zero, suc, ◌<◌, Bool, true, false, ◌==◌, Option, Some, None, IsSome, MatchOption, ap, arith, refl, sym}
-use Rattle.std.specs.Prelude.{⊤}
+use Rattle.std.proofs.Common.{◌≡◌, ℕ, zero, suc, ◌<◌, Bool, true, false, ◌==◌, Option, Some, None, IsSome, ap, arith, refl}
 use Rattle.std.specs.Option.{option_map_or}
 use Rattle.std.specs.List.{list_any}
 use mathlib.Core.Path.{fun_ext}
 use Rattle.std.proofs.lemmas.Bool.{eqb-false, false_from_ne_true, or_from, ne_eqb}
 use Rattle.world.specs.Windows.{GridPlace, Window, WindowMap, Windows, ancestors_within, derives, own, own_within, window_limit}
 use Rattle.world.specs.Panels.{Panels, cell_on_screen, found_from_top, holds, standard_screen, windows_from_top}
-use Rattle.world.specs.Sound.{AreSoundPanels, AreSoundWindows, IsSoundWindow}
+use Rattle.world.specs.Sound.{AreSoundPanels, AreSoundWindows}
 use Rattle.world.specs.Effects.{Change, after_change, deletes, after_marks, moved_to, moves, under_number, shifted_to}
 use Rattle.world.specs.calls.Making.{has_derived, has_no_parent, is_part_of}
 use Rattle.world.specs.calls.Affected.{change_shows_at, follows_at, move_shows_at}
 use Rattle.world.proofs.Allowed.{IsAllowed, not-in-panel, sound-panel}
 use Rattle.world.proofs.AncestorLaws.{cell_at-beside, cell_at-moved, derives-moved, replaced-off}
 use Rattle.world.proofs.Below.{any_below-some}
-use Rattle.world.proofs.ViewLaws.{SameCells, cell_at-same, found-dressed, found-same, holds-same, on_screen-same, outline_of, passes-none, same-if}
+use Rattle.world.proofs.ViewLaws.{SameCells, cell_at-same, found-dressed, found-same, holds-same, on_screen-same, outline_of, passes-none}
 use Rattle.world.proofs.WritingLaws.{found-edit}
 
 -- ---- the standard screen derives from none, and isn't moved
@@ -26,10 +25,10 @@ standard-beside windows w sound = grind arith
 
 module _ (windows : Windows) (w v z : ℕ) where
   window-moved : (u : ℕ) → outline_of ((shifted_to windows w (v, z)).window u) ≡ outline_of (windows.window u)
-  window-moved u = grind (arith, same-if)
+  window-moved u = grind arith
 
   pub move_shows-moved : (panels : Panels) (y x : ℕ) → move_shows_at (shifted_to windows w (v, z)).window panels w y x ≡ move_shows_at windows.window panels w y x
-  move_shows-moved panels y x = ap (λ (test : ℕ → Bool). list_any test (windows_from_top panels)) (fun_ext (λ u. grind (arith, derives-moved, holds-same, window-moved)))
+  move_shows-moved panels y x = ap (λ (test : ℕ → Bool). list_any test (windows_from_top panels)) (fun_ext (λ u. grind (arith, derives-moved)))
 
 -- ---- mvderwin
 
@@ -37,19 +36,16 @@ module _ (windows : Windows) (panels : Panels) (w v z y x : ℕ) (sound : AreSou
   moved : WindowMap
   moved = (shifted_to windows w (v, z)).window
 
-  other-standard : standard_screen ≡ w → ⊥
-  other-standard same = grind arith
-
   moved-kept : (u : ℕ) → (u ≡ w → ⊥) → derives windows.window w u ≡ false → cell_on_screen moved u y x ≡ cell_on_screen windows.window u y x
   unfolding moved
-  moved-kept u other beside = grind (arith, on_screen-same, moved, window-moved, cell_at-moved)
+  moved-kept u other beside = grind (arith, on_screen-same, cell_at-moved)
 
   stays : (u : ℕ) → holds windows.window u y x ≡ true → follows_at windows.window w y x u ≡ false → cell_on_screen moved u y x ≡ cell_on_screen windows.window u y x
   stays u there fails = grind (arith, moved-kept, eqb-false)
 
   pub found-moved : move_shows_at windows.window panels w y x ≡ false → found_from_top (shifted_to windows w (v, z)).window panels y x ≡ found_from_top windows.window panels y x
   unfolding moved
-  found-moved free = grind (arith, (found-same moved windows.window panels y x (follows_at windows.window w y x)), holds-same, window-moved, stays, moved-kept, other-standard, standard-beside)
+  found-moved free = grind (arith, (found-same moved windows.window panels y x (follows_at windows.window w y x)), holds-same, window-moved, stays, moved-kept, standard-beside)
 
 -- ---- a window in no panel, from which none in a panel derives: whatever becomes of it, no place shows another cell
 
@@ -58,13 +54,12 @@ module _ (new old : WindowMap) (panels : Panels) (w : ℕ) (same : (v : ℕ) →
   Apart u = (u ≡ w → ⊥) × (derives old w u ≡ false)
 
   apart-kept : (y x u : ℕ) → Apart u → cell_on_screen new u y x ≡ cell_on_screen old u y x
-  apart-kept y x u apart = grind (arith, on_screen-same, outline_of, cell_at-beside)
+  apart-kept y x u apart = grind (arith, on_screen-same, cell_at-beside)
 
   pub found-apart : ((p u : ℕ) → panels.window p ≡ Some u → Apart u) → Apart standard_screen
       → (y x : ℕ) → found_from_top new panels y x ≡ found_from_top old panels y x
   found-apart apart standard y x =
-      found-same new old panels y x (λ u. false) (passes-none (windows_from_top panels))
-      (λ p u is. let other = apart p u is in holds-same new old u (ap (λ o. outline_of o) (same u other.0)) y x)
+      found-same new old panels y x (λ u. false) (passes-none (windows_from_top panels)) (λ p u is. let other = apart p u is in grind arith)
       (λ p u is there fails. apart-kept y x u (apart p u is)) (apart-kept y x standard_screen standard)
 
 -- ---- delwin
@@ -83,10 +78,9 @@ no-part windows w sound none v = false_from_ne_true _ (λ derives_v.
 found-deleted : (windows : Windows) (panels : Panels) (w y x : ℕ) → AreSoundWindows windows → AreSoundPanels windows.window panels
     → IsAllowed windows panels (deletes w) → found_from_top (under_number windows w None).window panels y x ≡ found_from_top windows.window panels y x
 found-deleted windows panels w y x sound panels_sound allowed =
-    let none : (u : ℕ) → derives windows.window w u ≡ false = λ u. underived windows.window w (no-part windows w sound allowed.2) window_limit u in
-    found-apart (under_number windows w None).window windows.window panels w (replaced-off windows.window w None)
-    (λ p u is. (not-in-panel windows.window panels w panels_sound allowed.1 p u is, none u))
-    (λ same. eqb-false w standard_screen allowed.0 (sym same), none standard_screen) y x
+    let none = underived windows.window w (no-part windows w sound allowed.2) window_limit in
+    let apart = not-in-panel windows.window panels w panels_sound allowed.1 in
+    found-apart (under_number windows w None).window windows.window panels w (replaced-off windows.window w None) (grind (arith, apart, none)) (grind (arith, eqb-false, none)) y x
 
 -- ---- a new window has a number that no window had
 
@@ -101,13 +95,10 @@ module _ (window : WindowMap) (n : ℕ) (free : window n ≡ None) where
   leading-some : (u : ℕ) (o : Option GridPlace) → own window u 0 0 ≡ o → IsSome o → derives window n u ≡ false
   leading-some u o found some = grind (arith, leading)
 
-chain-ends : (windows : Windows) (u : ℕ) (o : Option Window) → MatchOption o ⊤ (IsSoundWindow windows u) → IsSome o → IsSome (own windows.window u 0 0)
-chain-ends windows u o h some = grind arith
-
 found-new : (windows : Windows) (panels : Panels) (n : ℕ) (o : Option Window) (y x : ℕ) → AreSoundWindows windows → AreSoundPanels windows.window panels → windows.window n ≡ None
     → found_from_top (under_number windows n o).window panels y x ≡ found_from_top windows.window panels y x
 found-new windows panels n o y x sound panels_sound free =
-    grind (arith, (found-apart (under_number windows n o).window windows.window panels n (replaced-off windows.window n o)), sound-panel, leading-some, chain-ends)
+    grind (arith, (found-apart (under_number windows n o).window windows.window panels n (replaced-off windows.window n o)), sound-panel, leading-some)
 
 -- ---- mvwin
 
@@ -121,10 +112,9 @@ module _ (windows : Windows) (w v z : ℕ) where
 found-placed : (windows : Windows) (panels : Panels) (w v z y x : ℕ) → AreSoundPanels windows.window panels → IsAllowed windows panels (moves w (v, z))
     → found_from_top (moved_to windows w (v, z)).window panels y x ≡ found_from_top windows.window panels y x
 found-placed windows panels w v z y x sound allowed =
-    let apart : (p u : ℕ) → panels.window p ≡ Some u → u ≡ w → ⊥ = not-in-panel windows.window panels w sound allowed.1 in
+    let apart = not-in-panel windows.window panels w sound allowed.1 in
     found-same (moved_to windows w (v, z)).window windows.window panels y x (λ u. false) (passes-none (windows_from_top panels))
-    (λ p u is. holds-placed windows w v z y x u (apart p u is)) (λ p u is here fails. cell-placed windows w v z y x u (apart p u is))
-    (cell-placed windows w v z y x standard_screen (λ same. eqb-false w standard_screen allowed.0 (sym same)))
+    (λ p u is. grind (arith, holds-placed)) (λ p u is here fails. grind (arith, cell-placed)) (grind (arith, cell-placed, eqb-false))
 
 -- ---- marks
 

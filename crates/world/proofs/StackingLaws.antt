@@ -6,7 +6,7 @@ use Rattle.std.specs.List.{last_or, list_any}
 use Rattle.std.specs.Option.{option_map_or}
 use mathlib.Core.List.{reverse_aux}
 use mathlib.Core.Path.{fun_ext}
-use Rattle.std.proofs.lemmas.Bool.{and_parts, cases_eq, eq-eqb, eqb-true, ne_eqb, or_parts}
+use Rattle.std.proofs.lemmas.Bool.{cases_eq, eq-eqb, eqb-true, ne_eqb, or_parts}
 use Rattle.std.proofs.Math.Bool.{and-false}
 use Rattle.std.proofs.lemmas.List.{append-nil}
 use Rattle.std.proofs.lemmas.List.Elements.{filter-append}
@@ -56,12 +56,9 @@ module _ (new old : WindowMap) (after before : Panels) (p y x : ℕ) where
       | inr other ↦ ap (λ b. not (q == p) && b) (kept.hold q other)
     ])
 
-    is-other : (q : ℕ) → not (q == p) ≡ true → q ≢ p
-    is-other q h same = grind (arith, eq-eqb)
-
     cell-by : (o : Option ℕ) → find (off p (panel_holds old before y x)) (reverse (without p before.visible)) ≡ o
         → cell_on_screen new (window_or_standard after o) y x ≡ cell_on_screen old (window_or_standard before o) y x
-    cell-by o found = grind (arith, and_parts, is-other, (passing (off p (panel_holds old before y x)) (reverse (without p before.visible))))
+    cell-by o found = grind (arith, eq-eqb, (passing (off p (panel_holds old before y x)) (reverse (without p before.visible))))
 
     found-kept : found_from_top new after y x ≡ found_from_top old before y x
     found-kept = grind (arith, search-off, off-same, or_parts, cell-by)
@@ -95,14 +92,8 @@ module _ (p : ℕ) where
 -- ---- the order without the panel p
 
 module _ (p : ℕ) where
-  itself : (p == p) ≡ true
-  itself = eq-eqb p p refl
-
-  without-itself : (qs : List ℕ) → without p (p ∷ qs) ≡ without p qs
-  without-itself qs = rw itself refl
-
   without-last : (qs : List ℕ) → without p (qs ++ p ∷ []) ≡ without p qs
-  without-last qs = grind (arith, filter-append, without-itself, append-nil)
+  without-last qs = grind (arith, filter-append, append-nil, eq-eqb)
 
   without-twice : (qs : List ℕ) → without p (without p qs) ≡ without p qs
   without-twice [] = refl
@@ -114,26 +105,20 @@ module _ (p : ℕ) where
 -- ---- move_panel
 
 module _ (windows : Windows) (panels : Panels) (p v z y x : ℕ) (sound : AreSoundPanels windows.window panels) where
-  other-window : (q u : ℕ) → q ≢ p → panels.window q ≡ Some u → u ≢ window_or_standard panels (Some p)
-  other-window = grind (arith, sound-panel)
-
-  other-standard : (o : Option ℕ) → panels.window p ≡ o → is_none o ≡ false → standard_screen ≢ unwrap_or o standard_screen
-  other-standard o is some same = grind (arith, sound-panel)
-
   holds-by : (q : ℕ) → q ≢ p → (o : Option ℕ) → panels.window q ≡ o
       → option_map_or (λ u. holds (moved_to windows (window_or_standard panels (Some p)) (v, z)).window u y x) o false ≡ option_map_or (λ u. holds windows.window u y x) o false
-  holds-by q other o is = grind (arith, holds-placed, other-window)
+  holds-by q other o is = grind (arith, holds-placed, sound-panel)
 
   cells-by : (q : ℕ) → q ≢ p → (o : Option ℕ) → panels.window q ≡ o → option_map_or (λ u. holds windows.window u y x) o false ≡ true
       → cell_on_screen (moved_to windows (window_or_standard panels (Some p)) (v, z)).window (unwrap_or o standard_screen) y x ≡ cell_on_screen windows.window (unwrap_or o standard_screen) y x
-  cells-by q other o is there = grind (arith, cell-placed, other-window)
+  cells-by q other o is there = grind (arith, cell-placed, sound-panel)
 
   found-move_panel : is_none (panels.window p) ≡ false
       → (panel_shows_at windows.window panels p y x || panel_shows_at (moved_to windows (window_or_standard panels (Some p)) (v, z)).window panels p y x) ≡ false
       → found_from_top (moved_to windows (window_or_standard panels (Some p)) (v, z)).window panels y x ≡ found_from_top windows.window panels y x
   found-move_panel some unseen =
       found-kept (moved_to windows (window_or_standard panels (Some p)) (v, z)).window windows.window panels panels p y x
-      (grind (arith, holds-by, cells-by, cell-placed, other-standard)) unseen
+      (grind (arith, holds-by, cells-by, cell-placed, sound-panel)) unseen
 
 -- ---- what each effect wants, which the tests of its call give
 
@@ -145,7 +130,7 @@ IsOrdered windows panels (orders p order) = (without p order.visible ≡ without
 IsOrdered windows panels (carries p place) = is_none (panels.window p) ≡ false
 
 pub ordered-stacking : (windows : Windows) (panels : Panels) (stacking : Stacking) → stacking_refusal windows panels stacking ≡ None → IsOrdered windows panels (stacking_order panels stacking)
-ordered-stacking windows panels stacking accepted = grind (arith, passed, without-itself, without-twice, without-last, given-other)
+ordered-stacking windows panels stacking accepted = grind (arith, passed, without-twice, without-last, ne_eqb, eq-eqb)
 
 -- ---- each effect
 
