@@ -1,5 +1,5 @@
 -- A write through a window leaves the picture as it is at every place of the screen where its frame isn't shown.
-use Rattle.std.proofs.Common.{◌≡◌, ℕ, ◌-◌, ◌<◌, Bool, true, false, Option, Some, None, is_some, IsSome, IsSomeAnd, List, [], ◌∷◌, ap, arith, refl}
+use Rattle.std.proofs.Common.{◌≡◌, ℕ, ◌-◌, ◌<◌, Bool, true, false, Option, Some, None, IsSome, List, [], ◌∷◌, ap, arith, refl}
 use Rattle.std.specs.Option.{option_map_or}
 use Rattle.std.specs.List.{list_any}
 use mathlib.Core.Path.{fun_ext}
@@ -57,12 +57,6 @@ module _ (window : WindowMap) (panels : Panels) (w y x : ℕ) where
 
 -- ---- one write
 
-same-self : (o p : Option GridPlace) → is_some o ≡ true → o ≡ p → is_same_place o p ≡ true
-same-self o p some e = grind (arith, true-same)
-
-in-size : (a : Window) (v z : ℕ) (o : Option Window) → outline_of o ≡ Some (outline a) → IsSomeAnd o (λ c. (v < c.lines) × (z < c.columns)) → (v < a.lines) × (z < a.columns)
-in-size a v z o is has = grind arith
-
 -- the window has the size of a
 module _ (window : WindowMap) (panels : Panels) (w : ℕ) (a : Window) (f : Drawing) (y x : ℕ) (size : outline_of (window w) ≡ Some (outline a)) where
   module _ (u : ℕ) (there : holds window u y x ≡ true) (free : option_map_or (λ r. shows_at window w r y x u) (frame_of a f) false ≡ false) where
@@ -76,8 +70,8 @@ module _ (window : WindowMap) (panels : Panels) (w : ℕ) (a : Window) (f : Draw
     unfolding line column
     apart s leads v z has some same = by_frame (frame_of a f) (frame_of-is a f) free where
       by_frame : (o : Option Rect) → IsFrameOf (Covers f a.columns a.lines) o → option_map_or (λ r. shows_at window w r y x u) o false ≡ false → ⊥
-      by_frame None frame free = grind (arith, in-size)
-      by_frame (Some r) frame free = grind (arith, in-size, (any_in-some r (λ k l. is_same_place (own window w k l) (own window u line column)) v z), same-self, and_from)
+      by_frame None frame free = grind arith
+      by_frame (Some r) frame free = grind (arith, (any_in-some r (λ k l. is_same_place (own window w k l) (own window u line column)) v z), true-same)
 
     cell-kept : cell_on_screen (put_windows window w f) u y x ≡ cell_on_screen window u y x
     unfolding line column

@@ -80,14 +80,13 @@ top-found test p [] is holds = cc
 top-found test p (q ∷ qs) is holds = grind (arith, last-found)
 
 -- what it says that the panel p is on top with a window
-module _ (p : ℕ) where
-  module _ (window : WindowMap) (after before : Panels) (y x : ℕ) (stays : stays_on_top before after p ≡ true) where
-    both-on-top : (w : ℕ) × (topmost before ≡ Some p) × (before.window p ≡ Some w) × (topmost after ≡ Some p) × (after.window p ≡ Some w)
-    both-on-top = grind (arith, eqb-true)
+module _ (p : ℕ) (window : WindowMap) (after before : Panels) (y x : ℕ) (stays : stays_on_top before after p ≡ true) where
+  both-on-top : (w : ℕ) × (topmost before ≡ Some p) × (before.window p ≡ Some w) × (topmost after ≡ Some p) × (after.window p ≡ Some w)
+  both-on-top = grind (arith, eqb-true)
 
-    pub stays-found : without p after.visible ≡ without p before.visible → ((q : ℕ) → q ≢ p → after.window q ≡ before.window q)
-        → found_from_top window after y x ≡ found_from_top window before y x
-    stays-found order others = grind (arith, both-on-top, top-found, and-false, (reordered window after before p y x order others))
+  pub stays-found : without p after.visible ≡ without p before.visible → ((q : ℕ) → q ≢ p → after.window q ≡ before.window q)
+      → found_from_top window after y x ≡ found_from_top window before y x
+  stays-found order others = grind (arith, both-on-top, top-found, and-false, (reordered window after before p y x order others))
 
 -- ---- the order without the panel p
 

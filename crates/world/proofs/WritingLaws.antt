@@ -1,15 +1,15 @@
 -- What an edit writes: it leaves the picture as it is at every place of the screen where its frame isn't shown.
-use Rattle.std.proofs.Common.{◌≡◌, ℕ, ◌+◌, ◌<◌, ◌≤◌, Bool, true, false, if◌then◌else◌, ◌||◌, nat_lt, Option, Some, None, List, [], ◌∷◌, IsSomeAnd, arith}
+use Rattle.std.proofs.Common.{◌≡◌, ℕ, ◌+◌, ◌<◌, ◌≤◌, Bool, true, false, if◌then◌else◌, ◌||◌, nat_lt, Option, Some, None, List, [], ◌∷◌, arith}
 use Rattle.std.specs.Prelude.{MatchOption, option_and_then, ⊤}
 use Rattle.std.specs.Option.{option_map_or}
 use Rattle.cell.specs.Pictures.{Place}
 use Rattle.world.specs.Windows.{Drawing, HasPlace, Window, WindowMap, Windows, put, put_windows}
 use Rattle.world.specs.Settings.{set}
 use Rattle.world.specs.Drawings.{at_place, to_end_of_line, written_glyph}
-use Rattle.world.specs.Frames.{Covers, IsFrameOf, frame_of, frame_of_two}
+use Rattle.world.specs.Frames.{frame_of, frame_of_two}
 use Rattle.world.specs.Panels.{Panels, first_panels, found_from_top, holds, standard_screen}
 use Rattle.world.specs.Sound.{AreSoundWindows}
-use Rattle.world.specs.Typing.{after_character, after_text, character_frame, character_printed, drawn_to, frame_of_character, is_last_line, line_ended}
+use Rattle.world.specs.Typing.{after_character, after_text, character_frame, character_printed, drawn_to, is_last_line, line_ended}
 use Rattle.world.specs.Typing.{line_ended_frame, next_line_frame, region_up, scrolls, text_frame, to_next_line, typed_frame, typed_in}
 use Rattle.world.specs.Effects.{Edit, after_edit, draws, edit_frame, edit_window, sets, types}
 use Rattle.world.specs.calls.Affected.{edit_shows_at, frame_shows_at}
@@ -32,13 +32,6 @@ pub record IsInside (window : WindowMap) (w : ℕ) (r : Rect) : Type 0 where
   pub columns : r.left ≤ r.right
   pub last : HasPlace window w r.bottom r.right
 
-has-size : (a : Window) (y x : ℕ) (o : Option Window) → outline_of o ≡ Some (outline a) → y < a.lines → x < a.columns → IsSomeAnd o (λ b. (y < b.lines) × (x < b.columns))
-has-size a y x o is below left = grind arith
-
-drawing-inside : (window : WindowMap) (w : ℕ) (a : Window) (f : Drawing) → outline_of (window w) ≡ Some (outline a)
-    → (o : Option Rect) → IsFrameOf (Covers f a.columns a.lines) o → MatchOption o ⊤ (IsInside window w)
-drawing-inside window w a f size o frame = grind (arith, has-size)
-
 -- ---- what a call does that writes in a frame
 
 module _ (panels : Panels) (w y x : ℕ) where
@@ -55,7 +48,11 @@ module _ (panels : Panels) (w y x : ℕ) where
 
   -- a drawing, in a window of the size of a
   drawn : (old : Windows) (a : Window) (f : Drawing) → outline_of (old.window w) ≡ Some (outline a) → Writes old (frame_of a f) (put old w f)
-  drawn old a f size = record { view = put-view old.window w f; kept = found-put old.window panels w a f y x size; inside = grind (arith, frame_of-is, drawing-inside) }
+  drawn old a f size = record {
+    view = put-view old.window w f;
+    kept = found-put old.window panels w a f y x size;
+    inside = let frame = frame_of-is a f in grind arith;
+  }
 
   -- one frame and then another
   and-then : (old middle new : Windows) (one other : Option Rect) → Writes old one middle → Writes middle other new → Writes old (frame_of_two one other) new
@@ -73,7 +70,7 @@ module _ (panels : Panels) (w y x : ℕ) where
 
   in-window : (old : Windows) (o : Option Window) (frame : Window → Option Rect) (change : Window → Windows)
       → ((a : Window) → o ≡ Some a → Writes old (frame a) (change a)) → Writes old (option_and_then frame o) (option_map_or change o old)
-  in-window old o frame change h = grind (arith, as-it-was)
+  in-window old o frame change h = grind arith
 
   -- ---- characters
 
@@ -81,9 +78,6 @@ module _ (panels : Panels) (w y x : ℕ) where
     -- the window has the size of a
     abbrev Sized : Windows → Type 0
     Sized windows = outline_of (windows.window w) ≡ Some (outline a)
-
-    sized-put : (windows : Windows) (f : Drawing) → Sized windows → Sized (put windows w f)
-    sized-put windows f size = grind (arith, outline-put)
 
     to-next-line : (windows : Windows) (place : Place) → Sized windows → Writes windows (next_line_frame windows.window w a) (to_next_line windows w a place)
     to-next-line windows place size =
@@ -96,12 +90,10 @@ module _ (panels : Panels) (w y x : ℕ) where
     printed windows character size =
         let first = drawn windows a (at_place a.settings.cursor (written_glyph a.settings character)) size in
         chosen (nat_lt (a.settings.cursor.1 + 1) a.columns) windows _ _ _ _ (and-set windows _ _ _ first)
-        (and-then windows _ _ _ _ first (to-next-line _ a.settings.cursor (sized-put windows _ size)))
+        (and-then windows _ _ _ _ first (to-next-line _ a.settings.cursor (grind (arith, outline-put))))
 
     ended : (windows : Windows) → Sized windows → Writes windows (line_ended_frame windows w a) (line_ended windows w a)
-    ended windows size =
-        let rest : Drawing = to_end_of_line a.settings.cursor a.settings.background in
-        and-then windows _ _ _ _ (drawn windows a rest size) (to-next-line _ _ (sized-put windows rest size))
+    ended windows size = and-then windows _ _ _ _ (drawn windows a (to_end_of_line a.settings.cursor a.settings.background) size) (to-next-line _ _ (grind (arith, outline-put)))
 
     -- a carriage return, a backspace or a printed character
     moved-or-printed : (left right : Bool) (old one other printing : Windows) (f : Option Rect) → Writes old None one → Writes old None other → Writes old f printing
@@ -111,28 +103,18 @@ module _ (panels : Panels) (w y x : ℕ) where
     typed : (windows : Windows) (character : ℕ) → Sized windows → Writes windows (typed_frame windows w character a) (typed_in windows w character a)
     typed windows character size = search (arith, chosen, ended, moved-or-printed, settings-set, printed)
 
-  add-character : (windows : Windows) (character : ℕ) → Writes windows (frame_of_character windows w character) (after_character windows w character)
-  add-character windows character = in-window windows _ _ _ (λ a is. typed a windows character (grind arith))
-
   add-text : (text : List ℕ) (windows : Windows) → Writes windows (text_frame windows w text) (after_text windows w text)
-  add-text [] windows = as-it-was windows
-  add-text (character ∷ text) windows = and-then _ _ _ _ _ (add-character windows character) (add-text text (after_character windows w character))
-
+  add-text [] windows = grind arith
+  add-text (character ∷ text) windows = and-then _ _ _ _ _ (in-window windows _ _ _ (λ a is. typed a windows character (grind arith))) (add-text text (after_character windows w character))
   -- ---- one drawing
-
-  draw : (windows : Windows) (drawing : Window → Drawing) → Writes windows (edit_frame windows (draws w drawing None)) (after_edit windows (draws w drawing None))
-  draw windows drawing = in-window windows _ _ _ (λ a is. drawn windows a (drawing a) (grind arith))
-
-  draw-set : (windows : Windows) (drawing : Window → Drawing) (change : Settings → Settings)
-      → Writes windows (edit_frame windows (draws w drawing (Some change))) (after_edit windows (draws w drawing (Some change)))
-  draw-set windows drawing change = in-window windows _ _ _ (λ a is. and-set windows _ _ change (drawn windows a (drawing a) (grind arith)))
 
 -- ---- each effect
 
 write : (panels : Panels) (y x : ℕ) (windows : Windows) (edit : Edit) → Writes panels (edit_window edit) y x windows (edit_frame windows edit) (after_edit windows edit)
 write panels y x windows (sets w change) = settings-set panels w y x windows change
-write panels y x windows (draws w drawing None) = draw panels w y x windows drawing
-write panels y x windows (draws w drawing (Some change)) = draw-set panels w y x windows drawing change
+write panels y x windows (draws w drawing None) = in-window panels w y x windows _ _ _ (λ a is. drawn panels w y x windows a (drawing a) (grind arith))
+write panels y x windows (draws w drawing (Some change)) =
+    in-window panels w y x windows _ _ _ (λ a is. and-set panels w y x windows _ _ change (drawn panels w y x windows a (drawing a) (grind arith)))
 write panels y x windows (types w text) = add-text panels w y x text windows
 
 pub found-edit : (windows : Windows) (panels : Panels) (edit : Edit) (y x : ℕ) → AreSoundWindows windows → y < windows.lines → x < windows.columns
