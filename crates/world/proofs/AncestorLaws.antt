@@ -1,7 +1,7 @@
 -- Where all windows but one are as they were: what each window shows that neither is that one nor derives from it.
 use Rattle.std.proofs.Common.{◌≡◌, ℕ, zero, suc, false, ◌==◌, Option, Some, refl, arith}
 use Rattle.std.specs.List.{list_any}
-use Rattle.std.proofs.lemmas.Bool.{eqb-false, or_parts}
+use Rattle.std.proofs.lemmas.Bool.{eqb-false}
 use Rattle.world.specs.Windows.{Window, WindowMap, Windows, GridPlace, ancestors_within, cell_at, derives, own_within}
 use Rattle.world.specs.Windows.{with_window, window_limit}
 use Rattle.world.specs.Effects.{shifted_to}
@@ -16,7 +16,7 @@ module _ (new old : WindowMap) (w : ℕ) (same : (v : ℕ) → (v ≡ w → ⊥)
 
   own_within-kept : (n u y x : ℕ) → (u ≡ w → ⊥) → Beside n u → own_within n new u y x ≡ own_within n old u y x
   own_within-kept zero u y x other h = refl
-  own_within-kept (suc n) u y x other h = grind (arith, or_parts, (own_within-kept n))
+  own_within-kept (suc n) u y x other h = grind (arith, (own_within-kept n))
 
   -- the grid isn't that window's either
   own_within-elsewhere : (n u y x : ℕ) (p : GridPlace) → (u ≡ w → ⊥) → Beside n u → own_within n old u y x ≡ Some p → p.grid ≡ w → ⊥

@@ -48,7 +48,7 @@ module _ (window : WindowMap) (panels : Panels) (w y x : ℕ) where
   shows-more r s h u shown = let parts = and_parts _ _ shown in let found = any_in-true r _ parts.1 in and_from _ _ parts.0 (any_in-some s _ found.line found.column (h _ _ found.inside) found.passes)
 
   unless-more : (r s : Rect) → ((v z : ℕ) → IsIn r v z → IsIn s v z) → frame_shows_at window panels w (Some s) y x ≡ false → frame_shows_at window panels w (Some r) y x ≡ false
-  unless-more r s h free = grind (arith, (any-more (shows_at window w r y x) (shows_at window w s y x) (shows-more r s h) (windows_of_picture panels)))
+  unless-more r s h free = grind (arith, (any-more _ _ (shows-more r s h) (windows_of_picture panels)))
 
   pub joined-free : (o p : Option Rect) → frame_shows_at window panels w (frame_of_two o p) y x ≡ false
       → (frame_shows_at window panels w o y x ≡ false) × (frame_shows_at window panels w p y x ≡ false)

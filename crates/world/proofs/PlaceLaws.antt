@@ -7,7 +7,7 @@ use Rattle.cell.specs.Pictures.{Place}
 use Rattle.world.specs.Windows.{Window, WindowMap, Windows, with_change}
 use Rattle.world.specs.Panels.{Panels, standard_screen}
 use Rattle.world.specs.Sound.{AreSoundPanels}
-use Rattle.world.specs.Effects.{Change, Edit, after_change, after_edit, asks, deletes, edits, makes, marks, moved_to, moves, under_number, shifts}
+use Rattle.world.specs.Effects.{Change, Edit, after_change, after_edit, deletes, edits, moved_to, under_number}
 use Rattle.world.proofs.Allowed.{IsAllowed, not-in-panel}
 use Rattle.world.proofs.PictureLaws.{SameView}
 use Rattle.world.proofs.WritingLaws.{view-edit}
@@ -49,13 +49,9 @@ keeps-moved windows v place w h = grind arith
 -- the window of a panel
 pub keeps-change : (windows : Windows) (panels : Panels) (change : Change) → AreSoundPanels windows.window panels → IsAllowed windows panels change
     → (p w : ℕ) → panels.window p ≡ Some w → has_place (windows.window w) ≡ true → has_place ((after_change windows change).window w) ≡ true
-keeps-change windows panels (asks reply) sound allowed p w is h = grind arith
 keeps-change windows panels (edits edit) sound allowed p w is h = grind (arith, places-edit)
-keeps-change windows panels (marks test change) sound allowed p w is h = grind (arith, same_if)
-keeps-change windows panels (makes n a) sound allowed p w is h = grind (arith, keeps-other)
 keeps-change windows panels (deletes v) sound allowed p w is h = keeps-other windows v None w (λ same. not-in-panel windows.window panels v sound allowed.1 p w is same) h
-keeps-change windows panels (moves v place) sound allowed p w is h = grind (arith, keeps-moved)
-keeps-change windows panels (shifts v place) sound allowed p w is h = grind (arith, places-changed)
+keeps-change windows panels change sound allowed p w is h = grind (arith, keeps-other, keeps-moved, places-changed, same_if)
 
 -- ---- panels
 

@@ -1,5 +1,5 @@
 -- The places at which one window shows cells of a rectangle of another are a rectangle, or there are none.
-use Rattle.std.proofs.Common.{◌≡◌, ℕ, ◌+◌, ◌-◌, ◌<◌, ◌≤◌, min, true, Option, Some, None, arith, refl, eq-eqb}
+use Rattle.std.proofs.Common.{◌≡◌, ℕ, ◌+◌, ◌-◌, ◌<◌, ◌≤◌, min, true, Option, Some, arith, refl, eq-eqb}
 use Rattle.std.proofs.lemmas.Bool.{cases_eq, cases_lt, and_parts, and_from, eqb-true}
 use Rattle.world.specs.Windows.{Window, WindowMap, GridPlace, own}
 use Rattle.world.specs.Frames.{AreRectangle}
@@ -32,12 +32,6 @@ module _ (window : WindowMap) (w : ℕ) (r : Rect) (u : ℕ) where
 
   found : (y x : ℕ) → SharesPart window w r u y x → FoundIn r (λ v z. is_same_place (own window w v z) (own window u y x))
   found y x has = any_in-true r (λ v z. is_same_place (own window w v z) (own window u y x)) has.1
-
-  unless-first : own window w 0 0 ≡ None → Rectangle
-  unless-first h = nowhere (λ y x has. let at = found y x has in grind (arith, own-onward))
-
-  unless-second : own window u 0 0 ≡ None → Rectangle
-  unless-second h = nowhere (λ y x has. let at = found y x has in grind (arith, own-onward))
 
   module _ (b : Window) (p q : GridPlace) (there : window u ≡ Some b) (leads_w : own window w 0 0 ≡ Some p) (leads_u : own window u 0 0 ≡ Some q) where
     -- the first line and column, and the first ones after them that aren't shared
@@ -92,10 +86,8 @@ module _ (window : WindowMap) (w : ℕ) (r : Rect) (u : ℕ) where
     rectangle-there = grind (arith, cases_eq, cases_lt, rectangle-of, outside)
 
   rectangle-by : (o : Option Window) (s t : Option GridPlace) → window u ≡ o → own window w 0 0 ≡ s → own window u 0 0 ≡ t → Rectangle
-  rectangle-by None s t there leads_w leads_u = grind (arith, nowhere)
-  rectangle-by (Some b) None t there leads_w leads_u = unless-first leads_w
-  rectangle-by (Some b) (Some p) None there leads_w leads_u = unless-second leads_u
   rectangle-by (Some b) (Some p) (Some q) there leads_w leads_u = rectangle-there b p q there leads_w leads_u
+  rectangle-by o s t there leads_w leads_u = nowhere (λ y x has. let at = found y x has in grind (arith, own-onward))
 
   pub shared-rectangle : (o : Option Rect) × AreRectangle (SharesPart window w r u) o
   shared-rectangle = rectangle-by (window u) (own window w 0 0) (own window u 0 0) refl refl refl

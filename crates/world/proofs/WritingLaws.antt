@@ -106,7 +106,6 @@ module _ (panels : Panels) (w y x : ℕ) where
   add-text : (text : List ℕ) (windows : Windows) → Writes windows (text_frame windows w text) (after_text windows w text)
   add-text [] windows = grind arith
   add-text (character ∷ text) windows = and-then _ _ _ _ _ (in-window windows _ _ _ (λ a is. typed a windows character (grind arith))) (add-text text (after_character windows w character))
-  -- ---- one drawing
 
 -- ---- each effect
 
