@@ -1,15 +1,14 @@
 -- What each effect requires of windows and panels, and that the tests of its call ensure it.
-use Rattle.std.proofs.Common.{◌≡◌, ◌⊎◌, ℕ, zero, suc, ◌+◌, Bool, false, if◌then◌else◌, ◌==◌, Option, Some, None, inl, inr, subst, refl, arith}
-use Rattle.std.specs.Prelude.{MatchOption, is_none, unwrap_or, ⊤}
+use Rattle.std.proofs.Common.{◌≡◌, ℕ, zero, suc, ◌+◌, Bool, false, if◌then◌else◌, ◌==◌, Option, Some, None, arith}
+use Rattle.std.specs.Prelude.{⊤}
 use Rattle.cell.specs.declared.refusal.Refusal.{Refusal}
-use Rattle.world.specs.Windows.{Window, WindowMap, Windows}
+use Rattle.world.specs.Windows.{WindowMap, Windows}
 use Rattle.world.specs.Panels.{Panels, is_in_panel, standard_screen}
 use Rattle.world.specs.Sound.{AreSoundPanels, IsSoundPanel}
 use Rattle.world.specs.Effects.{Change, asks, deletes, edits, makes, marks, moves, shifts}
-use Rattle.world.specs.calls.Making.{free_among, has_derived, has_no_parent, is_full, making_change, making_refusal, new_number, next_window}
+use Rattle.world.specs.calls.Making.{free_among, has_derived, has_no_parent, making_change, making_refusal}
 use Rattle.world.proofs.PanelLaws.{in_panel-some}
 use Rattle.world.specs.declared.call.Making.{Making}
-use Rattle.world.specs.declared.call.Making.TheVariants.{Delwin}
 
 -- a new window has a free number; one that is deleted or moved is in no panel, and is not the standard screen
 abbrev pub IsAllowed : Windows → Panels → Change → Type 0
@@ -29,39 +28,21 @@ passed test e rest h = grind arith
 
 -- ---- a free number
 
-pub free-step : (a : Option Window) (k w : ℕ) (rest : Option ℕ) → (if is_none a then Some k else rest) ≡ Some w → ((k ≡ w) × (a ≡ None)) ⊎ (rest ≡ Some w)
-free-step a k w rest h = grind arith
-
 free-number : (n k : ℕ) (window : WindowMap) (w : ℕ) → free_among n k window ≡ Some w → window w ≡ None
 free-number zero k window w is = cc
-free-number (suc n) k window w is = elim (free-step (window k) k w (free_among n (k + 1) window) is) [
-  | inl both ↦ subst (λ (v : ℕ). window v ≡ None) both.0 both.1
-  | inr rest ↦ free-number n (k + 1) window w rest
-]
-
-next-free : (window : WindowMap) (o : Option ℕ) → new_number window ≡ o → is_none o ≡ false → window (unwrap_or o standard_screen) ≡ None
-next-free window o is full = grind (arith, free-number)
+free-number (suc n) k window w is = grind (arith, (free-number n (k + 1) window w))
 
 -- ---- what panels have
 
-panel-sound : (window : WindowMap) (panels : Panels) (p u : ℕ) (o : Option ℕ) → o ≡ Some u → MatchOption o ⊤ (IsSoundPanel window panels p) → IsSoundPanel window panels p u
-panel-sound window panels p u None is h = cc
-panel-sound window panels p u (Some v) is h = let same : v ≡ u = cc in subst (λ (k : ℕ). IsSoundPanel window panels p k) same h
-
 pub sound-panel : (window : WindowMap) (panels : Panels) → AreSoundPanels window panels → (p u : ℕ) → panels.window p ≡ Some u → IsSoundPanel window panels p u
-sound-panel window panels sound p u is = panel-sound window panels p u (panels.window p) is (sound.each p)
+sound-panel window panels sound p u is = grind arith
 
 pub not-in-panel : (window : WindowMap) (panels : Panels) (w : ℕ) → AreSoundPanels window panels → is_in_panel panels w ≡ false
     → (p u : ℕ) → panels.window p ≡ Some u → u ≡ w → ⊥
-not-in-panel window panels w sound none p u is same = grind (arith, sound-panel, in_panel-some)
+not-in-panel window panels w sound none p u is same = grind (arith, in_panel-some)
 
 -- ---- the calls that make, move and delete
 
--- a call that makes a window, and isn't refused, finds a free number
-makes-free : (windows : Windows) → is_full windows.window ≡ false → windows.window (next_window windows) ≡ None
-makes-free windows full = next-free windows.window (new_number windows.window) refl full
-
 pub allowed-making : (windows : Windows) (panels : Panels) (making : Making) → making_refusal windows (is_in_panel panels) making ≡ None
     → IsAllowed windows panels (making_change windows making)
-allowed-making windows panels (Delwin win) accepted = grind (arith, passed)
-allowed-making windows panels making accepted = grind (arith, makes-free, passed)
+allowed-making windows panels making accepted = grind (arith, passed, free-number)

@@ -1,83 +1,40 @@
 -- Where all windows but one are as they were: what each window shows that neither is that one nor derives from it.
-use Rattle.std.proofs.Common.{◌≡◌, ℕ, zero, suc, false, ◌==◌, Option, Some, None, [], ◌∷◌, ap, refl, ◌∙◌, arith}
-use Rattle.std.specs.Prelude.{option_and_then}
-use Rattle.std.specs.Option.{option_map_or}
+use Rattle.std.proofs.Common.{◌≡◌, ℕ, zero, suc, false, ◌==◌, Option, Some, refl, arith}
 use Rattle.std.specs.List.{list_any}
-use mathlib.Core.Path.{fun_ext}
-use Rattle.std.proofs.lemmas.Bool.{eqb-false, ne_eqb, or_parts}
-use Rattle.cell.specs.Glyphs.{blank}
-use Rattle.world.specs.Windows.{Backing, Window, WindowMap, Windows, GridPlace, ancestors_within, cell_at, cell_in_grid, cell_of, with_change, derives, leads, own, own_within}
-use Rattle.world.specs.Windows.{parent_number, parent_of, with_window, window_limit}
-use Rattle.world.proofs.ViewLaws.{same-if}
-use Rattle.world.specs.Effects.{shifted_to, with_offset, with_part}
-
-pub changed-off : (window : WindowMap) (w : ℕ) (change : Window → Window) (v : ℕ) → (v ≡ w → ⊥) → with_change window w change v ≡ window v
-changed-off window w change v other = let apart = ne_eqb v w other in rw apart refl
+use Rattle.std.proofs.lemmas.Bool.{eqb-false}
+use Rattle.world.specs.Windows.{Window, WindowMap, Windows, GridPlace, ancestors_within, cell_at, derives, own_within}
+use Rattle.world.specs.Windows.{with_window, window_limit}
+use Rattle.world.specs.Effects.{shifted_to}
 
 pub replaced-off : (window : WindowMap) (w : ℕ) (o : Option Window) (v : ℕ) → (v ≡ w → ⊥) → with_window window w o v ≡ window v
-replaced-off window w o v other = let apart = ne_eqb v w other in rw apart refl
+replaced-off window w o v other = grind arith
 
 module _ (new old : WindowMap) (w : ℕ) (same : (v : ℕ) → (v ≡ w → ⊥) → new v ≡ old v) where
   -- within n windows of the chain from window u on, which is another, none is window w
   abbrev Beside : ℕ → ℕ → Type 0
   Beside n u = list_any (λ v. v == w) (ancestors_within n old u) ≡ false
 
-  abbrev Kept : ℕ → Type 0
-  Kept n = (u y x : ℕ) → (u ≡ w → ⊥) → Beside n u → own_within n new u y x ≡ own_within n old u y x
-
-  leads-kept : (n : ℕ) → Kept n → (u y x : ℕ) (s : Backing) → list_any (λ v. v == w) (option_map_or (λ parent. parent ∷ ancestors_within n old parent) (parent_number s) []) ≡ false
-      → leads (own_within n new) u y x s ≡ leads (own_within n old) u y x s
-  leads-kept n kept u y x s h = grind (arith, or_parts, eqb-false)
-
-  then-kept : (n : ℕ) → Kept n → (u y x : ℕ) (o : Option Window)
-      → list_any (λ v. v == w) (option_map_or (λ parent. parent ∷ ancestors_within n old parent) (option_and_then (λ a. parent_number a.backing) o) []) ≡ false
-      → option_and_then (λ a. leads (own_within n new) u y x a.backing) o ≡ option_and_then (λ a. leads (own_within n old) u y x a.backing) o
-  then-kept n kept u y x o h = grind (arith, leads-kept)
-
   own_within-kept : (n u y x : ℕ) → (u ≡ w → ⊥) → Beside n u → own_within n new u y x ≡ own_within n old u y x
   own_within-kept zero u y x other h = refl
-  own_within-kept (suc n) u y x other h = grind (arith, then-kept, (own_within-kept n))
+  own_within-kept (suc n) u y x other h = grind (arith, (own_within-kept n))
 
   -- the grid isn't that window's either
-  abbrev Elsewhere : ℕ → Type 0
-  Elsewhere n = (u y x : ℕ) (p : GridPlace) → (u ≡ w → ⊥) → Beside n u → own_within n old u y x ≡ Some p → p.grid ≡ w → ⊥
-
-  leads-elsewhere : (n : ℕ) → Elsewhere n → (u y x : ℕ) (p : GridPlace) (s : Backing) → (u ≡ w → ⊥)
-      → list_any (λ v. v == w) (option_map_or (λ parent. parent ∷ ancestors_within n old parent) (parent_number s) []) ≡ false
-      → leads (own_within n old) u y x s ≡ Some p → p.grid ≡ w → ⊥
-  leads-elsewhere n else u y x p s other h found is = grind (arith, or_parts, eqb-false)
-
-  then-elsewhere : (n : ℕ) → Elsewhere n → (u y x : ℕ) (p : GridPlace) (o : Option Window) → (u ≡ w → ⊥)
-      → list_any (λ v. v == w) (option_map_or (λ parent. parent ∷ ancestors_within n old parent) (option_and_then (λ a. parent_number a.backing) o) []) ≡ false
-      → option_and_then (λ a. leads (own_within n old) u y x a.backing) o ≡ Some p → p.grid ≡ w → ⊥
-  then-elsewhere n else u y x p o other h found is = grind (arith, leads-elsewhere)
-
   own_within-elsewhere : (n u y x : ℕ) (p : GridPlace) → (u ≡ w → ⊥) → Beside n u → own_within n old u y x ≡ Some p → p.grid ≡ w → ⊥
   own_within-elsewhere zero u y x p other h found is = cc
-  own_within-elsewhere (suc n) u y x p other h found is = then-elsewhere n (own_within-elsewhere n) u y x p (old u) other h found is
+  own_within-elsewhere (suc n) u y x p other h found is = grind (arith, eqb-false, (own_within-elsewhere n))
 
   pub cell_at-beside : (u y x : ℕ) → (u ≡ w → ⊥) → derives old w u ≡ false → cell_at new u y x ≡ cell_at old u y x
-  cell_at-beside u y x other apart = ap (cell_in_grid new) (own_within-kept window_limit u y x other apart) ∙ in-grid (own old u y x) refl where
-    in-grid : (o : Option GridPlace) → own old u y x ≡ o → cell_in_grid new o ≡ cell_in_grid old o
-    in-grid None found = refl
-    in-grid (Some p) found =
-        ap (λ o. option_map_or (λ a. cell_of a.backing p.line p.column) o blank) (same p.grid (λ is. own_within-elsewhere window_limit u y x p other apart found is))
+  cell_at-beside u y x other apart = grind (arith, own_within-kept, own_within-elsewhere)
 
 -- what a shift leaves as it is
 pub cell_at-moved : (windows : Windows) (w y x u v z : ℕ) → (u ≡ w → ⊥) → derives windows.window w u ≡ false → cell_at (shifted_to windows w (y, x)).window u v z ≡ cell_at windows.window u v z
-cell_at-moved windows w y x u v z other apart = grind (arith, cell_at-beside, changed-off)
+cell_at-moved windows w y x u v z other apart = grind (arith, cell_at-beside)
 
 -- and its parents, and whose descendant a window is
-offset-parent : (y x : ℕ) (s : Backing) → parent_number (with_offset y x s) ≡ parent_number s
-offset-parent y x s = grind arith
-
 module _ (windows : Windows) (w y x : ℕ) where
-  parent-moved : (u : ℕ) → parent_of (shifted_to windows w (y, x)).window u ≡ parent_of windows.window u
-  parent-moved u = same-if (λ o. option_and_then (λ a. parent_number a.backing) o) (with_part y x) (λ a. offset-parent y x a.backing) (u == w) (windows.window u)
-
-  ancestors-moved : (n : ℕ) → ancestors_within n (shifted_to windows w (y, x)).window ≡ ancestors_within n windows.window
-  ancestors-moved zero = refl
-  ancestors-moved (suc n) = fun_ext (λ u. λ i. option_map_or (λ parent. parent ∷ ancestors-moved n i parent) (parent-moved u i) [])
+  ancestors-moved : (n u : ℕ) → ancestors_within n (shifted_to windows w (y, x)).window u ≡ ancestors_within n windows.window u
+  ancestors-moved zero u = refl
+  ancestors-moved (suc n) u = grind (arith, (ancestors-moved n))
 
   pub derives-moved : (v u : ℕ) → derives (shifted_to windows w (y, x)).window v u ≡ derives windows.window v u
-  derives-moved v u = ap (λ f. list_any (λ k. k == v) (f u)) (ancestors-moved window_limit)
+  derives-moved v u = grind (arith, (ancestors-moved window_limit))

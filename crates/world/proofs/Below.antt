@@ -1,5 +1,5 @@
 -- Tests of the numbers below a number, and of the places of a rectangle.
-use Rattle.std.proofs.Common.{◌≡◌, ℕ, zero, suc, ◌+◌, ◌<◌, Bool, true, ◌&&◌, nat_le, subst, inl, inr, arith}
+use Rattle.std.proofs.Common.{◌≡◌, ℕ, zero, suc, ◌+◌, ◌<◌, Bool, true, ◌&&◌, nat_le, arith}
 use Rattle.std.proofs.lemmas.Bool.{cases_eq, and_parts, and_from, or_cases, or_left, or_right, leb-true, le-leb}
 use Rattle.world.specs.Windows.{any_below}
 use Rattle.world.specs.Frames.{IsIn}
@@ -13,20 +13,11 @@ pub record FoundBelow (n : ℕ) (test : ℕ → Bool) : Type 0 where
 
 pub any_below-true : (n : ℕ) (test : ℕ → Bool) → any_below n test ≡ true → FoundBelow n test
 any_below-true zero test h = cc
-any_below-true (suc n) test h = elim (or_cases (test n) (any_below n test) h) [
-  | inl here ↦ record { number = n; below = omega arith; passes = here }
-  | inr before ↦
-      let found = any_below-true n test before in
-      let below = found.below in
-      record { number = found.number; below = omega arith; passes = found.passes }
-]
+any_below-true (suc n) test h = grind (arith, or_cases, (any_below-true n test))
 
 pub any_below-some : (n : ℕ) (test : ℕ → Bool) (k : ℕ) → k < n → test k ≡ true → any_below n test ≡ true
-any_below-some zero test k h is = absurd (omega arith)
-any_below-some (suc n) test k h is = elim (cases_eq k n) [
-  | inl same ↦ or_left (test n) (any_below n test) (subst (λ (j : ℕ). test j ≡ true) same is)
-  | inr other ↦ or_right (test n) (any_below n test) (any_below-some n test k (omega arith) is)
-]
+any_below-some zero test k h is = grind arith
+any_below-some (suc n) test k h is = grind (arith, cases_eq, or_left, or_right, (any_below-some n test k))
 
 pub record FoundIn (r : Rect) (test : ℕ → ℕ → Bool) : Type 0 where
   pub line : ℕ
@@ -51,9 +42,10 @@ any_in-true r test h =
 
 pub any_in-some : (r : Rect) (test : ℕ → ℕ → Bool) (y x : ℕ) → IsIn r y x → test y x ≡ true → any_in r test ≡ true
 any_in-some r test y x inside is =
-    let bottom = inside.bottom in
-    let right = inside.right in
-    any_below-some (r.bottom + 1) (λ v. nat_le r.top v && any_below (r.right + 1) (λ z. nat_le r.left z && test v z)) y (omega arith)
-    (and_from (nat_le r.top y) (any_below (r.right + 1) (λ z. nat_le r.left z && test y z)) (le-leb r.top y inside.top)
-    (any_below-some (r.right + 1) (λ z. nat_le r.left z && test y z) x (omega arith)
-    (and_from (nat_le r.left x) (test y x) (le-leb r.left x inside.left) is)))
+    grind (
+      arith,
+      and_from,
+      le-leb,
+      (any_below-some (r.bottom + 1) (λ v. nat_le r.top v && any_below (r.right + 1) (λ z. nat_le r.left z && test v z)) y),
+      (any_below-some (r.right + 1) (λ z. nat_le r.left z && test y z) x),
+    )

@@ -1,30 +1,18 @@
 -- At a place that a call doesn't affect, neither the picture changes nor what the virtual screen shows.
-use Rattle.std.proofs.Common.{◌≡◌, ℕ, ◌<◌, Bool, true, false, Option, None, is_some, ap, refl, ◌∙◌, arith}
+use Rattle.std.proofs.Common.{◌≡◌, ℕ, ◌<◌, false, None, ap, arith}
 use Rattle.std.specs.Prelude.{⊤}
-use Rattle.std.specs.Option.{option_map_or}
-use Rattle.std.proofs.lemmas.Bool.{true≢false}
-use Rattle.cell.specs.Glyphs.{Glyph}
-use Rattle.cell.specs.Pictures.{picture_of, shown_at}
+use Rattle.cell.specs.Pictures.{shown_at}
 use Rattle.cell.proofs.PictureLemmas.{cell_or-lines_from}
-use Rattle.cell.specs.Shown.{Pairs, Shown, shown}
-use Rattle.world.specs.Panels.{Panels}
-use Rattle.world.specs.Windows.{Drawing, Windows}
+use Rattle.cell.specs.Shown.{shown}
 use Rattle.world.specs.Sound.{IsSound}
 use Rattle.world.specs.World.{World, picture}
-use Rattle.world.specs.Effects.{Effect, after, arranges, colours, composed_windows, composes, refreshes, shown_over, shows}
+use Rattle.world.specs.Effects.{Effect, after, arranges, colours, composed_windows, composes, refreshes, shows}
 use Rattle.world.specs.calls.Dispatch.{effect_of, is_update_panels, refusal, world_after}
 use Rattle.world.specs.calls.Affected.{affects_place, effect_shows_at}
-use Rattle.world.specs.calls.Copying.{copying_change}
-use Rattle.world.specs.calls.Refresh.{refresh_effect}
-use Rattle.world.proofs.Allowed.{IsAllowed, allowed-making}
+use Rattle.world.proofs.Allowed.{allowed-making}
 use Rattle.world.proofs.RefreshLaws.{found-lines, found-unmarked}
 use Rattle.world.proofs.StackingLaws.{IsOrdered, found-order, ordered-stacking}
 use Rattle.world.specs.declared.call.Call.{Call}
-use Rattle.world.specs.declared.call.Call.TheVariants as calls
-use Rattle.world.specs.declared.call.Copying.{Copying}
-use Rattle.world.specs.declared.call.Copying.TheVariants.{Overlay}
-use Rattle.world.specs.declared.call.Refresh.{Refresh}
-use Rattle.world.specs.declared.call.Refresh.TheVariants.{Noutrefresh}
 
 -- ---- what each effect wants, which the tests of its call give
 
@@ -35,59 +23,22 @@ IsReady world composes = ⊤
 IsReady world shows = ⊤
 IsReady world (colours pair foreground background) = ⊤
 
-allowed-copying : (windows : Windows) (panels : Panels) (copying : Copying) → IsAllowed windows panels (copying_change windows copying)
-allowed-copying windows panels (Overlay src dst) = tt
-allowed-copying windows panels _ = tt
-
-ready-refresh : (world : World) (refresh : Refresh) → IsReady world (refresh_effect world refresh)
-ready-refresh world (Noutrefresh win) = tt
-ready-refresh world _ = tt
-
 pub ready : (world : World) (call : Call) → refusal world call ≡ None → IsReady world (effect_of world call)
-ready world (calls.Making making) accepted = allowed-making world.windows world.panels making accepted
-ready world (calls.Writing writing) accepted = tt
-ready world (calls.Copying copying) accepted = allowed-copying world.windows world.panels copying
-ready world (calls.Query query) accepted = tt
-ready world (calls.Stacking stacking) accepted = ordered-stacking world.windows world.panels stacking accepted
-ready world (calls.Refresh refresh) accepted = ready-refresh world refresh
+ready world call accepted = grind (arith, allowed-making, ordered-stacking)
 
 -- ---- the picture
 
 module _ (world : World) (y x : ℕ) (sound : IsSound world) (below : y < world.windows.lines) (left : x < world.windows.columns) where
   effect-keeps : (effect : Effect) → IsReady world effect → effect_shows_at world effect y x ≡ false → picture (after world effect) y x ≡ picture world y x
-  effect-keeps (arranges order) ready free = ap (shown world.pairs) (found-order world.windows world.panels order y x sound.windows sound.panels below left ready free)
-  effect-keeps (refreshes w test drawing cursor) ready free = ap (shown world.pairs) (found-lines world.windows w test world.panels y x)
   effect-keeps composes ready free = ap (shown world.pairs) (found-unmarked world.windows.window (composed_windows world) world.panels y x)
-  effect-keeps shows ready free = refl
-  effect-keeps (colours pair foreground background) ready free = absurd (true≢false free)
+  effect-keeps effect ready free = grind (arith, found-lines, found-order)
 
   pub picture-kept : (call : Call) → refusal world call ≡ None → affects_place world call y x ≡ false → picture (world_after world call) y x ≡ picture world y x
-  picture-kept call accepted free = effect-keeps (effect_of world call) (ready world call accepted) free
+  picture-kept call accepted free = grind (arith, effect-keeps, ready)
 
 -- ---- the virtual screen
 
-abbrev is_composing : Effect → Bool
-is_composing (arranges order) = false
-is_composing (refreshes w test drawing cursor) = false
-is_composing composes = true
-is_composing shows = false
-is_composing (colours pair foreground background) = false
-
-composing : (world : World) (call : Call) → is_composing (effect_of world call) ≡ is_update_panels call
-composing world call = grind arith
-
 module _ (world : World) (y x : ℕ) (below : y < world.windows.lines) (left : x < world.windows.columns) where
-  laid-nothing : (pairs : Pairs) (o : Option Glyph) (before : Shown) → is_some o ≡ false → option_map_or (shown pairs) o before ≡ before
-  laid-nothing pairs o before none = grind arith
-
-  over-nothing : (f : Drawing) → is_some (f y x) ≡ false
-      → shown_at (picture_of world.windows.lines world.windows.columns (shown_over world.pairs world.virtual.picture f)) (y, x) ≡ shown_at world.virtual.picture (y, x)
-  over-nothing f none = grind (arith, cell_or-lines_from, laid-nothing)
-
-  effect-leaves : (effect : Effect) → is_composing effect ≡ false → effect_shows_at world effect y x ≡ false
-      → shown_at (after world effect).virtual.picture (y, x) ≡ shown_at world.virtual.picture (y, x)
-  effect-leaves effect other free = grind (arith, over-nothing)
-
   pub virtual-kept : (call : Call) → is_update_panels call ≡ false → affects_place world call y x ≡ false
       → shown_at (world_after world call).virtual.picture (y, x) ≡ shown_at world.virtual.picture (y, x)
-  virtual-kept call other free = effect-leaves (effect_of world call) (composing world call ∙ other) free
+  virtual-kept call other free = grind (arith, cell_or-lines_from)

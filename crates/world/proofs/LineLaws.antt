@@ -1,11 +1,10 @@
 -- A line that a call doesn't affect has no place that it affects.
-use Rattle.std.proofs.Common.{◌≡◌, ℕ, ◌<◌, false, sym, ◌∙◌}
-use Rattle.std.proofs.lemmas.Bool.{false_from_ne_true, true≢false}
+use Rattle.std.proofs.Common.{arith}
+use Rattle.std.proofs.Common.{◌≡◌, ℕ, ◌<◌, false}
 use Rattle.world.specs.World.{World}
 use Rattle.world.specs.calls.Affected.{affects_line, affects_place}
 use Rattle.world.proofs.Below.{any_below-some}
 use Rattle.world.specs.declared.call.Call.{Call}
 
 pub free-place : (world : World) (call : Call) (y x : ℕ) → x < world.windows.columns → affects_line world call y ≡ false → affects_place world call y x ≡ false
-free-place world call y x left free =
-    false_from_ne_true (affects_place world call y x) (λ here. true≢false (sym (any_below-some world.windows.columns (affects_place world call y) x left here) ∙ free))
+free-place world call y x left free = grind (arith, (any_below-some world.windows.columns (affects_place world call y)))

@@ -1,46 +1,34 @@
 -- Making, deleting and moving windows: which places of the screen keep what the search finds there.
-use Rattle.std.proofs.Common.{◌≡◌, ℕ, zero, suc, ◌+◌, ◌<◌, Bool, true, false, ◌==◌, ◌&&◌, ◌||◌, Option, Some, None, IsSome, IsSomeAnd, MatchOption, [], ◌∷◌, subst, ap, arith, refl, sym, ◌∙◌}
-use Rattle.std.specs.Prelude.{is_some, option_and_then, ⊤}
+use Rattle.std.proofs.Common.{◌≡◌, ℕ, zero, suc, ◌<◌, Bool, true, false, ◌==◌, Option, Some, None, IsSome, ap, arith, refl}
 use Rattle.std.specs.Option.{option_map_or}
 use Rattle.std.specs.List.{list_any}
 use mathlib.Core.Path.{fun_ext}
-use Rattle.std.proofs.lemmas.Bool.{and_cases, eqb-false, false_from_ne_true, or_from, or_parts, ne_eqb}
-use Rattle.cell.specs.declared.limits.TheConstants.{MOST_WINDOWS}
-use Rattle.world.specs.Windows.{Backing, GridPlace, Window, WindowMap, Windows, ancestors_within, derives, leads, own, own_within, parent_number, parent_of, window_limit}
+use Rattle.std.proofs.lemmas.Bool.{eqb-false, false_from_ne_true, or_from, ne_eqb}
+use Rattle.world.specs.Windows.{GridPlace, Window, WindowMap, Windows, ancestors_within, derives, own, own_within, window_limit}
 use Rattle.world.specs.Panels.{Panels, cell_on_screen, found_from_top, holds, standard_screen, windows_from_top}
-use Rattle.world.specs.Sound.{AreSoundPanels, AreSoundWindows, IsSoundWindow, IsStandardScreen}
-use Rattle.world.specs.Effects.{Change, after_change, asks, deletes, edits, makes, after_marks, marks, moved_to, moves, under_number, shifted_to, shifts, with_part, with_place}
-use Rattle.world.specs.calls.Making.{has_derived, has_no_parent, is_own, is_part_of}
+use Rattle.world.specs.Sound.{AreSoundPanels, AreSoundWindows}
+use Rattle.world.specs.Effects.{Change, after_change, deletes, after_marks, moved_to, moves, under_number, shifted_to}
+use Rattle.world.specs.calls.Making.{has_derived, has_no_parent, is_part_of}
 use Rattle.world.specs.calls.Affected.{change_shows_at, follows_at, move_shows_at}
 use Rattle.world.proofs.Allowed.{IsAllowed, not-in-panel, sound-panel}
-use Rattle.world.proofs.AncestorLaws.{cell_at-beside, cell_at-moved, changed-off, derives-moved, replaced-off}
+use Rattle.world.proofs.AncestorLaws.{cell_at-beside, cell_at-moved, derives-moved, replaced-off}
 use Rattle.world.proofs.Below.{any_below-some}
-use Rattle.world.proofs.ViewLaws.{SameCells, backing_of, cell_at-same, found-dressed, found-same, holds-same, on_screen-same, outline_of, passes-none, same-if}
+use Rattle.world.proofs.ViewLaws.{SameCells, cell_at-same, found-dressed, found-same, holds-same, on_screen-same, outline_of, passes-none}
 use Rattle.world.proofs.WritingLaws.{found-edit}
 
 -- ---- the standard screen derives from none, and isn't moved
 
-standard-parent : (windows : Windows) (o : Option Window) → IsSomeAnd o (IsStandardScreen windows) → option_and_then (λ a. parent_number a.backing) o ≡ None
-standard-parent windows o h = grind arith
-
-standard-own : (windows : Windows) (o : Option Window) → IsSomeAnd o (IsStandardScreen windows) → option_map_or (λ a. is_own a.backing) o false ≡ true
-standard-own windows o h = grind arith
-
-no_ancestors : (n : ℕ) (window : WindowMap) (u : ℕ) → parent_of window u ≡ None → ancestors_within n window u ≡ []
-no_ancestors n window u h = grind arith
-
 standard-beside : (windows : Windows) (w : ℕ) → AreSoundWindows windows → derives windows.window w standard_screen ≡ false
-standard-beside windows w sound = grind (arith, no_ancestors, standard-parent)
+standard-beside windows w sound = grind arith
 
 -- ---- which windows show other cells after mvderwin is the same before it and after
 
 module _ (windows : Windows) (w v z : ℕ) where
   window-moved : (u : ℕ) → outline_of ((shifted_to windows w (v, z)).window u) ≡ outline_of (windows.window u)
-  window-moved u = same-if (λ o. outline_of o) (with_part v z) (λ a. refl) (u == w) (windows.window u)
+  window-moved u = grind arith
 
   pub move_shows-moved : (panels : Panels) (y x : ℕ) → move_shows_at (shifted_to windows w (v, z)).window panels w y x ≡ move_shows_at windows.window panels w y x
-  move_shows-moved panels y x = ap (λ (test : ℕ → Bool). list_any test (windows_from_top panels)) (fun_ext (λ u. λ i.
-      (u == w || derives-moved windows w v z w u i) && holds-same (shifted_to windows w (v, z)).window windows.window u (window-moved u) y x i))
+  move_shows-moved panels y x = ap (λ (test : ℕ → Bool). list_any test (windows_from_top panels)) (fun_ext (λ u. grind (arith, derives-moved)))
 
 -- ---- mvderwin
 
@@ -48,21 +36,16 @@ module _ (windows : Windows) (panels : Panels) (w v z y x : ℕ) (sound : AreSou
   moved : WindowMap
   moved = (shifted_to windows w (v, z)).window
 
-  other-standard : standard_screen ≡ w → ⊥
-  other-standard same = grind (arith, standard-own)
-
   moved-kept : (u : ℕ) → (u ≡ w → ⊥) → derives windows.window w u ≡ false → cell_on_screen moved u y x ≡ cell_on_screen windows.window u y x
   unfolding moved
-  moved-kept u other beside = grind (arith, on_screen-same, moved, window-moved, cell_at-moved)
+  moved-kept u other beside = grind (arith, on_screen-same, cell_at-moved)
 
   stays : (u : ℕ) → holds windows.window u y x ≡ true → follows_at windows.window w y x u ≡ false → cell_on_screen moved u y x ≡ cell_on_screen windows.window u y x
-  stays u there fails = grind (arith, and_cases, or_parts, moved-kept, eqb-false, there)
+  stays u there fails = grind (arith, moved-kept, eqb-false)
 
   pub found-moved : move_shows_at windows.window panels w y x ≡ false → found_from_top (shifted_to windows w (v, z)).window panels y x ≡ found_from_top windows.window panels y x
   unfolding moved
-  found-moved free =
-      found-same moved windows.window panels y x (follows_at windows.window w y x) free (λ p u is. holds-same moved windows.window u (window-moved windows w v z u) y x)
-      (λ p u is there fails. stays u there fails) (moved-kept standard_screen other-standard (standard-beside windows w sound))
+  found-moved free = grind (arith, (found-same moved windows.window panels y x (follows_at windows.window w y x)), holds-same, window-moved, stays, moved-kept, standard-beside)
 
 -- ---- a window in no panel, from which none in a panel derives: whatever becomes of it, no place shows another cell
 
@@ -71,144 +54,76 @@ module _ (new old : WindowMap) (panels : Panels) (w : ℕ) (same : (v : ℕ) →
   Apart u = (u ≡ w → ⊥) × (derives old w u ≡ false)
 
   apart-kept : (y x u : ℕ) → Apart u → cell_on_screen new u y x ≡ cell_on_screen old u y x
-  apart-kept y x u apart = grind (arith, on_screen-same, outline_of, cell_at-beside)
+  apart-kept y x u apart = grind (arith, on_screen-same, cell_at-beside)
 
   pub found-apart : ((p u : ℕ) → panels.window p ≡ Some u → Apart u) → Apart standard_screen
       → (y x : ℕ) → found_from_top new panels y x ≡ found_from_top old panels y x
   found-apart apart standard y x =
-      found-same new old panels y x (λ u. false) (passes-none (windows_from_top panels))
-      (λ p u is. let other = apart p u is in holds-same new old u (ap (λ o. outline_of o) (same u other.0)) y x)
+      found-same new old panels y x (λ u. false) (passes-none (windows_from_top panels)) (λ p u is. let other = apart p u is in grind arith)
       (λ p u is there fails. apart-kept y x u (apart p u is)) (apart-kept y x standard_screen standard)
-
-there-some : (o : Option Window) (P : Window → Type 0) → IsSomeAnd o P → IsSome o
-there-some None P h = elim h [ ]
-there-some (Some a) P h = refl
 
 -- ---- delwin
 
-module _ (window : WindowMap) (w : ℕ) (none : (v : ℕ) (a : Window) → window v ≡ Some a → is_part_of w a.backing ≡ false) where
-  abbrev Underived : ℕ → Type 0
-  Underived n = (u : ℕ) → list_any (λ v. v == w) (ancestors_within n window u) ≡ false
-
-  backing-underived : (n : ℕ) → Underived n → (s : Backing) → is_part_of w s ≡ false
-      → list_any (λ v. v == w) (option_map_or (λ parent. parent ∷ ancestors_within n window parent) (parent_number s) []) ≡ false
-  backing-underived n before s h = grind (arith, or_from)
-
-  window-underived : (n : ℕ) → Underived n → (u : ℕ) (o : Option Window) → window u ≡ o
-      → list_any (λ v. v == w) (option_map_or (λ parent. parent ∷ ancestors_within n window parent) (option_and_then (λ a. parent_number a.backing) o) []) ≡ false
-  window-underived n before u o is = grind (arith, backing-underived)
-
+module _ (window : WindowMap) (w : ℕ) (none : (v : ℕ) → option_map_or (λ a. is_part_of w a.backing) (window v) false ≡ false) where
   underived : (n u : ℕ) → list_any (λ v. v == w) (ancestors_within n window u) ≡ false
   underived zero u = refl
-  underived (suc n) u = window-underived n (underived n) u (window u) refl
-
-window-sound : (windows : Windows) (v : ℕ) (a : Window) (o : Option Window) → o ≡ Some a → MatchOption o ⊤ (IsSoundWindow windows v) → IsSoundWindow windows v a
-window-sound windows v a None is h = cc
-window-sound windows v a (Some b) is h = let same : b ≡ a = cc in subst (λ (c : Window). IsSoundWindow windows v c) same h
+  underived (suc n) u = grind (arith, or_from, (none u), (underived n))
 
 no-part : (windows : Windows) (w : ℕ) → AreSoundWindows windows → has_derived windows.window w ≡ false
-    → (v : ℕ) (a : Window) → windows.window v ≡ Some a → is_part_of w a.backing ≡ false
+    → (v : ℕ) → option_map_or (λ a. is_part_of w a.backing) (windows.window v) false ≡ false
 unfolding window_limit
-no-part windows w sound none v a is = false_from_ne_true (is_part_of w a.backing) (λ derives_v.
-    let number = (window-sound windows v a (windows.window v) is (sound.each v)).number in
-    let few : v < MOST_WINDOWS + 1 = omega arith in
-    let test : ℕ → Bool = λ u. option_map_or (λ b. is_part_of w b.backing) (windows.window u) false in
-    let some : has_derived windows.window w ≡ true = any_below-some (MOST_WINDOWS + 1) test v few (ap (λ o. option_map_or (λ b. is_part_of w b.backing) o false) is ∙ derives_v) in
-    let never : true ≡ false = sym some ∙ none in
-    cc)
+no-part windows w sound none v = false_from_ne_true _ (λ derives_v.
+    let sound_v = sound.each v in grind (arith, (any_below-some window_limit (λ u. option_map_or (λ a. is_part_of w a.backing) (windows.window u) false) v)))
 
 found-deleted : (windows : Windows) (panels : Panels) (w y x : ℕ) → AreSoundWindows windows → AreSoundPanels windows.window panels
     → IsAllowed windows panels (deletes w) → found_from_top (under_number windows w None).window panels y x ≡ found_from_top windows.window panels y x
 found-deleted windows panels w y x sound panels_sound allowed =
-    let none : (u : ℕ) → derives windows.window w u ≡ false = λ u. underived windows.window w (no-part windows w sound allowed.2) window_limit u in
-    found-apart (under_number windows w None).window windows.window panels w (replaced-off windows.window w None)
-    (λ p u is. (not-in-panel windows.window panels w panels_sound allowed.1 p u is, none u))
-    (λ same. eqb-false w standard_screen allowed.0 (sym same), none standard_screen) y x
+    let none = underived windows.window w (no-part windows w sound allowed.2) window_limit in
+    let apart = not-in-panel windows.window panels w panels_sound allowed.1 in
+    found-apart (under_number windows w None).window windows.window panels w (replaced-off windows.window w None) (grind (arith, apart, none)) (grind (arith, eqb-false, none)) y x
 
 -- ---- a new window has a number that no window had
 
 module _ (window : WindowMap) (n : ℕ) (free : window n ≡ None) where
-  nowhere : (k y x : ℕ) → own_within k window n y x ≡ None
-  nowhere k y x = grind arith
-
   other-parent : (k parent y x : ℕ) (p : GridPlace) → own_within k window parent y x ≡ Some p → parent ≡ n → ⊥
-  other-parent k parent y x p found same = grind (arith, nowhere)
-
-  abbrev Leading : ℕ → Type 0
-  Leading k = (u y x : ℕ) (p : GridPlace) → own_within k window u y x ≡ Some p → list_any (λ v. v == n) (ancestors_within k window u) ≡ false
-
-  backing-leading : (k : ℕ) → Leading k → (u y x : ℕ) (p : GridPlace) (s : Backing) → leads (own_within k window) u y x s ≡ Some p
-      → list_any (λ v. v == n) (option_map_or (λ parent. parent ∷ ancestors_within k window parent) (parent_number s) []) ≡ false
-  backing-leading k before u y x p s found = grind (arith, or_from, ne_eqb, other-parent)
-
-  window-leading : (k : ℕ) → Leading k → (u y x : ℕ) (p : GridPlace) (o : Option Window) → option_and_then (λ a. leads (own_within k window) u y x a.backing) o ≡ Some p
-      → list_any (λ v. v == n) (option_map_or (λ parent. parent ∷ ancestors_within k window parent) (option_and_then (λ a. parent_number a.backing) o) []) ≡ false
-  window-leading k before u y x p None found = cc
-  window-leading k before u y x p (Some a) found = backing-leading k before u y x p a.backing found
+  other-parent k parent y x p found same = grind arith
 
   leading : (k u y x : ℕ) (p : GridPlace) → own_within k window u y x ≡ Some p → list_any (λ v. v == n) (ancestors_within k window u) ≡ false
   leading zero u y x p found = cc
-  leading (suc k) u y x p found = window-leading k (leading k) u y x p (window u) found
+  leading (suc k) u y x p found = grind (arith, or_from, ne_eqb, other-parent, (leading k))
 
   leading-some : (u : ℕ) (o : Option GridPlace) → own window u 0 0 ≡ o → IsSome o → derives window n u ≡ false
   leading-some u o found some = grind (arith, leading)
 
-chain-ends : (windows : Windows) (u : ℕ) (o : Option Window) → MatchOption o ⊤ (IsSoundWindow windows u) → IsSome o → IsSome (own windows.window u 0 0)
-chain-ends windows u None h some = cc
-chain-ends windows u (Some a) h some = h.chain_ends
-
 found-new : (windows : Windows) (panels : Panels) (n : ℕ) (o : Option Window) (y x : ℕ) → AreSoundWindows windows → AreSoundPanels windows.window panels → windows.window n ≡ None
     → found_from_top (under_number windows n o).window panels y x ≡ found_from_top windows.window panels y x
 found-new windows panels n o y x sound panels_sound free =
-    found-apart (under_number windows n o).window windows.window panels n (replaced-off windows.window n o)
-    (λ p u is. there u (there-some (windows.window u) _ (sound-panel windows.window panels panels_sound p u is).window_is))
-    (there standard_screen (there-some (windows.window standard_screen) _ sound.standard)) y x where
-      there : (u : ℕ) → IsSome (windows.window u) → (u ≡ n → ⊥) × (derives windows.window n u ≡ false)
-      there u some = (
-        λ same.
-            let none : is_some (windows.window u) ≡ false = ap (λ (o : Option Window). is_some o) (ap windows.window same ∙ free) in
-            let never : true ≡ false = sym some ∙ none in
-            cc,
-        leading-some windows.window n free u (own windows.window u 0 0) refl (chain-ends windows u (windows.window u) (sound.each u) some),
-      )
+    grind (arith, (found-apart (under_number windows n o).window windows.window panels n (replaced-off windows.window n o)), sound-panel, leading-some)
 
 -- ---- mvwin
 
 module _ (windows : Windows) (w v z : ℕ) where
-  backing-placed : (u : ℕ) → backing_of ((moved_to windows w (v, z)).window u) ≡ backing_of (windows.window u)
-  backing-placed u = same-if (λ o. backing_of o) (with_place v z) (λ a. refl) (u == w) (windows.window u)
-
-  outline-placed : (u : ℕ) → (u ≡ w → ⊥) → outline_of ((moved_to windows w (v, z)).window u) ≡ outline_of (windows.window u)
-  outline-placed u other = ap (λ o. outline_of o) (changed-off windows.window w (with_place v z) u other)
-
   pub holds-placed : (y x u : ℕ) → (u ≡ w → ⊥) → holds (moved_to windows w (v, z)).window u y x ≡ holds windows.window u y x
-  holds-placed y x u other = holds-same (moved_to windows w (v, z)).window windows.window u (outline-placed u other) y x
+  holds-placed y x u other = grind (arith, ne_eqb)
 
   pub cell-placed : (y x u : ℕ) → (u ≡ w → ⊥) → cell_on_screen (moved_to windows w (v, z)).window u y x ≡ cell_on_screen windows.window u y x
-  cell-placed y x u other = grind (arith, on_screen-same, outline-placed, cell_at-same, backing-placed)
+  cell-placed y x u other = grind (arith, on_screen-same, cell_at-same)
 
 found-placed : (windows : Windows) (panels : Panels) (w v z y x : ℕ) → AreSoundPanels windows.window panels → IsAllowed windows panels (moves w (v, z))
     → found_from_top (moved_to windows w (v, z)).window panels y x ≡ found_from_top windows.window panels y x
 found-placed windows panels w v z y x sound allowed =
-    let apart : (p u : ℕ) → panels.window p ≡ Some u → u ≡ w → ⊥ = not-in-panel windows.window panels w sound allowed.1 in
+    let apart = not-in-panel windows.window panels w sound allowed.1 in
     found-same (moved_to windows w (v, z)).window windows.window panels y x (λ u. false) (passes-none (windows_from_top panels))
-    (λ p u is. holds-placed windows w v z y x u (apart p u is)) (λ p u is here fails. cell-placed windows w v z y x u (apart p u is))
-    (cell-placed windows w v z y x standard_screen (λ same. eqb-false w standard_screen allowed.0 (sym same)))
+    (λ p u is. grind (arith, holds-placed)) (λ p u is here fails. grind (arith, cell-placed)) (grind (arith, cell-placed, eqb-false))
 
 -- ---- marks
 
 marked-cells : (windows : Windows) (test : ℕ → Bool) (change : ℕ → Window → Window) → SameCells (after_marks windows test change).window windows.window
-marked-cells windows test change = grind (arith, same-if, outline_of, backing_of)
+marked-cells windows test change = grind arith
 
 -- ---- each change
 
 pub found-change : (windows : Windows) (panels : Panels) (change : Change) (y x : ℕ) → AreSoundWindows windows → AreSoundPanels windows.window panels
     → y < windows.lines → x < windows.columns → IsAllowed windows panels change → change_shows_at windows panels change y x ≡ false
     → found_from_top (after_change windows change).window panels y x ≡ found_from_top windows.window panels y x
-found-change windows panels (asks reply) y x sound panels_sound below left allowed free = refl
-found-change windows panels (edits edit) y x sound panels_sound below left allowed free = found-edit windows panels edit y x sound below left free
-found-change windows panels (marks test change) y x sound panels_sound below left allowed free = search (arith, found-dressed, marked-cells)
-found-change windows panels (makes n a) y x sound panels_sound below left allowed free = found-new windows panels n a y x sound panels_sound allowed
-found-change windows panels (deletes w) y x sound panels_sound below left allowed free = found-deleted windows panels w y x sound panels_sound allowed
-found-change windows panels (moves w place) y x sound panels_sound below left allowed free = found-placed windows panels w place.0 place.1 y x panels_sound allowed
-found-change windows panels (shifts w place) y x sound panels_sound below left allowed free = found-moved windows panels w place.0 place.1 y x sound allowed free
+found-change windows panels change y x sound panels_sound below left allowed free = grind (arith, found-edit, found-dressed, marked-cells, found-new, found-deleted, found-placed, found-moved)

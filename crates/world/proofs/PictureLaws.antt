@@ -1,14 +1,14 @@
 -- A write through a window leaves the picture as it is at every place of the screen where its frame isn't shown.
-use Rattle.std.proofs.Common.{◌≡◌, ℕ, ◌-◌, ◌<◌, Bool, true, false, Option, Some, None, is_some, IsSome, IsSomeAnd, List, [], ◌∷◌, inl, inr, ap, arith, refl, sym, ◌∙◌}
-use Rattle.std.specs.Option.{option_map, option_map_or}
+use Rattle.std.proofs.Common.{◌≡◌, ℕ, ◌-◌, ◌<◌, Bool, true, false, Option, Some, None, IsSome, List, [], ◌∷◌, ap, arith, refl}
+use Rattle.std.specs.Option.{option_map_or}
 use Rattle.std.specs.List.{list_any}
 use mathlib.Core.Path.{fun_ext}
-use Rattle.std.proofs.lemmas.Bool.{and_parts, and_from, false_from_ne_true, le-leb, lt-ltb, or_cases, or_left, or_parts, or_right}
-use Rattle.world.specs.Windows.{Drawing, GridPlace, HasPlace, Window, WindowMap, Windows, cell_at, cell_in_grid, after_drawing, own, put_from, put_windows}
+use Rattle.std.proofs.lemmas.Bool.{and_parts, and_from, or_parts}
+use Rattle.world.specs.Windows.{Drawing, GridPlace, HasPlace, Window, WindowMap, Windows, own, put_windows}
 use Rattle.world.specs.Frames.{Covers, IsFrameOf, IsIn, frame_of, frame_of_two}
-use Rattle.world.specs.Panels.{Panels, cell_on_screen, found_from_top, holds, holds_place, place_of, standard_screen, windows_from_top, windows_of_picture}
-use Rattle.world.specs.Sharing.{any_in, is_same_place, shows_part_of}
-use Rattle.world.specs.Sound.{AreSoundWindows, IsStandardScreen}
+use Rattle.world.specs.Panels.{Panels, cell_on_screen, found_from_top, holds, place_of, standard_screen, windows_from_top, windows_of_picture}
+use Rattle.world.specs.Sharing.{is_same_place}
+use Rattle.world.specs.Sound.{AreSoundWindows}
 use Rattle.world.specs.calls.Affected.{frame_shows_at, shows_at}
 use Rattle.world.proofs.Below.{any_in-some, any_in-true}
 use Rattle.world.proofs.FrameLaws.{frame_of-is}
@@ -20,14 +20,8 @@ use Rattle.cell.specs.declared.window.Rect.{Rect}
 -- ---- a write leaves sizes and places
 
 module _ (window : WindowMap) (w : ℕ) (f : Drawing) where
-  outline-drawn : (a : Window) (p : GridPlace) (u : ℕ) (o : Option Window) → outline_of (option_map (after_drawing w a p f u) o) ≡ outline_of o
-  outline-drawn a p u o = grind arith
-
-  outline-from : (u : ℕ) (m : Option Window) (s : Option GridPlace) → outline_of (put_from window w m s f u) ≡ outline_of (window u)
-  outline-from u m s = grind (arith, outline-drawn)
-
   pub outline-put : (u : ℕ) → outline_of (put_windows window w f u) ≡ outline_of (window u)
-  outline-put u = outline-from u (window w) (own window w 0 0)
+  outline-put u = grind arith
 
 -- ---- windows of the same sizes and places, whose places lead where they led: a frame is shown where it was
 
@@ -36,56 +30,32 @@ pub record SameView (new old : WindowMap) : Type 0 where
   pub places : (u y x : ℕ) → own new u y x ≡ own old u y x
 
 module _ (new old : WindowMap) (same : SameView new old) where
-  own-alike : own new ≡ own old
-  own-alike = fun_ext (λ u. fun_ext (λ y. fun_ext (λ x. same.places u y x)))
-
   shows-same : (w : ℕ) (r : Rect) (y x u : ℕ) → shows_at new w r y x u ≡ shows_at old w r y x u
-  shows-same w r y x u = grind (arith, holds-same, own-alike, place-same)
+  shows-same w r y x u = grind (arith, holds-same, place-same)
 
   pub frame_shows-same : (panels : Panels) (w : ℕ) (o : Option Rect) (y x : ℕ) → frame_shows_at new panels w o y x ≡ frame_shows_at old panels w o y x
-  frame_shows-same panels w None y x = refl
   frame_shows-same panels w (Some r) y x = ap (λ (test : ℕ → Bool). list_any test (windows_of_picture panels)) (fun_ext (shows-same w r y x))
+  frame_shows-same panels w o y x = refl
 
 -- ---- the frame of two drawings is shown where either one's is
 
 pub any-more : (test more : ℕ → Bool) → ((u : ℕ) → test u ≡ true → more u ≡ true) → (us : List ℕ) → list_any test us ≡ true → list_any more us ≡ true
 any-more test more h [] some = some
-any-more test more h (u ∷ us) some = elim (or_cases (test u) (list_any test us) some) [
-  | inl here ↦ or_left (more u) (list_any more us) (h u here)
-  | inr later ↦ or_right (more u) (list_any more us) (any-more test more h us later)
-]
+any-more test more h (u ∷ us) some = grind (arith, (any-more test more h us))
 
 module _ (window : WindowMap) (panels : Panels) (w y x : ℕ) where
   shows-more : (r s : Rect) → ((v z : ℕ) → IsIn r v z → IsIn s v z) → (u : ℕ) → shows_at window w r y x u ≡ true → shows_at window w s y x u ≡ true
-  shows-more r s h u shown =
-      let parts = and_parts (holds window u y x) (shows_part_of window w r u (y - (place_of window u).0) (x - (place_of window u).1)) shown in
-      let test : ℕ → ℕ → Bool = λ v z. is_same_place (own window w v z) (own window u (y - (place_of window u).0) (x - (place_of window u).1)) in
-      let found = any_in-true r test parts.1 in
-      and_from (holds window u y x) (any_in s test) parts.0 (any_in-some s test found.line found.column (h found.line found.column found.inside) found.passes)
+  shows-more r s h u shown = let parts = and_parts _ _ shown in let found = any_in-true r _ parts.1 in and_from _ _ parts.0 (any_in-some s _ found.line found.column (h _ _ found.inside) found.passes)
 
   unless-more : (r s : Rect) → ((v z : ℕ) → IsIn r v z → IsIn s v z) → frame_shows_at window panels w (Some s) y x ≡ false → frame_shows_at window panels w (Some r) y x ≡ false
-  unless-more r s h free = false_from_ne_true (frame_shows_at window panels w (Some r) y x) (λ shown.
-      let more = any-more (shows_at window w r y x) (shows_at window w s y x) (shows-more r s h) (windows_of_picture panels) shown in
-      let never : true ≡ false = sym more ∙ free in
-      cc)
+  unless-more r s h free = grind (arith, (any-more _ _ (shows-more r s h) (windows_of_picture panels)))
 
   pub joined-free : (o p : Option Rect) → frame_shows_at window panels w (frame_of_two o p) y x ≡ false
       → (frame_shows_at window panels w o y x ≡ false) × (frame_shows_at window panels w p y x ≡ false)
-  joined-free None p free = (refl, free)
-  joined-free (Some r) None free = (free, refl)
   joined-free (Some r) (Some s) free = grind (arith, unless-more)
+  joined-free o p free = grind arith
 
 -- ---- one write
-
-same-self : (o p : Option GridPlace) → is_some o ≡ true → o ≡ p → is_same_place o p ≡ true
-same-self None p some e = cc
-same-self (Some s) None some e = cc
-same-self (Some s) (Some t) some e =
-    let same : s ≡ t = cc in
-    true-same s t (record { grid = ap (λ q. q.grid) same; line = ap (λ q. q.line) same; column = ap (λ q. q.column) same })
-
-in-size : (a : Window) (v z : ℕ) (o : Option Window) → outline_of o ≡ Some (outline a) → IsSomeAnd o (λ c. (v < c.lines) × (z < c.columns)) → (v < a.lines) × (z < a.columns)
-in-size a v z o is has = grind arith
 
 -- the window has the size of a
 module _ (window : WindowMap) (panels : Panels) (w : ℕ) (a : Window) (f : Drawing) (y x : ℕ) (size : outline_of (window w) ≡ Some (outline a)) where
@@ -99,47 +69,28 @@ module _ (window : WindowMap) (panels : Panels) (w : ℕ) (a : Window) (f : Draw
     apart : (s : GridPlace) → own window u line column ≡ Some s → (v z : ℕ) → HasPlace window w v z → IsSome (f v z) → own window w v z ≡ own window u line column → ⊥
     unfolding line column
     apart s leads v z has some same = by_frame (frame_of a f) (frame_of-is a f) free where
-      covers : Covers f a.columns a.lines v z
-      covers = let place = in-size a v z (window w) size has in record { below = place.0; left = place.1; some = some }
-
       by_frame : (o : Option Rect) → IsFrameOf (Covers f a.columns a.lines) o → option_map_or (λ r. shows_at window w r y x u) o false ≡ false → ⊥
-      by_frame None frame free = frame v z covers
-      by_frame (Some r) frame free =
-          let leads_w : is_some (own window w v z) ≡ true = ap (λ (o : Option GridPlace). is_some o) (same ∙ leads) in
-          let shown : shows_part_of window w r u line column ≡ true =
-          any_in-some r (λ k l. is_same_place (own window w k l) (own window u line column)) v z (frame.holds v z covers)
-          (same-self (own window w v z) (own window u line column) leads_w same) in
-          let seen : shows_at window w r y x u ≡ true = and_from (holds window u y x) (shows_part_of window w r u line column) there shown in
-          let never : true ≡ false = sym seen ∙ free in
-          cc
-
-    cell-by : (o : Option GridPlace) → own window u line column ≡ o → cell_at (put_windows window w f) u line column ≡ cell_at window u line column
-    cell-by None leads = ap (cell_in_grid (put_windows window w f)) (own-put window w f u line column ∙ leads) ∙ sym (ap (cell_in_grid window) leads)
-    cell-by (Some s) leads = put-keeps window w f u line column (apart s leads)
+      by_frame None frame free = grind arith
+      by_frame (Some r) frame free = grind (arith, (any_in-some r (λ k l. is_same_place (own window w k l) (own window u line column)) v z), true-same)
 
     cell-kept : cell_on_screen (put_windows window w f) u y x ≡ cell_on_screen window u y x
     unfolding line column
-    cell-kept = on_screen-same (put_windows window w f) window u (outline-put window w f u) y x (cell-by (own window u line column) refl)
+    cell-kept = grind (arith, on_screen-same, outline-put, own-put, put-keeps, apart)
 
   -- where the frame isn't shown, no window shows it
   each-free : (o : Option Rect) → frame_shows_at window panels w o y x ≡ false
       → (option_map_or (λ r. shows_at window w r y x standard_screen) o false ≡ false)
       × (list_any (λ u. option_map_or (λ r. shows_at window w r y x u) o false) (windows_from_top panels) ≡ false)
-  each-free None h = (refl, passes-none (windows_from_top panels))
-  each-free (Some r) h = or_parts (shows_at window w r y x standard_screen) (list_any (shows_at window w r y x) (windows_from_top panels)) h
+  each-free o h = grind (arith, (passes-none (windows_from_top panels)), or_parts)
 
   pub found-put : holds window standard_screen y x ≡ true → frame_shows_at window panels w (frame_of a f) y x ≡ false
       → found_from_top (put_windows window w f) panels y x ≡ found_from_top window panels y x
   found-put standard free =
       let none = each-free (frame_of a f) free in
-      found-same (put_windows window w f) window panels y x (λ u. option_map_or (λ r. shows_at window w r y x u) (frame_of a f) false) none.1
-      (λ p u is. holds-same (put_windows window w f) window u (outline-put window w f u) y x)
-      (λ p u is there fails. cell-kept u there fails) (cell-kept standard_screen standard none.0)
+      let kept = found-same (put_windows window w f) window panels y x (λ u. option_map_or (λ r. shows_at window w r y x u) (frame_of a f) false) in
+      grind (arith, holds-same, outline-put, cell-kept)
 
 -- ---- the standard screen holds each place of the screen
 
-standard-at : (windows : Windows) (y x : ℕ) → y < windows.lines → x < windows.columns → (o : Option Window) → IsSomeAnd o (IsStandardScreen windows) → option_map_or (holds_place y x) o false ≡ true
-standard-at windows y x below left o h = grind (arith, line, column, and_from, le-leb, lt-ltb)
-
 pub standard-holds : (windows : Windows) (y x : ℕ) → AreSoundWindows windows → y < windows.lines → x < windows.columns → holds windows.window standard_screen y x ≡ true
-standard-holds windows y x sound below left = standard-at windows y x below left (windows.window standard_screen) sound.standard
+standard-holds windows y x sound below left = grind arith

@@ -1,16 +1,15 @@
 -- Which windows have a place on the screen after each effect, and that panels stay sound.
-use Rattle.std.proofs.Common.{◌≡◌, ℕ, Bool, true, false, if◌then◌else◌, Option, Some, None, ◌==◌, ◌≢◌, refl, ◌∙◌, arith}
-use Rattle.std.specs.Prelude.{IsSome, IsSomeAnd, MatchOption, is_some, ⊤}
+use Rattle.std.proofs.Common.{◌≡◌, ℕ, Bool, true, false, if◌then◌else◌, Option, Some, None, ◌≢◌, arith}
+use Rattle.std.specs.Prelude.{IsSome, IsSomeAnd, is_some}
 use Rattle.std.specs.Option.{option_map, option_map_or}
 use Rattle.std.proofs.lemmas.Bool.{ne_eqb}
 use Rattle.cell.specs.Pictures.{Place}
 use Rattle.world.specs.Windows.{Window, WindowMap, Windows, with_change}
 use Rattle.world.specs.Panels.{Panels, standard_screen}
-use Rattle.world.specs.Sound.{AreSoundPanels, IsSoundPanel}
-use Rattle.world.specs.Effects.{Change, Edit, after_change, after_edit, asks, deletes, edits, makes, marks, moved_to, moves, under_number, shifts, with_part, with_place, touched_by_change}
+use Rattle.world.specs.Sound.{AreSoundPanels}
+use Rattle.world.specs.Effects.{Change, Edit, after_change, after_edit, deletes, edits, moved_to, under_number}
 use Rattle.world.proofs.Allowed.{IsAllowed, not-in-panel}
 use Rattle.world.proofs.PictureLaws.{SameView}
-use Rattle.world.proofs.ViewLaws.{Outline, outline_of}
 use Rattle.world.proofs.WritingLaws.{view-edit}
 
 abbrev pub has_place : Option Window → Bool
@@ -20,59 +19,39 @@ has_place o = option_map_or (λ a. is_some a.place) o false
 abbrev pub SamePlaces : Windows → Windows → Type 0
 SamePlaces one other = (u : ℕ) → has_place (one.window u) ≡ has_place (other.window u)
 
-same_mapped : (o : Option Window) (change : Window → Window) → ((a : Window) → is_some (change a).place ≡ is_some a.place) → has_place (option_map change o) ≡ has_place o
-same_mapped o change h = grind arith
-
 pub same_if : (b : Bool) (o : Option Window) (change : Window → Window) → ((a : Window) → is_some (change a).place ≡ is_some a.place)
     → has_place (if b then option_map change o else o) ≡ has_place o
-same_if b o change h = grind (arith, same_mapped)
+same_if b o change h = grind arith
 
 -- ---- one change
 
 pub places-changed : (windows : Windows) (w : ℕ) (change : Window → Window) → ((a : Window) → is_some (change a).place ≡ is_some a.place)
     → SamePlaces (record windows { window = with_change windows.window w change }) windows
-places-changed windows w change h u = same_if (u == w) (windows.window u) change h
+places-changed windows w change h u = grind arith
 
 -- ---- edits and marks
 
-place-outline : (o : Option Window) → has_place o ≡ option_map_or (λ (r : Outline). is_some r.place) (outline_of o) false
-place-outline o = grind arith
-
 -- windows of the same outlines
 places-view : (new old : Windows) → SameView new.window old.window → SamePlaces new old
-places-view new old view u = grind (arith, place-outline)
+places-view new old view u = grind arith
 
 pub places-edit : (windows : Windows) (edit : Edit) → SamePlaces (after_edit windows edit) windows
-places-edit windows edit = places-view (after_edit windows edit) windows (view-edit windows edit)
+places-edit windows edit = grind (arith, places-view, view-edit)
 
 -- ---- changes
 
 pub keeps-other : (windows : Windows) (n : ℕ) (o : Option Window) (w : ℕ) → w ≢ n → has_place (windows.window w) ≡ true → has_place ((under_number windows n o).window w) ≡ true
 keeps-other windows n o w other h = grind (arith, ne_eqb)
 
--- a new window's number is no number of a window that has a place
-has-none : (window : WindowMap) (n w : ℕ) → window n ≡ None → has_place (window w) ≡ true → w ≢ n
-has-none window n w free h same = grind arith
-
-moved-there : (o : Option Window) (y x : ℕ) → has_place o ≡ true → has_place (option_map (with_place y x) o) ≡ true
-moved-there o y x h = grind arith
-
-moved-if : (b : Bool) (o : Option Window) (y x : ℕ) → has_place o ≡ true → has_place (if b then option_map (with_place y x) o else o) ≡ true
-moved-if b o y x h = grind (arith, moved-there)
-
 pub keeps-moved : (windows : Windows) (v : ℕ) (place : Place) (w : ℕ) → has_place (windows.window w) ≡ true → has_place ((moved_to windows v place).window w) ≡ true
-keeps-moved windows v place w h = moved-if (w == v) (windows.window w) place.0 place.1 h
+keeps-moved windows v place w h = grind arith
 
 -- the window of a panel
 pub keeps-change : (windows : Windows) (panels : Panels) (change : Change) → AreSoundPanels windows.window panels → IsAllowed windows panels change
     → (p w : ℕ) → panels.window p ≡ Some w → has_place (windows.window w) ≡ true → has_place ((after_change windows change).window w) ≡ true
-keeps-change windows panels (asks reply) sound allowed p w is h = h
-keeps-change windows panels (edits edit) sound allowed p w is h = places-edit windows edit w ∙ h
-keeps-change windows panels (marks test change) sound allowed p w is h = same_if (test w) (windows.window w) (touched_by_change (change w)) (λ a. refl) ∙ h
-keeps-change windows panels (makes n a) sound allowed p w is h = keeps-other windows n a w (has-none windows.window n w allowed h) h
+keeps-change windows panels (edits edit) sound allowed p w is h = grind (arith, places-edit)
 keeps-change windows panels (deletes v) sound allowed p w is h = keeps-other windows v None w (λ same. not-in-panel windows.window panels v sound allowed.1 p w is same) h
-keeps-change windows panels (moves v place) sound allowed p w is h = keeps-moved windows v place w h
-keeps-change windows panels (shifts v place) sound allowed p w is h = places-changed windows v (with_part place.0 place.1) (λ a. refl) w ∙ h
+keeps-change windows panels change sound allowed p w is h = grind (arith, keeps-other, keeps-moved, places-changed, same_if)
 
 -- ---- panels
 
@@ -80,14 +59,9 @@ pub there-true : (o : Option Window) → IsSomeAnd o (λ a. IsSome a.place) → 
 there-true o h = grind arith
 
 pub true-there : (o : Option Window) → has_place o ≡ true → IsSomeAnd o (λ a. IsSome a.place)
-true-there None h = cc
-true-there (Some a) h = h
+true-there o h = grind arith
 
 module _ (panels : Panels) (old new : WindowMap) (keeps : (p w : ℕ) → panels.window p ≡ Some w → w ≢ standard_screen → has_place (old w) ≡ true → has_place (new w) ≡ true) where
-  panel-kept : (p : ℕ) (o : Option ℕ) → panels.window p ≡ o → MatchOption o ⊤ (IsSoundPanel old panels p) → MatchOption o ⊤ (IsSoundPanel new panels p)
-  panel-kept p None is h = h
-  panel-kept p (Some w) is h = grind (arith, true-there, there-true)
-
   -- panels whose windows keep their places stay sound
   pub panels-kept : AreSoundPanels old panels → AreSoundPanels new panels
-  panels-kept h = record { once = h.once; visible = h.visible; each = λ p. panel-kept p (panels.window p) refl (h.each p) }
+  panels-kept h = grind (arith, true-there, there-true)

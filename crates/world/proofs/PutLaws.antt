@@ -1,26 +1,20 @@
 -- Writes through one window: what it shows after one, and when several are one.
-use Rattle.std.proofs.Common.{◌≡◌, ℕ, ◌+◌, ◌<◌, Bool, true, false, if◌then◌else◌, ◌==◌, ◌&&◌, Option, Some, None, is_some, unwrap_or, ap, arith, refl, sym, ◌∙◌}
+use Rattle.std.proofs.Common.{◌≡◌, ℕ, ◌+◌, ◌<◌, if◌then◌else◌, ◌==◌, Option, Some, None, is_some, unwrap_or, ap, arith, refl, ◌∙◌}
 use Rattle.std.specs.Option.{option_map}
 use Rattle.std.proofs.lemmas.Bool.{ne_eqb}
 use Rattle.std.proofs.lemmas.Bool.Decides.{nat_tests}
 use Rattle.cell.specs.Glyphs.{Glyph}
-use Rattle.world.specs.Windows.{Window, WindowMap, GridPlace, Drawing, own, cell_at, within, grid_drawing, laid_over, touched_below, touched_by, after_drawing, put_from, put_windows, onward, over}
+use Rattle.world.specs.Windows.{Window, WindowMap, GridPlace, Drawing, own, cell_at, within, grid_drawing, laid_over, touched_below, after_drawing, put_windows, onward, over}
 use Rattle.world.proofs.WindowLaws.{own-onward, put-put, put-takes, cell_at-kept}
 
 -- ---- only what is in the window is drawn
-
-if-same : (t : Bool) (o p : Option Glyph) → (t ≡ true → o ≡ p) → (if t then o else None) ≡ (if t then p else None)
-if-same t o p h = grind arith
-
-both-true : (s t : Bool) → (s && t) ≡ true → (s ≡ true) × (t ≡ true)
-both-true s t h = grind arith
 
 -- two drawings that agree in the window
 abbrev pub AreSame : Window → Drawing → Drawing → Type 0
 AreSame a f g = (y x : ℕ) → y < a.lines → x < a.columns → f y x ≡ g y x
 
 within-same : (a : Window) (f g : Drawing) → AreSame a f g → within a f ≡ within a g
-within-same a f g same = grind (arith, if-same, both-true, nat_tests)
+within-same a f g same = grind (arith, nat_tests)
 
 -- ---- equal drawings are one write
 
@@ -34,33 +28,13 @@ drawn-itself : (w : ℕ) (a : Window) (p : GridPlace) (f g : Drawing) (u : ℕ) 
 unfolding drawn_as
 drawn-itself w a p f g u e = ap (drawn_as w a p u) e
 
-drawn-other : (t q : Bool) (a b : Window) (p : GridPlace) (f g : Drawing) → q ≡ false → within a f ≡ within a g
-    → record b { backing = (if t then laid_over (grid_drawing p (within a f)) b.backing else b.backing); touched = (if q then touched_by f b else b.touched) }
-    ≡ record b { backing = (if t then laid_over (grid_drawing p (within a g)) b.backing else b.backing); touched = (if q then touched_by g b else b.touched) }
-drawn-other t q a b p f g apart e = grind arith
-
-option-other : (w : ℕ) (a : Window) (p : GridPlace) (f g : Drawing) (u : ℕ) (o : Option Window) → (u == w) ≡ false → within a f ≡ within a g
-    → option_map (after_drawing w a p f u) o ≡ option_map (after_drawing w a p g u) o
-option-other w a p f g u o apart e = grind (arith, drawn-other)
-
-same-at : (window : WindowMap) (w : ℕ) (a : Window) (p : GridPlace) (f g : Drawing) → window w ≡ Some a → within a f ≡ within a g
-    → (u : ℕ) → option_map (after_drawing w a p f u) (window u) ≡ option_map (after_drawing w a p g u) (window u)
-same-at window w a p f g there e u = grind (arith, drawn-itself, option-other, ne_eqb)
-
-same-from : (window : WindowMap) (w : ℕ) (a : Window) (s : Option GridPlace) (f g : Drawing) → window w ≡ Some a → within a f ≡ within a g
-    → put_from window w (Some a) s f ≡ put_from window w (Some a) s g
-same-from window w a s f g there e = grind (arith, same-at)
-
 pub put-same : (window : WindowMap) (w : ℕ) (a : Window) (f g : Drawing) → window w ≡ Some a → AreSame a f g → put_windows window w f ≡ put_windows window w g
-put-same window w a f g there same =
-    ap (λ o. put_from window w o (own window w 0 0) f) there
-    ∙ same-from window w a (own window w 0 0) f g there (within-same a f g same)
-    ∙ sym (ap (λ o. put_from window w o (own window w 0 0) g) there)
+put-same window w a f g there same = grind (arith, drawn-itself, ne_eqb, within-same)
 
 -- a write and then another are one write of a drawing that has both
 pub put-then : (window : WindowMap) (w : ℕ) (a : Window) (f g h : Drawing) → window w ≡ Some a → AreSame a (over g f) h
     → put_windows (put_windows window w f) w g ≡ put_windows window w h
-put-then window w a f g h there same = put-put window w f g ∙ put-same window w a (over g f) h there same
+put-then window w a f g h there same = rw put-put (put-same window w a (over g f) h there same)
 
 -- ---- what the window shows after a write
 
@@ -75,4 +49,4 @@ shown-by window w a spot f y x None there leads below left is =
 
 pub shown-put : (window : WindowMap) (w : ℕ) (a : Window) (spot : GridPlace) (f : Drawing) (y x : ℕ) → window w ≡ Some a → own window w 0 0 ≡ Some spot
     → y < a.lines → x < a.columns → cell_at (put_windows window w f) w y x ≡ unwrap_or (f y x) (cell_at window w y x)
-shown-put window w a spot f y x there leads below left = shown-by window w a spot f y x (f y x) there leads below left refl
+shown-put window w a spot f y x there leads below left = grind (arith, shown-by)

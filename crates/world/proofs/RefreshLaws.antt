@@ -1,13 +1,13 @@
 -- Refreshing windows changes neither what the search from the top finds nor the topmost's cursor.
-use Rattle.std.proofs.Common.{◌≡◌, ℕ, Bool, true, List, refl, arith}
+use Rattle.std.proofs.Common.{◌≡◌, ℕ, Bool, List, arith}
 use Rattle.world.specs.Windows.{WindowMap, Windows, with_change}
-use Rattle.world.specs.Panels.{Panels, cursor_of_topmost, cursor_on_screen, found_from_top, topmost, window_or_standard}
+use Rattle.world.specs.Panels.{Panels, cursor_of_topmost, found_from_top}
 use Rattle.world.specs.World.{World}
 use Rattle.world.specs.Effects.{composed_windows, unmarked_lines, with_unmarked}
 use Rattle.world.specs.calls.Dispatch.{world_after}
 use Rattle.world.specs.declared.call.Call.TheVariants as calls
 use Rattle.world.specs.declared.call.Refresh.{Refresh}
-use Rattle.world.specs.declared.call.Refresh.TheVariants.{Noutrefresh, Pnoutrefresh, UpdatePanels}
+use Rattle.world.specs.declared.call.Refresh.TheVariants.{UpdatePanels}
 use Rattle.world.proofs.ViewLaws.{SameCells, backing_of, changed-cells, found-dressed, outline_of, place-same, same-if}
 
 module _ (window : WindowMap) (ws : List ℕ) where
@@ -17,11 +17,8 @@ module _ (window : WindowMap) (ws : List ℕ) where
   pub found-unmarked : (panels : Panels) (y x : ℕ) → found_from_top (with_unmarked window ws) panels y x ≡ found_from_top window panels y x
   found-unmarked panels y x = found-dressed (with_unmarked window ws) window unmarked-cells panels y x
 
-  cursor_on_screen-unmarked : (w : ℕ) → cursor_on_screen (with_unmarked window ws) w ≡ cursor_on_screen window w
-  cursor_on_screen-unmarked w = grind (arith, place-same, same-if)
-
   pub cursor-unmarked : (panels : Panels) → cursor_of_topmost (with_unmarked window ws) panels ≡ cursor_of_topmost window panels
-  cursor-unmarked panels = cursor_on_screen-unmarked (window_or_standard panels (topmost panels))
+  cursor-unmarked panels = grind (arith, place-same, same-if)
 
 -- ---- some lines of a window
 
@@ -32,7 +29,5 @@ found-lines windows w test panels y x = search (arith, found-dressed, changed-ce
 pub found-refresh : (world : World) (refresh : Refresh) (y x : ℕ)
     → found_from_top (world_after world (calls.Refresh refresh)).windows.window (world_after world (calls.Refresh refresh)).panels y x
     ≡ found_from_top world.windows.window world.panels y x
-found-refresh world (Noutrefresh win) y x = found-lines world.windows win.0 (λ y. true) world.panels y x
-found-refresh world (Pnoutrefresh pad pminrow pmincol sminrow smincol smaxrow smaxcol) y x = grind (arith, found-lines)
 found-refresh world UpdatePanels y x = found-unmarked world.windows.window (composed_windows world) world.panels y x
-found-refresh world _ y x = refl
+found-refresh world refresh y x = grind (arith, found-lines)

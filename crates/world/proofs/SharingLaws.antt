@@ -1,11 +1,10 @@
 -- The places at which one window shows cells of a rectangle of another are a rectangle, or there are none.
-use Rattle.std.proofs.Common.{◌≡◌, ℕ, ◌+◌, ◌-◌, ◌<◌, ◌≤◌, min, true, ◌==◌, ◌&&◌, Option, Some, None, IsSomeAnd, subst, inl, inr, ap, arith, refl, sym, ◌∙◌, eq-eqb}
-use Rattle.std.specs.Option.{option_map}
+use Rattle.std.proofs.Common.{◌≡◌, ℕ, ◌+◌, ◌-◌, ◌<◌, ◌≤◌, min, true, Option, Some, arith, refl, eq-eqb}
 use Rattle.std.proofs.lemmas.Bool.{cases_eq, cases_lt, and_parts, and_from, eqb-true}
-use Rattle.world.specs.Windows.{Window, WindowMap, GridPlace, onward, own}
+use Rattle.world.specs.Windows.{Window, WindowMap, GridPlace, own}
 use Rattle.world.specs.Frames.{AreRectangle}
 use Rattle.world.specs.Sharing.{SharesPart, is_same_place}
-use Rattle.world.proofs.Below.{any_in-some, any_in-true}
+use Rattle.world.proofs.Below.{FoundIn, any_in-some, any_in-true}
 use Rattle.world.proofs.WindowLaws.{own-onward}
 use Rattle.cell.specs.declared.window.Rect.{Rect}
 
@@ -17,16 +16,10 @@ pub record SamePlace (p q : GridPlace) : Type 0 where
   pub column : p.column ≡ q.column
 
 pub same-true : (p q : GridPlace) → is_same_place (Some p) (Some q) ≡ true → SamePlace p q
-same-true p q h =
-    let grid = and_parts (p.grid == q.grid) (p.line == q.line && p.column == q.column) h in
-    let place = and_parts (p.line == q.line) (p.column == q.column) grid.1 in
-    record { grid = eqb-true p.grid q.grid grid.0; line = eqb-true p.line q.line place.0; column = eqb-true p.column q.column place.1 }
+same-true p q h = grind (arith, and_parts, eqb-true)
 
 pub true-same : (p q : GridPlace) → SamePlace p q → is_same_place (Some p) (Some q) ≡ true
 true-same p q h = grind (arith, and_from, eq-eqb)
-
-none-same : (o : Option GridPlace) → is_same_place o None ≡ true → ⊥
-none-same o h = grind arith
 
 -- ---- the shared places of two windows
 
@@ -35,76 +28,12 @@ module _ (window : WindowMap) (w : ℕ) (r : Rect) (u : ℕ) where
   Rectangle = (o : Option Rect) × AreRectangle (SharesPart window w r u) o
 
   nowhere : ((y x : ℕ) → SharesPart window w r u y x → ⊥) → Rectangle
-  nowhere never = (None, (never, λ y x h. elim h [ ]))
+  nowhere never = grind arith
 
-  onward-none : (v z : ℕ) (t : ℕ) → own window t 0 0 ≡ None → own window t v z ≡ None
-  onward-none v z t h = own-onward window t v z ∙ ap (option_map (onward v z)) h
-
-  unless-there : window u ≡ None → Rectangle
-  unless-there h = nowhere (λ y x has. subst (λ (o : Option Window). IsSomeAnd o (λ a. (y < a.lines) × (x < a.columns))) h has.0)
-
-  unless-first : own window w 0 0 ≡ None → Rectangle
-  unless-first h = nowhere (λ y x has.
-      let found = any_in-true r (λ v z. is_same_place (own window w v z) (own window u y x)) has.1 in
-      let lost : is_same_place None (own window u y x) ≡ true = subst (λ (o : Option GridPlace). is_same_place o (own window u y x) ≡ true) (onward-none found.line found.column w h) found.passes in
-      cc)
-
-  unless-second : own window u 0 0 ≡ None → Rectangle
-  unless-second h = nowhere (λ y x has.
-      let found = any_in-true r (λ v z. is_same_place (own window w v z) (own window u y x)) has.1 in
-      none-same (own window w found.line found.column)
-      (subst (λ (o : Option GridPlace). is_same_place (own window w found.line found.column) o ≡ true) (onward-none y x u h) found.passes))
+  found : (y x : ℕ) → SharesPart window w r u y x → FoundIn r (λ v z. is_same_place (own window w v z) (own window u y x))
+  found y x has = any_in-true r (λ v z. is_same_place (own window w v z) (own window u y x)) has.1
 
   module _ (b : Window) (p q : GridPlace) (there : window u ≡ Some b) (leads_w : own window w 0 0 ≡ Some p) (leads_u : own window u 0 0 ≡ Some q) where
-    -- what it is to be shared, in numbers
-    record Within (y x : ℕ) : Type 0 where
-      grid : p.grid ≡ q.grid
-      top : p.line + r.top ≤ q.line + y
-      bottom : q.line + y ≤ p.line + r.bottom
-      left : p.column + r.left ≤ q.column + x
-      right : q.column + x ≤ p.column + r.right
-      below : y < b.lines
-      before : x < b.columns
-
-    place_w : (v z : ℕ) → own window w v z ≡ Some (onward v z p)
-    place_w v z = own-onward window w v z ∙ ap (option_map (onward v z)) leads_w
-
-    place_u : (y x : ℕ) → own window u y x ≡ Some (onward y x q)
-    place_u y x = own-onward window u y x ∙ ap (option_map (onward y x)) leads_u
-
-    test-is : (v z y x : ℕ) → is_same_place (own window w v z) (own window u y x) ≡ is_same_place (Some (onward v z p)) (Some (onward y x q))
-    test-is v z y x = ap (λ o. is_same_place o (own window u y x)) (place_w v z) ∙ ap (λ o. is_same_place (Some (onward v z p)) o) (place_u y x)
-
-    in-numbers : (y x : ℕ) → SharesPart window w r u y x → Within y x
-    in-numbers y x has =
-        let found = any_in-true r (λ v z. is_same_place (own window w v z) (own window u y x)) has.1 in
-        let same = same-true (onward found.line found.column p) (onward y x q) (sym (test-is found.line found.column y x) ∙ found.passes) in
-        let place = subst (λ (o : Option Window). IsSomeAnd o (λ a. (y < a.lines) × (x < a.columns))) there has.0 in
-        let top = found.inside.top in
-        let bottom = found.inside.bottom in
-        let left = found.inside.left in
-        let right = found.inside.right in
-        let line : p.line + found.line ≡ q.line + y = same.line in
-        let column : p.column + found.column ≡ q.column + x = same.column in
-        record { grid = same.grid; top = omega arith; bottom = omega arith; left = omega arith; right = omega arith; below = place.0; before = place.1 }
-
-    from-numbers : (y x : ℕ) → Within y x → SharesPart window w r u y x
-    from-numbers y x h =
-        let top = h.top in
-        let bottom = h.bottom in
-        let left = h.left in
-        let right = h.right in
-        let v = q.line + y - p.line in
-        let z = q.column + x - p.column in
-        let line : p.line + (q.line + y - p.line) ≡ q.line + y = omega arith in
-        let column : p.column + (q.column + x - p.column) ≡ q.column + x = omega arith in (
-          subst (λ (o : Option Window). IsSomeAnd o (λ a. (y < a.lines) × (x < a.columns))) (sym there) (h.below, h.before),
-          any_in-some r (λ v z. is_same_place (own window w v z) (own window u y x)) (q.line + y - p.line) (q.column + x - p.column)
-              (record { top = omega arith; bottom = omega arith; left = omega arith; right = omega arith })
-              (test-is (q.line + y - p.line) (q.column + x - p.column) y x
-              ∙ true-same (onward (q.line + y - p.line) (q.column + x - p.column) p) (onward y x q) (record { grid = h.grid; line = line; column = column })),
-        )
-
     -- the first line and column, and the first ones after them that aren't shared
     first_line : ℕ
     first_line = p.line + r.top - q.line
@@ -118,96 +47,47 @@ module _ (window : WindowMap) (w : ℕ) (r : Rect) (u : ℕ) where
     end_column : ℕ
     end_column = min b.columns (p.column + r.right + 1 - q.column)
 
+    -- what it is to be shared, in numbers
     record InRange (y x : ℕ) : Type 0 where
-      top_is : first_line ≤ y
-      bottom_is : y < end_line
-      left_is : first_column ≤ x
-      right_is : x < end_column
+      grid : p.grid ≡ q.grid
+      top : first_line ≤ y
+      bottom : y < end_line
+      left : first_column ≤ x
+      right : x < end_column
 
-    in-range : (y x : ℕ) → Within y x → InRange y x
+    in-range : (y x : ℕ) → SharesPart window w r u y x → InRange y x
     unfolding first_line first_column end_line end_column
-    in-range y x h =
-        let top_ = h.top in
-        let bottom_ = h.bottom in
-        let left_ = h.left in
-        let right_ = h.right in
-        let below_ = h.below in
-        let before_ = h.before in
-        record { top_is = omega arith; bottom_is = omega arith; left_is = omega arith; right_is = omega arith }
+    in-range y x has = let at = found y x has in grind (arith, and_parts, eqb-true, own-onward)
 
-    from-range : (y x : ℕ) → p.grid ≡ q.grid → InRange y x → Within y x
+    from-range : (y x : ℕ) → InRange y x → SharesPart window w r u y x
     unfolding first_line first_column end_line end_column
-    from-range y x grid h =
-        let top_ = h.top_is in
-        let bottom_ = h.bottom_is in
-        let left_ = h.left_is in
-        let right_ = h.right_is in
-        record { grid = grid; top = omega arith; bottom = omega arith; left = omega arith; right = omega arith; below = omega arith; before = omega arith }
-
-    shared-at : (y x : ℕ) → p.grid ≡ q.grid → first_line ≤ y → y < end_line → first_column ≤ x → x < end_column → SharesPart window w r u y x
-    shared-at y x grid a c d e = from-numbers y x (from-range y x grid (record { top_is = a; bottom_is = c; left_is = d; right_is = e }))
+    from-range y x h = grind (arith, (any_in-some r (λ v z. is_same_place (own window w v z) (own window u y x)) (q.line + y - p.line) (q.column + x - p.column)), true-same, own-onward)
 
     rectangle-of : p.grid ≡ q.grid → first_line < end_line → first_column < end_column → Rectangle
-    rectangle-of grid lines columns =
-        let high : first_line ≤ first_line = omega arith in
-        let low : first_line ≤ end_line - 1 = omega arith in
-        let last : end_line - 1 < end_line = omega arith in
-        let near : first_column ≤ first_column = omega arith in
-        let far : first_column ≤ end_column - 1 = omega arith in
-        let end : end_column - 1 < end_column = omega arith in (
-          Some (record { top = first_line; left = first_column; bottom = end_line - 1; right = end_column - 1 }),
-          (
-            record {
-              holds = λ y x has.
-                  let range = in-range y x (in-numbers y x has) in
-                  let above = range.top_is in
-                  let under = range.bottom_is in
-                  let before = range.left_is in
-                  let beyond = range.right_is in
-                  record { top = above; bottom = omega arith; left = before; right = omega arith };
-              top = (first_column, shared-at first_line first_column grid high lines near columns);
-              bottom = (first_column, shared-at (end_line - 1) first_column grid low last near columns);
-              left = (first_line, shared-at first_line first_column grid high lines near columns);
-              right = (first_line, shared-at first_line (end_column - 1) grid high lines far end);
-            },
-            λ y x inside.
-                let under = inside.bottom in
-                let beyond = inside.right in
-                shared-at y x grid inside.top (omega arith) inside.left (omega arith),
-          ),
-        )
+    rectangle-of grid lines columns = (
+      Some (record { top = first_line; left = first_column; bottom = end_line - 1; right = end_column - 1 }),
+      (
+        record {
+          holds = λ y x has. let range = in-range y x has in grind arith;
+          top = (first_column, from-range first_line first_column (grind arith));
+          bottom = (first_column, from-range (end_line - 1) first_column (grind arith));
+          left = (first_line, from-range first_line first_column (grind arith));
+          right = (first_line, from-range first_line (end_column - 1) (grind arith));
+        },
+        λ y x inside. from-range y x (grind arith),
+      ),
+    )
 
-    apart : (p.grid ≡ q.grid → ⊥) → Rectangle
-    apart other = nowhere (λ y x has. let numbers = in-numbers y x has in other numbers.grid)
-
-    above : end_line ≤ first_line → Rectangle
-    above h = nowhere (λ y x has.
-        let range = in-range y x (in-numbers y x has) in
-        let first = range.top_is in
-        let last = range.bottom_is in
-        omega arith)
-
-    beside : end_column ≤ first_column → Rectangle
-    beside h = nowhere (λ y x has.
-        let range = in-range y x (in-numbers y x has) in
-        let first = range.left_is in
-        let last = range.right_is in
-        omega arith)
+    -- where the grids differ, or no line or no column is left
+    outside : (p.grid ≡ q.grid → first_line < end_line → first_column < end_column → ⊥) → Rectangle
+    outside never = nowhere (λ y x has. let range = in-range y x has in grind arith)
 
     rectangle-there : Rectangle
-    rectangle-there = elim (cases_eq p.grid q.grid) [
-      | inr other ↦ apart other
-      | inl grid ↦ elim (cases_lt first_line end_line) [
-        | inr none ↦ above none
-        | inl lines ↦ elim (cases_lt first_column end_column) [ inr none ↦ beside none | inl columns ↦ rectangle-of grid lines columns ]
-      ]
-    ]
+    rectangle-there = grind (arith, cases_eq, cases_lt, rectangle-of, outside)
 
   rectangle-by : (o : Option Window) (s t : Option GridPlace) → window u ≡ o → own window w 0 0 ≡ s → own window u 0 0 ≡ t → Rectangle
-  rectangle-by None s t there leads_w leads_u = unless-there there
-  rectangle-by (Some b) None t there leads_w leads_u = unless-first leads_w
-  rectangle-by (Some b) (Some p) None there leads_w leads_u = unless-second leads_u
   rectangle-by (Some b) (Some p) (Some q) there leads_w leads_u = rectangle-there b p q there leads_w leads_u
+  rectangle-by o s t there leads_w leads_u = nowhere (λ y x has. let at = found y x has in grind (arith, own-onward))
 
   pub shared-rectangle : (o : Option Rect) × AreRectangle (SharesPart window w r u) o
   shared-rectangle = rectangle-by (window u) (own window w 0 0) (own window u 0 0) refl refl refl

@@ -1,25 +1,24 @@
 -- A call on a panel leaves the picture as it is at every place of the screen where the panel isn't seen, before or
 -- after.
-use Rattle.std.proofs.Common.{◌≡◌, ◌≢◌, ℕ, ◌<◌, Bool, true, false, not, ◌==◌, ◌&&◌, ◌||◌, Option, Some, None, List, [], ◌∷◌, ◌++◌, inl, inr, ap, refl, sym, ◌∙◌, arith}
-use Rattle.std.specs.Prelude.{cond, find, if◌then◌else◌, is_none, reverse, unwrap_or, ⊤}
+use Rattle.std.proofs.Common.{◌≡◌, ◌≢◌, ℕ, ◌<◌, Bool, true, false, not, ◌==◌, ◌&&◌, ◌||◌, Option, Some, None, List, [], ◌∷◌, ◌++◌, inl, inr, ap, refl, arith}
+use Rattle.std.specs.Prelude.{find, is_none, reverse, unwrap_or, ⊤}
 use Rattle.std.specs.List.{last_or, list_any}
 use Rattle.std.specs.Option.{option_map_or}
 use mathlib.Core.List.{reverse_aux}
 use mathlib.Core.Path.{fun_ext}
-use Rattle.std.proofs.lemmas.Bool.{and_parts, and_right, cases_eq, eq-eqb, eqb-true, ne_eqb, or_parts, true≢false}
+use Rattle.std.proofs.lemmas.Bool.{cases_eq, eq-eqb, eqb-true, ne_eqb, or_parts}
 use Rattle.std.proofs.Math.Bool.{and-false}
 use Rattle.std.proofs.lemmas.List.{append-nil}
 use Rattle.std.proofs.lemmas.List.Elements.{filter-append}
 use Rattle.world.specs.Windows.{WindowMap, Windows}
-use Rattle.world.specs.Panels.{Panels, cell_on_screen, found_from_top, holds, owner, panel_holds, standard_screen, topmost, window_or_standard}
+use Rattle.world.specs.Panels.{Panels, cell_on_screen, found_from_top, holds, panel_holds, standard_screen, topmost, window_or_standard}
 use Rattle.world.specs.Sound.{AreSoundPanels, AreSoundWindows}
 use Rattle.world.specs.Effects.{Order, adds, carries, changes, with_entry, moved_to, orders, panels_after, windows_after}
-use Rattle.world.specs.calls.Affected.{order_shows_at, panel_shows_at, stays_on_top, window_on_top}
+use Rattle.world.specs.calls.Affected.{order_shows_at, panel_shows_at, stays_on_top}
 use Rattle.world.specs.calls.Stacking.{stacking_order, stacking_refusal, without}
 use Rattle.world.proofs.Allowed.{IsAllowed, passed, sound-panel}
 use Rattle.world.proofs.MoveLaws.{cell-placed, found-change, holds-placed}
 use Rattle.world.specs.declared.call.Stacking.{Stacking}
-use Rattle.world.specs.declared.call.Stacking.TheVariants.{MovePanel}
 
 -- ---- a search that passes the panel p by
 
@@ -32,21 +31,13 @@ module _ (p : ℕ) (test : ℕ → Bool) where
   Searches qs = (acc rest : List ℕ) → (list_any (λ k. k == p) qs && test p) ≡ false → find test acc ≡ find (off p test) rest
       → find test (reverse_aux qs acc) ≡ find (off p test) (reverse_aux (without p qs) rest)
 
-  step-off : (q : ℕ) (qs acc rest : List ℕ) (b : Bool) → (q == p) ≡ b → Searches qs → ((b || list_any (λ k. k == p) qs) && test p) ≡ false
-      → find test acc ≡ find (off p test) rest
-      → find test (reverse_aux qs (q ∷ acc)) ≡ find (off p test) (reverse_aux (cond (not b) (q ∷ without p qs) (without p qs)) rest)
-  step-off q qs acc rest b is later unseen same = grind (arith, eqb-true, and_right)
-
   search-off : (qs : List ℕ) → Searches qs
   search-off [] acc rest unseen same = same
-  search-off (q ∷ qs) acc rest unseen same = step-off q qs acc rest (q == p) refl (search-off qs) unseen same
-
-passing-at : (test : ℕ → Bool) (k q : ℕ) (rest : Option ℕ) (b : Bool) → test k ≡ b → cond b (Some k) rest ≡ Some q → (rest ≡ Some q → test q ≡ true) → test q ≡ true
-passing-at test k q rest b is found later = grind arith
+  search-off (q ∷ qs) acc rest unseen same = grind (arith, eqb-true, (search-off qs))
 
 passing : (test : ℕ → Bool) (ks : List ℕ) (q : ℕ) → find test ks ≡ Some q → test q ≡ true
 passing test [] q found = cc
-passing test (k ∷ ks) q found = passing-at test k q (find test ks) (test k) refl found (passing test ks q)
+passing test (k ∷ ks) q found = grind (arith, (passing test ks q))
 
 -- ---- the others stay as they were
 
@@ -59,153 +50,74 @@ module _ (new old : WindowMap) (after before : Panels) (p y x : ℕ) where
     standard : cell_on_screen new standard_screen y x ≡ cell_on_screen old standard_screen y x
 
   module _ (kept : AreOthersKept) (unseen : (panel_shows_at old before p y x || panel_shows_at new after p y x) ≡ false) where
-    both : (panel_shows_at old before p y x ≡ false) × (panel_shows_at new after p y x ≡ false)
-    both = or_parts (panel_shows_at old before p y x) (panel_shows_at new after p y x) unseen
-
     off-same : off p (panel_holds new after y x) ≡ off p (panel_holds old before y x)
     off-same = fun_ext (λ q. elim (cases_eq q p) [
       | inl same ↦ let is = eq-eqb q p same in rw is refl
       | inr other ↦ ap (λ b. not (q == p) && b) (kept.hold q other)
     ])
 
-    owner-after : owner new after y x ≡ find (off p (panel_holds old before y x)) (reverse (without p before.visible))
-    owner-after = search-off p (panel_holds new after y x) after.visible [] [] both.1 refl ∙ (λ i. find (off-same i) (reverse (kept.order i)))
-
-    owner-before : owner old before y x ≡ find (off p (panel_holds old before y x)) (reverse (without p before.visible))
-    owner-before = search-off p (panel_holds old before y x) before.visible [] [] both.0 refl
-
-    is-other : (q : ℕ) → not (q == p) ≡ true → q ≢ p
-    is-other q h same = let is = eq-eqb q p same in absurd (true≢false (sym h ∙ ap not is))
-
     cell-by : (o : Option ℕ) → find (off p (panel_holds old before y x)) (reverse (without p before.visible)) ≡ o
         → cell_on_screen new (window_or_standard after o) y x ≡ cell_on_screen old (window_or_standard before o) y x
-    cell-by None found = kept.standard
-    cell-by (Some q) found =
-        let parts = and_parts (not (q == p)) (panel_holds old before y x q) (passing (off p (panel_holds old before y x)) (reverse (without p before.visible)) q found) in
-        kept.cells q (is-other q parts.0) parts.1
+    cell-by o found = grind (arith, eq-eqb, (passing (off p (panel_holds old before y x)) (reverse (without p before.visible))))
 
     found-kept : found_from_top new after y x ≡ found_from_top old before y x
-    found-kept = grind (arith, owner-after, owner-before, cell-by)
+    found-kept = grind (arith, search-off, off-same, or_parts, cell-by)
 
 -- where no window changes
 reordered : (window : WindowMap) (after before : Panels) (p y x : ℕ) → without p after.visible ≡ without p before.visible → ((q : ℕ) → q ≢ p → after.window q ≡ before.window q)
     → (panel_shows_at window before p y x || panel_shows_at window after p y x) ≡ false → found_from_top window after y x ≡ found_from_top window before y x
-reordered window after before p y x order others =
-    found-kept window window after before p y x (record {
-      order = order;
-      hold = λ q other. ap (λ o. option_map_or (λ w. holds window w y x) o false) (others q other);
-      cells = λ q other there. ap (λ o. cell_on_screen window (unwrap_or o standard_screen) y x) (others q other);
-      standard = refl;
-    })
+reordered window after before p y x order others = grind (arith, found-kept)
 
 -- ---- where the panel p is on top and stays there
 
 -- the topmost panel, if it holds the place, is found first
 last-found : (test : ℕ → Bool) (p x : ℕ) (qs acc : List ℕ) → last_or (Some x) qs ≡ Some p → test p ≡ true → find test (reverse_aux qs (x ∷ acc)) ≡ Some p
-last-found test p x [] acc is holds = let same : x ≡ p = cc in ap (λ k. find test (k ∷ acc)) same ∙ ap (λ b. cond b (Some p) (find test acc)) holds
-last-found test p x (q ∷ qs) acc is holds = last-found test p q qs (x ∷ acc) is holds
+last-found test p x [] acc is holds = grind arith
+last-found test p x (q ∷ qs) acc is holds = grind (arith, (last-found test p q qs (x ∷ acc) is holds))
 
 top-found : (test : ℕ → Bool) (p : ℕ) (qs : List ℕ) → last_or None qs ≡ Some p → test p ≡ true → find test (reverse qs) ≡ Some p
 top-found test p [] is holds = cc
-top-found test p (q ∷ qs) is holds = last-found test p q qs [] is holds
+top-found test p (q ∷ qs) is holds = grind (arith, last-found)
 
 -- what it says that the panel p is on top with a window
-module _ (p : ℕ) where
-  top-by : (top : Option ℕ) (own : Option ℕ) (w : ℕ) → (if option_map_or (λ q. q == p) top false then own else None) ≡ Some w → (top ≡ Some p) × (own ≡ Some w)
-  top-by None own w is = cc
-  top-by (Some q) own w is = by-test (q == p) refl is where
-    by-test : (b : Bool) → (q == p) ≡ b → (if b then own else None) ≡ Some w → (Some q ≡ Some p) × (own ≡ Some w)
-    by-test true same is = (ap Some (eqb-true q p same), is)
-    by-test false other is = cc
+module _ (p : ℕ) (window : WindowMap) (after before : Panels) (y x : ℕ) (stays : stays_on_top before after p ≡ true) where
+  both-on-top : (w : ℕ) × (topmost before ≡ Some p) × (before.window p ≡ Some w) × (topmost after ≡ Some p) × (after.window p ≡ Some w)
+  both-on-top = grind (arith, eqb-true)
 
-  pub on-top : (panels : Panels) (w : ℕ) → window_on_top panels p ≡ Some w → (topmost panels ≡ Some p) × (panels.window p ≡ Some w)
-  on-top panels w is = top-by (topmost panels) (panels.window p) w is
-
-  same-by : (o n : Option ℕ) → option_map_or (λ w. option_map_or (λ u. u == w) n false) o false ≡ true → (w : ℕ) × (o ≡ Some w) × (n ≡ Some w)
-  same-by o n is = grind (arith, eqb-true)
-
-  module _ (window : WindowMap) (after before : Panels) (y x : ℕ) (stays : stays_on_top before after p ≡ true) where
-    both-on-top : (w : ℕ) × (topmost before ≡ Some p) × (before.window p ≡ Some w) × (topmost after ≡ Some p) × (after.window p ≡ Some w)
-    both-on-top = grind (arith, same-by, on-top)
-
-    held : (panels : Panels) (w : ℕ) → panels.window p ≡ Some w → panel_holds window panels y x p ≡ holds window w y x
-    held panels w is = ap (λ o. option_map_or (λ u. holds window u y x) o false) is
-
-    stays-by : (w : ℕ) → before.window p ≡ Some w → after.window p ≡ Some w → topmost before ≡ Some p → topmost after ≡ Some p
-        → without p after.visible ≡ without p before.visible → ((q : ℕ) → q ≢ p → after.window q ≡ before.window q)
-        → (b : Bool) → holds window w y x ≡ b → found_from_top window after y x ≡ found_from_top window before y x
-    stays-by w was is top tops order others true there =
-        ap (λ o. cell_on_screen window (window_or_standard after o) y x) (top-found (panel_holds window after y x) p after.visible tops (held after w is ∙ there))
-        ∙ ap (λ o. cell_on_screen window (unwrap_or o standard_screen) y x) (is ∙ sym was)
-        ∙ ap (λ o. cell_on_screen window (window_or_standard before o) y x) (sym (top-found (panel_holds window before y x) p before.visible top (held before w was ∙ there)))
-    stays-by w was is top tops order others false there =
-        let old : panel_shows_at window before p y x ≡ false = rw (held before w was ∙ there) (and-false (list_any (λ q. q == p) before.visible)) in
-        let new : panel_shows_at window after p y x ≡ false = rw (held after w is ∙ there) (and-false (list_any (λ q. q == p) after.visible)) in
-        reordered window after before p y x order others (rw (old, new) refl)
-
-    pub stays-found : without p after.visible ≡ without p before.visible → ((q : ℕ) → q ≢ p → after.window q ≡ before.window q)
-        → found_from_top window after y x ≡ found_from_top window before y x
-    stays-found order others =
-        let both = both-on-top in
-        stays-by both.0 both.2 both.4 both.1 both.3 order others (holds window both.0 y x) refl
+  pub stays-found : without p after.visible ≡ without p before.visible → ((q : ℕ) → q ≢ p → after.window q ≡ before.window q)
+      → found_from_top window after y x ≡ found_from_top window before y x
+  stays-found order others = grind (arith, both-on-top, top-found, and-false, (reordered window after before p y x order others))
 
 -- ---- the order without the panel p
 
 module _ (p : ℕ) where
-  itself : (p == p) ≡ true
-  itself = eq-eqb p p refl
-
-  without-itself : (qs : List ℕ) → without p (p ∷ qs) ≡ without p qs
-  without-itself qs = rw itself refl
-
   without-last : (qs : List ℕ) → without p (qs ++ p ∷ []) ≡ without p qs
-  without-last qs = filter-append (λ q. not (q == p)) qs (p ∷ []) ∙ ap (λ l. without p qs ++ l) (without-itself []) ∙ append-nil (without p qs)
-
-  twice-at : (q : ℕ) (qs : List ℕ) (b : Bool) → (q == p) ≡ b → without p qs ≡ qs → without p (cond (not b) (q ∷ qs) qs) ≡ cond (not b) (q ∷ qs) qs
-  twice-at q qs b is same = grind arith
+  without-last qs = grind (arith, filter-append, append-nil, eq-eqb)
 
   without-twice : (qs : List ℕ) → without p (without p qs) ≡ without p qs
   without-twice [] = refl
-  without-twice (q ∷ qs) = twice-at q (without p qs) (q == p) refl (without-twice qs)
-
-  shown-order : (qs : List ℕ) → without p (without p qs ++ p ∷ []) ≡ without p qs
-  shown-order qs = without-last (without p qs) ∙ without-twice qs
+  without-twice (q ∷ qs) = grind (arith, (without-twice qs))
 
   given-other : (window : ℕ → Option ℕ) (w : Option ℕ) (q : ℕ) → q ≢ p → with_entry window p w q ≡ window q
-  given-other window w q other = let apart = ne_eqb q p other in rw apart refl
+  given-other window w q other = grind (arith, ne_eqb)
 
 -- ---- move_panel
 
 module _ (windows : Windows) (panels : Panels) (p v z y x : ℕ) (sound : AreSoundPanels windows.window panels) where
-  other-window-by : (o : Option ℕ) → panels.window p ≡ o → (q u : ℕ) → q ≢ p → panels.window q ≡ Some u → u ≢ unwrap_or o standard_screen
-  other-window-by None is q u other has same = (sound-panel windows.window panels sound q u has).not_standard same
-  other-window-by (Some w) is q u other has same = other (sym ((sound-panel windows.window panels sound q u has).alone p (is ∙ ap Some (sym same))))
-
-  other-window : (q u : ℕ) → q ≢ p → panels.window q ≡ Some u → u ≢ window_or_standard panels (Some p)
-  other-window = other-window-by (panels.window p) refl
-
-  other-standard : (o : Option ℕ) → panels.window p ≡ o → is_none o ≡ false → standard_screen ≢ unwrap_or o standard_screen
-  other-standard None is some same = cc
-  other-standard (Some w) is some same = (sound-panel windows.window panels sound p w is).not_standard (sym same)
-
   holds-by : (q : ℕ) → q ≢ p → (o : Option ℕ) → panels.window q ≡ o
       → option_map_or (λ u. holds (moved_to windows (window_or_standard panels (Some p)) (v, z)).window u y x) o false ≡ option_map_or (λ u. holds windows.window u y x) o false
-  holds-by q other o is = grind (arith, holds-placed, other-window)
+  holds-by q other o is = grind (arith, holds-placed, sound-panel)
 
   cells-by : (q : ℕ) → q ≢ p → (o : Option ℕ) → panels.window q ≡ o → option_map_or (λ u. holds windows.window u y x) o false ≡ true
       → cell_on_screen (moved_to windows (window_or_standard panels (Some p)) (v, z)).window (unwrap_or o standard_screen) y x ≡ cell_on_screen windows.window (unwrap_or o standard_screen) y x
-  cells-by q other o is there = grind (arith, cell-placed, other-window)
+  cells-by q other o is there = grind (arith, cell-placed, sound-panel)
 
   found-move_panel : is_none (panels.window p) ≡ false
       → (panel_shows_at windows.window panels p y x || panel_shows_at (moved_to windows (window_or_standard panels (Some p)) (v, z)).window panels p y x) ≡ false
       → found_from_top (moved_to windows (window_or_standard panels (Some p)) (v, z)).window panels y x ≡ found_from_top windows.window panels y x
   found-move_panel some unseen =
-      found-kept (moved_to windows (window_or_standard panels (Some p)) (v, z)).window windows.window panels panels p y x (record {
-        order = refl;
-        hold = λ q other. holds-by q other (panels.window q) refl;
-        cells = λ q other there. cells-by q other (panels.window q) refl there;
-        standard = cell-placed windows (window_or_standard panels (Some p)) v z y x standard_screen (other-standard (panels.window p) refl some);
-      }) unseen
+      found-kept (moved_to windows (window_or_standard panels (Some p)) (v, z)).window windows.window panels panels p y x
+      (grind (arith, holds-by, cells-by, cell-placed, sound-panel)) unseen
 
 -- ---- what each effect wants, which the tests of its call give
 
@@ -217,19 +129,12 @@ IsOrdered windows panels (orders p order) = (without p order.visible ≡ without
 IsOrdered windows panels (carries p place) = is_none (panels.window p) ≡ false
 
 pub ordered-stacking : (windows : Windows) (panels : Panels) (stacking : Stacking) → stacking_refusal windows panels stacking ≡ None → IsOrdered windows panels (stacking_order panels stacking)
-ordered-stacking windows panels (MovePanel panel line column) accepted = (passed (is_none (panels.window panel.0)) _ _ accepted).0
-ordered-stacking windows panels stacking accepted = grind (arith, without-itself, without-twice, shown-order, given-other)
+ordered-stacking windows panels stacking accepted = grind (arith, passed, without-twice, without-last, ne_eqb, eq-eqb)
 
 -- ---- each effect
 
 pub found-order : (windows : Windows) (panels : Panels) (order : Order) (y x : ℕ) → AreSoundWindows windows → AreSoundPanels windows.window panels
     → y < windows.lines → x < windows.columns → IsOrdered windows panels order → order_shows_at windows panels order y x ≡ false
     → found_from_top (windows_after windows panels order).window (panels_after panels order) y x ≡ found_from_top windows.window panels y x
-found-order windows panels (changes change) y x sound panels_sound below left ordered unseen = found-change windows panels change y x sound panels_sound below left ordered unseen
 found-order windows panels (adds p w) y x sound panels_sound below left ordered unseen = search (arith, reordered, without-last, given-other)
-found-order windows panels (orders p order) y x sound panels_sound below left ordered unseen = by-test (stays_on_top panels order p) refl unseen where
-  by-test : (b : Bool) → stays_on_top panels order p ≡ b → (not b && (panel_shows_at windows.window panels p y x || panel_shows_at windows.window order p y x)) ≡ false
-      → found_from_top windows.window order y x ≡ found_from_top windows.window panels y x
-  by-test true stays unseen = stays-found p windows.window order panels y x stays ordered.0 ordered.1
-  by-test false moves unseen = reordered windows.window order panels p y x ordered.0 ordered.1 unseen
-found-order windows panels (carries p place) y x sound panels_sound below left ordered unseen = grind (arith, found-move_panel)
+found-order windows panels order y x sound panels_sound below left ordered unseen = grind (arith, found-change, stays-found, reordered, found-move_panel)

@@ -1,16 +1,15 @@
 -- What determines which windows hold a place of the screen, and which cells they show; and where the search from the
 -- top finds the same.
-use Rattle.std.proofs.Common.{◌≡◌, ℕ, zero, suc, ◌-◌, Bool, true, false, if◌then◌else◌, ◌&&◌, nat_lt, nat_le, ◌+◌, Option, Some, None, unwrap_or, List, [], ◌∷◌, ap, refl, sym, ◌∙◌, arith}
-use Rattle.std.specs.Prelude.{cond, find, option_and_then, reverse}
-use Rattle.std.specs.Option.{option_map, option_map_or}
-use Rattle.std.specs.List.{cons_option, filter_map, list_any}
+use Rattle.std.proofs.Common.{◌≡◌, ℕ, zero, suc, ◌-◌, Bool, true, false, if◌then◌else◌, Option, Some, None, List, [], ◌∷◌, ap, refl, arith}
+use Rattle.std.specs.Prelude.{find, reverse}
+use Rattle.std.specs.Option.{option_map}
+use Rattle.std.specs.List.{filter_map, list_any}
 use mathlib.Core.Path.{fun_ext}
 use Rattle.std.proofs.lemmas.Bool.{or_parts}
-use Rattle.cell.specs.Glyphs.{blank}
-use Rattle.cell.specs.Pictures.{Place, origin}
-use Rattle.world.specs.Windows.{Backing, GridPlace, Window, WindowMap, Windows, cell_at, cell_in_grid, cell_of, with_change, leads, own, own_within, window_limit}
-use Rattle.world.specs.Settings.{set, set_in}
-use Rattle.world.specs.Panels.{Panels, cell_on_screen, found_from_top, holds, holds_place, owner, panel_holds, place_of, screen_place, standard_screen, window_or_standard, windows_from_top}
+use Rattle.cell.specs.Pictures.{Place}
+use Rattle.world.specs.Windows.{Backing, Window, WindowMap, Windows, cell_at, with_change, own, own_within, window_limit}
+use Rattle.world.specs.Settings.{set}
+use Rattle.world.specs.Panels.{Panels, cell_on_screen, found_from_top, holds, owner, panel_holds, place_of, standard_screen, window_or_standard, windows_from_top}
 use Rattle.world.specs.declared.settings.Settings.{Settings}
 
 -- what doesn't look at what a change changes is the same
@@ -31,58 +30,32 @@ outline a = record { lines = a.lines; columns = a.columns; place = a.place }
 abbrev pub outline_of : Option Window → Option Outline
 outline_of o = option_map outline o
 
-outline_holds : ℕ → ℕ → Outline → Bool
-outline_holds y x r = option_map_or (λ p. (nat_le p.0 y && nat_lt y (p.0 + r.lines)) && (nat_le p.1 x && nat_lt x (p.1 + r.columns))) r.place false
-
-holds-outline : (y x : ℕ) (o : Option Window) → option_map_or (holds_place y x) o false ≡ option_map_or (outline_holds y x) (outline_of o) false
-unfolding outline_holds
-holds-outline y x None = refl
-holds-outline y x (Some a) = refl
-
-place-outline : (o : Option Window) → option_map_or screen_place o origin ≡ option_map_or (λ (r : Outline). unwrap_or r.place origin) (outline_of o) origin
-place-outline o = grind arith
-
 module _ (new old : WindowMap) (u : ℕ) (same : outline_of (new u) ≡ outline_of (old u)) where
   pub holds-same : (y x : ℕ) → holds new u y x ≡ holds old u y x
-  holds-same y x = holds-outline y x (new u) ∙ ap (λ o. option_map_or (outline_holds y x) o false) same ∙ sym (holds-outline y x (old u))
+  holds-same y x = grind arith
 
   pub place-same : place_of new u ≡ place_of old u
-  place-same = place-outline (new u) ∙ ap (λ o. option_map_or (λ (r : Outline). unwrap_or r.place origin) o origin) same ∙ sym (place-outline (old u))
+  place-same = grind arith
 
   pub on_screen-same : (y x : ℕ) → cell_at new u (y - (place_of old u).0) (x - (place_of old u).1) ≡ cell_at old u (y - (place_of old u).0) (x - (place_of old u).1)
       → cell_on_screen new u y x ≡ cell_on_screen old u y x
-  on_screen-same y x h = ap (λ p. cell_at new u (y - p.0) (x - p.1)) place-same ∙ h
+  on_screen-same y x h = grind (arith, place-same)
 
 -- ---- cells
 
 abbrev pub backing_of : Option Window → Option Backing
 backing_of o = option_map (λ (a : Window). a.backing) o
 
-then-backing : (f : ℕ → ℕ → ℕ → Option GridPlace) (u y x : ℕ) (o : Option Window)
-    → option_and_then (λ a. leads f u y x a.backing) o ≡ option_and_then (leads f u y x) (backing_of o)
-then-backing f u y x o = grind arith
-
-cell-backing : (p : GridPlace) (o : Option Window)
-    → option_map_or (λ a. cell_of a.backing p.line p.column) o blank ≡ option_map_or (λ s. cell_of s p.line p.column) (backing_of o) blank
-cell-backing p o = grind arith
-
 module _ (new old : WindowMap) (same : (u : ℕ) → backing_of (new u) ≡ backing_of (old u)) where
-  own_within-same : (n : ℕ) → own_within n new ≡ own_within n old
-  own_within-same zero = refl
-  own_within-same (suc n) = fun_ext (λ u. fun_ext (λ y. fun_ext (λ x.
-      then-backing (own_within n new) u y x (new u)
-      ∙ ap (λ o. option_and_then (leads (own_within n new) u y x) o) (same u)
-      ∙ ap (λ f. option_and_then (leads f u y x) (backing_of (old u))) (own_within-same n)
-      ∙ sym (then-backing (own_within n old) u y x (old u)))))
+  own_within-same : (n u y x : ℕ) → own_within n new u y x ≡ own_within n old u y x
+  own_within-same zero u y x = refl
+  own_within-same (suc n) u y x = grind (arith, same, (own_within-same n))
 
   pub own-same : (u y x : ℕ) → own new u y x ≡ own old u y x
-  own-same u y x = ap (λ f. f u y x) (own_within-same window_limit)
-
-  in_grid-same : (o : Option GridPlace) → cell_in_grid new o ≡ cell_in_grid old o
-  in_grid-same o = grind (arith, cell-backing)
+  own-same = own_within-same window_limit
 
   pub cell_at-same : (u y x : ℕ) → cell_at new u y x ≡ cell_at old u y x
-  cell_at-same u y x = ap (cell_in_grid new) (own-same u y x) ∙ in_grid-same (own old u y x)
+  cell_at-same u y x = grind (arith, own-same)
 
 -- ---- the owner is among the windows of the visible panels
 
@@ -94,22 +67,9 @@ pub record IsFound (window : WindowMap) (panels : Panels) (y x : ℕ) (test : �
   pub fails : test number ≡ false
 
 module _ (window : WindowMap) (panels : Panels) (y x : ℕ) (test : ℕ → Bool) where
-  found-at : (q p : ℕ) (qs : List ℕ) (o : Option ℕ) (b : Bool) → panels.window q ≡ o → option_map_or (λ u. holds window u y x) o false ≡ b
-      → list_any test (cons_option o (filter_map panels.window qs)) ≡ false → cond b (Some q) (find (panel_holds window panels y x) qs) ≡ Some p
-      → (list_any test (filter_map panels.window qs) ≡ false → find (panel_holds window panels y x) qs ≡ Some p → IsFound window panels y x test p) → IsFound window panels y x test p
-  found-at q p qs None true is holds none found later = cc
-  found-at q p qs None false is holds none found later = later none found
-  found-at q p qs (Some u) true is holds none found later =
-      let parts = or_parts (test u) (list_any test (filter_map panels.window qs)) none in
-      let same : q ≡ p = cc in
-      record { number = u; is = ap panels.window (sym same) ∙ is; there = holds; fails = parts.0 }
-  found-at q p qs (Some u) false is holds none found later =
-      let parts = or_parts (test u) (list_any test (filter_map panels.window qs)) none in
-      later parts.1 found
-
   found-in : (p : ℕ) (ps : List ℕ) → list_any test (filter_map panels.window ps) ≡ false → find (panel_holds window panels y x) ps ≡ Some p → IsFound window panels y x test p
   found-in p [] none found = cc
-  found-in p (q ∷ qs) none found = found-at q p qs (panels.window q) (panel_holds window panels y x q) refl refl none found (found-in p qs)
+  found-in p (q ∷ qs) none found = grind (arith, or_parts, (found-in p qs))
 
 -- ---- where the search finds the same
 
@@ -122,21 +82,15 @@ module _ (new old : WindowMap) (panels : Panels) (y x : ℕ) where
   abbrev pub HoldAsBefore : Type 0
   HoldAsBefore = (p u : ℕ) → panels.window p ≡ Some u → holds new u y x ≡ holds old u y x
 
-  holds-by : HoldAsBefore → (p : ℕ) (o : Option ℕ) → panels.window p ≡ o → option_map_or (λ u. holds new u y x) o false ≡ option_map_or (λ u. holds old u y x) o false
-  holds-by h p o is = grind (arith, is)
-
   owner-same : HoldAsBefore → owner new panels y x ≡ owner old panels y x
-  owner-same h = ap (λ (test : ℕ → Bool). find test (reverse panels.visible)) (fun_ext (λ p. holds-by h p (panels.window p) refl))
+  owner-same h = ap (λ (test : ℕ → Bool). find test (reverse panels.visible)) (fun_ext (λ p. grind (arith, h)))
 
   owned-same : (test : ℕ → Bool) → list_any test (windows_from_top panels) ≡ false
       → ((p u : ℕ) → panels.window p ≡ Some u → holds old u y x ≡ true → test u ≡ false → cell_on_screen new u y x ≡ cell_on_screen old u y x)
       → cell_on_screen new standard_screen y x ≡ cell_on_screen old standard_screen y x
       → (o : Option ℕ) → owner old panels y x ≡ o → cell_on_screen new (window_or_standard panels o) y x ≡ cell_on_screen old (window_or_standard panels o) y x
   owned-same test none cells standard None found = standard
-  owned-same test none cells standard (Some p) found =
-      let owns = found-in old panels y x test p (reverse panels.visible) none found in
-      let same : unwrap_or (panels.window p) standard_screen ≡ owns.number = ap (λ o. unwrap_or o standard_screen) owns.is in
-      rw same (cells p owns.number owns.is owns.there owns.fails)
+  owned-same test none cells standard (Some p) found = let owns = found-in old panels y x test p (reverse panels.visible) none found in grind arith
 
   -- no window of a visible panel passes the test, and each that fails it shows the cell that it showed
   pub found-same : (test : ℕ → Bool) → list_any test (windows_from_top panels) ≡ false → HoldAsBefore
@@ -152,15 +106,11 @@ pub record SameCells (new old : WindowMap) : Type 0 where
   pub backings : (u : ℕ) → backing_of (new u) ≡ backing_of (old u)
 
 pub found-dressed : (new old : WindowMap) → SameCells new old → (panels : Panels) (y x : ℕ) → found_from_top new panels y x ≡ found_from_top old panels y x
-found-dressed new old same panels y x =
-    found-same new old panels y x (λ u. false) (passes-none (windows_from_top panels)) (λ p u is. holds-same new old u (same.outlines u) y x)
-    (λ p u is there fails. kept u) (kept standard_screen) where
-      kept : (u : ℕ) → cell_on_screen new u y x ≡ cell_on_screen old u y x
-      kept u = on_screen-same new old u (same.outlines u) y x (cell_at-same new old same.backings u (y - (place_of old u).0) (x - (place_of old u).1))
+found-dressed new old same panels y x = grind (arith, (found-same new old panels y x (λ u. false) (passes-none (windows_from_top panels))), holds-same, on_screen-same, cell_at-same)
 
 pub changed-cells : (window : WindowMap) (w : ℕ) (change : Window → Window) → ((a : Window) → outline_of (Some (change a)) ≡ outline_of (Some a))
     → ((a : Window) → backing_of (Some (change a)) ≡ backing_of (Some a)) → SameCells (with_change window w change) window
-changed-cells window w change outlines backings = grind (arith, outlines, same-if, backings)
+changed-cells window w change outlines backings = grind (arith, outlines, backings)
 
 pub set-cells : (windows : Windows) (w : ℕ) (change : Settings → Settings) → SameCells (set windows w change).window windows.window
-set-cells windows w change = changed-cells windows.window w (set_in change) (λ a. refl) (λ a. refl)
+set-cells windows w change = grind arith

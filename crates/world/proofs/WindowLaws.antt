@@ -1,85 +1,48 @@
 -- Laws of windows that share cells.
-use Rattle.std.proofs.Common.{◌≡◌, ℕ, zero, suc, ◌+◌, ◌-◌, ◌<◌, Bool, true, false, if◌then◌else◌, ◌==◌, ◌&&◌, ◌||◌, nat_lt, Option, Some, None, is_some, IsSome, IsSomeAnd}
-use Rattle.std.proofs.Common.{unwrap_or, subst, ◌≤◌, inl, inr, ap, arith, refl, sym, ◌∙◌, zero-add, eq-eqb}
+use Rattle.std.proofs.Common.{◌≡◌, ℕ, zero, suc, ◌+◌, ◌<◌, Bool, false, if◌then◌else◌, ◌==◌, ◌&&◌, ◌||◌, nat_lt, Option, Some, None, is_some, IsSome}
+use Rattle.std.proofs.Common.{ap, arith, refl, sym, ◌∙◌}
 use Rattle.std.specs.Prelude.{option_and_then}
-use Rattle.std.specs.Option.{option_map, option_map_or}
+use Rattle.std.specs.Option.{option_map}
 use mathlib.Core.Path.{fun_ext}
-use Rattle.std.proofs.lemmas.Bool.{cases_lt, lt-ltb, le-ltb, le-leb, lt-leb, eqb-true}
+use Rattle.std.proofs.lemmas.Bool.{eqb-true}
 use Rattle.std.proofs.lemmas.Bool.Decides.{nat_tests}
-use Rattle.cell.specs.Glyphs.{Glyph, blank}
-use Rattle.world.specs.Windows.{Backing, own_grid, part_of, Window, WindowMap, GridPlace, Drawing, leads, own_within, own, cell_of, cell_in_grid, cell_at, within, grid_drawing, laid_over}
+use Rattle.cell.specs.Glyphs.{Glyph}
+use Rattle.world.specs.Windows.{Backing, own_grid, part_of, Window, WindowMap, GridPlace, Drawing, leads, own_within, own, cell_at, within, grid_drawing, laid_over}
 use Rattle.world.specs.Windows.{joined_columns, touched_below, touched_by, after_drawing, put_from, put_windows, HasPlace, window_limit, onward, over}
 use Rattle.world.specs.declared.settings.Columns.{Columns}
 
 -- a window's places lead to the places of one rectangle of a grid: own is own of (0, 0), moved
-leads-onward : (further : ℕ → ℕ → ℕ → Option GridPlace) → ((w y x a b : ℕ) → further w (y + a) (x + b) ≡ option_map (onward a b) (further w y x)) → (w y x a b : ℕ) (s : Backing)
-    → leads further w (y + a) (x + b) s ≡ option_map (onward a b) (leads further w y x s)
-leads-onward further h w y x a b s = grind arith
-
-and_then-leads : (further : ℕ → ℕ → ℕ → Option GridPlace) → ((w y x a b : ℕ) → further w (y + a) (x + b) ≡ option_map (onward a b) (further w y x)) → (w y x a b : ℕ) (o : Option Window) →
-    option_and_then (λ c. leads further w (y + a) (x + b) c.backing) o ≡ option_map (onward a b) (option_and_then (λ c. leads further w y x c.backing) o)
-and_then-leads further h w y x a b o = grind (arith, leads-onward)
-
 own_within-onward : (n : ℕ) (window : WindowMap) (w y x a b : ℕ) → own_within n window w (y + a) (x + b) ≡ option_map (onward a b) (own_within n window w y x)
 own_within-onward zero window w y x a b = refl
-own_within-onward (suc n) window w y x a b = and_then-leads (own_within n window) (own_within-onward n window) w y x a b (window w)
+own_within-onward (suc n) window w y x a b = grind (arith, (own_within-onward n window))
 
 pub own-onward : (window : WindowMap) (w y x : ℕ) → own window w y x ≡ option_map (onward y x) (own window w 0 0)
-own-onward window w y x = ap (λ k. own window w k x) (sym (zero-add y)) ∙ ap (λ k. own window w (0 + y) k) (sym (zero-add x)) ∙ own_within-onward window_limit window w 0 0 y x
+own-onward window w y x = grind (arith, (own_within-onward window_limit window w 0 0 y x))
 
 -- a write changes no chain
-leads-laid : (further : ℕ → ℕ → ℕ → Option GridPlace) (w y x : ℕ) (t : Bool) (f : Drawing) (s : Backing) → leads further w y x (if t then laid_over f s else s) ≡ leads further w y x s
-leads-laid further w y x t f s = grind arith
-
-leads-more : (f g : ℕ → ℕ → ℕ → Option GridPlace) → ((w y x : ℕ) → f w y x ≡ g w y x) → (w y x : ℕ) (s : Backing) → leads f w y x s ≡ leads g w y x s
-leads-more f g h w y x s = grind arith
-
-step-drawn : (f g : ℕ → ℕ → ℕ → Option GridPlace) → ((w y x : ℕ) → f w y x ≡ g w y x) → (w : ℕ) (a : Window) (spot : GridPlace) (d : Drawing) (u y x : ℕ) (o : Option Window) →
-    option_and_then (λ c. leads f u y x c.backing) (option_map (after_drawing w a spot d u) o) ≡ option_and_then (λ c. leads g u y x c.backing) o
-step-drawn f g h w a spot d u y x o = grind (arith, leads-laid, leads-more)
-
 own_within-put_from : (n : ℕ) (window : WindowMap) (w : ℕ) (a : Option Window) (spot : Option GridPlace) (d : Drawing) (u y x : ℕ)
     → own_within n (put_from window w a spot d) u y x ≡ own_within n window u y x
 own_within-put_from zero window w a spot d u y x = refl
-own_within-put_from (suc n) window w None spot d u y x = refl
-own_within-put_from (suc n) window w (Some a) None d u y x = refl
-own_within-put_from (suc n) window w (Some a) (Some spot) d u y x = grind (arith, step-drawn, (own_within-put_from n window w (Some a) (Some spot) d))
+own_within-put_from (suc n) window w a spot d u y x = grind (arith, (own_within-put_from n window w a spot d))
 
 pub own-put : (window : WindowMap) (w : ℕ) (d : Drawing) (u y x : ℕ) → own (put_windows window w d) u y x ≡ own window u y x
-own-put window w d u y x = own_within-put_from window_limit window w (window w) (own window w 0 0) d u y x
+own-put window w d u y x = grind (arith, own_within-put_from)
 
 abbrev widened : Option Columns → ℕ → Option Columns
 widened r x = joined_columns r x x
 
-widened-twice : (r : Option Columns) (x : ℕ) → widened (widened r x) x ≡ widened r x
-widened-twice r x = grind arith
-
-widened_swap : (r : Option Columns) (x y : ℕ) → widened (widened r x) y ≡ widened (widened r y) x
-widened_swap r x y = grind arith
-
-by_test : (n x : ℕ) (t : Bool) (p q : Option Columns) → p ≡ widened q x → (if t then widened p n else p) ≡ widened (if t then widened q n else q) x
-by_test n x t p q h = grind (arith, widened_swap)
-
 touched-widened : (n : ℕ) (test : ℕ → Bool) (r : Option Columns) (x : ℕ) → touched_below n test (widened r x) ≡ widened (touched_below n test r) x
 touched-widened zero test r x = refl
-touched-widened (suc n) test r x = by_test n x (test n) (touched_below n test (widened r x)) (touched_below n test r) (touched-widened n test r x)
-
-by_tests : (n : ℕ) (s : ℕ → Bool) (p q : Bool) (t r : Option Columns) → touched_below n s t ≡ r → (if p then widened (touched_below n s (if q then widened t n else t)) n else touched_below n s
-    (if q then widened t n else t)) ≡ (if p || q then widened r n else r)
-by_tests n s p q t r h = grind (arith, touched-widened, widened-twice)
+touched-widened (suc n) test r x = grind (arith, (touched-widened n test r x))
 
 pub touched-touched : (n : ℕ) (s t : ℕ → Bool) (r : Option Columns) → touched_below n s (touched_below n t r) ≡ touched_below n (λ x. s x || t x) r
 touched-touched zero s t r = refl
-touched-touched (suc n) s t r = by_tests n s (s n) (t n) (touched_below n t r) (touched_below n (λ x. s x || t x) r) (touched-touched n s t r)
+touched-touched (suc n) s t r = grind (arith, touched-widened, (touched-touched n s t r))
 
 -- a second drawing over a first one, at one place
-laid-point : (t1 t2 : Bool) (g f : Option Glyph) (c : Glyph) → unwrap_or (if t1 then (if t2 then g else None) else None) (unwrap_or (if t1 then (if t2 then f else None) else None) c)
-    ≡ unwrap_or (if t1 then (if t2 then (if is_some g then g else f) else None) else None) c
-laid-point t1 t2 g f c = grind arith
-
 laid-laid : (spot : GridPlace) (a : Window) (f g : Drawing) (s : Backing) → laid_over (grid_drawing spot (within a g)) (laid_over (grid_drawing spot (within a f)) s)
     ≡ laid_over (grid_drawing spot (within a (over g f))) s
-laid-laid spot a f g s = grind (arith, laid-point)
+laid-laid spot a f g s = grind arith
 
 some-point : (t : Bool) (g f : Option Glyph) → (is_some (if t then g else None) || is_some (if t then f else None)) ≡ is_some (if t then (if is_some g then g else f) else None)
 some-point t g f = grind arith
@@ -103,64 +66,30 @@ twice-at w a spot f g u None = refl
 twice-at w a spot f g u (Some b) = ap Some (drawn-by (u == spot.grid) (u == w) b (grid_drawing spot (within a f)) (grid_drawing spot (within a g)) (grid_drawing spot (within a (over g f))) f g
     (laid-laid spot a f g b.backing))
 
-twice : (window : WindowMap) (w : ℕ) (o : Option Window) → window w ≡ o → (s : Option GridPlace) (f g : Drawing)
-    → put_from (put_from window w o s f) w (put_from window w o s f w) s g ≡ put_from window w o s (over g f)
-twice window w o e s f g = grind (arith, twice-at)
-
 -- two writes through one window are one
 pub put-put : (window : WindowMap) (w : ℕ) (f g : Drawing) → put_windows (put_windows window w f) w g ≡ put_windows window w (over g f)
-put-put window w f g = search (arith, own-put, twice)
+put-put window w f g = grind (arith, own-put, twice-at)
 
 -- a place that the drawing leaves out keeps its cell
-kept-point : (t : Bool) (f : Drawing) (s : Backing) (y x : ℕ) → f y x ≡ None → cell_of (if t then laid_over f s else s) y x ≡ cell_of s y x
-kept-point t f s y x h = grind arith
-
-kept-at : (w : ℕ) (a : Window) (spot : GridPlace) (f : Drawing) (s : GridPlace) (o : Option Window) → grid_drawing spot (within a f) s.line s.column ≡ None →
-    option_map_or (λ c. cell_of c.backing s.line s.column) (option_map (after_drawing w a spot f s.grid) o) blank ≡ option_map_or (λ c. cell_of c.backing s.line s.column) o blank
-kept-at w a spot f s o h = grind (arith, kept-point)
-
 pub cell_at-kept : (window : WindowMap) (w : ℕ) (a : Window) (spot : GridPlace) (f : Drawing) (u y x : ℕ) (s : GridPlace) → window w ≡ Some a → own window w 0 0 ≡ Some spot
     → own window u y x ≡ Some s →
     grid_drawing spot (within a f) s.line s.column ≡ None → cell_at (put_windows window w f) u y x ≡ cell_at window u y x
-cell_at-kept window w a spot f u y x s e leads_w leads_u h = grind (arith, own-put, kept-at)
+cell_at-kept window w a spot f u y x s e leads_w leads_u h = grind (arith, own-put)
 
 -- a drawing of no cell changes nothing
-laid-nothing : (t : Bool) (f : Drawing) (s : Backing) → ((y x : ℕ) → f y x ≡ None) → (if t then laid_over f s else s) ≡ s
-laid-nothing t f s h = grind arith
-
 touched-nothing : (n : ℕ) (test : ℕ → Bool) (r : Option Columns) → ((x : ℕ) → test x ≡ false) → touched_below n test r ≡ r
 touched-nothing zero test r h = refl
-touched-nothing (suc n) test r h = let last : test n ≡ false = h n in rw last (touched-nothing n test r h)
-
-none_either : (t : Bool) (o : Option Glyph) → o ≡ None → (if t then o else None) ≡ None
-none_either t o h = grind arith
-
-nothing-within : (a : Window) (f : Drawing) → ((y x : ℕ) → f y x ≡ None) → (y x : ℕ) → within a f y x ≡ None
-nothing-within a f h y x = let none : f y x ≡ None = h y x in none_either (nat_lt y a.lines && nat_lt x a.columns) (f y x) none
-
-run-nothing : (t : Bool) (f : Drawing) (b : Window) → ((y x : ℕ) → f y x ≡ None) → (if t then touched_by f b else b.touched) ≡ b.touched
-run-nothing t f b h = grind (arith, touched-nothing, nothing-within)
+touched-nothing (suc n) test r h = grind (arith, (touched-nothing n test r h))
 
 nothing-at : (w : ℕ) (a : Window) (spot : GridPlace) (f : Drawing) (u : ℕ) (o : Option Window) → ((y x : ℕ) → f y x ≡ None) → option_map (after_drawing w a spot f u) o ≡ o
-nothing-at w a spot f u o h = grind (arith, laid-nothing, none_either, nothing-within, run-nothing)
-
-nothing-from : (window : WindowMap) (w : ℕ) (o : Option Window) (s : Option GridPlace) (f : Drawing) → ((y x : ℕ) → f y x ≡ None) → put_from window w o s f ≡ window
-nothing-from window w o s f h = grind (arith, nothing-at)
+nothing-at w a spot f u o h = grind (arith, touched-nothing)
 
 pub put-nothing : (window : WindowMap) (w : ℕ) (f : Drawing) → ((y x : ℕ) → f y x ≡ None) → put_windows window w f ≡ window
-put-nothing window w f h = nothing-from window w (window w) (own window w 0 0) f h
+put-nothing window w f h = grind (arith, nothing-at)
 
 -- a write leaves each window its size
-size-at : (w : ℕ) (a : Window) (spot : GridPlace) (f : Drawing) (u : ℕ) (o : Option Window) (y x : ℕ) → IsSomeAnd o (λ b. (y < b.lines) × (x < b.columns))
-    → IsSomeAnd (option_map (after_drawing w a spot f u) o) (λ b. (y < b.lines) × (x < b.columns))
-size-at w a spot f u o y x h = grind arith
-
-size-from : (window : WindowMap) (w : ℕ) (o : Option Window) (s : Option GridPlace) (f : Drawing) (u y x : ℕ) → IsSomeAnd (window u) (λ b. (y < b.lines) × (x < b.columns))
-    → IsSomeAnd (put_from window w o s f u) (λ b. (y < b.lines) × (x < b.columns))
-size-from window w o s f u y x h = grind (arith, size-at)
-
 pub HasPlace-put : (window : WindowMap) (w : ℕ) (f : Drawing) (u y x : ℕ) → HasPlace window u y x → HasPlace (put_windows window w f) u y x
-HasPlace-put window w f u y x h = size-from window w (window w) (own window w 0 0) f u y x h
+HasPlace-put window w f u y x h = grind arith
 
 -- a chain ends in a window with a grid of its own
 abbrev pub Ends : WindowMap → GridPlace → Type 0
@@ -169,7 +98,7 @@ Ends window s = (g : Window) × (cells : ℕ → ℕ → Glyph) × (window s.gri
 ends-leads : (window : WindowMap) (further : ℕ → ℕ → ℕ → Option GridPlace) → ((w y x : ℕ) (s : GridPlace) → further w y x ≡ Some s → Ends window s) → (w y x : ℕ) (a : Window) (src : Backing)
     → window w ≡ Some a → a.backing ≡ src → (s : GridPlace) → leads further w y x src ≡ Some s → Ends window s
 ends-leads window further h w y x a (own_grid cells) e is s found = let same : w ≡ s.grid = cc in (a, cells, ap window (sym same) ∙ e, is)
-ends-leads window further h w y x a (part_of parent line column) e is s found = h parent (y + line) (x + column) s found
+ends-leads window further h w y x a (part_of parent line column) e is s found = grind arith
 
 ends-at : (window : WindowMap) (further : ℕ → ℕ → ℕ → Option GridPlace) → ((w y x : ℕ) (s : GridPlace) → further w y x ≡ Some s → Ends window s) → (w y x : ℕ) (o : Option Window) → window w ≡ o
     → (s : GridPlace) → option_and_then (λ c. leads further w y x c.backing) o ≡ Some s → Ends window s
@@ -178,85 +107,22 @@ ends-at window further h w y x (Some a) e s found = ends-leads window further h 
 
 pub own-ends : (n : ℕ) (window : WindowMap) (w y x : ℕ) (s : GridPlace) → own_within n window w y x ≡ Some s → Ends window s
 own-ends zero window w y x s h = cc
-own-ends (suc n) window w y x s h = ends-at window (own_within n window) (own-ends n window) w y x (window w) refl s h
+own-ends (suc n) window w y x s h = ends-at _ _ (own-ends n window) w y x _ refl s h
 
 -- each place of the drawing is taken by every window that shows it
-taken-point : (t : Bool) (f : Drawing) (s : Backing) (y x : ℕ) (cells : ℕ → ℕ → Glyph) (c : Glyph) → t ≡ true → s ≡ own_grid cells → f y x ≡ Some c → cell_of (if t then laid_over f s else s) y x ≡ c
-taken-point t f s y x cells c e is h = grind arith
-
-drawn-point : (spot : GridPlace) (a : Window) (f : Drawing) (y x : ℕ) (c : Glyph) → y < a.lines → x < a.columns → f y x ≡ Some c → grid_drawing spot (within a f) (spot.line + y) (spot.column + x)
-    ≡ Some c
-drawn-point spot a f y x c in_lines in_cols h = grind (arith, nat_tests)
-
 pub put-takes : (window : WindowMap) (w : ℕ) (a : Window) (spot : GridPlace) (f : Drawing) (y x : ℕ) (c : Glyph) (u v z : ℕ) →
     window w ≡ Some a → own window w 0 0 ≡ Some spot → y < a.lines → x < a.columns → f y x ≡ Some c → own window u v z ≡ own window w y x → cell_at (put_windows window w f) u v z ≡ c
-put-takes window w a spot f y x c u v z e leads_w in_lines in_cols is same =
-    let s = onward y x spot in
-    let there : own window u v z ≡ Some s = same ∙ own-onward window w y x ∙ ap (option_map (onward y x)) leads_w in
-    let end = own-ends window_limit window u v z s there in
-    let p = put_windows window w f in
-    let here : p s.grid ≡ option_map (after_drawing w a spot f s.grid) (window s.grid) = ap (λ o. put_from window w o (own window w 0 0) f s.grid) e
-    ∙ ap (λ o. put_from window w (Some a) o f s.grid) leads_w in
-    ap (cell_in_grid p) (own-put window w f u v z ∙ there)
-    ∙ ap (λ o. option_map_or (λ b. cell_of b.backing s.line s.column) o blank) (here ∙ ap (option_map (after_drawing w a spot f s.grid)) end.2)
-    ∙ taken-point (s.grid == spot.grid) (grid_drawing spot (within a f)) (end.0).backing s.line s.column end.1 c (eq-eqb s.grid spot.grid refl) end.3 (drawn-point spot a f y x c in_lines in_cols is)
+put-takes window w a spot f y x c u v z e leads_w in_lines in_cols is same = grind (arith, own-onward, own-ends, own-put, nat_tests)
 
 -- ---- a place that no written place of the window shares keeps its cell
 
-kept-if : (t : Bool) (f : Drawing) (s : Backing) (y x : ℕ) → (t ≡ true → f y x ≡ None) → cell_of (if t then laid_over f s else s) y x ≡ cell_of s y x
-kept-if t f s y x h = grind (arith, kept-point)
-
-kept-grid : (w : ℕ) (a : Window) (p : GridPlace) (f : Drawing) (s : GridPlace) (o : Option Window) → ((s.grid == p.grid) ≡ true → grid_drawing p (within a f) s.line s.column ≡ None)
-    → option_map_or (λ c. cell_of c.backing s.line s.column) (option_map (after_drawing w a p f s.grid) o) blank ≡ option_map_or (λ c. cell_of c.backing s.line s.column) o blank
-kept-grid w a p f s o h = grind (arith, kept-if)
-
--- the drawing leaves out what the premise rules out
-left-out : (a : Window) (f : Drawing) (y x : ℕ) → (y < a.lines → x < a.columns → IsSome (f y x) → ⊥) → within a f y x ≡ None
-left-out a f y x h = elim (cases_lt y a.lines) [
-  | inl line ↦ elim (cases_lt x a.columns) [
-    | inl column ↦ let l = lt-ltb y a.lines line in let c = lt-ltb x a.columns column in rw (l, c) (none-from (f y x) (h line column))
-    | inr column ↦ let l = lt-ltb y a.lines line in let c = le-ltb x a.columns column in rw (l, c) refl
-  ]
-  | inr line ↦ let l = le-ltb y a.lines line in rw l refl
-] where
-  none-from : (o : Option Glyph) → (IsSome o → ⊥) → o ≡ None
-  none-from o k = grind arith
-
 module _ (window : WindowMap) (w : ℕ) (f : Drawing) (u v z : ℕ)
     (apart : (y x : ℕ) → HasPlace window w y x → IsSome (f y x) → own window w y x ≡ own window u v z → ⊥) where
-  moved-left_out : (a : Window) (p s : GridPlace) → window w ≡ Some a → own window w 0 0 ≡ Some p → own window u v z ≡ Some s → (s.grid == p.grid) ≡ true
-      → grid_drawing p (within a f) s.line s.column ≡ None
-  moved-left_out a p s e leads_w leads_u same = elim (cases_lt s.line p.line) [
-    | inl above ↦ let l = lt-leb p.line s.line above in rw l refl
-    | inr line ↦ elim (cases_lt s.column p.column) [
-      | inl before ↦ let l = le-leb p.line s.line line in let c = lt-leb p.column s.column before in rw (l, c) refl
-      | inr column ↦
-          let l = le-leb p.line s.line line in let c = le-leb p.column s.column column in
-          rw (l, c) (left-out a f (s.line - p.line) (s.column - p.column) (λ in_lines in_columns some.
-          apart (s.line - p.line) (s.column - p.column) (subst (λ o. IsSomeAnd o (λ b. (s.line - p.line < b.lines) × (s.column - p.column < b.columns))) (sym e) (in_lines, in_columns)) some
-          (own-onward window w (s.line - p.line) (s.column - p.column) ∙ ap (option_map (onward (s.line - p.line) (s.column - p.column))) leads_w ∙ there line column ∙ sym leads_u)))
-    ]
-  ] where
-    there : p.line ≤ s.line → p.column ≤ s.column → option_map (onward (s.line - p.line) (s.column - p.column)) (Some p) ≡ Some s
-    there line column =
-        let g : p.grid ≡ s.grid = sym (eqb-true s.grid p.grid same) in
-        let l : p.line + (s.line - p.line) ≡ s.line = omega arith in
-        let c : p.column + (s.column - p.column) ≡ s.column = omega arith in
-        λ i. Some (record { grid = g i; line = l i; column = c i })
-
-  kept-from : (o : Option Window) (leads_w leads_u : Option GridPlace) → window w ≡ o → own window w 0 0 ≡ leads_w → own window u v z ≡ leads_u
-      → cell_in_grid (put_from window w o leads_w f) leads_u ≡ cell_in_grid window leads_u
-  kept-from o leads_w leads_u e lw lu = grind (arith, kept-grid, moved-left_out)
-
   pub put-keeps : cell_at (put_windows window w f) u v z ≡ cell_at window u v z
-  put-keeps = ap (cell_in_grid (put_windows window w f)) (own-put window w f u v z) ∙ kept-from (window w) (own window w 0 0) (own window u v z) refl refl refl
+  put-keeps = grind (arith, own-put, nat_tests, own-onward, eqb-true)
 
 -- the places of a window with a grid of its own lead to the grid's
-own_within-own_grid : (limit : ℕ) → 0 < limit → (window : WindowMap) (w : ℕ) (a : Window) (cells : ℕ → ℕ → Glyph) (y x : ℕ) → window w ≡ Some a → a.backing ≡ own_grid cells
-    → own_within limit window w y x ≡ Some (record { grid = w; line = y; column = x })
-own_within-own_grid limit h window w a cells y x e is = grind arith
-
 pub own-own_grid : (window : WindowMap) (w : ℕ) (a : Window) (cells : ℕ → ℕ → Glyph) (y x : ℕ) → window w ≡ Some a → a.backing ≡ own_grid cells
     → own window w y x ≡ Some (record { grid = w; line = y; column = x })
 unfolding window_limit
-own-own_grid window w a cells y x e is = own_within-own_grid window_limit (omega arith) window w a cells y x e is
+own-own_grid window w a cells y x e is = grind arith

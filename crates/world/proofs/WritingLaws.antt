@@ -1,32 +1,29 @@
 -- What an edit writes: it leaves the picture as it is at every place of the screen where its frame isn't shown.
-use Rattle.std.proofs.Common.{◌≡◌, ℕ, ◌+◌, ◌<◌, ◌≤◌, Bool, true, false, if◌then◌else◌, ◌||◌, nat_lt, Option, Some, None, List, [], ◌∷◌, IsSomeAnd, ap, arith, refl, sym, ◌∙◌}
-use Rattle.std.specs.Prelude.{MatchOption, max, option_and_then, ⊤}
+use Rattle.std.proofs.Common.{◌≡◌, ℕ, ◌+◌, ◌<◌, ◌≤◌, Bool, true, false, if◌then◌else◌, ◌||◌, nat_lt, Option, Some, None, List, [], ◌∷◌, arith}
+use Rattle.std.specs.Prelude.{MatchOption, option_and_then, ⊤}
 use Rattle.std.specs.Option.{option_map_or}
 use Rattle.cell.specs.Pictures.{Place}
 use Rattle.world.specs.Windows.{Drawing, HasPlace, Window, WindowMap, Windows, put, put_windows}
-use Rattle.world.specs.Settings.{set, with_cursor}
+use Rattle.world.specs.Settings.{set}
 use Rattle.world.specs.Drawings.{at_place, to_end_of_line, written_glyph}
-use Rattle.world.specs.Frames.{Covers, IsFrameOf, frame_of, frame_of_two}
+use Rattle.world.specs.Frames.{frame_of, frame_of_two}
 use Rattle.world.specs.Panels.{Panels, first_panels, found_from_top, holds, standard_screen}
 use Rattle.world.specs.Sound.{AreSoundWindows}
-use Rattle.world.specs.Typing.{after_character, after_text, character_frame, character_printed, drawn_to, frame_of_character, is_last_line, line_ended}
+use Rattle.world.specs.Typing.{after_character, after_text, character_frame, character_printed, drawn_to, is_last_line, line_ended}
 use Rattle.world.specs.Typing.{line_ended_frame, next_line_frame, region_up, scrolls, text_frame, to_next_line, typed_frame, typed_in}
 use Rattle.world.specs.Effects.{Edit, after_edit, draws, edit_frame, edit_window, sets, types}
 use Rattle.world.specs.calls.Affected.{edit_shows_at, frame_shows_at}
 use Rattle.world.proofs.FrameLaws.{frame_of-is}
 use Rattle.world.proofs.PictureLaws.{SameView, found-put, frame_shows-same, joined-free, outline-put, standard-holds}
-use Rattle.world.proofs.ViewLaws.{Outline, SameCells, found-dressed, holds-same, outline, outline_of, own-same, set-cells}
+use Rattle.world.proofs.ViewLaws.{found-dressed, holds-same, outline, outline_of, own-same, set-cells}
 use Rattle.world.proofs.WindowLaws.{own-put}
 use Rattle.cell.specs.declared.window.Rect.{Rect}
 use Rattle.world.specs.declared.settings.Settings.{Settings}
 
 -- ---- what stays
 
-cells-view : (new old : WindowMap) → SameCells new old → SameView new old
-cells-view new old same = record { outlines = same.outlines; places = own-same new old same.backings }
-
 put-view : (window : WindowMap) (w : ℕ) (f : Drawing) → SameView (put_windows window w f) window
-put-view window w f = record { outlines = outline-put window w f; places = own-put window w f }
+put-view window w f = grind (arith, (outline-put window w f), (own-put window w f))
 
 -- ---- a frame lies in its window
 
@@ -34,49 +31,6 @@ pub record IsInside (window : WindowMap) (w : ℕ) (r : Rect) : Type 0 where
   pub lines : r.top ≤ r.bottom
   pub columns : r.left ≤ r.right
   pub last : HasPlace window w r.bottom r.right
-
-has-size : (a : Window) (y x : ℕ) (o : Option Window) → outline_of o ≡ Some (outline a) → y < a.lines → x < a.columns → IsSomeAnd o (λ b. (y < b.lines) × (x < b.columns))
-has-size a y x None is below left = cc
-has-size a y x (Some b) is below left =
-    let lines : b.lines ≡ a.lines = ap (λ o. option_map_or (λ (r : Outline). r.lines) o 0) is in
-    let columns : b.columns ≡ a.columns = ap (λ o. option_map_or (λ (r : Outline). r.columns) o 0) is in
-    (omega arith, omega arith)
-
-same-size : (y x : ℕ) (o p : Option Window) → outline_of o ≡ outline_of p → IsSomeAnd p (λ b. (y < b.lines) × (x < b.columns)) → IsSomeAnd o (λ b. (y < b.lines) × (x < b.columns))
-same-size y x o p is h = grind (arith, has-size)
-
-both-sizes : (y x v z : ℕ) (o : Option Window) → IsSomeAnd o (λ b. (y < b.lines) × (x < b.columns)) → IsSomeAnd o (λ b. (v < b.lines) × (z < b.columns))
-    → IsSomeAnd o (λ b. (max y v < b.lines) × (max x z < b.columns))
-both-sizes y x v z o h k = grind arith
-
-drawing-inside : (window : WindowMap) (w : ℕ) (a : Window) (f : Drawing) → outline_of (window w) ≡ Some (outline a)
-    → (o : Option Rect) → IsFrameOf (Covers f a.columns a.lines) o → MatchOption o ⊤ (IsInside window w)
-drawing-inside window w a f size None frame = tt
-drawing-inside window w a f size (Some r) frame =
-    let top = frame.top in
-    let left = frame.left in
-    let bottom = frame.bottom in
-    let right = frame.right in record {
-      lines = (frame.holds r.top top.0 top.1).bottom;
-      columns = (frame.holds left.0 r.left left.1).right;
-      last = has-size a r.bottom r.right (window w) size bottom.1.below right.1.left;
-    }
-
-joined-inside : (window : WindowMap) (w : ℕ) (o p : Option Rect) → MatchOption o ⊤ (IsInside window w) → MatchOption p ⊤ (IsInside window w)
-    → MatchOption (frame_of_two o p) ⊤ (IsInside window w)
-joined-inside window w None p h k = k
-joined-inside window w (Some r) None h k = h
-joined-inside window w (Some r) (Some s) h k =
-    let lines = h.lines in
-    let columns = h.columns in record {
-      lines = omega arith;
-      columns = omega arith;
-      last = both-sizes r.bottom r.right s.bottom s.right (window w) h.last k.last;
-    }
-
-inside-before : (new old : WindowMap) (w : ℕ) → outline_of (new w) ≡ outline_of (old w) → (o : Option Rect) → MatchOption o ⊤ (IsInside new w) → MatchOption o ⊤ (IsInside old w)
-inside-before new old w same None h = tt
-inside-before new old w same (Some r) h = record { lines = h.lines; columns = h.columns; last = same-size r.bottom r.right (old w) (new w) (sym same) h.last }
 
 -- ---- what a call does that writes in a frame
 
@@ -89,62 +43,34 @@ module _ (panels : Panels) (w y x : ℕ) where
     inside : MatchOption frame ⊤ (IsInside old.window w)
 
   -- nothing
-  nothing-written : (old new : Windows) → SameCells new.window old.window → Writes old None new
-  nothing-written old new same = record {
-    view = cells-view new.window old.window same;
-    kept = λ standard free. found-dressed new.window old.window same panels y x;
-    inside = tt;
-  }
-
   as-it-was : (old : Windows) → Writes old None old
-  as-it-was old = nothing-written old old (record { outlines = λ u. refl; backings = λ u. refl })
+  as-it-was old = grind arith
 
   -- a drawing, in a window of the size of a
   drawn : (old : Windows) (a : Window) (f : Drawing) → outline_of (old.window w) ≡ Some (outline a) → Writes old (frame_of a f) (put old w f)
   drawn old a f size = record {
     view = put-view old.window w f;
     kept = found-put old.window panels w a f y x size;
-    inside = drawing-inside old.window w a f size (frame_of a f) (frame_of-is a f);
+    inside = let frame = frame_of-is a f in grind arith;
   }
 
   -- one frame and then another
   and-then : (old middle new : Windows) (one other : Option Rect) → Writes old one middle → Writes middle other new → Writes old (frame_of_two one other) new
-  and-then old middle new one other first second = record {
-    view = record {
-      outlines = λ u. second.view.outlines u ∙ first.view.outlines u;
-      places = λ u v z. second.view.places u v z ∙ first.view.places u v z;
-    };
-    kept = λ standard free.
-        let both = joined-free old.window panels w y x one other free in
-        second.kept (holds-same middle.window old.window standard_screen (first.view.outlines standard_screen) y x ∙ standard)
-        (frame_shows-same middle.window old.window first.view panels w other y x ∙ both.1)
-        ∙ first.kept standard both.0;
-    inside = joined-inside old.window w one other first.inside (inside-before middle.window old.window w (first.view.outlines w) other second.inside);
-  }
+  and-then old middle new one other first second = grind (arith, joined-free, holds-same, frame_shows-same)
 
   -- and then settings
   and-set : (old middle : Windows) (frame : Option Rect) (change : Settings → Settings) → Writes old frame middle → Writes old frame (set middle w change)
-  and-set old middle frame change first =
-      let settings = set-cells middle w change in record {
-        view = record {
-          outlines = λ u. settings.outlines u ∙ first.view.outlines u;
-          places = λ u v z. own-same (set middle w change).window middle.window settings.backings u v z ∙ first.view.places u v z;
-        };
-        kept = λ standard free. found-dressed (set middle w change).window middle.window settings panels y x ∙ first.kept standard free;
-        inside = first.inside;
-      }
+  and-set old middle frame change first = grind (arith, (set-cells middle w change), (own-same _ _ (set-cells middle w change).backings), (found-dressed _ _ (set-cells middle w change)))
 
   settings-set : (old : Windows) (change : Settings → Settings) → Writes old None (set old w change)
   settings-set old change = and-set old old None change (as-it-was old)
 
   chosen : (b : Bool) (old one other : Windows) (f g : Option Rect) → Writes old f one → Writes old g other → Writes old (if b then f else g) (if b then one else other)
-  chosen true old one other f g h k = h
-  chosen false old one other f g h k = k
+  chosen b old one other f g h k = grind arith
 
   in-window : (old : Windows) (o : Option Window) (frame : Window → Option Rect) (change : Window → Windows)
       → ((a : Window) → o ≡ Some a → Writes old (frame a) (change a)) → Writes old (option_and_then frame o) (option_map_or change o old)
-  in-window old None frame change h = as-it-was old
-  in-window old (Some a) frame change h = h a refl
+  in-window old o frame change h = grind arith
 
   -- ---- characters
 
@@ -153,78 +79,41 @@ module _ (panels : Panels) (w y x : ℕ) where
     abbrev Sized : Windows → Type 0
     Sized windows = outline_of (windows.window w) ≡ Some (outline a)
 
-    sized-put : (windows : Windows) (f : Drawing) → Sized windows → Sized (put windows w f)
-    sized-put windows f size = outline-put windows.window w f w ∙ size
-
     to-next-line : (windows : Windows) (place : Place) → Sized windows → Writes windows (next_line_frame windows.window w a) (to_next_line windows w a place)
     to-next-line windows place size =
-        let below : Windows = set windows w (with_cursor (a.settings.cursor.0 + 1, 0)) in
-        let here : Windows = set windows w (with_cursor place) in
-        let region : Drawing = region_up windows.window w a in
-        chosen (scrolls a) windows (drawn_to windows w region (a.settings.cursor.0, 0)) (if is_last_line a a.settings.cursor.0 then here else below) (frame_of a region) None
-        (and-set windows (put windows w region) (frame_of a region) (with_cursor (a.settings.cursor.0, 0)) (drawn windows a region size))
-        (unframed (is_last_line a a.settings.cursor.0) here below (settings-set windows (with_cursor place))
-        (settings-set windows (with_cursor (a.settings.cursor.0 + 1, 0)))) where
+        chosen (scrolls a) windows (drawn_to windows w (region_up windows.window w a) (a.settings.cursor.0, 0)) _ _ None
+        (search (arith, and-set, drawn)) (unframed (is_last_line a a.settings.cursor.0) _ _ (settings-set windows _) (settings-set windows _)) where
           unframed : (b : Bool) (one other : Windows) → Writes windows None one → Writes windows None other → Writes windows None (if b then one else other)
-          unframed true one other h k = h
-          unframed false one other h k = k
+          unframed b one other h k = grind arith
 
     printed : (windows : Windows) (character : ℕ) → Sized windows → Writes windows (character_frame windows w character a) (character_printed windows w character a)
     printed windows character size =
-        let glyph : Drawing = at_place a.settings.cursor (written_glyph a.settings character) in
-        chosen (nat_lt (a.settings.cursor.1 + 1) a.columns) windows (drawn_to windows w glyph (a.settings.cursor.0, a.settings.cursor.1 + 1))
-        (to_next_line (put windows w glyph) w a a.settings.cursor) (frame_of a glyph) (frame_of_two (frame_of a glyph) (next_line_frame (put windows w glyph).window w a))
-        (and-set windows (put windows w glyph) (frame_of a glyph) (with_cursor (a.settings.cursor.0, a.settings.cursor.1 + 1)) (drawn windows a glyph size))
-        (and-then windows (put windows w glyph) (to_next_line (put windows w glyph) w a a.settings.cursor) (frame_of a glyph)
-        (next_line_frame (put windows w glyph).window w a) (drawn windows a glyph size)
-        (to-next-line (put windows w glyph) a.settings.cursor (sized-put windows glyph size)))
+        let first = drawn windows a (at_place a.settings.cursor (written_glyph a.settings character)) size in
+        chosen (nat_lt (a.settings.cursor.1 + 1) a.columns) windows _ _ _ _ (and-set windows _ _ _ first)
+        (and-then windows _ _ _ _ first (to-next-line _ a.settings.cursor (grind (arith, outline-put))))
 
     ended : (windows : Windows) → Sized windows → Writes windows (line_ended_frame windows w a) (line_ended windows w a)
-    ended windows size =
-        let rest : Drawing = to_end_of_line a.settings.cursor a.settings.background in
-        and-then windows (put windows w rest) (to_next_line (put windows w rest) w a (a.settings.cursor.0, 0)) (frame_of a rest)
-        (next_line_frame (put windows w rest).window w a) (drawn windows a rest size)
-        (to-next-line (put windows w rest) (a.settings.cursor.0, 0) (sized-put windows rest size))
+    ended windows size = and-then windows _ _ _ _ (drawn windows a (to_end_of_line a.settings.cursor a.settings.background) size) (to-next-line _ _ (grind (arith, outline-put)))
 
     -- a carriage return, a backspace or a printed character
     moved-or-printed : (left right : Bool) (old one other printing : Windows) (f : Option Rect) → Writes old None one → Writes old None other → Writes old f printing
         → Writes old (if left || right then None else f) (if left then one else if right then other else printing)
-    moved-or-printed true right old one other printing f h k l = h
-    moved-or-printed false true old one other printing f h k l = k
-    moved-or-printed false false old one other printing f h k l = l
+    moved-or-printed left right old one other printing f h k l = grind arith
 
     typed : (windows : Windows) (character : ℕ) → Sized windows → Writes windows (typed_frame windows w character a) (typed_in windows w character a)
     typed windows character size = search (arith, chosen, ended, moved-or-printed, settings-set, printed)
 
-  add-character : (windows : Windows) (character : ℕ) → Writes windows (frame_of_character windows w character) (after_character windows w character)
-  add-character windows character =
-      in-window windows (windows.window w) (typed_frame windows w character) (typed_in windows w character)
-      (λ a is. typed a windows character (ap (λ o. outline_of o) is))
-
   add-text : (text : List ℕ) (windows : Windows) → Writes windows (text_frame windows w text) (after_text windows w text)
-  add-text [] windows = as-it-was windows
-  add-text (character ∷ text) windows =
-      and-then windows (after_character windows w character) (after_text (after_character windows w character) w text) (frame_of_character windows w character)
-      (text_frame (after_character windows w character) w text) (add-character windows character) (add-text text (after_character windows w character))
-
-  -- ---- one drawing
-
-  draw : (windows : Windows) (drawing : Window → Drawing) → Writes windows (edit_frame windows (draws w drawing None)) (after_edit windows (draws w drawing None))
-  draw windows drawing =
-      in-window windows (windows.window w) (λ a. frame_of a (drawing a)) (λ a. put windows w (drawing a)) (λ a is. drawn windows a (drawing a) (ap (λ o. outline_of o) is))
-
-  draw-set : (windows : Windows) (drawing : Window → Drawing) (change : Settings → Settings)
-      → Writes windows (edit_frame windows (draws w drawing (Some change))) (after_edit windows (draws w drawing (Some change)))
-  draw-set windows drawing change =
-      in-window windows (windows.window w) (λ a. frame_of a (drawing a)) (λ a. set (put windows w (drawing a)) w change)
-      (λ a is. and-set windows (put windows w (drawing a)) (frame_of a (drawing a)) change (drawn windows a (drawing a) (ap (λ o. outline_of o) is)))
+  add-text [] windows = grind arith
+  add-text (character ∷ text) windows = and-then _ _ _ _ _ (in-window windows _ _ _ (λ a is. typed a windows character (grind arith))) (add-text text (after_character windows w character))
 
 -- ---- each effect
 
 write : (panels : Panels) (y x : ℕ) (windows : Windows) (edit : Edit) → Writes panels (edit_window edit) y x windows (edit_frame windows edit) (after_edit windows edit)
 write panels y x windows (sets w change) = settings-set panels w y x windows change
-write panels y x windows (draws w drawing None) = draw panels w y x windows drawing
-write panels y x windows (draws w drawing (Some change)) = draw-set panels w y x windows drawing change
+write panels y x windows (draws w drawing None) = in-window panels w y x windows _ _ _ (λ a is. drawn panels w y x windows a (drawing a) (grind arith))
+write panels y x windows (draws w drawing (Some change)) =
+    in-window panels w y x windows _ _ _ (λ a is. and-set panels w y x windows _ _ change (drawn panels w y x windows a (drawing a) (grind arith)))
 write panels y x windows (types w text) = add-text panels w y x text windows
 
 pub found-edit : (windows : Windows) (panels : Panels) (edit : Edit) (y x : ℕ) → AreSoundWindows windows → y < windows.lines → x < windows.columns
@@ -233,14 +122,9 @@ found-edit windows panels edit y x sound below left free = grind (arith, write, 
 
 -- ---- the frame lies in the window
 
-framed : (window : WindowMap) (w : ℕ) (o : Option Rect) (r : Rect) → o ≡ Some r → MatchOption o ⊤ (IsInside window w) → (r.top ≤ r.bottom) × (r.left ≤ r.right) × HasPlace window w r.bottom r.right
-framed window w o r is h = grind arith
-
 pub inside-edit : (windows : Windows) (edit : Edit) (r : Rect) → edit_frame windows edit ≡ Some r
     → (r.top ≤ r.bottom) × (r.left ≤ r.right) × HasPlace windows.window (edit_window edit) r.bottom r.right
-inside-edit windows edit r is =
-    let written = write first_panels 0 0 windows edit in
-    framed windows.window (edit_window edit) (edit_frame windows edit) r is written.inside
+inside-edit windows edit r is = grind (arith, (write first_panels 0 0 windows edit))
 
 -- ---- what is shown where, and where windows are, is as it was
 
@@ -248,4 +132,4 @@ pub view-edit : (windows : Windows) (edit : Edit) → SameView (after_edit windo
 view-edit windows edit = (write first_panels 0 0 windows edit).view
 
 pub there-still : (new old : WindowMap) → SameView new old → (w y x : ℕ) → HasPlace old w y x → HasPlace new w y x
-there-still new old same w y x h = same-size y x (new w) (old w) (same.outlines w) h
+there-still new old same w y x h = grind arith

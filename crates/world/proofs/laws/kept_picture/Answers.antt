@@ -11,7 +11,7 @@ pub returns-clause-written : goal.returns-clause-written
 returns-clause-written c = grind (arith, found-put, outline_of, standard-holds)
 
 pub returns-clause-moved : goal.returns-clause-moved
-returns-clause-moved c = λ windows panels w v z y x sound allowed free. found-moved windows panels w v z y x sound allowed free
+returns-clause-moved c = grind (arith, found-moved)
 
 pub returns-clause-called : goal.returns-clause-called
 returns-clause-called c = grind (arith, picture-kept, free-place)
