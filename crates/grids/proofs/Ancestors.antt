@@ -14,16 +14,11 @@ use Rattle.slots.proofs.LongerWalks.{own_of_part, own-parent}
 
 -- ---- ancestors
 
-anc-backing : (n m : ℕ) (window : WindowMap) (s : GridPlace) → ((u y x : ℕ) → own_within n window u y x ≡ Some s → ancestors_within m window u ≡ ancestors_within n window u)
-    → (u y x : ℕ) (b : Backing) → leads (own_within n window) u y x b ≡ Some s
-    → option_map_or (λ p. p ∷ ancestors_within m window p) (parent_number b) [] ≡ option_map_or (λ p. p ∷ ancestors_within n window p) (parent_number b) []
-anc-backing n m window s more u y x b h = grind arith
-
 anc-at : (n m : ℕ) (window : WindowMap) (s : GridPlace) → ((u y x : ℕ) → own_within n window u y x ≡ Some s → ancestors_within m window u ≡ ancestors_within n window u)
     → (u y x : ℕ) (o : Option Window) → option_and_then (λ a. leads (own_within n window) u y x a.backing) o ≡ Some s
     → option_map_or (λ p. p ∷ ancestors_within m window p) (option_and_then (λ a. parent_number a.backing) o) []
     ≡ option_map_or (λ p. p ∷ ancestors_within n window p) (option_and_then (λ a. parent_number a.backing) o) []
-anc-at n m window s more u y x o h = grind (arith, anc-backing)
+anc-at n m window s more u y x o h = grind arith
 
 anc-same : (n m : ℕ) → n ≤ m → (window : WindowMap) (u y x : ℕ) (s : GridPlace) → own_within n window u y x ≡ Some s → ancestors_within m window u ≡ ancestors_within n window u
 anc-same zero m le window u y x s h = cc
@@ -34,19 +29,12 @@ anc_of_part : (n : ℕ) (window : WindowMap) (u : ℕ) (b : Window) (part : Part
     → ancestors_within (suc n) window u ≡ part.parent ∷ ancestors_within n window part.parent
 anc_of_part n window u b part e is = rw (e, is) refl
 
-anc_parent : (limit : ℕ) (window : WindowMap) (u : ℕ) (b : Window) (part : Part) (s : GridPlace) → window u ≡ Some b → b.backing ≡ part_of part.parent part.line part.column
-    → own_within limit window u 0 0 ≡ Some s → ancestors_within limit window u ≡ part.parent ∷ ancestors_within limit window part.parent
-anc_parent limit window u b part s e is h = grind (arith, anc_of_part, anc-same, own_of_part)
-
 pub ancestors-parent : (window : WindowMap) (u : ℕ) (b : Window) (part : Part) → window u ≡ Some b → b.backing ≡ part_of part.parent part.line part.column → IsSome (own window u 0 0)
     → ancestors window u ≡ part.parent ∷ ancestors window part.parent
-ancestors-parent window u b part e is ends = grind (arith, some_of, anc_parent)
-
-anc_none : (limit : ℕ) (window : WindowMap) (u : ℕ) (b : Window) (cells : ℕ → ℕ → Glyph) → window u ≡ Some b → b.backing ≡ own_grid cells → ancestors_within limit window u ≡ []
-anc_none limit window u b cells e is = grind arith
+ancestors-parent window u b part e is ends = grind (arith, some_of, anc_of_part, anc-same, own_of_part)
 
 pub ancestors-none : (window : WindowMap) (u : ℕ) (b : Window) (cells : ℕ → ℕ → Glyph) → window u ≡ Some b → b.backing ≡ own_grid cells → ancestors window u ≡ []
-ancestors-none window u b cells e is = grind (arith, anc_none)
+ancestors-none window u b cells e is = grind arith
 
 -- ---- the parent that a backing names
 

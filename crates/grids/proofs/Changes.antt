@@ -24,15 +24,12 @@ windows-set t new at o set = grind (arith, cases_eq, eq-eqb, ne_eqb)
 abbrev pub IsStandardOf : WindowTable → Kept → Type 0
 IsStandardOf t k = IsStandardScreen (windows t) (window_of k)
 
-standard-kept : (t : WindowTable) (new : List (Option Kept)) (k : Kept) → IsStandardOf t k → IsStandardOf (record t { slots = new }) k
-standard-kept t new k s = grind arith
-
 pub standard-still : (t : WindowTable) (new : List (Option Kept)) (o : Option Kept) → IsSomeAnd o (IsStandardOf t) → IsSomeAnd o (IsStandardOf (record t { slots = new }))
-standard-still t new o s = grind (arith, standard-kept)
+standard-still t new o s = grind arith
 
 pub IsWindowTable-set : (t : WindowTable) (new : List (Option Kept)) (at : ℕ) (k : Kept) → IsWindowTable t → SetAt t.slots new at (Some k) → KeepsShape (slot_at t.slots at) (Some k)
     → IsKept k → HasParentIn t.slots k k.cells → IsOnScreen t.lines t.columns (window_of k) → (at ≡ 0 → IsStandardOf t k) → (IsChained new → AreOrigins new) → IsWindowTable (record t { slots = new })
-IsWindowTable-set t new at k s set shape kept chained placed standard origins = grind (arith, cases_eq, standard-kept, standard-still, chained_set, each_set)
+IsWindowTable-set t new at k s set shape kept chained placed standard origins = grind (arith, cases_eq, standard-still, chained_set, each_set)
 
 -- a free slot is filled
 pub IsWindowTable-filled : (t : WindowTable) (new : List (Option Kept)) (at : ℕ) (k : Kept) → IsWindowTable t → SetAt t.slots new at (Some k) → slot_at t.slots at ≡ None

@@ -8,7 +8,6 @@ use Rattle.world.specs.Sound.{IsOnScreen}
 use Rattle.world.specs.calls.Making.{has_derived}
 use Rattle.world.proofs.Below.{any_below-some}
 use Rattle.slots.specs.declared.slot.Part.{Part}
-use Rattle.slots.specs.declared.slot.Cells.{Cells}
 use Rattle.slots.specs.declared.slot.Cells.TheVariants.{Shared}
 use Rattle.slots.specs.Kept.{Kept, IsKept, window_of}
 use Rattle.grids.specs.Tables.{WindowTable, IsWindowTable}
@@ -19,13 +18,9 @@ use Rattle.slots.proofs.OneSlot.{each_set, slot_below}
 use Rattle.grids.proofs.Changes.{IsStandardOf, standard-still}
 use Rattle.slots.proofs.Origins.{origins-without}
 
-parent_without : (old new : List (Option Kept)) (at : ℕ) → SetAt old new at None → (k : Kept) (cells : Cells) → ((part : Part) → cells ≡ Shared part → part.parent ≢ at) → HasParentIn old k cells
-    → HasParentIn new k cells
-parent_without old new at set k cells apart h = grind arith
-
 each_without : (old new : List (Option Kept)) (at : ℕ) → SetAt old new at None → (o : Option Kept) → ((k : Kept) (part : Part) → o ≡ Some k → k.cells ≡ Shared part → part.parent ≢ at)
     → MatchOption o ⊤ (λ k. IsKept k × HasParentIn old k k.cells) → MatchOption o ⊤ (λ k. IsKept k × HasParentIn new k k.cells)
-each_without old new at set o apart h = grind (arith, parent_without)
+each_without old new at set o apart h = grind arith
 
 none_derives : (slots : List (Option Kept)) (at : ℕ) → length slots ≤ MOST_WINDOWS + 1 → has_derived (window_map slots) at ≡ false → (w : ℕ) (k : Kept) (part : Part) → slot_at slots w ≡ Some k
     → k.cells ≡ Shared part → part.parent ≢ at

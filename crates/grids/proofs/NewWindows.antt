@@ -1,9 +1,7 @@
 -- What is known of a new window: its size, and where it is.
-use Rattle.std.proofs.Common.{◌≡◌, ℕ, ◌+◌, ◌<◌, ◌≤◌, Bool, true, if◌then◌else◌, Option, Some, None, is_some, MatchOption, List, arith}
+use Rattle.std.proofs.Common.{◌≡◌, ℕ, ◌+◌, ◌<◌, ◌≤◌, if◌then◌else◌, Option, Some, None, List, arith}
 use Rattle.std.specs.Option.{option_map}
-use Rattle.std.specs.Prelude.{⊤}
 use Rattle.std.proofs.lemmas.Bool.{and_parts, leb-true, ltb-true}
-use Rattle.cell.specs.Pictures.{Place}
 use Rattle.world.specs.Windows.{Backing, part_of, Window, WindowMap}
 use Rattle.world.specs.Sound.{IsOnScreen}
 use Rattle.world.specs.calls.Making.{is_inside, extent, derived_window, place_from}
@@ -22,17 +20,13 @@ use Rattle.slots.proofs.Origins.{HasOrigin}
 pub alone_in : (slots : List (Option Kept)) (k : Kept) (cells : Cells) → part_in cells ≡ None → k.depth ≡ 0 → HasParentIn slots k cells
 alone_in slots k cells e h = grind arith
 
--- a size that is inside ends before the edge
-given_if : (t : Bool) (m r : ℕ) → (if t then Some m else None) ≡ Some r → (t ≡ true) × (r ≡ m)
-given_if t m r h = grind arith
-
 pub record IsExtent (n all at r : ℕ) : Type 0 where
   pub given : r ≡ extent n all at
   pub some : 0 < r
   pub inside : at + r ≤ all
 
 pub extent-is : (n all at r : ℕ) → (if is_inside n all at then Some (extent n all at) else None) ≡ Some r → IsExtent n all at r
-extent-is n all at r h = grind (arith, given_if, and_parts, ltb-true, leb-true)
+extent-is n all at r h = grind (arith, and_parts, ltb-true, leb-true)
 
 -- a new window lies on the screen
 pub placed_new : (lines columns n m y x : ℕ) (src : Backing) (k : Kept) → window_of k ≡ new_window n m (Some (y, x)) src → y + n ≤ lines → x + m ≤ columns → IsOnScreen lines columns (window_of k)
@@ -54,24 +48,17 @@ module _ (t : WindowTable) (new : List (Option Kept)) (m : ℕ) (k : Kept) (set 
 
 -- a new derived window lies in its parent
 
-kind_from : (o : Option Place) (y x : ℕ) → is_some (place_from o y x) ≡ is_some o
-kind_from o y x = grind arith
-
 pub derived_in : (slots : List (Option Kept)) (k p : Kept) (part : Part) (n m : ℕ) → part_in k.cells ≡ Some part → slot_at slots part.parent ≡ Some p → k.depth ≡ p.depth + 1
     → window_of k ≡ new_window n m (place_from p.place part.line part.column) (part_of part.parent part.line part.column) → part.line + n ≤ p.lines → part.column + m ≤ p.columns
     → HasParentIn slots k k.cells
-derived_in slots k p part n m is e depth made lines columns = grind (arith, kind_from, shared_of)
+derived_in slots k p part n m is e depth made lines columns = grind (arith, shared_of)
 
 -- and on the screen, where its parent does
-
-placed_from : (lines columns n m y x h v : ℕ) (src : Backing) (o : Option Place) → MatchOption o ⊤ (λ p. (p.0 + h ≤ lines) × (p.1 + v ≤ columns)) → y + n ≤ h → x + m ≤ v
-    → IsOnScreen lines columns (new_window n m (place_from o y x) src)
-placed_from lines columns n m y x h v src o on below left = grind arith
 
 pub placed_derived : (t : WindowTable) → IsWindowTable t → (w : ℕ) (k p : Kept) (n m y x : ℕ) (src : Backing) → slot_at t.slots w ≡ Some p
     → window_of k ≡ new_window n m (place_from p.place y x) src → y + n ≤ p.lines → x + m ≤ p.columns
     → IsOnScreen t.lines t.columns (window_of k)
-placed_derived t s w k p n m y x src e made lines columns = grind (arith, placed_from)
+placed_derived t s w k p n m y x src e made lines columns = grind arith
 
 -- it is the window that the definition gives
 pub made_derived : (window : WindowMap) (p : Kept) (w nlines ncols y x n m : ℕ) → window w ≡ Some (window_of p) → n ≡ extent nlines p.lines y → m ≡ extent ncols p.columns x

@@ -8,16 +8,11 @@ use Rattle.world.specs.Effects.{with_part}
 use Rattle.slots.specs.declared.slot.Part.{Part}
 use Rattle.slots.specs.Kept.{Kept, window_of}
 use Rattle.grids.specs.Tables.{WindowTable, IsWindowTable, windows}
-use Rattle.slots.specs.Slots.{slot_at, window_map, FitsIn, HasParentIn, IsChained, part_in}
+use Rattle.slots.specs.Slots.{slot_at, window_map, HasParentIn, IsChained, part_in}
 use Rattle.slots.specs.Changes.{Settled, Shifted, SetAt}
 use Rattle.slots.proofs.Chain.{parent_at, some_and, shared_of, own_alone}
 use Rattle.slots.proofs.OneSlot.{SetAt-set, slot_below, each_set, chained_set, KeepsShape}
 use Rattle.grids.proofs.Changes.{windows-set, IsStandardOf, standard-still, replaced-changed}
-
--- where a window lies in its parent
-fits_at : (slots : List (Option Kept)) → IsChained slots → (w : ℕ) (k p : Kept) (part : Part) → slot_at slots w ≡ Some k → part_in k.cells ≡ Some part → slot_at slots part.parent ≡ Some p
-    → FitsIn k part p
-fits_at slots s w k p part e in_part parent = grind (arith, parent_at, shared_of)
 
 -- slots of the same windows
 
@@ -46,7 +41,7 @@ module _ (t : WindowTable) (mid : List (Option Kept)) (at y x : ℕ) (s : IsWind
   module _ (k p : Kept) (part : Part) (e : slot_at t.slots at ≡ Some k) (in_part : part_in k.cells ≡ Some part) (parent : slot_at t.slots part.parent ≡ Some p)
       (lines : y + k.lines ≤ p.lines) (columns : x + k.columns ≤ p.columns) where
     chained : HasParentIn t.slots h.after h.after.cells
-    chained = grind (arith, shared_of, fits_at)
+    chained = grind (arith, shared_of, parent_at)
 
     pub chained-shifted : IsChained mid
     chained-shifted = chained_set t.slots mid at h.after s.chained set_at (subst (λ o. KeepsShape o (Some h.after)) (sym h.was) h.shape) h.kept chained

@@ -1,12 +1,11 @@
 -- The windows of a table are sound.
 use Rattle.std.proofs.Common.{◌≡◌, ℕ, ◌<◌, Option, IsSomeAnd, MatchOption, List, arith, subst}
 use Rattle.std.specs.Option.{option_map}
-use Rattle.std.specs.Prelude.{⊤}
 use Rattle.std.specs.List.{AllByRecursion}
 use Rattle.std.proofs.lemmas.List.Elements.{All-from_recursion, All-get_or}
 use Rattle.cell.specs.Glyphs.{IsCell, blank}
 use Rattle.cell.specs.Pictures.{Sheet, line_of, glyph_at, AreCells, HasSize}
-use Rattle.world.specs.Sound.{HasCells, IsPartOf, IsSoundWindow, IsStandardScreen, AreSoundWindows}
+use Rattle.world.specs.Sound.{HasCells, IsPartOf, AreSoundWindows}
 use Rattle.cell.proofs.PictureLemmas.{length-line}
 use Rattle.slots.specs.declared.slot.Part.{Part}
 use Rattle.slots.specs.declared.slot.Cells.{Cells}
@@ -16,7 +15,6 @@ use Rattle.grids.specs.Tables.{WindowTable, IsWindowTable, windows}
 use Rattle.slots.specs.Slots.{slot_at, window_map, FitsIn, HasParentIn}
 use Rattle.slots.proofs.Chain.{each_at, chain_ends}
 use Rattle.slots.proofs.OneSlot.{slot_below}
-use Rattle.grids.proofs.Changes.{IsStandardOf}
 
 cell_in : (picture : Sheet) (lines columns y x : ℕ) → HasSize lines columns picture → AreCells picture → y < lines → x < columns → IsCell (glyph_at picture (y, x))
 cell_in picture lines columns y x size cells below left =
@@ -31,14 +29,8 @@ cells_of : (slots : List (Option Kept)) (k : Kept) (cells : Cells) → IsGridOf 
 cells_of slots k (Own picture) grid chained = λ y x below left. cell_in picture k.lines k.columns y x grid.0 grid.1 below left
 cells_of slots k (Shared part) grid chained = parent_fits k part (slot_at slots part.parent) chained
 
-sound_at : (t : WindowTable) → IsWindowTable t → (w : ℕ) (o : Option Kept) → slot_at t.slots w ≡ o → MatchOption (option_map window_of o) ⊤ (IsSoundWindow (windows t) w)
-sound_at t s w o e = grind (arith, each_at, slot_below, cells_of, chain_ends)
-
-standard_at : (t : WindowTable) (o : Option Kept) → IsSomeAnd o (IsStandardOf t) → IsSomeAnd (option_map window_of o) (IsStandardScreen (windows t))
-standard_at t o h = grind arith
-
 pub sound : (t : WindowTable) → IsWindowTable t → AreSoundWindows (windows t)
-sound t s = grind (arith, standard_at, sound_at)
+sound t s = grind (arith, each_at, slot_below, cells_of, chain_ends)
 
 -- of the table that is shown
 pub sound_shown : (t u : WindowTable) → t ≡ u → IsWindowTable t → AreSoundWindows (windows u)

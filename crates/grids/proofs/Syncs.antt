@@ -200,13 +200,9 @@ module _ (old : Windows) (sound : AreSoundWindows old) (w u line column : ℕ) (
     unfolding test
     next_at v = grind arith
 
-    rest-next : (v : ℕ) → (if list_any (λ p. p == v) (ancestors old.window part.parent) then option_map (with_touches (shows_touched_of old.window w v)) (next.window v) else next.window v)
-        ≡ (after_copying old (Syncup (record { 0 = w }))).window v
-    rest-next v = grind (arith, next-ancestors, cases_eq, next_at, changed-here, test-is, eq-eqb, again, changed-other, ne_eqb)
-
     pub handed-on : IsHandedTo old next w part.parent (line + part.line) (column + part.column)
     unfolding test
-    handed-on = grind (arith, next-walk, next_at, untouched_if, changed-other, rest-next)
+    handed-on = grind (arith, next-walk, next_at, untouched_if, changed-other, next-ancestors, cases_eq, changed-here, test-is, eq-eqb, again, ne_eqb)
 
 -- ---- at the last window
 

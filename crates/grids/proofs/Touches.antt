@@ -26,11 +26,8 @@ both_if t o f g = grind (arith, both)
 pub changed-twice : (window : WindowMap) (w : ℕ) (f g : Window → Window) → with_change (with_change window w f) w g ≡ with_change window w (λ a. g (f a))
 changed-twice window w f g = grind (arith, both_if)
 
-agrees_at : (o : Option Window) (f g : Window → Window) → ((a : Window) → o ≡ Some a → f a ≡ g a) → option_map f o ≡ option_map g o
-agrees_at o f g h = grind arith
-
 pub changed-same : (window : WindowMap) (w : ℕ) (f g : Window → Window) → ((a : Window) → window w ≡ Some a → f a ≡ g a) → with_change window w f ≡ with_change window w g
-changed-same window w f g h = grind (arith, cases_eq, eq-eqb, agrees_at, ne_eqb)
+changed-same window w f g h = grind (arith, cases_eq, eq-eqb, ne_eqb)
 
 same_if : (t : Bool) (o : Option Window) → (if t then option_map (λ a. a) o else o) ≡ o
 same_if t o = grind (arith, option_map_id)
@@ -73,16 +70,13 @@ before-off k y t h = grind (arith, le-ltb)
 before-on : (k y : ℕ) (t : Bool) → y < k → (nat_lt y k && t) ≡ t
 before-on k y t h = grind (arith, lt-ltb)
 
-before-next : (k y : ℕ) (t : Bool) → y ≢ k → (nat_lt y k && t) ≡ (nat_lt y (k + 1) && t)
-before-next k y t other = grind (arith, cases_lt, before-on, before-off)
-
 module _ (a : Window) (test : ℕ → ℕ → Bool) (y : ℕ) (below : y < a.lines) where
   on_line : ℕ → ℕ → Option Columns
   on_line k z = if nat_lt z a.lines then touched_below a.columns (λ x. nat_lt z k && test z x) (a.touched z) else a.touched z
 
   line-other : (z : ℕ) → z ≢ y → on_line y z ≡ on_line (y + 1) z
   unfolding on_line
-  line-other z other = grind (arith, before-next)
+  line-other z other = grind (arith, cases_lt, before-on, before-off)
 
   line-before : on_line y y ≡ a.touched y
   unfolding on_line
@@ -135,13 +129,6 @@ module _ (w : Windows) (win : ℕ) (test : ℕ → ℕ → Bool) where
       → (now next : Windows) → now ≡ touched_before y → next ≡ record now { window = with_change now.window win (with_touched y first last) } → next ≡ touched_before (y + 1)
   next-some a there y first last below ordered within h now next is step = grind (arith, changed-twice, changed-same, line-some)
 
-  -- the window keeps its size, and the others are as they were
-  pub touched-here : (k : ℕ) (cur : Windows) (a : Window) → cur ≡ touched_before k → w.window win ≡ Some a → cur.window win ≡ Some (with_touches (before k test) a)
-  touched-here k cur a is there = grind (arith, changed-here)
-
-  pub touched-other : (k : ℕ) (cur : Windows) (u : ℕ) → cur ≡ touched_before k → u ≢ win → cur.window u ≡ w.window u
-  touched-other k cur u is other = grind (arith, changed-other)
-
 -- a window that is there, for crates that don't use `slots`
 pub there-and : (o : Option Window) (P : Window → Type 0) → IsSomeAnd o P → (a : Window) × (o ≡ Some a) × P a
 there-and o P h = some_and o P h
@@ -159,4 +146,4 @@ pub record IsAtLine (w cur : Windows) (win source : ℕ) (at : Place) (test : �
 
 pub at-line : (w cur : Windows) (win source : ℕ) (at size : Place) (test : ℕ → ℕ → Bool) (y : ℕ) → win ≢ source → EndsWithin w.window win at
     → IsSomeAnd (w.window win) (λ a. (size.0 ≡ a.lines) × (size.1 ≡ a.columns)) → y < size.0 → cur ≡ touched_before w win test y → IsAtLine w cur win source at test y
-at-line w cur win source at size test y other ends sized above touched = grind (arith, some_and, touched-here, touched-other)
+at-line w cur win source at size test y other ends sized above touched = grind (arith, some_and, changed-here, changed-other)

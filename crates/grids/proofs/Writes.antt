@@ -73,13 +73,9 @@ touched-row a y left right c in_lines l in_cols z =
           touched-none a.columns test (a.touched z) (λ x lt. row_test_off a y left right c z x other) ∙ sym (cond-false (z == y) (joined_columns (a.touched z) left right) (a.touched z) off)
     ]
 
-moved_row_at : (place : GridPlace) (a : Window) (y left right : ℕ) (c : Glyph) → y < a.lines → right < a.columns → (z x : ℕ)
-    → grid_drawing place (within a (filled_cells y left right c)) z x ≡ filled_cells (place.line + y) (place.column + left) (place.column + right) c z x
-moved_row_at place a y left right c in_lines in_cols z x = grind (arith, nat_tests)
-
 moved-row : (place : GridPlace) (a : Window) (y left right : ℕ) (c : Glyph) → y < a.lines → right < a.columns
     → grid_drawing place (within a (filled_cells y left right c)) ≡ filled_cells (place.line + y) (place.column + left) (place.column + right) c
-moved-row place a y left right c in_lines in_cols = grind (arith, moved_row_at)
+moved-row place a y left right c in_lines in_cols = grind (arith, nat_tests)
 
 -- the windows after one slot was changed
 abbrev changed_at : ℕ → (Window → Window) → ℕ → Window → Window

@@ -1,5 +1,5 @@
 -- The chain of parents: it ends, and it is no longer than the number of windows.
-use Rattle.std.proofs.Common.{◌≡◌, ℕ, zero, suc, ◌+◌, ◌-◌, ◌<◌, ◌≤◌, ◌≢◌, Option, Some, None, MatchOption, IsSome, IsSomeAnd, List, [], ◌∷◌, length, slice_set, ap, arith, refl, sym, ◌∙◌}
+use Rattle.std.proofs.Common.{◌≡◌, ℕ, zero, suc, ◌+◌, ◌-◌, ◌<◌, ◌≤◌, ◌≢◌, Option, Some, None, IsSome, IsSomeAnd, List, [], ◌∷◌, length, slice_set, ap, arith, refl, sym, ◌∙◌}
 use Rattle.std.proofs.Common.{inl, inr, ◌⊎◌, get_or-set_other}
 use Rattle.std.specs.Option.{option_map}
 use Rattle.std.proofs.lemmas.Bool.{cases_eq}
@@ -14,9 +14,6 @@ use Rattle.slots.specs.declared.slot.Cells.TheVariants.{Own, Shared}
 use Rattle.slots.specs.Kept.{Kept, IsKept, backing_of}
 use Rattle.slots.specs.Slots.{slot_at, window_map, FitsIn, HasParentIn, IsChained, part_in, in_parent, depth_at, lines_at, columns_at}
 
-from_match : (o : Option Kept) (P : Kept → Type 0) → MatchOption o ⊥ P → (k : Kept) × (o ≡ Some k) × P k
-from_match o P h = grind arith
-
 pub some_of : {A : Type 0} (o : Option A) → IsSome o → (a : A) × (o ≡ Some a)
 some_of o h = grind arith
 
@@ -29,7 +26,7 @@ each_at slots s w k e = rw e at (s.each w)
 -- the slot of a parent
 pub parent_at : (slots : List (Option Kept)) → IsChained slots → (w : ℕ) (k : Kept) (part : Part) → slot_at slots w ≡ Some k → k.cells ≡ Shared part
     → (p : Kept) × (slot_at slots part.parent ≡ Some p) × FitsIn k part p
-parent_at slots s w k part e is = grind (arith, from_match, each_at)
+parent_at slots s w k part e is = grind (arith, each_at)
 
 -- a slot with a grid is at the end of its chain
 depth_of_grid : (slots : List (Option Kept)) (k : Kept) (cells : Cells) → HasParentIn slots k cells → 0 < k.depth → (part : Part) × (cells ≡ Shared part)

@@ -17,7 +17,6 @@ use Rattle.slots.specs.declared.slot.Cells.TheVariants.{Own}
 use Rattle.slots.specs.declared.slot.Origin.{Origin}
 use Rattle.slots.specs.Kept.{Kept, IsKept, IsGridOf, window_of}
 use Rattle.slots.specs.Changes.{StaysInPlace}
-use Rattle.world.specs.Sound.{AreColumnsWithin}
 use Rattle.world.specs.declared.settings.Columns.{Columns}
 
 -- a piece of a line
@@ -43,14 +42,8 @@ cells-of_line sheet line left len cells below =
 
 -- a blank grid
 
-blank_at : (n k : ℕ) → get_or (replicate n blank) k blank ≡ blank
-blank_at n k = grind (arith, cases_lt, get_or-replicate, get_or_past, replicate, length-replicate)
-
-pub shown-blank : (lines columns y x : ℕ) → glyph_at (blank_sheet lines columns) (y, x) ≡ blank
-shown-blank lines columns y x = grind (arith, cases_lt, get_or-replicate, replicate, blank_at, get_or_past, length-replicate)
-
 pub grid-blank : (lines columns : ℕ) → own_grid (λ y x. glyph_at (blank_sheet lines columns) (y, x)) ≡ blank_grid
-grid-blank lines columns = grind (arith, shown-blank)
+grid-blank lines columns = grind (arith, cases_lt, get_or-replicate, replicate, get_or_past, length-replicate)
 
 -- no line is touched
 pub touched-none : (n y : ℕ) → get_or (replicate n (let o : Option Columns = None in o)) y None ≡ None
@@ -58,13 +51,10 @@ touched-none n y = grind (arith, cases_lt, get_or-replicate, get_or_past, replic
 
 -- a new window with a grid
 
-none_within : (columns : ℕ) (o : Option Columns) → o ≡ None → AreColumnsWithin columns o
-none_within columns o e = grind arith
-
 pub IsKept-new : (lines columns depth : ℕ) (place : Option Place) (origin : Origin) (cells : Cells) → 0 < lines → 0 < columns → lines ≤ LARGEST_PAD → columns ≤ LARGEST_PAD
     → IsGridOf lines columns cells
     → IsKept (record { lines = lines; columns = columns; place = place; settings = first_settings lines; touched = replicate lines None; depth = depth; origin = origin; cells = cells })
-IsKept-new lines columns depth place origin cells has_line has_column few_lines few_columns grid = grind (arith, length-replicate, none_within, replicate, touched-none, lit<, lit≤)
+IsKept-new lines columns depth place origin cells has_line has_column few_lines few_columns grid = grind (arith, length-replicate, replicate, touched-none, lit<, lit≤)
 
 pub IsGridOf-blank : (lines columns : ℕ) → IsGridOf lines columns (Own (blank_sheet lines columns))
 IsGridOf-blank lines columns = (HasSize-all_of blank lines columns, EachCell-all_of IsCell blank lines columns IsCell-blank)

@@ -4,10 +4,9 @@ use Rattle.std.specs.Prelude.{⊤}
 use Rattle.std.proofs.lemmas.Bool.{cases_eq, cases_lt}
 use Rattle.std.proofs.lemmas.List.{get_or_past, length-set}
 use Rattle.cell.specs.declared.limits.TheConstants.{MOST_WINDOWS}
-use Rattle.slots.specs.declared.slot.Part.{Part}
 use Rattle.slots.specs.declared.slot.Cells.{Cells}
 use Rattle.slots.specs.Kept.{Kept, IsKept}
-use Rattle.slots.specs.Slots.{slot_at, part_in, FitsIn, HasParentIn, IsChained}
+use Rattle.slots.specs.Slots.{slot_at, part_in, HasParentIn, IsChained}
 use Rattle.slots.specs.Changes.{SameShape, SetAt}
 
 pub SetAt-set : (slots : List (Option Kept)) (at : ℕ) (o : Option Kept) → length slots ≤ MOST_WINDOWS + 1 → at < length slots → SetAt slots (slice_set slots at o) at o
@@ -32,26 +31,13 @@ KeepsShape (Some k) None = ⊥
 KeepsShape-refl : (o : Option Kept) → KeepsShape o o
 KeepsShape-refl o = grind arith
 
-fits_more : (k : Kept) (part : Part) → (o n : Option Kept) → KeepsShape o n → MatchOption o ⊥ (FitsIn k part) → MatchOption n ⊥ (FitsIn k part)
-fits_more k part o n same h = grind arith
-
-parent_more : (old new : List (Option Kept)) → ((w : ℕ) → KeepsShape (slot_at old w) (slot_at new w)) → (k : Kept) (cells : Cells) → HasParentIn old k cells → HasParentIn new k cells
-parent_more old new same k cells h = grind (arith, fits_more)
-
-each_more : (old new : List (Option Kept)) → ((w : ℕ) → KeepsShape (slot_at old w) (slot_at new w)) → (n : Option Kept)
-    → MatchOption n ⊤ (λ k. IsKept k × HasParentIn old k k.cells) → MatchOption n ⊤ (λ k. IsKept k × HasParentIn new k k.cells)
-each_more old new same n h = grind (arith, parent_more)
-
 -- one slot is filled, with a window whose parent is there
 pub chained_set : (old new : List (Option Kept)) (at : ℕ) (j : Kept) → IsChained old → SetAt old new at (Some j) → KeepsShape (slot_at old at) (Some j)
     → IsKept j → HasParentIn old j j.cells → IsChained new
-chained_set old new at j s set shape kept chained = grind (arith, cases_eq, each_more)
+chained_set old new at j s set shape kept chained = grind (arith, cases_eq)
 
 -- ---- one slot has a window of the same shape
 
-fits_too : (k j : Kept) (part : Part) → SameShape k j → (o : Option Kept) → MatchOption o ⊥ (FitsIn k part) → MatchOption o ⊥ (FitsIn j part)
-fits_too k j part s o h = grind arith
-
 -- a window of the same shape and offset is where the other was
 pub parent_too : (slots : List (Option Kept)) (k j : Kept) → SameShape k j → (before after : Cells) → part_in after ≡ part_in before → HasParentIn slots k before → HasParentIn slots j after
-parent_too slots k j s before after e h = grind (arith, fits_too)
+parent_too slots k j s before after e h = grind arith

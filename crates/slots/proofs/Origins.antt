@@ -90,13 +90,9 @@ module _ (old new : List (Option Kept)) (P : ℕ → Type 0) (same : (w : ℕ) �
 abbrev pub HasOrigin : List (Option Kept) → ℕ → Kept → Type 0
 HasOrigin slots w k = own (window_map slots) w 0 0 ≡ Some (grid_place k.origin)
 
-origin-still : (old new : List (Option Kept)) (w : ℕ) (o : Option Kept) → (IsSome o → own (window_map new) w 0 0 ≡ own (window_map old) w 0 0) → MatchOption o ⊤ (HasOrigin old w)
-    → MatchOption o ⊤ (HasOrigin new w)
-origin-still old new w o same h = grind arith
-
 origins-beside : (old new : List (Option Kept)) (at : ℕ) (o : Option Kept) → SetAt old new at o → AreOrigins old → MatchOption o ⊤ (HasOrigin new at)
     → ((w : ℕ) → w ≢ at → IsSome (slot_at old w) → own (window_map new) w 0 0 ≡ own (window_map old) w 0 0) → AreOrigins new
-origins-beside old new at o set s here same = grind (arith, cases_eq, origin-still)
+origins-beside old new at o set s here same = grind (arith, cases_eq)
 
 -- ---- the first window has a grid
 
