@@ -1,8 +1,7 @@
 -- What a change of one slot does to the table and to the windows.
-use Rattle.std.proofs.Common.{◌≡◌, ℕ, ◌<◌, ◌≢◌, ◌==◌, Option, Some, None, IsSomeAnd, List, ap, arith, sym, ◌∙◌, subst, inl, inr, eq-eqb, ne_eqb}
+use Rattle.std.proofs.Common.{◌≡◌, ℕ, ◌<◌, ◌≢◌, Option, Some, None, IsSomeAnd, List, ap, arith, sym, ◌∙◌, subst, eq-eqb, ne_eqb}
 use Rattle.std.specs.Option.{option_map}
-use mathlib.Core.Path.{fun_ext}
-use Rattle.std.proofs.lemmas.Bool.{cases_eq, cond-true, cond-false}
+use Rattle.std.proofs.lemmas.Bool.{cases_eq}
 use Rattle.world.specs.Windows.{Window, WindowMap, with_change, with_window}
 use Rattle.world.specs.Sound.{IsOnScreen, IsStandardScreen}
 use Rattle.world.specs.Effects.{under_number}
@@ -17,15 +16,7 @@ use Rattle.slots.proofs.Origins.{HasOrigin, origins-changed, origins-filled}
 -- the windows after it
 pub windows-set : (t : WindowTable) (new : List (Option Kept)) (at : ℕ) (o : Option Kept) → SetAt t.slots new at o
     → windows (record t { slots = new }) ≡ under_number (windows t) at (option_map window_of o)
-windows-set t new at o set = ap (λ (map : WindowMap). record (windows t) { window = map }) (fun_ext (λ u.
-    elim (cases_eq u at) [
-      | inl same ↦
-          ap (option_map window_of) (ap (slot_at new) same ∙ set.here)
-          ∙ sym (cond-true (u == at) (option_map window_of o) (window_map t.slots u) (eq-eqb u at same))
-      | inr other ↦
-          ap (option_map window_of) (set.others u other)
-          ∙ sym (cond-false (u == at) (option_map window_of o) (window_map t.slots u) (ne_eqb u at other))
-    ]))
+windows-set t new at o set = grind (arith, cases_eq, eq-eqb, ne_eqb)
 
 -- ---- the table stays one
 
@@ -33,30 +24,12 @@ windows-set t new at o set = ap (λ (map : WindowMap). record (windows t) { wind
 abbrev pub IsStandardOf : WindowTable → Kept → Type 0
 IsStandardOf t k = IsStandardScreen (windows t) (window_of k)
 
-standard-kept : (t : WindowTable) (new : List (Option Kept)) (k : Kept) → IsStandardOf t k → IsStandardOf (record t { slots = new }) k
-standard-kept t new k s = record { lines = s.lines; columns = s.columns; place = s.place; cells = s.cells; grid = s.grid }
-
 pub standard-still : (t : WindowTable) (new : List (Option Kept)) (o : Option Kept) → IsSomeAnd o (IsStandardOf t) → IsSomeAnd o (IsStandardOf (record t { slots = new }))
-standard-still t new None s = s
-standard-still t new (Some k) s = standard-kept t new k s
+standard-still t new o s = grind arith
 
 pub IsWindowTable-set : (t : WindowTable) (new : List (Option Kept)) (at : ℕ) (k : Kept) → IsWindowTable t → SetAt t.slots new at (Some k) → KeepsShape (slot_at t.slots at) (Some k)
     → IsKept k → HasParentIn t.slots k k.cells → IsOnScreen t.lines t.columns (window_of k) → (at ≡ 0 → IsStandardOf t k) → (IsChained new → AreOrigins new) → IsWindowTable (record t { slots = new })
-IsWindowTable-set t new at k s set shape kept chained placed standard origins = record {
-  some_slot = omega (arith, s.some_slot, set.size);
-  few_slots = set.few;
-  has_line = s.has_line;
-  has_column = s.has_column;
-  few_lines = s.few_lines;
-  few_columns = s.few_columns;
-  standard = elim (cases_eq 0 at) [
-    | inl same ↦ subst (λ o. IsSomeAnd o (IsStandardOf (record t { slots = new }))) (sym (ap (slot_at new) same ∙ set.here)) (standard-kept t new k (standard (sym same)))
-    | inr other ↦ subst (λ o. IsSomeAnd o (IsStandardOf (record t { slots = new }))) (sym (set.others 0 other)) (standard-still t new (slot_at t.slots 0) s.standard)
-  ];
-  chained = chained_set t.slots new at k s.chained set shape kept chained;
-  origins = origins (chained_set t.slots new at k s.chained set shape kept chained);
-  placed = each_set (λ q. IsOnScreen t.lines t.columns (window_of q)) t.slots new at (Some k) set s.placed placed;
-}
+IsWindowTable-set t new at k s set shape kept chained placed standard origins = grind (arith, cases_eq, standard-still, chained_set, each_set)
 
 -- a free slot is filled
 pub IsWindowTable-filled : (t : WindowTable) (new : List (Option Kept)) (at : ℕ) (k : Kept) → IsWindowTable t → SetAt t.slots new at (Some k) → slot_at t.slots at ≡ None
@@ -78,29 +51,13 @@ module _ (t : WindowTable) (new : List (Option Kept)) (at : ℕ) (change : Windo
       (λ chained. origins-changed t.slots new at h.before h.after set_at h.was h.stays.part s.origins)
 
   same_place : ((a : Window) → (change a).place ≡ a.place) → h.after.place ≡ h.before.place
-  same_place keeps = ap (λ (a : Window). a.place) h.window ∙ keeps (window_of h.before)
+  same_place keeps = grind arith
 
   standard_too : ((a : Window) → (change a).place ≡ a.place) → at ≡ 0 → IsStandardOf t h.after
-  standard_too keeps same =
-      let k = some_and (slot_at t.slots 0) (IsStandardOf t) s.standard in
-      let one : k.0 ≡ h.before = let both = sym k.1 ∙ ap (slot_at t.slots) (sym same) ∙ h.was in cc in
-      let before : IsStandardOf t h.before = subst (IsStandardOf t) one k.2 in
-      let grid = own_source h.after.cells (h.stays.part.part ∙ own_alone h.before.cells before.cells before.grid) in
-      record {
-        lines = h.stays.shape.lines ∙ before.lines;
-        columns = h.stays.shape.columns ∙ before.columns;
-        place = same_place keeps ∙ before.place;
-        cells = grid.0;
-        grid = grid.1;
-      }
+  standard_too keeps same = grind (arith, some_and, own_source, own_alone, same_place)
 
   placed_too : ((a : Window) → (change a).place ≡ a.place) → IsOnScreen t.lines t.columns (window_of h.after)
-  placed_too keeps =
-      let before : IsOnScreen t.lines t.columns (window_of h.before) = rw h.was at (s.placed at) in
-      let place = same_place keeps in
-      let lines = h.stays.shape.lines in
-      let columns = h.stays.shape.columns in
-      rw (place, lines, columns) before
+  placed_too keeps = grind (arith, same_place)
 
   -- it stays where it is
   pub IsWindowTable-changed : ((a : Window) → (change a).place ≡ a.place) → IsWindowTable (record t { slots = new })
@@ -108,7 +65,7 @@ module _ (t : WindowTable) (new : List (Option Kept)) (at : ℕ) (change : Windo
 
   -- it is moved, and isn't the standard screen
   pub IsWindowTable-moved : IsOnScreen t.lines t.columns (change (window_of h.before)) → at ≢ 0 → IsWindowTable (record t { slots = new })
-  IsWindowTable-moved placed other = IsWindowTable-change (subst (IsOnScreen t.lines t.columns) (sym h.window) placed) (λ same. absurd (other same))
+  IsWindowTable-moved placed other = grind (arith, IsWindowTable-change)
 
 -- two windows were changed one after the other, and each stays where it is
 pub IsWindowTable-twice : {t : WindowTable} {mid new : List (Option Kept)} {at win : ℕ} {f g : Window → Window} → IsWindowTable t → Changed t.slots mid at f → Changed mid new win g
@@ -116,16 +73,7 @@ pub IsWindowTable-twice : {t : WindowTable} {mid new : List (Option Kept)} {at w
 IsWindowTable-twice {t = t} {mid = mid} s one other keeps too = IsWindowTable-changed (record t { slots = mid }) _ _ _ (IsWindowTable-changed t _ _ _ s one keeps) other too
 
 pub replaced-changed : (window : WindowMap) (w : ℕ) (change : Window → Window) (a : Window) → window w ≡ Some a → with_window window w (Some (change a)) ≡ with_change window w change
-replaced-changed window w change a e = fun_ext (λ u.
-    elim (cases_eq u w) [
-      | inl same ↦
-          let on = eq-eqb u w same in
-          let there : window u ≡ Some a = ap window same ∙ e in
-          cond-true (u == w) (Some (change a)) (window u) on ∙ ap (option_map change) (sym there) ∙ sym (cond-true (u == w) (option_map change (window u)) (window u) on)
-      | inr other ↦
-          let off = ne_eqb u w other in
-          cond-false (u == w) (Some (change a)) (window u) off ∙ sym (cond-false (u == w) (option_map change (window u)) (window u) off)
-    ])
+replaced-changed window w change a e = grind (arith, cases_eq, eq-eqb, ne_eqb)
 
 -- the windows after it, as the definitions say it
 pub windows-changed : (t : WindowTable) (new : List (Option Kept)) (at : ℕ) (change : Window → Window) → IsWindowTable t → Changed t.slots new at change

@@ -1,6 +1,5 @@
 -- The drawings of copies: where they have nothing, and one cell or one line more.
-use Rattle.std.proofs.Common.{◌≡◌, ℕ, ◌+◌, ◌-◌, ◌<◌, ◌≤◌, Bool, true, false, if◌then◌else◌, ◌==◌, ◌&&◌, ◌||◌, nat_lt, nat_le, Option, ◌⊎◌, None, is_some, ap, refl, arith}
-use mathlib.Core.Path.{fun_ext}
+use Rattle.std.proofs.Common.{◌≡◌, ℕ, ◌+◌, ◌-◌, ◌<◌, ◌≤◌, Bool, true, false, if◌then◌else◌, ◌||◌, Option, ◌⊎◌, None, is_some, arith}
 use Rattle.std.proofs.lemmas.Bool.Decides.{nat_tests}
 use Rattle.cell.specs.Glyphs.{Glyph}
 use Rattle.world.specs.Windows.{WindowMap, over, cell_at}
@@ -32,40 +31,25 @@ joined t1 t2 t3 v u c e h k = grind arith
 
 pub more-after : (window : WindowMap) (src sy sx dy dx k : ℕ) (overlay : Bool) → over (copied_cells window src sy (sx + k) dy (dx + k) 1 overlay) (copied_cells window src sy sx dy dx k overlay)
     ≡ copied_cells window src sy sx dy dx (k + 1) overlay
-more-after window src sy sx dy dx k overlay = fun_ext (λ y. fun_ext (λ x.
-    let at : ℕ → Option Glyph = λ j. overlaid_cell overlay (cell_at window src sy j) in
-    joined ((y == dy) && (nat_le (dx + k) x && nat_lt x (dx + k + 1))) ((y == dy) && (nat_le dx x && nat_lt x (dx + k))) ((y == dy) && (nat_le dx x && nat_lt x (dx + (k + 1))))
-    (at (sx + k + (x - (dx + k)))) (at (sx + (x - dx))) (at (sx + (x - dx))) (grind (arith, nat_tests)) (λ on. ap at (grind (arith, nat_tests))) (λ on. refl)))
+more-after window src sy sx dy dx k overlay = grind (arith, joined, nat_tests)
 
 pub more-before : (window : WindowMap) (src sy sx dy dx k m n : ℕ) (overlay : Bool) → m ≡ k + 1 → k < n → over (copied_cells window src sy (sx + k) dy (dx + k) 1 overlay)
     (copied_cells window src sy (sx + m) dy (dx + m) (n - m) overlay) ≡ copied_cells window src sy (sx + k) dy (dx + k) (n - k) overlay
-more-before window src sy sx dy dx k m n overlay e h = fun_ext (λ y. fun_ext (λ x.
-    let at : ℕ → Option Glyph = λ j. overlaid_cell overlay (cell_at window src sy j) in
-    joined ((y == dy) && (nat_le (dx + k) x && nat_lt x (dx + k + 1))) ((y == dy) && (nat_le (dx + m) x && nat_lt x (dx + m + (n - m))))
-    ((y == dy) && (nat_le (dx + k) x && nat_lt x (dx + k + (n - k)))) (at (sx + k + (x - (dx + k)))) (at (sx + m + (x - (dx + m)))) (at (sx + k + (x - (dx + k))))
-    (grind (arith, nat_tests)) (λ on. refl) (λ on. ap at (grind (arith, nat_tests)))))
+more-before window src sy sx dy dx k m n overlay e h = grind (arith, joined, nat_tests)
 
 pub line-after : (window : WindowMap) (src sy sx dy dx k columns : ℕ) (overlay : Bool) → over (copied_cells window src (sy + k) sx (dy + k) dx columns overlay)
     (rectangle_copied window src sy sx dy dx k columns overlay) ≡ rectangle_copied window src sy sx dy dx (k + 1) columns overlay
-line-after window src sy sx dy dx k columns overlay = fun_ext (λ y. fun_ext (λ x.
-    let at : ℕ → Option Glyph = λ v. overlaid_cell overlay (cell_at window src v (sx + (x - dx))) in
-    let within = nat_le dx x && nat_lt x (dx + columns) in
-    joined ((y == dy + k) && within) ((nat_le dy y && nat_lt y (dy + k)) && within) ((nat_le dy y && nat_lt y (dy + (k + 1))) && within)
-    (at (sy + k)) (at (sy + (y - dy))) (at (sy + (y - dy))) (grind (arith, nat_tests)) (λ on. ap at (grind (arith, nat_tests))) (λ on. refl)))
+line-after window src sy sx dy dx k columns overlay = grind (arith, joined, nat_tests)
 
 pub line-before : (window : WindowMap) (src sy sx dy dx k m n columns : ℕ) (overlay : Bool) → m ≡ k + 1 → k < n → over (copied_cells window src (sy + k) sx (dy + k) dx columns overlay)
     (rectangle_copied window src (sy + m) sx (dy + m) dx (n - m) columns overlay) ≡ rectangle_copied window src (sy + k) sx (dy + k) dx (n - k) columns overlay
-line-before window src sy sx dy dx k m n columns overlay e h = fun_ext (λ y. fun_ext (λ x.
-    let at : ℕ → Option Glyph = λ v. overlaid_cell overlay (cell_at window src v (sx + (x - dx))) in
-    let within = nat_le dx x && nat_lt x (dx + columns) in
-    joined ((y == dy + k) && within) ((nat_le (dy + m) y && nat_lt y (dy + m + (n - m))) && within) ((nat_le (dy + k) y && nat_lt y (dy + k + (n - k))) && within)
-    (at (sy + k)) (at (sy + m + (y - (dy + m)))) (at (sy + k + (y - (dy + k)))) (grind (arith, nat_tests)) (λ on. ap at (grind (arith, nat_tests))) (λ on. ap at (grind (arith, nat_tests)))))
+line-before window src sy sx dy dx k m n columns overlay e h = grind (arith, joined, nat_tests)
 
 -- ---- one cell
 
 pub one-shown : (window : WindowMap) (src sy sx dy dx : ℕ) (c : Glyph) → c ≡ cell_at window src sy sx → is_some (overlaid_cell true c) ≡ true
     → filled_cells dy dx dx c ≡ copied_cells window src sy sx dy dx 1 true
-one-shown window src sy sx dy dx c is h = fun_ext (λ y. fun_ext (λ x. grind (arith, nat_tests)))
+one-shown window src sy sx dy dx c is h = grind (arith, nat_tests)
 
 pub one-hidden : (window : WindowMap) (src sy sx dy dx : ℕ) (c : Glyph) → c ≡ cell_at window src sy sx → is_some (overlaid_cell true c) ≡ false → (y x : ℕ)
     → copied_cells window src sy sx dy dx 1 true y x ≡ None
@@ -75,4 +59,4 @@ one-hidden window src sy sx dy dx c is h y x = grind (arith, nat_tests)
 
 pub copied-same : (v w : WindowMap) (src sy sx dy dx n : ℕ) (overlay : Bool) → ((j : ℕ) → j < n → cell_at v src sy (sx + j) ≡ cell_at w src sy (sx + j))
     → copied_cells v src sy sx dy dx n overlay ≡ copied_cells w src sy sx dy dx n overlay
-copied-same v w src sy sx dy dx n overlay h = fun_ext (λ y. fun_ext (λ x. grind (arith, nat_tests, h (x - dx))))
+copied-same v w src sy sx dy dx n overlay h = grind (arith, nat_tests)

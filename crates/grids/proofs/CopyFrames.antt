@@ -1,5 +1,5 @@
 -- The rectangle that a copy of a line covers.
-use Rattle.std.proofs.Common.{◌≡◌, ℕ, ◌+◌, ◌-◌, ◌<◌, ◌≤◌, Bool, true, false, if◌then◌else◌, ◌==◌, ◌&&◌, nat_lt, nat_le, Option, Some, None, is_some, IsSomeAnd, arith, refl, sym, ◌∙◌}
+use Rattle.std.proofs.Common.{◌≡◌, ℕ, ◌+◌, ◌-◌, ◌<◌, ◌≤◌, Bool, true, false, if◌then◌else◌, ◌==◌, ◌&&◌, nat_lt, nat_le, Option, Some, None, is_some, IsSomeAnd, arith, sym, ◌∙◌}
 use Rattle.std.proofs.lemmas.Bool.Decides.{nat_tests}
 use Rattle.std.proofs.lemmas.Bool.{and_parts, and_from, eqb-true, eq-eqb, leb-true, le-leb}
 use Rattle.std.specs.Prelude.{option_and_then}
@@ -15,8 +15,7 @@ record IsInLine (f : Drawing) (y left right : ℕ) : Type 0 where
   taken : (v x : ℕ) → is_some (f v x) ≡ ((v == y) && (nat_le left x && nat_le x right))
 
 in_line : (y left right : ℕ) (x : ℕ) → left ≤ x → x ≤ right → ((y == y) && (nat_le left x && nat_le x right)) ≡ true
-in_line y left right x before beyond =
-    and_from (y == y) (nat_le left x && nat_le x right) (eq-eqb y y refl) (and_from (nat_le left x) (nat_le x right) (le-leb left x before) (le-leb x right beyond))
+in_line y left right x before beyond = grind (arith, and_from, eq-eqb, le-leb)
 
 line-frame : (a : Window) (f : Drawing) (y left right : ℕ) → IsInLine f y left right → y < a.lines → left ≤ right → right < a.columns
     → frame_of a f ≡ Some (record { top = y; left = left; bottom = y; right = right })
@@ -39,23 +38,19 @@ line-frame a f y left right h below ordered on =
     })
 
 some_if : (t : Bool) (c : Glyph) → is_some (if t then Some c else None) ≡ t
-some_if true c = refl
-some_if false c = refl
+some_if t c = grind arith
 
 none_frame : (o : Option Window) (f : Drawing) → ((y x : ℕ) → f y x ≡ None) → option_and_then (λ a. frame_of a f) o ≡ None
-none_frame None f h = refl
-none_frame (Some a) f h = frame_of-none a f (λ y x there. let some = there.some in let none = h y x in cc)
+none_frame o f h = grind (arith, frame_of-none)
 
 there_frame : (o : Option Window) (f : Drawing) (y left right : ℕ) → IsInLine f y left right → left ≤ right → IsSomeAnd o (λ a. (y < a.lines) × (right < a.columns))
     → option_and_then (λ a. frame_of a f) o ≡ Some (record { top = y; left = left; bottom = y; right = right })
-there_frame None f y left right h ordered there = absurd there
-there_frame (Some a) f y left right h ordered there = line-frame a f y left right h there.0 ordered there.1
+there_frame o f y left right h ordered there = grind (arith, line-frame)
 
 -- ---- a line copied whole
 
 within_columns : (t : Bool) (dx n x : ℕ) → 0 < n → (t && (nat_le dx x && nat_lt x (dx + n))) ≡ (t && (nat_le dx x && nat_le x (dx + n - 1)))
-within_columns true dx n x some = grind (arith, nat_tests)
-within_columns false dx n x some = refl
+within_columns t dx n x some = grind (arith, nat_tests)
 
 pub whole-frame : (w : Windows) (src dst sy sx dy dx n : ℕ) → HasPlace w.window dst dy (dx + n - 1) → 0 < n
     → drawing_frame w dst (λ a. copied_cells w.window src sy sx dy dx n false) ≡ Some (record { top = dy; left = dx; bottom = dy; right = dx + n - 1 })

@@ -1,14 +1,14 @@
 -- Copies step by step: each writes a piece that was not written before it is read.
-use Rattle.std.proofs.Common.{◌≡◌, ℕ, ◌+◌, ◌-◌, ◌<◌, ◌≤◌, Bool, Option, Some, None, IsSome, IsSomeAnd, ap, arith, sym, subst, ◌∙◌}
+use Rattle.std.proofs.Common.{◌≡◌, ℕ, ◌+◌, ◌-◌, ◌<◌, ◌≤◌, Bool, Option, Some, None, IsSome, ap, arith, sym, ◌∙◌}
 use Rattle.std.specs.Option.{option_map}
 use Rattle.std.proofs.lemmas.Bool.Decides.{nat_tests}
 use Rattle.cell.specs.declared.window.Rect.{Rect}
-use Rattle.world.specs.Windows.{Window, WindowMap, Windows, GridPlace, Drawing, HasPlace, grid_drawing, onward, over, own, put, put_windows, within}
+use Rattle.world.specs.Windows.{Window, WindowMap, Windows, GridPlace, Drawing, grid_drawing, onward, over, own, put, put_windows, within}
 use Rattle.world.specs.Frames.{frame_of_two}
 use Rattle.world.specs.Rows.{copied_cells}
 use Rattle.world.specs.Effects.{drawing_frame}
 use Rattle.world.proofs.FrameLaws.{drawing_frame-over, drawing_frame-put}
-use Rattle.world.proofs.WindowLaws.{own-onward, put-put, cell_at-kept, put-nothing, HasPlace-put}
+use Rattle.world.proofs.WindowLaws.{own-onward, put-put, cell_at-kept, put-nothing}
 use Rattle.slots.specs.declared.place.Place.{Place}
 use Rattle.slots.proofs.Chain.{some_of}
 use Rattle.grids.specs.Copies.{AreRectanglesThere, AreRowsThere, AreThere, Drawn, RowCopied}
@@ -24,27 +24,13 @@ Drawn-nothing w dst f h = record {
 
 -- ---- the places are there after a write, and so are those above them and left of them
 
-place_within : (o : Option Window) (y x v z : ℕ) → IsSomeAnd o (λ a. (y < a.lines) × (x < a.columns)) → v ≤ y → z ≤ x → IsSomeAnd o (λ a. (v < a.lines) × (z < a.columns))
-place_within None y x v z h up left = h
-place_within (Some a) y x v z h up left = (omega (arith, h.0), omega (arith, h.1))
-
-place-after : {w v : Windows} {dst : ℕ} {f : Drawing} {answer : Option Rect} → Drawn w dst f answer v → (u y x t z : ℕ) → HasPlace w.window u y x → t ≤ y → z ≤ x → HasPlace v.window u t z
-place-after {w = w} {dst = dst} {f = f} drawn u y x t z h up left =
-    subst (λ (s : Windows). HasPlace s.window u t z) (sym drawn.written) (HasPlace-put w.window dst f u t z (place_within (w.window u) y x t z h up left))
-
 pub cells-there : {w v : Windows} {dst : ℕ} {f : Drawing} {answer : Option Rect} (from to : Place) (n k : ℕ) → Drawn w dst f answer v → AreRowsThere w.window from to n → k < n
     → AreThere v.window (record from { column = from.column + k }) (record to { column = to.column + k })
-cells-there from to n k drawn there lt = record {
-  from = place-after drawn _ _ _ _ _ there.from (omega arith) (omega arith);
-  to = place-after drawn _ _ _ _ _ there.to (omega arith) (omega arith);
-}
+cells-there from to n k drawn there lt = grind arith
 
 pub rows-there : {w v : Windows} {dst : ℕ} {f : Drawing} {answer : Option Rect} (from to : Place) (lines columns k : ℕ) → Drawn w dst f answer v → AreRectanglesThere w.window from to lines columns
     → k < lines → AreRowsThere v.window (record from { line = from.line + k }) (record to { line = to.line + k }) columns
-rows-there from to lines columns k drawn there lt = record {
-  from = place-after drawn _ _ _ _ _ there.from (omega arith) (omega arith);
-  to = place-after drawn _ _ _ _ _ there.to (omega arith) (omega arith);
-}
+rows-there from to lines columns k drawn there lt = grind arith
 
 -- ---- a step: it writes what the windows before the copy give, and that is laid over what was written of it before
 

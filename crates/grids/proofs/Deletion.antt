@@ -1,5 +1,5 @@
 -- A window from which none derives is deleted.
-use Rattle.std.proofs.Common.{◌≡◌, ℕ, ◌+◌, ◌<◌, ◌≤◌, ◌≢◌, Bool, true, false, Option, Some, None, IsSomeAnd, MatchOption, List, length, arith, refl, sym, ◌∙◌, subst, eq-eqb}
+use Rattle.std.proofs.Common.{◌≡◌, ℕ, ◌+◌, ◌<◌, ◌≤◌, ◌≢◌, Bool, true, false, Option, Some, None, IsSomeAnd, MatchOption, List, length, arith, sym, ◌∙◌, subst, eq-eqb}
 use Rattle.std.specs.Prelude.{⊤}
 use Rattle.std.proofs.lemmas.Bool.{false≢true}
 use Rattle.cell.specs.declared.limits.TheConstants.{MOST_WINDOWS}
@@ -8,8 +8,7 @@ use Rattle.world.specs.Sound.{IsOnScreen}
 use Rattle.world.specs.calls.Making.{has_derived}
 use Rattle.world.proofs.Below.{any_below-some}
 use Rattle.slots.specs.declared.slot.Part.{Part}
-use Rattle.slots.specs.declared.slot.Cells.{Cells}
-use Rattle.slots.specs.declared.slot.Cells.TheVariants.{Own, Shared}
+use Rattle.slots.specs.declared.slot.Cells.TheVariants.{Shared}
 use Rattle.slots.specs.Kept.{Kept, IsKept, window_of}
 use Rattle.grids.specs.Tables.{WindowTable, IsWindowTable}
 use Rattle.slots.specs.Slots.{slot_at, window_map, HasParentIn, names_parent}
@@ -19,15 +18,9 @@ use Rattle.slots.proofs.OneSlot.{each_set, slot_below}
 use Rattle.grids.proofs.Changes.{IsStandardOf, standard-still}
 use Rattle.slots.proofs.Origins.{origins-without}
 
-parent_without : (old new : List (Option Kept)) (at : ℕ) → SetAt old new at None → (k : Kept) (cells : Cells) → ((part : Part) → cells ≡ Shared part → part.parent ≢ at) → HasParentIn old k cells
-    → HasParentIn new k cells
-parent_without old new at set k (Own a) apart h = h
-parent_without old new at set k (Shared p) apart h = rw (set.others p.parent (apart p refl)) h
-
 each_without : (old new : List (Option Kept)) (at : ℕ) → SetAt old new at None → (o : Option Kept) → ((k : Kept) (part : Part) → o ≡ Some k → k.cells ≡ Shared part → part.parent ≢ at)
     → MatchOption o ⊤ (λ k. IsKept k × HasParentIn old k k.cells) → MatchOption o ⊤ (λ k. IsKept k × HasParentIn new k k.cells)
-each_without old new at set None apart h = h
-each_without old new at set (Some k) apart h = (h.0, parent_without old new at set k k.cells (λ part is. apart k part refl is) h.1)
+each_without old new at set o apart h = grind arith
 
 none_derives : (slots : List (Option Kept)) (at : ℕ) → length slots ≤ MOST_WINDOWS + 1 → has_derived (window_map slots) at ≡ false → (w : ℕ) (k : Kept) (part : Part) → slot_at slots w ≡ Some k
     → k.cells ≡ Shared part → part.parent ≢ at

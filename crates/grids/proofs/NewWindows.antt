@@ -1,9 +1,7 @@
 -- What is known of a new window: its size, and where it is.
-use Rattle.std.proofs.Common.{◌≡◌, ℕ, ◌+◌, ◌<◌, ◌≤◌, Bool, true, false, if◌then◌else◌, nat_lt, nat_le, Option, Some, None, is_some, MatchOption, List, ap, arith, refl, sym, ◌∙◌, subst}
+use Rattle.std.proofs.Common.{◌≡◌, ℕ, ◌+◌, ◌<◌, ◌≤◌, if◌then◌else◌, Option, Some, None, List, arith}
 use Rattle.std.specs.Option.{option_map}
-use Rattle.std.specs.Prelude.{⊤}
 use Rattle.std.proofs.lemmas.Bool.{and_parts, leb-true, ltb-true}
-use Rattle.cell.specs.Pictures.{Place}
 use Rattle.world.specs.Windows.{Backing, part_of, Window, WindowMap}
 use Rattle.world.specs.Sound.{IsOnScreen}
 use Rattle.world.specs.calls.Making.{is_inside, extent, derived_window, place_from}
@@ -11,23 +9,16 @@ use Rattle.world.specs.Effects.{under_number}
 use Rattle.world.specs.World.{new_window}
 use Rattle.slots.specs.declared.slot.Part.{Part}
 use Rattle.slots.specs.declared.slot.Cells.{Cells}
-use Rattle.slots.specs.declared.slot.Cells.TheVariants.{Own, Shared}
 use Rattle.slots.specs.Kept.{Kept, IsKept, window_of}
 use Rattle.grids.specs.Tables.{WindowTable, IsWindowTable, windows}
-use Rattle.slots.specs.Slots.{slot_at, FitsIn, IsChained, HasParentIn, part_in}
+use Rattle.slots.specs.Slots.{slot_at, IsChained, HasParentIn, part_in}
 use Rattle.slots.specs.Changes.{SetAt, IsFree}
 use Rattle.slots.proofs.Chain.{shared_of}
 use Rattle.grids.proofs.Changes.{windows-set, IsWindowTable-filled}
 use Rattle.slots.proofs.Origins.{HasOrigin}
 
 pub alone_in : (slots : List (Option Kept)) (k : Kept) (cells : Cells) → part_in cells ≡ None → k.depth ≡ 0 → HasParentIn slots k cells
-alone_in slots k (Own picture) e h = h
-alone_in slots k (Shared part) e h = cc
-
--- a size that is inside ends before the edge
-given_if : (t : Bool) (m r : ℕ) → (if t then Some m else None) ≡ Some r → (t ≡ true) × (r ≡ m)
-given_if true m r h = (refl, cc)
-given_if false m r h = cc
+alone_in slots k cells e h = grind arith
 
 pub record IsExtent (n all at r : ℕ) : Type 0 where
   pub given : r ≡ extent n all at
@@ -35,19 +26,15 @@ pub record IsExtent (n all at r : ℕ) : Type 0 where
   pub inside : at + r ≤ all
 
 pub extent-is : (n all at r : ℕ) → (if is_inside n all at then Some (extent n all at) else None) ≡ Some r → IsExtent n all at r
-extent-is n all at r h =
-    let both = given_if (is_inside n all at) (extent n all at) r h in
-    let given = both.1 in
-    let parts = and_parts (nat_lt 0 (extent n all at)) (nat_le (at + extent n all at) all) both.0 in
-    record { given = given; some = rw given (ltb-true 0 (extent n all at) parts.0); inside = rw given (leb-true (at + extent n all at) all parts.1) }
+extent-is n all at r h = grind (arith, and_parts, ltb-true, leb-true)
 
 -- a new window lies on the screen
 pub placed_new : (lines columns n m y x : ℕ) (src : Backing) (k : Kept) → window_of k ≡ new_window n m (Some (y, x)) src → y + n ≤ lines → x + m ≤ columns → IsOnScreen lines columns (window_of k)
-placed_new lines columns n m y x src k e h1 h2 = subst (λ (a : Window). IsOnScreen lines columns a) (sym e) (h1, h2)
+placed_new lines columns n m y x src k e h1 h2 = grind arith
 
 -- a pad lies nowhere
 pub placed_pad : (lines columns n m : ℕ) (src : Backing) (k : Kept) → window_of k ≡ new_window n m None src → IsOnScreen lines columns (window_of k)
-placed_pad lines columns n m src k e = subst (λ (a : Window). IsOnScreen lines columns a) (sym e) tt
+placed_pad lines columns n m src k e = grind arith
 
 -- it is put under a free number
 
@@ -57,45 +44,23 @@ module _ (t : WindowTable) (new : List (Option Kept)) (m : ℕ) (k : Kept) (set 
   IsWindowTable-added s free kept chained placed origin = IsWindowTable-filled t new m k s set free.free kept chained placed free.from_one origin
 
   pub windows-added : (a : Window) → window_of k ≡ a → windows (record t { slots = new }) ≡ under_number (windows t) m (Some a)
-  windows-added a e = windows-set t new m (Some k) set ∙ ap (λ (b : Window). under_number (windows t) m (Some b)) e
+  windows-added a e = grind (arith, windows-set)
 
 -- a new derived window lies in its parent
-
-kind_from : (o : Option Place) (y x : ℕ) → is_some (place_from o y x) ≡ is_some o
-kind_from None y x = refl
-kind_from (Some p) y x = refl
 
 pub derived_in : (slots : List (Option Kept)) (k p : Kept) (part : Part) (n m : ℕ) → part_in k.cells ≡ Some part → slot_at slots part.parent ≡ Some p → k.depth ≡ p.depth + 1
     → window_of k ≡ new_window n m (place_from p.place part.line part.column) (part_of part.parent part.line part.column) → part.line + n ≤ p.lines → part.column + m ≤ p.columns
     → HasParentIn slots k k.cells
-derived_in slots k p part n m is e depth made lines columns =
-    let fits : FitsIn k part p = record {
-      depth = depth;
-      within = record {
-        lines = omega (arith, lines, ap (λ (a : Window). a.lines) made);
-        columns = omega (arith, columns, ap (λ (a : Window). a.columns) made);
-        kind = ap (λ (a : Window). is_some a.place) made ∙ kind_from p.place part.line part.column;
-      };
-    } in
-    subst (λ c. HasParentIn slots k c) (sym (shared_of k.cells part is)) (rw e fits)
+derived_in slots k p part n m is e depth made lines columns = grind (arith, shared_of)
 
 -- and on the screen, where its parent does
-
-placed_from : (lines columns n m y x h v : ℕ) (src : Backing) (o : Option Place) → MatchOption o ⊤ (λ p. (p.0 + h ≤ lines) × (p.1 + v ≤ columns)) → y + n ≤ h → x + m ≤ v
-    → IsOnScreen lines columns (new_window n m (place_from o y x) src)
-placed_from lines columns n m y x h v src None on below left = tt
-placed_from lines columns n m y x h v src (Some p) on below left = (omega (arith, on.0), omega (arith, on.1))
 
 pub placed_derived : (t : WindowTable) → IsWindowTable t → (w : ℕ) (k p : Kept) (n m y x : ℕ) (src : Backing) → slot_at t.slots w ≡ Some p
     → window_of k ≡ new_window n m (place_from p.place y x) src → y + n ≤ p.lines → x + m ≤ p.columns
     → IsOnScreen t.lines t.columns (window_of k)
-placed_derived t s w k p n m y x src e made lines columns =
-    let on : IsOnScreen t.lines t.columns (window_of p) = rw e at (s.placed w) in
-    subst (IsOnScreen t.lines t.columns) (sym made) (placed_from t.lines t.columns n m y x p.lines p.columns src p.place on lines columns)
+placed_derived t s w k p n m y x src e made lines columns = grind arith
 
 -- it is the window that the definition gives
 pub made_derived : (window : WindowMap) (p : Kept) (w nlines ncols y x n m : ℕ) → window w ≡ Some (window_of p) → n ≡ extent nlines p.lines y → m ≡ extent ncols p.columns x
     → Some (new_window n m (place_from p.place y x) (part_of w y x)) ≡ option_map (derived_window w nlines ncols y x) (window w)
-made_derived window p w nlines ncols y x n m e lines columns =
-    (λ i. Some (new_window (lines i) (columns i) (place_from p.place y x) (part_of w y x)))
-    ∙ ap (option_map (derived_window w nlines ncols y x)) (sym e)
+made_derived window p w nlines ncols y x n m e lines columns = grind arith

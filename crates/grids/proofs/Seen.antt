@@ -29,10 +29,10 @@ module _ (first last from to size : ℕ) where
 
 module _ (window : WindowMap) (w u : ℕ) (r : Rect) (b : Window) (p q : GridPlace) (there : window u ≡ Some b) (leads_w : own window w 0 0 ≡ Some p) (leads_u : own window u 0 0 ≡ Some q) where
   inside : (y x : ℕ) → SharesPart window w r u y x → (y < b.lines) × (x < b.columns)
-  inside y x has = subst (λ (o : Option Window). IsSomeAnd o (λ a. (y < a.lines) × (x < a.columns))) there has.0
+  inside y x has = grind arith
 
   nowhere : ((y x : ℕ) → SharesPart window w r u y x → ⊥) → AreRectangle (SharesPart window w r u) None
-  nowhere never = (never, λ y x h. elim h [ ])
+  nowhere never = grind arith
 
   pub seen-apart : (p.grid ≡ q.grid → ⊥) → AreRectangle (SharesPart window w r u) None
   seen-apart other = nowhere (λ y x has. let m = shared-in window w u p q leads_w leads_u r y x has.1 in other m.grid)

@@ -1,6 +1,5 @@
 -- Which places of a window show cells of a rectangle of another, in lines and columns of a grid.
-use Rattle.std.proofs.Common.{◌≡◌, ℕ, ◌+◌, ◌-◌, ◌≤◌, true, Some, ap, arith, sym, ◌∙◌}
-use Rattle.std.specs.Option.{option_map}
+use Rattle.std.proofs.Common.{◌≡◌, ℕ, ◌+◌, ◌-◌, ◌≤◌, true, Some, arith, sym, ◌∙◌}
 use Rattle.cell.specs.declared.window.Rect.{Rect}
 use Rattle.world.specs.Windows.{GridPlace, WindowMap, onward, own}
 use Rattle.world.specs.Sharing.{is_same_place, shows_part_of}
@@ -11,9 +10,7 @@ use Rattle.world.proofs.WindowLaws.{own-onward}
 -- window s begins at the place p of a grid, and window t at q
 module _ (window : WindowMap) (s t : ℕ) (p q : GridPlace) (leads_s : own window s 0 0 ≡ Some p) (leads_t : own window t 0 0 ≡ Some q) where
   same-is : (v z y x : ℕ) → is_same_place (own window s v z) (own window t y x) ≡ is_same_place (Some (onward v z p)) (Some (onward y x q))
-  same-is v z y x =
-      ap (λ o. is_same_place o (own window t y x)) (own-onward window s v z ∙ ap (option_map (onward v z)) leads_s)
-      ∙ ap (λ o. is_same_place (Some (onward v z p)) o) (own-onward window t y x ∙ ap (option_map (onward y x)) leads_t)
+  same-is v z y x = grind (arith, own-onward)
 
   -- the place (y, x) of t is one of the rectangle
   pub record Shares (r : Rect) (y x : ℕ) : Type 0 where

@@ -1,41 +1,27 @@
 -- A derived window that shows another part of its parent.
-use Rattle.std.proofs.Common.{◌≡◌, ◌≢◌, ℕ, ◌+◌, ◌≤◌, Option, Some, None, IsSomeAnd, MatchOption, List, ap, arith, sym, ◌∙◌, subst}
+use Rattle.std.proofs.Common.{◌≡◌, ◌≢◌, ℕ, ◌+◌, ◌≤◌, Option, Some, IsSomeAnd, MatchOption, List, ap, arith, sym, ◌∙◌, subst}
 use Rattle.std.specs.Option.{option_map}
 use Rattle.std.specs.Prelude.{⊤}
 use Rattle.world.specs.Windows.{Window, WindowMap, with_change, with_window}
-use Rattle.world.specs.Sound.{IsOnScreen, IsStandardScreen}
+use Rattle.world.specs.Sound.{IsOnScreen}
 use Rattle.world.specs.Effects.{with_part}
 use Rattle.slots.specs.declared.slot.Part.{Part}
-use Rattle.slots.specs.declared.slot.Cells.TheVariants.{Shared}
 use Rattle.slots.specs.Kept.{Kept, window_of}
 use Rattle.grids.specs.Tables.{WindowTable, IsWindowTable, windows}
-use Rattle.slots.specs.Slots.{slot_at, window_map, FitsIn, HasParentIn, IsChained, part_in}
-use Rattle.slots.specs.Changes.{Settled, Shifted, SetAt, with_new_offset}
+use Rattle.slots.specs.Slots.{slot_at, window_map, HasParentIn, IsChained, part_in}
+use Rattle.slots.specs.Changes.{Settled, Shifted, SetAt}
 use Rattle.slots.proofs.Chain.{parent_at, some_and, shared_of, own_alone}
 use Rattle.slots.proofs.OneSlot.{SetAt-set, slot_below, each_set, chained_set, KeepsShape}
 use Rattle.grids.proofs.Changes.{windows-set, IsStandardOf, standard-still, replaced-changed}
 
--- where a window lies in its parent
-fits_at : (slots : List (Option Kept)) → IsChained slots → (w : ℕ) (k p : Kept) (part : Part) → slot_at slots w ≡ Some k → part_in k.cells ≡ Some part → slot_at slots part.parent ≡ Some p
-    → FitsIn k part p
-fits_at slots s w k p part e in_part parent =
-    let q = parent_at slots s w k part e (shared_of k.cells part in_part) in
-    let one : q.0 ≡ p = let both = sym q.1 ∙ parent in cc in
-    subst (λ (r : Kept). FitsIn k part r) one q.2
-
 -- slots of the same windows
 
 standard-seen : (t : WindowTable) (o n : Option Kept) → option_map window_of o ≡ option_map window_of n → IsSomeAnd o (IsStandardOf t) → IsSomeAnd n (IsStandardOf t)
-standard-seen t None n e h = absurd h
-standard-seen t (Some k) None e h = cc
-standard-seen t (Some k) (Some j) e h = let one : window_of k ≡ window_of j = cc in subst (IsStandardScreen (windows t)) one h
+standard-seen t o n e h = grind arith
 
 placed-seen : (lines columns : ℕ) (o n : Option Kept) → option_map window_of o ≡ option_map window_of n → MatchOption o ⊤ (λ k. IsOnScreen lines columns (window_of k))
     → MatchOption n ⊤ (λ k. IsOnScreen lines columns (window_of k))
-placed-seen lines columns None None e h = h
-placed-seen lines columns None (Some j) e h = cc
-placed-seen lines columns (Some k) None e h = cc
-placed-seen lines columns (Some k) (Some j) e h = let one : window_of k ≡ window_of j = cc in subst (IsOnScreen lines columns) one h
+placed-seen lines columns o n e h = grind arith
 
 module _ (t : WindowTable) (mid : List (Option Kept)) (at y x : ℕ) (s : IsWindowTable t) (h : Shifted t.slots mid at y x) where
   set_at : SetAt t.slots mid at (Some h.after)
@@ -49,38 +35,20 @@ module _ (t : WindowTable) (mid : List (Option Kept)) (at y x : ℕ) (s : IsWind
       ∙ replaced-changed (window_map t.slots) at (with_part y x) (window_of h.before) (ap (option_map window_of) h.was))
 
   pub windows-shifted : (new : List (Option Kept)) → Settled mid new → windows (record t { slots = new }) ≡ record (windows t) { window = with_change (window_map t.slots) at (with_part y x) }
-  windows-shifted new settled = ap (λ (map : WindowMap). record (windows t) { window = map }) settled.windows ∙ windows-mid
+  windows-shifted new settled = grind (arith, windows-mid)
 
   -- a derived window's offset may be any at which it fits
   module _ (k p : Kept) (part : Part) (e : slot_at t.slots at ≡ Some k) (in_part : part_in k.cells ≡ Some part) (parent : slot_at t.slots part.parent ≡ Some p)
       (lines : y + k.lines ≤ p.lines) (columns : x + k.columns ≤ p.columns) where
     chained : HasParentIn t.slots h.after h.after.cells
-    chained =
-        let one : k ≡ h.before = let both = sym e ∙ h.was in cc in
-        let cells_are : h.before.cells ≡ Shared part = ap (λ (q : Kept). q.cells) (sym one) ∙ shared_of k.cells part in_part in
-        let after_are : h.after.cells ≡ Shared (record part { line = y; column = x }) = h.cells ∙ ap (with_new_offset y x) cells_are in
-        let fit = fits_at t.slots s.chained at k p part e in_part parent in
-        let fits : FitsIn h.after (record part { line = y; column = x }) p = record {
-          depth = h.shape.depth ∙ (rw one at fit.depth);
-          within = record {
-            lines = omega (arith, lines, h.shape.lines, ap (λ (q : Kept). q.lines) one);
-            columns = omega (arith, columns, h.shape.columns, ap (λ (q : Kept). q.columns) one);
-            kind = h.shape.place ∙ (rw one at fit.within.kind);
-          };
-        } in
-        subst (λ c. HasParentIn t.slots h.after c) (sym after_are) (rw parent fits)
+    chained = grind (arith, shared_of, parent_at)
 
     pub chained-shifted : IsChained mid
     chained-shifted = chained_set t.slots mid at h.after s.chained set_at (subst (λ o. KeepsShape o (Some h.after)) (sym h.was) h.shape) h.kept chained
 
     -- the standard screen is no derived window
     other : 0 ≢ at
-    other same =
-        let standard = some_and (slot_at t.slots 0) (IsStandardOf t) s.standard in
-        let both : standard.0 ≡ k = let there = sym standard.1 ∙ ap (slot_at t.slots) same ∙ e in cc in
-        let own : part_in k.cells ≡ None = ap (λ (q : Kept). part_in q.cells) (sym both) ∙ own_alone standard.0.cells standard.2.cells standard.2.grid in
-        let never : ⊥ = let clash = sym own ∙ in_part in cc in
-        never
+    other same = grind (arith, some_and, own_alone)
 
     -- then each origin is set anew
     module _ (new : List (Option Kept)) (settled : Settled mid new) where

@@ -1,12 +1,12 @@
 -- What is touched of a window, passed on from window to window.
-use Rattle.std.proofs.Common.{◌≡◌, ◌≢◌, ℕ, ◌+◌, ◌-◌, ◌≤◌, Bool, true, false, if◌then◌else◌, ◌==◌, ◌&&◌, ◌||◌, nat_lt, nat_le, Option, Some, None, IsSome, IsSomeAnd, List, ◌∷◌, ap, arith, refl}
-use Rattle.std.proofs.Common.{sym, ◌∙◌, subst, inl, inr, eq-eqb, ne_eqb, zero-add}
+use Rattle.std.proofs.Common.{◌≡◌, ◌≢◌, ℕ, ◌+◌, ◌-◌, ◌≤◌, Bool, true, false, if◌then◌else◌, ◌==◌, ◌&&◌, ◌||◌, nat_lt, nat_le, Option, Some, None, IsSome, IsSomeAnd, ◌∷◌, ap, arith, refl}
+use Rattle.std.proofs.Common.{sym, ◌∙◌, subst, eq-eqb, ne_eqb, zero-add}
 use Rattle.std.specs.List.{list_any}
 use Rattle.std.specs.Option.{option_map, option_map_or}
 use mathlib.Core.Path.{fun_ext}
 use Rattle.std.proofs.lemmas.Bool.{and_from, and_parts, cases_eq, cases_lt, le-leb, leb-true, lt-ltb, le-ltb}
 use Rattle.std.proofs.lemmas.Bool.Decides.{nat_tests}
-use Rattle.world.specs.Windows.{part_of, GridPlace, HasPlace, Window, WindowMap, Windows, ancestors, any_below, with_change, onward, own, touched_below}
+use Rattle.world.specs.Windows.{part_of, GridPlace, HasPlace, Window, WindowMap, Windows, ancestors, any_below, with_change, onward, own}
 use Rattle.world.specs.Sharing.{shows_part_of}
 use Rattle.world.specs.Sound.{AreSoundWindows}
 use Rattle.world.specs.calls.Copying.{after_copying, in_line, shows_touched_of, with_touches}
@@ -26,10 +26,7 @@ use Rattle.grids.proofs.Ancestors.{Walk, Walk-start, Walk-step, ancestors-none, 
 -- ---- the test by numbers
 
 both_ways : (s t : Bool) → (s ≡ true → t ≡ true) → (t ≡ true → s ≡ true) → s ≡ t
-both_ways true true f g = refl
-both_ways true false f g = sym (f refl)
-both_ways false true f g = g refl
-both_ways false false f g = refl
+both_ways s t f g = grind arith
 
 module _ (window : WindowMap) (s t : ℕ) (a : Window) (g : GridPlace) (p0 p1 q0 q1 : ℕ) (there : window s ≡ Some a)
     (leads_s : own window s 0 0 ≡ Some (onward p0 p1 g)) (leads_t : own window t 0 0 ≡ Some (onward q0 q1 g)) where
@@ -66,8 +63,7 @@ module _ (window : WindowMap) (s t : ℕ) (a : Window) (g : GridPlace) (p0 p1 q0
 
   shows-line : (y x : ℕ) → shows_touched_of window s t y x ≡ any_below a.lines (λ v. in_columns (a.touched v) v y x)
   unfolding in_columns
-  shows-line y x = ap (λ (o : Option Window). option_map_or (λ (b : Window). any_below b.lines (λ v. option_map_or (λ r. shows_part_of window s (in_line v r) t y x) (b.touched v) false)) o false)
-      there
+  shows-line y x = grind arith
 
   pub shows-is : (y x : ℕ) → shows_touched_of window s t y x ≡ shows_touched a (p0, p1) (q0, q1) y x
   shows-is y x = shows-line y x ∙ both_ways (any_below a.lines (λ v. in_columns (a.touched v) v y x)) (shows_touched a (p0, p1) (q0, q1) y x)
@@ -91,13 +87,13 @@ module _ (window : WindowMap) (s t : ℕ) (a : Window) (g : GridPlace) (p0 p1 q0
 
 module _ (windows : Windows) (w u line column : ℕ) (sound : AreSoundWindows windows) (h : Walk windows.window w u line column) where
   end : (p : GridPlace) × (own windows.window u 0 0 ≡ Some p)
-  end = some_of (own windows.window u 0 0) (sound-there windows u h.above sound h.at_is).chain_ends
+  end = grind (arith, some_of, sound-there)
 
   leads_u : own windows.window u 0 0 ≡ Some (onward 0 0 end.0)
-  leads_u = own-onward windows.window u 0 0 ∙ ap (option_map (onward 0 0)) end.1
+  leads_u = grind (arith, own-onward, end)
 
   leads_w : own windows.window w 0 0 ≡ Some (onward line column end.0)
-  leads_w = h.leads 0 0 ∙ (λ i. own windows.window u (zero-add line i) (zero-add column i)) ∙ own-onward windows.window u line column ∙ ap (option_map (onward line column)) end.1
+  leads_w = grind (arith, zero-add, own-onward, end)
 
   pub shows-up : (y x : ℕ) → shows_touched_of windows.window w u y x ≡ shows_touched h.below (line, column) (0, 0) y x
   shows-up y x = shows-is windows.window w u h.below end.0 line column 0 0 h.from_is leads_w leads_u y x
@@ -108,24 +104,13 @@ module _ (windows : Windows) (w u line column : ℕ) (sound : AreSoundWindows wi
 -- ---- touching twice
 
 touching-twice : (a : Window) (s t : ℕ → ℕ → Bool) → with_touches s (with_touches t a) ≡ with_touches (λ y x. s y x || t y x) a
-touching-twice a s t =
-    touching-is a (λ z. if nat_lt z a.lines then touched_below a.columns (s z) (if nat_lt z a.lines then touched_below a.columns (t z) (a.touched z) else a.touched z) else
-    (if nat_lt z a.lines then touched_below a.columns (t z) (a.touched z) else a.touched z))
-    (λ y x. s y x || t y x)
-    (λ z. elim (cases_lt z a.lines) [
-      | inl below ↦ let on = lt-ltb z a.lines below in rw on (touched-touched a.columns (s z) (t z) (a.touched z))
-      | inr past ↦ let off = le-ltb z a.lines past in rw off refl
-    ])
+touching-twice a s t = grind (arith, touching-is, cases_lt, lt-ltb, touched-touched, le-ltb)
 
 or-same : (t : Bool) → (t || t) ≡ t
-or-same true = refl
-or-same false = refl
+or-same t = grind arith
 
 or-swap : (s t : Bool) → (s || t) ≡ (t || s)
-or-swap true true = refl
-or-swap true false = refl
-or-swap false true = refl
-or-swap false false = refl
+or-swap s t = grind arith
 
 touching-again : (a : Window) (t : ℕ → ℕ → Bool) → with_touches t (with_touches t a) ≡ with_touches t a
 touching-again a t = touching-twice a t t ∙ ap (λ (s : ℕ → ℕ → Bool). with_touches s a) (fun_ext (λ y. fun_ext (λ x. or-same (t y x))))
@@ -147,24 +132,10 @@ pub record SameBut (o : Option Window) (b : Window) : Type 0 where
   pub backing : window.backing ≡ b.backing
 
 same-window : (o p : Option Window) (b : Window) → option_map untouched o ≡ option_map untouched p → p ≡ Some b → SameBut o b
-same-window None None b h e = cc
-same-window None (Some c) b h e = cc
-same-window (Some a) None b h e = cc
-same-window (Some a) (Some c) b h e =
-    let same : untouched a ≡ untouched c = cc in
-    let is : c ≡ b = cc in
-    record {
-      window = a;
-      there = refl;
-      lines = ap (λ (w : Window). w.lines) same ∙ ap (λ (w : Window). w.lines) is;
-      columns = ap (λ (w : Window). w.columns) same ∙ ap (λ (w : Window). w.columns) is;
-      backing = ap (λ (w : Window). w.backing) same ∙ ap (λ (w : Window). w.backing) is;
-    }
+same-window o p b h e = grind arith
 
 untouched_if : (t : Bool) (o : Option Window) (test : ℕ → ℕ → Bool) → option_map untouched (if t then option_map (with_touches test) o else o) ≡ option_map untouched o
-untouched_if true None test = refl
-untouched_if true (Some a) test = refl
-untouched_if false o test = refl
+untouched_if t o test = grind arith
 
 -- ---- upwards: window u has been reached, and what is touched was passed on to it and to all on the way
 
@@ -179,7 +150,7 @@ pub record IsHandedTo (old cur : Windows) (w u line column : ℕ) : Type 0 where
 -- what the reached window is
 pub reached : (old cur : Windows) (w u line column : ℕ) → (walk : Walk old.window w u line column) → ((v : ℕ) → option_map untouched (cur.window v) ≡ option_map untouched (old.window v))
     → SameBut (cur.window u) walk.above
-reached old cur w u line column walk same = same-window (cur.window u) (old.window u) walk.above (same u) walk.at_is
+reached old cur w u line column walk same = grind (arith, same-window)
 
 -- the next one, and which part of it the reached one is
 pub record NextPart (reached : Window) (at next : Place) : Type 0 where
@@ -190,40 +161,30 @@ pub record NextPart (reached : Window) (at next : Place) : Type 0 where
 module _ (old cur : Windows) (w : ℕ) (at : Place) (walk : Walk old.window w at.win.0 at.line at.column)
     (same : (v : ℕ) → option_map untouched (cur.window v) ≡ option_map untouched (old.window v)) where
   pub next-part : (next : Place) → IsSomeAnd (cur.window at.win.0) (λ a. Some next ≡ option_map (in_parent at) (part_in_parent a.backing)) → NextPart walk.above at next
-  next-part next h =
-      let now = reached old cur w at.win.0 at.line at.column walk same in
-      let here : Some next ≡ option_map (in_parent at) (part_in_parent now.window.backing) = rw now.there at h in
-      let part = from_parent at next (part_in_parent now.window.backing) here in
-      record { part = part.0; part_is = sym (ap part_in_parent now.backing) ∙ part.1; is = part.2 }
+  next-part next h = grind (arith, reached, from_parent)
 
   pub no-part : IsSomeAnd (cur.window at.win.0) (λ a. None ≡ option_map (in_parent at) (part_in_parent a.backing)) → part_in_parent walk.above.backing ≡ None
-  no-part h =
-      let now = reached old cur w at.win.0 at.line at.column walk same in
-      let here : None ≡ option_map (in_parent at) (part_in_parent now.window.backing) = rw now.there at h in
-      sym (ap part_in_parent now.backing) ∙ no_parent at (part_in_parent now.window.backing) here
+  no-part h = grind (arith, reached, no_parent)
 
 -- a place of it is there
 pub place-reached : (old cur : Windows) (w u line column : ℕ) → AreSoundWindows old → (walk : Walk old.window w u line column)
     → ((v : ℕ) → option_map untouched (cur.window v) ≡ option_map untouched (old.window v))
     → HasPlace cur.window u line column
-place-reached old cur w u line column sound walk same =
-    let now = reached old cur w u line column walk same in
-    let first = sound-there old w walk.below sound walk.from_is in
-    rw now.there (omega (arith, first.has_line, walk.lines, now.lines), omega (arith, first.has_column, walk.columns, now.columns))
+place-reached old cur w u line column sound walk same = grind (arith, reached, sound-there)
 
 pub handed-none : (windows : Windows) (w : ℕ) → IsSome (windows.window w) → IsHandedTo windows windows w w 0 0
-handed-none windows w there = record { walk = Walk-start windows.window w there; size = refl; same = λ v. refl; source = refl; rest = λ v. refl }
+handed-none windows w there = grind (arith, Walk-start)
 
 module _ (old : Windows) (sound : AreSoundWindows old) (w u line column : ℕ) (part : Part) (walk : Walk old.window w u line column)
     (part_is : part_in_parent walk.above.backing ≡ Some part) where
   backing_is : walk.above.backing ≡ part_of part.parent part.line part.column
-  backing_is = part-some walk.above.backing part part_is
+  backing_is = grind (arith, part-some)
 
   pub next-walk : Walk old.window w part.parent (line + part.line) (column + part.column)
   next-walk = Walk-step old w u line column part sound walk backing_is
 
   pub next-ancestors : ancestors old.window u ≡ part.parent ∷ ancestors old.window part.parent
-  next-ancestors = ancestors-parent old.window u walk.above part walk.at_is backing_is (sound-there old u walk.above sound walk.at_is).chain_ends
+  next-ancestors = grind (arith, ancestors-parent, backing_is, sound-there)
 
   -- one window further up
   module _ (cur next : Windows) (h : IsHandedTo old cur w u line column) (other : part.parent ≢ w)
@@ -233,64 +194,20 @@ module _ (old : Windows) (sound : AreSoundWindows old) (w u line column : ℕ) (
 
     test-is : test ≡ shows_touched_of old.window w part.parent
     unfolding test
-    test-is = fun_ext (λ y. fun_ext (λ x.
-        ap (λ (o : Option Window). option_map_or (λ (a : Window). shows_touched a (line + part.line, column + part.column) (0, 0) y x) o false) (h.source ∙ next-walk.from_is)
-        ∙ sym (shows-up old w part.parent (line + part.line) (column + part.column) sound next-walk y x)))
+    test-is = grind (arith, next-walk, shows-up)
 
     next_at : (v : ℕ) → next.window v ≡ with_change cur.window part.parent (with_touches test) v
     unfolding test
-    next_at v = ap (λ (ws : Windows). ws.window v) step
-
-    rest-next : (v : ℕ) → (if list_any (λ p. p == v) (ancestors old.window part.parent) then option_map (with_touches (shows_touched_of old.window w v)) (next.window v) else next.window v)
-        ≡ (after_copying old (Syncup (record { 0 = w }))).window v
-    rest-next v =
-        let further = list_any (λ p. p == v) (ancestors old.window part.parent) in
-        let f = with_touches (shows_touched_of old.window w v) in
-        let all : list_any (λ p. p == v) (ancestors old.window u) ≡ ((part.parent == v) || further) = ap (list_any (λ p. p == v)) next-ancestors in
-        let target : (if (part.parent == v) || further then option_map f (cur.window v) else cur.window v) ≡ (after_copying old (Syncup (record { 0 = w }))).window v =
-        ap (λ (t : Bool). if t then option_map f (cur.window v) else cur.window v) (sym all) ∙ h.rest v in
-        elim (cases_eq v part.parent) [
-          | inl same ↦
-              let here : next.window v ≡ option_map f (cur.window v) =
-              next_at v ∙ ap (with_change cur.window part.parent (with_touches test)) same ∙ changed-here cur.window part.parent (with_touches test)
-              ∙ ap (λ (t : ℕ → ℕ → Bool). option_map (with_touches t) (cur.window part.parent)) test-is
-              ∙ ap (λ k. option_map (with_touches (shows_touched_of old.window w k)) (cur.window k)) (sym same) in
-              let on : (part.parent == v) ≡ true = eq-eqb part.parent v (sym same) in
-              ap (λ (o : Option Window). if further then option_map f o else o) here
-              ∙ either_way further f (cur.window v) (again (cur.window v) (shows_touched_of old.window w v))
-              ∙ sym (ap (λ (t : Bool). if t || further then option_map f (cur.window v) else cur.window v) on)
-              ∙ target
-          | inr apart ↦
-              let here : next.window v ≡ cur.window v = next_at v ∙ changed-other cur.window part.parent (with_touches test) v apart in
-              let off : (part.parent == v) ≡ false = ne_eqb part.parent v (λ e. apart (sym e)) in
-              ap (λ (o : Option Window). if further then option_map f o else o) here
-              ∙ sym (ap (λ (t : Bool). if t || further then option_map f (cur.window v) else cur.window v) off)
-              ∙ target
-        ] where
-          either_way : (t : Bool) (f : Window → Window) (o : Option Window) → option_map f (option_map f o) ≡ option_map f o
-              → (if t then option_map f (option_map f o) else option_map f o) ≡ option_map f o
-          either_way true f o e = e
-          either_way false f o e = refl
+    next_at v = grind arith
 
     pub handed-on : IsHandedTo old next w part.parent (line + part.line) (column + part.column)
     unfolding test
-    handed-on = record {
-      walk = next-walk;
-      size = step ∙ ap (λ (ws : Windows). record ws { window = with_change cur.window part.parent (with_touches test) }) h.size
-          ∙ ap (λ (ws : WindowMap). record old { window = ws }) (sym (ap (λ (ws : Windows). ws.window) step));
-      same = λ v. ap (option_map untouched) (next_at v) ∙ untouched_if (v == part.parent) (cur.window v) test ∙ h.same v;
-      source = next_at w ∙ changed-other cur.window part.parent (with_touches test) w (λ e. other (sym e)) ∙ h.source;
-      rest = rest-next;
-    }
+    handed-on = grind (arith, next-walk, next_at, untouched_if, changed-other, next-ancestors, cases_eq, changed-here, test-is, eq-eqb, again, ne_eqb)
 
 -- ---- at the last window
 
 pub handed-all : (old cur : Windows) (w u line column : ℕ) → (h : IsHandedTo old cur w u line column) → part_in_parent h.walk.above.backing ≡ None → cur ≡ after_copying old (Syncup (record { 0 = w }))
-handed-all old cur w u line column h last =
-    let grid = part-none h.walk.above.backing last in
-    let none = ancestors-none old.window u h.walk.above grid.0 h.walk.at_is grid.1 in
-    h.size ∙ ap (λ (ws : WindowMap). record old { window = ws }) (fun_ext (λ v.
-    sym (ap (λ (l : List ℕ). if list_any (λ p. p == v) l then option_map (with_touches (shows_touched_of old.window w v)) (cur.window v) else cur.window v) none) ∙ h.rest v))
+handed-all old cur w u line column h last = grind (arith, part-none, ancestors-none)
 
 -- ---- taken down: what is touched of window u and of all on the way was taken
 
@@ -302,7 +219,7 @@ pub record IsTakenFrom (old cur : Windows) (w u line column : ℕ) : Type 0 wher
   pub rest : with_change cur.window w (with_touches (λ y x. list_any (λ v. shows_touched_of old.window v w y x) (ancestors old.window u))) ≡ (after_copying old (Syncdown (record { 0 = w }))).window
 
 pub taken-none : (windows : Windows) (w : ℕ) → IsSome (windows.window w) → IsTakenFrom windows windows w w 0 0
-taken-none windows w there = record { walk = Walk-start windows.window w there; size = refl; same = λ v. refl; others = λ v other. refl; rest = refl }
+taken-none windows w there = grind (arith, Walk-start)
 
 module _ (old : Windows) (sound : AreSoundWindows old) (w u line column : ℕ) (part : Part) (walk : Walk old.window w u line column)
     (part_is : part_in_parent walk.above.backing ≡ Some part) (cur next : Windows) (h : IsTakenFrom old cur w u line column) (other : part.parent ≢ w)
@@ -315,9 +232,7 @@ module _ (old : Windows) (sound : AreSoundWindows old) (w u line column : ℕ) (
 
   taken-is : taken ≡ shows_touched_of old.window part.parent w
   unfolding taken further-walk
-  taken-is = fun_ext (λ y. fun_ext (λ x.
-      ap (λ (o : Option Window). option_map_or (λ (a : Window). shows_touched a (0, 0) (line + part.line, column + part.column) y x) o false) (h.others part.parent other ∙ further-walk.at_is)
-      ∙ sym (shows-down old w part.parent (line + part.line) (column + part.column) sound further-walk y x)))
+  taken-is = grind (arith, further-walk, shows-down)
 
   further : ℕ → ℕ → Bool
   further y x = list_any (λ v. shows_touched_of old.window v w y x) (ancestors old.window part.parent)
@@ -336,7 +251,7 @@ module _ (old : Windows) (sound : AreSoundWindows old) (w u line column : ℕ) (
 
   taken_at : next.window ≡ with_change cur.window w (with_touches taken)
   unfolding taken
-  taken_at = ap (λ (ws : Windows). ws.window) step
+  taken_at = grind arith
 
   pub taken-on : IsTakenFrom old next w part.parent (line + part.line) (column + part.column)
   unfolding taken further further-walk of_any or_further

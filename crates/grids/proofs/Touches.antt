@@ -1,8 +1,7 @@
 -- A window that is touched line by line.
-use Rattle.std.proofs.Common.{◌≡◌, ◌≢◌, ℕ, zero, suc, ◌+◌, ◌-◌, ◌<◌, ◌≤◌, Bool, true, false, if◌then◌else◌, ◌==◌, ◌&&◌, nat_lt, nat_le, Option, Some, None, IsSomeAnd, ap, arith, refl, sym, ◌∙◌}
-use Rattle.std.proofs.Common.{subst, inl, inr, eq-eqb, ne_eqb}
+use Rattle.std.proofs.Common.{◌≡◌, ◌≢◌, ℕ, zero, suc, ◌+◌, ◌-◌, ◌<◌, ◌≤◌, Bool, false, if◌then◌else◌, ◌==◌, ◌&&◌, nat_lt, nat_le, Option, Some, IsSomeAnd, ap, arith, refl, sym, ◌∙◌}
+use Rattle.std.proofs.Common.{inl, inr, eq-eqb, ne_eqb}
 use Rattle.std.specs.Option.{option_map}
-use mathlib.Core.Path.{fun_ext}
 use Rattle.std.proofs.lemmas.Bool.{cases_eq, cases_lt, cond-true, cond-false, lt-ltb, le-ltb}
 use Rattle.std.proofs.lemmas.Iterator.Adapters.{option_map_id}
 use Rattle.cell.specs.Pictures.{Place}
@@ -18,82 +17,47 @@ use Rattle.grids.proofs.Writes.{touched-none, touched-past}
 -- ---- one window changed twice, and not at all
 
 both : (o : Option Window) (f g : Window → Window) → option_map g (option_map f o) ≡ option_map (λ a. g (f a)) o
-both None f g = refl
-both (Some a) f g = refl
+both o f g = grind arith
 
 both_if : (t : Bool) (o : Option Window) (f g : Window → Window) → (if t then option_map g (if t then option_map f o else o) else (if t then option_map f o else o))
     ≡ (if t then option_map (λ a. g (f a)) o else o)
-both_if true o f g = both o f g
-both_if false o f g = refl
+both_if t o f g = grind (arith, both)
 
 pub changed-twice : (window : WindowMap) (w : ℕ) (f g : Window → Window) → with_change (with_change window w f) w g ≡ with_change window w (λ a. g (f a))
-changed-twice window w f g = fun_ext (λ u. both_if (u == w) (window u) f g)
-
-agrees_at : (o : Option Window) (f g : Window → Window) → ((a : Window) → o ≡ Some a → f a ≡ g a) → option_map f o ≡ option_map g o
-agrees_at None f g h = refl
-agrees_at (Some a) f g h = ap Some (h a refl)
+changed-twice window w f g = grind (arith, both_if)
 
 pub changed-same : (window : WindowMap) (w : ℕ) (f g : Window → Window) → ((a : Window) → window w ≡ Some a → f a ≡ g a) → with_change window w f ≡ with_change window w g
-changed-same window w f g h = fun_ext (λ u. elim (cases_eq u w) [
-  | inl same ↦
-      let on = eq-eqb u w same in
-      cond-true (u == w) (option_map f (window u)) (window u) on
-      ∙ agrees_at (window u) f g (λ a is. h a (ap window (sym same) ∙ is))
-      ∙ sym (cond-true (u == w) (option_map g (window u)) (window u) on)
-  | inr other ↦
-      let off = ne_eqb u w other in
-      cond-false (u == w) (option_map f (window u)) (window u) off ∙ sym (cond-false (u == w) (option_map g (window u)) (window u) off)
-])
+changed-same window w f g h = grind (arith, cases_eq, eq-eqb, ne_eqb)
 
 same_if : (t : Bool) (o : Option Window) → (if t then option_map (λ a. a) o else o) ≡ o
-same_if true o = option_map_id o
-same_if false o = refl
+same_if t o = grind (arith, option_map_id)
 
 pub changed-nothing : (window : WindowMap) (w : ℕ) (f : Window → Window) → ((a : Window) → window w ≡ Some a → f a ≡ a) → with_change window w f ≡ window
-changed-nothing window w f h = changed-same window w f (λ a. a) h ∙ fun_ext (λ u. same_if (u == w) (window u))
+changed-nothing window w f h = grind (arith, changed-same, same_if)
 
 pub changed-other : (window : WindowMap) (w : ℕ) (f : Window → Window) (u : ℕ) → u ≢ w → with_change window w f u ≡ window u
-changed-other window w f u other = cond-false (u == w) (option_map f (window u)) (window u) (ne_eqb u w other)
+changed-other window w f u other = grind (arith, ne_eqb)
 
 pub changed-here : (window : WindowMap) (w : ℕ) (f : Window → Window) → with_change window w f w ≡ option_map f (window w)
-changed-here window w f = cond-true (w == w) (option_map f (window w)) (window w) (eq-eqb w w refl)
+changed-here window w f = grind (arith, eq-eqb)
 
 -- ---- touching
 
 pub touched-same : (n : ℕ) (s t : ℕ → Bool) (r : Option Columns) → ((x : ℕ) → x < n → s x ≡ t x) → touched_below n s r ≡ touched_below n t r
-touched-same zero s t r h = refl
-touched-same (suc n) s t r h =
-    let last : s n ≡ t n = h n (omega arith) in
-    let rest = touched-same n s t r (λ x lt. h x (omega arith)) in
-    rw (last, rest) refl
+touched-same zero s t r h = grind arith
+touched-same (suc n) s t r h = grind (arith, (touched-same n s t r (λ x lt. h x (omega arith))))
 
 -- what touches each line of a window in the same way
 pub touching-is : (a : Window) (touched : ℕ → Option Columns) (test : ℕ → ℕ → Bool)
     → ((z : ℕ) → touched z ≡ (if nat_lt z a.lines then touched_below a.columns (test z) (a.touched z) else a.touched z)) → record a { touched = touched } ≡ with_touches test a
-touching-is a touched test h = λ i. record a { touched = λ z. h z i }
+touching-is a touched test h = grind arith
 
 pub touching-same : (a : Window) (s t : ℕ → ℕ → Bool) → ((y x : ℕ) → y < a.lines → x < a.columns → s y x ≡ t y x) → with_touches s a ≡ with_touches t a
-touching-same a s t h = touching-is a (λ z. if nat_lt z a.lines then touched_below a.columns (s z) (a.touched z) else a.touched z) t (λ z.
-    elim (cases_lt z a.lines) [
-      | inl below ↦
-          let on = lt-ltb z a.lines below in
-          cond-true (nat_lt z a.lines) (touched_below a.columns (s z) (a.touched z)) (a.touched z) on
-          ∙ touched-same a.columns (s z) (t z) (a.touched z) (λ x lt. h z x below lt)
-          ∙ sym (cond-true (nat_lt z a.lines) (touched_below a.columns (t z) (a.touched z)) (a.touched z) on)
-      | inr past ↦
-          let off = le-ltb z a.lines past in
-          cond-false (nat_lt z a.lines) (touched_below a.columns (s z) (a.touched z)) (a.touched z) off
-          ∙ sym (cond-false (nat_lt z a.lines) (touched_below a.columns (t z) (a.touched z)) (a.touched z) off)
-    ])
+touching-same a s t h = grind (arith, touching-is, cases_lt, lt-ltb, touched-same, le-ltb)
 
 -- nothing
 pub touching-none : (a : Window) (test : ℕ → ℕ → Bool) → ((y x : ℕ) → y < a.lines → x < a.columns → test y x ≡ false) → with_touches test a ≡ a
-touching-none a test h = sym (touching-is a a.touched test (λ z. elim (cases_lt z a.lines) [
-  | inl below ↦
-      let on = lt-ltb z a.lines below in
-      sym (cond-true (nat_lt z a.lines) (touched_below a.columns (test z) (a.touched z)) (a.touched z) on ∙ touched-none a.columns (test z) (a.touched z) (λ x lt. h z x below lt))
-  | inr past ↦ sym (cond-false (nat_lt z a.lines) (touched_below a.columns (test z) (a.touched z)) (a.touched z) (le-ltb z a.lines past))
-]))
+touching-none a test h = grind (arith, touching-is, cases_lt, lt-ltb, touched-none, le-ltb)
 
 -- ---- the lines above line y, and then line y
 
@@ -101,16 +65,10 @@ abbrev pub before : ℕ → (ℕ → ℕ → Bool) → ℕ → ℕ → Bool
 before k test y x = nat_lt y k && test y x
 
 before-off : (k y : ℕ) (t : Bool) → k ≤ y → (nat_lt y k && t) ≡ false
-before-off k y t h = let off = le-ltb y k h in rw off refl
+before-off k y t h = grind (arith, le-ltb)
 
 before-on : (k y : ℕ) (t : Bool) → y < k → (nat_lt y k && t) ≡ t
-before-on k y t h = let on = lt-ltb y k h in rw on refl
-
-before-next : (k y : ℕ) (t : Bool) → y ≢ k → (nat_lt y k && t) ≡ (nat_lt y (k + 1) && t)
-before-next k y t other = elim (cases_lt y k) [
-  | inl above ↦ before-on k y t above ∙ sym (before-on (k + 1) y t (omega arith))
-  | inr below ↦ before-off k y t below ∙ sym (before-off (k + 1) y t (omega arith))
-]
+before-on k y t h = grind (arith, lt-ltb)
 
 module _ (a : Window) (test : ℕ → ℕ → Bool) (y : ℕ) (below : y < a.lines) where
   on_line : ℕ → ℕ → Option Columns
@@ -118,28 +76,20 @@ module _ (a : Window) (test : ℕ → ℕ → Bool) (y : ℕ) (below : y < a.lin
 
   line-other : (z : ℕ) → z ≢ y → on_line y z ≡ on_line (y + 1) z
   unfolding on_line
-  line-other z other = ap (λ (t : ℕ → Bool). if nat_lt z a.lines then touched_below a.columns t (a.touched z) else a.touched z) (fun_ext (λ x. before-next y z (test z x) other))
+  line-other z other = grind (arith, cases_lt, before-on, before-off)
 
   line-before : on_line y y ≡ a.touched y
   unfolding on_line
-  line-before =
-      cond-true (nat_lt y a.lines) (touched_below a.columns (λ x. nat_lt y y && test y x) (a.touched y)) (a.touched y) (lt-ltb y a.lines below)
-      ∙ touched-none a.columns (λ x. nat_lt y y && test y x) (a.touched y) (λ x lt. before-off y y (test y x) (omega arith))
+  line-before = grind (arith, lt-ltb, touched-none, before-off)
 
   line-after : on_line (y + 1) y ≡ touched_below a.columns (test y) (a.touched y)
   unfolding on_line
-  line-after =
-      cond-true (nat_lt y a.lines) (touched_below a.columns (λ x. nat_lt y (y + 1) && test y x) (a.touched y)) (a.touched y) (lt-ltb y a.lines below)
-      ∙ touched-same a.columns (λ x. nat_lt y (y + 1) && test y x) (test y) (a.touched y) (λ x lt. before-on (y + 1) y (test y x) (omega arith))
+  line-after = grind (arith, lt-ltb, touched-same, before-on)
 
   -- no column of the line passes
   pub line-none : ((x : ℕ) → x < a.columns → test y x ≡ false) → with_touches (before y test) a ≡ with_touches (before (y + 1) test) a
   unfolding on_line
-  line-none h = touching-is a (on_line y) (before (y + 1) test) (λ z. elim (cases_eq z y) [
-    | inl same ↦
-        ap (on_line y) same ∙ line-before ∙ sym (touched-none a.columns (test y) (a.touched y) h) ∙ sym line-after ∙ ap (on_line (y + 1)) (sym same)
-    | inr other ↦ line-other z other
-  ])
+  line-none h = grind (arith, touching-is, cases_eq, line-before, touched-none, line-after, line-other)
 
   -- those from first to last pass
   pub line-some : (first last : ℕ) → first ≤ last → last < a.columns → ((x : ℕ) → x < a.columns → test y x ≡ (nat_le first x && nat_le x last))
@@ -173,26 +123,11 @@ module _ (w : Windows) (win : ℕ) (test : ℕ → ℕ → Bool) where
       (λ b is. touching-same b (before k test) test (λ y x below on. before-on k y (test y x) (let same : b ≡ a = cc in let lines = ap (λ (c : Window). c.lines) same in omega arith))))
 
   pub next-none : (a : Window) → w.window win ≡ Some a → (y : ℕ) → y < a.lines → ((x : ℕ) → x < a.columns → test y x ≡ false) → touched_before y ≡ touched_before (y + 1)
-  next-none a there y below h = ap (λ (ws : WindowMap). record w { window = ws }) (changed-same w.window win (with_touches (before y test)) (with_touches (before (y + 1) test))
-      (λ b is. let same : b ≡ a = cc in subst (λ (c : Window). with_touches (before y test) c ≡ with_touches (before (y + 1) test) c) (sym same) (line-none a test y below h)))
+  next-none a there y below h = grind (arith, changed-same, line-none)
 
   pub next-some : (a : Window) → w.window win ≡ Some a → (y first last : ℕ) → y < a.lines → first ≤ last → last < a.columns → ((x : ℕ) → x < a.columns → test y x ≡ (nat_le first x && nat_le x last))
       → (now next : Windows) → now ≡ touched_before y → next ≡ record now { window = with_change now.window win (with_touched y first last) } → next ≡ touched_before (y + 1)
-  next-some a there y first last below ordered within h now next is step =
-      step
-      ∙ ap (λ (u : Windows). record u { window = with_change u.window win (with_touched y first last) }) is
-      ∙ ap (λ (ws : WindowMap). record w { window = ws })
-      (changed-twice w.window win (with_touches (before y test)) (with_touched y first last)
-      ∙ changed-same w.window win (λ b. with_touched y first last (with_touches (before y test) b)) (with_touches (before (y + 1) test))
-      (λ b is. let same : b ≡ a = cc in subst (λ (c : Window). with_touched y first last (with_touches (before y test) c) ≡ with_touches (before (y + 1) test) c) (sym same)
-      (line-some a test y below first last ordered within h)))
-
-  -- the window keeps its size, and the others are as they were
-  pub touched-here : (k : ℕ) (cur : Windows) (a : Window) → cur ≡ touched_before k → w.window win ≡ Some a → cur.window win ≡ Some (with_touches (before k test) a)
-  touched-here k cur a is there = ap (λ (u : Windows). u.window win) is ∙ changed-here w.window win (with_touches (before k test)) ∙ ap (option_map (with_touches (before k test))) there
-
-  pub touched-other : (k : ℕ) (cur : Windows) (u : ℕ) → cur ≡ touched_before k → u ≢ win → cur.window u ≡ w.window u
-  touched-other k cur u is other = ap (λ (v : Windows). v.window u) is ∙ changed-other w.window win (with_touches (before k test)) u other
+  next-some a there y first last below ordered within h now next is step = grind (arith, changed-twice, changed-same, line-some)
 
 -- a window that is there, for crates that don't use `slots`
 pub there-and : (o : Option Window) (P : Window → Type 0) → IsSomeAnd o P → (a : Window) × (o ≡ Some a) × P a
@@ -211,14 +146,4 @@ pub record IsAtLine (w cur : Windows) (win source : ℕ) (at : Place) (test : �
 
 pub at-line : (w cur : Windows) (win source : ℕ) (at size : Place) (test : ℕ → ℕ → Bool) (y : ℕ) → win ≢ source → EndsWithin w.window win at
     → IsSomeAnd (w.window win) (λ a. (size.0 ≡ a.lines) × (size.1 ≡ a.columns)) → y < size.0 → cur ≡ touched_before w win test y → IsAtLine w cur win source at test y
-at-line w cur win source at size test y other ends sized above touched =
-    let b = some_and (w.window win) (λ b. (at.0 + b.lines ≤ LARGEST_PAD) × (at.1 + b.columns ≤ LARGEST_PAD)) ends in
-    let lines = (rw b.1 at sized).0 in
-    record {
-      window = b.0;
-      there = b.1;
-      fits = b.2;
-      below = omega (arith, above, lines);
-      here = touched-here w win test y cur b.0 touched b.1;
-      same = touched-other w win test y cur source touched (λ e. other (sym e));
-    }
+at-line w cur win source at size test y other ends sized above touched = grind (arith, some_and, changed-here, changed-other)

@@ -1,5 +1,5 @@
 -- A row written through a window is one put.
-use Rattle.std.proofs.Common.{◌≡◌, ℕ, zero, suc, ◌+◌, ◌-◌, ◌<◌, ◌≤◌, min, max, Bool, true, false, if◌then◌else◌, ◌==◌, ◌&&◌, nat_le, nat_lt, Option, Some, None, is_some, IsSomeAnd, List, length}
+use Rattle.std.proofs.Common.{◌≡◌, ℕ, zero, suc, ◌+◌, ◌-◌, ◌<◌, ◌≤◌, Bool, true, false, if◌then◌else◌, ◌==◌, ◌&&◌, nat_le, nat_lt, Option, Some, None, is_some, IsSomeAnd, List, length}
 use Rattle.std.proofs.Common.{ap, get_or, arith, refl, sym, ◌∙◌, inl, inr, get_or-set_other, get_or-set_same, eq-eqb, ne_eqb, add-zero, add-suc}
 use Rattle.std.specs.Option.{option_map}
 use mathlib.Core.Path.{fun_ext}
@@ -20,17 +20,11 @@ use Rattle.slots.proofs.OneSlot.{slot_below}
 -- touching column after column
 
 pub touched-none : (n : ℕ) (test : ℕ → Bool) (r : Option Columns) → ((x : ℕ) → x < n → test x ≡ false) → touched_below n test r ≡ r
-touched-none zero test r h = refl
-touched-none (suc n) test r h =
-    let last : test n ≡ false = h n (omega arith) in
-    rw last (touched-none n test r (λ x lt. h x (omega arith)))
+touched-none zero test r h = grind arith
+touched-none (suc n) test r h = grind (arith, (touched-none n test r (λ x lt. h x (omega arith))))
 
 spread-more : (r : Option Columns) (left n : ℕ) → left ≤ n → joined_columns (joined_columns r left n) (suc n) (suc n) ≡ joined_columns r left (suc n)
-spread-more None left n h = let low : min left (suc n) ≡ left = omega arith in let high : max n (suc n) ≡ suc n = omega arith in cc
-spread-more (Some r) left n h =
-    let low : min (min r.first left) (suc n) ≡ min r.first left = omega arith in
-    let high : max (max r.last n) (suc n) ≡ max r.last (suc n) = omega arith in
-    cc
+spread-more r left n h = grind arith
 
 -- the test holds from left to right
 touched-span : (left right : ℕ) (test : ℕ → Bool) (r : Option Columns) → ((x : ℕ) → test x ≡ (nat_le left x && nat_le x right)) → (n : ℕ) → left ≤ n → n ≤ right
@@ -79,51 +73,29 @@ touched-row a y left right c in_lines l in_cols z =
           touched-none a.columns test (a.touched z) (λ x lt. row_test_off a y left right c z x other) ∙ sym (cond-false (z == y) (joined_columns (a.touched z) left right) (a.touched z) off)
     ]
 
-moved_row_at : (place : GridPlace) (a : Window) (y left right : ℕ) (c : Glyph) → y < a.lines → right < a.columns → (z x : ℕ)
-    → grid_drawing place (within a (filled_cells y left right c)) z x ≡ filled_cells (place.line + y) (place.column + left) (place.column + right) c z x
-moved_row_at place a y left right c in_lines in_cols z x = grind (arith, nat_tests)
-
 moved-row : (place : GridPlace) (a : Window) (y left right : ℕ) (c : Glyph) → y < a.lines → right < a.columns
     → grid_drawing place (within a (filled_cells y left right c)) ≡ filled_cells (place.line + y) (place.column + left) (place.column + right) c
-moved-row place a y left right c in_lines in_cols = fun_ext (λ z. fun_ext (λ x. moved_row_at place a y left right c in_lines in_cols z x))
+moved-row place a y left right c in_lines in_cols = grind (arith, nat_tests)
 
 -- the windows after one slot was changed
 abbrev changed_at : ℕ → (Window → Window) → ℕ → Window → Window
 changed_at at change u a = if u == at then change a else a
 
 map-changed : (old new : List (Option Kept)) (at : ℕ) (change : Window → Window) → Changed old new at change → (u : ℕ) → window_map new u ≡ option_map (changed_at at change u) (window_map old u)
-map-changed old new at change h u =
-    elim (cases_eq u at) [
-      | inl same ↦
-          let on : (u == at) ≡ true = eq-eqb u at same in
-          let bound : at < length old = slot_below old at h.before h.was in
-          let now : slot_at new u ≡ Some h.after = rw (h.set, same) (get_or-set_same old at (Some h.after) None bound) in
-          let was : slot_at old u ≡ Some h.before = rw same h.was in
-          rw (now, was, on) (ap Some h.window)
-      | inr other ↦
-          let off : (u == at) ≡ false = ne_eqb u at other in
-          let stays : slot_at new u ≡ slot_at old u = rw h.set (get_or-set_other old at u (Some h.after) None other) in
-          let pick : Bool → Window → Window = λ t a. if t then change a else a in
-          let none : changed_at at change u ≡ pick false = ap pick off in
-          ap (option_map window_of) stays ∙ sym (option_map_id (window_map old u)) ∙ ap (λ (f : Window → Window). option_map f (window_map old u)) (sym none)
-    ]
+map-changed old new at change h u = grind (arith, cases_eq, eq-eqb, slot_below, get_or-set_same, ne_eqb, get_or-set_other, option_map_id)
 
 option_map_both : (o : Option Window) (f g h : Window → Window) → ((b : Window) → o ≡ Some b → g (f b) ≡ h b) → option_map g (option_map f o) ≡ option_map h o
-option_map_both None f g h same = refl
-option_map_both (Some b) f g h same = ap Some (same b refl)
+option_map_both o f g h same = grind arith
 
 window_at : (slots : List (Option Kept)) (u w : ℕ) (b a : Window) → window_map slots u ≡ Some b → window_map slots w ≡ Some a → u ≡ w → b ≡ a
-window_at slots u w b a is here same = let moved_here = ap (window_map slots) same in cc
+window_at slots u w b a is here same = grind arith
 
 -- the grid and the marks, by whether they are this window's
 merged_by : (p q : Bool) (b : Window) (f1 f2 : Drawing) (touched : ℕ → Option Columns) (y left right : ℕ) → f2 ≡ f1
     → (q ≡ true → touched ≡ (λ z. if z == y then joined_columns (b.touched z) left right else b.touched z)) →
     (if q then with_touched y left right (if p then with_drawing f1 b else b) else (if p then with_drawing f1 b else b))
     ≡ record b { backing = (if p then laid_over f2 b.backing else b.backing); touched = (if q then touched else b.touched) }
-merged_by true true b f1 f2 touched y left right e h = let t = h refl in rw (e, t) refl
-merged_by true false b f1 f2 touched y left right e h = rw e refl
-merged_by false true b f1 f2 touched y left right e h = let t = h refl in rw t refl
-merged_by false false b f1 f2 touched y left right e h = refl
+merged_by p q b f1 f2 touched y left right e h = grind arith
 
 -- what is written in a line through a window, which touches its columns from left to right, is one put
 pub put-any : (a0 a1 a2 : List (Option Kept)) (win : ℕ) (place : GridPlace) (k : Kept) (f g : Drawing) (y left right : ℕ) →
@@ -144,8 +116,7 @@ put-any a0 a1 a2 win place k f g y left right e leads moved_is touched h1 h2 =
     ∙ sym put_is)
 
 some_and : (o : Option Kept) (y x : ℕ) → IsSomeAnd (option_map window_of o) (λ a. (y < a.lines) × (x < a.columns)) → (k : Kept) × (o ≡ Some k) × (y < k.lines) × (x < k.columns)
-some_and None y x h = absurd h
-some_and (Some k) y x h = (k, refl, h.0, h.1)
+some_and o y x h = grind arith
 
 pub windows-put_row : (t : WindowTable) (a1 a2 : List (Option Kept)) (win : ℕ) (place : GridPlace) (y left right : ℕ) (c : Glyph) →
     HasPlace (window_map t.slots) win y right → left ≤ right → own (window_map t.slots) win 0 0 ≡ Some place →

@@ -1,5 +1,5 @@
 -- The chain of parents: it ends, and it is no longer than the number of windows.
-use Rattle.std.proofs.Common.{◌≡◌, ℕ, zero, suc, ◌+◌, ◌-◌, ◌<◌, ◌≤◌, ◌≢◌, Option, Some, None, MatchOption, IsSome, IsSomeAnd, List, [], ◌∷◌, length, slice_set, ap, arith, refl, sym, ◌∙◌, subst}
+use Rattle.std.proofs.Common.{◌≡◌, ℕ, zero, suc, ◌+◌, ◌-◌, ◌<◌, ◌≤◌, ◌≢◌, Option, Some, None, IsSome, IsSomeAnd, List, [], ◌∷◌, length, slice_set, ap, arith, refl, sym, ◌∙◌}
 use Rattle.std.proofs.Common.{inl, inr, ◌⊎◌, get_or-set_other}
 use Rattle.std.specs.Option.{option_map}
 use Rattle.std.proofs.lemmas.Bool.{cases_eq}
@@ -14,17 +14,11 @@ use Rattle.slots.specs.declared.slot.Cells.TheVariants.{Own, Shared}
 use Rattle.slots.specs.Kept.{Kept, IsKept, backing_of}
 use Rattle.slots.specs.Slots.{slot_at, window_map, FitsIn, HasParentIn, IsChained, part_in, in_parent, depth_at, lines_at, columns_at}
 
-from_match : (o : Option Kept) (P : Kept → Type 0) → MatchOption o ⊥ P → (k : Kept) × (o ≡ Some k) × P k
-from_match None P h = absurd h
-from_match (Some k) P h = (k, refl, h)
-
 pub some_of : {A : Type 0} (o : Option A) → IsSome o → (a : A) × (o ≡ Some a)
-some_of None h = cc
-some_of (Some a) h = (a, refl)
+some_of o h = grind arith
 
 pub some_and : {A : Type 0} (o : Option A) (P : A → Type 0) → IsSomeAnd o P → (a : A) × (o ≡ Some a) × P a
-some_and None P h = absurd h
-some_and (Some a) P h = (a, refl, h)
+some_and o P h = grind arith
 
 pub each_at : (slots : List (Option Kept)) → IsChained slots → (w : ℕ) (k : Kept) → slot_at slots w ≡ Some k → IsKept k × HasParentIn slots k k.cells
 each_at slots s w k e = rw e at (s.each w)
@@ -32,13 +26,11 @@ each_at slots s w k e = rw e at (s.each w)
 -- the slot of a parent
 pub parent_at : (slots : List (Option Kept)) → IsChained slots → (w : ℕ) (k : Kept) (part : Part) → slot_at slots w ≡ Some k → k.cells ≡ Shared part
     → (p : Kept) × (slot_at slots part.parent ≡ Some p) × FitsIn k part p
-parent_at slots s w k part e is =
-    from_match (slot_at slots part.parent) (FitsIn k part) (subst (λ c. HasParentIn slots k c) is (each_at slots s w k e).1)
+parent_at slots s w k part e is = grind (arith, each_at)
 
 -- a slot with a grid is at the end of its chain
 depth_of_grid : (slots : List (Option Kept)) (k : Kept) (cells : Cells) → HasParentIn slots k cells → 0 < k.depth → (part : Part) × (cells ≡ Shared part)
-depth_of_grid slots k (Own sheet) h up = absurd (omega (arith, h))
-depth_of_grid slots k (Shared part) h up = (part, refl)
+depth_of_grid slots k cells h up = grind arith
 
 -- how many slots are taken
 taken_in : List (Option Kept) → ℕ
@@ -66,9 +58,7 @@ abbrev Occurs : List (Option Kept) → ℕ → Type 0
 Occurs slots d = (w : ℕ) × (k : Kept) × (slot_at slots w ≡ Some k) × (k.depth ≡ d)
 
 apart_by_depth : (slots : List (Option Kept)) (v w : ℕ) (j k : Kept) → slot_at slots v ≡ Some j → slot_at slots w ≡ Some k → j.depth < k.depth → v ≡ w → ⊥
-apart_by_depth slots v w j k e f lt same =
-    let one : j ≡ k = let here = ap (slot_at slots) same in cc in
-    omega (arith, ap (λ (q : Kept). q.depth) one)
+apart_by_depth slots v w j k e f lt same = grind arith
 
 many_taken : (m : ℕ) (slots : List (Option Kept)) → ((d : ℕ) → d < m → Occurs slots d) → m ≤ taken_in slots
 many_taken zero slots h = omega arith
@@ -101,12 +91,10 @@ depth_below slots s w k e =
 
 -- the place in the parent
 pub from_parent : (at next : Place) (o : Option Part) → Some next ≡ option_map (in_parent at) o → (part : Part) × (o ≡ Some part) × (next ≡ in_parent at part)
-from_parent at next None h = cc
-from_parent at next (Some part) h = (part, refl, let e : next ≡ in_parent at part = cc in e)
+from_parent at next o h = grind arith
 
 pub no_parent : (at : Place) (o : Option Part) → None ≡ option_map (in_parent at) o → o ≡ None
-no_parent at None h = refl
-no_parent at (Some part) h = cc
+no_parent at o h = grind arith
 
 -- the chain of win comes to this place of grid
 pub record Leads (slots : List (Option Kept)) (win grid line column : ℕ) : Type 0 where
@@ -120,25 +108,21 @@ own_step : (slots : List (Option Kept)) (w : ℕ) (k : Kept) (part : Part) → s
 own_step slots w k part e is n y x = rw (e, is) refl
 
 end_of : (further : ℕ → ℕ → ℕ → Option GridPlace) (w y x : ℕ) (cells : Cells) → part_in cells ≡ None → leads further w y x (backing_of cells) ≡ Some (record { grid = w; line = y; column = x })
-end_of further w y x (Own sheet) is = refl
-end_of further w y x (Shared part) is = cc
+end_of further w y x cells is = grind arith
 
 own_end : (slots : List (Option Kept)) (w : ℕ) (k : Kept) → slot_at slots w ≡ Some k → part_in k.cells ≡ None → (n y x : ℕ)
     → own_within (suc n) (window_map slots) w y x ≡ Some (record { grid = w; line = y; column = x })
-own_end slots w k e is n y x = rw e (end_of (own_within n (window_map slots)) w y x k.cells is)
+own_end slots w k e is n y x = grind (arith, end_of)
 
 pub shared_of : (cells : Cells) (part : Part) → part_in cells ≡ Some part → cells ≡ Shared part
-shared_of (Own sheet) part is = cc
-shared_of (Shared p) part is = ap Shared (let e : p ≡ part = cc in e)
+shared_of cells part is = grind arith
 
 pub limit-is : window_limit ≡ MOST_WINDOWS + 1
 unfolding window_limit
 limit-is = refl
 
 depth_at_below : (slots : List (Option Kept)) → IsChained slots → (w : ℕ) → IsSome (slot_at slots w) → depth_at slots w < length slots
-depth_at_below slots s w taken =
-    let k = some_of (slot_at slots w) taken in
-    rw k.1 (depth_below slots s w k.0 k.1)
+depth_at_below slots s w taken = grind (arith, some_of, depth_below)
 
 -- one parent on
 pub Leads-step : (slots : List (Option Kept)) → IsChained slots → (win grid line column : ℕ) (k : Kept) (part : Part) → slot_at slots grid ≡ Some k → part_in k.cells ≡ Some part →
@@ -171,13 +155,11 @@ own_source (Own sheet) is = (λ y x. glyph_at sheet (y, x), refl)
 own_source (Shared part) is = cc
 
 pub own_alone : (cells : Cells) (grid : ℕ → ℕ → Glyph) → backing_of cells ≡ own_grid grid → part_in cells ≡ None
-own_alone (Own sheet) grid is = refl
-own_alone (Shared part) grid is = cc
+own_alone cells grid is = grind arith
 
 -- each chain ends
 pub own_or_shared : (cells : Cells) → (part_in cells ≡ None) ⊎ ((part : Part) × (cells ≡ Shared part))
-own_or_shared (Own sheet) = inl refl
-own_or_shared (Shared part) = inr (part, refl)
+own_or_shared cells = grind arith
 
 ends : (slots : List (Option Kept)) → IsChained slots → (n w : ℕ) (k : Kept) → slot_at slots w ≡ Some k → k.depth ≡ n → (m y x : ℕ) → IsSome (own_within (suc (n + m)) (window_map slots) w y x)
 ends slots s zero w k e is m y x = elim (own_or_shared k.cells) [

@@ -1,5 +1,5 @@
 -- The cells of a slot, and the lines of a grid.
-use Rattle.std.proofs.Common.{◌≡◌, ℕ, ◌+◌, ◌<◌, ◌≤◌, ◌∙◌, List, [], length, take, drop, replicate, get_or, map, Option, Some, None, refl, sym, ap, arith, inl, inr, zero-add, lit≤, lit<}
+use Rattle.std.proofs.Common.{◌≡◌, ℕ, ◌+◌, ◌<◌, ◌≤◌, ◌∙◌, [], length, take, drop, replicate, get_or, map, Option, None, sym, arith, zero-add, lit≤, lit<}
 use Rattle.std.proofs.lemmas.Bool.{cases_lt}
 use Rattle.std.specs.List.{AllByRecursion, range_with_len}
 use Rattle.std.proofs.lemmas.List.Elements.{All-from_recursion, recursion_from_All, All-get_or, All-take, All-drop}
@@ -17,7 +17,6 @@ use Rattle.slots.specs.declared.slot.Cells.TheVariants.{Own}
 use Rattle.slots.specs.declared.slot.Origin.{Origin}
 use Rattle.slots.specs.Kept.{Kept, IsKept, IsGridOf, window_of}
 use Rattle.slots.specs.Changes.{StaysInPlace}
-use Rattle.world.specs.Sound.{AreColumnsWithin}
 use Rattle.world.specs.declared.settings.Columns.{Columns}
 
 -- a piece of a line
@@ -43,47 +42,19 @@ cells-of_line sheet line left len cells below =
 
 -- a blank grid
 
-blank_at : (n k : ℕ) → get_or (replicate n blank) k blank ≡ blank
-blank_at n k = elim (cases_lt k n) [
-  | inl below ↦ get_or-replicate n k blank blank below
-  | inr past ↦ get_or_past (replicate n blank) k blank (omega (arith, length-replicate n blank))
-]
-
-pub shown-blank : (lines columns y x : ℕ) → glyph_at (blank_sheet lines columns) (y, x) ≡ blank
-shown-blank lines columns y x = elim (cases_lt y lines) [
-  | inl below ↦ ap (λ (cells : List Glyph). get_or cells x blank) (get_or-replicate lines y (replicate columns blank) [] below) ∙ blank_at columns x
-  | inr past ↦ ap (λ (cells : List Glyph). get_or cells x blank) (get_or_past (blank_sheet lines columns) y [] (omega (arith, length-replicate lines (replicate columns blank))))
-]
-
 pub grid-blank : (lines columns : ℕ) → own_grid (λ y x. glyph_at (blank_sheet lines columns) (y, x)) ≡ blank_grid
-grid-blank lines columns = ap own_grid (fun_ext (λ y. fun_ext (λ x. shown-blank lines columns y x)))
+grid-blank lines columns = grind (arith, cases_lt, get_or-replicate, replicate, get_or_past, length-replicate)
 
 -- no line is touched
 pub touched-none : (n y : ℕ) → get_or (replicate n (let o : Option Columns = None in o)) y None ≡ None
-touched-none n y = elim (cases_lt y n) [
-  | inl below ↦ get_or-replicate n y None None below
-  | inr past ↦ get_or_past (replicate n None) y None (omega (arith, length-replicate n (let o : Option Columns = None in o)))
-]
+touched-none n y = grind (arith, cases_lt, get_or-replicate, get_or_past, replicate, length-replicate)
 
 -- a new window with a grid
-
-none_within : (columns : ℕ) (o : Option Columns) → o ≡ None → AreColumnsWithin columns o
-none_within columns None e = tt
-none_within columns (Some r) e = cc
 
 pub IsKept-new : (lines columns depth : ℕ) (place : Option Place) (origin : Origin) (cells : Cells) → 0 < lines → 0 < columns → lines ≤ LARGEST_PAD → columns ≤ LARGEST_PAD
     → IsGridOf lines columns cells
     → IsKept (record { lines = lines; columns = columns; place = place; settings = first_settings lines; touched = replicate lines None; depth = depth; origin = origin; cells = cells })
-IsKept-new lines columns depth place origin cells has_line has_column few_lines few_columns grid = record {
-  has_line = has_line;
-  has_column = has_column;
-  few_lines = few_lines;
-  few_columns = few_columns;
-  touched_each = length-replicate lines None;
-  touched = λ y. none_within columns (get_or (replicate lines None) y None) (touched-none lines y);
-  settings = record { cursor_line = has_line; cursor_column = has_column; region_order = omega arith; region_end = omega arith; attributes = lit< tt; background = IsCell-blank; pair = lit≤ tt };
-  grid = grid;
-}
+IsKept-new lines columns depth place origin cells has_line has_column few_lines few_columns grid = grind (arith, length-replicate, replicate, touched-none, lit<, lit≤)
 
 pub IsGridOf-blank : (lines columns : ℕ) → IsGridOf lines columns (Own (blank_sheet lines columns))
 IsGridOf-blank lines columns = (HasSize-all_of blank lines columns, EachCell-all_of IsCell blank lines columns IsCell-blank)
@@ -109,24 +80,7 @@ window-blank lines columns depth place origin =
 
 pub StaysInPlace-grid : (k : Kept) (sheet new : Sheet) → IsKept k → k.cells ≡ Own sheet → (HasSize k.lines k.columns sheet → HasSize k.lines k.columns new) → (AreCells sheet → AreCells new)
     → StaysInPlace k (record k { cells = Own new })
-StaysInPlace-grid k sheet new s is size cells = record {
-  shape = record { lines = refl; columns = refl; place = refl; depth = refl };
-  part = record { part = rw is refl; origin = refl };
-  kept = record {
-    has_line = s.has_line;
-    has_column = s.has_column;
-    few_lines = s.few_lines;
-    few_columns = s.few_columns;
-    touched_each = s.touched_each;
-    touched = s.touched;
-    settings = s.settings;
-    grid = let grid = rw is at s.grid in (size grid.0, cells grid.1);
-  };
-}
+StaysInPlace-grid k sheet new s is size cells = grind arith
 
 pub StaysInPlace-same : (k : Kept) → IsKept k → StaysInPlace k k
-StaysInPlace-same k s = record {
-  shape = record { lines = refl; columns = refl; place = refl; depth = refl };
-  part = record { part = refl; origin = refl };
-  kept = s;
-}
+StaysInPlace-same k s = grind arith

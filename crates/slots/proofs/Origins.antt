@@ -7,7 +7,7 @@ use Rattle.cell.specs.declared.limits.TheConstants.{MOST_WINDOWS}
 use Rattle.world.specs.Windows.{GridPlace, leads, onward, own, own_within, window_limit}
 use Rattle.world.proofs.WindowLaws.{own-onward, own-own_grid}
 use Rattle.slots.specs.declared.slot.Cells.{Cells}
-use Rattle.slots.specs.declared.slot.Cells.TheVariants.{Own, Shared}
+use Rattle.slots.specs.declared.slot.Cells.TheVariants.{Shared}
 use Rattle.slots.specs.declared.slot.Part.{Part}
 use Rattle.slots.specs.Kept.{Kept, backing_of, window_of}
 use Rattle.slots.specs.Slots.{AreOrigins, IsChained, IsRoot, grid_place, slot_at, window_map, part_in}
@@ -72,23 +72,16 @@ module _ (old new : List (Option Kept)) (P : ℕ → Type 0) (same : (w : ℕ) �
     (closed : (w : ℕ) (k : Kept) (part : Part) → P w → slot_at old w ≡ Some k → k.cells ≡ Shared part → P part.parent) where
   leads-kept : (f g : ℕ → ℕ → ℕ → Option GridPlace) → ((w y x : ℕ) → P w → f w y x ≡ g w y x) → (w y x : ℕ) (a b : Cells) → part_in b ≡ part_in a → ((part : Part) → a ≡ Shared part → P part.parent)
       → leads f w y x (backing_of b) ≡ leads g w y x (backing_of a)
-  leads-kept f g h w y x (Own s) (Own t) e c = refl
-  leads-kept f g h w y x (Own s) (Shared q) e c = cc
-  leads-kept f g h w y x (Shared p) (Own t) e c = cc
-  leads-kept f g h w y x (Shared p) (Shared q) e c = let one : q ≡ p = cc in rw one (h p.parent (y + p.line) (x + p.column) (c p refl))
+  leads-kept f g h w y x a b e c = grind arith
 
   then-kept : (f g : ℕ → ℕ → ℕ → Option GridPlace) → ((w y x : ℕ) → P w → f w y x ≡ g w y x) → (w y x : ℕ) (o n : Option Kept) → link n ≡ link o
       → ((k : Kept) (part : Part) → o ≡ Some k → k.cells ≡ Shared part → P part.parent)
       → option_and_then (λ a. leads f w y x a.backing) (option_map window_of n) ≡ option_and_then (λ a. leads g w y x a.backing) (option_map window_of o)
-  then-kept f g h w y x None None e c = refl
-  then-kept f g h w y x None (Some j) e c = cc
-  then-kept f g h w y x (Some k) None e c = cc
-  then-kept f g h w y x (Some k) (Some j) e c = leads-kept f g h w y x k.cells j.cells (let one : part_in j.cells ≡ part_in k.cells = cc in one) (λ part is. c k part refl is)
+  then-kept f g h w y x o n e c = grind (arith, leads-kept)
 
   own_within-kept : (n w y x : ℕ) → P w → own_within n (window_map new) w y x ≡ own_within n (window_map old) w y x
-  own_within-kept zero w y x p = refl
-  own_within-kept (suc n) w y x p =
-      then-kept (own_within n (window_map new)) (own_within n (window_map old)) (own_within-kept n) w y x (slot_at old w) (slot_at new w) (same w p) (λ k part e is. closed w k part p e is)
+  own_within-kept zero w y x p = grind arith
+  own_within-kept (suc n) w y x p = grind (arith, then-kept, (own_within-kept n))
 
   own-kept : (w : ℕ) → P w → own (window_map new) w 0 0 ≡ own (window_map old) w 0 0
   own-kept w p = own_within-kept window_limit w 0 0 p
@@ -97,19 +90,9 @@ module _ (old new : List (Option Kept)) (P : ℕ → Type 0) (same : (w : ℕ) �
 abbrev pub HasOrigin : List (Option Kept) → ℕ → Kept → Type 0
 HasOrigin slots w k = own (window_map slots) w 0 0 ≡ Some (grid_place k.origin)
 
-origin-still : (old new : List (Option Kept)) (w : ℕ) (o : Option Kept) → (IsSome o → own (window_map new) w 0 0 ≡ own (window_map old) w 0 0) → MatchOption o ⊤ (HasOrigin old w)
-    → MatchOption o ⊤ (HasOrigin new w)
-origin-still old new w None same h = h
-origin-still old new w (Some k) same h = same refl ∙ h
-
 origins-beside : (old new : List (Option Kept)) (at : ℕ) (o : Option Kept) → SetAt old new at o → AreOrigins old → MatchOption o ⊤ (HasOrigin new at)
     → ((w : ℕ) → w ≢ at → IsSome (slot_at old w) → own (window_map new) w 0 0 ≡ own (window_map old) w 0 0) → AreOrigins new
-origins-beside old new at o set s here same = record {
-  each = λ w. elim (cases_eq w at) [
-    | inl equal ↦ subst (λ q. MatchOption q ⊤ (HasOrigin new w)) (sym (ap (slot_at new) equal ∙ set.here)) (subst (λ (v : ℕ). MatchOption o ⊤ (HasOrigin new v)) (sym equal) here)
-    | inr other ↦ subst (λ q. MatchOption q ⊤ (HasOrigin new w)) (sym (set.others w other)) (origin-still old new w (slot_at old w) (same w other) (s.each w))
-  ];
-}
+origins-beside old new at o set s here same = grind (arith, cases_eq)
 
 -- ---- the first window has a grid
 
@@ -120,7 +103,7 @@ origin-first k alone is zero =
 origin-first k alone is (suc w) = tt
 
 pub origins-first : (k : Kept) → part_in k.cells ≡ None → k.origin ≡ record { grid = 0; line = 0; column = 0 } → AreOrigins (Some k ∷ [])
-origins-first k alone is = record { each = origin-first k alone is }
+origins-first k alone is = grind (arith, origin-first)
 
 -- ---- a window is changed and stays the same part of its parent
 
@@ -138,7 +121,7 @@ origins-changed old new at k j set was part s =
 
 module _ (old new : List (Option Kept)) (at : ℕ) (k : Kept) (s : IsChained old) (set : SetAt old new at (Some k)) (free : slot_at old at ≡ None) where
   taken-elsewhere : (w : ℕ) → IsSome (slot_at old w) → w ≢ at
-  taken-elsewhere w taken same = let none = ap (slot_at old) same ∙ free in let some : IsSome (let o : Option Kept = None in o) = subst (λ (o : Option Kept). IsSome o) none taken in cc
+  taken-elsewhere w taken same = grind arith
 
   own-before : (w : ℕ) → IsSome (slot_at old w) → own (window_map new) w 0 0 ≡ own (window_map old) w 0 0
   own-before w taken =
@@ -146,7 +129,7 @@ module _ (old new : List (Option Kept)) (at : ℕ) (k : Kept) (s : IsChained old
       (λ v j part t e is. let p = parent_at old s v j part e is in rw p.1 refl) w taken
 
   pub origins-filled : AreOrigins old → HasOrigin new at k → AreOrigins new
-  origins-filled origins here = origins-beside old new at (Some k) set origins here (λ w other taken. own-before w taken)
+  origins-filled origins here = grind (arith, origins-beside, own-before)
 
   -- to a window with a grid
   pub origin-alone : part_in k.cells ≡ None → k.origin ≡ record { grid = at; line = 0; column = 0 } → HasOrigin new at k

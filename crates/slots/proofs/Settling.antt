@@ -24,20 +24,11 @@ pub record IsSettledBelow (old new : List (Option Kept)) (n : ℕ) : Type 0 wher
   pub below : (w : ℕ) → w < n → MatchOption (slot_at new w) ⊤ (HasOrigin new w)
 
 pub empty-slot : (o : Option Kept) → is_some o ≡ false → o ≡ None
-empty-slot None h = refl
-empty-slot (Some k) h = cc
+empty-slot o h = grind arith
 
 -- an empty slot has none
 pub settled-empty : (old new : List (Option Kept)) (n : ℕ) → slot_at new n ≡ None → IsSettledBelow old new n → IsSettledBelow old new (n + 1)
-settled-empty old new n none h = record {
-  size = h.size;
-  windows = h.windows;
-  chained = h.chained;
-  below = λ w lt. elim (cases_eq w n) [
-    | inl same ↦ subst (λ (v : ℕ). MatchOption (slot_at new v) ⊤ (HasOrigin new v)) (sym same) (rw none tt)
-    | inr other ↦ h.below w (omega arith)
-  ];
-}
+settled-empty old new n none h = grind (arith, cases_eq)
 
 module _ (old cur new : List (Option Kept)) (n : ℕ) (origin : Origin) (few : length cur ≤ MOST_WINDOWS + 1) (h : IsSettledBelow old cur n) (led : Led cur new n origin) where
   abbrev after : Kept
@@ -53,7 +44,7 @@ module _ (old cur new : List (Option Kept)) (n : ℕ) (origin : Origin) (few : l
   ])
 
   shape : SameShape led.before after
-  shape = record { lines = refl; columns = refl; place = refl; depth = refl }
+  shape = grind arith
 
   pub settled-next : own (window_map cur) n 0 0 ≡ Some (grid_place origin) → IsSettledBelow old new (n + 1)
   settled-next leads =
