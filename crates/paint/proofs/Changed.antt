@@ -1,5 +1,5 @@
 -- Columns in which a picture may differ from another.
-use Rattle.std.proofs.Common.{◌≡◌, ℕ, ◌+◌, ◌<◌, ◌≤◌, ◌-◌, ◌⊎◌, ◌==◌, ◌||◌, ◌≢◌, true, false, nat_lt, List, Option, Some, length, set, arith}
+use Rattle.std.proofs.Common.{◌≡◌, ℕ, ◌+◌, ◌<◌, ◌≤◌, ◌-◌, ◌⊎◌, ◌==◌, ◌||◌, true, false, nat_lt, List, Option, Some, length, set, arith}
 use Rattle.std.specs.Prelude.{MatchOption}
 use Rattle.std.specs.Option.{option_map_or}
 use Rattle.std.proofs.lemmas.Bool.{cases_eq, cases_lt, eq-eqb, ne_eqb}
@@ -43,11 +43,8 @@ pub looked-at : (lines : List ℕ) (changes : List Stretch) (next : Option ℕ) 
 looked-at lines changes next y is = grind arith
 
 module _ (lines : List ℕ) (changes : List Stretch) (y : ℕ) (inside : y < length changes) (h : ClearedBefore lines (Some y) changes) where
-  line-of : (v : ℕ) → (v ≢ y → stretch_of changes v ≡ no_stretch) → stretch_of (set changes y no_stretch) v ≡ no_stretch
-  line-of v other = grind (arith, cases_eq, get_or-set_same, get_or-set_other)
-
   pub cleared-more : (next : Option ℕ) → IsNext lines (y + 1) next → ClearedBefore lines next (set changes y no_stretch)
-  cleared-more = grind (arith, cleared-on, line-of)
+  cleared-more = grind (arith, cleared-on, cases_eq, get_or-set_same, get_or-set_other)
 
   pub fewer-left : y < 1024 → (next : Option ℕ) → IsNext lines (y + 1) next → lines-left next < lines-left (Some y)
   fewer-left small z none = grind arith

@@ -71,13 +71,10 @@ choices-alike p q shown wanted e = grind (arith, choose-same)
 
 -- ---- a cell of a line
 
-if-same : (b : Bool) (a c : Shown) → a ≡ c → (if b then c else a) ≡ c
-if-same b a c e = grind arith
-
 -- a cell that is shown already
 pub get-kept : (p : Rendition → Bool) (x : ℕ) (shown wanted : List Shown) → length shown ≡ length wanted → x < length shown
     → get_or shown x shown_blank ≡ get_or wanted x shown_blank → get_or (choose p shown wanted) x shown_blank ≡ get_or wanted x shown_blank
-get-kept p x shown wanted same inside e = grind (arith, get-choose, if-same)
+get-kept p x shown wanted same inside e = grind (arith, get-choose)
 
 -- a cell of a rendition of which two choices think alike
 pub get-alike : (p q : Rendition → Bool) (x : ℕ) (shown wanted : List Shown) → length shown ≡ length wanted → x < length shown

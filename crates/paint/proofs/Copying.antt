@@ -34,11 +34,8 @@ module _ {lines columns : ℕ} {changes : List Stretch} {old new wanted : Pictur
     (only : DifferOnly changes old wanted) (y : ℕ) (below : y < lines) {part : ℕ × ℕ} (within : IsWithin columns (stretch_of changes y) part) (piece : List Shown)
     (is : piece ≡ take (part.1 - part.0) (drop part.0 (line_of wanted y))) (long : length piece ≡ part.1 - part.0)
     (put : (v u : ℕ) → shown_at new (v, u) ≡ (if (v == y) && (nat_le part.0 u && nat_lt u (part.0 + length piece)) then get_or piece (u - part.0) shown_blank else shown_at old (v, u))) where
-  in-piece : (u : ℕ) → part.0 ≤ u → u < part.1 → get_or piece (u - part.0) shown_blank ≡ shown_at wanted (y, u)
-  in-piece u from to = grind (arith, get_or-take, get_or-drop)
-
   put-there : (v u : ℕ) → v ≡ y → part.0 ≤ u → u < part.1 → shown_at new (v, u) ≡ shown_at wanted (v, u)
-  put-there v u line from to = grind (arith, nat_tests, in-piece)
+  put-there v u line from to = grind (arith, nat_tests, get_or-take, get_or-drop)
 
   -- what was right stays right
   stays : (v u : ℕ) → shown_at old (v, u) ≡ shown_at wanted (v, u) → shown_at new (v, u) ≡ shown_at wanted (v, u)

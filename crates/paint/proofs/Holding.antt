@@ -1,6 +1,5 @@
 -- The strokes of a doupdate make a text of it.
 use Rattle.std.proofs.Common.{◌≡◌, Bool, ℕ, ◌*◌, ◌<◌, ◌≤◌, List, [], ◌∷◌, ◌++◌, length, Option, Some, None, refl, sym, ap, ◌∙◌, subst, arith, append_assoc, length-append}
-use Rattle.std.specs.Prelude.{if◌then◌else◌}
 use Rattle.std.specs.List.{AllByRecursion}
 use Rattle.std.proofs.lemmas.List.{nil_from_length}
 use Rattle.cell.specs.Shown.{Shown, no_rendition}
@@ -31,26 +30,20 @@ Leads-empty t u h = Reaches-unique [] 0 t t u (Reaches-in_profile [] t t (Leads-
 
 -- ---- how many places differ
 
-coloured-few : (b c : Bool) → (if b then 0 else if c then 1 else 0) ≤ (if b then 0 else 1)
-coloured-few b c = grind arith
-
 line-coloured : (old new : List Shown) → line_colour_difference old new ≤ line_difference old new
 line-coloured [] new = omega arith
 line-coloured (a ∷ old) [] = omega arith
-line-coloured (a ∷ old) (b ∷ new) = grind (arith, coloured-few, line-coloured old new)
+line-coloured (a ∷ old) (b ∷ new) = grind (arith, line-coloured old new)
 
 coloured : (old new : Picture) → colour_difference old new ≤ difference old new
 coloured [] new = omega arith
 coloured (line ∷ old) [] = omega arith
 coloured (line ∷ old) (other ∷ new) = grind (arith, line-coloured, coloured old new)
 
-one-most : (b : Bool) → (if b then 0 else 1) ≤ 1
-one-most b = grind arith
-
 line-most : (old new : List Shown) → line_difference old new ≤ length old
 line-most [] new = omega arith
 line-most (a ∷ old) [] = omega arith
-line-most (a ∷ old) (b ∷ new) = grind (arith, one-most, line-most old new)
+line-most (a ∷ old) (b ∷ new) = grind (arith, line-most old new)
 
 most : (columns : ℕ) (old new : Picture) → columns ≤ LARGEST_SCREEN → AllByRecursion (λ line. length line ≡ columns) old → difference old new ≤ LARGEST_SCREEN * length old
 most columns [] new few wide = omega arith

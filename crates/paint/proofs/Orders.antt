@@ -120,16 +120,7 @@ has_pass : (order : List Rendition) (rendition : Rendition) → pass_of (order +
 has_pass [] rendition = grind (arith, same-self)
 has_pass (first ∷ order) rendition = grind (arith, cases_Bool, has_pass order rendition)
 
-with_pass-had : (order : List Rendition) (rendition : Rendition) → pass_of order rendition < length order → with_pass order rendition ≡ order
-with_pass-had order rendition had = grind (arith, ne_eqb)
-
-with_pass-twice : (order : List Rendition) (rendition : Rendition) → with_pass (with_pass order rendition) rendition ≡ with_pass order rendition
-with_pass-twice order rendition = grind (arith, cases_Bool, with_pass-had, has_pass, length-append)
-
 -- ---- what was taken note of
-
-more-selected : (n m k : ℕ) → n ≡ saturating_usize (m + 1) → saturating_usize (n + k) ≡ saturating_usize (m + (1 + k))
-more-selected n m k is = grind arith
 
 -- the last one again
 noted-again : {renditions : Renditions} {came : List Rendition} → HasNoted renditions came → HasNoted renditions (came ++ renditions.last ∷ [])
@@ -138,7 +129,7 @@ noted-again h = grind (arith, append_assoc, same-self)
 -- another one
 pub noted-next : {old new : Renditions} {came : List Rendition} (rendition : Rendition) → HasNoted old came → same_rendition rendition old.last ≡ false
     → new.order ≡ with_pass old.order rendition → new.last ≡ rendition → new.switches ≡ saturating_usize (old.switches + 1) → HasNoted new (came ++ rendition ∷ [])
-noted-next rendition h other order last switches = grind (arith, append_assoc, more-selected, with_pass-twice)
+noted-next rendition h other order last switches = grind (arith, append_assoc, cases_Bool, ne_eqb, has_pass, length-append)
 
 -- changed cells that all have the last one
 pub noted-all : {renditions : Renditions} {came : List Rendition} (shown wanted : List Shown) → all_have renditions.last wanted ≡ true → HasNoted renditions came

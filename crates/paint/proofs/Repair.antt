@@ -30,12 +30,9 @@ LeadsTo stream t last = MatchOption last ⊤ (λ shown. LeadsWithBreaks stream t
 known_picture-leads : (painter : PainterState) (clear : Bool) (stream : List ℕ) (t : Terminal) → Agrees painter stream t → LeadsTo stream t (known_picture painter clear)
 known_picture-leads painter clear stream t agrees = grind arith
 
-may-read : (painter : PainterState) (last : Option ShownPicture) (t : Terminal) → HasSize painter.lines painter.columns t.picture → IsKnown last t → MayRead painter last t
-may-read painter shown t size is = grind arith
-
 -- a terminal of the size that shows what the painter knows may read its text
 pub reads-known : (painter : PainterState) (clear : Bool) (t : Terminal) → HasSize painter.lines painter.columns t.picture → IsKnown painter.last t → MayRead painter (known_picture painter clear) t
-reads-known painter clear t size is = grind (arith, may-read)
+reads-known painter clear t size is = grind (arith)
 
 -- ---- after a stream
 

@@ -27,14 +27,11 @@ use Rattle.paint.specs.steps.Strokes.{ArePrinted, Draws, Strokes, again_bytes, a
 
 -- ---- one after another
 
-pub Gathers-nothing : (seen : Seen) (outbox : Outbox) → Gathers seen seen outbox outbox []
-Gathers-nothing seen outbox = grind (arith, append-nil)
-
 pub Gathers-then : {a b c : Seen} {x y z : Outbox} {one other : List ℕ} → Gathers a b x y one → Gathers b c y z other → Gathers a c x z (one ++ other)
 Gathers-then h k = grind (arith, append_assoc)
 
 pub Draws-nothing : (seen : Seen) (pen : Pen) (picture : Picture) → Draws [] seen seen pen pen picture picture
-Draws-nothing seen pen picture = grind (arith, Gathers-nothing, Leads-nothing)
+Draws-nothing seen pen picture = grind (arith, append-nil, Leads-nothing)
 
 pub Draws-then : {one other : List ℕ} {a b c : Seen} {x y z : Pen} {picture middle drawn : Picture} → Draws one a b x y picture middle → Draws other b c y z middle drawn
     → Draws (one ++ other) a c x z picture drawn
@@ -86,11 +83,8 @@ selects old mid rendition picture other is gathers rest = rw (change-other old.r
 
 -- ---- a move
 
-same_place-equal : (a b : Place) → (a.0 == b.0 && a.1 == b.1) ≡ true → a ≡ b
-same_place-equal a b h = grind (arith, and_parts, eqb-true)
-
 pub is_at-known : (cursor : Option Place) (place : Place) → is_at cursor place ≡ true → cursor ≡ Some place
-is_at-known cursor place h = grind (arith, same_place-equal)
+is_at-known cursor place h = grind (arith, and_parts, eqb-true)
 
 move-none : (cursor : Option Place) (place : Place) → is_at cursor place ≡ true → move_from cursor place ≡ []
 unfolding move_from
@@ -216,25 +210,17 @@ approach-move {x} {y} place rendition h same k = record {
   short = omega (arith, length-append (move_from x.cursor place) (change y.rendition rendition), ap (λ r. length (change r rendition)) same);
 }
 
-selection-strokes : {a b : Seen} {x y : Pen} {picture : Picture} (rendition : Rendition) → Draws (change x.rendition rendition) a b x y picture picture
-    → Strokes (length (change x.rendition rendition)) a b x y picture picture
-selection-strokes rendition h = grind arith
-
 pub approach-again : {a b c : Seen} {x y z : Pen} {picture : Picture} {line column : ℕ} {cells : List Shown} (rendition : Rendition)
     → ArePrinted a b x y line column (length cells) cells → length (line_of picture line) ≡ x.columns → take (length cells) (drop column (line_of picture line)) ≡ cells
     → Draws (change y.rendition rendition) b c y z picture picture → Strokes (again_bytes x.rendition cells rendition) a c x z picture picture
-approach-again rendition h wide are k = grind (arith, drop_all, Strokes-more, Strokes-then, selection-strokes)
-
-moved-most : (cursor : Option Place) (rendition : Rendition) (place : Place) (wanted : Rendition) → place.0 < LARGEST_SCREEN → place.1 < LARGEST_SCREEN
-    → moved_bytes cursor rendition place wanted ≤ most_approach wanted
-moved-most cursor rendition place wanted few_lines few_columns = grind (arith, length-move, length-change)
+approach-again rendition h wide are k = grind (arith, drop_all, Strokes-more, Strokes-then)
 
 least : (b : Bool) (m n most : ℕ) → n ≤ most → (if b then min m n else n) ≤ most
 least b m n most h = grind (arith, min-le_right)
 
 pub approach-most : (cursor : Option Place) (rendition : Rendition) (start : Place) (gap : List Shown) (wanted : Rendition) → start.0 < LARGEST_SCREEN → start.1 + length gap < LARGEST_SCREEN
     → approach_bytes cursor rendition start gap wanted ≤ most_approach wanted
-approach-most cursor rendition start gap wanted few_lines few_columns = grind (arith, least, moved-most)
+approach-most cursor rendition start gap wanted few_lines few_columns = grind (arith, least, length-move, length-change)
 
 -- ---- which of two ways takes fewer bytes
 
@@ -247,18 +233,10 @@ moved-far : (cursor : Option Place) (rendition : Rendition) (start : Place) (gap
     → approach_bytes cursor rendition start gap wanted ≡ moved_bytes cursor rendition (start.0, start.1 + length gap) wanted
 moved-far cursor rendition start gap wanted far = rw far refl
 
-moved-less : (b : Bool) (m n : ℕ) → n ≤ m → (if b then min m n else n) ≡ n
-moved-less b m n h = grind (arith, min-le_right, le-min)
-
 moved-all : (cursor : Option Place) (rendition : Rendition) (start : Place) (gap : List Shown) (wanted : Rendition)
     → moved_bytes cursor rendition (start.0, start.1 + length gap) wanted ≤ again_bytes rendition gap wanted
     → approach_bytes cursor rendition start gap wanted ≡ moved_bytes cursor rendition (start.0, start.1 + length gap) wanted
-moved-all cursor rendition start gap wanted few = grind (arith, moved-less)
-
--- a gap of no cells is left out
-moved-empty : (cursor : Option Place) (rendition : Rendition) (start : Place) (gap : List Shown) (wanted : Rendition) → gap ≡ []
-    → approach_bytes cursor rendition start gap wanted ≡ moved_bytes cursor rendition (start.0, start.1 + length gap) wanted
-moved-empty cursor rendition start gap wanted none = grind (arith, cases_Bool, moved-far, move-none, moved-all)
+moved-all cursor rendition start gap wanted few = grind (arith, min-le_right, le-min)
 
 pub length-stay : (cursor : Option Place) (place : Place) → is_at cursor place ≡ true → length (move_from cursor place) ≡ 0
 length-stay cursor place at = grind (arith, move-none)
@@ -278,12 +256,6 @@ again-least rendition [] wanted = omega arith
 again-least rendition (cell ∷ gap) wanted = grind (arith, change-through, again-least cell.rendition gap wanted)
 
 -- ---- whether a gap is printed again
-
-no-more : (m n : ℕ) (b : Bool) → (nat_lt m n || (m == n && b)) ≡ true → m ≤ n
-no-more m n b h = grind (arith, cases_lt, ne_eqb, le-ltb)
-
-no-less : (m n : ℕ) (b : Bool) → (nat_lt m n || b) ≡ false → n ≤ m
-no-less m n b h = grind (arith, cases_lt, lt-ltb)
 
 module _ (cursor : Option Place) (rendition : Rendition) (start : Place) (gap : List Shown) (wanted : Rendition) where
   abbrev again : ℕ
@@ -317,11 +289,11 @@ module _ (cursor : Option Place) (rendition : Rendition) (start : Place) (gap : 
   again-few few_lines few_columns printed = grind (arith, cases_lt, again-long)
 
   pub approach-printed : is_printed_again cursor rendition start gap wanted ≡ true → approach_bytes cursor rendition start gap wanted ≡ again
-  approach-printed printed = grind (arith, again-at, cases_lt, again-all, no-more, again-here, again-none)
+  approach-printed printed = grind (arith, again-at, cases_lt, again-all, ne_eqb, le-ltb, again-here, again-none)
 
   -- and any other is moved over
   pub approach-moved : is_printed_again cursor rendition start gap wanted ≡ false → approach_bytes cursor rendition start gap wanted ≡ moved
-  approach-moved other = grind (arith, cases_lt, moved-empty, nil_from_length, cases_Bool, moved-far, moved-all, no-less, again-here)
+  approach-moved other = grind (arith, cases_lt, cases_Bool, moved-far, move-none, moved-all, nil_from_length, lt-ltb, again-here)
 
 -- ---- an erasure after it
 

@@ -1,6 +1,5 @@
 -- The walk over the cells of a line, and over the lines of a picture.
-use Rattle.std.proofs.Common.{◌≡◌, Bool, ℕ, zero, suc, ◌+◌, ◌*◌, ◌<◌, ◌≤◌, true, false, List, [], ◌∷◌, ◌++◌, length, get_or, set, take, drop, Some, inl, inr, ◌-◌, refl, sym, ap, ◌∙◌, subst, arith}
-use Rattle.std.specs.Prelude.{if◌then◌else◌}
+use Rattle.std.proofs.Common.{◌≡◌, ℕ, zero, suc, ◌+◌, ◌<◌, ◌≤◌, true, false, List, [], ◌∷◌, ◌++◌, length, get_or, set, take, drop, Some, inl, inr, ◌-◌, refl, sym, ap, ◌∙◌, subst, arith}
 use Rattle.std.proofs.lemmas.Bool.{cases_Bool}
 use Rattle.std.proofs.lemmas.List.{drop_all, drop-drop, drop_more, get_or-set_same, length-drop, length-take-le, set-set, set-get_or, take-append-drop, take-take}
 use Rattle.cell.specs.Shown.{Shown, no_rendition, shown_blank}
@@ -21,11 +20,8 @@ use Rattle.paint.proofs.Strokes.{Strokes-more, Strokes-nothing, Strokes-then, le
 
 -- ---- what the cells of a line may cost
 
-six : (coloured : Bool) → 6 * (if coloured then 1 else 0) ≡ (if coloured then 6 else 0)
-six coloured = grind arith
-
 pub line_bytes-other : (a b : Shown) (old new : List Shown) → same_shown a b ≡ false → line_bytes (a ∷ old) (b ∷ new) ≡ cell_bytes b + line_bytes old new
-line_bytes-other a b old new h = grind (arith, six)
+line_bytes-other a b old new h = grind (arith)
 
 pub line_bytes-same : (a b : Shown) (old new : List Shown) → same_shown a b ≡ true → line_bytes (a ∷ old) (b ∷ new) ≡ line_bytes old new
 line_bytes-same a b old new h = grind arith
