@@ -32,7 +32,7 @@ known_picture-leads painter clear stream t agrees = grind arith
 
 -- a terminal of the size that shows what the painter knows may read its text
 pub reads-known : (painter : PainterState) (clear : Bool) (t : Terminal) → HasSize painter.lines painter.columns t.picture → IsKnown painter.last t → MayRead painter (known_picture painter clear) t
-reads-known painter clear t size is = grind (arith)
+reads-known painter clear t size is = grind arith
 
 -- ---- after a stream
 

@@ -233,11 +233,6 @@ moved-far : (cursor : Option Place) (rendition : Rendition) (start : Place) (gap
     → approach_bytes cursor rendition start gap wanted ≡ moved_bytes cursor rendition (start.0, start.1 + length gap) wanted
 moved-far cursor rendition start gap wanted far = rw far refl
 
-moved-all : (cursor : Option Place) (rendition : Rendition) (start : Place) (gap : List Shown) (wanted : Rendition)
-    → moved_bytes cursor rendition (start.0, start.1 + length gap) wanted ≤ again_bytes rendition gap wanted
-    → approach_bytes cursor rendition start gap wanted ≡ moved_bytes cursor rendition (start.0, start.1 + length gap) wanted
-moved-all cursor rendition start gap wanted few = grind (arith, min-le_right, le-min)
-
 pub length-stay : (cursor : Option Place) (place : Place) → is_at cursor place ≡ true → length (move_from cursor place) ≡ 0
 length-stay cursor place at = grind (arith, move-none)
 
@@ -293,7 +288,7 @@ module _ (cursor : Option Place) (rendition : Rendition) (start : Place) (gap : 
 
   -- and any other is moved over
   pub approach-moved : is_printed_again cursor rendition start gap wanted ≡ false → approach_bytes cursor rendition start gap wanted ≡ moved
-  approach-moved other = grind (arith, cases_lt, cases_Bool, moved-far, move-none, moved-all, nil_from_length, lt-ltb, again-here)
+  approach-moved other = grind (arith, cases_lt, cases_Bool, moved-far, move-none, min-le_right, le-min, nil_from_length, lt-ltb, again-here)
 
 -- ---- an erasure after it
 

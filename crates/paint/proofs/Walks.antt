@@ -21,7 +21,7 @@ use Rattle.paint.proofs.Strokes.{Strokes-more, Strokes-nothing, Strokes-then, le
 -- ---- what the cells of a line may cost
 
 pub line_bytes-other : (a b : Shown) (old new : List Shown) → same_shown a b ≡ false → line_bytes (a ∷ old) (b ∷ new) ≡ cell_bytes b + line_bytes old new
-line_bytes-other a b old new h = grind (arith)
+line_bytes-other a b old new h = grind arith
 
 pub line_bytes-same : (a b : Shown) (old new : List Shown) → same_shown a b ≡ true → line_bytes (a ∷ old) (b ∷ new) ≡ line_bytes old new
 line_bytes-same a b old new h = grind arith
