@@ -1,10 +1,10 @@
 -- Pictures that differ in some columns only.
-use Rattle.std.proofs.Common.{◌≡◌, ℕ, ◌+◌, ◌<◌, ◌≤◌, inr, false, List, [], ◌++◌, length, get_or, take, drop, sym, ap, ◌∙◌, arith}
+use Rattle.std.proofs.Common.{◌≡◌, ℕ, ◌+◌, ◌<◌, ◌≤◌, false, List, [], ◌++◌, length, get_or, take, drop, sym, ap, ◌∙◌, arith}
 use Rattle.std.proofs.lemmas.List.{ext_get_or, get_or-drop, get_or-take, length-drop, length-take, take-append-drop}
 use Rattle.cell.specs.Pictures.{Picture, HasSize, line_of}
 use Rattle.cell.specs.Shown.{shown_blank}
 use Rattle.cell.proofs.PictureLemmas.{length-line}
-use Rattle.paint.specs.Changes.{DifferOnly, is_in, may_change, no_stretch, stretch_of}
+use Rattle.paint.specs.Changes.{DifferOnly, may_change, no_stretch, stretch_of}
 use Rattle.paint.specs.declared.changes.Stretch.{Stretch}
 use Rattle.paint.specs.steps.Walks.{DifferWithin, IsWithin}
 use Rattle.paint.proofs.Changed.{is_out}
@@ -37,7 +37,7 @@ module _ {lines columns : ℕ} {changes : List Stretch} {shown wanted : Picture}
       ext_get_or shown_blank (line_of shown y) (line_of wanted y) (same-width y below) (λ x left. only.others y x (none x (omega (arith, left, length-line y old_size below))))
 
   pub line-none : (y : ℕ) → y < lines → stretch_of changes y ≡ no_stretch → line_of shown y ≡ line_of wanted y
-  line-none y below none = line-alike y below (λ x left. ap (λ (s : Stretch). is_in s x) none ∙ is_out no_stretch x (inr (omega arith)))
+  line-none y below none = grind (arith, line-alike, is_out)
 
   line-prefix : (y : ℕ) {part : ℕ × ℕ} → y < lines → IsWithin columns (stretch_of changes y) part → take part.0 (line_of shown y) ≡ take part.0 (line_of wanted y)
   line-prefix y below h = take-same shown_blank _ (line_of shown y) (line_of wanted y) (same-width y below) (λ x few left. only.others y x (h.before x few))

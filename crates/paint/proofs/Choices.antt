@@ -1,5 +1,5 @@
 -- A picture is drawn in passes, and what each may cost.
-use Rattle.std.proofs.Common.{◌≡◌, Bool, ℕ, zero, suc, ◌+◌, ◌-◌, ◌<◌, ◌≤◌, true, false, List, [], ◌∷◌, length, get_or, take, drop, inl, inr, refl, sym, ap, ◌∙◌, arith}
+use Rattle.std.proofs.Common.{◌≡◌, Bool, ℕ, zero, suc, ◌+◌, ◌-◌, ◌<◌, ◌≤◌, true, false, List, [], ◌∷◌, length, get_or, take, drop, inl, inr, refl, sym, ◌∙◌, arith}
 use Rattle.std.specs.Prelude.{◌==◌, if◌then◌else◌, nat_lt}
 use Rattle.std.proofs.lemmas.Bool.{cases_Bool, cases_lt, le-ltb, lt-ltb, ltb-true, ne_eqb}
 use Rattle.std.proofs.lemmas.List.{ext_get_or, get_or-drop, length-drop}
@@ -18,7 +18,7 @@ use Rattle.paint.specs.steps.Passes.{choose, choose_lines, is_drawn, pass_of}
 pub length-choose : (p : Rendition → Bool) (shown wanted : List Shown) → length shown ≡ length wanted → length (choose p shown wanted) ≡ length shown
 length-choose p [] wanted same = refl
 length-choose p (a ∷ shown) [] same = absurd (omega arith)
-length-choose p (a ∷ shown) (b ∷ wanted) same = ap (λ n. suc n) (length-choose p shown wanted (omega arith))
+length-choose p (a ∷ shown) (b ∷ wanted) same = grind (arith, length-choose p shown wanted (omega arith))
 
 pub get-choose : (p : Rendition → Bool) (x : ℕ) (shown wanted : List Shown) → length shown ≡ length wanted → x < length shown
     → get_or (choose p shown wanted) x shown_blank ≡ (if p (get_or wanted x shown_blank).rendition then get_or wanted x shown_blank else get_or shown x shown_blank)
@@ -30,27 +30,24 @@ get-choose p (suc x) (a ∷ shown) (b ∷ wanted) same inside = get-choose p x s
 -- a line of which all is shown already
 pub choose-same : (p : Rendition → Bool) (line : List Shown) → choose p line line ≡ line
 choose-same p [] = refl
-choose-same p (a ∷ line) = elim (cases_Bool (p a.rendition)) [
-  | inl h ↦ rw h (ap (λ l. a ∷ l) (choose-same p line))
-  | inr h ↦ rw h (ap (λ l. a ∷ l) (choose-same p line))
-]
+choose-same p (a ∷ line) = grind (arith, cases_Bool, choose-same p line)
 
 pub choose-all : (p : Rendition → Bool) → ((r : Rendition) → p r ≡ true) → (shown wanted : List Shown) → length shown ≡ length wanted → choose p shown wanted ≡ wanted
 choose-all p all [] [] same = refl
 choose-all p all [] (b ∷ wanted) same = absurd (omega arith)
 choose-all p all (a ∷ shown) [] same = absurd (omega arith)
-choose-all p all (a ∷ shown) (b ∷ wanted) same = rw (all b.rendition) (ap (λ l. b ∷ l) (choose-all p all shown wanted (omega arith)))
+choose-all p all (a ∷ shown) (b ∷ wanted) same = grind (arith, choose-all p all shown wanted (omega arith))
 
 pub choose-none : (p : Rendition → Bool) → ((r : Rendition) → p r ≡ false) → (shown wanted : List Shown) → length shown ≡ length wanted → choose p shown wanted ≡ shown
 choose-none p none [] wanted same = refl
 choose-none p none (a ∷ shown) [] same = absurd (omega arith)
-choose-none p none (a ∷ shown) (b ∷ wanted) same = rw (none b.rendition) (ap (λ l. a ∷ l) (choose-none p none shown wanted (omega arith)))
+choose-none p none (a ∷ shown) (b ∷ wanted) same = grind (arith, choose-none p none shown wanted (omega arith))
 
 pub take-choose : (p : Rendition → Bool) (x : ℕ) (shown wanted : List Shown) → take x (choose p shown wanted) ≡ choose p (take x shown) (take x wanted)
 take-choose p zero shown wanted = refl
 take-choose p (suc x) [] wanted = refl
 take-choose p (suc x) (a ∷ shown) [] = refl
-take-choose p (suc x) (a ∷ shown) (b ∷ wanted) = ap (λ l. (if p b.rendition then b else a) ∷ l) (take-choose p x shown wanted)
+take-choose p (suc x) (a ∷ shown) (b ∷ wanted) = grind (arith, take-choose p x shown wanted)
 
 choose-nil : (p : Rendition → Bool) (shown : List Shown) → choose p shown [] ≡ []
 choose-nil p [] = refl
@@ -59,51 +56,41 @@ choose-nil p (a ∷ shown) = refl
 pub drop-choose : (p : Rendition → Bool) (x : ℕ) (shown wanted : List Shown) → drop x (choose p shown wanted) ≡ choose p (drop x shown) (drop x wanted)
 drop-choose p zero shown wanted = refl
 drop-choose p (suc x) [] wanted = refl
-drop-choose p (suc x) (a ∷ shown) [] = sym (choose-nil p (drop x shown))
+drop-choose p (suc x) (a ∷ shown) [] = grind (arith, choose-nil)
 drop-choose p (suc x) (a ∷ shown) (b ∷ wanted) = drop-choose p x shown wanted
 
 -- two choices are the same before a column, and from another on, where the lines are
 pub choices-prefix : (p q : Rendition → Bool) (x : ℕ) (shown wanted : List Shown) → take x shown ≡ take x wanted → take x (choose p shown wanted) ≡ take x (choose q shown wanted)
-choices-prefix p q x shown wanted e =
-    take-choose p x shown wanted ∙ ap (λ l. choose p l (take x wanted)) e ∙ choose-same p (take x wanted)
-    ∙ sym (choose-same q (take x wanted)) ∙ ap (λ l. choose q l (take x wanted)) (sym e) ∙ sym (take-choose q x shown wanted)
+choices-prefix p q x shown wanted e = grind (arith, take-choose, choose-same)
 
 pub choices-back : (p q : Rendition → Bool) (x : ℕ) (shown wanted : List Shown) → drop x shown ≡ drop x wanted → drop x (choose p shown wanted) ≡ drop x (choose q shown wanted)
-choices-back p q x shown wanted e =
-    drop-choose p x shown wanted ∙ ap (λ l. choose p l (drop x wanted)) e ∙ choose-same p (drop x wanted)
-    ∙ sym (choose-same q (drop x wanted)) ∙ ap (λ l. choose q l (drop x wanted)) (sym e) ∙ sym (drop-choose q x shown wanted)
+choices-back p q x shown wanted e = grind (arith, drop-choose, choose-same)
 
 pub choices-alike : (p q : Rendition → Bool) (shown wanted : List Shown) → shown ≡ wanted → choose p shown wanted ≡ choose q shown wanted
-choices-alike p q shown wanted e = ap (λ l. choose p l wanted) e ∙ choose-same p wanted ∙ sym (choose-same q wanted) ∙ ap (λ l. choose q l wanted) (sym e)
+choices-alike p q shown wanted e = grind (arith, choose-same)
 
 -- ---- a cell of a line
-
-if-same : (b : Bool) (a c : Shown) → a ≡ c → (if b then c else a) ≡ c
-if-same true a c e = refl
-if-same false a c e = e
 
 -- a cell that is shown already
 pub get-kept : (p : Rendition → Bool) (x : ℕ) (shown wanted : List Shown) → length shown ≡ length wanted → x < length shown
     → get_or shown x shown_blank ≡ get_or wanted x shown_blank → get_or (choose p shown wanted) x shown_blank ≡ get_or wanted x shown_blank
-get-kept p x shown wanted same inside e =
-    get-choose p x shown wanted same inside ∙ if-same (p (get_or wanted x shown_blank).rendition) (get_or shown x shown_blank) (get_or wanted x shown_blank) e
+get-kept p x shown wanted same inside e = grind (arith, get-choose)
 
 -- a cell of a rendition of which two choices think alike
 pub get-alike : (p q : Rendition → Bool) (x : ℕ) (shown wanted : List Shown) → length shown ≡ length wanted → x < length shown
     → p (get_or wanted x shown_blank).rendition ≡ q (get_or wanted x shown_blank).rendition → get_or (choose p shown wanted) x shown_blank ≡ get_or (choose q shown wanted) x shown_blank
-get-alike p q x shown wanted same inside e =
-    get-choose p x shown wanted same inside ∙ ap (λ b. if b then get_or wanted x shown_blank else get_or shown x shown_blank) e ∙ sym (get-choose q x shown wanted same inside)
+get-alike p q x shown wanted same inside e = grind (arith, get-choose)
 
 pub get-out : (p : Rendition → Bool) (x : ℕ) (shown wanted : List Shown) → length shown ≡ length wanted → x < length shown
     → p (get_or wanted x shown_blank).rendition ≡ false → get_or (choose p shown wanted) x shown_blank ≡ get_or shown x shown_blank
-get-out p x shown wanted same inside e = get-choose p x shown wanted same inside ∙ ap (λ b. if b then get_or wanted x shown_blank else get_or shown x shown_blank) e
+get-out p x shown wanted same inside e = grind (arith, get-choose)
 
 pub get-in : (p : Rendition → Bool) (x : ℕ) (shown wanted : List Shown) → length shown ≡ length wanted → x < length shown
     → p (get_or wanted x shown_blank).rendition ≡ true → get_or (choose p shown wanted) x shown_blank ≡ get_or wanted x shown_blank
-get-in p x shown wanted same inside e = get-choose p x shown wanted same inside ∙ ap (λ b. if b then get_or wanted x shown_blank else get_or shown x shown_blank) e
+get-in p x shown wanted same inside e = grind (arith, get-choose)
 
 pub same-cells : (a b : Shown) → a ≡ b → same_shown a b ≡ true
-same-cells a b e = ap (same_shown a) (sym e) ∙ same_shown-self a
+same-cells a b e = grind (arith, same_shown-self)
 
 -- cells that are shown already are those of the wanted line
 pub part-kept : (p : Rendition → Bool) (start x : ℕ) (shown wanted : List Shown) → length shown ≡ length wanted → start ≤ x → x ≤ length shown
@@ -122,7 +109,7 @@ part-kept p start x shown wanted same ordered inside kept =
 pub length-lines : (p : Rendition → Bool) (shown wanted : Picture) → length shown ≡ length wanted → length (choose_lines p shown wanted) ≡ length shown
 length-lines p [] wanted same = refl
 length-lines p (line ∷ shown) [] same = absurd (omega arith)
-length-lines p (line ∷ shown) (other ∷ wanted) same = ap (λ n. suc n) (length-lines p shown wanted (omega arith))
+length-lines p (line ∷ shown) (other ∷ wanted) same = grind (arith, length-lines p shown wanted (omega arith))
 
 pub line-choose : (p : Rendition → Bool) (y : ℕ) (shown wanted : Picture) → y < length shown → length shown ≡ length wanted
     → line_of (choose_lines p shown wanted) y ≡ choose p (line_of shown y) (line_of wanted y)
@@ -134,23 +121,17 @@ line-choose p (suc y) (line ∷ shown) (other ∷ wanted) inside same = line-cho
 -- ---- passes
 
 pub none-before : (order : List Rendition) (rendition : Rendition) → is_drawn order 0 rendition ≡ false
-none-before order rendition = le-ltb (pass_of order rendition) 0 (omega arith)
+none-before order rendition = grind (arith, le-ltb)
 
 pass-few : (order : List Rendition) (rendition : Rendition) → pass_of order rendition ≤ length order
 pass-few [] rendition = omega arith
-pass-few (first ∷ order) rendition = elim (cases_Bool (same_rendition first rendition)) [
-  | inl h ↦ rw h (omega arith)
-  | inr h ↦ rw h (omega (arith, pass-few order rendition))
-]
+pass-few (first ∷ order) rendition = grind (arith, cases_Bool, pass-few order rendition)
 
 -- what a pass with a rendition of its own draws has that
 own-pass : (none : Rendition) (order : List Rendition) (rendition : Rendition) (pass : ℕ) → pass < length order → pass_of order rendition ≡ pass
     → same_rendition (get_or order pass none) rendition ≡ true
 own-pass none [] rendition pass few is = absurd (omega arith)
-own-pass none (first ∷ order) rendition zero few is = elim (cases_Bool (same_rendition first rendition)) [
-  | inl h ↦ h
-  | inr h ↦ let later = rw h at is in absurd (omega (arith, later))
-]
+own-pass none (first ∷ order) rendition zero few is = grind (arith, cases_Bool)
 own-pass none (first ∷ order) rendition (suc pass) few is = elim (cases_Bool (same_rendition first rendition)) [
   | inl h ↦ let here = rw h at is in absurd (omega (arith, here))
   | inr h ↦ let later = rw h at is in own-pass none order rendition pass (omega arith) (omega (arith, later))
@@ -159,39 +140,33 @@ own-pass none (first ∷ order) rendition (suc pass) few is = elim (cases_Bool (
 -- what has another rendition isn't drawn by it
 pub not-drawn : (none : Rendition) (pass : ℕ) (order : List Rendition) (rendition : Rendition) → pass < length order → same_rendition (get_or order pass none) rendition ≡ false
     → false ≡ (pass_of order rendition == pass)
-not-drawn none pass order rendition few other = sym (ne_eqb (pass_of order rendition) pass (λ is. let own : true ≡ false = sym (own-pass none order rendition pass few is) ∙ other in absurd cc))
+not-drawn none pass order rendition few other = grind (arith, ne_eqb, own-pass)
 
 -- what another pass draws
 pub other-pass : (n pass : ℕ) → (n ≡ pass → ⊥) → nat_lt n pass ≡ nat_lt n (pass + 1)
-other-pass n pass other = elim (cases_lt n pass) [
-  | inl h ↦ lt-ltb n pass h ∙ sym (lt-ltb n (pass + 1) (omega arith))
-  | inr h ↦ elim (cases_lt pass n) [
-    | inl k ↦ le-ltb n pass h ∙ sym (le-ltb n (pass + 1) (omega arith))
-    | inr k ↦ absurd (other (omega arith))
-  ]
-]
+other-pass n pass other = grind (arith, cases_lt, lt-ltb, le-ltb)
 
 -- what this one draws
 pub not-yet : (n pass : ℕ) → n ≡ pass → nat_lt n pass ≡ false
-not-yet n pass e = le-ltb n pass (omega arith)
+not-yet n pass e = grind (arith, le-ltb)
 
 pub now-drawn : (n pass : ℕ) → n ≡ pass → nat_lt n (pass + 1) ≡ true
-now-drawn n pass e = lt-ltb n (pass + 1) (omega arith)
+now-drawn n pass e = grind (arith, lt-ltb)
 
 pub all-after : (order : List Rendition) (rendition : Rendition) → is_drawn order (length order + 1) rendition ≡ true
-all-after order rendition = lt-ltb (pass_of order rendition) (length order + 1) (omega (arith, pass-few order rendition))
+all-after order rendition = grind (arith, lt-ltb, pass-few)
 
 pub once-drawn : (order : List Rendition) (passes : ℕ) (rendition : Rendition) → is_drawn order passes rendition ≡ true → is_drawn order (passes + 1) rendition ≡ true
-once-drawn order passes rendition h = lt-ltb (pass_of order rendition) (passes + 1) (omega (arith, ltb-true (pass_of order rendition) passes h))
+once-drawn order passes rendition h = grind (arith, lt-ltb, ltb-true)
 
 -- ---- whole pictures
 
 module _ (p : Rendition → Bool) {lines columns : ℕ} {shown wanted : Picture} (old_size : HasSize lines columns shown) (new_size : HasSize lines columns wanted) where
   pub high : length (choose_lines p shown wanted) ≡ length shown
-  high = length-lines p shown wanted (old_size.height ∙ sym new_size.height)
+  high = grind (arith, length-lines)
 
   pub line-at : (y : ℕ) → y < lines → line_of (choose_lines p shown wanted) y ≡ choose p (line_of shown y) (line_of wanted y)
-  line-at y below = line-choose p y shown wanted (omega (arith, old_size.height)) (old_size.height ∙ sym new_size.height)
+  line-at y below = grind (arith, line-choose)
 
   wide : (y : ℕ) → y < lines → length (line_of shown y) ≡ length (line_of wanted y)
   wide y below = length-line y old_size below ∙ sym (length-line y new_size below)
@@ -209,7 +184,7 @@ module _ (p : Rendition → Bool) {lines columns : ℕ} {shown wanted : Picture}
 -- two choices among the lines of two pictures
 module _ (p q : Rendition → Bool) {lines columns : ℕ} {shown wanted : Picture} (old_size : HasSize lines columns shown) (new_size : HasSize lines columns wanted) where
   pub chosen-heights : length (choose_lines p shown wanted) ≡ length (choose_lines q shown wanted)
-  chosen-heights = high p old_size new_size ∙ sym (high q old_size new_size)
+  chosen-heights = grind (arith, high)
 
   -- a line that is the same in both pictures is the same after each
   pub chosen-alike : (y : ℕ) → y < lines → line_of shown y ≡ line_of wanted y → line_of (choose_lines p shown wanted) y ≡ line_of (choose_lines q shown wanted) y
@@ -231,35 +206,19 @@ cost-self : (a : Shown) → cost a a ≡ 0
 cost-self a = cost-same a a (same_shown-self a)
 
 line-cost : (a b : Shown) (old new : List Shown) → line_bytes (a ∷ old) (b ∷ new) ≡ cost a b + line_bytes old new
-line-cost a b old new = elim (cases_Bool (same_shown a b)) [
-  | inl h ↦ omega (arith, line_bytes-same a b old new h, cost-same a b h)
-  | inr h ↦ omega (arith, line_bytes-other a b old new h, cost-other a b h)
-]
+line-cost a b old new = grind (arith, cases_Bool, line_bytes-same, cost-same, line_bytes-other, cost-other)
 
 cell-left : (p q : Bool) (a b : Shown) → (p ≡ true → q ≡ true) → cost (if p then b else a) (if q then b else a) + cost (if q then b else a) b ≤ cost (if p then b else a) b
-cell-left true true a b kept = omega (arith, cost-self b)
-cell-left true false a b kept = let none : false ≡ true = kept refl in absurd cc
-cell-left false true a b kept = omega (arith, cost-self b)
-cell-left false false a b kept = omega (arith, cost-self a)
+cell-left p q a b kept = grind (arith, cost-self)
 
 line-left : (p q : Rendition → Bool) → ((r : Rendition) → p r ≡ true → q r ≡ true) → (shown wanted : List Shown)
     → line_bytes (choose p shown wanted) (choose q shown wanted) + line_bytes (choose q shown wanted) wanted ≤ line_bytes (choose p shown wanted) wanted
 line-left p q kept [] wanted = omega arith
 line-left p q kept (a ∷ shown) [] = omega arith
-line-left p q kept (a ∷ shown) (b ∷ wanted) =
-    let one = if p b.rendition then b else a in
-    let other = if q b.rendition then b else a in
-    omega (
-      arith,
-      line-cost one other (choose p shown wanted) (choose q shown wanted),
-      line-cost other b (choose q shown wanted) wanted,
-      line-cost one b (choose p shown wanted) wanted,
-      cell-left (p b.rendition) (q b.rendition) a b (kept b.rendition),
-      line-left p q kept shown wanted,
-    )
+line-left p q kept (a ∷ shown) (b ∷ wanted) = grind (arith, line-cost, cell-left, line-left p q kept shown wanted)
 
 pub lines-left : (p q : Rendition → Bool) → ((r : Rendition) → p r ≡ true → q r ≡ true) → (shown wanted : Picture)
     → picture_bytes (choose_lines p shown wanted) (choose_lines q shown wanted) + picture_bytes (choose_lines q shown wanted) wanted ≤ picture_bytes (choose_lines p shown wanted) wanted
 lines-left p q kept [] wanted = omega arith
 lines-left p q kept (line ∷ shown) [] = omega arith
-lines-left p q kept (line ∷ shown) (other ∷ wanted) = omega (arith, line-left p q kept line other, lines-left p q kept shown wanted)
+lines-left p q kept (line ∷ shown) (other ∷ wanted) = grind (arith, line-left, lines-left p q kept shown wanted)

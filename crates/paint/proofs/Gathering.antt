@@ -17,11 +17,11 @@ goes_out-failed start now sent text h = rw append-nil h
 -- ---- the room is sent
 
 Sends-after : {before after : Seen} {piece : List ℕ} {n : ℕ} (sent : ℕ) → Sends before after 0 piece (Ok n) → Sends before after sent piece (Ok (sent + n))
-Sends-after sent h = record { ends = (omega (arith, h.ends.0), h.ends.1, h.ends.2); flushes = h.flushes }
+Sends-after sent h = grind arith
 
 Sends-after_fault : {before after : Seen} {piece : List ℕ} {fault : WriteFault} (sent : ℕ) → Sends before after 0 piece (Err fault)
     → Sends before after sent piece (Err (record { sent = sent + fault.sent }))
-Sends-after_fault sent h = record { ends = (h.ends.0, h.ends.1, omega (arith, h.ends.2), h.ends.3, h.ends.4); flushes = h.flushes }
+Sends-after_fault sent h = grind arith
 
 pub goes_out-sent : (start mid now : Seen) (room : List ℕ) (sent n total : ℕ) (text : List ℕ) → GoesOut false start mid room sent text → Sends mid now 0 room (Ok n)
     → total ≡ min (sent + n) (2 ^ 32 - 1) → GoesOut false start now [] total (text ++ [])
@@ -47,4 +47,4 @@ goes_out-anew false sent start now seen room text h k =
 
 -- a text of which nothing went out may go to any sink
 pub gathered-anew : {start now : Seen} {outbox : Outbox} {text : List ℕ} (seen : Seen) → holds_all outbox ≡ true → IsGathered start now outbox text → IsGathered seen seen outbox text
-gathered-anew {start} {now} {outbox} {text} seen all h = record { goes_out = goes_out-anew outbox.failed outbox.sent start now seen outbox.room text all h.goes_out }
+gathered-anew seen all h = grind (arith, goes_out-anew)

@@ -1,12 +1,11 @@
 -- The strokes of a doupdate make a text of it.
-use Rattle.std.proofs.Common.{◌≡◌, Bool, true, false, ℕ, ◌*◌, ◌<◌, ◌≤◌, List, [], ◌∷◌, ◌++◌, length, Option, Some, None, refl, sym, ap, ◌∙◌, subst, arith, append_assoc, length-append}
-use Rattle.std.specs.Prelude.{if◌then◌else◌}
+use Rattle.std.proofs.Common.{◌≡◌, Bool, ℕ, ◌*◌, ◌<◌, ◌≤◌, List, [], ◌∷◌, ◌++◌, length, Option, Some, None, refl, sym, ap, ◌∙◌, subst, arith, append_assoc, length-append}
 use Rattle.std.specs.List.{AllByRecursion}
 use Rattle.std.proofs.lemmas.List.{nil_from_length}
-use Rattle.cell.specs.Shown.{Shown, no_rendition, has_colour}
+use Rattle.cell.specs.Shown.{Shown, no_rendition}
 use Rattle.cell.specs.Pictures.{Picture, Place, HasSize, line_of}
 use Rattle.cell.proofs.PictureLemmas.{length-line}
-use Rattle.cell.specs.Differences.{same_shown, line_difference, difference}
+use Rattle.cell.specs.Differences.{line_difference, difference}
 use Rattle.ecma.specs.Difference.{line_colour_difference, colour_difference}
 use Rattle.ecma.specs.Streams.{Leads, Shows, showing}
 use Rattle.ecma.specs.Terminals.{Terminal}
@@ -31,40 +30,30 @@ Leads-empty t u h = Reaches-unique [] 0 t t u (Reaches-in_profile [] t t (Leads-
 
 -- ---- how many places differ
 
-coloured-few : (b c : Bool) → (if b then 0 else if c then 1 else 0) ≤ (if b then 0 else 1)
-coloured-few true c = omega arith
-coloured-few false true = omega arith
-coloured-few false false = omega arith
-
 line-coloured : (old new : List Shown) → line_colour_difference old new ≤ line_difference old new
 line-coloured [] new = omega arith
 line-coloured (a ∷ old) [] = omega arith
-line-coloured (a ∷ old) (b ∷ new) = omega (arith, coloured-few (same_shown a b) (has_colour b.rendition), line-coloured old new)
+line-coloured (a ∷ old) (b ∷ new) = grind (arith, line-coloured old new)
 
 coloured : (old new : Picture) → colour_difference old new ≤ difference old new
 coloured [] new = omega arith
 coloured (line ∷ old) [] = omega arith
-coloured (line ∷ old) (other ∷ new) = omega (arith, line-coloured line other, coloured old new)
-
-one-most : (b : Bool) → (if b then 0 else 1) ≤ 1
-one-most true = omega arith
-one-most false = omega arith
+coloured (line ∷ old) (other ∷ new) = grind (arith, line-coloured, coloured old new)
 
 line-most : (old new : List Shown) → line_difference old new ≤ length old
 line-most [] new = omega arith
 line-most (a ∷ old) [] = omega arith
-line-most (a ∷ old) (b ∷ new) = omega (arith, one-most (same_shown a b), line-most old new)
+line-most (a ∷ old) (b ∷ new) = grind (arith, line-most old new)
 
 most : (columns : ℕ) (old new : Picture) → columns ≤ LARGEST_SCREEN → AllByRecursion (λ line. length line ≡ columns) old → difference old new ≤ LARGEST_SCREEN * length old
 most columns [] new few wide = omega arith
 most columns (line ∷ old) [] few wide = omega arith
-most columns (line ∷ old) (other ∷ new) few wide = omega (arith, line-most line other, wide.0, most columns old new few wide.1)
+most columns (line ∷ old) (other ∷ new) few wide = grind (arith, line-most, most columns old new few wide.1)
 
 -- ---- the end of a text
 
 opening-few : (last : Option ShownPicture) → length (opening_from last) ≤ 14
-opening-few None = omega arith
-opening-few (Some shown) = omega arith
+opening-few shown = grind arith
 
 moved : (cursor place : Place) → change no_rendition no_rendition ++ move_from (Some cursor) place ≡ move cursor place
 unfolding change move_from
@@ -79,7 +68,7 @@ shows-from : (painter : PainterState) (last : Option ShownPicture) (wanted : Sho
 shows-from painter None wanted rest lines columns shows t size =
     Leads-append opening rest t (showing (start_from painter None).picture (start_from painter None).cursor) (showing wanted.picture wanted.cursor)
     (opening-leads painter.lines painter.columns t size lines columns) shows
-shows-from painter (Some shown) wanted rest lines columns shows t is = subst (λ u. Shows rest u wanted.picture wanted.cursor) (sym is) shows
+shows-from painter (Some shown) wanted rest lines columns shows t is = grind arith
 
 module _ (painter : PainterState) (clear : Bool) (wanted : ShownPicture) {a b c : Seen} {first drawn last : Pen} where
   -- a pen at the start drew the wanted picture, and went to its end

@@ -1,5 +1,5 @@
 -- Lines that are the same before one column and from another one on.
-use Rattle.std.proofs.Common.{◌≡◌, ℕ, ◌+◌, ◌-◌, ◌<◌, ◌≤◌, List, ◌++◌, length, get_or, take, drop, refl, sym, ap, ◌∙◌, arith}
+use Rattle.std.proofs.Common.{◌≡◌, ℕ, ◌+◌, ◌-◌, ◌<◌, ◌≤◌, List, ◌++◌, length, get_or, take, drop, sym, ap, ◌∙◌, arith}
 use Rattle.std.proofs.Math.Seq.{take-add}
 use Rattle.std.proofs.lemmas.List.{drop-append-le, drop-drop, get_or-take, length-drop, length-take, length-take-le, take-append-drop, take-take}
 use Rattle.cell.specs.Differences.{DiffersAt}
@@ -20,7 +20,7 @@ differs-within start n x old new h =
 module _ (start end : ℕ) (old new : List Shown) (ordered : start ≤ end) (inside : end ≤ length old) (same : length old ≡ length new)
     (before : take start old ≡ take start new) (after : drop end old ≡ drop end new) where
   rest : (cells : List Shown) → drop (end - start) (drop start cells) ≡ drop end cells
-  rest cells = let split : start + (end - start) ≡ end = omega arith in drop-drop (end - start) start cells ∙ ap (λ n. drop n cells) split
+  rest cells = grind (arith, drop-drop)
 
   -- the lines are one where the parts between the columns are
   pub same-between : take (end - start) (drop start old) ≡ take (end - start) (drop start new) → old ≡ new
@@ -31,12 +31,10 @@ module _ (start end : ℕ) (old new : List Shown) (ordered : start ≤ end) (ins
 
   -- and the same up to a column of theirs up to which the parts are
   pub prefix-between : (x : ℕ) → x ≤ end - start → take x (take (end - start) (drop start old)) ≡ take x (take (end - start) (drop start new)) → take (start + x) old ≡ take (start + x) new
-  prefix-between x few prefix =
-      let middle : take x (drop start old) ≡ take x (drop start new) = sym (take-take x (end - start) (drop start old) few) ∙ prefix ∙ take-take x (end - start) (drop start new) few in
-      take-add start x old ∙ (λ i. before i ++ middle i) ∙ sym (take-add start x new)
+  prefix-between x few prefix = grind (arith, take-take, take-add)
 
   part-length : (cells : List Shown) → length cells ≡ length old → length (take (end - start) (drop start cells)) ≡ end - start
-  part-length cells long = length-take-le (end - start) (drop start cells) (omega (arith, length-drop start cells, long))
+  part-length cells long = grind (arith, length-take-le, length-drop)
 
   part-rest : (cells : List Shown) → length cells ≡ length old → (x : ℕ) → x ≤ end - start → drop (start + x) cells ≡ drop x (take (end - start) (drop start cells)) ++ drop end cells
   part-rest cells long x few =
@@ -47,8 +45,8 @@ module _ (start end : ℕ) (old new : List Shown) (ordered : start ≤ end) (ins
 
   -- and the same from one on from which the parts are
   pub back-between : (x : ℕ) → x ≤ end - start → drop x (take (end - start) (drop start old)) ≡ drop x (take (end - start) (drop start new)) → drop (start + x) old ≡ drop (start + x) new
-  back-between x few back = part-rest old refl x few ∙ (λ i. back i ++ after i) ∙ sym (part-rest new (sym same) x few)
+  back-between x few back = grind (arith, part-rest)
 
 -- a line that has a cell other than a blank isn't blank from there or before on
 pub not-blank : (x y : ℕ) (cells : List Shown) → x ≤ y → (get_or cells y shown_blank ≡ shown_blank → ⊥) → AreBlank (drop x cells) → ⊥
-not-blank x y cells ordered other blank = other (sym (kept-at (λ _. shown_blank) shown_blank refl x y cells ordered blank))
+not-blank x y cells ordered other blank = grind (arith, kept-at)

@@ -1,10 +1,10 @@
 -- The order of the passes for renditions as they come.
-use Rattle.std.proofs.Common.{◌≡◌, ℕ, zero, suc, ◌+◌, ◌-◌, ◌<◌, ◌≤◌, ◌==◌, ◌&&◌, true, false, List, [], ◌∷◌, ◌++◌, length, get_or, take, drop, inl, inr}
+use Rattle.std.proofs.Common.{◌≡◌, ℕ, zero, suc, ◌+◌, ◌-◌, ◌<◌, ◌≤◌, true, false, List, [], ◌∷◌, ◌++◌, length, get_or, take, drop, inl, inr}
 use Rattle.std.proofs.Common.{refl, sym, ap, ◌∙◌, subst, arith, append_assoc, append-nil, length-append}
 use Rattle.std.specs.Prelude.{if◌then◌else◌, nat_lt}
 use Rattle.std.proofs.lemmas.Bool.{and_parts, cases_Bool, cases_lt, le-ltb, lt-ltb, ne_eqb}
 use Rattle.std.proofs.lemmas.List.{drop-take, take-take, take_all}
-use Rattle.cell.specs.EqualityLaws.{same_rendition-equal, same_rendition-equivalence, same_shown-self}
+use Rattle.cell.specs.EqualityLaws.{same_rendition-equal, same_shown-self}
 use Rattle.cell.specs.Pictures.{Picture, line_of}
 use Rattle.cell.specs.Shown.{Rendition, Shown, no_rendition, shown_blank}
 use Rattle.cell.specs.Differences.{same_rendition, same_shown}
@@ -23,18 +23,15 @@ pub renditions-split : (x : ℕ) (shown wanted : List Shown)
     → line_renditions shown wanted ≡ line_renditions (take x shown) (take x wanted) ++ line_renditions (drop x shown) (drop x wanted)
 renditions-split zero shown wanted = refl
 renditions-split (suc x) [] wanted = refl
-renditions-split (suc x) (a ∷ shown) [] = sym (renditions-nil (drop x shown))
-renditions-split (suc x) (a ∷ shown) (b ∷ wanted) = elim (cases_Bool (same_shown a b)) [
-  | inl same ↦ rw same (renditions-split x shown wanted)
-  | inr other ↦ rw other (ap (λ l. b.rendition ∷ l) (renditions-split x shown wanted))
-]
+renditions-split (suc x) (a ∷ shown) [] = grind (arith, renditions-nil)
+renditions-split (suc x) (a ∷ shown) (b ∷ wanted) = grind (arith, cases_Bool, renditions-split x shown wanted)
 
 pub renditions-same : (line : List Shown) → line_renditions line line ≡ []
 renditions-same [] = refl
 renditions-same (a ∷ line) = rw (same_shown-self a) (renditions-same line)
 
 renditions-alike : (one other : List Shown) → one ≡ other → line_renditions one other ≡ []
-renditions-alike one other same = ap (λ l. line_renditions l other) same ∙ renditions-same other
+renditions-alike one other same = grind (arith, renditions-same)
 
 -- the next cell
 renditions-suc : (x : ℕ) (shown wanted : List Shown) → x < length shown → length shown ≡ length wanted
@@ -43,16 +40,12 @@ renditions-suc : (x : ℕ) (shown wanted : List Shown) → x < length shown → 
 renditions-suc x [] wanted inside same = absurd (omega arith)
 renditions-suc x (a ∷ shown) [] inside same = absurd (omega arith)
 renditions-suc zero (a ∷ shown) (b ∷ wanted) inside same = refl
-renditions-suc (suc x) (a ∷ shown) (b ∷ wanted) inside same = elim (cases_Bool (same_shown a b)) [
-  | inl alike ↦ rw alike (renditions-suc x shown wanted (omega arith) (omega arith))
-  | inr other ↦ rw other (ap (λ l. b.rendition ∷ l) (renditions-suc x shown wanted (omega arith) (omega arith)))
-]
+renditions-suc (suc x) (a ∷ shown) (b ∷ wanted) inside same = grind (arith, cases_Bool, renditions-suc x shown wanted (omega arith) (omega arith))
 
 pub renditions-next : (x : ℕ) (shown wanted : List Shown) → x < length shown → length shown ≡ length wanted
     → line_renditions (take (x + 1) shown) (take (x + 1) wanted)
     ≡ line_renditions (take x shown) (take x wanted) ++ line_renditions (get_or shown x shown_blank ∷ []) (get_or wanted x shown_blank ∷ [])
-renditions-next x shown wanted inside same =
-    let next : x + 1 ≡ suc x = omega arith in ap (λ n. line_renditions (take n shown) (take n wanted)) next ∙ renditions-suc x shown wanted inside same
+renditions-next x shown wanted inside same = grind (arith, renditions-suc)
 
 drop-taken : (start end : ℕ) (cells : List Shown) → start ≤ end → drop start (take end cells) ≡ take (end - start) (drop start cells)
 drop-taken start end cells ordered =
@@ -83,19 +76,16 @@ picture-suc : (y : ℕ) (shown wanted : Picture) → y < length shown → length
     → changed_renditions (take (suc y) shown) (take (suc y) wanted) ≡ changed_renditions (take y shown) (take y wanted) ++ line_renditions (line_of shown y) (line_of wanted y)
 picture-suc y [] wanted inside same = absurd (omega arith)
 picture-suc y (line ∷ shown) [] inside same = absurd (omega arith)
-picture-suc zero (line ∷ shown) (other ∷ wanted) inside same = append-nil (line_renditions line other)
-picture-suc (suc y) (line ∷ shown) (other ∷ wanted) inside same =
-    ap (λ l. line_renditions line other ++ l) (picture-suc y shown wanted (omega arith) (omega arith))
-    ∙ sym (append_assoc (line_renditions line other) (changed_renditions (take y shown) (take y wanted)) (line_renditions (line_of shown y) (line_of wanted y)))
+picture-suc zero (line ∷ shown) (other ∷ wanted) inside same = grind (arith, append-nil)
+picture-suc (suc y) (line ∷ shown) (other ∷ wanted) inside same = grind (arith, append_assoc, picture-suc y shown wanted (omega arith) (omega arith))
 
 pub picture-next : (y : ℕ) (shown wanted : Picture) → y < length shown → length shown ≡ length wanted
     → changed_renditions (take (y + 1) shown) (take (y + 1) wanted) ≡ changed_renditions (take y shown) (take y wanted) ++ line_renditions (line_of shown y) (line_of wanted y)
-picture-next y shown wanted inside same =
-    let next : y + 1 ≡ suc y = omega arith in ap (λ n. changed_renditions (take n shown) (take n wanted)) next ∙ picture-suc y shown wanted inside same
+picture-next y shown wanted inside same = grind (arith, picture-suc)
 
 passed-by : (n y : ℕ) (shown wanted : Picture) → y + n ≤ length shown → length shown ≡ length wanted → ((v : ℕ) → y ≤ v → v < y + n → line_of shown v ≡ line_of wanted v)
     → changed_renditions (take (y + n) shown) (take (y + n) wanted) ≡ changed_renditions (take y shown) (take y wanted)
-passed-by zero y shown wanted inside same alike = let none : y + 0 ≡ y = omega arith in ap (λ k. changed_renditions (take k shown) (take k wanted)) none
+passed-by zero y shown wanted inside same alike = grind arith
 passed-by (suc n) y shown wanted inside same alike =
     let next : y + suc n ≡ y + n + 1 = omega arith in
     ap (λ k. changed_renditions (take k shown) (take k wanted)) next
@@ -123,58 +113,23 @@ picture-whole y shown wanted inside same alike =
 -- ---- the order
 
 same-self : (rendition : Rendition) → same_rendition rendition rendition ≡ true
-same-self = same_rendition-equivalence.refl
+same-self = grind arith
 
 -- a rendition at the end of an order has a pass
 has_pass : (order : List Rendition) (rendition : Rendition) → pass_of (order ++ rendition ∷ []) rendition < length order + 1
-has_pass [] rendition = rw (same-self rendition) (omega arith)
-has_pass (first ∷ order) rendition = elim (cases_Bool (same_rendition first rendition)) [
-  | inl same ↦ rw same (omega arith)
-  | inr other ↦ rw other (omega (arith, has_pass order rendition))
-]
-
-with_pass-had : (order : List Rendition) (rendition : Rendition) → pass_of order rendition < length order → with_pass order rendition ≡ order
-with_pass-had order rendition had = rw (ne_eqb (pass_of order rendition) (length order) (λ same. omega (arith, same, had))) refl
-
-with_pass-twice : (order : List Rendition) (rendition : Rendition) → with_pass (with_pass order rendition) rendition ≡ with_pass order rendition
-with_pass-twice order rendition = elim (cases_Bool (pass_of order rendition == length order && nat_lt (length order) MOST)) [
-  | inl more ↦
-      rw more (with_pass-had (order ++ rendition ∷ []) rendition (omega (arith, has_pass order rendition, length-append order (rendition ∷ []))))
-  | inr full ↦ rw full (rw full refl)
-]
+has_pass [] rendition = grind (arith, same-self)
+has_pass (first ∷ order) rendition = grind (arith, cases_Bool, has_pass order rendition)
 
 -- ---- what was taken note of
 
-more-selected : (n m k : ℕ) → n ≡ saturating_usize (m + 1) → saturating_usize (n + k) ≡ saturating_usize (m + (1 + k))
-more-selected n m k is = omega (arith, is)
-
 -- the last one again
 noted-again : {renditions : Renditions} {came : List Rendition} → HasNoted renditions came → HasNoted renditions (came ++ renditions.last ∷ [])
-noted-again {renditions} {came} h = record {
-  order = λ coming.
-      ap (λ l. order_after l coming) (sym h.noted) ∙ h.order (renditions.last ∷ coming)
-      ∙ ap (order_after (no_rendition ∷ [])) (sym (append_assoc came (renditions.last ∷ []) coming));
-  selected = λ coming.
-      let once : selections renditions.last (renditions.last ∷ coming) ≡ selections renditions.last coming = rw (same-self renditions.last) (omega arith) in
-      ap (λ n. saturating_usize (renditions.switches + n)) (sym once) ∙ h.selected (renditions.last ∷ coming)
-      ∙ ap (λ l. saturating_usize (selections no_rendition l)) (sym (append_assoc came (renditions.last ∷ []) coming));
-  noted = h.noted;
-}
+noted-again h = grind (arith, append_assoc, same-self)
 
 -- another one
 pub noted-next : {old new : Renditions} {came : List Rendition} (rendition : Rendition) → HasNoted old came → same_rendition rendition old.last ≡ false
     → new.order ≡ with_pass old.order rendition → new.last ≡ rendition → new.switches ≡ saturating_usize (old.switches + 1) → HasNoted new (came ++ rendition ∷ [])
-noted-next {old} {new} {came} rendition h other order last switches = record {
-  order = λ coming.
-      ap (λ l. order_after l coming) order ∙ h.order (rendition ∷ coming) ∙ ap (order_after (no_rendition ∷ [])) (sym (append_assoc came (rendition ∷ []) coming));
-  selected = λ coming.
-      let once : selections old.last (rendition ∷ coming) ≡ 1 + selections rendition coming = rw other refl in
-      ap (λ r. saturating_usize (new.switches + selections r coming)) last
-      ∙ more-selected new.switches old.switches (selections rendition coming) switches
-      ∙ ap (λ n. saturating_usize (old.switches + n)) (sym once) ∙ h.selected (rendition ∷ coming)
-      ∙ ap (λ l. saturating_usize (selections no_rendition l)) (sym (append_assoc came (rendition ∷ []) coming));
-  noted = (λ i. with_pass (order i) (last i)) ∙ with_pass-twice old.order rendition ∙ sym order;
-}
+noted-next rendition h other order last switches = grind (arith, append_assoc, cases_Bool, ne_eqb, has_pass, length-append)
 
 -- changed cells that all have the last one
 pub noted-all : {renditions : Renditions} {came : List Rendition} (shown wanted : List Shown) → all_have renditions.last wanted ≡ true → HasNoted renditions came
@@ -205,10 +160,7 @@ noted-shown a b h same = rw (same, append-nil) h
 -- ---- the order of all of them
 
 same-tests : (length_order n m : ℕ) → length_order ≤ MOST → saturating_usize n ≡ saturating_usize m → nat_lt length_order n ≡ nat_lt length_order m
-same-tests few n m most same = elim (cases_lt few n) [
-  | inl less ↦ lt-ltb few n less ∙ sym (lt-ltb few m (omega arith))
-  | inr past ↦ le-ltb few n past ∙ sym (le-ltb few m (omega arith))
-]
+same-tests few n m most same = grind (arith, cases_lt, lt-ltb, le-ltb)
 
 pub noted-order : {renditions : Renditions} {came : List Rendition} → HasNoted renditions came → length renditions.order ≤ MOST
     → (if nat_lt (length renditions.order) (renditions.switches + selections renditions.last []) then renditions.order else []) ≡ order_for came

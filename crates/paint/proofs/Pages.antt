@@ -1,5 +1,5 @@
 -- The blank end of a page is erased.
-use Rattle.std.proofs.Common.{◌≡◌, ℕ, ◌+◌, ◌<◌, ◌≤◌, [], ◌∷◌, ◌++◌, length, set, map, take, drop, sym, ap, ◌∙◌, subst, arith}
+use Rattle.std.proofs.Common.{◌≡◌, ℕ, ◌+◌, ◌<◌, ◌≤◌, [], ◌∷◌, length, set, map, take, drop, sym, ap, ◌∙◌, arith}
 use Rattle.std.proofs.lemmas.List.{drop_more, drop-set-lt, length-drop, take-append-drop}
 use Rattle.std.proofs.lemmas.List.Elements.{All-from_recursion, recursion_from_All, All-drop}
 use Rattle.cell.specs.Pictures.{Picture, HasSize, blank_picture, line_of}
@@ -41,13 +41,13 @@ module _ {lines columns : ℕ} {shown wanted : Picture} (old_size : HasSize line
   before = set (with_prefix y wanted shown) y (with_prefix x (line_of wanted y) (line_of shown y))
 
   same : length shown ≡ length wanted
-  same = old_size.height ∙ sym new_size.height
+  same = grind arith
 
   same-lines : length (line_of shown y) ≡ length (line_of wanted y)
   same-lines = length-line y old_size inside ∙ sym (length-line y new_size inside)
 
   prefix : take (y + 1) (set (with_prefix y wanted shown) y (line_of wanted y)) ≡ take (y + 1) wanted
-  prefix = ap (take (y + 1)) (with_prefix-more [] y wanted shown (omega (arith, old_size.height)) same) ∙ take-with_prefix (y + 1) wanted shown (omega (arith, new_size.height))
+  prefix = grind (arith, with_prefix-more, same, take-with_prefix)
 
   back : map blank_line (drop (y + 1) before) ≡ drop (y + 1) wanted
   back =
@@ -58,17 +58,10 @@ module _ {lines columns : ℕ} {shown wanted : Picture} (old_size : HasSize line
       ∙ kept-later blank_line blank (y + 1) wanted below all_blank
 
   erased : erased_page ToEnd (y, e) before ≡ wanted
-  erased =
-      let line = erased-with_prefix (with_prefix y wanted shown) y e x (line_of shown y) (line_of wanted y) same-lines
-      (omega (arith, length-with_prefix y wanted shown same, old_size.height)) before_x few tail in
-      (λ i. take (y + 1) (line i) ++ back i) ∙ ap (λ rows. rows ++ drop (y + 1) wanted) prefix ∙ take-append-drop (y + 1) wanted
+  erased = grind (arith, erased-with_prefix, same-lines, length-with_prefix, same, back, prefix, take-append-drop)
 
   pub drawn : {c d : Seen} {next last : Pen} → ((picture : Picture) → Draws (spelling (Ed ToEnd)) c d next last picture (erased_page ToEnd (y, e) picture)) → Strokes 4 c d next last before wanted
-  drawn {c} {d} {next} {last} draws = record {
-    piece = spelling (Ed ToEnd);
-    draws = subst (Draws (spelling (Ed ToEnd)) c d next last before) erased (draws before);
-    short = length-spelling (Ed ToEnd) tt;
-  }
+  drawn draws = grind (arith, erased, length-spelling)
 
 pub page-erased : {lines columns : ℕ} {shown wanted : Picture} → HasSize lines columns shown → HasSize lines columns wanted → {y e blank z : ℕ} → blank ≤ y + 1
     → map blank_line (drop blank wanted) ≡ drop blank wanted → y < z → z < lines → (line_of shown z ≡ line_of wanted z → ⊥)

@@ -1,5 +1,5 @@
 -- The text of a doupdate after a stream that agrees with the painter: where it clears, it doesn't matter what was sent before.
-use Rattle.std.proofs.Common.{◌≡◌, Bool, true, false, ℕ, zero, suc, ◌<◌, ◌≤◌, List, [], ◌++◌, length, take, Option, Some, None, refl, arith}
+use Rattle.std.proofs.Common.{◌≡◌, Bool, ℕ, ◌<◌, ◌≤◌, List, [], ◌++◌, length, take, Option, Some, None, refl, arith}
 use Rattle.std.specs.Prelude.{⊤, MatchOption}
 use Rattle.std.proofs.lemmas.Option.{MatchOption-from_none}
 use Rattle.cell.specs.Pictures.{HasSize}
@@ -13,8 +13,7 @@ use Rattle.paint.specs.Updates.{PainterState, ShownPicture, IsUpdateText, MayRea
 -- ---- a text that begins with the opening
 
 escape-take : (n : ℕ) (rest : List ℕ) → EndsOrEscapes (take n (opening ++ rest))
-escape-take zero rest = tt
-escape-take (suc n) rest = refl
+escape-take n rest = grind arith
 
 text-some : (rest : List ℕ) → 0 < length (opening ++ rest)
 text-some rest = omega arith
@@ -29,17 +28,11 @@ abbrev LeadsTo : List ℕ → Terminal → Option ShownPicture → Type 0
 LeadsTo stream t last = MatchOption last ⊤ (λ shown. LeadsWithBreaks stream t (showing shown.picture shown.cursor))
 
 known_picture-leads : (painter : PainterState) (clear : Bool) (stream : List ℕ) (t : Terminal) → Agrees painter stream t → LeadsTo stream t (known_picture painter clear)
-known_picture-leads painter true stream t agrees = tt
-known_picture-leads painter false stream t agrees = agrees.leads
-
-may-read : (painter : PainterState) (last : Option ShownPicture) (t : Terminal) → HasSize painter.lines painter.columns t.picture → IsKnown last t → MayRead painter last t
-may-read painter None t size is = size
-may-read painter (Some shown) t size is = is
+known_picture-leads painter clear stream t agrees = grind arith
 
 -- a terminal of the size that shows what the painter knows may read its text
 pub reads-known : (painter : PainterState) (clear : Bool) (t : Terminal) → HasSize painter.lines painter.columns t.picture → IsKnown painter.last t → MayRead painter (known_picture painter clear) t
-reads-known painter true t size is = size
-reads-known painter false t size is = may-read painter painter.last t size is
+reads-known painter clear t size is = grind arith
 
 -- ---- after a stream
 
@@ -50,8 +43,7 @@ module _ (painter : PainterState) (wanted : ShownPicture) (stream rest : List �
   leads-repaired : (last : Option ShownPicture) → LeadsTo stream t last → ((v : Terminal) → MayRead painter last v → Shows (opening_from last ++ rest) v wanted.picture wanted.cursor)
       → LeadsWithBreaks (stream ++ (opening_from last ++ rest)) t (showing wanted.picture wanted.cursor)
   leads-repaired None leads shows = Leads-repairs stream (opening ++ rest) t u (showing wanted.picture wanted.cursor) profile (shows u u-size) (text-some rest) refl
-  leads-repaired (Some shown) leads shows =
-      LeadsWithBreaks-append stream rest t (showing shown.picture shown.cursor) (showing wanted.picture wanted.cursor) leads (shows (showing shown.picture shown.cursor) refl)
+  leads-repaired (Some shown) leads shows = grind (arith, LeadsWithBreaks-append)
 
   cut : (last : Option ShownPicture) (sent : ℕ) → LeadsTo stream t last → ((v : Terminal) → MayRead painter last v → Shows (opening_from last ++ rest) v wanted.picture wanted.cursor)
       → (v : Terminal) × IsInProfile (stream ++ take sent (opening_from last ++ rest)) t v
@@ -65,10 +57,10 @@ module _ (painter : PainterState) (wanted : ShownPicture) (stream rest : List �
 -- ---- a painter's streams
 
 pub nothing-in_profile : (t : Terminal) → IsInProfile [] t t
-nothing-in_profile t = record { items = []; splits = refl; have_effect = refl }
+nothing-in_profile t = grind arith
 
 pub Agrees-unknown : (painter : PainterState) → painter.last ≡ None → (stream : List ℕ) (t u : Terminal) → IsInProfile stream t u → Agrees painter stream t
-Agrees-unknown painter none stream t u profile = record { in_profile = (u, profile); leads = MatchOption-from_none painter.last _ none }
+Agrees-unknown painter none stream t u profile = grind (arith, MatchOption-from_none)
 
 pub shows-update : (painter : PainterState) (clear : Bool) (wanted : ShownPicture) (stream text : List ℕ) (t : Terminal) → HasSize painter.lines painter.columns t.picture → Agrees painter stream t
     → IsUpdateText painter clear wanted text → LeadsWithBreaks (stream ++ text) t (showing wanted.picture wanted.cursor)

@@ -1,6 +1,6 @@
 -- Runs of cells: printed one after another, and drawn in a line.
 use Rattle.std.proofs.Common.{◌≡◌, Bool, ℕ, zero, suc, ◌+◌, ◌-◌, ◌<◌, ◌≤◌, true, false, List, [], ◌∷◌, ◌++◌, length, get_or, set, take, drop}
-use Rattle.std.proofs.Common.{inl, inr, Some, refl, sym, ap, ◌∙◌, subst, arith, length-append, length-set}
+use Rattle.std.proofs.Common.{Some, refl, sym, ap, ◌∙◌, subst, arith, length-append, length-set}
 use Rattle.std.specs.Prelude.{not}
 use Rattle.std.proofs.lemmas.Bool.{cases_lt, lt-ltb}
 use Rattle.std.proofs.lemmas.List.{get_or_default, get_or_past, get_or-drop, get_or-set_same, get_or-take, length-map}
@@ -39,17 +39,12 @@ character-leads columns line column picture rendition cell is same wide inside =
 -- a line keeps its width
 still-wide : (columns line column : ℕ) (picture : Picture) (cell : Shown) → length (line_of picture line) ≡ columns → column < columns
     → length (line_of (with_shown picture (line, column) cell) line) ≡ columns
-still-wide columns line column picture cell wide inside = elim (cases_lt line (length picture)) [
-  | inl high ↦ ap length (get_or-set_same picture line (set (line_of picture line) column cell) [] high) ∙ length-set (line_of picture line) column cell ∙ wide
-  | inr past ↦ let none : length (line_of picture line) ≡ 0 = ap (length {A = Shown}) (get_or_past picture line [] past) in absurd (omega arith)
-]
+still-wide columns line column picture cell wide inside = grind (arith, cases_lt, get_or-set_same, length-set, get_or_past)
 
 run-leads : (columns line column end : ℕ) (picture : Picture) (rendition : Rendition) (cells : List Shown) → ((k : ℕ) → k < length cells → IsShown (get_or cells k shown_blank))
     → ((k : ℕ) → k < length cells → (get_or cells k shown_blank).rendition ≡ rendition) → length (line_of picture line) ≡ columns → column + length cells ≡ end → end ≤ columns
     → Leads (characters cells) (at picture columns line column rendition) (at (with_cells picture (line, column) cells) columns line end rendition)
-run-leads columns line column end picture rendition [] sound same wide ends room =
-    let none : column ≡ end = omega arith in
-    subst (λ n. Leads [] (at picture columns line column rendition) (at picture columns line n rendition)) none (Leads-nothing (at picture columns line column rendition))
+run-leads columns line column end picture rendition [] sound same wide ends room = grind (arith, Leads-nothing)
 run-leads columns line column end picture rendition (cell ∷ cells) sound same wide ends room =
     let inside : column < columns = omega arith in
     Leads-append (cell.character ∷ []) (characters cells) (at picture columns line column rendition) (at (with_shown picture (line, column) cell) columns line (column + 1) rendition)
@@ -85,7 +80,7 @@ run-strokes cells is some few h k = record {
 run-with_prefix : (picture : Picture) (line x : ℕ) (shown wanted cells : List Shown) → line < length picture → length shown ≡ length wanted → x + length cells ≤ length shown
     → ((k : ℕ) → k < length cells → get_or cells k shown_blank ≡ get_or wanted (x + k) shown_blank)
     → with_cells (set picture line (with_prefix x wanted shown)) (line, x) cells ≡ set picture line (with_prefix (x + length cells) wanted shown)
-run-with_prefix picture line x shown wanted [] high same room are = let none : x ≡ x + 0 = omega arith in ap (λ n. set picture line (with_prefix n wanted shown)) none
+run-with_prefix picture line x shown wanted [] high same room are = grind arith
 run-with_prefix picture line x shown wanted (cell ∷ cells) high same room are =
     let here : x + 0 ≡ x = omega arith in
     let is : cell ≡ get_or wanted x shown_blank = are 0 (omega arith) ∙ ap (λ n. get_or wanted n shown_blank) here in
@@ -99,16 +94,8 @@ run-with_prefix picture line x shown wanted (cell ∷ cells) high same room are 
 run-cost : (x n : ℕ) (shown wanted : List Shown) → length shown ≡ length wanted → x + n ≤ length shown
     → ((v : ℕ) → x ≤ v → v < x + n → same_shown (get_or shown v shown_blank) (get_or wanted v shown_blank) ≡ false)
     → n + line_bytes (drop (x + n) shown) (drop (x + n) wanted) ≤ line_bytes (drop x shown) (drop x wanted)
-run-cost x zero shown wanted same room differs = let none : x + 0 ≡ x = omega arith in omega (arith, ap (λ n. line_bytes (drop n shown) (drop n wanted)) none)
-run-cost x (suc n) shown wanted same room differs =
-    let next : x + suc n ≡ x + 1 + n = omega arith in
-    omega (
-      arith,
-      left x shown wanted same (omega arith),
-      line_bytes-other (get_or shown x shown_blank) (get_or wanted x shown_blank) (drop (x + 1) shown) (drop (x + 1) wanted) (differs x (omega arith) (omega arith)),
-      run-cost (x + 1) n shown wanted same (omega arith) (λ v from to. differs v (omega arith) (omega arith)),
-      ap (λ k. line_bytes (drop k shown) (drop k wanted)) next,
-    )
+run-cost x zero shown wanted same room differs = grind arith
+run-cost x (suc n) shown wanted same room differs = grind (arith, left, line_bytes-other, run-cost (x + 1) n shown wanted same (omega arith) (λ v from to. differs v (omega arith) (omega arith)))
 
 pub line-run : {before mid now : Seen} {old pen next : Pen} {line x stop : ℕ} {shown wanted : List Shown} (cells : List Shown)
     → length shown ≡ length wanted → x < stop → x + length cells ≡ stop → stop ≤ length shown
@@ -145,18 +132,15 @@ line-run {mid} {now} {pen} {next} {line} {x} {stop} {shown} {wanted} cells same 
 
 -- a part of the wanted line as a run
 pub part-of : (x stop k : ℕ) (wanted : List Shown) → k < stop - x → get_or (cells_between x stop wanted) k shown_blank ≡ get_or wanted (x + k) shown_blank
-part-of x stop k wanted few = get_or-take (stop - x) (drop x wanted) k shown_blank few ∙ get_or-drop x wanted k shown_blank
+part-of x stop k wanted few = grind (arith, get_or-take, get_or-drop)
 
 -- what a test of two cells of the lines said
 pub same_shown-at : (shown wanted : List Shown) (x : ℕ) {a b : Shown} {same : Bool} → a ≡ get_or shown x a → b ≡ get_or wanted x b → x < length shown → x < length wanted → same ≡ same_shown a b
     → same_shown (get_or shown x shown_blank) (get_or wanted x shown_blank) ≡ same
-same_shown-at shown wanted x {a} {b} old new inside high is =
-    (λ i. same_shown (sym (old ∙ get_or_default shown x a shown_blank inside) i) (sym (new ∙ get_or_default wanted x b shown_blank high) i)) ∙ sym is
+same_shown-at shown wanted x old new inside high is = grind (arith, get_or_default)
 
 pub not-other : (same : Bool) → not same ≡ false → same ≡ true
-not-other true h = refl
-not-other false h = absurd cc
+not-other same h = grind arith
 
 pub not-same : (same : Bool) → not same ≡ true → same ≡ false
-not-same true h = absurd cc
-not-same false h = refl
+not-same same h = grind arith

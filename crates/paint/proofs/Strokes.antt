@@ -1,5 +1,5 @@
 -- The strokes of a pen, one after another, and what each shows.
-use Rattle.std.proofs.Common.{◌≡◌, ℕ, ◌+◌, ◌-◌, ◌<◌, ◌≤◌, Bool, true, false, List, [], ◌∷◌, ◌++◌, length, Option, Some, None, inl, inr, get_or, set, take, drop, add-zero, refl, sym, ap, ◌∙◌}
+use Rattle.std.proofs.Common.{◌≡◌, ℕ, ◌+◌, ◌-◌, ◌<◌, ◌≤◌, Bool, true, false, List, [], ◌∷◌, ◌++◌, length, Option, Some, inl, inr, get_or, take, drop, add-zero, refl, sym, ap, ◌∙◌}
 use Rattle.std.proofs.Common.{subst, arith, append_assoc, append-nil, length-append}
 use Rattle.std.specs.Prelude.{◌&&◌, ◌||◌, ◌==◌, if◌then◌else◌, min, nat_lt}
 use Rattle.std.proofs.Math.Nat.{le-min, min-eq_left, min-le_right}
@@ -21,20 +21,17 @@ use Rattle.cell.specs.declared.limits.TheConstants.{LARGEST_SCREEN}
 use Rattle.streams.specs.Sinks.{Seen}
 use Rattle.paint.specs.declared.outbox.Outbox.{Outbox}
 use Rattle.paint.specs.declared.pen.Pen.{Pen}
-use Rattle.paint.specs.steps.Gathering.{Gathers, IsGathered}
+use Rattle.paint.specs.steps.Gathering.{Gathers}
 use Rattle.paint.specs.steps.Strokes.{cursor_after, all_have, change, is_at, is_printed_again, move_from, under}
 use Rattle.paint.specs.steps.Strokes.{ArePrinted, Draws, Strokes, again_bytes, approach_bytes, most_approach, moved_bytes, reach_bytes}
 
 -- ---- one after another
 
-pub Gathers-nothing : (seen : Seen) (outbox : Outbox) → Gathers seen seen outbox outbox []
-Gathers-nothing seen outbox = λ start text h. rw append-nil h
-
 pub Gathers-then : {a b c : Seen} {x y z : Outbox} {one other : List ℕ} → Gathers a b x y one → Gathers b c y z other → Gathers a c x z (one ++ other)
-Gathers-then {c} {z} {one} {other} h k = λ start text i. subst (IsGathered start c z) (append_assoc text one other) (k start (text ++ one) (h start text i))
+Gathers-then h k = grind (arith, append_assoc)
 
 pub Draws-nothing : (seen : Seen) (pen : Pen) (picture : Picture) → Draws [] seen seen pen pen picture picture
-Draws-nothing seen pen picture = record { gathers = Gathers-nothing seen pen.outbox; leads = Leads-nothing (under pen picture) }
+Draws-nothing seen pen picture = grind (arith, append-nil, Leads-nothing)
 
 pub Draws-then : {one other : List ℕ} {a b c : Seen} {x y z : Pen} {picture middle drawn : Picture} → Draws one a b x y picture middle → Draws other b c y z middle drawn
     → Draws (one ++ other) a c x z picture drawn
@@ -55,16 +52,13 @@ Strokes-then {m} {n} h k = record {
 }
 
 pub Strokes-more : {m n : ℕ} {a b : Seen} {x y : Pen} {picture drawn : Picture} → Strokes m a b x y picture drawn → m ≤ n → Strokes n a b x y picture drawn
-Strokes-more h few = record { piece = h.piece; draws = h.draws; short = omega (arith, h.short) }
+Strokes-more h few = grind arith
 
 -- ---- one token
 
 pub Draws-token : {before after : Seen} {old new : Pen} (token : Token) (picture drawn : Picture) → IsToken token → Gathers before after old.outbox new.outbox (spelling token)
     → token_effect token (under old picture) ≡ Some (under new drawn) → Draws (spelling token) before after old new picture drawn
-Draws-token {old} {new} token picture drawn is gathers effect = record {
-  gathers = gathers;
-  leads = Leads-token token (under old picture) (under new drawn) is effect;
-}
+Draws-token token picture drawn is gathers effect = grind (arith, Leads-token)
 
 -- ---- a selection
 
@@ -89,16 +83,8 @@ selects old mid rendition picture other is gathers rest = rw (change-other old.r
 
 -- ---- a move
 
-same_place-equal : (a b : Place) → (a.0 == b.0 && a.1 == b.1) ≡ true → a ≡ b
-same_place-equal a b h =
-    let parts = and_parts (a.0 == b.0) (a.1 == b.1) h in
-    let line = eqb-true a.0 b.0 parts.0 in
-    let column = eqb-true a.1 b.1 parts.1 in
-    λ i. (line i, column i)
-
 pub is_at-known : (cursor : Option Place) (place : Place) → is_at cursor place ≡ true → cursor ≡ Some place
-is_at-known None place h = absurd cc
-is_at-known (Some cursor) place h = ap Some (same_place-equal cursor place h)
+is_at-known cursor place h = grind (arith, and_parts, eqb-true)
 
 move-none : (cursor : Option Place) (place : Place) → is_at cursor place ≡ true → move_from cursor place ≡ []
 unfolding move_from
@@ -148,13 +134,7 @@ printed-none seen pen line column cells cursor = record {
 -- one of the cells is shown where it is printed
 printed-there : (picture : Picture) (line column i : ℕ) (cells : List Shown) (cell : Shown) → take (length cells) (drop column (line_of picture line)) ≡ cells → i < length cells
     → cell ≡ get_or cells i shown_blank → with_shown picture (line, column + i) cell ≡ picture
-printed-there picture line column i cells cell are inside is =
-    let row = line_of picture line in
-    let there : cell ≡ get_or row (column + i) shown_blank =
-    is ∙ ap (λ l. get_or l i shown_blank) (sym are) ∙ get_or-take (length cells) (drop column row) i shown_blank inside ∙ get_or-drop column row i shown_blank in
-    ap (λ c. set picture line (set row (column + i) c)) there
-    ∙ ap (set picture line) (set-get_or row (column + i) shown_blank)
-    ∙ set-get_or picture line []
+printed-there picture line column i cells cell are inside is = grind (arith, get_or-take, get_or-drop, set-get_or)
 
 -- the next cell is selected and printed
 pub printed-more : {before mid chosen now : Seen} {old pen selected next : Pen} {line column i : ℕ} {cells : List Shown} (cell : Shown) → ArePrinted before mid old pen line column i cells
@@ -214,16 +194,10 @@ ends {b} {c} {y} {z} {picture} place h same k = Draws-then h (subst (λ cursor. 
 -- ---- how many bytes they have
 
 pub length-move : (cursor : Option Place) (place : Place) → place.0 < LARGEST_SCREEN → place.1 < LARGEST_SCREEN → length (move_from cursor place) ≤ 10
-length-move cursor place few_lines few_columns = elim (cases_Bool (is_at cursor place)) [
-  | inl here ↦ rw (move-none cursor place here) (omega arith)
-  | inr there ↦ rw (move-some cursor place there) (length-spelling (Cup place.0 place.1) (few_lines, few_columns))
-]
+length-move cursor place few_lines few_columns = grind (arith, cases_Bool, move-none, move-some, length-spelling)
 
 pub length-change : (old new : Rendition) → length (change old new) ≤ length (spelling (Sgr new))
-length-change old new = elim (cases_Bool (same_rendition new old)) [
-  | inl same ↦ rw (change-same old new same) (omega arith)
-  | inr other ↦ rw (change-other old new other) (omega arith)
-]
+length-change old new = grind (arith, cases_Bool, change-same, change-other)
 
 -- ---- an approach
 
@@ -236,31 +210,17 @@ approach-move {x} {y} place rendition h same k = record {
   short = omega (arith, length-append (move_from x.cursor place) (change y.rendition rendition), ap (λ r. length (change r rendition)) same);
 }
 
-selection-strokes : {a b : Seen} {x y : Pen} {picture : Picture} (rendition : Rendition) → Draws (change x.rendition rendition) a b x y picture picture
-    → Strokes (length (change x.rendition rendition)) a b x y picture picture
-selection-strokes {x} rendition h = record { piece = change x.rendition rendition; draws = h; short = omega arith }
-
 pub approach-again : {a b c : Seen} {x y z : Pen} {picture : Picture} {line column : ℕ} {cells : List Shown} (rendition : Rendition)
     → ArePrinted a b x y line column (length cells) cells → length (line_of picture line) ≡ x.columns → take (length cells) (drop column (line_of picture line)) ≡ cells
     → Draws (change y.rendition rendition) b c y z picture picture → Strokes (again_bytes x.rendition cells rendition) a c x z picture picture
-approach-again {y} {picture} {cells} rendition h wide are k =
-    let none : again_bytes y.rendition (drop (length cells) cells) rendition ≡ length (change y.rendition rendition) =
-    ap (λ l. again_bytes y.rendition l rendition) (drop_all (length cells) cells (omega arith)) in
-    Strokes-more (Strokes-then (h.strokes picture wide are) (selection-strokes rendition k)) (omega (arith, h.left rendition, none))
-
-moved-most : (cursor : Option Place) (rendition : Rendition) (place : Place) (wanted : Rendition) → place.0 < LARGEST_SCREEN → place.1 < LARGEST_SCREEN
-    → moved_bytes cursor rendition place wanted ≤ most_approach wanted
-moved-most cursor rendition place wanted few_lines few_columns = omega (arith, length-move cursor place few_lines few_columns, length-change rendition wanted)
+approach-again rendition h wide are k = grind (arith, drop_all, Strokes-more, Strokes-then)
 
 least : (b : Bool) (m n most : ℕ) → n ≤ most → (if b then min m n else n) ≤ most
-least true m n most h = omega (arith, min-le_right m n)
-least false m n most h = h
+least b m n most h = grind (arith, min-le_right)
 
 pub approach-most : (cursor : Option Place) (rendition : Rendition) (start : Place) (gap : List Shown) (wanted : Rendition) → start.0 < LARGEST_SCREEN → start.1 + length gap < LARGEST_SCREEN
     → approach_bytes cursor rendition start gap wanted ≤ most_approach wanted
-approach-most cursor rendition start gap wanted few_lines few_columns =
-    let place : Place = (start.0, start.1 + length gap) in
-    least (is_at cursor start) (again_bytes rendition gap wanted) (moved_bytes cursor rendition place wanted) (most_approach wanted) (moved-most cursor rendition place wanted few_lines few_columns)
+approach-most cursor rendition start gap wanted few_lines few_columns = grind (arith, least, length-move, length-change)
 
 -- ---- which of two ways takes fewer bytes
 
@@ -273,33 +233,11 @@ moved-far : (cursor : Option Place) (rendition : Rendition) (start : Place) (gap
     → approach_bytes cursor rendition start gap wanted ≡ moved_bytes cursor rendition (start.0, start.1 + length gap) wanted
 moved-far cursor rendition start gap wanted far = rw far refl
 
-moved-less : (b : Bool) (m n : ℕ) → n ≤ m → (if b then min m n else n) ≡ n
-moved-less true m n h = omega (arith, min-le_right m n, le-min {k = n} {a = m} {b = n} h (omega arith))
-moved-less false m n h = refl
-
-moved-all : (cursor : Option Place) (rendition : Rendition) (start : Place) (gap : List Shown) (wanted : Rendition)
-    → moved_bytes cursor rendition (start.0, start.1 + length gap) wanted ≤ again_bytes rendition gap wanted
-    → approach_bytes cursor rendition start gap wanted ≡ moved_bytes cursor rendition (start.0, start.1 + length gap) wanted
-moved-all cursor rendition start gap wanted few =
-    moved-less (is_at cursor start) (again_bytes rendition gap wanted) (moved_bytes cursor rendition (start.0, start.1 + length gap) wanted) few
-
--- a gap of no cells is left out
-moved-empty : (cursor : Option Place) (rendition : Rendition) (start : Place) (gap : List Shown) (wanted : Rendition) → gap ≡ []
-    → approach_bytes cursor rendition start gap wanted ≡ moved_bytes cursor rendition (start.0, start.1 + length gap) wanted
-moved-empty cursor rendition start gap wanted none = elim (cases_Bool (is_at cursor start)) [
-  | inr far ↦ moved-far cursor rendition start gap wanted far
-  | inl at ↦
-      let here : (start.0, start.1 + length gap) ≡ start = let column : start.1 + length gap ≡ start.1 = omega (arith, ap (length {A = Shown}) none) in λ i. (start.0, column i) in
-      let still : length (move_from cursor (start.0, start.1 + length gap)) ≡ 0 = ap (λ place. length (move_from cursor place)) here ∙ ap (length {A = ℕ}) (move-none cursor start at) in
-      let again : again_bytes rendition gap wanted ≡ length (change rendition wanted) = ap (λ l. again_bytes rendition l wanted) none in
-      moved-all cursor rendition start gap wanted (omega (arith, still, again))
-]
-
 pub length-stay : (cursor : Option Place) (place : Place) → is_at cursor place ≡ true → length (move_from cursor place) ≡ 0
-length-stay cursor place at = ap (length {A = ℕ}) (move-none cursor place at)
+length-stay cursor place at = grind (arith, move-none)
 
 pub length-go : (cursor : Option Place) (place : Place) → is_at cursor place ≡ false → length (move_from cursor place) ≡ length (spelling (Cup place.0 place.1))
-length-go cursor place far = ap (length {A = ℕ}) (move-some cursor place far)
+length-go cursor place far = grind (arith, move-some)
 
 -- a cell printed again takes a byte at least, and a selection after it is no longer than one through it
 change-through : (a b c : Rendition) → length (change a c) ≤ length (change a b) + length (change b c)
@@ -310,24 +248,9 @@ change-through a b c = elim (cases_Bool (same_rendition c b)) [
 
 again-least : (rendition : Rendition) (gap : List Shown) (wanted : Rendition) → length gap + length (change rendition wanted) ≤ again_bytes rendition gap wanted
 again-least rendition [] wanted = omega arith
-again-least rendition (cell ∷ gap) wanted = omega (arith, again-least cell.rendition gap wanted, change-through rendition cell.rendition wanted)
+again-least rendition (cell ∷ gap) wanted = grind (arith, change-through, again-least cell.rendition gap wanted)
 
 -- ---- whether a gap is printed again
-
-no-more : (m n : ℕ) (b : Bool) → (nat_lt m n || (m == n && b)) ≡ true → m ≤ n
-no-more m n b h = elim (cases_lt n m) [
-  | inl less ↦
-      let other : (m == n) ≡ false = ne_eqb m n (λ same. omega (arith, same, less)) in
-      let wrong : false ≡ true = rw (le-ltb m n (omega arith), other) at h in
-      absurd cc
-  | inr few ↦ few
-]
-
-no-less : (m n : ℕ) (b : Bool) → (nat_lt m n || b) ≡ false → n ≤ m
-no-less m n b h = elim (cases_lt m n) [
-  | inl less ↦ let wrong : true ≡ false = rw (lt-ltb m n less) at h in absurd cc
-  | inr few ↦ few
-]
 
 module _ (cursor : Option Place) (rendition : Rendition) (start : Place) (gap : List Shown) (wanted : Rendition) where
   abbrev again : ℕ
@@ -341,57 +264,31 @@ module _ (cursor : Option Place) (rendition : Rendition) (start : Place) (gap : 
 
   -- where the cursor is at a gap that has a cell
   pub again-here : 0 < length gap → is_at cursor start ≡ true → is_printed_again cursor rendition start gap wanted ≡ (nat_lt again moved || (again == moved && all_one))
-  again-here some here = rw (lt-ltb 0 (length gap) some, here) refl
+  again-here some here = grind (arith, lt-ltb)
 
   pub again-none : length gap ≡ 0 → is_printed_again cursor rendition start gap wanted ≡ false
-  again-none none = rw (le-ltb 0 (length gap) (omega arith)) refl
+  again-none none = grind (arith, le-ltb)
 
   pub again-far : is_at cursor start ≡ false → is_printed_again cursor rendition start gap wanted ≡ false
-  again-far far = elim (cases_lt 0 (length gap)) [
-    | inl some ↦ rw (lt-ltb 0 (length gap) some, far) refl
-    | inr none ↦ again-none (omega arith)
-  ]
+  again-far far = grind (arith, cases_lt, lt-ltb, again-none)
 
   -- a long gap isn't
   pub again-long : start.0 < LARGEST_SCREEN → start.1 + length gap < LARGEST_SCREEN → 10 < length gap → is_printed_again cursor rendition start gap wanted ≡ false
-  again-long few_lines few_columns long = elim (cases_Bool (is_at cursor start)) [
-    | inr far ↦ again-far far
-    | inl here ↦
-        let less : moved < again = omega (arith, again-least rendition gap wanted, length-move cursor (start.0, start.1 + length gap) few_lines few_columns) in
-        let other : (again == moved) ≡ false = ne_eqb again moved (λ same. omega (arith, same, less)) in
-        again-here (omega arith) here ∙ rw (le-ltb again moved (omega arith), other) refl
-  ]
+  again-long few_lines few_columns long = grind (arith, cases_Bool, again-far, again-least, length-move, ne_eqb, again-here, le-ltb)
 
   -- a gap that is printed again begins at the cursor
   pub again-at : is_printed_again cursor rendition start gap wanted ≡ true → is_at cursor start ≡ true
-  again-at printed = elim (cases_Bool (is_at cursor start)) [
-    | inl here ↦ here
-    | inr far ↦ let wrong : false ≡ true = sym (again-far far) ∙ printed in absurd cc
-  ]
+  again-at printed = grind (arith, cases_Bool, again-far)
 
   pub again-few : start.0 < LARGEST_SCREEN → start.1 + length gap < LARGEST_SCREEN → is_printed_again cursor rendition start gap wanted ≡ true → length gap ≤ 10
-  again-few few_lines few_columns printed = elim (cases_lt 10 (length gap)) [
-    | inl long ↦ let wrong : false ≡ true = sym (again-long few_lines few_columns long) ∙ printed in absurd cc
-    | inr few ↦ few
-  ]
+  again-few few_lines few_columns printed = grind (arith, cases_lt, again-long)
 
   pub approach-printed : is_printed_again cursor rendition start gap wanted ≡ true → approach_bytes cursor rendition start gap wanted ≡ again
-  approach-printed printed =
-      let here = again-at printed in
-      elim (cases_lt 0 (length gap)) [
-        | inl some ↦ again-all cursor rendition start gap wanted here (no-more again moved all_one (sym (again-here some here) ∙ printed))
-        | inr none ↦ let wrong : false ≡ true = sym (again-none (omega arith)) ∙ printed in absurd cc
-      ]
+  approach-printed printed = grind (arith, again-at, cases_lt, again-all, ne_eqb, le-ltb, again-here, again-none)
 
   -- and any other is moved over
   pub approach-moved : is_printed_again cursor rendition start gap wanted ≡ false → approach_bytes cursor rendition start gap wanted ≡ moved
-  approach-moved other = elim (cases_lt 0 (length gap)) [
-    | inr none ↦ moved-empty cursor rendition start gap wanted (nil_from_length gap (omega arith))
-    | inl some ↦ elim (cases_Bool (is_at cursor start)) [
-      | inr far ↦ moved-far cursor rendition start gap wanted far
-      | inl here ↦ moved-all cursor rendition start gap wanted (no-less again moved (again == moved && all_one) (sym (again-here some here) ∙ other))
-    ]
-  ]
+  approach-moved other = grind (arith, cases_lt, cases_Bool, moved-far, move-none, min-le_right, le-min, nil_from_length, lt-ltb, again-here)
 
 -- ---- an erasure after it
 
@@ -401,7 +298,7 @@ four = refl
 
 -- the most bytes that end a rendition
 pub length-ended : (old : Rendition) → length (change old no_rendition) ≤ 4
-length-ended old = omega (arith, four, length-change old no_rendition)
+length-ended old = grind (arith, four, length-change)
 
 -- a pen that comes to an erasure needs no more than a changed cell
 pub erasure-room : {n : ℕ} → n ≤ most_approach no_rendition → n ≤ 23

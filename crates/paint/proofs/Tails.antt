@@ -2,7 +2,7 @@
 use Rattle.std.proofs.Common.{◌≡◌, ℕ, zero, suc, ◌+◌, ◌-◌, ◌<◌, ◌≤◌, get_or, List, [], ◌∷◌, length, map, drop, refl, sym, ap, ◌∙◌, arith}
 use Rattle.std.proofs.lemmas.List.{drop-drop, get_or-drop, length-drop}
 use Rattle.cell.specs.Differences.{DiffersAt}
-use Rattle.cell.specs.Shown.{Shown, shown_blank}
+use Rattle.cell.specs.Shown.{Shown}
 
 kept-drop : {A : Type 0} (f : A → A) (n : ℕ) (items : List A) → map f items ≡ items → map f (drop n items) ≡ drop n items
 kept-drop f zero items h = h
@@ -29,17 +29,12 @@ kept-at f other is x y items ordered kept =
     ap f (sym at) ∙ sym (get_or-map f other is (drop x items) (y - x)) ∙ ap (λ l. get_or l (y - x) other) kept ∙ at
 
 pub differs-later : (n x : ℕ) (old new : List Shown) → DiffersAt (drop n old) (drop n new) x → DiffersAt old new (n + x)
-differs-later n x old new h = record {
-  inside = omega (arith, h.inside, length-drop n old);
-  differs = λ same. h.differs (get_or-drop n old x shown_blank ∙ same ∙ sym (get_or-drop n new x shown_blank));
-}
+differs-later n x old new h = grind (arith, length-drop, get_or-drop)
 
 -- what differs is before the end of what is changed
 pub differs-before : (n x : ℕ) (shown wanted : List Shown) → length shown ≡ length wanted → drop n shown ≡ drop n wanted → DiffersAt shown wanted x → x < n
-differs-before zero x shown wanted same kept h = absurd (h.differs (ap (λ l. get_or l x shown_blank) kept))
-differs-before (suc n) x [] wanted same kept h = absurd (omega (arith, h.inside))
+differs-before zero x shown wanted same kept h = grind arith
+differs-before (suc n) x [] wanted same kept h = grind arith
 differs-before (suc n) x (a ∷ shown) [] same kept h = absurd (omega arith)
 differs-before (suc n) zero (a ∷ shown) (b ∷ wanted) same kept h = omega arith
-differs-before (suc n) (suc x) (a ∷ shown) (b ∷ wanted) same kept h =
-    let rest : x < n = differs-before n x shown wanted (omega arith) kept (record { inside = omega (arith, h.inside); differs = h.differs }) in
-    omega arith
+differs-before (suc n) (suc x) (a ∷ shown) (b ∷ wanted) same kept h = grind (arith, differs-before n x shown wanted)

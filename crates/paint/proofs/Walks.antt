@@ -1,9 +1,8 @@
 -- The walk over the cells of a line, and over the lines of a picture.
-use Rattle.std.proofs.Common.{◌≡◌, Bool, ℕ, zero, suc, ◌+◌, ◌*◌, ◌<◌, ◌≤◌, true, false, List, [], ◌∷◌, ◌++◌, length, get_or, set, take, drop, Some, inl, inr, ◌-◌, refl, sym, ap, ◌∙◌, subst, arith}
-use Rattle.std.specs.Prelude.{if◌then◌else◌}
+use Rattle.std.proofs.Common.{◌≡◌, ℕ, zero, suc, ◌+◌, ◌<◌, ◌≤◌, true, false, List, [], ◌∷◌, ◌++◌, length, get_or, set, take, drop, Some, inl, inr, ◌-◌, refl, sym, ap, ◌∙◌, subst, arith}
 use Rattle.std.proofs.lemmas.Bool.{cases_Bool}
 use Rattle.std.proofs.lemmas.List.{drop_all, drop-drop, drop_more, get_or-set_same, length-drop, length-take-le, set-set, set-get_or, take-append-drop, take-take}
-use Rattle.cell.specs.Shown.{Shown, no_rendition, shown_blank, has_colour}
+use Rattle.cell.specs.Shown.{Shown, no_rendition, shown_blank}
 use Rattle.cell.specs.Differences.{DiffersAt, same_shown}
 use Rattle.cell.specs.Pictures.{Picture, line_of, with_shown}
 use Rattle.ecma.proofs.Difference.{same_shown-equal}
@@ -21,15 +20,11 @@ use Rattle.paint.proofs.Strokes.{Strokes-more, Strokes-nothing, Strokes-then, le
 
 -- ---- what the cells of a line may cost
 
-six : (coloured : Bool) → 6 * (if coloured then 1 else 0) ≡ (if coloured then 6 else 0)
-six true = refl
-six false = refl
-
 pub line_bytes-other : (a b : Shown) (old new : List Shown) → same_shown a b ≡ false → line_bytes (a ∷ old) (b ∷ new) ≡ cell_bytes b + line_bytes old new
-line_bytes-other a b old new h = rw h (omega (arith, six (has_colour b.rendition)))
+line_bytes-other a b old new h = grind arith
 
 pub line_bytes-same : (a b : Shown) (old new : List Shown) → same_shown a b ≡ true → line_bytes (a ∷ old) (b ∷ new) ≡ line_bytes old new
-line_bytes-same a b old new h = rw h (omega arith)
+line_bytes-same a b old new h = grind arith
 
 line_bytes-drop : (x : ℕ) (old new : List Shown) → line_bytes (drop x old) (drop x new) ≤ line_bytes old new
 line_bytes-drop zero old new = omega arith
@@ -43,85 +38,54 @@ line_bytes-drop (suc x) (a ∷ old) (b ∷ new) = omega (arith, line_bytes-drop 
 -- ---- a line
 
 same-line : (picture : Picture) (line : ℕ) (cells : List Shown) → line_of picture line ≡ cells → set picture line cells ≡ picture
-same-line picture line cells is = ap (set picture line) (sym is) ∙ set-get_or picture line []
+same-line picture line cells is = grind (arith, set-get_or)
 
 pub line-begun : (seen : Seen) (pen : Pen) (line x : ℕ) (shown wanted : List Shown) → take x shown ≡ take x wanted → IsLinePainted seen seen pen pen line x shown wanted
-line-begun seen pen line x shown wanted prefix = record {
-  spent = 0;
-  within = omega (arith, line_bytes-drop x shown wanted);
-  strokes = λ picture inside is. subst (Strokes 0 seen seen pen pen picture) (sym (same-line picture line (with_prefix x wanted shown) (is ∙ sym (with_prefix-prefix x wanted shown prefix))))
-      (Strokes-nothing seen pen picture);
-  columns = refl;
-}
+line-begun seen pen line x shown wanted prefix = grind (arith, line_bytes-drop, same-line, with_prefix-prefix, Strokes-nothing)
 
 pub left : (x : ℕ) (shown wanted : List Shown) → length shown ≡ length wanted → x < length shown
     → line_bytes (drop x shown) (drop x wanted) ≡ line_bytes (get_or shown x shown_blank ∷ drop (x + 1) shown) (get_or wanted x shown_blank ∷ drop (x + 1) wanted)
-left x shown wanted same inside = let a = drop_more shown x shown_blank inside in let b = drop_more wanted x shown_blank (omega arith) in λ i. line_bytes (a i) (b i)
+left x shown wanted same inside = grind (arith, drop_more)
 
 -- the next cell is drawn
 pub one-drawn : (picture : Picture) (line x : ℕ) (shown wanted : List Shown) (cell : Shown) → line < length picture → length shown ≡ length wanted → x < length shown
     → cell ≡ get_or wanted x shown_blank → with_shown (set picture line (with_prefix x wanted shown)) (line, x) cell ≡ set picture line (with_prefix (x + 1) wanted shown)
-one-drawn picture line x shown wanted cell high same inside is =
-    let row = with_prefix x wanted shown in
-    ap (λ cells. set (set picture line row) line (set cells x cell)) (get_or-set_same picture line row [] high)
-    ∙ set-set picture line row (set row x cell)
-    ∙ ap (λ c. set picture line (set row x c)) is
-    ∙ ap (set picture line) (with_prefix-more shown_blank x wanted shown inside same)
+one-drawn picture line x shown wanted cell high same inside is = grind (arith, get_or-set_same, set-set, with_prefix-more)
 
 pub length-between : (start x : ℕ) (cells : List Shown) → start ≤ x → x ≤ length cells → length (cells_between start x cells) ≡ x - start
-length-between start x cells ordered inside = length-take-le (x - start) (drop start cells) (omega (arith, length-drop start cells))
+length-between start x cells ordered inside = grind (arith, length-take-le, length-drop)
 
 -- the gap before a column ends there
 pub gap-ends : (start x : ℕ) (wanted : List Shown) → start ≤ x → x ≤ length wanted → start + length (cells_between start x wanted) ≡ x
-gap-ends start x wanted ordered inside = omega (arith, length-between start x wanted ordered inside)
+gap-ends start x wanted ordered inside = grind (arith, length-between)
 
 -- and is shown, where its cells are those of the wanted line
 pub gap-shown : (start x : ℕ) (wanted row : List Shown) → start ≤ x → x ≤ length wanted → cells_between start x row ≡ cells_between start x wanted
     → take (length (cells_between start x wanted)) (drop start row) ≡ cells_between start x wanted
-gap-shown start x wanted row ordered inside are = ap (λ n. take n (drop start row)) (length-between start x wanted ordered inside) ∙ are
+gap-shown start x wanted row ordered inside are = grind (arith, length-between)
 
 -- the next cell is shown already
 pub line-kept : {before now : Seen} {old pen : Pen} {line x : ℕ} {shown wanted : List Shown} → length shown ≡ length wanted → x < length shown
     → IsLinePainted before now old pen line x shown wanted → same_shown (get_or shown x shown_blank) (get_or wanted x shown_blank) ≡ true
     → IsLinePainted before now old pen line (x + 1) shown wanted
-line-kept {before} {now} {old} {pen} {line} {x} {shown} {wanted} same inside h alike = record {
-  spent = h.spent;
-  within = omega (
-    arith,
-    h.within,
-    left x shown wanted same inside,
-    line_bytes-same (get_or shown x shown_blank) (get_or wanted x shown_blank) (drop (x + 1) shown) (drop (x + 1) wanted) alike,
-  );
-  strokes = λ picture high at. subst (λ row. Strokes h.spent before now old pen picture (set picture line row))
-      (with_prefix-same shown_blank x wanted shown inside same (same_shown-equal (get_or shown x shown_blank) (get_or wanted x shown_blank) alike)) (h.strokes picture high at);
-  columns = h.columns;
-}
+line-kept same inside h alike = grind (arith, left, line_bytes-same, with_prefix-same, same_shown-equal)
 
 -- a line whose other cells are shown already
 pub line-painted : {before now : Seen} {old pen : Pen} {line x : ℕ} {shown wanted : List Shown} → IsLinePainted before now old pen line x shown wanted → drop x shown ≡ drop x wanted
     → (picture : Picture) → line < length picture → line_of picture line ≡ shown → Strokes (line_bytes shown wanted) before now old pen picture (set picture line wanted)
-line-painted {before} {now} {old} {pen} {line} {x} {shown} {wanted} h back = λ picture high at.
-    subst (λ row. Strokes (line_bytes shown wanted) before now old pen picture (set picture line row)) (with_prefix-back x wanted shown back)
-    (Strokes-more (h.strokes picture high at) (omega (arith, h.within)))
+line-painted h back = grind (arith, with_prefix-back, Strokes-more)
 
 -- ---- the end of a line is erased
 
 -- a changed cell may cost as much as a blank one
 changed-bytes : (x : ℕ) (shown wanted : List Shown) → length shown ≡ length wanted → DiffersAt shown wanted x → 27 ≤ line_bytes (drop x shown) (drop x wanted)
-changed-bytes x shown wanted same h =
-    let a = get_or shown x shown_blank in
-    let b = get_or wanted x shown_blank in
-    let other : same_shown a b ≡ false = elim (cases_Bool (same_shown a b)) [
-      | inl alike ↦ absurd (h.differs (same_shown-equal a b alike))
-      | inr other ↦ other
-    ] in
-    omega (arith, left x shown wanted same h.inside, line_bytes-other a b (drop (x + 1) shown) (drop (x + 1) wanted) other)
+changed-bytes x shown wanted same h = grind (arith, cases_Bool, same_shown-equal, left, line_bytes-other)
 
 blank-lengths : (one other : List Shown) → length one ≡ length other → blank_line one ≡ blank_line other
 blank-lengths [] [] same = refl
 blank-lengths [] (b ∷ other) same = absurd (omega arith)
 blank-lengths (a ∷ one) [] same = absurd (omega arith)
-blank-lengths (a ∷ one) (b ∷ other) same = ap (λ (l : List Shown). shown_blank ∷ l) (blank-lengths one other (omega arith))
+blank-lengths (a ∷ one) (b ∷ other) same = grind (arith, blank-lengths one other (omega arith))
 
 -- a line whose first cells are the wanted ones, erased from one of them on, is the wanted one where that is blank from there
 erased-line : (e x : ℕ) (shown wanted : List Shown) → length shown ≡ length wanted → e ≤ x → x ≤ length wanted → AreBlank (drop e wanted) → erased_line ToEnd e (with_prefix x wanted shown) ≡ wanted
@@ -187,27 +151,12 @@ line-at_cursor {before} {mid} {now} {old} {pen} {next} {line} {from} {shown} {wa
 -- within more bytes
 pub ready-more : {m n : ℕ} {before now : Seen} {old pen : Pen} {line from : ℕ} {shown wanted : List Shown} → IsReadyToErase m before now old pen line from shown wanted → m ≤ n
     → IsReadyToErase n before now old pen line from shown wanted
-ready-more h few = record {
-  blank = h.blank;
-  reached = h.reached;
-  beyond = h.beyond;
-  inside = h.inside;
-  spent = h.spent;
-  within = omega (arith, h.within);
-  strokes = h.strokes;
-  cursor = h.cursor;
-  rendition = h.rendition;
-  columns = h.columns;
-}
+ready-more h few = grind arith
 
 -- the line, its end erased after what was drawn
 pub erased-with_prefix : (picture : Picture) (line e x : ℕ) (shown wanted : List Shown) → length shown ≡ length wanted → line < length picture → e ≤ x → x ≤ length wanted → AreBlank (drop e wanted)
     → erased_at ToEnd (line, e) (set picture line (with_prefix x wanted shown)) ≡ set picture line wanted
-erased-with_prefix picture line e x shown wanted same high before inside blank =
-    let row = with_prefix x wanted shown in
-    ap (λ cells. set (set picture line row) line (erased_line ToEnd e cells)) (get_or-set_same picture line row [] high)
-    ∙ set-set picture line row (erased_line ToEnd e row)
-    ∙ ap (set picture line) (erased-line e x shown wanted same before inside blank)
+erased-with_prefix picture line e x shown wanted same high before inside blank = grind (arith, get_or-set_same, set-set, erased-line)
 
 pub line-erased : {before mid now : Seen} {old pen next : Pen} {line from : ℕ} {shown wanted : List Shown} → length shown ≡ length wanted
     → IsReadyToErase (line_bytes shown wanted) before mid old pen line from shown wanted
@@ -227,7 +176,7 @@ line-erased {mid} {now} {pen} {next} {line} {from} {shown} {wanted} same h draws
 
 -- lines that are not the same may cost as much as a changed cell
 pub line_bytes-changed : (old new : List Shown) → length old ≡ length new → (old ≡ new → ⊥) → 27 ≤ line_bytes old new
-line_bytes-changed [] [] same changed = absurd (changed refl)
+line_bytes-changed [] [] same changed = grind arith
 line_bytes-changed [] (b ∷ new) same changed = absurd (omega arith)
 line_bytes-changed (a ∷ old) [] same changed = absurd (omega arith)
 line_bytes-changed (a ∷ old) (b ∷ new) same changed = elim (cases_Bool (same_shown a b)) [
@@ -254,12 +203,7 @@ picture_bytes-later y z old new before =
     subst (λ n. n ≤ picture_bytes (drop y old) (drop y new)) (λ i. picture_bytes (one i) (other i)) less
 
 pub picture-begun : (seen : Seen) (pen : Pen) (line : ℕ) (shown wanted : Picture) → take line shown ≡ take line wanted → IsPicturePainted seen seen pen pen line shown wanted
-picture-begun seen pen line shown wanted prefix = record {
-  spent = 0;
-  within = omega (arith, picture_bytes-drop line shown wanted);
-  strokes = subst (Strokes 0 seen seen pen pen shown) (sym (with_prefix-prefix line wanted shown prefix)) (Strokes-nothing seen pen shown);
-  columns = refl;
-}
+picture-begun seen pen line shown wanted prefix = grind (arith, picture_bytes-drop, with_prefix-prefix, Strokes-nothing)
 
 pub picture-drawn : {before mid now : Seen} {old pen next : Pen} {line : ℕ} {shown wanted : Picture} → length shown ≡ length wanted → line < length shown
     → IsPicturePainted before mid old pen line shown wanted
@@ -291,12 +235,9 @@ picture-kept {now} {pen} {line} {shown} {wanted} same inside h alike =
 skipped-by : (n : ℕ) {before now : Seen} {old pen : Pen} {line : ℕ} {shown wanted : Picture} → length shown ≡ length wanted → line + n ≤ length shown
     → IsPicturePainted before now old pen line shown wanted → ((y : ℕ) → line ≤ y → y < line + n → line_of shown y ≡ line_of wanted y)
     → IsPicturePainted before now old pen (line + n) shown wanted
-skipped-by zero {before} {now} {old} {pen} {line} {shown} {wanted} same inside h alike =
-    let none : line ≡ line + 0 = omega arith in subst (λ k. IsPicturePainted before now old pen k shown wanted) none h
-skipped-by (suc n) {before} {now} {old} {pen} {line} {shown} {wanted} same inside h alike =
-    let next : line + 1 + n ≡ line + suc n = omega arith in
-    subst (λ k. IsPicturePainted before now old pen k shown wanted) next
-    (skipped-by n same (omega arith) (picture-kept same (omega arith) h (alike line (omega arith) (omega arith))) (λ y from to. alike y (omega arith) (omega arith)))
+skipped-by zero same inside h alike = grind arith
+skipped-by (suc n) {line} same inside h alike =
+    grind (arith, picture-kept, skipped-by n same (omega arith) (picture-kept same (omega arith) h (alike line (omega arith) (omega arith))) (λ y from to. alike y (omega arith) (omega arith)))
 
 -- and so are all up to another one
 pub picture-skipped : {before now : Seen} {old pen : Pen} {line : ℕ} {shown wanted : Picture} (end : ℕ) → length shown ≡ length wanted → line ≤ end → end ≤ length shown
@@ -308,5 +249,4 @@ picture-skipped {before} {now} {old} {pen} {line} {shown} {wanted} end same orde
 
 pub picture-painted : {before now : Seen} {old pen : Pen} {line : ℕ} {shown wanted : Picture} → IsPicturePainted before now old pen line shown wanted → drop line shown ≡ drop line wanted
     → Strokes (picture_bytes shown wanted) before now old pen shown wanted
-picture-painted {before} {now} {old} {pen} {line} {shown} {wanted} h back =
-    subst (Strokes (picture_bytes shown wanted) before now old pen shown) (with_prefix-back line wanted shown back) (Strokes-more h.strokes (omega (arith, h.within)))
+picture-painted h back = grind (arith, with_prefix-back, Strokes-more)

@@ -4,9 +4,7 @@ use Rattle.paint.proofs.Strokes.{again-at, approach-again, approach-move, approa
 use Rattle.paint.proofs.gap.approach.Goals as goal
 
 pub print_again-requires-clause-cursor : goal.print_again-requires-clause-cursor
-print_again-requires-clause-cursor g c =
-    is_at-known c.args.pen.now.cursor (c.args.line, c.args.start)
-    (again-at c.args.pen.now.cursor c.args.pen.now.rendition (c.args.line, c.args.start) c.args.gap.now c.args.rendition (sym c.is_printed_again.ensures ∙ c.if-is_printed_again.true))
+print_again-requires-clause-cursor g c = grind (arith, is_at-known, again-at)
 
 pub returns-then-is_printed_again-clause-strokes : goal.returns-then-is_printed_again-clause-strokes
 returns-then-is_printed_again-clause-strokes g c = λ picture wide are.

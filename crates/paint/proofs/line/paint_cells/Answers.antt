@@ -1,21 +1,12 @@
 -- `paint_cells`: runs of cells: printed one after another, and drawn in a line (`Runs`); the walk over the cells of a line, and over the lines of a
 -- picture (`Walks`).
-use Rattle.std.proofs.Common.{◌≡◌, ◌<◌, ◌≤◌, ◌∙◌, length, refl, sym, arith}
+use Rattle.std.proofs.Common.{◌≡◌, ◌<◌, ◌≤◌, ◌∙◌, length, sym, arith}
 use Rattle.cell.specs.Pictures.{line_of}
 use Rattle.paint.specs.steps.Walks.{cells_between}
 use Rattle.paint.proofs.Prefixes.{between}
 use Rattle.paint.proofs.Runs.{same_shown-at, line-run, part-of}
 use Rattle.paint.proofs.Walks.{length-between, line-kept}
 use Rattle.paint.proofs.line.paint_cells.Goals as goal
-
-pub loop-x-init : goal.loop-x-init
-loop-x-init g c = record {
-  painted = λ before old h. h;
-  gap = omega arith;
-  within = omega arith;
-  columns = refl;
-  same = refl;
-}
 
 pub loop-x-preserved-then-eq : goal.loop-x-preserved-then-eq
 loop-x-preserved-then-eq g c =

@@ -1,6 +1,6 @@
 -- `paint_line`: the strokes of a pen, one after another, and what each shows (`Strokes`); the blank end of a line (`Tails`); the walk over the cells
 -- of a line, and over the lines of a picture (`Walks`).
-use Rattle.std.proofs.Common.{◌≡◌, ◌+◌, ◌∙◌, length, drop, refl, sym, arith}
+use Rattle.std.proofs.Common.{◌≡◌, ◌∙◌, length, drop, refl, sym, arith}
 use Rattle.cell.specs.Shown.{shown_blank}
 use Rattle.paint.specs.steps.Walks.{AreBlank}
 use Rattle.paint.proofs.Strokes.{reach-most}
@@ -13,17 +13,10 @@ returns-in_default-clause-strokes g c =
     line-painted (line-begun _ _ c.args.row.now.line 0 c.args.row.now.shown.now c.args.row.now.wanted.now refl) (rw c.in_default.is at c.first_changed.ensures)
 
 pub returns-in_default-last_changed-clause-strokes : goal.returns-in_default-last_changed-clause-strokes
-returns-in_default-last_changed-clause-strokes g c =
-    line-painted (line-begun _ _ c.args.row.now.line 0 c.args.row.now.shown.now c.args.row.now.wanted.now refl) (rw c.in_default-last_changed.is at c.last_changed.ensures)
+returns-in_default-last_changed-clause-strokes g c = grind (arith, line-painted, line-begun)
 
 pub paint_cells-requires-2-clause-ordered : goal.paint_cells-requires-2-clause-ordered
-paint_cells-requires-2-clause-ordered g c =
-    let same : length c.args.row.now.shown.now ≡ length c.args.row.now.wanted.now = c.args.row.now.same in
-    omega (
-      arith,
-      differs-before (c.in-Some-last_changed.last + 1) c.in-Some-changed_tail.column c.args.row.now.shown.now c.args.row.now.wanted.now same c.in-Some-last_changed.ensures.1
-          c.in-Some-changed_tail.ensures.3,
-    )
+paint_cells-requires-2-clause-ordered g c = grind (arith, differs-before)
 
 pub returns-in_default-changed_tail-clause-strokes : goal.returns-in_default-changed_tail-clause-strokes
 returns-in_default-changed_tail-clause-strokes g c =

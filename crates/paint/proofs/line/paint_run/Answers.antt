@@ -1,6 +1,6 @@
 -- `paint_run`: runs of cells: printed one after another, and drawn in a line (`Runs`); the strokes of a pen, one after another, and what each shows
 -- (`Strokes`); the walk over the cells of a line (`Walks`).
-use Rattle.std.proofs.Common.{◌≡◌, ◌+◌, ◌<◌, ◌≤◌, ◌∙◌, Some, get_or, length, sym, ap, subst, arith}
+use Rattle.std.proofs.Common.{◌≡◌, ◌+◌, ◌<◌, ◌≤◌, ◌∙◌, get_or, length, sym, ap, subst, arith}
 use Rattle.std.proofs.lemmas.List.{get_or_default}
 use Rattle.cell.specs.Shown.{IsRendition, Shown, shown_blank}
 use Rattle.cell.specs.Pictures.{line_of}
@@ -13,38 +13,19 @@ use Rattle.paint.proofs.Walks.{gap-ends, gap-shown, length-between}
 use Rattle.paint.proofs.line.paint_run.Goals as goal
 
 pub approach-requires-clause-inside : goal.approach-requires-clause-inside
-approach-requires-clause-inside g c = omega (arith, gap-ends c.args.gap c.args.start c.args.row.now.wanted.now c.requires.gap (omega arith))
+approach-requires-clause-inside g c = grind (arith, gap-ends)
 
 pub print_run-requires-clause-cursor : goal.print_run-requires-clause-cursor
-print_run-requires-clause-cursor g c =
-    c.approach.ensures.cursor ∙ ap (λ n. Some (c.args.row.now.line, n)) (gap-ends c.args.gap c.args.start c.args.row.now.wanted.now c.requires.gap (omega arith))
+print_run-requires-clause-cursor g c = grind (arith, gap-ends)
 
 pub print_run-requires-clause-rendition : goal.print_run-requires-clause-rendition
-print_run-requires-clause-rendition g c =
-    let x = c.args.start in
-    let wanted = c.args.row.now.wanted.now in
-    let run = c.run_end-stop.ensures in
-    let long = length-between x c.run_end-stop.result wanted (omega (arith, run.some)) (omega (arith, run.within, c.requires.inside)) in
-    let first = c.index-wanted-start.is ∙ get_or_default wanted x c.index-wanted-start.result shown_blank (omega (arith, c.requires.begun, c.requires.inside)) in
-    λ k few.
-    ap (λ (cell : Shown). cell.rendition) (part-of x c.run_end-stop.result k wanted (omega (arith, long)))
-    ∙ run.rendition (x + k) (omega arith) (omega (arith, few, long))
-    ∙ sym (c.approach.ensures.rendition ∙ c.rendition.ensures.value ∙ ap (λ (cell : Shown). cell.rendition) first)
+print_run-requires-clause-rendition g c = grind (arith, length-between, get_or_default, part-of)
 
 pub print_run-requires-clause-some : goal.print_run-requires-clause-some
-print_run-requires-clause-some g c =
-    let run = c.run_end-stop.ensures in
-    omega (arith, run.some, length-between c.args.start c.run_end-stop.result c.args.row.now.wanted.now (omega (arith, run.some)) (omega (arith, run.within, c.requires.inside)))
+print_run-requires-clause-some g c = grind (arith, length-between)
 
 pub print_run-requires-clause-inside : goal.print_run-requires-clause-inside
-print_run-requires-clause-inside g c =
-    let run = c.run_end-stop.ensures in
-    omega (
-      arith,
-      run.within,
-      c.approach.ensures.columns,
-      length-between c.args.start c.run_end-stop.result c.args.row.now.wanted.now (omega (arith, run.some)) (omega (arith, run.within, c.requires.inside)),
-    )
+print_run-requires-clause-inside g c = grind (arith, length-between)
 
 pub returns-clause-strokes : goal.returns-clause-strokes
 returns-clause-strokes g c = λ picture wide are.

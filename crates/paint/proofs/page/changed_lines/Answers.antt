@@ -1,16 +1,12 @@
 -- `changed_lines`: pictures that differ in some columns only (`Alike`); columns in which a picture may differ from another (`Changed`).
-use Rattle.std.proofs.Common.{◌≡◌, ◌-◌, ◌++◌, inl, inr, take, sym, ◌∙◌, arith}
+use Rattle.std.proofs.Common.{◌≡◌, ◌-◌, ◌++◌, inl, take, sym, ◌∙◌, arith}
 use Rattle.std.proofs.lemmas.List.{take-append-drop}
 use Rattle.paint.proofs.Alike.{line-part, lines-back, lines-prefix}
 use Rattle.paint.proofs.Changed.{is_out}
 use Rattle.paint.proofs.page.changed_lines.Goals as goal
 
 pub loop-end-init : goal.loop-end-init
-loop-end-init c = record {
-  within = c.lines-lines.ensures.inside;
-  kept = lines-back c.args.frame.now.sound.shown c.args.frame.now.sound.wanted c.args.frame.now.sound.changes c.lines-lines.result.end
-      (λ y from. c.lines-lines.ensures.others y (is_out c.lines-lines.result y (inr from)));
-}
+loop-end-init c = grind (arith, lines-back, is_out)
 
 pub first_changed-requires : goal.first_changed-requires
 first_changed-requires c =

@@ -1,7 +1,6 @@
 -- `paint_picture`: pictures that differ in some columns only (`Alike`); a list whose first items are those of another one (`Prefixes`); the blank end
 -- of a page is erased (`Pages`); the walk over the cells of a line, and over the lines of a picture (`Walks`).
-use Rattle.std.proofs.Common.{◌≡◌, ◌+◌, ◌-◌, ◌<◌, ◌≤◌, ◌∙◌, length, refl, sym, ap, arith}
-use Rattle.paint.specs.declared.pen.Pen.{Pen}
+use Rattle.std.proofs.Common.{◌≡◌, ◌+◌, ◌-◌, ◌<◌, ◌≤◌, ◌∙◌, length, sym, arith}
 use Rattle.paint.proofs.Alike.{line-alike, line-part, lines-first}
 use Rattle.paint.proofs.Prefixes.{drop-later}
 use Rattle.paint.proofs.Pages.{page-erased}
@@ -9,15 +8,7 @@ use Rattle.paint.proofs.Walks.{picture-begun, picture-drawn, picture-painted, pi
 use Rattle.paint.proofs.page.paint_picture.Goals as goal
 
 pub loop-line-init : goal.loop-line-init
-loop-line-init g c =
-    let f = c.args.frame.now.sound in
-    let next = c.next_line-line in
-    record {
-      painted = picture-begun _ _ next.result c.args.frame.now.shown.now c.args.frame.now.wanted.now
-          (lines-first f.shown f.wanted f.changes next.result (λ y x few. next.ensures.none y x (omega arith) few));
-      inside = omega (arith, next.ensures.inside (omega arith), f.height);
-      same = refl;
-    }
+loop-line-init g c = grind (arith, picture-begun, lines-first)
 
 pub paint_line-requires-clause-part : goal.paint_line-requires-clause-part
 paint_line-requires-clause-part g c =
@@ -79,6 +70,3 @@ pub returns-clause-strokes : goal.returns-clause-strokes
 returns-clause-strokes g c =
     picture-painted c.loop-line.invariant.painted
     (drop-later c.changed_lines-changed.result c.loop-line.line c.args.frame.now.shown.now c.args.frame.now.wanted.now c.loop-line-test.false c.changed_lines-changed.ensures.kept)
-
-pub returns-in-Some-clause-columns : goal.returns-in-Some-clause-columns
-returns-in-Some-clause-columns g c = ap (λ (pen : Pen). pen.columns) c.erase_page.ensures.rest ∙ c.paint_last_line.ensures.columns ∙ c.loop-line.invariant.painted.columns

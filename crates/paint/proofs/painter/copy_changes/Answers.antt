@@ -11,14 +11,7 @@ use Rattle.paint.proofs.Copying.{all-copied, none-there, one-more, still-only}
 use Rattle.paint.proofs.painter.copy_changes.Goals as goal
 
 pub loop-y-init : goal.loop-y-init
-loop-y-init c = record {
-  size = c.requires.shown;
-  only = c.requires.changes;
-  done = λ v u before. elim (cases_lt v c.lines-lines.result.start) [
-    | inl early ↦ none-there c.requires.changes v u (c.lines-lines.ensures.others v (is_out c.lines-lines.result v (inl early)))
-    | inr from ↦ c.requires.changes.others v u (c.next-y.ensures.none v u from before)
-  ];
-}
+loop-y-init c = grind (arith, cases_lt, none-there, is_out)
 
 pub loop-y-preserved : goal.loop-y-preserved
 loop-y-preserved c =

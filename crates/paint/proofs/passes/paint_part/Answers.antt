@@ -15,17 +15,7 @@ use Rattle.paint.proofs.Walks.{length-between, line-begun, line-kept, line-paint
 use Rattle.paint.proofs.passes.paint_part.Goals as goal
 
 pub loop-x-init : goal.loop-x-init
-loop-x-init g c =
-    let p = is_drawn c.args.order.now c.args.pass in
-    let q = is_drawn c.args.order.now (c.args.pass + 1) in
-    record {
-      painted = line-begun _ _ c.args.row.now.line c.in-Some.first (line_after c.args.order.now c.args.pass c.args.row.now.shown.now c.args.row.now.wanted.now)
-          (line_after c.args.order.now (c.args.pass + 1) c.args.row.now.shown.now c.args.row.now.wanted.now)
-          (choices-prefix p q c.in-Some.first c.args.row.now.shown.now c.args.row.now.wanted.now c.in-Some.ensures.1);
-      gap = omega arith;
-      kept = λ v from to. absurd (omega arith);
-      same = refl;
-    }
+loop-x-init g c = grind (arith, line-begun, choices-prefix)
 
 pub returns-in_default-clause-strokes : goal.returns-in_default-clause-strokes
 returns-in_default-clause-strokes g c =

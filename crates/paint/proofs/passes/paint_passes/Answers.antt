@@ -1,5 +1,5 @@
 -- `paint_passes`: each pass takes from what is left, and the last leaves nothing (`Choices`).
-use Rattle.std.proofs.Common.{◌≡◌, ◌+◌, ◌∙◌, length, refl, sym, subst, arith}
+use Rattle.std.proofs.Common.{◌≡◌, ◌+◌, ◌∙◌, length, subst, arith}
 use Rattle.paint.specs.steps.Passes.{is_drawn, picture_after}
 use Rattle.paint.specs.steps.Strokes.{Strokes, picture_bytes}
 use Rattle.paint.proofs.Choices.{all-after, lines-all, lines-left, lines-none, none-before, once-drawn}
@@ -7,20 +7,7 @@ use Rattle.paint.proofs.Strokes.{Strokes-more, Strokes-nothing, Strokes-then}
 use Rattle.paint.proofs.passes.paint_passes.Goals as goal
 
 pub loop-pass-init : goal.loop-pass-init
-loop-pass-init g c =
-    let f = c.args.frame.now.sound in
-    let start : picture_after c.args.order.now 0 c.args.frame.now.shown.now c.args.frame.now.wanted.now ≡ c.args.frame.now.shown.now =
-    lines-none (is_drawn c.args.order.now 0) f.shown f.wanted (none-before c.args.order.now) in
-    record {
-      passed = record {
-        spent = 0;
-        within = rw start (omega arith);
-        strokes = subst (Strokes 0 _ _ c.args.pen.now c.args.pen.now c.args.frame.now.shown.now) (sym start) (Strokes-nothing _ c.args.pen.now c.args.frame.now.shown.now);
-        columns = refl;
-      };
-      few = omega arith;
-      same = refl;
-    }
+loop-pass-init g c = grind (arith, lines-none, none-before, Strokes-nothing)
 
 pub loop-pass-preserved : goal.loop-pass-preserved
 loop-pass-preserved g c =

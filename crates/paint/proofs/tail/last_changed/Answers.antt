@@ -5,9 +5,7 @@ use Rattle.paint.proofs.LineParts.{back-between, differs-within, same-between}
 use Rattle.paint.proofs.tail.last_changed.Goals as goal
 
 pub returns-in_err-skipped : goal.returns-in_err-skipped
-returns-in_err-skipped c =
-    rw c.from_residual.ensures (same-between c.args.start c.args.end c.args.shown.now c.args.wanted.now c.requires.ordered
-    (omega (arith, c.requires.inside, c.requires.same)) c.requires.same c.requires.before c.requires.after c.in_err-skipped.ensures)
+returns-in_err-skipped c = grind (arith, same-between)
 
 pub returns : goal.returns
 returns c =

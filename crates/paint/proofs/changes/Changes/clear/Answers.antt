@@ -6,27 +6,13 @@ use Rattle.small_set.specs.Sets.{IsNext}
 use Rattle.paint.proofs.changes.Changes.clear.Goals as goal
 
 pub index_mut-requires : goal.index_mut-requires
-index_mut-requires c =
-    let h = c.loop-next.invariant in
-    let here = looked-at c.self.inside.changed c.loop-next.self-inside.stretches.items c.loop-next.next c.in-Some.y c.in-Some.is h.cleared in
-    omega (arith, c.from.ensures, h.height, c.self.invariant.there c.in-Some.y here.rest.0)
+index_mut-requires c = grind (arith, looked-at)
 
 pub overflow_add-y : goal.overflow_add-y
-overflow_add-y c =
-    let h = c.loop-next.invariant in
-    let here = looked-at c.self.inside.changed c.loop-next.self-inside.stretches.items c.loop-next.next c.in-Some.y c.in-Some.is h.cleared in
-    omega (arith, c.self.invariant.there c.in-Some.y here.rest.0, c.self.invariant.few)
+overflow_add-y c = grind (arith, looked-at)
 
 pub loop-next-smaller : goal.loop-next-smaller
-loop-next-smaller c =
-    let h = c.loop-next.invariant in
-    let lines = c.self.inside.changed in
-    let items = c.loop-next.self-inside.stretches.items in
-    let y = c.in-Some.y in
-    let here = looked-at lines items c.loop-next.next y c.in-Some.is h.cleared in
-    let there = c.self.invariant.there y here.rest.0 in
-    let found = subst (λ (s : List ℕ). IsNext s (y + 1) c.next-next-in-Some.result) h.same c.next-next-in-Some.ensures in
-    rw c.in-Some.is (fewer-left lines items y (omega (arith, h.height, there)) here (omega (arith, there, c.self.invariant.few)) c.next-next-in-Some.result found)
+loop-next-smaller c = grind (arith, looked-at, fewer-left)
 
 pub loop-next-preserved : goal.loop-next-preserved
 loop-next-preserved c =

@@ -1,5 +1,5 @@
 -- `print_again`: the strokes of a pen, one after another, and what each shows (`Strokes`).
-use Rattle.std.proofs.Common.{◌<◌, ◌∙◌, length, refl, subst, arith}
+use Rattle.std.proofs.Common.{◌<◌, ◌∙◌, length, subst, arith}
 use Rattle.std.proofs.lemmas.List.{get_or_default}
 use Rattle.cell.specs.Pictures.{Picture}
 use Rattle.cell.specs.Shown.{shown_blank}
@@ -8,7 +8,7 @@ use Rattle.paint.proofs.Strokes.{printed-more, printed-none}
 use Rattle.paint.proofs.pen.Pen.print_again.Goals as goal
 
 pub loop-i-init : goal.loop-i-init
-loop-i-init g c = record { printed = printed-none _ _ c.args.line c.args.column c.args.cells.now c.requires.cursor; same = refl }
+loop-i-init g c = grind (arith, printed-none)
 
 pub loop-i-preserved : goal.loop-i-preserved
 loop-i-preserved g c =
