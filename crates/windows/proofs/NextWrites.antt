@@ -67,7 +67,7 @@ module _ (windows : Windows) (w : ℕ) (s : WindowState) (h : IsStateOf windows 
   -- ---- and upwards
 
   pub starts_below : (f : Drawing) (k : ℕ) → ((y x : ℕ) → k ≤ y → f y x ≡ None) → windows ≡ put windows w (from k f)
-  starts_below f k none = sym (with_map windows _ _ (put-none_from windows.window w h.window h.there f k (λ y x beyond below. none y x beyond)))
+  starts_below f k none = sym (with_map windows _ _ (put-none_from windows.window w h.window h.there f k none))
 
   pub ends_below : (f : Drawing) (k : ℕ) (now : Windows) → ((y x : ℕ) → y < k → f y x ≡ None) → now ≡ put windows w (from k f) → now ≡ put windows w f
   ends_below f k now none is = is ∙ with_map windows _ _ (put-all_from windows.window w h.window h.there f k none)

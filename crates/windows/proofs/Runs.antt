@@ -1,15 +1,15 @@
 -- Characters that are printed in one line, before its last column, are one write of that line.
-use Rattle.std.proofs.Common.{◌≡◌, ℕ, zero, suc, ◌+◌, ◌-◌, ◌<◌, min, max, Bool, true, false, if◌then◌else◌, ◌==◌, ◌&&◌, ◌||◌, nat_lt, nat_le, Option, Some}
+use Rattle.std.proofs.Common.{◌≡◌, ℕ, zero, suc, ◌+◌, ◌-◌, ◌<◌, min, max, Bool, true, false, if◌then◌else◌, ◌==◌, ◌||◌, nat_lt, Option, Some}
 use Rattle.std.proofs.Common.{None, IsSome, is_some, List, [], ◌∷◌, ◌++◌, length, get_or, take, drop, map, ap, arith, refl, sym, ◌∙◌, inl, inr, eq-eqb, add-zero}
 use Rattle.std.specs.Prelude.{option_and_then}
 use Rattle.std.specs.Option.{option_map, option_map_or}
 use Rattle.std.specs.List.{list_any}
 use mathlib.Core.Path.{fun_ext}
-use Rattle.std.proofs.lemmas.Bool.{cases_eq, cases_lt, ne_eqb, lt-ltb, le-leb, eqb-true}
+use Rattle.std.proofs.lemmas.Bool.{cases_eq, ne_eqb, lt-ltb, eqb-true}
 use Rattle.std.proofs.lemmas.Bool.Decides.{nat_tests}
 use Rattle.std.proofs.lemmas.List.{take_more, take-append-drop}
 use Rattle.std.proofs.lemmas.List.Folds.{list_any-append}
-use Rattle.cell.specs.Glyphs.{Glyph, blank, is_printable}
+use Rattle.cell.specs.Glyphs.{Glyph, is_printable}
 use Rattle.cell.specs.Pictures.{Place}
 use Rattle.cell.specs.declared.window.Rect.{Rect}
 use Rattle.world.specs.Windows.{Window, WindowMap, Windows, GridPlace, Drawing, leads, own, own_within, window_limit, over, with_change, after_drawing, put_from, put_windows, put}
@@ -29,7 +29,6 @@ use Rattle.windows.specs.declared.state.WindowState.{WindowState}
 use Rattle.windows.proofs.Calls.{with_state}
 use Rattle.windows.proofs.Rectangles.{frame-at_place}
 use Rattle.windows.proofs.States.{spot-of, window-put}
-use Rattle.windows.proofs.Strokes.{over-some, over-none}
 use Rattle.windows.proofs.Texts.{HasSame, same-typed, joined-none, joined-joined}
 use Rattle.windows.proofs.Typing.{if_true, if_false}
 
@@ -196,69 +195,12 @@ module _ (windows : Windows) (w : ℕ) (a : Window) (there : windows.window w �
       → frame_of_character windows w character ≡ Some (record { top = a.settings.cursor.0; left = a.settings.cursor.1; bottom = a.settings.cursor.0; right = a.settings.cursor.1 })
   covered-printed below left =
       ap (option_and_then (typed_frame windows w character)) there ∙ frame-inside a character printable windows w inside
-      ∙ frame-at_place a a.settings.cursor.0 a.settings.cursor.1 below left (written_glyph a.settings character)
+      ∙ frame-at_place a a.settings.cursor below left (written_glyph a.settings character)
 
 -- ---- a cell and those after it
 
-listed-at : (y x : ℕ) (cells : List Glyph) (v u : ℕ) → ((v == y) && (nat_le x u && nat_lt u (x + length cells))) ≡ true → listed_cells y x cells v u ≡ Some (get_or cells (u - x) blank)
-listed-at y x cells v u h = rw h refl
-
-listed-none : (y x : ℕ) (cells : List Glyph) (v u : ℕ) → ((v == y) && (nat_le x u && nat_lt u (x + length cells))) ≡ false → listed_cells y x cells v u ≡ None
-listed-none y x cells v u h = rw h refl
-
-place-at : (y x : ℕ) (g : Glyph) (v u : ℕ) → (v == y && u == x) ≡ true → at_place (y, x) g v u ≡ Some g
-place-at y x g v u h = rw h refl
-
-place-none : (y x : ℕ) (g : Glyph) (v u : ℕ) → (v == y && u == x) ≡ false → at_place (y, x) g v u ≡ None
-place-none y x g v u h = rw h refl
-
 listed-more : (a : Window) (y x : ℕ) (g : Glyph) (cells : List Glyph) → AreSame a (over (listed_cells y (x + 1) cells) (at_place (y, x) g)) (listed_cells y x (g ∷ cells))
-listed-more a y x g cells v u below on =
-    let more = listed_cells y (x + 1) cells in
-    let one = at_place (y, x) g in
-    elim (cases_eq v y) [
-      | inr other ↦
-          let l = ne_eqb v y other in
-          over-none more one v u (listed-none y (x + 1) cells v u (rw l refl)) ∙ place-none y x g v u (rw l refl) ∙ sym (listed-none y x (g ∷ cells) v u (rw l refl))
-      | inl line ↦
-          let l = eq-eqb v y line in
-          elim (cases_eq u x) [
-            | inl here ↦
-                let k = eq-eqb u x here in
-                let none : nat_le (x + 1) u ≡ false = grind (arith, nat_tests) in
-                let from : nat_le x u ≡ true = grind (arith, nat_tests) in
-                let to : nat_lt u (x + length (g ∷ cells)) ≡ true = grind (arith, nat_tests) in
-                let first : u - x ≡ 0 = omega arith in
-                over-none more one v u (listed-none y (x + 1) cells v u (rw (l, none) refl)) ∙ place-at y x g v u (rw (l, k) refl)
-                ∙ sym (listed-at y x (g ∷ cells) v u (rw (l, from, to) refl) ∙ ap (λ i. Some (get_or (g ∷ cells) i blank)) first)
-            | inr apart ↦
-                let k = ne_eqb u x apart in
-                elim (cases_lt u x) [
-                  | inl before ↦
-                      let none : nat_le (x + 1) u ≡ false = grind (arith, nat_tests) in
-                      let past : nat_le x u ≡ false = grind (arith, nat_tests) in
-                      over-none more one v u (listed-none y (x + 1) cells v u (rw (l, none) refl)) ∙ place-none y x g v u (rw (l, k) refl)
-                      ∙ sym (listed-none y x (g ∷ cells) v u (rw (l, past) refl))
-                  | inr from_x ↦
-                      let past : x < u = omega arith in
-                      let one_on : nat_le (x + 1) u ≡ true = le-leb (x + 1) u (omega arith) in
-                      let from : nat_le x u ≡ true = le-leb x u (omega arith) in
-                      elim (cases_lt u (x + 1 + length cells)) [
-                        | inl inside ↦
-                            let to : nat_lt u (x + 1 + length cells) ≡ true = grind (arith, nat_tests) in
-                            let to_end : nat_lt u (x + length (g ∷ cells)) ≡ true = grind (arith, nat_tests) in
-                            let next : u - x ≡ suc (u - (x + 1)) = omega arith in
-                            over-some more one v u (get_or cells (u - (x + 1)) blank) (listed-at y (x + 1) cells v u (rw (l, one_on, to) refl))
-                            ∙ sym (listed-at y x (g ∷ cells) v u (rw (l, from, to_end) refl) ∙ ap (λ i. Some (get_or (g ∷ cells) i blank)) next)
-                        | inr beyond ↦
-                            let none : nat_lt u (x + 1 + length cells) ≡ false = grind (arith, nat_tests) in
-                            let none_more : nat_lt u (x + length (g ∷ cells)) ≡ false = grind (arith, nat_tests) in
-                            over-none more one v u (listed-none y (x + 1) cells v u (rw (l, one_on, none) refl)) ∙ place-none y x g v u (rw (l, k) refl)
-                            ∙ sym (listed-none y x (g ∷ cells) v u (rw (l, from, none_more) refl))
-                      ]
-                ]
-          ]
-    ]
+listed-more a y x g cells v u below on = grind (arith, cases_eq, nat_tests)
 
 -- ---- the run
 
@@ -287,17 +229,10 @@ set_nothing-at a place true o h e =
     ap (option_map (set_in (with_cursor place))) here ∙ ap (λ (q : Place). Some (set_in (with_cursor q) a)) e ∙ sym here
 set_nothing-at a place false o h e = refl
 
-empty_test : (y x v u : ℕ) → ((v == y) && (nat_le x u && nat_lt u (x + 0))) ≡ false
-empty_test y x v u = elim (cases_lt u x) [
-  | inl before ↦ let past : nat_le x u ≡ false = grind (arith, nat_tests) in grind (arith, nat_tests)
-  | inr from ↦ let none : nat_lt u (x + 0) ≡ false = grind (arith, nat_tests) in grind (arith, nat_tests)
-]
-
 nothing-written : (windows : Windows) (w : ℕ) (a : Window) (y x : ℕ) (place : Place) → windows.window w ≡ Some a → place ≡ a.settings.cursor
     → windows ≡ set (put windows w (listed_cells y x [])) w (with_cursor place)
 nothing-written windows w a y x place there same =
-    let none : (v u : ℕ) → listed_cells y x [] v u ≡ None = λ v u. listed-none y x [] v u (empty_test y x v u) in
-    sym (ap (λ (map : WindowMap). set (record windows { window = map }) w (with_cursor place)) (put-nothing windows.window w (listed_cells y x []) none)
+    sym (ap (λ (map : WindowMap). set (record windows { window = map }) w (with_cursor place)) (put-nothing windows.window w (listed_cells y x []) (λ v u. grind (arith, nat_tests)))
     ∙ ap (λ (map : WindowMap). record windows { window = map })
     (fun_ext (λ u. set_nothing-at a place (u == w) (windows.window u) (λ t. ap windows.window (eqb-true u w t) ∙ there) same)))
 
