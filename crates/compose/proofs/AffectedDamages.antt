@@ -1,12 +1,12 @@
 -- What a change damages, in terms of the windows before it.
-use Rattle.std.proofs.Common.{◌≡◌, ℕ, ◌≤◌, Ok, Option, Some, None, List, refl, sym, subst, ◌∙◌}
+use Rattle.std.proofs.Common.{◌≡◌, ℕ, ◌≤◌, Ok, Option, Some, List, refl, sym, subst, ◌∙◌, arith}
 use Rattle.std.specs.Prelude.{MatchOption, ⊤}
 use Rattle.std.specs.Option.{option_map}
 use Rattle.cell.specs.declared.refusal.Refusal.{Refusal}
 use Rattle.cell.specs.declared.window.Rect.{Rect}
 use Rattle.world.specs.Panels.{Panels}
 use Rattle.world.specs.Windows.{HasPlace, WindowMap, Windows}
-use Rattle.world.specs.Effects.{Change, after_change, after_edit, asks, change_takes_memory, deletes, edit_frame, edit_window, edits, makes, marks, moves, shifts}
+use Rattle.world.specs.Effects.{Change, after_change, after_edit, asks, deletes, edit_frame, edit_window, edits, makes, marks, moves, shifts}
 use Rattle.world.specs.calls.Affected.{change_shows_at, frame_shows_at}
 use Rattle.world.specs.declared.settings.Columns.{Columns}
 use Rattle.world.proofs.MoveLaws.{move_shows-moved}
@@ -27,13 +27,11 @@ use Rattle.compose.proofs.DeskLemmas.{refused-as}
 still-possible : (old new : WindowMap) → SameView new old → (w : ℕ) (frame : Option Rect)
     → ((r : Rect) → frame ≡ Some r → (r.top ≤ r.bottom) × (r.left ≤ r.right) × HasPlace old w r.bottom r.right)
     → MatchOption (option_map (λ r. Written (record { 0 = w }) r) frame) ⊤ (IsPossible new)
-still-possible old new view w None inside = tt
-still-possible old new view w (Some r) inside = let h = inside r refl in (h.0, h.1, there-still new old view w r.bottom r.right h.2)
+still-possible old new view w frame inside = grind (arith, there-still)
 
 written-shows : (window : WindowMap) (panels : Panels) (w : ℕ) (frame : Option Rect) (y x : ℕ)
     → any_shows_at window panels (option_map (λ r. Written (record { 0 = w }) r) frame) y x ≡ frame_shows_at window panels w frame y x
-written-shows window panels w None y x = refl
-written-shows window panels w (Some r) y x = refl
+written-shows window panels w frame y x = grind arith
 
 possible-after : (old : Windows) (change : Change) → MatchOption (affected_by old change) ⊤ (IsPossible (after_change old change).window)
 possible-after old (asks reply) = tt
@@ -82,16 +80,4 @@ module _ (old new : WindowTable) (refusal : Option Refusal) (change : Change) (o
   pub damaging : (panels : Panels) (before after : List (Option Columns)) → Damages new.columns (any_shows_at (windows new).window panels outcome.affected) before after
       → ChangedDamaging old panels refusal change before (Ok outcome.reply) new after
   unfolding Affects
-  damaging panels before after h = record {
-    call = record {
-      refused = refused-as (change_takes_memory change) refusal (λ (o : Outcome). o.reply) (Ok outcome) a.0.refused;
-      reply = a.0.reply;
-      changed = a.0.changed;
-      unchanged = tt;
-      sound = a.0.sound;
-    };
-    damaged = subst (λ n. Damages n (change_shows_at (windows old) panels change) before after) same-size.columns
-        (damages-as new.columns (any_shows_at (windows new).window panels outcome.affected) (change_shows_at (windows old) panels change) before after h
-        (λ y x below left at. shows panels y x ∙ at) (λ y x left at. sym (shows panels y x) ∙ at));
-    undamaged = tt;
-  }
+  damaging panels before after h = grind (arith, refused-as, changed, same-size, damages-as, shows)

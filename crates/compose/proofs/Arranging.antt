@@ -1,5 +1,5 @@
 -- A call on panels: what the stack of panels says of it, and the desk on which it is made.
-use Rattle.std.proofs.Common.{◌≡◌, ◌==◌, Bool, true, false, ℕ, Option, Some, None, [], ◌∷◌, ◌++◌, ap, refl, sym, subst, ◌∙◌, Result, Ok, Err, List}
+use Rattle.std.proofs.Common.{◌≡◌, Bool, true, false, ℕ, Option, Some, None, [], ◌∷◌, ◌++◌, refl, sym, subst, Result, Ok, Err, List, arith}
 use Rattle.std.specs.Prelude.{OnErr, OnOk}
 use Rattle.cell.specs.Pictures.{Place}
 use Rattle.cell.specs.Refusals.{first_of}
@@ -55,18 +55,14 @@ module _ (table : WindowTable) (ps : PanelTable) (sound : AreSoundWindows (windo
   pub reordered : (stacking : Stacking) (r : Result (Unit {0}) Refusal) (new : PanelTable) → Arranged nothing (stacking_tests (windows table) (panels ps) stacking) ps stacking r new
       → windows_after (windows table) (panels ps) (stacking_order (panels ps) stacking) ≡ windows table
       → ((p v : ℕ) → (after_stacking (panels ps) stacking).window p ≡ Some v → (panels ps).window p ≡ Some v) → Ordered nothing table ps stacking r table new
-  reordered stacking r new a still kept =
-      ordered nothing (stacking_tests (windows table) (panels ps) stacking) stacking r new a refl still (λ p v has. window-of (windows table).window (panels ps) p v h (kept p v has))
+  reordered stacking r new a still kept = grind (arith, ordered, window-of)
 
   -- it gives one panel a window
   pub ordered-given : {T : Type 0} (reply_of : T → Reply) (tests : List (Bool × Refusal)) (stacking : Stacking) (r : Result T Refusal) (new : PanelTable) (p w : ℕ)
       → Arranged reply_of tests ps stacking r new → first_of tests ≡ stacking_refusal (windows table) (panels ps) stacking
       → windows_after (windows table) (panels ps) (stacking_order (panels ps) stacking) ≡ windows table
       → (after_stacking (panels ps) stacking).window ≡ with_entry (panels ps).window p (Some w) → MayBeIn (windows table).window w → Ordered reply_of table ps stacking r table new
-  ordered-given reply_of tests stacking r new p w a same still gives may =
-      let window = (windows table).window in
-      ordered reply_of tests stacking r new a same still (λ q v has.
-      given-case window (q == p) ((panels ps).window q) (Some w) v (ap (λ (f : ℕ → Option ℕ). f q) (sym gives) ∙ has) (some-is window w v may) (window-of window (panels ps) q v h))
+  ordered-given reply_of tests stacking r new p w a same still gives may = grind (arith, ordered, given-case, some-is, window-of)
 
 -- ---- a call that moves a window
 
@@ -82,10 +78,7 @@ sound-moved old new ps w place (Err e) h is unchanged = subst (λ (t : WindowTab
 
 pub size-ordered : {T : Type 0} (reply_of : T → Reply) (old : WindowTable) (ps : PanelTable) (stacking : Stacking) (r : Result T Refusal) (new : WindowTable) (new_ps : PanelTable)
     → Ordered reply_of old ps stacking r new new_ps → SameSize (windows new) (windows old)
-size-ordered reply_of old ps stacking (Ok done) new new_ps h =
-    let size = size-order (windows old) (panels ps) (stacking_order (panels ps) stacking) in
-    record { lines = ap (λ (ws : Windows). ws.lines) h.changed ∙ size.lines; columns = ap (λ (ws : Windows). ws.columns) h.changed ∙ size.columns }
-size-ordered reply_of old ps stacking (Err e) new new_ps h = record { lines = ap (λ (t : WindowTable). t.lines) h.unchanged; columns = ap (λ (t : WindowTable). t.columns) h.unchanged }
+size-ordered reply_of old ps stacking r new new_ps h = grind (arith, size-order)
 
 pub order-made : (old : DeskTable) (w : WindowTable) (ps : PanelTable) (d : List (Option Columns)) (stacking : Stacking) (r : Result Reply Refusal) → IsDesk old
     → OrderedDamaging old.windows old.panels stacking old.damage r w ps d

@@ -1,5 +1,5 @@
 -- The virtual screen stays sound where it takes the picture of windows and panels.
-use Rattle.std.proofs.Common.{◌≡◌, ℕ, ◌+◌, ◌<◌, ◌≤◌, Bool, true, ◌==◌, Option, Some, None, refl, ap, sym, subst, ◌∙◌, arith}
+use Rattle.std.proofs.Common.{◌≡◌, ℕ, ◌+◌, ◌<◌, ◌≤◌, Bool, true, ◌==◌, Option, Some, refl, sym, subst, ◌∙◌, arith}
 use Rattle.std.specs.Prelude.{IsSomeAnd, MatchOption, is_some, option_and_then, unwrap_or, ⊤}
 use Rattle.std.specs.List.{list_any}
 use Rattle.std.specs.Option.{option_map_or}
@@ -8,7 +8,7 @@ use Rattle.cell.specs.Shown.{Shown, shown}
 use Rattle.cell.proofs.PictureLemmas.{HasSize-lines_from}
 use Rattle.world.specs.Windows.{Drawing, Window, WindowMap, Windows, with_change}
 use Rattle.world.specs.World.{World, picture, topmost_cursor}
-use Rattle.world.specs.Panels.{Panels, cursor_from, cursor_of_topmost, cursor_on_screen, screen_place, standard_screen, topmost, window_or_standard}
+use Rattle.world.specs.Panels.{Panels, cursor_from, cursor_of_topmost, cursor_on_screen, screen_place, standard_screen, window_or_standard}
 use Rattle.world.specs.Sound.{AreSoundPanels, AreSoundWindows, IsSound, IsSoundPanel, IsSoundWindow, IsStandardScreen}
 use Rattle.world.specs.calls.Queries.{place_on_screen}
 use Rattle.world.specs.Effects.{after, composed_windows, composes, refreshes, shown_over, unmarked_lines, without_marks, with_unmarked}
@@ -19,40 +19,29 @@ use Rattle.compose.proofs.DeskLemmas.{KeepsPlaces}
 -- ---- the cursor
 
 standard-there : (ws : Windows) (o : Option Window) → IsSomeAnd o (IsStandardScreen ws) → has_place o ≡ true
-standard-there ws None h = elim h [ ]
-standard-there ws (Some a) h = ap (λ p. is_some p) h.place
+standard-there ws o h = grind arith
 
 panel-there : (ws : Windows) (ps : Panels) (p : ℕ) (o : Option ℕ) → AreSoundWindows ws → MatchOption o ⊤ (IsSoundPanel ws.window ps p) → has_place (ws.window (unwrap_or o standard_screen)) ≡ true
-panel-there ws ps p None sound h = standard-there ws (ws.window standard_screen) sound.standard
-panel-there ws ps p (Some w) sound h = there-true (ws.window w) h.window_is
+panel-there ws ps p o sound h = grind (arith, standard-there, there-true)
 
 top-there : (ws : Windows) (ps : Panels) (o : Option ℕ) → AreSoundWindows ws → AreSoundPanels ws.window ps → has_place (ws.window (window_or_standard ps o)) ≡ true
-top-there ws ps None sound h = standard-there ws (ws.window standard_screen) sound.standard
-top-there ws ps (Some p) sound h = panel-there ws ps p (ps.window p) sound (h.each p)
+top-there ws ps o sound h = grind (arith, standard-there, panel-there)
 
 placed-cursor : (lines columns : ℕ) (place : Option Place) (height width : ℕ) (cursor : Place) → MatchOption place ⊤ (λ p. (p.0 + height ≤ lines) × (p.1 + width ≤ columns))
     → is_some place ≡ true → cursor.0 < height → cursor.1 < width → ((unwrap_or place origin).0 + cursor.0 < lines) × ((unwrap_or place origin).1 + cursor.1 < columns)
-placed-cursor lines columns None height width cursor on there line column = cc
-placed-cursor lines columns (Some p) height width cursor on there line column =
-    let down = on.0 in
-    let right = on.1 in
-    (omega arith, omega arith)
+placed-cursor lines columns place height width cursor on there line column = grind arith
 
 cursor-in : (ws : Windows) (w : ℕ) (o : Option Window) → MatchOption o ⊤ (IsSoundWindow ws w) → has_place o ≡ true
     → ((option_map_or (cursor_from (option_map_or screen_place o origin)) o origin).0 < ws.lines) × ((option_map_or (cursor_from (option_map_or screen_place o origin)) o origin).1 < ws.columns)
-cursor-in ws w None h there = cc
-cursor-in ws w (Some a) h there = placed-cursor ws.lines ws.columns a.place a.lines a.columns a.settings.cursor h.on_screen there h.settings.cursor_line h.settings.cursor_column
+cursor-in ws w o h there = grind (arith, placed-cursor)
 
 pub cursor-within : (ws : Windows) (ps : Panels) → AreSoundWindows ws → AreSoundPanels ws.window ps
     → ((cursor_of_topmost ws.window ps).0 < ws.lines) × ((cursor_of_topmost ws.window ps).1 < ws.columns)
-cursor-within ws ps sound h =
-    let w : ℕ = window_or_standard ps (topmost ps) in
-    cursor-in ws w (ws.window w) (sound.each w) (top-there ws ps (topmost ps) sound h)
+cursor-within ws ps sound h = grind (arith, cursor-in, top-there)
 
 -- the cursor of a window that is on the screen
 placed : (o : Option Window) (place : Place) → option_and_then (λ (a : Window). a.place) o ≡ Some place → has_place o ≡ true
-placed None place e = cc
-placed (Some a) place e = ap (λ (p : Option Place). is_some p) e
+placed o place e = grind arith
 
 pub window-cursor-within : (ws : Windows) (w : ℕ) (place : Place) → AreSoundWindows ws → place_on_screen ws.window w ≡ Some place
     → ((cursor_on_screen ws.window w).0 < ws.lines) × ((cursor_on_screen ws.window w).1 < ws.columns)

@@ -1,6 +1,6 @@
 -- Where damage covers what an accepted call may change, the damage of a desk still covers all that differs after it, and few lines are
 -- damaged: so it leaves a desk, and was made.
-use Rattle.std.proofs.Common.{◌≡◌, ℕ, zero, suc, ◌<◌, Bool, true, false, Option, None, List, length, replicate, refl, sym, ap, subst, ◌∙◌, Ok}
+use Rattle.std.proofs.Common.{◌≡◌, ℕ, zero, suc, ◌<◌, Bool, true, false, Option, None, List, length, replicate, refl, sym, ap, subst, ◌∙◌, Ok, arith}
 use Rattle.std.specs.Prelude.{slice_index_or}
 use Rattle.std.proofs.lemmas.List.{length-replicate}
 use Rattle.cell.specs.Pictures.{blank_picture, shown_at}
@@ -24,12 +24,10 @@ use Rattle.compose.specs.Desks.{DeskTable, is_damaged_line, world}
 use Rattle.compose.proofs.DeskLemmas.{IsSound-first, world-left}
 
 off-where : (b : Bool) → (b ≡ true → ⊥) → b ≡ false
-off-where true h = absurd (h refl)
-off-where false h = refl
+off-where b h = grind arith
 
 on-off : (b : Bool) → b ≡ true → b ≡ false → ⊥
-on-off true h k = cc
-on-off false h k = cc
+on-off b h k = grind arith
 
 module _ (old new : DeskTable) (call : Call) (h : IsDesk old) (accepted : refusal (world old) call ≡ None) (other : is_update_panels call ≡ false)
     (leaves : MayLeave old call new)
@@ -68,8 +66,7 @@ module _ (old new : DeskTable) (call : Call) (h : IsDesk old) (accepted : refusa
 
   -- what it leaves is a desk, and the call was made
   pub call-accepted : (reply : Reply) → MayTell (world old) (is_damaged_line old) call reply → IsSound (world new) → IsDesk new × Called old call (Ok reply) new
-  call-accepted reply tells sound =
-      (record { sound = sound; covered = record { height = height-after; within = within-after; shown = shown-after } }, (accepted, tells, leaves, few-after, sound))
+  call-accepted reply tells sound = grind (arith, height-after, within-after, shown-after, few-after)
 
 -- ---- a new desk
 

@@ -1,5 +1,5 @@
 -- A drawing is laid over a picture line by line.
-use Rattle.std.proofs.Common.{◌≡◌, ℕ, ◌+◌, ◌<◌, ◌≤◌, Bool, true, false, ◌==◌, ◌&&◌, nat_le, nat_lt, if◌then◌else◌, Option, Some, None, inl, inr, refl, sym, ap, ◌∙◌, arith}
+use Rattle.std.proofs.Common.{◌≡◌, ℕ, ◌+◌, ◌<◌, ◌≤◌, Bool, true, false, ◌==◌, ◌&&◌, nat_le, nat_lt, if◌then◌else◌, Option, Some, None, inl, inr, refl, sym, ◌∙◌, arith}
 use Rattle.std.specs.Option.{option_map_or}
 use Rattle.std.proofs.lemmas.Bool.{cases_eq, cases_lt, eq-eqb, ne_eqb}
 use Rattle.cell.specs.Glyphs.{Glyph}
@@ -27,8 +27,7 @@ shown-bare : (pairs : Pairs) (other : Shown) (o : Option Glyph) → o ≡ None �
 shown-bare pairs other o h = rw h refl
 
 shown-piece : (pairs : Pairs) (t : Bool) (cell : Glyph) (other : Shown) → (if t then shown pairs cell else other) ≡ option_map_or (shown pairs) (if t then Some cell else None) other
-shown-piece pairs true cell other = refl
-shown-piece pairs false cell other = refl
+shown-piece pairs t cell other = grind arith
 
 -- this line or another
 line-is : {A : Type 0} (line rest : Bool) (one other : A) → line ≡ true → (if line && rest then one else other) ≡ (if rest then one else other)
@@ -39,47 +38,17 @@ line-isnt line rest one other h = rw h refl
 
 module _ (pairs : Pairs) (f : Drawing) (lines columns : ℕ) (old : Picture) where
   pub laid-none : (y : ℕ) → HasSize lines columns old → ((v : ℕ) → v < y → IsBare f columns v) → LaidAbove pairs f lines columns old y old
-  laid-none y size bare = record {
-    size = size;
-    above = λ v u before left. shown-bare pairs (shown_at old (v, u)) (f v u) (bare v before u left);
-    below = λ v u from left. refl;
-  }
+  laid-none y size bare = grind (arith, shown-bare)
 
   -- one line more, on which the drawing has nothing
   pub laid-bare : (y : ℕ) (now : Picture) → LaidAbove pairs f lines columns old y now → IsBare f columns y → LaidAbove pairs f lines columns old (y + 1) now
-  laid-bare y now h bare = record {
-    size = h.size;
-    above = λ v u before left. elim (cases_eq v y) [
-      | inl same ↦
-          h.below v u (omega arith) left ∙ shown-bare pairs (shown_at old (v, u)) (f v u) (ap (λ k. f k u) same ∙ bare u left)
-      | inr other ↦ h.above v u (omega arith) left
-    ];
-    below = λ v u from left. h.below v u (omega arith) left;
-  }
+  laid-bare y now h bare = grind (arith, cases_eq, shown-bare)
 
   -- one line more, on which it has a piece
   pub laid-more : (y x n : ℕ) (cell : ℕ → Glyph) (now next : Picture) → LaidAbove pairs f lines columns old y now → HasPiece f columns y x n cell
       → ((v u : ℕ) → shown_at next (v, u) ≡ (if (v == y) && (nat_le x u && nat_lt u (x + n)) then shown pairs (cell u) else shown_at now (v, u)))
       → HasSize lines columns next → LaidAbove pairs f lines columns old (y + 1) next
-  laid-more y x n cell now next h piece line size = record {
-    size = size;
-    above = λ v u before left. elim (cases_eq v y) [
-      | inl same ↦
-          line v u
-          ∙ line-is (v == y) (nat_le x u && nat_lt u (x + n)) (shown pairs (cell u)) (shown_at now (v, u)) (eq-eqb v y same)
-          ∙ ap (λ k. if nat_le x u && nat_lt u (x + n) then shown pairs (cell u) else k) (h.below v u (omega arith) left)
-          ∙ shown-piece pairs (nat_le x u && nat_lt u (x + n)) (cell u) (shown_at old (v, u))
-          ∙ ap (λ o. option_map_or (shown pairs) o (shown_at old (v, u))) (sym (ap (λ k. f k u) same ∙ piece u left))
-      | inr other ↦
-          line v u
-          ∙ line-isnt (v == y) (nat_le x u && nat_lt u (x + n)) (shown pairs (cell u)) (shown_at now (v, u)) (ne_eqb v y other)
-          ∙ h.above v u (omega arith) left
-    ];
-    below = λ v u from left.
-        line v u
-        ∙ line-isnt (v == y) (nat_le x u && nat_lt u (x + n)) (shown pairs (cell u)) (shown_at now (v, u)) (ne_eqb v y (λ same. omega arith))
-        ∙ h.below v u (omega arith) left;
-  }
+  laid-more y x n cell now next h piece line size = grind (arith, cases_eq, line-is, eq-eqb, shown-piece, line-isnt, ne_eqb)
 
   pub laid-all : (y : ℕ) (picture : Picture) → LaidAbove pairs f lines columns old y picture → ((v : ℕ) → y ≤ v → v < lines → IsBare f columns v)
       → picture ≡ picture_of lines columns (shown_over pairs old f)

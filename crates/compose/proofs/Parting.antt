@@ -8,7 +8,7 @@ use Rattle.cell.specs.declared.window.WinId.{WinId}
 use Rattle.world.specs.Panels.{Panels, panel_holds}
 use Rattle.world.specs.Windows.{WindowMap, Windows}
 use Rattle.world.specs.Sound.{AreSoundPanels, IsSoundPanel}
-use Rattle.world.specs.Effects.{Order, adds, carries, changes, orders, panels_after, windows_after}
+use Rattle.world.specs.Effects.{Order, orders, panels_after, windows_after}
 use Rattle.world.specs.calls.Affected.{order_shows_at, panel_shows_at, stays_on_top}
 use Rattle.world.specs.calls.Stacking.{new_panel_number, next_panel, stacking_order}
 use Rattle.world.specs.declared.call.Stacking.{Stacking}
@@ -18,8 +18,7 @@ use Rattle.picture.proofs.VisiblePanels.{absent-hidden}
 use Rattle.compose.specs.steps.Changes.{named_panel, order_panel, ordered_panel, top_window}
 
 none-is : (o : Option ℕ) → is_none o ≡ true → o ≡ None
-none-is None h = refl
-none-is (Some n) h = cc
+none-is o h = grind arith
 
 find-free : (window : ℕ → Option ℕ) (ps : List ℕ) (p : ℕ) → find (λ q. is_none (window q)) ps ≡ Some p → window p ≡ None
 find-free window [] p is = cc
@@ -33,8 +32,7 @@ find-free window (q ∷ ps) p is = by_test (is_none (window q)) refl (λ rest. f
 
 -- no panel has the number 0
 no-panel : (window : WindowMap) (ps : Panels) (o : Option ℕ) → ps.window 0 ≡ o → MatchOption o ⊤ (IsSoundPanel window ps 0) → o ≡ None
-no-panel window ps None is h = refl
-no-panel window ps (Some w) is h = let first = h.from_one in absurd (omega (arith, first))
+no-panel window ps o is h = grind arith
 
 next-free : (window : WindowMap) (ps : Panels) (o : Option ℕ) → AreSoundPanels window ps → new_panel_number ps ≡ o → ps.window (unwrap_or o 0) ≡ None
 next-free window ps None sound is = no-panel window ps (ps.window 0) refl (sound.each 0)
@@ -57,25 +55,17 @@ order_stays ps _ = false
 
 same-window : (one other : Option WinId) → option_map_or (λ w. option_map_or (λ u. u.0 == w.0) other false) one false
     ≡ option_map_or (λ w. option_map_or (λ u. u == w) (option_map (λ (u : WinId). u.0) other) false) (option_map (λ (u : WinId). u.0) one) false
-same-window None other = refl
-same-window (Some w) None = refl
-same-window (Some w) (Some u) = refl
+same-window one other = grind arith
 
 -- it does so where the window on top is the same one before and after
 pub stays-where-same : (ps : Panels) (order : Order) (one other : Option WinId) → option_map (λ (u : WinId). u.0) one ≡ top_window ps (ordered_panel order)
     → option_map (λ (u : WinId). u.0) other ≡ top_window (panels_after ps order) (ordered_panel order)
     → option_map_or (λ w. option_map_or (λ u. u.0 == w.0) other false) one false ≡ order_stays ps order
-stays-where-same ps (orders p order) one other was is = same-window one other ∙ rw (was, is) refl
-stays-where-same ps (changes change) one other was is = same-window one other ∙ rw was refl
-stays-where-same ps (adds p w) one other was is = same-window one other ∙ rw was refl
-stays-where-same ps (carries p place) one other was is = same-window one other ∙ rw was refl
+stays-where-same ps order one other was is = grind (arith, same-window)
 
 -- where a panel stays on top, no place is affected
 pub unseen-where-same : (ws : Windows) (ps : Panels) (order : Order) (y x : ℕ) → order_stays ps order ≡ true → order_shows_at ws ps order y x ≡ false
-unseen-where-same ws ps (orders p order) y x stays = rw stays refl
-unseen-where-same ws ps (changes change) y x stays = absurd (true≢false (sym stays))
-unseen-where-same ws ps (adds p w) y x stays = absurd (true≢false (sym stays))
-unseen-where-same ws ps (carries p place) y x stays = absurd (true≢false (sym stays))
+unseen-where-same ws ps order y x stays = grind (arith, true≢false)
 
 -- Of the changed panel, before or after, it is that of the named one before, or that of the changed one after, but where the panel stays on
 -- top.
@@ -100,5 +90,4 @@ stacking-parts ws new ps rest stacking named changed before after y x sound is a
     both-parts ws ps stacking y x sound ∙ (λ i. not (moves i) && (sym named_is i || sym changed_is i))
 
 pub part-within : (lines columns height : ℕ) (part : Option Rect) → MatchOption part ⊤ (IsFrameWithin lines columns) → lines ≡ height → MatchOption part ⊤ (λ r. IsFrameWithin height (r.right + 1) r)
-part-within lines columns height None h same = tt
-part-within lines columns height (Some r) h same = record { bottom = let bottom = h.bottom in omega (arith, bottom, same); ordered = h.ordered; right = omega arith }
+part-within lines columns height part h same = grind arith

@@ -1,6 +1,6 @@
 -- How many cells update_panels reads: as many as there are damaged columns. That is at least as many as it changes, and at most all of the
 -- damaged lines.
-use Rattle.std.proofs.Common.{◌≡◌, ℕ, zero, suc, ◌+◌, ◌-◌, ◌*◌, ◌<◌, ◌≤◌, max, Bool, true, false, ◌==◌, ◌&&◌, nat_le, if◌then◌else◌, Option, Some, None, is_some, List, [], ◌∷◌, length, refl, sym}
+use Rattle.std.proofs.Common.{◌≡◌, ℕ, zero, suc, ◌+◌, ◌-◌, ◌*◌, ◌<◌, ◌≤◌, max, Bool, true, false, if◌then◌else◌, Option, Some, None, is_some, List, [], ◌∷◌, length, sym}
 use Rattle.std.proofs.Common.{ap, subst, arith}
 use Rattle.std.specs.Prelude.{slice_index_or}
 use Rattle.std.specs.List.{count_by, range_with_len}
@@ -20,8 +20,7 @@ one-line-more d s = let e : s + 1 ≡ suc s = omega arith in ap (cells_above d) 
 -- ---- at most the columns of each damaged line
 
 line-few : (columns : ℕ) (c : Option Columns) → AreColumnsWithin columns c → cells_of_line c ≤ (if is_some c then 1 else 0) * columns
-line-few columns None h = omega arith
-line-few columns (Some r) h = let last = h.1 in let e : 1 * columns ≡ columns = omega arith in rw e (omega (arith, last))
+line-few columns c h = grind arith
 
 count-first : (test : ℕ → Bool) (s n : ℕ) → count_by test (range_with_len s (suc n)) ≡ (if test s then 1 else 0) + count_by test (range_with_len (s + 1) n)
 count-first test s n = sum_by-cons (λ x. if test x then 1 else 0) s (range_with_len (s + 1) n)
@@ -45,17 +44,13 @@ few-cells columns d h (suc n) s =
 -- ---- at least the places that differ
 
 same-colour : (a : Option ℕ) → same_colour a a ≡ true
-same-colour None = refl
-same-colour (Some n) = eq-eqb n n refl
+same-colour a = grind (arith, eq-eqb)
 
 same-rendition : (a : Rendition) → same_rendition a a ≡ true
-same-rendition a =
-    and_from (a.attributes == a.attributes) (same_colour a.foreground a.foreground && same_colour a.background a.background) (eq-eqb a.attributes a.attributes refl)
-    (and_from (same_colour a.foreground a.foreground) (same_colour a.background a.background) (same-colour a.foreground) (same-colour a.background))
+same-rendition a = grind (arith, and_from, eq-eqb, same-colour)
 
 same-itself : (a b : Shown) → a ≡ b → same_shown a b ≡ true
-same-itself a b same = subst (λ c. same_shown a c ≡ true) same
-    (and_from (a.character == a.character) (same_rendition a.rendition a.rendition) (eq-eqb a.character a.character refl) (same-rendition a.rendition))
+same-itself a b same = grind (arith, and_from, eq-eqb, same-rendition)
 
 -- the damaged columns from s on
 abbrev columns-from : Option Columns → ℕ → ℕ
@@ -63,23 +58,13 @@ columns-from None s = 0
 columns-from (Some r) s = r.last + 1 - max s r.first
 
 fewer-from : (c : Option Columns) (s : ℕ) → columns-from c (s + 1) ≤ columns-from c s
-fewer-from None s = omega arith
-fewer-from (Some r) s = omega arith
+fewer-from c s = grind arith
 
 one-less : (c : Option Columns) (s : ℕ) → among c s ≡ true → 1 + columns-from c (s + 1) ≤ columns-from c s
-one-less None s h = cc
-one-less (Some r) s h =
-    let both = and_parts (nat_le r.first s) (nat_le s r.last) h in
-    let first = leb-true r.first s both.0 in
-    let last = leb-true s r.last both.1 in
-    omega arith
+one-less c s h = grind (arith, and_parts, leb-true)
 
 cell-differs : (c : Option Columns) (s rest : ℕ) (b : Bool) → (among c s ≡ false → b ≡ true) → rest ≤ columns-from c (s + 1) → (if b then 0 else 1) + rest ≤ columns-from c s
-cell-differs c s rest true h below = let less = fewer-from c s in omega (arith, below, less)
-cell-differs c s rest false h below = by_case (among c s) refl where
-  by_case : (t : Bool) → among c s ≡ t → 1 + rest ≤ columns-from c s
-  by_case true is = let less = one-less c s is in omega (arith, below, less)
-  by_case false is = let never : false ≡ true = h is in cc
+cell-differs c s rest b h below = grind (arith, fewer-from, one-less)
 
 line-differs : (c : Option Columns) (s : ℕ) (a b : List Shown) → ((x : ℕ) → x < length a → among c (s + x) ≡ false → slice_index_or a x shown_blank ≡ slice_index_or b x shown_blank)
     → length a ≡ length b
@@ -94,8 +79,7 @@ line-differs c s (p ∷ a) (q ∷ b) h same =
     cell-differs c s (line_difference a b) (same_shown p q) first rest
 
 from-none : (c : Option Columns) → columns-from c 0 ≡ cells_of_line c
-from-none None = refl
-from-none (Some r) = let e : max 0 r.first ≡ r.first = omega arith in rw e refl
+from-none c = grind arith
 
 -- pictures that are the same where nothing is damaged
 pub differs-less : (d : List (Option Columns)) (s : ℕ) (old new : Picture)

@@ -1,6 +1,6 @@
 -- What noutrefresh and pnoutrefresh draw on each line of the screen.
-use Rattle.std.proofs.Common.{◌≡◌, ℕ, ◌+◌, ◌-◌, ◌<◌, ◌≤◌, Bool, true, false, ◌&&◌, ◌||◌, not, [], ◌∷◌, nat_le, nat_lt, if◌then◌else◌, Option, Some, None, refl, sym, ap, subst, ◌∙◌, arith}
-use Rattle.std.specs.Prelude.{MatchOption, unwrap_or, ⊤, option_and_then, is_none}
+use Rattle.std.proofs.Common.{◌≡◌, ℕ, ◌+◌, ◌-◌, ◌<◌, ◌≤◌, Bool, true, false, ◌&&◌, ◌||◌, not, [], ◌∷◌, nat_le, nat_lt, if◌then◌else◌, Option, Some, None, refl, sym, ap, ◌∙◌, arith}
+use Rattle.std.specs.Prelude.{unwrap_or, option_and_then, is_none}
 use Rattle.std.specs.Option.{option_map_or}
 use Rattle.std.proofs.lemmas.Bool.{leb-true, ltb-true, ltb-false, not-false, and_parts, or_parts}
 use Rattle.std.proofs.lemmas.Bool.Decides.{nat_tests}
@@ -8,12 +8,10 @@ use Rattle.cell.specs.Glyphs.{Glyph}
 use Rattle.cell.specs.Pictures.{Place, origin}
 use Rattle.cell.specs.declared.limits.TheConstants.{LARGEST_PAD, LARGEST_SCREEN}
 use Rattle.world.specs.Windows.{HasPlace, Window, Windows, cell_at}
-use Rattle.world.specs.Sound.{AreColumnsWithin, AreSoundWindows, IsSoundWindow}
+use Rattle.world.specs.Sound.{AreSoundWindows}
 use Rattle.world.specs.calls.Copying.{copywin_drawing}
-use Rattle.world.specs.calls.Making.{is_pad}
-use Rattle.world.specs.calls.Writing.{lacks_place}
 use Rattle.world.specs.calls.Queries.{touched_columns}
-use Rattle.world.specs.calls.Refresh.{among, is_beyond, refresh_refusal, touched_cells}
+use Rattle.world.specs.calls.Refresh.{among, refresh_refusal, touched_cells}
 use Rattle.world.specs.declared.call.Refresh.TheVariants.{Pnoutrefresh}
 use Rattle.cell.specs.Refusals.{first_of}
 use Rattle.cell.specs.declared.refusal.Refusal.TheVariants.{BadRectangle, NoSuchWindow, NotPad, OffScreen, OutsideWindow}
@@ -31,17 +29,11 @@ drawn_at place lines columns touched cells v u =
     then Some (cells (v - (unwrap_or place origin).0) (u - (unwrap_or place origin).1)) else None
 
 same-if : (t s : Bool) (one other : Glyph) → t ≡ s → (s ≡ true → one ≡ other) → (if t then Some one else None) ≡ (if s then Some other else None)
-same-if t true one other same h = rw same (ap (λ (g : Glyph). Some g) (h refl))
-same-if t false one other same h = rw same refl
+same-if t s one other same h = grind arith
 
 module _ (windows : Windows) (w : ℕ) (place : Place) (lines : ℕ) (h : IsPlacedAt windows w place lines) where
   drawn-is : (v u : ℕ) → touched_cells windows.window w v u ≡ drawn_at (Some place) h.window.lines h.window.columns h.window.touched (λ y x. cell_at windows.window w y x) v u
-  drawn-is v u =
-      ap (λ (o : Option Window). let p = option_map_or (λ (a : Window). unwrap_or a.place origin) o origin in
-      if option_map_or (λ (a : Window). option_map_or (λ q. (nat_le q.0 v && nat_lt v (q.0 + a.lines)) && (nat_le q.1 u && nat_lt u (q.1 + a.columns))) a.place false) o false
-      && option_map_or (λ (a : Window). among (a.touched (v - p.0)) (u - p.1)) o false
-      then Some (cell_at windows.window w (v - p.0) (u - p.1)) else None) h.there
-      ∙ ap (λ (p : Option Place). drawn_at p h.window.lines h.window.columns h.window.touched (λ y x. cell_at windows.window w y x) v u) h.at
+  drawn-is v u = grind arith
 
   off : (v u : ℕ) (t : Bool) (cell : Glyph) → ((nat_le place.0 v && nat_lt v (place.0 + h.window.lines)) && (nat_le place.1 u && nat_lt u (place.1 + h.window.columns))) ≡ false
       → (if ((nat_le place.0 v && nat_lt v (place.0 + h.window.lines)) && (nat_le place.1 u && nat_lt u (place.1 + h.window.columns))) && t then Some cell else None) ≡ None
@@ -59,43 +51,17 @@ module _ (windows : Windows) (w : ℕ) (place : Place) (lines : ℕ) (h : IsPlac
       ≡ (if ((nat_le place.0 (place.0 + y) && nat_lt (place.0 + y) (place.0 + h.window.lines)) && (nat_le place.1 u && nat_lt u (place.1 + h.window.columns))) && among (h.window.touched y)
       (u - place.1)
       then Some (cell_at windows.window w y (u - place.1)) else None)
-  on-line y u =
-      drawn-is (place.0 + y) u
-      ∙ ap (λ k. if ((nat_le place.0 (place.0 + y) && nat_lt (place.0 + y) (place.0 + h.window.lines)) && (nat_le place.1 u && nat_lt u (place.1 + h.window.columns))) && among (h.window.touched k)
-      (u - place.1)
-      then Some (cell_at windows.window w k (u - place.1)) else None) (let e : place.0 + y - place.0 ≡ y = omega arith in e)
+  on-line y u = grind (arith, drawn-is)
 
   none-there : (t : Bool) (cell : Glyph) → (if t && false then Some cell else None) ≡ None
-  none-there true cell = refl
-  none-there false cell = refl
+  none-there t cell = grind arith
 
   pub bare-line : (y : ℕ) → h.window.touched y ≡ None → IsBare (touched_cells windows.window w) windows.columns (place.0 + y)
-  bare-line y none u left =
-      on-line y u
-      ∙ ap (λ (o : Option Columns). if ((nat_le place.0 (place.0 + y) && nat_lt (place.0 + y) (place.0 + h.window.lines)) && (nat_le place.1 u && nat_lt u (place.1 + h.window.columns))) && among o
-      (u - place.1)
-      then Some (cell_at windows.window w y (u - place.1)) else None) none
-      ∙ none-there ((nat_le place.0 (place.0 + y) && nat_lt (place.0 + y) (place.0 + h.window.lines)) && (nat_le place.1 u && nat_lt u (place.1 + h.window.columns)))
-      (cell_at windows.window w y (u - place.1))
+  bare-line y none u left = grind (arith, on-line, none-there)
 
   pub touched-piece : (y : ℕ) (r : Columns) → y < lines → h.window.touched y ≡ Some r
       → HasPiece (touched_cells windows.window w) windows.columns (place.0 + y) (place.1 + r.first) (r.last - r.first + 1) (λ u. cell_at windows.window w y (r.first + (u - (place.1 + r.first))))
-  touched-piece y r below some u left =
-      let height = h.height in
-      let within : (r.first ≤ r.last) × (r.last < h.window.columns) = subst (λ (o : Option Columns). AreColumnsWithin h.window.columns o) some (h.touched y) in
-      let ordered = within.0 in
-      let inside = within.1 in
-      on-line y u
-      ∙ ap (λ (o : Option Columns). if ((nat_le place.0 (place.0 + y) && nat_lt (place.0 + y) (place.0 + h.window.lines)) && (nat_le place.1 u && nat_lt u (place.1 + h.window.columns))) && among o
-      (u - place.1)
-      then Some (cell_at windows.window w y (u - place.1)) else None) some
-      ∙ same-if (((nat_le place.0 (place.0 + y) && nat_lt (place.0 + y) (place.0 + h.window.lines)) && (nat_le place.1 u && nat_lt u (place.1 + h.window.columns))) &&
-      (nat_le r.first (u - place.1) && nat_le (u - place.1) r.last))
-      (nat_le (place.1 + r.first) u && nat_lt u (place.1 + r.first + (r.last - r.first + 1)))
-      (cell_at windows.window w y (u - place.1)) (cell_at windows.window w y (r.first + (u - (place.1 + r.first))))
-      (grind (arith, nat_tests))
-      (λ s. let from : place.1 + r.first ≤ u = leb-true (place.1 + r.first) u (and_parts (nat_le (place.1 + r.first) u) (nat_lt u (place.1 + r.first + (r.last - r.first + 1))) s).0 in
-      ap (λ k. cell_at windows.window w y k) (let e : u - place.1 ≡ r.first + (u - (place.1 + r.first)) = omega arith in e))
+  touched-piece y r below some u left = grind (arith, on-line, same-if, nat_tests, leb-true, and_parts)
 
   columns-of : (y : ℕ) → touched_columns windows.window w y ≡ h.window.touched y
   columns-of y = ap (λ (o : Option Window). option_and_then (λ (a : Window). a.touched y) o) h.there
@@ -111,12 +77,7 @@ module _ (windows : Windows) (w : ℕ) (place : Place) (lines : ℕ) (h : IsPlac
 
   -- they lie in the window, and so on the screen
   pub touched-inside : (y : ℕ) (columns : Columns) → touched_columns windows.window w y ≡ Some columns → (columns.first ≤ columns.last) × (place.1 + columns.last < windows.columns)
-  touched-inside y columns some =
-      let within : (columns.first ≤ columns.last) × (columns.last < h.window.columns) =
-      subst (λ (o : Option Columns). AreColumnsWithin h.window.columns o) (sym (columns-of y) ∙ some) (h.touched y) in
-      let last = within.1 in
-      let right = h.right in
-      (within.0, omega (arith, last, right))
+  touched-inside y columns some = grind (arith, columns-of)
 
 -- ---- a pad
 
@@ -135,75 +96,37 @@ pub record IsOfPad (windows : Windows) (w py px top left bottom right : ℕ) : T
 
 all-passed : (a b c d e : Bool) → first_of ((a, NoSuchWindow) ∷ (b, NotPad) ∷ (c, BadRectangle) ∷ (d, OutsideWindow) ∷ (e, OffScreen) ∷ []) ≡ None
     → (a ≡ false) × (b ≡ false) × (c ≡ false) × (d ≡ false) × (e ≡ false)
-all-passed true b c d e h = cc
-all-passed false true c d e h = cc
-all-passed false false true d e h = cc
-all-passed false false false true e h = cc
-all-passed false false false false true h = cc
-all-passed false false false false false h = (refl, refl, refl, refl, refl)
+all-passed a b c d e h = grind arith
 
 both-left : (n m k l : ℕ) → not (nat_lt n m && nat_lt k l) ≡ false → (n < m) × (k < l)
-both-left n m k l h =
-    let both : (nat_lt n m && nat_lt k l) ≡ true = not-false (nat_lt n m && nat_lt k l) h in
-    let parts = and_parts (nat_lt n m) (nat_lt k l) both in
-    (ltb-true n m parts.0, ltb-true k l parts.1)
+both-left n m k l h = grind (arith, not-false, and_parts, ltb-true)
 
 of_pad : (windows : Windows) (w py px top left bottom right : ℕ) (o : Option Window) → windows.window w ≡ o → is_none o ≡ false → (nat_lt bottom top || nat_lt right left) ≡ false
     → option_map_or (λ (a : Window). not (nat_lt (py + (bottom - top)) a.lines && nat_lt (px + (right - left)) a.columns)) o false ≡ false
     → not (nat_lt bottom windows.lines && nat_lt right windows.columns) ≡ false → AreSoundWindows windows → IsOfPad windows w py px top left bottom right
-of_pad windows w py px top left bottom right None e there ordered inside on sound = cc
-of_pad windows w py px top left bottom right (Some a) e there ordered inside on sound =
-    let window : IsSoundWindow windows w a = subst (λ (o : Option Window). MatchOption o ⊤ (IsSoundWindow windows w)) e (sound.each w) in
-    let order = or_parts (nat_lt bottom top) (nat_lt right left) ordered in
-    let last = both-left (py + (bottom - top)) a.lines (px + (right - left)) a.columns inside in
-    let within = both-left bottom windows.lines right windows.columns on in
-    record {
-      window = a;
-      there = e;
-      down = ltb-false bottom top order.0;
-      across = ltb-false right left order.1;
-      last_line = last.0;
-      last_column = last.1;
-      on_line = within.0;
-      on_column = within.1;
-      few_lines = (window.few_lines, sound.few_lines);
-      few_columns = (window.few_columns, sound.few_columns);
-    }
+of_pad windows w py px top left bottom right o e there ordered inside on sound = grind (arith, or_parts, both-left, ltb-false)
 
 pub of-pad : (windows : Windows) (w py px top left bottom right : ℕ) → AreSoundWindows windows → refresh_refusal windows (Pnoutrefresh (record { 0 = w }) py px top left bottom right) ≡ None
     → IsOfPad windows w py px top left bottom right
-of-pad windows w py px top left bottom right sound h =
-    let passed = all-passed (is_none (windows.window w)) (not (is_pad windows.window w)) (nat_lt bottom top || nat_lt right left)
-    (lacks_place windows.window w (py + (bottom - top)) (px + (right - left))) (is_beyond windows bottom right) h in
-    of_pad windows w py px top left bottom right (windows.window w) refl passed.0 passed.2 passed.3 passed.4 sound
+of-pad windows w py px top left bottom right sound h = grind (arith, all-passed, of_pad)
 
 module _ (windows : Windows) (w py px top left bottom right : ℕ) (h : IsOfPad windows w py px top left bottom right) where
   -- the pad has each place of the rectangle
   pub pad-place : (y x : ℕ) → y < bottom - top + 1 → x < right - left + 1 → HasPlace windows.window w (py + y) (px + x)
-  pad-place y x below before =
-      let line = h.last_line in
-      let column = h.last_column in
-      rw h.there (omega arith, omega arith)
+  pad-place y x below before = grind arith
 
   not-drawn : (t s : Bool) (cell : Glyph) → t ≡ false → (if t && s then Some cell else None) ≡ None
   not-drawn t s cell is = rw is refl
 
   pub pad-above : (v : ℕ) → v < top → IsBare (copywin_drawing windows.window w py px top left bottom right false) windows.columns v
-  pad-above v before u on =
-      not-drawn (nat_le top v && nat_lt v (top + (bottom - top + 1))) (nat_le left u && nat_lt u (left + (right - left + 1)))
-      (cell_at windows.window w (py + (v - top)) (px + (u - left))) (grind (arith, nat_tests))
+  pad-above v before u on = grind (arith, not-drawn, nat_tests)
 
   pub pad-below : (v : ℕ) → top + (bottom - top + 1) ≤ v → IsBare (copywin_drawing windows.window w py px top left bottom right false) windows.columns v
-  pad-below v from u on =
-      not-drawn (nat_le top v && nat_lt v (top + (bottom - top + 1))) (nat_le left u && nat_lt u (left + (right - left + 1)))
-      (cell_at windows.window w (py + (v - top)) (px + (u - left))) (grind (arith, nat_tests))
+  pad-below v from u on = grind (arith, not-drawn, nat_tests)
 
   drawn : (t s : Bool) (one other : Glyph) → t ≡ true → one ≡ other → (if t && s then Some one else None) ≡ (if s then Some other else None)
   drawn t s one other is same = rw (is, same) refl
 
   pub pad-piece : (y : ℕ) → y < bottom - top + 1
       → HasPiece (copywin_drawing windows.window w py px top left bottom right false) windows.columns (top + y) left (right - left + 1) (λ u. cell_at windows.window w (py + y) (px + (u - left)))
-  pad-piece y below u on =
-      drawn (nat_le top (top + y) && nat_lt (top + y) (top + (bottom - top + 1))) (nat_le left u && nat_lt u (left + (right - left + 1)))
-      (cell_at windows.window w (py + (top + y - top)) (px + (u - left))) (cell_at windows.window w (py + y) (px + (u - left)))
-      (grind (arith, nat_tests)) (ap (λ k. cell_at windows.window w (py + k) (px + (u - left))) (let e : top + y - top ≡ y = omega arith in e))
+  pad-piece y below u on = grind (arith, drawn, nat_tests)

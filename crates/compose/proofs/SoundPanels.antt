@@ -1,5 +1,5 @@
 -- Panels stay sound: each has a window that is there, and is neither a pad nor the standard screen.
-use Rattle.std.proofs.Common.{◌≡◌, ◌≢◌, ℕ, Bool, true, false, if◌then◌else◌, ◌==◌, Option, Some, None, Result, Ok, Err, [], ◌∷◌, refl, sym, ap, subst, ◌∙◌}
+use Rattle.std.proofs.Common.{◌≡◌, ◌≢◌, ℕ, Bool, false, if◌then◌else◌, ◌==◌, Option, Some, None, Result, [], ◌∷◌, refl, subst, arith}
 use Rattle.std.specs.Prelude.{OnErr, OnOk, IsSome, IsSomeAnd, MatchOption, is_none, ⊤}
 use Rattle.std.specs.Option.{option_map_or}
 use Rattle.cell.specs.Pictures.{Place}
@@ -18,38 +18,25 @@ MayBeIn window w = IsSomeAnd (window w) (λ a. IsSome a.place) × (w ≢ standar
 
 module _ (window : WindowMap) where
   pub window-of : (ps : Panels) (p w : ℕ) → AreSoundPanels window ps → ps.window p ≡ Some w → MayBeIn window w
-  window-of ps p w h is =
-      let entry : IsSoundPanel window ps p w = subst (λ o. MatchOption o ⊤ (IsSoundPanel window ps p)) is (h.each p) in
-      (entry.window_is, entry.not_standard)
+  window-of ps p w h is = grind arith
 
   sound-entry : (ps : Panels) (p : ℕ) (o : Option ℕ) → ps.window p ≡ o → ((w : ℕ) → ps.window p ≡ Some w → MayBeIn window w)
       → MatchOption o ⊤ (IsSoundEntry ps p) → MatchOption o ⊤ (IsSoundPanel window ps p)
-  sound-entry ps p None is may h = h
-  sound-entry ps p (Some w) is may h = record {
-    from_one = h.from_one;
-    number = h.number;
-    window_is = (may w is).0;
-    not_standard = (may w is).1;
-    alone = h.alone;
-  }
+  sound-entry ps p o is may h = grind arith
 
   -- an order of panels whose windows may be in panels
   pub sound-order : (ps : Panels) → IsSoundOrder ps → ((p w : ℕ) → ps.window p ≡ Some w → MayBeIn window w) → AreSoundPanels window ps
   sound-order ps h may = record { once = h.once; visible = h.visible; each = λ p. sound-entry ps p (ps.window p) refl (may p) (h.each p) }
 
   pub given-case : (b : Bool) (o w : Option ℕ) (v : ℕ) → (if b then w else o) ≡ Some v → (w ≡ Some v → MayBeIn window v) → (o ≡ Some v → MayBeIn window v) → MayBeIn window v
-  given-case true o w v is new old = new is
-  given-case false o w v is new old = old is
+  given-case b o w v is new old = grind arith
 
   place-there : (place : Option Place) (e : Refusal) → (if is_none place then Some e else None) ≡ None → IsSome place
-  place-there None e h = cc
-  place-there (Some p) e h = refl
+  place-there place e h = grind arith
 
   tests-passed : (o : Option Window) (b : Bool) → first_of ((is_none o, NoSuchWindow) ∷ (b, StandardScreen) ∷ (option_map_or (λ a. is_none a.place) o false, IsPad) ∷ []) ≡ None
       → (b ≡ false) × IsSomeAnd o (λ a. IsSome a.place)
-  tests-passed None b h = cc
-  tests-passed (Some a) true h = cc
-  tests-passed (Some a) false h = (refl, place-there a.place IsPad h)
+  tests-passed o b h = grind (arith, place-there)
 
   pub may-be-in : (w : ℕ) → first_of (window_tests window w) ≡ None → MayBeIn window w
   may-be-in w h = let both = tests-passed (window w) (w == standard_screen) h in (both.1, λ same. let off = both.0 in cc)
@@ -60,5 +47,4 @@ module _ (window : WindowMap) where
   -- an order is made, or not, after which the windows of panels may be in panels
   pub sound-after : {T : Type 0} (old new : PanelTable) (after : Panels) (r : Result T Refusal) → AreSoundPanels window (panels old) → IsSoundOrder (panels new)
       → ((p v : ℕ) → after.window p ≡ Some v → MayBeIn window v) → OnOk r (panels new ≡ after) → OnErr r (new ≡ old) → AreSoundPanels window (panels new)
-  sound-after old new after (Ok done) h order may is unchanged = sound-order (panels new) order (λ p v has. may p v (ap (λ (ps : Panels). ps.window p) (sym is) ∙ has))
-  sound-after old new after (Err e) h order may is unchanged = subst (λ t. AreSoundPanels window (panels t)) (sym unchanged) h
+  sound-after old new after r h order may is unchanged = grind (arith, sound-order)

@@ -1,5 +1,5 @@
 -- Of a write in the standard screen, it shows the frame; and where no panel is visible, nothing else shows anything of it.
-use Rattle.std.proofs.Common.{◌≡◌, ℕ, ◌+◌, ◌<◌, ◌≤◌, Bool, true, false, ◌||◌, Option, Some, None, List, [], ◌∷◌, length, arith, refl, sym, ◌∙◌}
+use Rattle.std.proofs.Common.{◌≡◌, ℕ, ◌+◌, ◌<◌, ◌≤◌, Bool, false, ◌||◌, Option, Some, List, [], ◌∷◌, length, arith, sym, ◌∙◌}
 use Rattle.std.specs.Prelude.{IsSome, IsSomeAnd, option_and_then, reverse}
 use Rattle.std.specs.List.{filter_map, list_any}
 use Rattle.cell.specs.Pictures.{origin}
@@ -18,20 +18,16 @@ use Rattle.picture.proofs.PartLaws.{shared-same}
 use Rattle.picture.proofs.Placement.{placed}
 
 some_place : (o : Option GridPlace) → IsSome o → (p : GridPlace) × (o ≡ Some p)
-some_place None h = cc
-some_place (Some p) h = (p, refl)
+some_place o h = grind arith
 
 place-of : (ws : Windows) (o : Option Window) → IsSomeAnd o (IsStandardScreen ws) → option_and_then (λ (a : Window). a.place) o ≡ Some origin
-place-of ws None h = absurd h
-place-of ws (Some a) h = h.place
+place-of ws o h = grind arith
 
 inside-of : (ws : Windows) (o : Option Window) (y x : ℕ) → IsSomeAnd o (IsStandardScreen ws) → IsSomeAnd o (λ a. (y < a.lines) × (x < a.columns)) → (y < ws.lines) × (x < ws.columns)
-inside-of ws None y x h k = absurd h
-inside-of ws (Some a) y x h k = let lines = h.lines in let columns = h.columns in let below = k.0 in let left = k.1 in (omega (arith, lines, below), omega (arith, columns, left))
+inside-of ws o y x h k = grind arith
 
 or-none : (a : Bool) → (a || false) ≡ a
-or-none true = refl
-or-none false = refl
+or-none a = grind arith
 
 none-else : (window : ℕ → Option ℕ) (visible : List ℕ) (test : ℕ → Bool) → length visible ≡ 0
     → list_any test (standard_screen ∷ filter_map window (reverse visible)) ≡ test standard_screen

@@ -1,5 +1,5 @@
 -- The touched columns of a window are damaged line by line.
-use Rattle.std.proofs.Common.{◌≡◌, ℕ, ◌+◌, ◌<◌, ◌≤◌, Bool, true, false, ◌&&◌, ◌||◌, nat_le, nat_lt, if◌then◌else◌, Option, Some, None, is_some, List, inl, inr, refl, sym, ap, subst, ◌∙◌, arith}
+use Rattle.std.proofs.Common.{◌≡◌, ℕ, ◌+◌, ◌<◌, ◌≤◌, Bool, true, ◌&&◌, ◌||◌, nat_le, nat_lt, if◌then◌else◌, Option, Some, None, is_some, List, inl, inr, sym, ap, subst, ◌∙◌, arith}
 use Rattle.std.proofs.lemmas.Bool.{and_from, and_parts, cases_eq, cases_lt, leb-true, le-leb, lt-ltb, ltb-true, or_cases, or_left, or_right}
 use Rattle.cell.specs.Glyphs.{Glyph}
 use Rattle.cell.specs.declared.window.Rect.{Rect}
@@ -16,19 +16,14 @@ abbrev pub DamagedAbove : ℕ → Drawing → List (Option Columns) → ℕ → 
 DamagedAbove columns f old n now = Damages columns (λ v u. nat_lt v n && is_some (f v u)) old now
 
 pub in-piece : (t : Bool) (cell : Glyph) → is_some (if t then Some cell else None) ≡ true → t ≡ true
-in-piece true cell h = refl
-in-piece false cell h = h
+in-piece t cell h = grind arith
 
 pub of-piece : (t : Bool) (cell : Glyph) → t ≡ true → is_some (if t then Some cell else None) ≡ true
-of-piece true cell h = refl
-of-piece false cell h = h
+of-piece t cell h = grind arith
 
 module _ (columns : ℕ) (f : Drawing) (old : List (Option Columns)) where
   pub above-none : (n : ℕ) → ((v : ℕ) → v < n → IsBare f columns v) → DamagedAbove columns f old n old
-  above-none n bare = damages-none columns (λ v u. nat_lt v n && is_some (f v u)) old (λ v u below left. nothing v u left (nat_lt v n) refl) where
-    nothing : (v u : ℕ) → u < columns → (b : Bool) → nat_lt v n ≡ b → (nat_lt v n && is_some (f v u)) ≡ false
-    nothing v u left true is = rw is (ap (λ o. is_some o) (bare v (ltb-true v n is) u left))
-    nothing v u left false is = rw is refl
+  above-none n bare = grind (arith, damages-none, ltb-true)
 
   before-line : (v n : ℕ) → nat_lt v (n + 1) ≡ true → (v ≡ n → ⊥) → nat_lt v n ≡ true
   before-line v n is other = let below = ltb-true v (n + 1) is in lt-ltb v n (omega (arith, other))
@@ -40,13 +35,7 @@ module _ (columns : ℕ) (f : Drawing) (old : List (Option Columns)) where
   more-above n v u is = let both = and_parts (nat_lt v n) (is_some (f v u)) is in and_from (nat_lt v (n + 1)) (is_some (f v u)) (after-line v n both.0) both.1
 
   pub above-bare : (n : ℕ) (now : List (Option Columns)) → DamagedAbove columns f old n now → IsBare f columns n → DamagedAbove columns f old (n + 1) now
-  above-bare n now h bare =
-      damages-as columns (λ v u. nat_lt v n && is_some (f v u)) (λ v u. nat_lt v (n + 1) && is_some (f v u)) old now h (λ v u below left is.
-      let both = and_parts (nat_lt v (n + 1)) (is_some (f v u)) is in
-      elim (cases_eq v n) [
-        | inl same ↦ let never : false ≡ true = sym (ap (λ o. is_some o) (ap (λ k. f k u) same ∙ bare u left)) ∙ both.1 in cc
-        | inr other ↦ and_from (nat_lt v n) (is_some (f v u)) (before-line v n both.0 other) both.1
-      ]) (λ v u left is. more-above n v u is)
+  above-bare n now h bare = grind (arith, damages-as, and_parts, cases_eq, and_from, before-line, more-above)
 
   pub above-more : (n x k : ℕ) (cell : ℕ → Glyph) (r : Rect) (now new : List (Option Columns)) → DamagedAbove columns f old n now → HasPiece f columns n x k cell → 0 < k → x < columns
       → r.top ≡ n → r.bottom ≡ n → r.left ≡ x → r.right + 1 ≡ x + k → Damages columns (frame_holds r) now new → DamagedAbove columns f old (n + 1) new
@@ -84,9 +73,4 @@ module _ (columns : ℕ) (f : Drawing) (old : List (Option Columns)) where
       ])
 
   pub above-all : (n : ℕ) (now : List (Option Columns)) → DamagedAbove columns f old n now → ((v : ℕ) → n ≤ v → IsBare f columns v) → Damages columns (λ v u. is_some (f v u)) old now
-  above-all n now h bare =
-      damages-as columns (λ v u. nat_lt v n && is_some (f v u)) (λ v u. is_some (f v u)) old now h (λ v u below left is.
-      elim (cases_lt v n) [
-        | inl before ↦ and_from (nat_lt v n) (is_some (f v u)) (lt-ltb v n before) is
-        | inr from ↦ let never : false ≡ true = sym (ap (λ o. is_some o) (bare v from u left)) ∙ is in cc
-      ]) (λ v u left is. (and_parts (nat_lt v n) (is_some (f v u)) is).1)
+  above-all n now h bare = grind (arith, damages-as, cases_lt, and_from, lt-ltb, and_parts)

@@ -1,5 +1,5 @@
 -- Windows are unmarked one after another.
-use Rattle.std.proofs.Common.{◌≡◌, ℕ, Bool, true, false, ◌||◌, ◌==◌, if◌then◌else◌, Option, Some, None, List, [], ◌∷◌, refl, ap, sym, ◌∙◌}
+use Rattle.std.proofs.Common.{◌≡◌, ℕ, Bool, false, ◌||◌, ◌==◌, if◌then◌else◌, Option, None, List, [], ◌∷◌, arith}
 use Rattle.std.specs.Prelude.{IsSomeAnd, is_none}
 use Rattle.std.specs.Option.{option_map}
 use Rattle.std.specs.List.{list_any}
@@ -19,11 +19,7 @@ use Rattle.cell.specs.declared.refusal.Refusal.TheVariants.{NoSuchWindow}
 twice : (first others : Bool) (o : Option Window)
     → (if first || others then option_map without_marks o else o)
     ≡ (if others then option_map without_marks (if first || false then option_map without_marks o else o) else (if first || false then option_map without_marks o else o))
-twice true true None = refl
-twice true true (Some a) = refl
-twice true false o = refl
-twice false true o = refl
-twice false false o = refl
+twice first others o = grind arith
 
 -- the first one, and then the others
 pub unmarked-first : (window : WindowMap) (w : ℕ) (ws : List ℕ) → with_unmarked window (w ∷ ws) ≡ with_unmarked (with_unmarked window (w ∷ [])) ws
@@ -32,34 +28,26 @@ unmarked-first window w ws = fun_ext (λ u. twice (w == u) (list_any (λ v. v ==
 -- the same of all windows, after the first one was
 pub still-left : (old new : Windows) (w : ℕ) (ws : List ℕ) → new ≡ record old { window = with_unmarked old.window (w ∷ []) }
     → record old { window = with_unmarked old.window (w ∷ ws) } ≡ record new { window = with_unmarked new.window ws }
-still-left old new w ws is =
-    ap (λ (window : WindowMap). record old { window = window }) (unmarked-first old.window w ws)
-    ∙ ap (λ (all : Windows). record all { window = with_unmarked all.window ws }) (sym is)
+still-left old new w ws is = grind (arith, unmarked-first)
 
 -- ---- some lines of one window
 
 none-if : (b : Bool) (o : Option Window) (change : Window → Window) → is_none (if b then option_map change o else o) ≡ is_none o
-none-if true None change = refl
-none-if true (Some a) change = refl
-none-if false o change = refl
+none-if b o change = grind arith
 
 there-missing : (o : Option Window) (P : Window → Type 0) → IsSomeAnd o P → first_of ((is_none o, NoSuchWindow) ∷ []) ≡ None
-there-missing None P h = absurd h
-there-missing (Some a) P h = refl
+there-missing o P h = grind arith
 
 -- a window whose lines were marked is still there
 pub still-there : (windows : Windows) (win : WinId) (first n : ℕ) (P : Window → Type 0) → IsSomeAnd (windows.window win.0) P
     → writing_refusal (after_copying windows (Touchln win first n false)) (Clearok win false) ≡ None
-still-there windows win first n P h =
-    ap (λ b. first_of ((b, NoSuchWindow) ∷ [])) (none-if (win.0 == win.0) (windows.window win.0) (lines_marked first n false)) ∙ there-missing (windows.window win.0) P h
+still-there windows win first n P h = grind (arith, none-if, there-missing)
 
 -- marks and settings, changed one after the other
 both-changed : (t : Bool) (first n : ℕ) (o : Option Window)
     → (if t then option_map (set_in (with_clear false)) (if t then option_map (lines_marked first n false) o else o) else (if t then option_map (lines_marked first n false) o else o))
     ≡ (if t then option_map (unmarked_lines (among_lines first n)) o else o)
-both-changed true first n None = refl
-both-changed true first n (Some a) = refl
-both-changed false first n o = refl
+both-changed t first n o = grind arith
 
 pub lines-unmarked : (windows : Windows) (win : WinId) (first n : ℕ) → after_writing (after_copying windows (Touchln win first n false)) (Clearok win false)
     ≡ record windows { window = with_change windows.window win.0 (unmarked_lines (among_lines first n)) }

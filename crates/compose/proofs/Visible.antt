@@ -1,17 +1,15 @@
 -- The damage of one window after another.
-use Rattle.std.proofs.Common.{◌≡◌, ℕ, Bool, true, false, ◌||◌, Option, List, [], ◌∷◌, refl, sym, ◌∙◌}
+use Rattle.std.proofs.Common.{◌≡◌, ℕ, Bool, false, ◌||◌, Option, List, [], ◌∷◌, refl, ◌∙◌, arith}
 use Rattle.std.specs.List.{list_any}
 use Rattle.world.specs.declared.settings.Columns.{Columns}
 use Rattle.picture.specs.Damages.{Damages}
 use Rattle.picture.proofs.DamageLaws.{damages-as, damages-none, damages-then}
 
 or-together : (a b c : Bool) → ((a || b) || c) ≡ (a || (b || c))
-or-together true b c = refl
-or-together false b c = refl
+or-together a b c = grind arith
 
 or-none : (a : Bool) → (a || false) ≡ a
-or-none true = refl
-or-none false = refl
+or-none a = grind arith
 
 module _ (columns : ℕ) (P : ℕ → ℕ → ℕ → Bool) (all : List ℕ) (old : List (Option Columns)) where
   -- all windows but these have damaged what they show
@@ -31,6 +29,4 @@ module _ (columns : ℕ) (P : ℕ → ℕ → ℕ → Bool) (all : List ℕ) (ol
   }
 
   pub damaged-all : (now : List (Option Columns)) → DamagedBut [] now → Damages columns (λ y x. list_any (P y x) all) old now
-  damaged-all now h =
-      damages-as columns h.places (λ y x. list_any (P y x) all) old now h.damages (λ y x below left is. sym (or-none (h.places y x)) ∙ h.same y x ∙ is)
-      (λ y x left is. sym (h.same y x) ∙ or-none (h.places y x) ∙ is)
+  damaged-all now h = grind (arith, damages-as, or-none)

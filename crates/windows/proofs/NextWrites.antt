@@ -67,7 +67,7 @@ module _ (windows : Windows) (w : ℕ) (s : WindowState) (h : IsStateOf windows 
   -- ---- and upwards
 
   pub starts_below : (f : Drawing) (k : ℕ) → ((y x : ℕ) → k ≤ y → f y x ≡ None) → windows ≡ put windows w (from k f)
-  starts_below f k none = sym (with_map windows _ _ (put-none_from windows.window w h.window h.there f k (λ y x beyond below. none y x beyond)))
+  starts_below f k none = sym (with_map windows _ _ (put-none_from windows.window w h.window h.there f k none))
 
   pub ends_below : (f : Drawing) (k : ℕ) (now : Windows) → ((y x : ℕ) → y < k → f y x ≡ None) → now ≡ put windows w (from k f) → now ≡ put windows w f
   ends_below f k now none is = is ∙ with_map windows _ _ (put-all_from windows.window w h.window h.there f k none)
@@ -122,8 +122,7 @@ module _ (windows : Windows) (w : ℕ) (s : WindowState) (h : IsStateOf windows 
 
     pub up_ended : (k : ℕ) (now : Windows) → bottom < k → now ≡ put windows w (above k (lines_up windows.window w top bottom n c))
         → now ≡ put windows w (lines_up windows.window w top bottom n c)
-    up_ended k now past is = ends_above (lines_up windows.window w top bottom n c) k now
-        (λ y x beyond in_window. up-outside windows.window w top bottom n c y x (grind (arith, nat_tests))) is
+    up_ended k now past is = grind (arith, ends_above, up-outside, nat_tests)
 
     -- ---- lines down
 
@@ -143,5 +142,4 @@ module _ (windows : Windows) (w : ℕ) (s : WindowState) (h : IsStateOf windows 
 
     pub down_ended : (k : ℕ) (now : Windows) → k ≤ top → now ≡ put windows w (from k (lines_down windows.window w top bottom n c))
         → now ≡ put windows w (lines_down windows.window w top bottom n c)
-    down_ended k now past is = ends_below (lines_down windows.window w top bottom n c) k now
-        (λ y x before. down-outside windows.window w top bottom n c y x (grind (arith, nat_tests))) is
+    down_ended k now past is = grind (arith, ends_below, down-outside, nat_tests)

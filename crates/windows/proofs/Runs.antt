@@ -1,23 +1,23 @@
 -- Characters that are printed in one line, before its last column, are one write of that line.
-use Rattle.std.proofs.Common.{◌≡◌, ℕ, zero, suc, ◌+◌, ◌-◌, ◌<◌, min, max, Bool, true, false, if◌then◌else◌, ◌==◌, ◌&&◌, ◌||◌, nat_lt, nat_le, Option, Some}
-use Rattle.std.proofs.Common.{None, IsSome, is_some, List, [], ◌∷◌, ◌++◌, length, get_or, take, drop, map, ap, arith, refl, sym, ◌∙◌, inl, inr, eq-eqb, add-zero}
+use Rattle.std.proofs.Common.{◌≡◌, ℕ, zero, suc, ◌+◌, ◌-◌, ◌<◌, min, max, Bool, true, false, if◌then◌else◌, ◌==◌, ◌||◌, nat_lt, Option, Some}
+use Rattle.std.proofs.Common.{IsSome, is_some, List, [], ◌∷◌, ◌++◌, length, get_or, take, drop, map, ap, arith, refl, sym, ◌∙◌, eq-eqb, add-zero}
 use Rattle.std.specs.Prelude.{option_and_then}
 use Rattle.std.specs.Option.{option_map, option_map_or}
 use Rattle.std.specs.List.{list_any}
 use mathlib.Core.Path.{fun_ext}
-use Rattle.std.proofs.lemmas.Bool.{cases_eq, cases_lt, ne_eqb, lt-ltb, le-leb, eqb-true}
+use Rattle.std.proofs.lemmas.Bool.{cases_eq, ne_eqb, lt-ltb, eqb-true}
 use Rattle.std.proofs.lemmas.Bool.Decides.{nat_tests}
 use Rattle.std.proofs.lemmas.List.{take_more, take-append-drop}
 use Rattle.std.proofs.lemmas.List.Folds.{list_any-append}
-use Rattle.cell.specs.Glyphs.{Glyph, blank, is_printable}
+use Rattle.cell.specs.Glyphs.{Glyph, is_printable}
 use Rattle.cell.specs.Pictures.{Place}
 use Rattle.cell.specs.declared.window.Rect.{Rect}
-use Rattle.world.specs.Windows.{Window, WindowMap, Windows, GridPlace, Drawing, leads, own, own_within, window_limit, over, with_change, after_drawing, put_from, put_windows, put}
+use Rattle.world.specs.Windows.{Window, WindowMap, Windows, GridPlace, Drawing, leads, own, own_within, window_limit, over, with_change, after_drawing, put_windows, put}
 use Rattle.world.specs.Settings.{set_in, set, with_cursor}
 use Rattle.world.specs.Rows.{listed_cells}
 use Rattle.world.specs.Drawings.{written_glyph, at_place}
 use Rattle.world.specs.Frames.{frame_of_two, frame_of}
-use Rattle.world.specs.Typing.{newline, carriage_return, backspace, drawn_to, character_printed, character_frame, line_ended, line_ended_frame, typed_in, typed_frame, after_character}
+use Rattle.world.specs.Typing.{drawn_to, character_printed, character_frame, typed_in, typed_frame, after_character}
 use Rattle.world.specs.Typing.{frame_of_character, after_text, text_frame}
 use Rattle.world.specs.calls.Writing.{is_bad_character}
 use Rattle.world.specs.declared.settings.Settings.{Settings}
@@ -29,7 +29,6 @@ use Rattle.windows.specs.declared.state.WindowState.{WindowState}
 use Rattle.windows.proofs.Calls.{with_state}
 use Rattle.windows.proofs.Rectangles.{frame-at_place}
 use Rattle.windows.proofs.States.{spot-of, window-put}
-use Rattle.windows.proofs.Strokes.{over-some, over-none}
 use Rattle.windows.proofs.Texts.{HasSame, same-typed, joined-none, joined-joined}
 use Rattle.windows.proofs.Typing.{if_true, if_false}
 
@@ -42,35 +41,22 @@ after-append (first ∷ one) two windows w = after-append one two (after_charact
 frame-append : (one two : List ℕ) (windows : Windows) (w : ℕ)
     → text_frame windows w (one ++ two) ≡ frame_of_two (text_frame windows w one) (text_frame (after_text windows w one) w two)
 frame-append [] two windows w = refl
-frame-append (first ∷ one) two windows w =
-    ap (λ o. frame_of_two (frame_of_character windows w first) o) (frame-append one two (after_character windows w first) w)
-    ∙ sym (joined-joined (frame_of_character windows w first) (text_frame (after_character windows w first) w one)
-    (text_frame (after_text (after_character windows w first) w one) w two))
+frame-append (first ∷ one) two windows w = grind (arith, joined-joined, (frame-append one two (after_character windows w first) w))
 
 -- the first characters of what is left were written
 module _ (windows now new : Windows) (w : ℕ) (text rest : List ℕ) (count : ℕ) (written : new ≡ after_text now w (take count rest)) where
   pub text_goes_on : after_text now w rest ≡ after_text windows w text → after_text new w (drop count rest) ≡ after_text windows w text
-  text_goes_on before =
-      ap (λ v. after_text v w (drop count rest)) written ∙ sym (after-append (take count rest) (drop count rest) now w)
-      ∙ ap (after_text now w) (take-append-drop count rest) ∙ before
+  text_goes_on before = grind (arith, (after-append (take count rest) (drop count rest) now w), take-append-drop)
 
   pub frame_goes_on : (frame one next : Option Rect) → frame_of_two frame (text_frame now w rest) ≡ text_frame windows w text → one ≡ text_frame now w (take count rest)
       → next ≡ frame_of_two frame one → frame_of_two next (text_frame new w (drop count rest)) ≡ text_frame windows w text
-  frame_goes_on frame one next before covered is =
-      ap (λ o. frame_of_two o (text_frame new w (drop count rest))) (is ∙ ap (frame_of_two frame) covered)
-      ∙ ap (λ v. frame_of_two (frame_of_two frame (text_frame now w (take count rest))) (text_frame v w (drop count rest))) written
-      ∙ joined-joined frame (text_frame now w (take count rest)) (text_frame (after_text now w (take count rest)) w (drop count rest))
-      ∙ ap (frame_of_two frame) (sym (frame-append (take count rest) (drop count rest) now w) ∙ ap (text_frame now w) (take-append-drop count rest))
-      ∙ before
+  frame_goes_on frame one next before covered is = grind (arith, joined-joined, (frame-append (take count rest) (drop count rest) now w), take-append-drop)
 
 either-false : (s t : Bool) → (s || t) ≡ false → t ≡ false
-either-false true t h = cc
-either-false false t h = h
+either-false s t h = grind arith
 
 pub rest_accepted : (count : ℕ) (rest : List ℕ) → list_any is_bad_character rest ≡ false → list_any is_bad_character (drop count rest) ≡ false
-rest_accepted count rest h =
-    either-false (list_any is_bad_character (take count rest)) (list_any is_bad_character (drop count rest))
-    (sym (list_any-append is_bad_character (take count rest) (drop count rest)) ∙ ap (list_any is_bad_character) (take-append-drop count rest) ∙ h)
+rest_accepted count rest h = grind (arith, (list_any-append is_bad_character (take count rest) (drop count rest)), take-append-drop)
 
 -- one character
 one_text : (text : List ℕ) → 0 < length text → take 1 text ≡ get_or text 0 0 ∷ []
@@ -81,20 +67,16 @@ one_written windows new w text some is = is ∙ sym (ap (after_text windows w) (
 
 pub one_covered : (windows : Windows) (w : ℕ) (text : List ℕ) (frame : Option Rect) → 0 < length text → frame ≡ frame_of_character windows w (get_or text 0 0)
     → frame ≡ text_frame windows w (take 1 text)
-one_covered windows w text frame some is =
-    is ∙ sym (joined-none (frame_of_character windows w (get_or text 0 0))) ∙ sym (ap (text_frame windows w) (one_text text some))
+one_covered windows w text frame some is = grind (arith, joined-none, one_text)
 
 -- ---- no window comes or goes
 
 same-there : (windows : Windows) (change : Window → Windows) (o : Option Window) → ((a : Window) → HasSame windows (change a)) → HasSame windows (option_map_or change o windows)
-same-there windows change None h u = refl
-same-there windows change (Some a) h u = h a u
+same-there windows change o h u = grind arith
 
 same-text : (text : List ℕ) (windows : Windows) (w : ℕ) → HasSame windows (after_text windows w text)
 same-text [] windows w u = refl
-same-text (first ∷ text) windows w u =
-    same-text text (after_character windows w first) w u
-    ∙ same-there windows (typed_in windows w first) (windows.window w) (same-typed windows w first) u
+same-text (first ∷ text) windows w u = grind (arith, same-there, same-typed, (same-text text (after_character windows w first) w u))
 
 pub text_keeps : (windows new : Windows) (w : ℕ) (text : List ℕ) → IsSome (windows.window w) → new ≡ after_text windows w text → IsSome (new.window w)
 text_keeps windows new w text there is = ap (λ (v : Windows). is_some (v.window w)) is ∙ same-text text windows w w ∙ there
@@ -104,18 +86,14 @@ text_keeps windows new w text there is = ap (λ (v : Windows). is_some (v.window
 set_twice-at : (t : Bool) (p q : Place) (o : Option Window)
     → (let s = if t then option_map (set_in (with_cursor p)) o else o in if t then option_map (set_in (with_cursor q)) s else s)
     ≡ (if t then option_map (set_in (with_cursor q)) o else o)
-set_twice-at true p q None = refl
-set_twice-at true p q (Some a) = refl
-set_twice-at false p q o = refl
+set_twice-at t p q o = grind arith
 
 set-twice : (windows : Windows) (w : ℕ) (p q : Place) → set (set windows w (with_cursor p)) w (with_cursor q) ≡ set windows w (with_cursor q)
 set-twice windows w p q = ap (λ (map : WindowMap). record windows { window = map }) (fun_ext (λ u. set_twice-at (u == w) p q (windows.window u)))
 
 leads-set : (change : Settings → Settings) (t : Bool) (o : Option Window) (further : ℕ → ℕ → ℕ → Option GridPlace) (u y x : ℕ)
     → option_and_then (λ a. leads further u y x a.backing) (if t then option_map (set_in change) o else o) ≡ option_and_then (λ a. leads further u y x a.backing) o
-leads-set change true None further u y x = refl
-leads-set change true (Some a) further u y x = refl
-leads-set change false o further u y x = refl
+leads-set change t o further u y x = grind arith
 
 own_within-set : (n : ℕ) (window : WindowMap) (w : ℕ) (change : Settings → Settings) (u y x : ℕ)
     → own_within n (with_change window w (set_in change)) u y x ≡ own_within n window u y x
@@ -129,30 +107,17 @@ own-set : (window : WindowMap) (w : ℕ) (change : Settings → Settings) (u y x
 own-set window w change u y x = own_within-set window_limit window w change u y x
 
 window-set : (window : WindowMap) (w : ℕ) (change : Settings → Settings) (a : Window) → window w ≡ Some a → with_change window w (set_in change) w ≡ Some (set_in change a)
-window-set window w change a there =
-    if_true (w == w) (option_map (set_in change) (window w)) (window w) (eq-eqb w w refl) ∙ ap (option_map (set_in change)) there
+window-set window w change a there = grind (arith, if_true, eq-eqb)
 
 put_set-at : (w : ℕ) (a : Window) (p : GridPlace) (f : Drawing) (u : ℕ) (place : Place) (t : Bool) (o : Option Window)
     → option_map (after_drawing w (set_in (with_cursor place) a) p f u) (if t then option_map (set_in (with_cursor place)) o else o)
     ≡ (let d = option_map (after_drawing w a p f u) o in if t then option_map (set_in (with_cursor place)) d else d)
-put_set-at w a p f u place true None = refl
-put_set-at w a p f u place true (Some b) = refl
-put_set-at w a p f u place false None = refl
-put_set-at w a p f u place false (Some b) = refl
+put_set-at w a p f u place t o = grind arith
 
 -- a write and a cursor, in either order
 put-set : (windows : Windows) (w : ℕ) (a : Window) (p : GridPlace) (f : Drawing) (place : Place) → windows.window w ≡ Some a → own windows.window w 0 0 ≡ Some p
     → put (set windows w (with_cursor place)) w f ≡ set (put windows w f) w (with_cursor place)
-put-set windows w a p f place there spot =
-    let map = windows.window in
-    let moved = with_change map w (set_in (with_cursor place)) in
-    let here : moved w ≡ Some (set_in (with_cursor place) a) = window-set map w (with_cursor place) a there in
-    let at : own moved w 0 0 ≡ Some p = own-set map w (with_cursor place) w 0 0 ∙ spot in
-    ap (λ (m : WindowMap). record windows { window = m }) (fun_ext (λ u.
-    ap (λ o. put_from moved w o (own moved w 0 0) f u) here ∙ ap (λ o. put_from moved w (Some (set_in (with_cursor place) a)) o f u) at
-    ∙ put_set-at w a p f u place (u == w) (map u)
-    ∙ ap (λ (d : Option Window). if u == w then option_map (set_in (with_cursor place)) d else d)
-    (sym (ap (λ o. put_from map w o (own map w 0 0) f u) there ∙ ap (λ o. put_from map w (Some a) o f u) spot))))
+put-set windows w a p f place there spot = grind (arith, window-set, own-set, put_set-at)
 
 -- ---- one character of a run
 
@@ -164,10 +129,7 @@ module _ (a : Window) (character : ℕ) (printable : is_printable character ≡ 
   none_of code below = let h = from_space in ne_eqb character code (λ e. absurd (omega arith))
 
   pub typed-printed : (windows : Windows) (w : ℕ) → typed_in windows w character a ≡ character_printed windows w character a
-  typed-printed windows w =
-      if_false (character == newline) (line_ended windows w a) _ (none_of 10 (omega arith))
-      ∙ if_false (character == carriage_return) (set windows w (with_cursor (a.settings.cursor.0, 0))) _ (none_of 13 (omega arith))
-      ∙ if_false (character == backspace) (set windows w (with_cursor (a.settings.cursor.0, a.settings.cursor.1 - 1))) _ (none_of 8 (omega arith))
+  typed-printed windows w = grind (arith, if_false, none_of)
 
   typed-inside : (windows : Windows) (w : ℕ) → nat_lt (a.settings.cursor.1 + 1) a.columns ≡ true
       → typed_in windows w character a ≡ drawn_to windows w (at_place a.settings.cursor (written_glyph a.settings character)) (a.settings.cursor.0, a.settings.cursor.1 + 1)
@@ -177,10 +139,7 @@ module _ (a : Window) (character : ℕ) (printable : is_printable character ≡ 
   neither s t h k = rw (h, k) refl
 
   pub frame-printed : (windows : Windows) (w : ℕ) → typed_frame windows w character a ≡ character_frame windows w character a
-  frame-printed windows w =
-      if_false (character == newline) (line_ended_frame windows w a) _ (none_of 10 (omega arith))
-      ∙ if_false (character == carriage_return || character == backspace) None _
-      (neither (character == carriage_return) (character == backspace) (none_of 13 (omega arith)) (none_of 8 (omega arith)))
+  frame-printed windows w = grind (arith, if_false, none_of, neither)
 
   frame-inside : (windows : Windows) (w : ℕ) → nat_lt (a.settings.cursor.1 + 1) a.columns ≡ true
       → typed_frame windows w character a ≡ frame_of a (at_place a.settings.cursor (written_glyph a.settings character))
@@ -194,71 +153,12 @@ module _ (windows : Windows) (w : ℕ) (a : Window) (there : windows.window w �
 
   covered-printed : a.settings.cursor.0 < a.lines → a.settings.cursor.1 < a.columns
       → frame_of_character windows w character ≡ Some (record { top = a.settings.cursor.0; left = a.settings.cursor.1; bottom = a.settings.cursor.0; right = a.settings.cursor.1 })
-  covered-printed below left =
-      ap (option_and_then (typed_frame windows w character)) there ∙ frame-inside a character printable windows w inside
-      ∙ frame-at_place a a.settings.cursor.0 a.settings.cursor.1 below left (written_glyph a.settings character)
+  covered-printed below left = grind (arith, frame-inside, frame-at_place)
 
 -- ---- a cell and those after it
 
-listed-at : (y x : ℕ) (cells : List Glyph) (v u : ℕ) → ((v == y) && (nat_le x u && nat_lt u (x + length cells))) ≡ true → listed_cells y x cells v u ≡ Some (get_or cells (u - x) blank)
-listed-at y x cells v u h = rw h refl
-
-listed-none : (y x : ℕ) (cells : List Glyph) (v u : ℕ) → ((v == y) && (nat_le x u && nat_lt u (x + length cells))) ≡ false → listed_cells y x cells v u ≡ None
-listed-none y x cells v u h = rw h refl
-
-place-at : (y x : ℕ) (g : Glyph) (v u : ℕ) → (v == y && u == x) ≡ true → at_place (y, x) g v u ≡ Some g
-place-at y x g v u h = rw h refl
-
-place-none : (y x : ℕ) (g : Glyph) (v u : ℕ) → (v == y && u == x) ≡ false → at_place (y, x) g v u ≡ None
-place-none y x g v u h = rw h refl
-
 listed-more : (a : Window) (y x : ℕ) (g : Glyph) (cells : List Glyph) → AreSame a (over (listed_cells y (x + 1) cells) (at_place (y, x) g)) (listed_cells y x (g ∷ cells))
-listed-more a y x g cells v u below on =
-    let more = listed_cells y (x + 1) cells in
-    let one = at_place (y, x) g in
-    elim (cases_eq v y) [
-      | inr other ↦
-          let l = ne_eqb v y other in
-          over-none more one v u (listed-none y (x + 1) cells v u (rw l refl)) ∙ place-none y x g v u (rw l refl) ∙ sym (listed-none y x (g ∷ cells) v u (rw l refl))
-      | inl line ↦
-          let l = eq-eqb v y line in
-          elim (cases_eq u x) [
-            | inl here ↦
-                let k = eq-eqb u x here in
-                let none : nat_le (x + 1) u ≡ false = grind (arith, nat_tests) in
-                let from : nat_le x u ≡ true = grind (arith, nat_tests) in
-                let to : nat_lt u (x + length (g ∷ cells)) ≡ true = grind (arith, nat_tests) in
-                let first : u - x ≡ 0 = omega arith in
-                over-none more one v u (listed-none y (x + 1) cells v u (rw (l, none) refl)) ∙ place-at y x g v u (rw (l, k) refl)
-                ∙ sym (listed-at y x (g ∷ cells) v u (rw (l, from, to) refl) ∙ ap (λ i. Some (get_or (g ∷ cells) i blank)) first)
-            | inr apart ↦
-                let k = ne_eqb u x apart in
-                elim (cases_lt u x) [
-                  | inl before ↦
-                      let none : nat_le (x + 1) u ≡ false = grind (arith, nat_tests) in
-                      let past : nat_le x u ≡ false = grind (arith, nat_tests) in
-                      over-none more one v u (listed-none y (x + 1) cells v u (rw (l, none) refl)) ∙ place-none y x g v u (rw (l, k) refl)
-                      ∙ sym (listed-none y x (g ∷ cells) v u (rw (l, past) refl))
-                  | inr from_x ↦
-                      let past : x < u = omega arith in
-                      let one_on : nat_le (x + 1) u ≡ true = le-leb (x + 1) u (omega arith) in
-                      let from : nat_le x u ≡ true = le-leb x u (omega arith) in
-                      elim (cases_lt u (x + 1 + length cells)) [
-                        | inl inside ↦
-                            let to : nat_lt u (x + 1 + length cells) ≡ true = grind (arith, nat_tests) in
-                            let to_end : nat_lt u (x + length (g ∷ cells)) ≡ true = grind (arith, nat_tests) in
-                            let next : u - x ≡ suc (u - (x + 1)) = omega arith in
-                            over-some more one v u (get_or cells (u - (x + 1)) blank) (listed-at y (x + 1) cells v u (rw (l, one_on, to) refl))
-                            ∙ sym (listed-at y x (g ∷ cells) v u (rw (l, from, to_end) refl) ∙ ap (λ i. Some (get_or (g ∷ cells) i blank)) next)
-                        | inr beyond ↦
-                            let none : nat_lt u (x + 1 + length cells) ≡ false = grind (arith, nat_tests) in
-                            let none_more : nat_lt u (x + length (g ∷ cells)) ≡ false = grind (arith, nat_tests) in
-                            over-none more one v u (listed-none y (x + 1) cells v u (rw (l, one_on, none) refl)) ∙ place-none y x g v u (rw (l, k) refl)
-                            ∙ sym (listed-none y x (g ∷ cells) v u (rw (l, from, none_more) refl))
-                      ]
-                ]
-          ]
-    ]
+listed-more a y x g cells v u below on = grind (arith, cases_eq, nat_tests)
 
 -- ---- the run
 
@@ -282,22 +182,12 @@ written-more windows w a p y x g cells one last there spot =
 
 set_nothing-at : (a : Window) (place : Place) (t : Bool) (o : Option Window) → (t ≡ true → o ≡ Some a) → place ≡ a.settings.cursor
     → (if t then option_map (set_in (with_cursor place)) o else o) ≡ o
-set_nothing-at a place true o h e =
-    let here = h refl in
-    ap (option_map (set_in (with_cursor place))) here ∙ ap (λ (q : Place). Some (set_in (with_cursor q) a)) e ∙ sym here
-set_nothing-at a place false o h e = refl
-
-empty_test : (y x v u : ℕ) → ((v == y) && (nat_le x u && nat_lt u (x + 0))) ≡ false
-empty_test y x v u = elim (cases_lt u x) [
-  | inl before ↦ let past : nat_le x u ≡ false = grind (arith, nat_tests) in grind (arith, nat_tests)
-  | inr from ↦ let none : nat_lt u (x + 0) ≡ false = grind (arith, nat_tests) in grind (arith, nat_tests)
-]
+set_nothing-at a place t o h e = grind arith
 
 nothing-written : (windows : Windows) (w : ℕ) (a : Window) (y x : ℕ) (place : Place) → windows.window w ≡ Some a → place ≡ a.settings.cursor
     → windows ≡ set (put windows w (listed_cells y x [])) w (with_cursor place)
 nothing-written windows w a y x place there same =
-    let none : (v u : ℕ) → listed_cells y x [] v u ≡ None = λ v u. listed-none y x [] v u (empty_test y x v u) in
-    sym (ap (λ (map : WindowMap). set (record windows { window = map }) w (with_cursor place)) (put-nothing windows.window w (listed_cells y x []) none)
+    sym (ap (λ (map : WindowMap). set (record windows { window = map }) w (with_cursor place)) (put-nothing windows.window w (listed_cells y x []) (λ v u. grind (arith, nat_tests)))
     ∙ ap (λ (map : WindowMap). record windows { window = map })
     (fun_ext (λ u. set_nothing-at a place (u == w) (windows.window u) (λ t. ap windows.window (eqb-true u w t) ∙ there) same)))
 
@@ -366,10 +256,7 @@ run_covered (second ∷ run) first windows w a p there spot printed below inside
 -- ---- as the code has it
 
 inked-is : (settings : Settings) (character : ℕ) → printed_cell (written_glyph settings 32) character ≡ written_glyph settings character
-inked-is settings character = elim (cases_eq character 32) [
-  | inl same ↦ let e = eq-eqb character 32 same in rw e refl
-  | inr other ↦ let e = ne_eqb character 32 other in rw e refl
-]
+inked-is settings character = grind (arith, cases_eq, eq-eqb, ne_eqb)
 
 module _ (windows : Windows) (w : ℕ) (s : WindowState) (h : IsStateOf windows w s) (run : List ℕ) (printed : (k : ℕ) → k < length run → is_printable (get_or run k 0) ≡ true)
     (inside : s.settings.cursor.1 + length run < s.columns) where

@@ -1,5 +1,5 @@
 -- The lines of a region, scrolled by a number of lines.
-use Rattle.std.proofs.Common.{◌≡◌, ℕ, zero, suc, ℤ, pos, negsuc, ◌-◌, Some, None, ap, refl, sym, ◌∙◌}
+use Rattle.std.proofs.Common.{◌≡◌, ℕ, ℤ, pos, ◌-◌, Some, None, ap, refl, sym, ◌∙◌, arith}
 use Rattle.world.specs.Windows.{Windows, put}
 use Rattle.world.specs.Frames.{frame_of}
 use Rattle.world.specs.calls.Writing.{scrl_drawing}
@@ -24,10 +24,4 @@ module _ (windows : Windows) (w : ℕ) (s : WindowState) (n : ℤ) where
 pub scrolled_lines : (windows : Windows) (w : ℕ) (s : WindowState) (n : ℤ) (r : Rect) → IsStateOf windows w s → (n ≡ pos 0 → ⊥)
     → r ≡ record { top = s.settings.region.0; left = 0; bottom = s.settings.region.1; right = s.columns - 1 }
     → Some r ≡ frame_of (window_in_state s) (scrl_drawing windows.window w n (window_in_state s))
-scrolled_lines windows w s (pos zero) r h some e = absurd (some refl)
-scrolled_lines windows w s (pos (suc n)) r h some e =
-    ap Some e ∙ sym (frame-lines_up (window_in_state s) s.settings.region.0 s.settings.region.1 h.within.region_order h.within.region_end h.has_column
-    windows.window w (suc n) s.settings.background)
-scrolled_lines windows w s (negsuc n) r h some e =
-    ap Some e ∙ sym (frame-lines_down (window_in_state s) s.settings.region.0 s.settings.region.1 h.within.region_order h.within.region_end h.has_column
-    windows.window w (suc n) s.settings.background)
+scrolled_lines windows w s n r h some e = grind (arith, frame-lines_up, frame-lines_down)

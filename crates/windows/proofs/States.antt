@@ -1,16 +1,14 @@
 -- A window keeps its size and its settings where something is written; and other settings are one change of it.
-use Rattle.std.proofs.Common.{◌≡◌, ℕ, ◌<◌, ◌-◌, Bool, true, false, if◌then◌else◌, ◌==◌, Option, Some, None, IsSome, IsSomeAnd, ap, arith, refl, sym, subst, ◌∙◌}
+use Rattle.std.proofs.Common.{◌≡◌, ℕ, ◌<◌, Bool, true, if◌then◌else◌, Option, Some, None, IsSome, IsSomeAnd, arith, refl, sym, subst, ◌∙◌}
 use Rattle.std.specs.Option.{option_map}
-use mathlib.Core.Path.{fun_ext}
 use Rattle.std.proofs.lemmas.Bool.{eqb-true}
 use Rattle.std.proofs.lemmas.Nat.{and_le_l, and_mask, or_lt}
 use Rattle.cell.specs.Attributes.{bits_of, valid_attributes, without}
 use Rattle.std.specs.Int.RustNames.{bit_or}
-use Rattle.world.specs.Windows.{Window, WindowMap, Windows, GridPlace, Drawing, own, after_drawing, put_from, put_windows, put, HasPlace, with_change}
+use Rattle.world.specs.Windows.{Window, WindowMap, Windows, GridPlace, Drawing, own, after_drawing, put_windows, put, HasPlace}
 use Rattle.world.specs.Settings.{after_set_settings, set_in, set}
-use Rattle.world.specs.Sound.{AreSoundWindows, IsSoundWindow}
+use Rattle.world.specs.Sound.{AreSoundWindows}
 use Rattle.world.specs.calls.Queries.{window_size}
-use Rattle.std.specs.Prelude.{⊤, MatchOption}
 use Rattle.world.specs.declared.settings.Settings.{Settings}
 use Rattle.world.proofs.WindowLaws.{own-put}
 use Rattle.windows.specs.steps.State.{IsStateOf}
@@ -27,8 +25,7 @@ spot-of windows w s h = some-place (own windows.window w 0 0) h.chain_ends
 
 pub window-put : (window : WindowMap) (w : ℕ) (a : Window) (p : GridPlace) (f : Drawing) → window w ≡ Some a → own window w 0 0 ≡ Some p
     → put_windows window w f w ≡ Some (after_drawing w a p f w a)
-window-put window w a p f there leads =
-    ap (λ o. put_from window w o (own window w 0 0) f w) there ∙ ap (λ o. put_from window w (Some a) o f w) leads ∙ ap (option_map (after_drawing w a p f w)) there
+window-put window w a p f there leads = grind arith
 
 pub state-put : (windows : Windows) (w : ℕ) (s : WindowState) (f : Drawing) → IsStateOf windows w s → AreSoundWindows (put windows w f) → IsStateOf (put windows w f) w s
 state-put windows w s f h sound =
@@ -49,19 +46,15 @@ state-put windows w s f h sound =
     }
 
 pub state-written : (windows new : Windows) (w : ℕ) (s : WindowState) (f : Drawing) → IsStateOf windows w s → new ≡ put windows w f → AreSoundWindows new → IsStateOf new w s
-state-written windows new w s f h is sound =
-    subst (λ v. IsStateOf v w s) (sym is) (state-put windows w s f h (subst (λ v. AreSoundWindows v) is sound))
+state-written windows new w s f h is sound = grind (arith, state-put)
 
 place-in : (o : Option Window) (a : Window) (lines columns y x : ℕ) → o ≡ Some a → a.lines ≡ lines → a.columns ≡ columns → y < lines → x < columns
     → IsSomeAnd o (λ b. (y < b.lines) × (x < b.columns))
-place-in None a lines columns y x e l k below on = cc
-place-in (Some b) a lines columns y x e l k below on =
-    let same : b ≡ a = cc in
-    subst (λ c. (y < c.lines) × (x < c.columns)) (sym same) (omega arith, omega arith)
+place-in o a lines columns y x e l k below on = grind arith
 
 -- the places of a window
 pub has_place : (windows : Windows) (w : ℕ) (s : WindowState) (y x : ℕ) → IsStateOf windows w s → y < s.lines → x < s.columns → HasPlace windows.window w y x
-has_place windows w s y x h below on = place-in (windows.window w) h.window s.lines s.columns y x h.there h.lines h.columns below on
+has_place windows w s y x h below on = grind (arith, place-in)
 
 -- ---- other settings
 
@@ -73,53 +66,29 @@ pub either-few : (a b : ℕ) → a < 64 → b < 64 → bit_or a b < 64
 either-few a b h k = or_lt 6 a b h k
 
 pub without-few : (a b : ℕ) → a < 64 → without a b < 64
-without-few a b h = let less = and_le_l a (0xff - b) in omega arith
+without-few a b h = grind (arith, and_le_l)
 
 pub ruleset of_the_six = (either-few, without-few)
 
 -- settings of the six attributes are kept as they are
 pub set-all : (windows : Windows) (w : ℕ) (settings : Settings) → bits_of settings.attrs < 64 → after_set_settings windows w settings ≡ set windows w (λ before. settings)
-set-all windows w settings few = λ i. record windows {
-  window = with_change windows.window w (λ a. record a { settings = record settings { attrs = record { 0 = valid_attributes-small (bits_of settings.attrs) few i } } });
-}
+set-all windows w settings few = grind (arith, valid_attributes-small)
 
 set-at : (settings : Settings) (change : Settings → Settings) (a : Window) (t : Bool) (o : Option Window) → (t ≡ true → o ≡ Some a) → a.settings ≡ settings
     → (if t then option_map (set_in (λ before. change settings)) o else o) ≡ (if t then option_map (set_in change) o else o)
-set-at settings change a true o there are = rw (there refl) (ap (λ v. Some (record a { settings = change v })) (sym are))
-set-at settings change a false o there are = refl
+set-at settings change a t o there are = grind arith
 
 -- a window of a known state is set to what a change makes of its settings
 pub set-known : (windows : Windows) (w : ℕ) (s : WindowState) (change : Settings → Settings) → IsStateOf windows w s
     → set windows w (λ before. change s.settings) ≡ set windows w change
-set-known windows w s change h = λ i. record windows {
-  window = fun_ext (λ u. set-at s.settings change h.window (u == w) (windows.window u) (λ t. ap windows.window (eqb-true u w t) ∙ h.there) h.settings) i;
-}
+set-known windows w s change h = grind (arith, set-at, eqb-true)
 
 -- a window of a sound world has the state that its size and its settings make
 state_from : (windows : Windows) (w : ℕ) (size : ℕ × ℕ) (settings : Settings) (o : Option Window) → windows.window w ≡ o → AreSoundWindows windows
     → option_map (λ (a : Window). (a.lines, a.columns)) o ≡ Some size → option_map (λ (a : Window). a.settings) o ≡ Some settings
     → IsStateOf windows w (record { lines = size.0; columns = size.1; settings = settings })
-state_from windows w size settings None e sound size_is settings_are = cc
-state_from windows w size settings (Some a) e sound size_is settings_are =
-    let window : IsSoundWindow windows w a = subst (λ (o : Option Window). MatchOption o ⊤ (IsSoundWindow windows w)) e (sound.each w) in
-    let same_size : (a.lines, a.columns) ≡ size = cc in
-    let same_settings : a.settings ≡ settings = cc in
-    let own_state : IsStateOf windows w (record { lines = a.lines; columns = a.columns; settings = a.settings }) = record {
-      window = a;
-      there = e;
-      lines = refl;
-      columns = refl;
-      settings = refl;
-      has_line = window.has_line;
-      has_column = window.has_column;
-      few_lines = window.few_lines;
-      few_columns = window.few_columns;
-      within = window.settings;
-      chain_ends = window.chain_ends;
-      sound = sound;
-    } in
-    subst (λ (s : WindowState). IsStateOf windows w s) (λ i. record { lines = (same_size i).0; columns = (same_size i).1; settings = same_settings i }) own_state
+state_from windows w size settings o e sound size_is settings_are = grind arith
 
 pub state-from : (windows : Windows) (w lines columns : ℕ) (settings : Settings) → AreSoundWindows windows → window_size windows.window w ≡ Some (lines, columns)
     → option_map (λ (a : Window). a.settings) (windows.window w) ≡ Some settings → IsStateOf windows w (record { lines = lines; columns = columns; settings = settings })
-state-from windows w lines columns settings sound size_is settings_are = state_from windows w (lines, columns) settings (windows.window w) refl sound size_is settings_are
+state-from windows w lines columns settings sound size_is settings_are = grind (arith, state_from)

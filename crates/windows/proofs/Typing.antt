@@ -1,5 +1,5 @@
 -- A character written at the cursor of a window of a known state.
-use Rattle.std.proofs.Common.{◌≡◌, ℕ, ◌+◌, ◌-◌, ◌<◌, ◌≤◌, Bool, true, false, if◌then◌else◌, ◌==◌, ◌&&◌, nat_lt, Option, Some, None, ap, arith, refl, sym, ◌∙◌, eq-eqb}
+use Rattle.std.proofs.Common.{◌≡◌, ℕ, ◌+◌, ◌-◌, ◌<◌, ◌≤◌, Bool, true, false, if◌then◌else◌, ◌==◌, ◌&&◌, Option, Some, None, arith, refl, eq-eqb}
 use Rattle.std.specs.Int.RustNames.{bit_or}
 use Rattle.std.proofs.lemmas.Bool.{lt-ltb}
 use Rattle.std.proofs.lemmas.Bool.Decides.{nat_tests}
@@ -10,7 +10,7 @@ use Rattle.world.specs.Windows.{Windows, put}
 use Rattle.world.specs.Settings.{set, with_cursor}
 use Rattle.world.specs.Drawings.{written_glyph, at_place, to_end_of_line, lines_up}
 use Rattle.world.specs.Frames.{frame_of_two, frame_of}
-use Rattle.world.specs.Typing.{scrolls, region_up, to_next_line, next_line_frame, character_printed, character_frame, line_ended, line_ended_frame, typed_in, typed_frame, after_character}
+use Rattle.world.specs.Typing.{scrolls, to_next_line, next_line_frame, character_printed, character_frame, line_ended, line_ended_frame, typed_in, typed_frame, after_character}
 use Rattle.world.specs.Typing.{frame_of_character}
 use Rattle.cell.specs.declared.window.Rect.{Rect}
 use Rattle.world.specs.declared.settings.Settings.{Settings}
@@ -21,40 +21,32 @@ use Rattle.windows.proofs.Calls.{call-is, frame-is}
 use Rattle.windows.proofs.States.{either-few, valid_attributes-small}
 
 pub if_true : {X : Type 0} (t : Bool) (a b : X) → t ≡ true → (if t then a else b) ≡ a
-if_true true a b h = refl
-if_true false a b h = cc
+if_true t a b h = grind arith
 
 pub if_false : {X : Type 0} (t : Bool) (a b : X) → t ≡ false → (if t then a else b) ≡ b
-if_false true a b h = cc
-if_false false a b h = refl
+if_false t a b h = grind arith
 
 both : (s t : Bool) → s ≡ true → t ≡ true → (s && t) ≡ true
-both true true h k = refl
-both true false h k = k
-both false t h k = h
+both s t h k = grind arith
 
 -- attributes of the six are known
 pub valid_attributes-either : (a b : ℕ) → a < 64 → b < 64 → valid_attributes (bit_or a b) ≡ bit_or a b
-valid_attributes-either a b h k = valid_attributes-small (bit_or a b) (either-few a b h k)
+valid_attributes-either a b h k = grind (arith, valid_attributes-small, either-few)
 
 module _ (windows : Windows) (w : ℕ) (s : WindowState) (h : IsStateOf windows w s) where
   -- ---- the end of a line
 
   scrolls-is : s.settings.scrolling ≡ true → s.settings.cursor.0 ≡ s.settings.region.1 → scrolls (window_in_state s) ≡ true
-  scrolls-is on last = both s.settings.scrolling (s.settings.cursor.0 == s.settings.region.1) on (eq-eqb s.settings.cursor.0 s.settings.region.1 last)
+  scrolls-is on last = grind (arith, both, eq-eqb)
 
   pub scrolled : (now new : Windows) (place : Place) → s.settings.scrolling ≡ true → s.settings.cursor.0 ≡ s.settings.region.1
       → now ≡ put windows w (lines_up windows.window w s.settings.region.0 s.settings.region.1 1 s.settings.background)
       → new ≡ set now w (with_cursor (s.settings.cursor.0, 0)) → new ≡ to_next_line windows w (window_in_state s) place
-  scrolled now new place on last drawn moved =
-      moved ∙ ap (λ v. set v w (with_cursor (s.settings.cursor.0, 0))) drawn ∙ sym (if_true (scrolls (window_in_state s)) _ _ (scrolls-is on last))
+  scrolled now new place on last drawn moved = grind (arith, if_true, scrolls-is)
 
   pub scrolled_frame : (r : Rect) → s.settings.scrolling ≡ true → s.settings.cursor.0 ≡ s.settings.region.1
       → r ≡ record { top = s.settings.region.0; left = 0; bottom = s.settings.region.1; right = s.columns - 1 } → Some r ≡ next_line_frame windows.window w (window_in_state s)
-  scrolled_frame r on last e =
-      ap Some e
-      ∙ sym (frame-lines_up (window_in_state s) s.settings.region.0 s.settings.region.1 h.within.region_order h.within.region_end h.has_column windows.window w 1 s.settings.background)
-      ∙ sym (if_true (scrolls (window_in_state s)) (frame_of (window_in_state s) (region_up windows.window w (window_in_state s))) None (scrolls-is on last))
+  scrolled_frame r on last e = grind (arith, frame-lines_up, if_true, scrolls-is)
 
   -- ---- a printed character
 
@@ -64,58 +56,45 @@ module _ (windows : Windows) (w : ℕ) (s : WindowState) (h : IsStateOf windows 
 
     pub printed_inside : (now new : Windows) → s.settings.cursor.1 + 1 < s.columns → now ≡ put windows w (at_place s.settings.cursor (written_glyph s.settings character))
         → new ≡ set now w (with_cursor (s.settings.cursor.0, s.settings.cursor.1 + 1)) → new ≡ character_printed windows w character (window_in_state s)
-    printed_inside now new inside drawn moved =
-        moved ∙ ap (λ v. set v w (with_cursor (s.settings.cursor.0, s.settings.cursor.1 + 1))) drawn
-        ∙ sym (if_true (nat_lt (s.settings.cursor.1 + 1) s.columns) _ _ (lt-ltb (s.settings.cursor.1 + 1) s.columns inside))
+    printed_inside now new inside drawn moved = grind (arith, if_true, lt-ltb)
 
     pub printed_at_end : (now new : Windows) → s.columns ≤ s.settings.cursor.1 + 1 → now ≡ put windows w (at_place s.settings.cursor (written_glyph s.settings character))
         → new ≡ to_next_line now w (window_in_state s) s.settings.cursor → new ≡ character_printed windows w character (window_in_state s)
-    printed_at_end now new past drawn moved =
-        moved ∙ ap (λ v. to_next_line v w (window_in_state s) s.settings.cursor) drawn
-        ∙ sym (if_false (nat_lt (s.settings.cursor.1 + 1) s.columns) _ _ (grind (arith, nat_tests)))
+    printed_at_end now new past drawn moved = grind (arith, if_false, nat_tests)
 
     one_place : (r : Rect) → r ≡ record { top = s.settings.cursor.0; left = s.settings.cursor.1; bottom = s.settings.cursor.0; right = s.settings.cursor.1 }
         → Some r ≡ frame_of (window_in_state s) (at_place s.settings.cursor (written_glyph s.settings character))
-    one_place r e =
-        ap Some e ∙ sym (frame-at_place (window_in_state s) s.settings.cursor.0 s.settings.cursor.1 h.within.cursor_line h.within.cursor_column (written_glyph s.settings character))
+    one_place r e = grind (arith, frame-at_place)
 
     pub printed_inside_frame : (r : Rect) → s.settings.cursor.1 + 1 < s.columns
         → r ≡ record { top = s.settings.cursor.0; left = s.settings.cursor.1; bottom = s.settings.cursor.0; right = s.settings.cursor.1 }
         → Some r ≡ character_frame windows w character (window_in_state s)
-    printed_inside_frame r inside e =
-        one_place r e ∙ sym (if_true (nat_lt (s.settings.cursor.1 + 1) s.columns) _ _ (lt-ltb (s.settings.cursor.1 + 1) s.columns inside))
+    printed_inside_frame r inside e = grind (arith, one_place, if_true, lt-ltb)
 
     pub printed_at_end_frame : (now : Windows) (r : Rect) (below o : Option Rect) → s.columns ≤ s.settings.cursor.1 + 1
         → now ≡ put windows w (at_place s.settings.cursor (written_glyph s.settings character))
         → r ≡ record { top = s.settings.cursor.0; left = s.settings.cursor.1; bottom = s.settings.cursor.0; right = s.settings.cursor.1 }
         → below ≡ next_line_frame now.window w (window_in_state s) → o ≡ frame_of_two (Some r) below → o ≡ character_frame windows w character (window_in_state s)
-    printed_at_end_frame now r below o past drawn e next is =
-        is ∙ (λ i. frame_of_two (one_place r e i) (next i))
-        ∙ ap (λ (v : Windows). frame_of_two (frame_of (window_in_state s) (at_place s.settings.cursor (written_glyph s.settings character))) (next_line_frame v.window w (window_in_state s))) drawn
-        ∙ sym (if_false (nat_lt (s.settings.cursor.1 + 1) s.columns) _ _ (grind (arith, nat_tests)))
+    printed_at_end_frame now r below o past drawn e next is = grind (arith, one_place, if_false, nat_tests)
 
   -- ---- a newline
 
   pub ended : (now new : Windows) → now ≡ put windows w (to_end_of_line s.settings.cursor s.settings.background)
       → new ≡ to_next_line now w (window_in_state s) (s.settings.cursor.0, 0) → new ≡ line_ended windows w (window_in_state s)
-  ended now new drawn moved = moved ∙ ap (λ v. to_next_line v w (window_in_state s) (s.settings.cursor.0, 0)) drawn
+  ended now new drawn moved = cc
 
   pub ended_frame : (now : Windows) (r : Rect) (below o : Option Rect) → now ≡ put windows w (to_end_of_line s.settings.cursor s.settings.background)
       → r ≡ record { top = s.settings.cursor.0; left = s.settings.cursor.1; bottom = s.settings.cursor.0; right = s.columns - 1 }
       → below ≡ next_line_frame now.window w (window_in_state s) → o ≡ frame_of_two (Some r) below → o ≡ line_ended_frame windows w (window_in_state s)
-  ended_frame now r below o drawn e next is =
-      let rest = to_end_of_line s.settings.cursor s.settings.background in
-      let here : Some r ≡ frame_of (window_in_state s) rest = ap Some e
-      ∙ sym (frame-to_end_of_line (window_in_state s) s.settings.cursor.0 s.settings.cursor.1 h.within.cursor_line h.within.cursor_column s.settings.background) in
-      is ∙ (λ i. frame_of_two (here i) (next i)) ∙ ap (λ (v : Windows). frame_of_two (frame_of (window_in_state s) rest) (next_line_frame v.window w (window_in_state s))) drawn
+  ended_frame now r below o drawn e next is = grind (arith, frame-to_end_of_line)
 
   -- ---- any character
 
   pub added : (new : Windows) (character : ℕ) → new ≡ typed_in windows w character (window_in_state s) → new ≡ after_character windows w character
-  added new character e = e ∙ sym (call-is windows w s h (typed_in windows w character) refl)
+  added new character e = grind (arith, call-is windows w s h (typed_in windows w character) refl)
 
   pub added_frame : (o : Option Rect) (character : ℕ) → o ≡ typed_frame windows w character (window_in_state s) → o ≡ frame_of_character windows w character
-  added_frame o character e = e ∙ sym (frame-is windows w s h (typed_frame windows w character) refl)
+  added_frame o character e = grind (arith, frame-is)
 
 -- ---- the cell of a character
 
@@ -128,7 +107,4 @@ pub written-is : (settings : Settings) (character shown attributes pair : ℕ) (
     → pair ≡ (if settings.pair == 0 then settings.background.pair else settings.pair)
     → (let o : Option Glyph = if t then Some (record { character = shown; attributes = valid_attributes attributes; pair = 0 }) else None in Some cell ≡ o)
     → record cell { pair = pair } ≡ written_glyph settings character
-written-is settings character shown attributes pair t cell few small shown_is attributes_are pair_is e =
-    let together = ap valid_attributes attributes_are ∙ valid_attributes-either (bits_of settings.attrs) settings.background.attributes few small in
-    let made = some-of t cell (record { character = shown; attributes = valid_attributes attributes; pair = 0 }) e in
-    ap (λ (g : Glyph). record g { pair = pair }) made ∙ (λ i. record { character = shown_is i; attributes = together i; pair = pair_is i })
+written-is settings character shown attributes pair t cell few small shown_is attributes_are pair_is e = grind (arith, valid_attributes-either, some-of)

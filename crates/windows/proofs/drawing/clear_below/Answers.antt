@@ -1,5 +1,5 @@
 -- Each round clears one line more of those below.
-use Rattle.std.proofs.Common.{◌-◌, arith}
+use Rattle.std.proofs.Common.{◌-◌, arith, rules}
 use Rattle.world.specs.Rows.{filled_cells}
 use Rattle.world.specs.Drawings.{to_bottom}
 use Rattle.grids.specs.Tables.{windows}
@@ -9,12 +9,7 @@ use Rattle.windows.proofs.NextWrites.{bottom_started, line_cleared, bottom_clear
 use Rattle.windows.proofs.drawing.clear_below.Goals as goal
 
 pub loop-line-init : goal.loop-line-init
-loop-line-init c = record {
-  cleared = bottom_started (windows c.args.table.now) c.args.win.0 c.args.state.now c.requires.state c.args.y c.args.left c.args.state.now.settings.background
-      (windows c.fill.new.self) c.fill.ensures.written;
-  state = state-written (windows c.args.table.now) (windows c.fill.new.self) c.args.win.0 c.args.state.now
-      (filled_cells c.args.y c.args.left (c.args.state.now.columns - 1) c.args.state.now.settings.background) c.requires.state c.fill.ensures.written c.fill.ensures.sound;
-}
+loop-line-init c = search (rules, bottom_started, state-written)
 
 pub loop-line-preserved : goal.loop-line-preserved
 loop-line-preserved c = record {
@@ -28,6 +23,4 @@ loop-line-preserved c = record {
 }
 
 pub returns-clause-written : goal.returns-clause-written
-returns-clause-written c =
-    bottom_cleared (windows c.args.table.now) c.args.win.0 c.args.state.now c.requires.state c.args.y c.args.left c.args.state.now.settings.background
-    (windows c.loop-line.table) c.loop-line.line (omega arith) c.loop-line.invariant.cleared
+returns-clause-written c = search (rules, bottom_cleared)

@@ -36,6 +36,4 @@ loop-moved-preserved c =
     }
 
 pub returns-clause-written : goal.returns-clause-written
-returns-clause-written c =
-    down_ended (windows c.args.table.now) c.args.win.0 c.args.state.now c.requires.state c.args.top c.args.bottom c.args.n c.args.state.now.settings.background
-    c.requires.ordered c.requires.lines (c.args.bottom + 1 - c.loop-moved.moved) (windows c.loop-moved.table) (omega arith) c.loop-moved.invariant.moved
+returns-clause-written c = grind (arith, down_ended)

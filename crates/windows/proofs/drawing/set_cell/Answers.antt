@@ -1,15 +1,11 @@
 -- A cell is one write.
-use Rattle.world.specs.Rows.{filled_cells}
-use Rattle.grids.specs.Tables.{windows}
+use Rattle.std.proofs.Common.{rules}
 use Rattle.windows.proofs.States.{state-written}
 use Rattle.windows.proofs.NextWrites.{one_cell}
 use Rattle.windows.proofs.drawing.set_cell.Goals as goal
 
 pub returns-clause-written : goal.returns-clause-written
-returns-clause-written c =
-    one_cell (windows c.args.table.now) c.args.win.0 c.args.state.now c.requires.state (windows c.set_cell.new.self) c.args.y c.args.x c.args.cell c.set_cell.ensures.written
+returns-clause-written c = search (rules, one_cell)
 
 pub returns-clause-state : goal.returns-clause-state
-returns-clause-state c =
-    state-written (windows c.args.table.now) (windows c.set_cell.new.self) c.args.win.0 c.args.state.now (filled_cells c.args.y c.args.x c.args.x c.args.cell)
-    c.requires.state c.set_cell.ensures.written c.set_cell.ensures.sound
+returns-clause-state c = search (rules, state-written)

@@ -1,17 +1,10 @@
 -- A line is that below it, or blank where there is none in the region.
-use Rattle.std.proofs.Common.{◌+◌, ◌-◌, false}
-use Rattle.world.specs.Rows.{copied_cells, filled_cells}
-use Rattle.grids.specs.Tables.{windows}
+use Rattle.std.proofs.Common.{rules}
 use Rattle.windows.proofs.States.{state-written}
 use Rattle.windows.proofs.drawing.take_below.Goals as goal
 
 pub returns-then-n-bottom-clause-state : goal.returns-then-n-bottom-clause-state
-returns-then-n-bottom-clause-state c =
-    state-written (windows c.args.table.now) (windows c.copy_row.new.self) c.args.win.0 c.args.state.now
-    (copied_cells (windows c.args.table.now).window c.args.win.0 (c.args.line + c.args.n) 0 c.args.line 0 c.args.state.now.columns false)
-    c.requires.state c.copy_row.ensures.written c.copy_row.ensures.sound
+returns-then-n-bottom-clause-state c = search (rules, state-written)
 
 pub returns-else-n-bottom-clause-state : goal.returns-else-n-bottom-clause-state
-returns-else-n-bottom-clause-state c =
-    state-written (windows c.args.table.now) (windows c.fill.new.self) c.args.win.0 c.args.state.now
-    (filled_cells c.args.line 0 (c.args.state.now.columns - 1) c.args.state.now.settings.background) c.requires.state c.fill.ensures.written c.fill.ensures.sound
+returns-else-n-bottom-clause-state c = search (rules, state-written)

@@ -1,5 +1,5 @@
 -- `print_inside`: a character written at the cursor of a window of a known state (`Typing`).
-use Rattle.std.proofs.Common.{ap, ◌∙◌}
+use Rattle.std.proofs.Common.{ap, ◌∙◌, rules}
 use Rattle.world.specs.Windows.{put}
 use Rattle.world.specs.Drawings.{at_place}
 use Rattle.grids.specs.Tables.{windows}
@@ -14,5 +14,4 @@ returns-clause-written c =
     c.requires.inside drawn c.set_cursor.ensures.set
 
 pub returns-clause-frame : goal.returns-clause-frame
-returns-clause-frame c =
-    printed_inside_frame (windows c.args.table.now) c.args.win.0 c.args.state.now c.requires.state c.args.ch c.place.result c.requires.inside c.place.ensures
+returns-clause-frame c = search (rules, printed_inside_frame)

@@ -1,18 +1,13 @@
 -- `print_run`: characters that are printed in one line, before its last column, are one write of that line (`Runs`); a window keeps its
 -- size and its settings where something is written; and other settings are one change of it (`States`).
-use Rattle.std.proofs.Common.{◌+◌, ◌-◌, length, map, refl}
-use Rattle.world.specs.Rows.{listed_cells}
-use Rattle.grids.specs.Inks.{printed_cell}
+use Rattle.std.proofs.Common.{◌+◌, ◌-◌, length, refl, rules}
 use Rattle.grids.specs.Tables.{windows}
 use Rattle.windows.proofs.States.{state-written}
 use Rattle.windows.proofs.Runs.{run_printed, run_frame}
 use Rattle.windows.proofs.writing.characters.print_run.Goals as goal
 
 pub set_cursor-requires-clause-state : goal.set_cursor-requires-clause-state
-set_cursor-requires-clause-state c =
-    let s = c.args.state.now in
-    state-written (windows c.args.table.now) (windows c.print.new.self) c.args.win.0 s
-    (listed_cells s.settings.cursor.0 s.settings.cursor.1 (map (printed_cell c.written_cell.result) c.args.run.now)) c.requires.state c.print.ensures.written c.print.ensures.sound
+set_cursor-requires-clause-state c = search (rules, state-written)
 
 pub returns-clause-written : goal.returns-clause-written
 returns-clause-written c =

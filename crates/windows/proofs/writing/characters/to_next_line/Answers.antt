@@ -1,12 +1,11 @@
 -- `to_next_line`: a character written at the cursor of a window of a known state (`Typing`).
+use Rattle.std.proofs.Common.{rules}
 use Rattle.grids.specs.Tables.{windows}
 use Rattle.windows.proofs.Typing.{scrolled, scrolled_frame}
 use Rattle.windows.proofs.writing.characters.to_next_line.Goals as goal
 
 pub returns-then-line-bottom-clause-written : goal.returns-then-line-bottom-clause-written
-returns-then-line-bottom-clause-written c =
-    scrolled (windows c.args.table.now) c.args.win.0 c.args.state.now c.requires.state (windows c.move_up.new.table) (windows c.set_cursor.new.table)
-    (c.args.y, c.args.x) c.if-state.true c.if-line-bottom.true c.move_up.ensures.written c.set_cursor.ensures.set
+returns-then-line-bottom-clause-written c = search (rules, scrolled)
 
 pub returns-then-line-bottom-clause-frame : goal.returns-then-line-bottom-clause-frame
 returns-then-line-bottom-clause-frame c =
