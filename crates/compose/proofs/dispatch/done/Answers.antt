@@ -1,3 +1,4 @@
+-- `done`: a call on panels that answers nothing is the one relation of such calls (`Arranging`).
 use Rattle.std.proofs.Common.{rules}
 use Rattle.stack.specs.Calls.{nothing}
 use Rattle.compose.specs.steps.Outcomes.{Ordered, Rearranges}

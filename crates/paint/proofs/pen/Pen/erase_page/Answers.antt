@@ -1,3 +1,4 @@
+-- `erase_page`: what the erasure draws, from what an erasure draws (`Strokes`).
 use Rattle.std.proofs.Common.{refl}
 use Rattle.ecma.specs.Terminals.{erased_page}
 use Rattle.ecma.specs.declared.token.Erase.TheVariants.{ToEnd}
