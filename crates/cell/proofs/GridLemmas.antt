@@ -1,5 +1,5 @@
 -- The lines of a grid whose cells are one after another: each line, a change of one cell, and equal sizes.
-use Rattle.std.proofs.Common.{◌≡◌, ℕ, ◌<◌, ◌≤◌, ◌+◌, ◌*◌, ◌∙◌, List, [], length, take, drop, replicate, set, sym, ap, inl, inr, ◌-◌, arith, zero-add}
+use Rattle.std.proofs.Common.{◌≡◌, ℕ, ◌<◌, ◌≤◌, ◌+◌, ◌*◌, ◌∙◌, List, [], length, take, drop, replicate, set, ap, ◌-◌, arith, zero-add}
 use Rattle.std.proofs.Math.Seq.{take-set-lt}
 use Rattle.std.proofs.lemmas.Bool.{cases_eq, cases_lt}
 use Rattle.std.proofs.lemmas.List.{length-set, length-take-le, length-drop, length-replicate, drop-set-add, drop-set-lt, take-set-le, take-replicate, drop-replicate, get_or-replicate}
@@ -26,26 +26,14 @@ line_end lines columns y below = row_fits y columns lines columns below (omega a
 
 pub length-line_of-rows : {A : Type 0} {Is : A → Type 0} (lines columns : ℕ) (cells : List A) (y : ℕ) → IsGrid Is lines columns cells → y < lines
     → length (line_of (rows lines columns cells) y) ≡ columns
-length-line_of-rows lines columns cells y grid below =
-    let end = line_end lines columns y below in
-    ap length (line_of-rows lines columns cells y below)
-    ∙ length-take-le columns (drop (y * columns) cells) (omega (arith, grid.whole, length-drop (y * columns) cells))
+length-line_of-rows lines columns cells y grid below = grind (arith, line_end, line_of-rows, length-take-le, length-drop)
 
 -- a change of one cell
 
 line_at-set : {A : Type 0} (columns : ℕ) (cells : List A) (y x k : ℕ) (cell : A) → x < columns → (k ≡ y → ⊥)
     → line_at columns (set cells (y * columns + x) cell) k ≡ line_at columns cells k
-line_at-set columns cells y x k cell left other = elim (cases_lt k y) [
-  | inl before ↦
-      let end = line_end y columns k before in
-      let place : k * columns + (y * columns + x - k * columns) ≡ y * columns + x = omega arith in
-      ap (λ i. take columns (drop (k * columns) (set cells i cell))) (sym place)
-      ∙ ap (take columns) (drop-set-add (k * columns) cells (y * columns + x - k * columns) cell)
-      ∙ take-set-le columns (drop (k * columns) cells) (y * columns + x - k * columns) cell (omega arith)
-  | inr after ↦
-      let end = line_end k columns y (omega arith) in
-      ap (take columns) (drop-set-lt (k * columns) cells (y * columns + x) cell (omega arith))
-]
+line_at-set columns cells y x k cell left other =
+    grind (arith, cases_lt, line_end, drop-set-add (k * columns) cells (y * columns + x - k * columns) cell, take-set-le, drop-set-lt)
 
 line_at-set_same : {A : Type 0} (columns : ℕ) (cells : List A) (y x : ℕ) (cell : A) → x < columns
     → line_at columns (set cells (y * columns + x) cell) y ≡ set (line_at columns cells y) x cell
@@ -58,20 +46,8 @@ line-set_same lines columns cells y x cell below left = grind (arith, length-row
 pub rows-set : {A : Type 0} (lines columns : ℕ) (cells : List A) (y x : ℕ) (cell : A) → y < lines → x < columns
     → rows lines columns (set cells (y * columns + x) cell) ≡ with_cell (rows lines columns cells) (y, x) cell
 rows-set lines columns cells y x cell below left =
-    let old = rows lines columns cells in
-    let new = rows lines columns (set cells (y * columns + x) cell) in
-    let height = length-rows lines columns (set cells (y * columns + x) cell) in
-    ext_get_or [] new (with_cell old (y, x) cell)
-    (height ∙ sym (length-set old y (set (line_of old y) x cell) ∙ length-rows lines columns cells))
-    (λ k within.
-    let above : k < lines = omega arith in
-    elim (cases_eq k y) [
-      | inl same ↦ ap (line_of new) same ∙ line-set_same lines columns cells y x cell below left ∙ ap (line_of (with_cell old (y, x) cell)) (sym same)
-      | inr other ↦ line_of-rows lines columns (set cells (y * columns + x) cell) k above
-          ∙ line_at-set columns cells y x k cell left other
-          ∙ sym (line_of-rows lines columns cells k above)
-          ∙ sym (get_or-set_other old y k (set (line_of old y) x cell) [] other)
-    ])
+    ext_get_or [] (rows lines columns (set cells (y * columns + x) cell)) (with_cell (rows lines columns cells) (y, x) cell) (grind (arith, length-rows, length-set))
+    (λ k within. grind (arith, length-rows, cases_eq k y, line-set_same, line_of-rows, line_at-set, get_or-set_other))
 
 -- cells
 
@@ -82,16 +58,8 @@ EachCell-rows {Is = Is} lines columns cells grid = search (arith, each-map, recu
 
 pub rows-all_of : {A : Type 0} (cell : A) (lines columns : ℕ) → rows lines columns (replicate (lines * columns) cell) ≡ all_of cell lines columns
 rows-all_of cell lines columns =
-    let cells = replicate (lines * columns) cell in
-    let height = length-rows lines columns cells in
-    ext_get_or [] (rows lines columns cells) (all_of cell lines columns)
-    (height ∙ sym (length-replicate lines (replicate columns cell)))
-    (λ y within.
-    let below : y < lines = omega arith in
-    line_of-rows lines columns cells y below
-    ∙ ap (take columns) (drop-replicate (y * columns) (lines * columns) cell)
-    ∙ take-replicate columns (lines * columns - y * columns) cell (omega (arith, line_end lines columns y below))
-    ∙ sym (get_or-replicate lines y (replicate columns cell) [] below))
+    ext_get_or [] (rows lines columns (replicate (lines * columns) cell)) (all_of cell lines columns) (grind (arith, length-rows, length-replicate))
+    (λ y within. grind (arith, length-rows, line_of-rows, drop-replicate, take-replicate, line_end lines columns y, get_or-replicate))
 
 -- grids of one size
 
@@ -116,14 +84,7 @@ pub record HasLine {A : Type 0} (lines columns : ℕ) (cells : List A) (y : ℕ)
 
 pub HasLine-from_length : {A : Type 0} {Is : A → Type 0} {lines columns y : ℕ} {cells : List A} {picture : List (List A)} → IsGrid Is lines columns cells → rows lines columns cells ≡ picture
     → y < length picture → HasLine lines columns cells y
-HasLine-from_length {lines} {columns} {y} {cells} grid is within =
-    let height : length (rows lines columns cells) ≡ lines = length-rows lines columns cells in
-    let below : y < lines = rw height at (rw (← is) at within) in
-    record {
-      below = below;
-      end = omega (arith, grid.whole, line_end lines columns y below);
-      few = omega (arith, grid.whole, mul-le lines columns 1000 1000 grid.few_lines grid.few_columns);
-    }
+HasLine-from_length {lines} {columns} {y} {cells} grid is within = grind (arith, length-rows, line_end, mul-le)
 
 pub column_below : {A : Type 0} {Is : A → Type 0} {lines columns y x : ℕ} {cells : List A} {picture : List (List A)} → IsGrid Is lines columns cells → rows lines columns cells ≡ picture
     → y < length picture → x < length (line_of picture y) → x < columns
