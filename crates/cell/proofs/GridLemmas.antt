@@ -1,5 +1,5 @@
 -- The lines of a grid whose cells are one after another: each line, a change of one cell, and equal sizes.
-use Rattle.std.proofs.Common.{◌≡◌, ℕ, ◌<◌, ◌≤◌, ◌+◌, ◌*◌, ◌∙◌, List, [], length, take, drop, replicate, set, ap, ◌-◌, arith, zero-add}
+use Rattle.std.proofs.Common.{◌≡◌, ℕ, ◌<◌, ◌≤◌, ◌+◌, ◌*◌, List, [], length, take, drop, replicate, set, ◌-◌, arith, zero-add}
 use Rattle.std.proofs.Math.Seq.{take-set-lt}
 use Rattle.std.proofs.lemmas.Bool.{cases_eq, cases_lt}
 use Rattle.std.proofs.lemmas.List.{length-set, length-take-le, length-drop, length-replicate, drop-set-add, drop-set-lt, take-set-le, take-replicate, drop-replicate, get_or-replicate}
@@ -35,13 +35,9 @@ line_at-set : {A : Type 0} (columns : ℕ) (cells : List A) (y x k : ℕ) (cell 
 line_at-set columns cells y x k cell left other =
     grind (arith, cases_lt, line_end, drop-set-add (k * columns) cells (y * columns + x - k * columns) cell, take-set-le, drop-set-lt)
 
-line_at-set_same : {A : Type 0} (columns : ℕ) (cells : List A) (y x : ℕ) (cell : A) → x < columns
-    → line_at columns (set cells (y * columns + x) cell) y ≡ set (line_at columns cells y) x cell
-line_at-set_same columns cells y x cell left = grind (arith, drop-set-add, take-set-lt)
-
 line-set_same : {A : Type 0} (lines columns : ℕ) (cells : List A) (y x : ℕ) (cell : A) → y < lines → x < columns
     → line_of (rows lines columns (set cells (y * columns + x) cell)) y ≡ line_of (with_cell (rows lines columns cells) (y, x) cell) y
-line-set_same lines columns cells y x cell below left = grind (arith, length-rows, line_of-rows, below, line_at-set_same, get_or-set_same)
+line-set_same lines columns cells y x cell below left = grind (arith, length-rows, line_of-rows, below, drop-set-add, take-set-lt, get_or-set_same)
 
 pub rows-set : {A : Type 0} (lines columns : ℕ) (cells : List A) (y x : ℕ) (cell : A) → y < lines → x < columns
     → rows lines columns (set cells (y * columns + x) cell) ≡ with_cell (rows lines columns cells) (y, x) cell
@@ -63,17 +59,11 @@ rows-all_of cell lines columns =
 
 -- grids of one size
 
-no_lines : {A : Type 0} (lines columns : ℕ) (cells : List A) → lines ≡ 0 → rows lines columns cells ≡ []
-no_lines lines columns cells e = nil_from_length (rows lines columns cells) (length-rows lines columns cells ∙ e)
-
-no_cells : {A : Type 0} {Is : A → Type 0} (lines columns : ℕ) (cells : List A) → IsGrid Is lines columns cells → lines ≡ 0 → length cells ≡ 0
-no_cells lines columns cells grid e = grid.whole ∙ ap (λ n. n * columns) e ∙ omega arith
-
 pub same_grid_size : {A : Type 0} {Is : A → Type 0} {lines columns lines' columns' : ℕ} {cells cells' : List A} {picture picture' : List (List A)} → IsGrid Is lines columns cells
     → IsGrid Is lines' columns' cells'
     → rows lines columns cells ≡ picture → rows lines' columns' cells' ≡ picture' → size_of picture ≡ size_of picture'
     → (length cells ≡ length cells') × (rows lines columns cells' ≡ picture')
-same_grid_size {lines} {columns} {lines'} {columns'} {cells} {cells'} grid other is other_is same = grind (arith, length-rows, length-line_of-rows, no_cells, no_lines)
+same_grid_size {lines} {columns} {lines'} {columns'} {cells} {cells'} grid other is other_is same = grind (arith, length-rows, length-line_of-rows, nil_from_length)
 
 -- a line of the picture is a line of the grid, and a column of it a column
 

@@ -86,11 +86,8 @@ same_pictures none {lines} {columns} {one} {other} size other_size same =
 -- one other cell
 
 module _ {A : Type 0} (none : A) (picture : List (List A)) (y x : ℕ) (glyph : A) (in_lines : y < length picture) (in_columns : x < length (line_of picture y)) where
-  line_now : line_of (with_cell picture (y, x) glyph) y ≡ set (line_of picture y) x glyph
-  line_now = get_or-set_same picture y (set (line_of picture y) x glyph) [] in_lines
-
   pub shown-here : cell_or none (with_cell picture (y, x) glyph) (y, x) ≡ glyph
-  shown-here = grind (arith, line_now, get_or-set_same, in_columns)
+  shown-here = grind (arith, get_or-set_same, in_lines, in_columns)
 
   pub shown-elsewhere : (v u : ℕ) → ((v ≡ y) → (u ≡ x) → ⊥) → cell_or none (with_cell picture (y, x) glyph) (v, u) ≡ cell_or none picture (v, u)
-  shown-elsewhere v u h = grind (arith, line_now, get_or-set_other)
+  shown-elsewhere v u h = grind (arith, get_or-set_same, in_lines, get_or-set_other)

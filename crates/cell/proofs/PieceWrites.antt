@@ -41,7 +41,7 @@ inside : (v u y x n : ℕ) → v ≡ y → x ≤ u → u < x + n → ((v == y) &
 inside v u y x n line from to = grind (arith, nat_tests)
 
 outside : (v u y x n : ℕ) → ((v ≡ y) → (x ≤ u) → (u < x + n) → ⊥) → ((v == y) && (nat_le x u && nat_lt u (x + n))) ≡ false
-outside v u y x n other = grind (arith, eq-eqb, before, nat_tests, ne_eqb)
+outside v u y x n other = grind (arith, eq-eqb, nat_tests, ne_eqb)
 
 pub piece_end : {A B : Type 0} {Is : A → Type 0} (lines columns : ℕ) (cells : List A) (piece : List B) (y x : ℕ) → IsGrid Is lines columns cells → y < lines → x + length piece ≤ columns
     → y * columns + x + length piece ≤ length cells
@@ -62,7 +62,7 @@ module _ {A : Type 0} (none : A) {Is : A → Type 0} (lines columns : ℕ) (cell
 
   pub shown-piece : AllByRecursion Is piece → (v u : ℕ)
       → cell_or none (rows lines columns after) (v, u) ≡ (if (v == y) && (nat_le x u && nat_lt u (x + length piece)) then get_or piece (u - x) none else cell_or none (rows lines columns cells) (v, u))
-  shown-piece sound v u = grind (arith, IsGrid-piece, shown-rows, at_place, shown-outside, cond-false, outside, fits, below)
+  shown-piece sound v u = grind (arith, IsGrid-piece, shown-rows, at_place, shown-outside, outside, fits, below)
 
 -- a piece made of another one by a function
 
@@ -77,14 +77,9 @@ module _ {A B : Type 0} (f : A → B) (none : A) (other : B) {Is : B → Type 0}
   pub IsGrid-made : IsGrid Is lines columns (splice cells (y * columns + x) (y * columns + x + length piece) (map f piece))
   IsGrid-made = rw (← same_length) (IsGrid-piece other lines columns cells (map f piece) y x grid below made_fits sound)
 
-  -- the made cells, also past their end
-  made : (v u : ℕ) → cell_or other (rows lines columns (splice cells (y * columns + x) (y * columns + x + length piece) (map f piece))) (v, u)
-      ≡ (if (v == y) && (nat_le x u && nat_lt u (x + length piece)) then get_or (map f piece) (u - x) other else cell_or other (rows lines columns cells) (v, u))
-  made v u = grind (arith, same_length, shown-piece, below, made_fits)
-
   pub shown-made : (v u : ℕ) → cell_or other (rows lines columns (splice cells (y * columns + x) (y * columns + x + length piece) (map f piece))) (v, u)
       ≡ (if (v == y) && (nat_le x u && nat_lt u (x + length piece)) then f (get_or piece (u - x) none) else cell_or other (rows lines columns cells) (v, u))
-  shown-made v u = grind (arith, made, within, get_or-map, outside, cond-false)
+  shown-made v u = grind (arith, same_length, shown-piece, below, made_fits, within, get_or-map, outside, cond-false)
 
 -- grids of one size
 
