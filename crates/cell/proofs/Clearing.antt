@@ -1,5 +1,6 @@
 -- A grid with one cell everywhere.
 use Rattle.std.proofs.Common.{◌≡◌, ℕ, zero, suc, ◌+◌, ◌<◌, List, [], ◌∷◌, ◌++◌, length, drop, set, replicate, sym, ap, ◌∙◌, refl, arith}
+use Rattle.std.proofs.lemmas.Bool.{cases_eq}
 use Rattle.cell.specs.Pictures.{HasSize, all_of}
 use Rattle.cell.specs.Grids.{rows, IsGrid}
 use Rattle.cell.proofs.GridLemmas.{length-rows, length-line_of-rows, rows-all_of}
@@ -15,8 +16,7 @@ pub replicate-more : {A : Type 0} (cell : A) (cells : List A) (x : ℕ) → x < 
 replicate-more cell cells x h = grind (arith, replicate-next)
 
 all_of-size : {A : Type 0} (cell : A) (lines columns height width : ℕ) → lines ≡ height → (0 < lines → columns ≡ width) → all_of cell lines columns ≡ all_of cell height width
-all_of-size cell zero columns height width high wide = ap (λ n. all_of cell n width) high
-all_of-size cell (suc lines) columns height width high wide = let width_is = wide (omega arith) in λ i. all_of cell (high i) (width_is i)
+all_of-size cell lines columns height width high wide = grind (arith, cases_eq lines 0)
 
 pub cleared : {A : Type 0} {Is : A → Type 0} {lines columns : ℕ} {old new : List A} (cell : A) → IsGrid Is lines columns old → new ≡ replicate (length old) cell
     → (height width : ℕ) → HasSize height width (rows lines columns old) → rows lines columns new ≡ all_of cell height width

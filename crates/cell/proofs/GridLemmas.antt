@@ -35,15 +35,11 @@ line_at-set : {A : Type 0} (columns : ℕ) (cells : List A) (y x k : ℕ) (cell 
 line_at-set columns cells y x k cell left other =
     grind (arith, cases_lt, line_end, drop-set-add (k * columns) cells (y * columns + x - k * columns) cell, take-set-le, drop-set-lt)
 
-line-set_same : {A : Type 0} (lines columns : ℕ) (cells : List A) (y x : ℕ) (cell : A) → y < lines → x < columns
-    → line_of (rows lines columns (set cells (y * columns + x) cell)) y ≡ line_of (with_cell (rows lines columns cells) (y, x) cell) y
-line-set_same lines columns cells y x cell below left = grind (arith, length-rows, line_of-rows, below, drop-set-add, take-set-lt, get_or-set_same)
-
 pub rows-set : {A : Type 0} (lines columns : ℕ) (cells : List A) (y x : ℕ) (cell : A) → y < lines → x < columns
     → rows lines columns (set cells (y * columns + x) cell) ≡ with_cell (rows lines columns cells) (y, x) cell
 rows-set lines columns cells y x cell below left =
     ext_get_or [] (rows lines columns (set cells (y * columns + x) cell)) (with_cell (rows lines columns cells) (y, x) cell) (grind (arith, length-rows, length-set))
-    (λ k within. grind (arith, length-rows, cases_eq k y, line-set_same, line_of-rows, line_at-set, get_or-set_other))
+    (λ k within. grind (arith, length-rows, cases_eq k y, line_of-rows, drop-set-add, take-set-lt, get_or-set_same, line_at-set, get_or-set_other))
 
 -- cells
 

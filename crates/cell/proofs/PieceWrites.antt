@@ -6,7 +6,7 @@ use Rattle.std.proofs.Math.ListN.{get_or-append}
 use Rattle.std.proofs.Math.Seq.{get_or-append_right}
 use Rattle.std.proofs.lemmas.Bool.{cases_lt, cases_order, cond-true, cond-false}
 use Rattle.std.proofs.lemmas.Bool.Decides.{nat_tests}
-use Rattle.std.proofs.lemmas.List.{get_or-map, get_or-take, get_or-drop, get_or_past, length-map, length-take-le, length-drop}
+use Rattle.std.proofs.lemmas.List.{get_or-map, get_or-take, get_or-drop, get_or_past, nil_from_length, length-map, length-take-le, length-drop}
 use Rattle.std.proofs.lemmas.List.Elements.{All-from_recursion, recursion_from_All, All-take, All-drop, All-append}
 use Rattle.cell.specs.Pictures.{line_of, cell_or, HasSize}
 use Rattle.cell.specs.Grids.{rows, IsGrid}
@@ -71,22 +71,18 @@ module _ {A B : Type 0} (f : A → B) (none : A) (other : B) {Is : B → Type 0}
   same_length : length (map f piece) ≡ length piece
   same_length = length-map piece f
 
-  made_fits : x + length (map f piece) ≤ columns
-  made_fits = omega (arith, same_length, fits)
-
   pub IsGrid-made : IsGrid Is lines columns (splice cells (y * columns + x) (y * columns + x + length piece) (map f piece))
-  IsGrid-made = rw (← same_length) (IsGrid-piece other lines columns cells (map f piece) y x grid below made_fits sound)
+  IsGrid-made = rw (← same_length) (IsGrid-piece other lines columns cells (map f piece) y x grid below (omega (arith, same_length, fits)) sound)
 
   pub shown-made : (v u : ℕ) → cell_or other (rows lines columns (splice cells (y * columns + x) (y * columns + x + length piece) (map f piece))) (v, u)
       ≡ (if (v == y) && (nat_le x u && nat_lt u (x + length piece)) then f (get_or piece (u - x) none) else cell_or other (rows lines columns cells) (v, u))
-  shown-made v u = grind (arith, same_length, shown-piece, below, made_fits, within, get_or-map, outside, cond-false)
+  shown-made v u = grind (arith, same_length, shown-piece, below, fits, get_or-map, outside)
 
 -- grids of one size
 
 widths : {A : Type 0} (width : ℕ) (one other : List (List A)) → length one ≡ length other → ((k : ℕ) → length (line_of one k) ≡ length (line_of other k))
     → AllByRecursion (λ (line : List A). length line ≡ width) one → AllByRecursion (λ (line : List A). length line ≡ width) other
-widths width [] [] e same h = tt
-widths width [] (line ∷ lines) e same h = absurd (omega arith)
+widths width [] other e same h = grind (arith, nil_from_length)
 widths width (line ∷ lines) [] e same h = absurd (omega arith)
 widths width (line ∷ lines) (other ∷ others) e same h = (sym (same 0) ∙ h.0, widths width lines others (omega arith) (λ k. same (suc k)) h.1)
 
