@@ -4,7 +4,7 @@ use Rattle.std.proofs.Common.{◌≡◌, ℕ, ◌+◌, ◌<◌, ◌≤◌, ◌==
 use Rattle.std.specs.Io.KnownBytes.{Appends, Keeps}
 use Rattle.std.proofs.lemmas.List.{append-nil, take-append-le, take-append-drop, length-take-le}
 use Rattle.std.proofs.Math.Seq.{take-append-add}
-use Rattle.streams.specs.Counts.{next_count, count_after, moved_nothing}
+use Rattle.streams.specs.Counts.{next_count, count_after}
 use Rattle.streams.specs.Sinks.{Seen}
 use Rattle.streams.specs.Sending.{Sends}
 use Rattle.streams.specs.declared.sending.WriteFault.{WriteFault}
@@ -19,9 +19,6 @@ cut-unflushed sent text flushes h = grind (arith, ne_eqb)
 pub Appends-append : (a b c : Option (List ℕ)) (s t : List ℕ) → Appends a b s → Appends b c t → Appends a c (s ++ t)
 Appends-append a b c s t h k = grind (arith, append_assoc)
 
-pub Appends-nothing : (a : Option (List ℕ)) → Appends a a []
-Appends-nothing a = grind (arith, append-nil)
-
 pub Appends-keeps : (a b c : Option (List ℕ)) (s : List ℕ) → Appends a b s → Keeps b c → Appends a c s
 Appends-keeps a b c s h k = grind arith
 
@@ -35,7 +32,7 @@ pub record IsPartlySent (old new : Seen) (sent : ℕ) (piece rest : List ℕ) (t
   pub flushes : new.flushes ≡ old.flushes
 
 pub Sends-nothing : {old : Seen} {sent : ℕ} → Sends old old sent [] (Ok sent)
-Sends-nothing {old} {sent} = search (arith, Appends-nothing)
+Sends-nothing {old} {sent} = search (arith, append-nil)
 
 pub Sends-then : {a b c : Seen} {sent total : ℕ} {s t : List ℕ} {r : Result ℕ WriteFault} → Sends a b sent s (Ok total) → Sends b c total t r → Sends a c sent (s ++ t) r
 Sends-then {a} {b} {c} {sent} {total} {s} {t} {r = Ok n} h k = grind (arith, length-append, Appends-append)
@@ -57,9 +54,5 @@ IsPartlySent-more old mid new sent piece rest total n more h short bytes failure
   failures = failures ∙ h.failures;
   flushes = flushes ∙ h.flushes;
 }
-
--- a write that takes some bytes counts no failure
-pub failures-some : (failures n : ℕ) (piece : List ℕ) → (n ≡ 0 → ⊥) → count_after (moved_nothing n piece) failures ≡ failures
-failures-some failures n piece h = grind (arith, ne_eqb)
 
 -- ---- a text in pieces
