@@ -13,25 +13,10 @@ use Rattle.script.specs.Characters.{is_newline, newline}
 use Rattle.script.specs.declared.bytes.TheConstants.{LONGEST_PIECE}
 use Rattle.script.specs.declared.limits.TheConstants.{LONGEST_LINE}
 use Rattle.streams.specs.Sources.{SourceSeen}
-use Rattle.script.specs.steps.Bytes.{EndsLine, HasNoNewline, ReadingEnds, ReadsByte, IsKept, ReadsLine, ReadsWhole, work_left}
+use Rattle.script.specs.steps.Bytes.{HasNoNewline, ReadingEnds, ReadsByte, ReadsLine, ReadsWhole, work_left}
 use Rattle.script.specs.declared.bytes.LineEnd.{LineEnd}
 use Rattle.script.specs.declared.bytes.LineEnd.TheVariants.{Newline, ScriptEnd, ReadFailed}
 use Rattle.script.specs.declared.bytes.Next.TheVariants.{Byte, End, Failed}
-
-pub not_newline : (b : ℕ) → (b ≡ newline → ⊥) → is_newline b ≡ false
-not_newline b h = grind (arith, nat_tests)
-
-pub full_line : (line : List ℕ) → true ≡ (length line == LONGEST_LINE) → LONGEST_LINE ≤ length line
-full_line line h = grind (arith, nat_tests)
-
-pub room_left : (line : List ℕ) → length line ≤ LONGEST_LINE → false ≡ (length line == LONGEST_LINE) → length line < LONGEST_LINE
-room_left line short h = grind (arith, nat_tests)
-
-no_newline_joined : (line more : List ℕ) → HasNoNewline line → HasNoNewline more → HasNoNewline (line ++ more)
-no_newline_joined line more h e = grind (arith, list_any-append)
-
-no_newline_more : (line : List ℕ) (b : ℕ) → HasNoNewline line → is_newline b ≡ false → HasNoNewline (line ++ b ∷ [])
-no_newline_more line b h e = grind (arith, no_newline_joined)
 
 -- ---- how a reading ends
 
@@ -71,26 +56,30 @@ gathered_more old mid new unused left rest line after b g n e is = record {
   bytes = g.bytes ++ n.0;
   read = grind (arith, Consumes-trans);
   all = grind (arith, append_assoc);
-  no_newline = grind (arith, no_newline_more);
+  no_newline = grind (arith, list_any-append);
 }
 
 -- a newline
 pub gathered_line : (old mid new : SourceSeen) (unused left rest line : List ℕ) (b : ℕ) → Gathered old mid unused left line → ReadsByte mid new left rest (Byte b)
     → b ≡ newline → length line ≤ LONGEST_LINE → ReadsLine old new unused rest line (Some Newline)
-gathered_line old mid new unused left rest line b g n e h = record { bytes = g.bytes ++ n.0; read = grind (arith, Consumes-trans); is_line = grind (arith, append_assoc); no_newline = g.no_newline; at_end = λ e. cc }
+gathered_line old mid new unused left rest line b g n e h =
+    record { bytes = g.bytes ++ n.0; read = grind (arith, Consumes-trans); is_line = grind (arith, append_assoc); no_newline = g.no_newline; at_end = λ e. cc }
 
 -- a byte too many
 pub gathered_too_long : (old mid new : SourceSeen) (unused left rest line : List ℕ) (b : ℕ) → Gathered old mid unused left line → ReadsByte mid new left rest (Byte b)
     → is_newline b ≡ false → LONGEST_LINE ≤ length line → ReadsLine old new unused rest line None
-gathered_too_long old mid new unused left rest line b g n e h = record { bytes = g.bytes ++ n.0; read = grind (arith, Consumes-trans); is_line = (b, grind (arith, append_assoc), e, h); no_newline = g.no_newline; at_end = λ e. cc }
+gathered_too_long old mid new unused left rest line b g n e h =
+    record { bytes = g.bytes ++ n.0; read = grind (arith, Consumes-trans); is_line = (b, grind (arith, append_assoc), e, h); no_newline = g.no_newline; at_end = λ e. cc }
 
 pub gathered_last : (old mid new : SourceSeen) (unused left rest line : List ℕ) → Gathered old mid unused left line → ReadsByte mid new left rest End
     → length line ≤ LONGEST_LINE → ReadsLine old new unused rest line (Some ScriptEnd)
-gathered_last old mid new unused left rest line g n h = record { bytes = g.bytes ++ []; read = grind (arith, Consumes-trans); is_line = grind (arith, append-nil); no_newline = g.no_newline; at_end = λ e. n.3 }
+gathered_last old mid new unused left rest line g n h =
+    record { bytes = g.bytes ++ []; read = grind (arith, Consumes-trans); is_line = grind (arith, append-nil); no_newline = g.no_newline; at_end = λ e. n.3 }
 
 pub gathered_failed : (old mid new : SourceSeen) (unused left rest line : List ℕ) → Gathered old mid unused left line → ReadsByte mid new left rest Failed
     → length line ≤ LONGEST_LINE → ReadsLine old new unused rest line (Some ReadFailed)
-gathered_failed old mid new unused left rest line g n h = record { bytes = g.bytes ++ []; read = grind (arith, Consumes-trans); is_line = grind (arith, append-nil); no_newline = g.no_newline; at_end = λ e. cc }
+gathered_failed old mid new unused left rest line g n h =
+    record { bytes = g.bytes ++ []; read = grind (arith, Consumes-trans); is_line = grind (arith, append-nil); no_newline = g.no_newline; at_end = λ e. cc }
 
 -- ---- a line that is read where it is
 
@@ -156,12 +145,6 @@ passed_more old mid new unused left rest line is_kept s r = record {
   passed = simp length-append (omega (arith, r.is_line.3));
 }
 
-ends_after : (end : LineEnd) (whole all prefix line rest : List ℕ) → whole ≡ prefix ++ all → EndsLine end all line rest → EndsLine end whole (prefix ++ line) rest
-ends_after end whole all prefix line rest e h = grind (arith, append_assoc)
-
-kept_so : (is_kept : Bool) (prefix kept : List ℕ) → HasPassed is_kept prefix → length kept ≤ LONGEST_LINE → IsKept is_kept (prefix ++ kept) kept
-kept_so is_kept prefix kept passed short = grind (arith, length-append)
-
 pub passed_end : (old mid new : SourceSeen) (unused left rest kept : List ℕ) (end : LineEnd) (is_kept : Bool) → Passed old mid unused left is_kept
     → ReadsLine mid new left rest kept (Some end) → ReadsWhole old new unused rest kept end is_kept
 passed_end old mid new unused left rest kept end is_kept s r = record {
@@ -169,9 +152,9 @@ passed_end old mid new unused left rest kept end is_kept s r = record {
     line = s.line ++ kept;
     bytes = s.gathered.bytes ++ r.bytes;
     read = grind (arith, Consumes-trans);
-    ends = grind (arith, ends_after, append_assoc);
+    ends = grind (arith, append_assoc);
     no_newline = grind (arith, list_any-append);
     at_end = r.at_end;
   };
-  keeps = grind (arith, kept_so);
+  keeps = grind (arith, length-append);
 }

@@ -2,7 +2,7 @@
 use Rattle.std.proofs.Common.{Bool, false, None, [], ◌∷◌, ◌≡◌, ℕ, ◌+◌, ◌-◌, ◌*◌, ◌<◌, ◌≤◌, true, List}
 use Rattle.std.proofs.Common.{drop, nat_lt, length-take, below_more, length, get_or, take, refl, add-one, pow-suc, arith}
 use Rattle.std.specs.List.{after_first, before_first, list_all, position_or_len, slice_split}
-use Rattle.std.specs.Char.{is_ascii_digit, digit_value}
+use Rattle.std.specs.Char.{is_ascii_digit}
 use Rattle.std.proofs.lemmas.Bool.Decides.{nat_tests}
 use Rattle.std.proofs.lemmas.List.{get_or-take, take_all}
 use Rattle.std.proofs.lemmas.List.Folds.{list_all_at, list_all_more}
@@ -15,25 +15,16 @@ use Rattle.script.specs.declared.limits.TheConstants.{MOST_DIGITS}
 use Rattle.std.proofs.lemmas.Int.Digits.{digits_value_more}
 use Rattle.script.specs.steps.Numbers.{DigitsSoFar}
 
-digit_bounds : (c : ℕ) → is_ascii_digit c ≡ true → (48 ≤ c) × (c ≤ 57)
-digit_bounds c h = grind (arith, nat_tests)
-
-digit_value-digit : (c : ℕ) → 48 ≤ c → c ≤ 57 → digit_value c ≡ c - 48
-digit_value-digit c low high = grind (arith, nat_tests)
-
 -- the number so far goes on by a digit
 pub one_digit_more : (ds : List ℕ) (i value : ℕ) → DigitsSoFar ds i value → i < length ds → is_ascii_digit (get_or ds i 0) ≡ true
     → DigitsSoFar ds (i + 1) (value * 10 + (get_or ds i 0 - 48))
-one_digit_more ds i value so_far lt h = grind (arith, digit_bounds, add-one, pow-suc, list_all_more is_ascii_digit ds i 0 lt, digit_value-digit, digits_value_more)
+one_digit_more ds i value so_far lt h = grind (arith, nat_tests, add-one, pow-suc, list_all_more is_ascii_digit ds i 0 lt, digits_value_more)
 
 -- ---- the digits at the beginning of a text, and what is after them
 
-no_space : (c : ℕ) → is_ascii_digit c ≡ true → is_space c ≡ false
-no_space c h = grind (arith, nat_tests)
-
 -- no space among digits
 no_space_before : (text : List ℕ) (count k : ℕ) → list_all is_ascii_digit (take count text) ≡ true → count ≤ length text → k < count → is_space (get_or text k 0) ≡ false
-no_space_before text count k digits within below = grind (arith, AllPass-from_list_all, length-take, no_space, get_or-take)
+no_space_before text count k digits within below = grind (arith, AllPass-from_list_all, length-take, nat_tests, get_or-take)
 
 pub digits_alone : (text : List ℕ) (count : ℕ) → list_all is_ascii_digit (take count text) ≡ true → count ≡ length text → slice_split is_space text ≡ take count text ∷ []
 digits_alone text count digits all = grind (arith, position_or_len_is is_space text count 0, no_space_before text count, nat_tests, split_none, take_all)
