@@ -1,5 +1,6 @@
 -- Pictures of a known size: what each line has, what a change of one cell keeps, and when two are equal.
-use Rattle.std.proofs.Common.{◌≡◌, ℕ, ◌+◌, ◌<◌, ◌∙◌, List, [], ◌∷◌, length, map, replicate, get_or, set, sym, zero, suc, arith, zero-add, lit≤, lit<, inl, inr}
+use Rattle.std.proofs.Common.{refl, ◌≡◌, ℕ, ◌+◌, ◌<◌, ◌∙◌, List, [], ◌∷◌, length, map, replicate, get_or, set, sym, zero, suc, arith, zero-add, lit≤, lit<, inl, inr}
+use Rattle.cell.specs.Pictures.{size_of, Place, line_of, cell_or, with_cell, HasSize, EachCell, all_of, lines_from}
 use Rattle.std.specs.List.{AllByRecursion}
 use Rattle.std.proofs.lemmas.Bool.{cases_lt}
 use Rattle.std.proofs.lemmas.List.{length-set, length-replicate, ext_get_or, get_or-set_same, get_or-set_other, get_or_past}
@@ -8,7 +9,6 @@ use Rattle.std.proofs.lemmas.List.FromFn.{length-map-range_with_len, get_or-map-
 use Rattle.cell.specs.Glyphs.{blank, IsCell}
 use Rattle.cell.specs.Shown.{no_rendition, IsRendition, shown_blank, IsShown, ArePairs, IsPair, default_pair, first_pairs}
 use Rattle.cell.specs.declared.limits.TheConstants.{LAST_PAIR}
-use Rattle.cell.specs.Pictures.{Place, line_of, cell_or, with_cell, HasSize, EachCell, all_of, lines_from}
 
 -- `AllByRecursion` of lists that are made by a rule
 
@@ -82,6 +82,16 @@ same_pictures none {lines} {columns} {one} {other} size other_size same =
     let within : y < lines = omega arith in
     let width = length-line y size within in
     ext_get_or none (line_of one y) (line_of other y) (width ∙ sym (length-line y other_size within)) (λ x left. same y x within (omega arith)))
+
+first_width : {A : Type 0} (lines columns : ℕ) (one other : List (List A)) → HasSize lines columns one → HasSize lines columns other
+    → length (line_of one 0) ≡ length (line_of other 0)
+first_width lines columns [] [] size other_size = refl
+first_width lines columns [] (line ∷ others) size other_size = absurd (omega (arith, size.height, other_size.height))
+first_width lines columns (line ∷ others) [] size other_size = absurd (omega (arith, size.height, other_size.height))
+first_width lines columns (line ∷ more) (other ∷ others) size other_size = size.width.0 ∙ sym other_size.width.0
+
+pub same_size : {A : Type 0} {lines columns : ℕ} {one other : List (List A)} → HasSize lines columns one → HasSize lines columns other → size_of one ≡ size_of other
+same_size {lines} {columns} {one} {other} size other_size = grind (arith, first_width)
 
 -- one other cell
 
