@@ -1,5 +1,6 @@
 -- A grid with one cell everywhere.
-use Rattle.std.proofs.Common.{◌≡◌, ℕ, zero, suc, ◌+◌, ◌*◌, ◌<◌, List, [], ◌∷◌, ◌++◌, length, drop, set, replicate, sym, ap, ◌∙◌, refl, arith}
+use Rattle.std.proofs.Common.{◌≡◌, ℕ, zero, suc, ◌+◌, ◌<◌, List, [], ◌∷◌, ◌++◌, length, drop, set, replicate, sym, ap, ◌∙◌, refl, arith}
+use Rattle.std.proofs.lemmas.Bool.{cases_eq}
 use Rattle.cell.specs.Pictures.{HasSize, all_of}
 use Rattle.cell.specs.Grids.{rows, IsGrid}
 use Rattle.cell.proofs.GridLemmas.{length-rows, length-line_of-rows, rows-all_of}
@@ -15,13 +16,10 @@ pub replicate-more : {A : Type 0} (cell : A) (cells : List A) (x : ℕ) → x < 
 replicate-more cell cells x h = grind (arith, replicate-next)
 
 all_of-size : {A : Type 0} (cell : A) (lines columns height width : ℕ) → lines ≡ height → (0 < lines → columns ≡ width) → all_of cell lines columns ≡ all_of cell height width
-all_of-size cell zero columns height width high wide = ap (λ n. all_of cell n width) high
-all_of-size cell (suc lines) columns height width high wide = let width_is = wide (omega arith) in λ i. all_of cell (high i) (width_is i)
+all_of-size cell lines columns height width high wide = grind (arith, cases_eq lines 0)
 
 pub cleared : {A : Type 0} {Is : A → Type 0} {lines columns : ℕ} {old new : List A} (cell : A) → IsGrid Is lines columns old → new ≡ replicate (length old) cell
     → (height width : ℕ) → HasSize height width (rows lines columns old) → rows lines columns new ≡ all_of cell height width
 cleared {lines} {columns} {old} {new} cell grid e height width size =
-    let whole : new ≡ replicate (lines * columns) cell = e ∙ ap (λ n. replicate n cell) grid.whole in
-    ap (rows lines columns) whole ∙ rows-all_of cell lines columns
-    ∙ all_of-size cell lines columns height width (sym (length-rows lines columns old) ∙ size.height)
-    (λ some. sym (length-line_of-rows lines columns old 0 grid some) ∙ length-line 0 size (omega (arith, size.height, length-rows lines columns old)))
+    rw (e, grid.whole, rows-all_of cell lines columns) (all_of-size cell lines columns height width (grind (arith, length-rows))
+    (λ some. sym (length-line_of-rows lines columns old 0 grid some) ∙ length-line 0 size (omega (arith, size.height, length-rows lines columns old))))

@@ -1,5 +1,5 @@
 -- The lines of a grid whose cells are one after another: each line, a change of one cell, and equal sizes.
-use Rattle.std.proofs.Common.{◌≡◌, ℕ, ◌<◌, ◌≤◌, ◌+◌, ◌*◌, ◌∙◌, List, [], length, take, drop, replicate, set, sym, ap, inl, inr, ◌-◌, arith, zero-add}
+use Rattle.std.proofs.Common.{◌≡◌, ℕ, ◌<◌, ◌≤◌, ◌+◌, ◌*◌, List, [], length, take, drop, replicate, set, ◌-◌, arith, zero-add}
 use Rattle.std.proofs.Math.Seq.{take-set-lt}
 use Rattle.std.proofs.lemmas.Bool.{cases_eq, cases_lt}
 use Rattle.std.proofs.lemmas.List.{length-set, length-take-le, length-drop, length-replicate, drop-set-add, drop-set-lt, take-set-le, take-replicate, drop-replicate, get_or-replicate}
@@ -26,52 +26,20 @@ line_end lines columns y below = row_fits y columns lines columns below (omega a
 
 pub length-line_of-rows : {A : Type 0} {Is : A → Type 0} (lines columns : ℕ) (cells : List A) (y : ℕ) → IsGrid Is lines columns cells → y < lines
     → length (line_of (rows lines columns cells) y) ≡ columns
-length-line_of-rows lines columns cells y grid below =
-    let end = line_end lines columns y below in
-    ap length (line_of-rows lines columns cells y below)
-    ∙ length-take-le columns (drop (y * columns) cells) (omega (arith, grid.whole, length-drop (y * columns) cells))
+length-line_of-rows lines columns cells y grid below = grind (arith, line_end, line_of-rows, length-take-le, length-drop)
 
 -- a change of one cell
 
 line_at-set : {A : Type 0} (columns : ℕ) (cells : List A) (y x k : ℕ) (cell : A) → x < columns → (k ≡ y → ⊥)
     → line_at columns (set cells (y * columns + x) cell) k ≡ line_at columns cells k
-line_at-set columns cells y x k cell left other = elim (cases_lt k y) [
-  | inl before ↦
-      let end = line_end y columns k before in
-      let place : k * columns + (y * columns + x - k * columns) ≡ y * columns + x = omega arith in
-      ap (λ i. take columns (drop (k * columns) (set cells i cell))) (sym place)
-      ∙ ap (take columns) (drop-set-add (k * columns) cells (y * columns + x - k * columns) cell)
-      ∙ take-set-le columns (drop (k * columns) cells) (y * columns + x - k * columns) cell (omega arith)
-  | inr after ↦
-      let end = line_end k columns y (omega arith) in
-      ap (take columns) (drop-set-lt (k * columns) cells (y * columns + x) cell (omega arith))
-]
-
-line_at-set_same : {A : Type 0} (columns : ℕ) (cells : List A) (y x : ℕ) (cell : A) → x < columns
-    → line_at columns (set cells (y * columns + x) cell) y ≡ set (line_at columns cells y) x cell
-line_at-set_same columns cells y x cell left = grind (arith, drop-set-add, take-set-lt)
-
-line-set_same : {A : Type 0} (lines columns : ℕ) (cells : List A) (y x : ℕ) (cell : A) → y < lines → x < columns
-    → line_of (rows lines columns (set cells (y * columns + x) cell)) y ≡ line_of (with_cell (rows lines columns cells) (y, x) cell) y
-line-set_same lines columns cells y x cell below left = grind (arith, length-rows, line_of-rows, below, line_at-set_same, get_or-set_same)
+line_at-set columns cells y x k cell left other =
+    grind (arith, cases_lt, line_end, drop-set-add (k * columns) cells (y * columns + x - k * columns) cell, take-set-le, drop-set-lt)
 
 pub rows-set : {A : Type 0} (lines columns : ℕ) (cells : List A) (y x : ℕ) (cell : A) → y < lines → x < columns
     → rows lines columns (set cells (y * columns + x) cell) ≡ with_cell (rows lines columns cells) (y, x) cell
 rows-set lines columns cells y x cell below left =
-    let old = rows lines columns cells in
-    let new = rows lines columns (set cells (y * columns + x) cell) in
-    let height = length-rows lines columns (set cells (y * columns + x) cell) in
-    ext_get_or [] new (with_cell old (y, x) cell)
-    (height ∙ sym (length-set old y (set (line_of old y) x cell) ∙ length-rows lines columns cells))
-    (λ k within.
-    let above : k < lines = omega arith in
-    elim (cases_eq k y) [
-      | inl same ↦ ap (line_of new) same ∙ line-set_same lines columns cells y x cell below left ∙ ap (line_of (with_cell old (y, x) cell)) (sym same)
-      | inr other ↦ line_of-rows lines columns (set cells (y * columns + x) cell) k above
-          ∙ line_at-set columns cells y x k cell left other
-          ∙ sym (line_of-rows lines columns cells k above)
-          ∙ sym (get_or-set_other old y k (set (line_of old y) x cell) [] other)
-    ])
+    ext_get_or [] (rows lines columns (set cells (y * columns + x) cell)) (with_cell (rows lines columns cells) (y, x) cell) (grind (arith, length-rows, length-set))
+    (λ k within. grind (arith, length-rows, cases_eq k y, line_of-rows, drop-set-add, take-set-lt, get_or-set_same, line_at-set, get_or-set_other))
 
 -- cells
 
@@ -82,30 +50,16 @@ EachCell-rows {Is = Is} lines columns cells grid = search (arith, each-map, recu
 
 pub rows-all_of : {A : Type 0} (cell : A) (lines columns : ℕ) → rows lines columns (replicate (lines * columns) cell) ≡ all_of cell lines columns
 rows-all_of cell lines columns =
-    let cells = replicate (lines * columns) cell in
-    let height = length-rows lines columns cells in
-    ext_get_or [] (rows lines columns cells) (all_of cell lines columns)
-    (height ∙ sym (length-replicate lines (replicate columns cell)))
-    (λ y within.
-    let below : y < lines = omega arith in
-    line_of-rows lines columns cells y below
-    ∙ ap (take columns) (drop-replicate (y * columns) (lines * columns) cell)
-    ∙ take-replicate columns (lines * columns - y * columns) cell (omega (arith, line_end lines columns y below))
-    ∙ sym (get_or-replicate lines y (replicate columns cell) [] below))
+    ext_get_or [] (rows lines columns (replicate (lines * columns) cell)) (all_of cell lines columns) (grind (arith, length-rows, length-replicate))
+    (λ y within. grind (arith, length-rows, line_of-rows, drop-replicate, take-replicate, line_end lines columns y, get_or-replicate))
 
 -- grids of one size
-
-no_lines : {A : Type 0} (lines columns : ℕ) (cells : List A) → lines ≡ 0 → rows lines columns cells ≡ []
-no_lines lines columns cells e = nil_from_length (rows lines columns cells) (length-rows lines columns cells ∙ e)
-
-no_cells : {A : Type 0} {Is : A → Type 0} (lines columns : ℕ) (cells : List A) → IsGrid Is lines columns cells → lines ≡ 0 → length cells ≡ 0
-no_cells lines columns cells grid e = grid.whole ∙ ap (λ n. n * columns) e ∙ omega arith
 
 pub same_grid_size : {A : Type 0} {Is : A → Type 0} {lines columns lines' columns' : ℕ} {cells cells' : List A} {picture picture' : List (List A)} → IsGrid Is lines columns cells
     → IsGrid Is lines' columns' cells'
     → rows lines columns cells ≡ picture → rows lines' columns' cells' ≡ picture' → size_of picture ≡ size_of picture'
     → (length cells ≡ length cells') × (rows lines columns cells' ≡ picture')
-same_grid_size {lines} {columns} {lines'} {columns'} {cells} {cells'} grid other is other_is same = grind (arith, length-rows, length-line_of-rows, no_cells, no_lines)
+same_grid_size {lines} {columns} {lines'} {columns'} {cells} {cells'} grid other is other_is same = grind (arith, length-rows, length-line_of-rows, nil_from_length)
 
 -- a line of the picture is a line of the grid, and a column of it a column
 
@@ -116,14 +70,7 @@ pub record HasLine {A : Type 0} (lines columns : ℕ) (cells : List A) (y : ℕ)
 
 pub HasLine-from_length : {A : Type 0} {Is : A → Type 0} {lines columns y : ℕ} {cells : List A} {picture : List (List A)} → IsGrid Is lines columns cells → rows lines columns cells ≡ picture
     → y < length picture → HasLine lines columns cells y
-HasLine-from_length {lines} {columns} {y} {cells} grid is within =
-    let height : length (rows lines columns cells) ≡ lines = length-rows lines columns cells in
-    let below : y < lines = rw height at (rw (← is) at within) in
-    record {
-      below = below;
-      end = omega (arith, grid.whole, line_end lines columns y below);
-      few = omega (arith, grid.whole, mul-le lines columns 1000 1000 grid.few_lines grid.few_columns);
-    }
+HasLine-from_length {lines} {columns} {y} {cells} grid is within = grind (arith, length-rows, line_end, mul-le)
 
 pub column_below : {A : Type 0} {Is : A → Type 0} {lines columns y x : ℕ} {cells : List A} {picture : List (List A)} → IsGrid Is lines columns cells → rows lines columns cells ≡ picture
     → y < length picture → x < length (line_of picture y) → x < columns

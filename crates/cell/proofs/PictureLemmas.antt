@@ -1,13 +1,14 @@
 -- Pictures of a known size: what each line has, what a change of one cell keeps, and when two are equal.
-use Rattle.std.proofs.Common.{◌≡◌, ℕ, ◌+◌, ◌<◌, ◌∙◌, List, [], ◌∷◌, length, map, replicate, get_or, set, sym, ap, refl, zero, suc, arith, zero-add, lit≤, lit<}
+use Rattle.std.proofs.Common.{refl, ◌≡◌, ℕ, ◌+◌, ◌<◌, ◌∙◌, List, [], ◌∷◌, length, map, replicate, get_or, set, sym, zero, suc, arith, zero-add, lit≤, lit<, inl, inr}
+use Rattle.cell.specs.Pictures.{size_of, Place, line_of, cell_or, with_cell, HasSize, EachCell, all_of, lines_from}
 use Rattle.std.specs.List.{AllByRecursion}
-use Rattle.std.proofs.lemmas.List.{length-set, length-replicate, ext_get_or, get_or-set_same, get_or-set_other}
+use Rattle.std.proofs.lemmas.Bool.{cases_lt}
+use Rattle.std.proofs.lemmas.List.{length-set, length-replicate, ext_get_or, get_or-set_same, get_or-set_other, get_or_past}
 use Rattle.std.proofs.lemmas.List.Elements.{All-from_recursion, recursion_from_All, All-get_or, All-map, All-replicate, All-set}
 use Rattle.std.proofs.lemmas.List.FromFn.{length-map-range_with_len, get_or-map-range_with_len}
 use Rattle.cell.specs.Glyphs.{blank, IsCell}
 use Rattle.cell.specs.Shown.{no_rendition, IsRendition, shown_blank, IsShown, ArePairs, IsPair, default_pair, first_pairs}
 use Rattle.cell.specs.declared.limits.TheConstants.{LAST_PAIR}
-use Rattle.cell.specs.Pictures.{Place, line_of, cell_or, with_cell, HasSize, EachCell, size_of, all_of, lines_from}
 
 -- `AllByRecursion` of lists that are made by a rule
 
@@ -58,13 +59,15 @@ ArePairs-first = record { all = length-replicate (LAST_PAIR + 1) default_pair; e
 pub EachCell-all_of : {A : Type 0} (Is : A → Type 0) (cell : A) (lines columns : ℕ) → Is cell → EachCell Is (all_of cell lines columns)
 EachCell-all_of Is cell lines columns is = search (arith, each-replicate)
 
-are_cells-with : {A : Type 0} (Is : A → Type 0) (picture : List (List A)) (y x : ℕ) (shown : A) → EachCell Is picture → Is shown → EachCell Is (with_cell picture (y, x) shown)
-are_cells-with Is [] y x shown cells cell = tt
-are_cells-with Is (line ∷ lines) zero x shown cells cell = (each-set _ line x shown cell cells.0, cells.1)
-are_cells-with Is (line ∷ lines) (suc y) x shown cells cell = (cells.0, are_cells-with Is lines y x shown cells.1 cell)
+each-line : {A : Type 0} (Is : A → Type 0) (picture : List (List A)) (y : ℕ) → EachCell Is picture → AllByRecursion Is (line_of picture y)
+each-line Is picture y cells = elim (cases_lt y (length picture)) [
+  | inl below ↦ All-get_or (AllByRecursion Is) picture y [] below (All-from_recursion (AllByRecursion Is) picture cells)
+  | inr past ↦ rw (get_or_past picture y [] past) tt
+]
 
 pub EachCell-with_cell : {A : Type 0} (Is : A → Type 0) (picture : List (List A)) (place : Place) (shown : A) → EachCell Is picture → Is shown → EachCell Is (with_cell picture place shown)
-EachCell-with_cell Is picture place shown cells cell = are_cells-with Is picture place.0 place.1 shown cells cell
+EachCell-with_cell Is picture place shown cells cell =
+    each-set (AllByRecursion Is) picture place.0 _ (each-set Is (line_of picture place.0) place.1 shown cell (search (arith, each-line))) cells
 
 -- equal pictures
 
@@ -75,12 +78,10 @@ cell_or-lines_from {A = A} none lines columns shown y x below left = grind (arit
 pub same_pictures : {A : Type 0} (none : A) {lines columns : ℕ} {one other : List (List A)} → HasSize lines columns one → HasSize lines columns other
     → ((y x : ℕ) → y < lines → x < columns → cell_or none one (y, x) ≡ cell_or none other (y, x)) → one ≡ other
 same_pictures none {lines} {columns} {one} {other} size other_size same =
-    let height : length one ≡ lines = size.height in
     ext_get_or [] one other (size.height ∙ sym other_size.height) (λ y below.
     let within : y < lines = omega arith in
     let width = length-line y size within in
-    ext_get_or none (line_of one y) (line_of other y) (width ∙ sym (length-line y other_size within))
-    (λ x left. same y x within (rw width at left)))
+    ext_get_or none (line_of one y) (line_of other y) (width ∙ sym (length-line y other_size within)) (λ x left. same y x within (omega arith)))
 
 first_width : {A : Type 0} (lines columns : ℕ) (one other : List (List A)) → HasSize lines columns one → HasSize lines columns other
     → length (line_of one 0) ≡ length (line_of other 0)
@@ -95,11 +96,8 @@ same_size {lines} {columns} {one} {other} size other_size = grind (arith, first_
 -- one other cell
 
 module _ {A : Type 0} (none : A) (picture : List (List A)) (y x : ℕ) (glyph : A) (in_lines : y < length picture) (in_columns : x < length (line_of picture y)) where
-  line_now : line_of (with_cell picture (y, x) glyph) y ≡ set (line_of picture y) x glyph
-  line_now = get_or-set_same picture y (set (line_of picture y) x glyph) [] in_lines
-
   pub shown-here : cell_or none (with_cell picture (y, x) glyph) (y, x) ≡ glyph
-  shown-here = ap (λ (l : List A). get_or l x none) line_now ∙ get_or-set_same (line_of picture y) x glyph none in_columns
+  shown-here = grind (arith, get_or-set_same, in_lines, in_columns)
 
   pub shown-elsewhere : (v u : ℕ) → ((v ≡ y) → (u ≡ x) → ⊥) → cell_or none (with_cell picture (y, x) glyph) (v, u) ≡ cell_or none picture (v, u)
-  shown-elsewhere v u h = grind (arith, line_now, get_or-set_other)
+  shown-elsewhere v u h = grind (arith, get_or-set_same, in_lines, get_or-set_other)

@@ -1,12 +1,12 @@
 -- A piece of a line of a grid that is written at once.
-use Rattle.std.proofs.Common.{◌≡◌, ℕ, suc, ◌∷◌, ◌+◌, ◌-◌, ◌*◌, ◌<◌, ◌≤◌, ◌==◌, ◌&&◌, nat_le, nat_lt, if◌then◌else◌, true, false, List, [], ◌++◌, length, map, take, drop, get_or, ap, subst, sym, ◌∙◌}
-use Rattle.std.proofs.Common.{arith, inl, inr, ◌⊎◌, length-append, eq-eqb, ne_eqb}
+use Rattle.std.proofs.Common.{◌≡◌, ℕ, suc, ◌∷◌, ◌+◌, ◌-◌, ◌*◌, ◌<◌, ◌≤◌, ◌==◌, ◌&&◌, nat_le, nat_lt, if◌then◌else◌, true, false, List, [], length, map, take, get_or, sym, ◌∙◌}
+use Rattle.std.proofs.Common.{arith, ◌⊎◌, length-append, eq-eqb, ne_eqb}
 use Rattle.std.specs.List.{AllByRecursion, splice}
 use Rattle.std.proofs.Math.ListN.{get_or-append}
 use Rattle.std.proofs.Math.Seq.{get_or-append_right}
 use Rattle.std.proofs.lemmas.Bool.{cases_lt, cases_order, cond-true, cond-false}
 use Rattle.std.proofs.lemmas.Bool.Decides.{nat_tests}
-use Rattle.std.proofs.lemmas.List.{get_or-map, get_or-take, get_or-drop, get_or_past, length-map, length-take-le, length-drop}
+use Rattle.std.proofs.lemmas.List.{get_or-map, get_or-take, get_or-drop, get_or_past, nil_from_length, length-map, length-take-le, length-drop}
 use Rattle.std.proofs.lemmas.List.Elements.{All-from_recursion, recursion_from_All, All-take, All-drop, All-append}
 use Rattle.cell.specs.Pictures.{line_of, cell_or, HasSize}
 use Rattle.cell.specs.Grids.{rows, IsGrid}
@@ -17,7 +17,7 @@ module _ {A : Type 0} (none : A) (old piece : List A) (start : ℕ) (fits : star
   prefix = length-take-le start old (omega (arith, fits))
 
   before : (n : ℕ) → n < start → get_or (splice old start (start + length piece) piece) n none ≡ get_or old n none
-  before n below = get_or-append (take start old) (piece ++ drop (start + length piece) old) none n (omega (arith, prefix)) ∙ get_or-take start old n none below
+  before n below = grind (arith, get_or-append, prefix, get_or-take)
 
   within : (n : ℕ) → start ≤ n → n < start + length piece → get_or (splice old start (start + length piece) piece) n none ≡ get_or piece (n - start) none
   within n from to = grind (arith, get_or-append_right, prefix, get_or-append)
@@ -35,19 +35,13 @@ shown-rows {A = A} none lines columns cells v u below left = grind (arith, line_
 
 shown-outside : {A : Type 0} (none : A) {Is : A → Type 0} (lines columns : ℕ) (cells : List A) → IsGrid Is lines columns cells → (v u : ℕ) → (lines ≤ v) ⊎ (columns ≤ u)
     → cell_or none (rows lines columns cells) (v, u) ≡ none
-shown-outside {A = A} none lines columns cells grid v u (inl past) = grind (arith, get_or_past, length-rows)
-shown-outside {A = A} none lines columns cells grid v u (inr past) = elim (cases_lt v lines) [
-  | inl below ↦ get_or_past (line_of (rows lines columns cells) v) u none (omega (arith, length-line_of-rows lines columns cells v grid below))
-  | inr out ↦ shown-outside-line out
-] where
-  shown-outside-line : lines ≤ v → cell_or none (rows lines columns cells) (v, u) ≡ none
-  shown-outside-line out = ap (λ (line : List A). get_or line u none) (get_or_past (rows lines columns cells) v [] (omega (arith, length-rows lines columns cells)))
+shown-outside none lines columns cells grid v u out = grind (arith, cases_lt, get_or_past, length-rows, length-line_of-rows)
 
 inside : (v u y x n : ℕ) → v ≡ y → x ≤ u → u < x + n → ((v == y) && (nat_le x u && nat_lt u (x + n))) ≡ true
 inside v u y x n line from to = grind (arith, nat_tests)
 
 outside : (v u y x n : ℕ) → ((v ≡ y) → (x ≤ u) → (u < x + n) → ⊥) → ((v == y) && (nat_le x u && nat_lt u (x + n))) ≡ false
-outside v u y x n other = grind (arith, eq-eqb, before, nat_tests, ne_eqb)
+outside v u y x n other = grind (arith, eq-eqb, nat_tests, ne_eqb)
 
 pub piece_end : {A B : Type 0} {Is : A → Type 0} (lines columns : ℕ) (cells : List A) (piece : List B) (y x : ℕ) → IsGrid Is lines columns cells → y < lines → x + length piece ≤ columns
     → y * columns + x + length piece ≤ length cells
@@ -64,35 +58,11 @@ module _ {A : Type 0} (none : A) {Is : A → Type 0} (lines columns : ℕ) (cell
 
   at_place : (v u : ℕ) → v < lines → u < columns → get_or after (v * columns + u) none ≡ (if (v == y) && (nat_le x u && nat_lt u (x + length piece)) then get_or piece (u - x) none else get_or cells
       (v * columns + u) none)
-  at_place v u above left =
-      let inner = get_or piece (u - x) none in
-      let outer = get_or cells (v * columns + u) none in
-      let test = (v == y) && (nat_le x u && nat_lt u (x + length piece)) in
-      elim (cases_order v y) [
-        | inl same ↦
-            let line : v * columns ≡ y * columns = ap (λ k. k * columns) same in
-            elim (cases_lt u x) [
-              | inl prefix ↦ before none cells piece (y * columns + x) (piece_end lines columns cells piece y x grid below fits) (v * columns + u) (omega (arith, line))
-                  ∙ sym (cond-false test inner outer (outside v u y x (length piece) (λ _ from to. omega arith)))
-              | inr from ↦ elim (cases_lt u (x + length piece)) [
-                | inl to ↦ within none cells piece (y * columns + x) (piece_end lines columns cells piece y x grid below fits) (v * columns + u) (omega (arith, line)) (omega (arith, line))
-                    ∙ ap (λ k. get_or piece k none) (let e : v * columns + u - (y * columns + x) ≡ u - x = omega (arith, line) in e)
-                    ∙ sym (cond-true test inner outer (inside v u y x (length piece) same from to))
-                | inr past ↦ beyond none cells piece (y * columns + x) (piece_end lines columns cells piece y x grid below fits) (v * columns + u) (omega (arith, line))
-                    ∙ sym (cond-false test inner outer (outside v u y x (length piece) (λ _ from to. omega arith)))
-              ]
-            ]
-        | inr apart ↦ elim apart [
-          | inl up ↦ before none cells piece (y * columns + x) (piece_end lines columns cells piece y x grid below fits) (v * columns + u) (omega (arith, line_end y columns v up))
-              ∙ sym (cond-false test inner outer (outside v u y x (length piece) (λ e from to. omega arith)))
-          | inr down ↦ beyond none cells piece (y * columns + x) (piece_end lines columns cells piece y x grid below fits) (v * columns + u) (omega (arith, line_end v columns y down, fits))
-              ∙ sym (cond-false test inner outer (outside v u y x (length piece) (λ e from to. omega arith)))
-        ]
-      ]
+  at_place v u above left = grind (arith, cases_order, cases_lt, before, within, beyond, piece_end, line_end, inside, outside, below, fits, cond-true, cond-false)
 
   pub shown-piece : AllByRecursion Is piece → (v u : ℕ)
       → cell_or none (rows lines columns after) (v, u) ≡ (if (v == y) && (nat_le x u && nat_lt u (x + length piece)) then get_or piece (u - x) none else cell_or none (rows lines columns cells) (v, u))
-  shown-piece sound v u = grind (arith, IsGrid-piece, shown-rows, at_place, shown-outside, cond-false, outside, fits, below)
+  shown-piece sound v u = grind (arith, IsGrid-piece, shown-rows, at_place, shown-outside, outside, fits, below)
 
 -- a piece made of another one by a function
 
@@ -101,39 +71,24 @@ module _ {A B : Type 0} (f : A → B) (none : A) (other : B) {Is : B → Type 0}
   same_length : length (map f piece) ≡ length piece
   same_length = length-map piece f
 
-  made_fits : x + length (map f piece) ≤ columns
-  made_fits = omega (arith, same_length, fits)
-
   pub IsGrid-made : IsGrid Is lines columns (splice cells (y * columns + x) (y * columns + x + length piece) (map f piece))
-  IsGrid-made = subst (λ n. IsGrid Is lines columns (splice cells (y * columns + x) (y * columns + x + n) (map f piece))) same_length
-      (IsGrid-piece other lines columns cells (map f piece) y x grid below made_fits sound)
-
-  -- the made cells, also past their end
-  made : (v u : ℕ) → cell_or other (rows lines columns (splice cells (y * columns + x) (y * columns + x + length piece) (map f piece))) (v, u)
-      ≡ (if (v == y) && (nat_le x u && nat_lt u (x + length piece)) then get_or (map f piece) (u - x) other else cell_or other (rows lines columns cells) (v, u))
-  made v u = grind (arith, same_length, shown-piece, below, made_fits)
+  IsGrid-made = rw (← same_length) (IsGrid-piece other lines columns cells (map f piece) y x grid below (omega (arith, same_length, fits)) sound)
 
   pub shown-made : (v u : ℕ) → cell_or other (rows lines columns (splice cells (y * columns + x) (y * columns + x + length piece) (map f piece))) (v, u)
       ≡ (if (v == y) && (nat_le x u && nat_lt u (x + length piece)) then f (get_or piece (u - x) none) else cell_or other (rows lines columns cells) (v, u))
-  shown-made v u = grind (arith, made, within, get_or-map, outside, cond-false)
+  shown-made v u = grind (arith, same_length, shown-piece, below, fits, get_or-map, outside)
 
 -- grids of one size
 
 widths : {A : Type 0} (width : ℕ) (one other : List (List A)) → length one ≡ length other → ((k : ℕ) → length (line_of one k) ≡ length (line_of other k))
     → AllByRecursion (λ (line : List A). length line ≡ width) one → AllByRecursion (λ (line : List A). length line ≡ width) other
-widths width [] [] e same h = tt
-widths width [] (line ∷ lines) e same h = absurd (omega arith)
+widths width [] other e same h = grind (arith, nil_from_length)
 widths width (line ∷ lines) [] e same h = absurd (omega arith)
 widths width (line ∷ lines) (other ∷ others) e same h = (sym (same 0) ∙ h.0, widths width lines others (omega arith) (λ k. same (suc k)) h.1)
 
 pub line_width : {A : Type 0} {Is : A → Type 0} (lines columns : ℕ) (one other : List A) → IsGrid Is lines columns one → IsGrid Is lines columns other → (k : ℕ)
     → length (line_of (rows lines columns one) k) ≡ length (line_of (rows lines columns other) k)
-line_width {A = A} lines columns one other grid grid' k = elim (cases_lt k lines) [
-  | inl below ↦ length-line_of-rows lines columns one k grid below ∙ sym (length-line_of-rows lines columns other k grid' below)
-  | inr past ↦
-      ap (length {A = A}) (get_or_past (rows lines columns one) k [] (omega (arith, length-rows lines columns one)))
-      ∙ ap (length {A = A}) (sym (get_or_past (rows lines columns other) k [] (omega (arith, length-rows lines columns other))))
-]
+line_width {A = A} lines columns one other grid grid' k = grind (arith, cases_lt, length-line_of-rows, get_or_past, length-rows)
 
 pub HasSize-same : {A : Type 0} {Is : A → Type 0} {height width lines columns : ℕ} {one other : List A} → IsGrid Is lines columns one → IsGrid Is lines columns other
     → HasSize height width (rows lines columns one) → HasSize height width (rows lines columns other)
@@ -148,8 +103,4 @@ pub record PieceFits {A B : Type 0} (lines columns : ℕ) (cells : List A) (piec
 
 pub PieceFits-from : {A B : Type 0} {Is : A → Type 0} {lines columns y x : ℕ} {cells : List A} {piece : List B} {picture : List (List A)}
     → IsGrid Is lines columns cells → rows lines columns cells ≡ picture → y < length picture → x + length piece ≤ length (line_of picture y) → PieceFits lines columns cells piece y x
-PieceFits-from {lines} {columns} {y} {x} {cells} {piece} grid is within fits =
-    let line = HasLine-from_length grid is within in
-    let width = length-line_of-rows lines columns cells y grid line.below in
-    let inside : x + length piece ≤ columns = rw width at (rw (← is) at fits) in
-    record { below = line.below; fits = inside; end = piece_end lines columns cells piece y x grid line.below inside; few = line.few }
+PieceFits-from {lines} {columns} {y} {x} {cells} {piece} grid is within fits = grind (arith, HasLine-from_length, length-line_of-rows, piece_end)

@@ -17,8 +17,7 @@ arguments_none (form ∷ forms) = refl
 
 text_of_pieces : (form : Form) (forms : List Form) (pieces : List (List ℕ)) (text : List ℕ) → 0 < length pieces → join_with_byte 32 pieces ≡ text
     → is_text form ≡ true → arguments (form ∷ forms) pieces ≡ text ∷ arguments forms []
-text_of_pieces form forms [] text some e h = absurd (omega arith)
-text_of_pieces form forms (p ∷ ps) text some e h = rw (h, e, arguments_none forms) refl
+text_of_pieces form forms pieces text some e h = grind (arith, arguments_none)
 
 -- a text takes all that is left
 pub text_argument : (form : Form) (forms : List Form) (text : List ℕ) → is_text form ≡ true

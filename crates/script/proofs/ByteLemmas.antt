@@ -1,10 +1,10 @@
 -- A line is gathered a byte at a time.
 use Rattle.std.proofs.Common.{zero, suc, ◌+◌, ◌-◌, take, drop, get_or, position, add-one, drop-cons, length-take, Some, None, if◌then◌else◌}
-use Rattle.std.specs.Prelude.{◌↔◌, IsOk, OnOk, Result, Ok, Err, is_err}
+use Rattle.std.specs.Prelude.{◌↔◌, IsOk, OnOk, Result, is_err}
 use Rattle.std.proofs.lemmas.Bool.{eqb-true}
 use Rattle.std.proofs.lemmas.List.{drop-drop, drop-take, take-append-drop}
 use Rattle.std.proofs.lemmas.List.Quantifiers.{position-Some}
-use Rattle.std.proofs.Common.{◌≡◌, ℕ, ◌≤◌, ◌<◌, Bool, true, false, ◌||◌, ◌==◌, List, [], ◌∷◌, ◌++◌, length, refl, sym, ap, ◌∙◌, arith, append_assoc, append-nil, length-append}
+use Rattle.std.proofs.Common.{◌≡◌, ℕ, ◌≤◌, ◌<◌, Bool, true, false, ◌==◌, List, [], ◌∷◌, ◌++◌, length, refl, sym, ap, ◌∙◌, arith, append_assoc, append-nil, length-append}
 use Rattle.std.specs.Io.KnownBytes.{Consumes}
 use Rattle.std.proofs.KnownBytes.{Consumes-nil, Consumes-trans}
 use Rattle.std.proofs.lemmas.List.Folds.{list_any-append}
@@ -12,27 +12,11 @@ use Rattle.std.proofs.lemmas.Bool.Decides.{nat_tests}
 use Rattle.script.specs.Characters.{is_newline, newline}
 use Rattle.script.specs.declared.bytes.TheConstants.{LONGEST_PIECE}
 use Rattle.script.specs.declared.limits.TheConstants.{LONGEST_LINE}
-use Rattle.streams.specs.Counts.{count_after}
 use Rattle.streams.specs.Sources.{SourceSeen}
-use Rattle.script.specs.steps.Bytes.{EndsLine, HasNoNewline, ReadingEnds, ReadsByte, IsKept, ReadsLine, ReadsWhole, work_left}
+use Rattle.script.specs.steps.Bytes.{HasNoNewline, ReadingEnds, ReadsByte, ReadsLine, ReadsWhole, work_left}
 use Rattle.script.specs.declared.bytes.LineEnd.{LineEnd}
 use Rattle.script.specs.declared.bytes.LineEnd.TheVariants.{Newline, ScriptEnd, ReadFailed}
 use Rattle.script.specs.declared.bytes.Next.TheVariants.{Byte, End, Failed}
-
-pub not_newline : (b : ℕ) → (b ≡ newline → ⊥) → is_newline b ≡ false
-not_newline b h = grind (arith, nat_tests)
-
-pub full_line : (line : List ℕ) → true ≡ (length line == LONGEST_LINE) → LONGEST_LINE ≤ length line
-full_line line h = grind (arith, nat_tests)
-
-pub room_left : (line : List ℕ) → length line ≤ LONGEST_LINE → false ≡ (length line == LONGEST_LINE) → length line < LONGEST_LINE
-room_left line short h = grind (arith, nat_tests)
-
-no_newline_joined : (line more : List ℕ) → HasNoNewline line → HasNoNewline more → HasNoNewline (line ++ more)
-no_newline_joined line more h e = rw (list_any-append is_newline line more, h, e) refl
-
-no_newline_more : (line : List ℕ) (b : ℕ) → HasNoNewline line → is_newline b ≡ false → HasNoNewline (line ++ b ∷ [])
-no_newline_more line b h e = no_newline_joined line (b ∷ []) h (rw e refl)
 
 -- ---- how a reading ends
 
@@ -48,18 +32,11 @@ none_read old unused = record { ended = refl; past = λ unmet. refl; failures = 
 
 pub ends_then : (old mid new : SourceSeen) (unused between left : List ℕ) (meets_end fails continues : Bool) → ReadsOn old mid unused between
     → ReadingEnds mid new between left meets_end fails continues → ReadingEnds old new unused left meets_end fails continues
-ends_then old mid new unused between left meets_end fails continues so_far r = record {
-  ended = r.ended ∙ ap (λ b. meets_end || b) so_far.ended;
-  past = λ unmet. r.past (so_far.ended ∙ unmet) ∙ so_far.past unmet;
-  failures = r.failures ∙ ap (count_after fails) so_far.failures;
-  progress = λ more. omega (arith, r.progress more);
-}
+ends_then old mid new unused between left meets_end fails continues so_far r = grind arith
 
 pub more_read : (old mid new : SourceSeen) (unused between left : List ℕ) → ReadsOn old mid unused between → ReadingEnds mid new between left false false true
     → ReadsOn old new unused left
-more_read old mid new unused between left so_far r =
-    let whole = ends_then old mid new unused between left false false true so_far r in
-    record { ended = whole.ended; past = whole.past; failures = whole.failures; progress = omega (arith, whole.progress refl) }
+more_read old mid new unused between left so_far r = grind arith
 
 -- ---- a line, gathered
 
@@ -71,61 +48,38 @@ pub record Gathered (old new : SourceSeen) (unused left line : List ℕ) : Type 
   pub no_newline : HasNoNewline line
 
 pub gathered_none : (old : SourceSeen) (unused line : List ℕ) → line ≡ [] → Gathered old old unused unused line
-gathered_none old unused line e = record {
-  bytes = [];
-  read = Consumes-nil old.left;
-  all = append-nil unused ∙ ap (λ l. l ++ unused) (sym e);
-  no_newline = rw e refl;
-}
-
--- with the bytes after them
-joined : (old mid new : SourceSeen) (unused left line more after : List ℕ) (g : Gathered old mid unused left line) → Consumes mid.left new.left more → left ++ more ≡ after
-    → Consumes old.left new.left (g.bytes ++ more) × (unused ++ (g.bytes ++ more) ≡ line ++ after)
-joined old mid new unused left line more after g read e = grind (arith, Consumes-trans, append_assoc)
+gathered_none old unused line e = record { bytes = []; read = Consumes-nil old.left; all = grind (arith, append-nil); no_newline = rw e refl }
 
 pub gathered_more : (old mid new : SourceSeen) (unused left rest line after : List ℕ) (b : ℕ) → Gathered old mid unused left line → ReadsByte mid new left rest (Byte b)
     → is_newline b ≡ false → after ≡ line ++ b ∷ [] → Gathered old new unused rest after
-gathered_more old mid new unused left rest line after b g n e is =
-    let j = joined old mid new unused left line n.0 (b ∷ rest) g n.1 n.2 in
-    record {
-      bytes = g.bytes ++ n.0;
-      read = j.0;
-      all = j.1 ∙ sym (append_assoc line (b ∷ []) rest) ∙ ap (λ l. l ++ rest) (sym is);
-      no_newline = rw is (no_newline_more line b g.no_newline e);
-    }
+gathered_more old mid new unused left rest line after b g n e is = record {
+  bytes = g.bytes ++ n.0;
+  read = grind (arith, Consumes-trans);
+  all = grind (arith, append_assoc);
+  no_newline = grind (arith, list_any-append);
+}
 
 -- a newline
 pub gathered_line : (old mid new : SourceSeen) (unused left rest line : List ℕ) (b : ℕ) → Gathered old mid unused left line → ReadsByte mid new left rest (Byte b)
     → b ≡ newline → length line ≤ LONGEST_LINE → ReadsLine old new unused rest line (Some Newline)
 gathered_line old mid new unused left rest line b g n e h =
-    let j = joined old mid new unused left line n.0 (b ∷ rest) g n.1 n.2 in
-    record { bytes = g.bytes ++ n.0; read = j.0; is_line = (j.1 ∙ ap (λ c. line ++ c ∷ rest) e, h); no_newline = g.no_newline; at_end = λ e. cc }
+    record { bytes = g.bytes ++ n.0; read = grind (arith, Consumes-trans); is_line = grind (arith, append_assoc); no_newline = g.no_newline; at_end = λ e. cc }
 
 -- a byte too many
 pub gathered_too_long : (old mid new : SourceSeen) (unused left rest line : List ℕ) (b : ℕ) → Gathered old mid unused left line → ReadsByte mid new left rest (Byte b)
     → is_newline b ≡ false → LONGEST_LINE ≤ length line → ReadsLine old new unused rest line None
 gathered_too_long old mid new unused left rest line b g n e h =
-    let j = joined old mid new unused left line n.0 (b ∷ rest) g n.1 n.2 in
-    record { bytes = g.bytes ++ n.0; read = j.0; is_line = (b, j.1, e, h); no_newline = g.no_newline; at_end = λ e. cc }
-
--- nothing more: all bytes are the line
-all_gathered : (old mid new : SourceSeen) (unused left line : List ℕ) (g : Gathered old mid unused left line) → left ≡ [] → Consumes mid.left new.left []
-    → Consumes old.left new.left (g.bytes ++ []) × (unused ++ (g.bytes ++ []) ≡ line)
-all_gathered old mid new unused left line g none read =
-    let j = joined old mid new unused left line [] [] g read (ap (λ l. l ++ []) none) in
-    (j.0, j.1 ∙ append-nil line)
+    record { bytes = g.bytes ++ n.0; read = grind (arith, Consumes-trans); is_line = (b, grind (arith, append_assoc), e, h); no_newline = g.no_newline; at_end = λ e. cc }
 
 pub gathered_last : (old mid new : SourceSeen) (unused left rest line : List ℕ) → Gathered old mid unused left line → ReadsByte mid new left rest End
     → length line ≤ LONGEST_LINE → ReadsLine old new unused rest line (Some ScriptEnd)
 gathered_last old mid new unused left rest line g n h =
-    let j = all_gathered old mid new unused left line g n.0 n.2 in
-    record { bytes = g.bytes ++ []; read = j.0; is_line = ((j.1, n.1), h); no_newline = g.no_newline; at_end = λ e. n.3 }
+    record { bytes = g.bytes ++ []; read = grind (arith, Consumes-trans); is_line = grind (arith, append-nil); no_newline = g.no_newline; at_end = λ e. n.3 }
 
 pub gathered_failed : (old mid new : SourceSeen) (unused left rest line : List ℕ) → Gathered old mid unused left line → ReadsByte mid new left rest Failed
     → length line ≤ LONGEST_LINE → ReadsLine old new unused rest line (Some ReadFailed)
 gathered_failed old mid new unused left rest line g n h =
-    let j = all_gathered old mid new unused left line g n.0 n.2 in
-    record { bytes = g.bytes ++ []; read = j.0; is_line = ((j.1, n.1), h); no_newline = g.no_newline; at_end = λ e. cc }
+    record { bytes = g.bytes ++ []; read = grind (arith, Consumes-trans); is_line = grind (arith, append-nil); no_newline = g.no_newline; at_end = λ e. cc }
 
 -- ---- a line that is read where it is
 
@@ -136,8 +90,7 @@ no_newline_before (x ∷ xs) (suc i) h = let first = h 0 (omega arith) in rw fir
 
 -- what a call that didn't fail says
 pub ok_parts : {T E : Type 0} (r : Result T E) (P Q : Type 0) → false ≡ is_err r → OnOk r P → IsOk r ↔ Q → P × Q
-ok_parts (Ok t) P Q h said alike = (said, alike.0 refl)
-ok_parts (Err e) P Q h said alike = cc
+ok_parts r P Q h said alike = grind arith
 
 -- the bytes up to the first newline, which comes early enough
 newline_found : (seen : SourceSeen) (unused : List ℕ) (at : ℕ) → Some at ≡ position is_newline unused → at < LONGEST_PIECE
@@ -161,11 +114,7 @@ unread_line seen unused bytes gathered at same found early = grind (arith, nat_t
 -- the bytes of a piece from one on, without the first
 pub first_left_out : (piece : List ℕ) (from to count : ℕ) → count ≤ length (take (to - from) (drop from piece)) → from ≤ to
     → take (to - (from + count)) (drop (from + count) piece) ≡ drop count (take (to - from) (drop from piece))
-first_left_out piece from to count within order =
-    let rest : to - from ≡ count + (to - (from + count)) = omega (arith, length-take (to - from) (drop from piece)) in
-    sym (ap (λ n. drop count (take n (drop from piece))) rest
-    ∙ drop-take count (to - (from + count)) (drop from piece)
-    ∙ ap (take (to - (from + count))) (drop-drop count from piece))
+first_left_out piece from to count within order = grind (arith, length-take, drop-take count (to - (from + count)) (drop from piece), drop-drop)
 
 -- ---- a line of any length
 
@@ -185,41 +134,27 @@ passed_none old unused = record { line = []; gathered = gathered_none old unused
 
 pub passed_more : (old mid new : SourceSeen) (unused left rest line : List ℕ) (is_kept : Bool) → Passed old mid unused left is_kept → ReadsLine mid new left rest line None
     → Passed old new unused rest false
-passed_more old mid new unused left rest line is_kept s r =
-    let b = r.is_line.0 in
-    let j = joined old mid new unused left s.line r.bytes (line ++ b ∷ rest) s.gathered r.read r.is_line.1 in
-    record {
-      line = s.line ++ (line ++ b ∷ []);
-      gathered = record {
-        bytes = s.gathered.bytes ++ r.bytes;
-        read = j.0;
-        all = j.1 ∙ simp append_assoc;
-        no_newline = no_newline_joined s.line (line ++ b ∷ []) s.gathered.no_newline (no_newline_more line b r.no_newline r.is_line.2);
-      };
-      passed = simp length-append (omega (arith, r.is_line.3));
-    }
-
-ends_after : (end : LineEnd) (whole all prefix line rest : List ℕ) → whole ≡ prefix ++ all → EndsLine end all line rest → EndsLine end whole (prefix ++ line) rest
-ends_after Newline whole all prefix line rest e h = e ∙ ap (λ l. prefix ++ l) h ∙ sym (append_assoc prefix line (newline ∷ rest))
-ends_after ScriptEnd whole all prefix line rest e h = (e ∙ ap (λ l. prefix ++ l) h.0, h.1)
-ends_after ReadFailed whole all prefix line rest e h = (e ∙ ap (λ l. prefix ++ l) h.0, h.1)
-
-kept_so : (is_kept : Bool) (prefix kept : List ℕ) → HasPassed is_kept prefix → length kept ≤ LONGEST_LINE → IsKept is_kept (prefix ++ kept) kept
-kept_so true prefix kept none short = (sym (ap (λ l. l ++ kept) none), rw none short)
-kept_so false prefix kept long short = simp length-append (omega arith)
+passed_more old mid new unused left rest line is_kept s r = record {
+  line = s.line ++ (line ++ r.is_line.0 ∷ []);
+  gathered = record {
+    bytes = s.gathered.bytes ++ r.bytes;
+    read = grind (arith, Consumes-trans);
+    all = grind (arith, append_assoc);
+    no_newline = grind (arith, list_any-append);
+  };
+  passed = simp length-append (omega (arith, r.is_line.3));
+}
 
 pub passed_end : (old mid new : SourceSeen) (unused left rest kept : List ℕ) (end : LineEnd) (is_kept : Bool) → Passed old mid unused left is_kept
     → ReadsLine mid new left rest kept (Some end) → ReadsWhole old new unused rest kept end is_kept
-passed_end old mid new unused left rest kept end is_kept s r =
-    let j = joined old mid new unused left s.line r.bytes (left ++ r.bytes) s.gathered r.read refl in
-    record {
-      reads = record {
-        line = s.line ++ kept;
-        bytes = s.gathered.bytes ++ r.bytes;
-        read = j.0;
-        ends = ends_after end _ _ s.line kept rest j.1 r.is_line.0;
-        no_newline = no_newline_joined s.line kept s.gathered.no_newline r.no_newline;
-        at_end = r.at_end;
-      };
-      keeps = kept_so is_kept s.line kept s.passed r.is_line.1;
-    }
+passed_end old mid new unused left rest kept end is_kept s r = record {
+  reads = record {
+    line = s.line ++ kept;
+    bytes = s.gathered.bytes ++ r.bytes;
+    read = grind (arith, Consumes-trans);
+    ends = grind (arith, append_assoc);
+    no_newline = grind (arith, list_any-append);
+    at_end = r.at_end;
+  };
+  keeps = grind (arith, length-append);
+}

@@ -1,11 +1,12 @@
 -- Lemmas on the first newline of a text.
-use Rattle.std.proofs.Common.{◌≡◌, ℕ, ◌+◌, ◌-◌, ◌<◌, ◌≤◌, Some, None, position, Bool, true, false, List, length, take, drop, get_or, refl, sym, ap, ◌∙◌, arith, length-drop, nat_lt, map, not}
+use Rattle.std.proofs.Common.{◌≡◌, ℕ, ◌+◌, ◌-◌, ◌<◌, ◌≤◌, Some, None, position, Bool, true, false, List, length, take, drop, get_or, sym, ap, ◌∙◌, arith, length-drop, map, not}
 use Rattle.std.specs.List.{position_or_len, prefix_len}
 use Rattle.std.specs.Simd.Lanes.{chunk, mask_l}
 use lib.Count.{count_trailing_zeros}
 use Rattle.std.proofs.lemmas.Simd.{length-chunk, trailing_mask_l}
 use Rattle.std.proofs.lemmas.List.{get_or-drop}
 use Rattle.std.proofs.lemmas.List.Sums.{fails_before_first, position_or_len_is}
+use Rattle.std.proofs.lemmas.Bool.{cases_lt}
 use Rattle.std.proofs.lemmas.Bool.Decides.{nat_tests}
 use Rattle.std.proofs.lemmas.List.Quantifiers.{position-Some}
 use Rattle.script.proofs.LineLemmas.{rest_of}
@@ -20,20 +21,12 @@ pub newline_at : (text : List ℕ) (at : ℕ) → at < length text → is_newlin
 newline_at text at within here before = grind (arith, position_or_len_is, nat_tests)
 
 pub no_newline : (text : List ℕ) → NoneBefore text (length text) → None ≡ position is_newline text
-no_newline text before =
-    let e : position_or_len is_newline text ≡ length text = position_or_len_is is_newline text (length text) 0 (omega arith) before.none (λ h. absurd (omega arith)) in
-    let t : nat_lt (length text) (length text) ≡ false = grind (arith, nat_tests) in
-    rw (e, t) refl
-
-none_at : (text : List ℕ) (place further k : ℕ) (b : Bool) → nat_lt k place ≡ b → NoneBefore text place
-    → ((k : ℕ) → place ≤ k → k < further → is_newline (get_or text k 0) ≡ false) → k < further → is_newline (get_or text k 0) ≡ false
-none_at text place further k true early before others below = before.none k (grind (arith, nat_tests))
-none_at text place further k false late before others below = others k (grind (arith, nat_tests)) below
+no_newline text before = grind (arith, position_or_len_is is_newline text (length text) 0, nat_tests)
 
 -- more bytes that are none
 pub none_further : (text : List ℕ) (place further : ℕ) → NoneBefore text place → ((k : ℕ) → place ≤ k → k < further → is_newline (get_or text k 0) ≡ false)
     → NoneBefore text further
-none_further text place further before others = record { none = λ k below. none_at text place further k (nat_lt k place) refl before others below }
+none_further text place further before others = grind (arith, cases_lt)
 
 -- a byte after a place, counted from there
 counted_from : (text : List ℕ) (from k : ℕ) (b : Bool) → from ≤ k → is_newline (get_or (drop from text) (k - from) 0) ≡ b → is_newline (get_or text k 0) ≡ b

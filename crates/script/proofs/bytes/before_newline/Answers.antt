@@ -1,6 +1,5 @@
 -- A bit of the mask says of each byte whether it is a newline.
 use Rattle.std.proofs.Common.{sym, ◌∙◌, arith, eqb, w8}
-use Rattle.std.specs.Simd.Lanes.{chunk}
 use Rattle.std.proofs.lemmas.Simd.{bitmask_splat, length-chunk, none_from_empty_mask, run_in_chunk_fails, run_in_chunk_le, run_in_chunk_stops}
 use Rattle.script.specs.Characters.{is_newline, newline}
 use Rattle.script.specs.declared.bytes.TheConstants.{LANES}
@@ -9,28 +8,17 @@ use Rattle.script.proofs.bytes.before_newline.Goals as goal
 
 pub returns-then-newlines-eq0-clause-none : goal.returns-then-newlines-eq0-clause-none
 returns-then-newlines-eq0-clause-none c =
-    let text = c.args.text.now in
-    let from = c.args.from in
-    let mask = bitmask_splat w8 eqb (chunk from LANES text) LANES newline (length-chunk from LANES text c.requires) (omega arith) in
-    none_from_empty_mask is_newline text from LANES 0 c.requires (sym mask ∙ c.if-newlines-eq0.true)
+    none_from_empty_mask is_newline _ _ LANES 0 c.requires
+    (sym (bitmask_splat w8 eqb _ LANES newline (length-chunk c.args.from LANES c.args.text.now c.requires) (omega arith)) ∙ c.if-newlines-eq0.true)
 
 pub returns-else-newlines-eq0-clause-within : goal.returns-else-newlines-eq0-clause-within
-returns-else-newlines-eq0-clause-within c =
-    let text = c.args.text.now in
-    let from = c.args.from in
-    let mask = bitmask_splat w8 eqb (chunk from LANES text) LANES newline (length-chunk from LANES text c.requires) (omega arith) in
-    run_in_chunk_le is_newline text from LANES _ 0 c.requires (before_marked text from _ c.requires mask c.if-newlines-eq0.false)
+returns-else-newlines-eq0-clause-within c = run_in_chunk_le is_newline _ _ LANES _ 0 c.requires
+    (before_marked _ _ _ c.requires (bitmask_splat w8 eqb _ LANES newline (length-chunk c.args.from LANES c.args.text.now c.requires) (omega arith)) c.if-newlines-eq0.false)
 
 pub returns-else-newlines-eq0-clause-none : goal.returns-else-newlines-eq0-clause-none
-returns-else-newlines-eq0-clause-none c =
-    let text = c.args.text.now in
-    let from = c.args.from in
-    let mask = bitmask_splat w8 eqb (chunk from LANES text) LANES newline (length-chunk from LANES text c.requires) (omega arith) in
-    run_in_chunk_fails is_newline text from LANES _ 0 c.requires (before_marked text from _ c.requires mask c.if-newlines-eq0.false)
+returns-else-newlines-eq0-clause-none c = run_in_chunk_fails is_newline _ _ LANES _ 0 c.requires
+    (before_marked _ _ _ c.requires (bitmask_splat w8 eqb _ LANES newline (length-chunk c.args.from LANES c.args.text.now c.requires) (omega arith)) c.if-newlines-eq0.false)
 
 pub returns-else-newlines-eq0-clause-found : goal.returns-else-newlines-eq0-clause-found
-returns-else-newlines-eq0-clause-found c =
-    let text = c.args.text.now in
-    let from = c.args.from in
-    let mask = bitmask_splat w8 eqb (chunk from LANES text) LANES newline (length-chunk from LANES text c.requires) (omega arith) in
-    run_in_chunk_stops is_newline text from LANES _ 0 c.requires (before_marked text from _ c.requires mask c.if-newlines-eq0.false)
+returns-else-newlines-eq0-clause-found c = run_in_chunk_stops is_newline _ _ LANES _ 0 c.requires
+    (before_marked _ _ _ c.requires (bitmask_splat w8 eqb _ LANES newline (length-chunk c.args.from LANES c.args.text.now c.requires) (omega arith)) c.if-newlines-eq0.false)

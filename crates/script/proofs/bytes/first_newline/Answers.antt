@@ -7,7 +7,7 @@ pub returns-then-before-lt-LANES : goal.returns-then-before-lt-LANES
 returns-then-before-lt-LANES c = grind (arith, newline_at, none_further)
 
 pub returns-in-Some : goal.returns-in-Some
-returns-in-Some c = found_after _ _ _ c.loop-from.invariant.before c.in-Some.ensures
+returns-in-Some c = grind (arith, found_after)
 
 pub returns-in-None : goal.returns-in-None
-returns-in-None c = none_after _ _ c.loop-from.invariant.before c.in-None.ensures
+returns-in-None c = grind (arith, none_after)

@@ -1,9 +1,9 @@
-use Rattle.std.proofs.Common.{sym}
+use Rattle.std.proofs.Common.{arith}
 use Rattle.script.proofs.LineLemmas.{split_found, split_none}
 use Rattle.script.proofs.line.split_at_space.Goals as goal
 
 pub returns-in-Some-clause-pieces : goal.returns-in-Some-clause-pieces
-returns-in-Some-clause-pieces c = split_found _ _ (sym c.in-Some.ensures)
+returns-in-Some-clause-pieces c = grind (arith, split_found)
 
 pub returns-in-None-clause-pieces : goal.returns-in-None-clause-pieces
-returns-in-None-clause-pieces c = split_none _ (sym c.in-None.ensures)
+returns-in-None-clause-pieces c = grind (arith, split_none)

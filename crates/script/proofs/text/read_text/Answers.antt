@@ -9,7 +9,7 @@ pub returns-then-not-has_backslash : goal.returns-then-not-has_backslash
 returns-then-not-has_backslash c = grind (arith, ok_parts, plain_text)
 
 pub loop-rest-init : goal.loop-rest-init
-loop-rest-init c = (nothing_before _ _ c.clear.ensures, grind (arith, common_steps))
+loop-rest-init c = (grind (arith, nothing_before), grind (arith, common_steps))
 
 pub loop-rest-preserved : goal.loop-rest-preserved
 loop-rest-preserved c =

@@ -6,15 +6,11 @@ use Rattle.small_set.proofs.bits.bits_from.Goals as goal
 
 pub returns-clause-below : goal.returns-clause-below
 returns-clause-below c i low =
-    let a = c.args in
-    let mask = ones_shl 64 a.from (omega (arith, c.requires)) in
-    rw (mask, bit_at_and a.word (2 ^ 64 - 2 ^ a.from) i, bit_at_mask_below a.from 64 i low) (omega arith)
+    rw (ones_shl 64 c.args.from (omega (arith, c.requires)), bit_at_and c.args.word (2 ^ 64 - 2 ^ c.args.from) i, bit_at_mask_below c.args.from 64 i low) (omega arith)
 
 pub returns-clause-others : goal.returns-clause-others
 returns-clause-others c i from =
-    let a = c.args in
-    let mask = ones_shl 64 a.from (omega (arith, c.requires)) in
-    rw (mask, bit_at_and a.word (2 ^ 64 - 2 ^ a.from) i) (elim (cases_lt i 64) [
-      | inl inside ↦ rw (bit_at_mask_inside a.from 64 i from inside) (omega (arith, bit_at-lt a.word i))
-      | inr past ↦ rw (bit_at_mask_above a.from 64 i past, bit_at_above a.word 64 i c.ranges.word.fits past) (omega arith)
+    rw (ones_shl 64 c.args.from (omega (arith, c.requires)), bit_at_and c.args.word (2 ^ 64 - 2 ^ c.args.from) i) (elim (cases_lt i 64) [
+      | inl inside ↦ rw (bit_at_mask_inside c.args.from 64 i from inside) (omega (arith, bit_at-lt c.args.word i))
+      | inr past ↦ rw (bit_at_mask_above c.args.from 64 i past, bit_at_above c.args.word 64 i c.ranges.word.fits past) (omega arith)
     ])

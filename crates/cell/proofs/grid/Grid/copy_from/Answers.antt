@@ -4,9 +4,7 @@ use Rattle.cell.proofs.GridLemmas.{same_grid_size}
 use Rattle.cell.proofs.grid.Grid.copy_from.Goals as goal
 
 pub copy_from_slice-requires : goal.copy_from_slice-requires
-copy_from_slice-requires g c =
-    omega (arith, (same_grid_size c.self.invariant c.other.invariant c.self.view_is c.other.view_is c.requires).0)
+copy_from_slice-requires g c = grind (arith, same_grid_size)
 
 pub returns : goal.returns
-returns g c = rw (c.copy_from_slice.ensures.items, c.deref.ensures.value)
-    (same_grid_size c.self.invariant c.other.invariant c.self.view_is c.other.view_is c.requires).1
+returns g c = grind (arith, same_grid_size)

@@ -1,9 +1,9 @@
-use Rattle.std.proofs.Common.{[], arith, refl, ◌∙◌, append-nil}
+use Rattle.std.proofs.Common.{[], arith, append-nil}
 use Rattle.std.proofs.KnownBytes.{Consumes-nil}
 use Rattle.script.proofs.bytes.Bytes.next.Goals as goal
 
 pub returns-then-self-clause-byte : goal.returns-then-self-clause-byte
-returns-then-self-clause-byte g c = ([], Consumes-nil _, append-nil _ ∙ c.take.ensures)
+returns-then-self-clause-byte g c = ([], Consumes-nil _, grind (arith, append-nil))
 
 pub returns-then-self-clause-ends : goal.returns-then-self-clause-ends
-returns-then-self-clause-ends g c = record { ended = refl; past = λ unmet. refl; failures = refl; progress = λ more. grind arith }
+returns-then-self-clause-ends g c = grind arith

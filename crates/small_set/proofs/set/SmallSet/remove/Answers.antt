@@ -3,4 +3,4 @@ use Rattle.small_set.proofs.Words.{contains-removed}
 use Rattle.small_set.proofs.set.SmallSet.remove.Goals as goal
 
 pub returns : goal.returns
-returns c n = rw c.from.ensures (rw (← c.self.view_is) (contains-removed c.self.inside.words c.args.number (omega (arith, c.requires, c.self.invariant)) n))
+returns c n = grind (arith, contains-removed)
