@@ -10,7 +10,7 @@ use Rattle.std.proofs.Math.Seq.{take-append-add}
 use Rattle.std.proofs.KnownBytes.{Appends-trans, Consumes-nil, Consumes-trans}
 use Rattle.std.specs.List.{All, flat_map, slice_split}
 use Rattle.std.specs.Io.KnownBytes.{Consumes, IsAtEnd}
-use Rattle.streams.specs.Counts.{count_after, next_count}
+use Rattle.streams.specs.Counts.{count_after}
 use Rattle.streams.specs.Sinks.{Seen}
 use Rattle.streams.specs.Sources.{SourceSeen}
 use Rattle.script.specs.Characters.{is_newline}
@@ -34,13 +34,13 @@ abbrev flat : List (List ℕ) → List ℕ
 flat lines = flat_map (λ line. line) lines
 
 flat_more : (lines : List (List ℕ)) (text : List ℕ) → flat (lines ++ text ∷ []) ≡ flat lines ++ text
-flat_more lines text = flat_map-append _ lines (text ∷ []) ∙ ap (λ l. flat lines ++ l) (append-nil text)
+flat_more lines text = simp (flat_map-append, append-nil)
 
 min_more : (a m : ℕ) → min (min a m + 1) m ≡ min (a + 1) m
 min_more a m = grind (arith, nat_tests)
 
 count_more : (lines : List (List ℕ)) (text : List ℕ) → next_number (count_of lines) ≡ count_of (lines ++ text ∷ [])
-count_more lines text = min_more (length lines) 18446744073709551615 ∙ ap (λ n. min n 18446744073709551615) (sym (length-append lines (text ∷ [])))
+count_more lines text = grind (arith, min_more, length-append)
 
 pub none_reported : (out : Seen) (report : Report) → report.is_written ≡ true → report.faulty ≡ 0 → IsReported out out report []
 none_reported out report written none = grind (arith, nothing_put)
@@ -63,13 +63,11 @@ line_dropped first old before lines text faulty r written more = record {
 -- ---- lines that are read
 
 no_newlines : (line : List ℕ) → HasNoNewline line → All (λ b. is_newline b ≡ false) line
-no_newlines line h = λ k d lt. false_from_ne_true _ (λ e. both_ways _ h (list_any_at is_newline line k d lt e))
+no_newlines line h = grind (arith, false_from_ne_true, both_ways, list_any_at)
 
 line_first : (failed : Bool) (n : ℕ) (line : List ℕ) (pieces : List (List ℕ)) → 0 < length pieces
     → findings_from failed n (line ∷ pieces) ≡ finding_of n line (parse_line line) ++ findings_from failed (next_number n) pieces
-line_first failed n line [] some = absurd (omega arith)
-line_first true n line (p ∷ ps) some = refl
-line_first false n line (p ∷ ps) some = refl
+line_first failed n line pieces some = grind arith
 
 line_of_script : (failed : Bool) (n : ℕ) (line left : List ℕ) → HasNoNewline line
     → findings_from failed n (slice_split is_newline (line ++ 10 ∷ left)) ≡ finding_of n line (parse_line line) ++ findings_from failed (next_number n) (slice_split is_newline left)
@@ -82,19 +80,15 @@ short_test : (line : List ℕ) → length line ≤ LONGEST_LINE → nat_lt LONGE
 short_test line h = grind (arith, nat_tests)
 
 long_line : (line : List ℕ) → LONGEST_LINE < length line → parse_line line ≡ Err LineTooLong
-long_line line h = rw (long_test line h) refl
+long_line line h = grind (arith, nat_tests)
 
 -- the finding of a line, kept or not, is by what it says
 found_is : (n : ℕ) (line kept : List ℕ) (is_kept : Bool) (end : LineEnd) → IsKept is_kept line kept → end_failed end ≡ false
     → finding_of_read n kept is_kept end ≡ finding_of n line (parse_line line)
-found_is n line kept true Newline k e = ap (λ l. finding_of n l (parse_line l)) k.0
-found_is n line kept true ScriptEnd k e = ap (λ l. finding_of n l (parse_line l)) k.0
-found_is n line kept is_kept ReadFailed k e = cc
-found_is n line kept false end k e = sym (ap (finding_of n line) (long_line line k))
+found_is n line kept is_kept end k e = grind (arith, long_line)
 
 found_is_rest : (n : ℕ) (line kept : List ℕ) (is_kept : Bool) → IsKept is_kept line kept → finding_of_read n kept is_kept ReadFailed ≡ finding_of_rest n line
-found_is_rest n line kept true k = rw (short_test line k.1) refl
-found_is_rest n line kept false k = rw (long_test line k) refl
+found_is_rest n line kept is_kept k = grind (arith, nat_tests)
 
 -- The findings of the lines of a script that were read, and what is left of it.
 pub record Checking (input rest : SourceSeen) (out after : Seen) (unused : List ℕ) (number : ℕ) (report : Report) : Type 0 where
@@ -159,13 +153,10 @@ last_found ReadFailed n all line left kept is_kept last e h k =
     ∙ sym (found_is_rest n line kept is_kept k)
 
 failed_unless_whole : (end : LineEnd) → has_newline end ≡ false → end_failed end ≡ not (met_end end)
-failed_unless_whole Newline last = cc
-failed_unless_whole ScriptEnd last = refl
-failed_unless_whole ReadFailed last = refl
+failed_unless_whole end last = grind arith
 
 whole_at : (is_whole : Bool) (seen : SourceSeen) → (is_whole ≡ true → (seen.met_end ≡ true) × IsAtEnd seen.left) → IsWholeAt is_whole seen
-whole_at true seen h = h refl
-whole_at false seen h = tt
+whole_at is_whole seen h = grind arith
 
 pub checked : (input r1 r2 : SourceSeen) (out o1 o2 : Seen) (unused left kept : List ℕ) (n : ℕ) (before after : Report) (is_kept is_whole : Bool) (end : LineEnd)
     → Checking input r1 out o1 unused n before → (r : ReadsToEnd r1 r2 unused left end) → IsKept is_kept r.line kept → has_newline end ≡ false → met_end end ≡ is_whole
@@ -204,8 +195,8 @@ reported_ends first old new before lines after false r written h = record {
   sent = length (flat lines) + h.sent;
   within = omega (arith, h.within, length-append (flat lines) after);
   taken = rw (take-append-add (flat lines) after h.sent) (Appends-trans _ _ _ _ _ (r.put.taken written) h.taken);
-  failure = h.failure ∙ ap next_count (r.put.failures ∙ ap (λ b. count_after (not b) first.failures) written);
-  flushes = grind (arith, same_end, length-append);
+  failure = grind arith;
+  flushes = grind (arith, nat_tests, length-append);
 }
 
 -- with how many lines after them
