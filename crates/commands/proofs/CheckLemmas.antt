@@ -1,5 +1,5 @@
 -- The findings of a script, a line at a time.
-use Rattle.std.proofs.Common.{◌≡◌, ℕ, ◌+◌, ◌≤◌, ◌<◌, List, [], ◌∷◌, ◌++◌, length, Bool, true, false, ◌||◌, not, Err, refl, ap, subst, sym, ◌∙◌, append-nil, append_assoc, length-append, arith}
+use Rattle.std.proofs.Common.{◌≡◌, ℕ, ◌+◌, ◌≤◌, ◌<◌, List, [], ◌∷◌, ◌++◌, length, Bool, true, false, not, Err, refl, ap, ◌∙◌, append-nil, append_assoc, length-append, arith}
 use Rattle.std.proofs.Common.{nat_lt, min, ◌==◌}
 use Rattle.std.proofs.lemmas.Bool.{both_ways, false_from_ne_true}
 use Rattle.std.proofs.lemmas.Bool.Decides.{nat_tests}
@@ -10,13 +10,12 @@ use Rattle.std.proofs.Math.Seq.{take-append-add}
 use Rattle.std.proofs.KnownBytes.{Appends-trans, Consumes-nil, Consumes-trans}
 use Rattle.std.specs.List.{All, flat_map, slice_split}
 use Rattle.std.specs.Io.KnownBytes.{Consumes, IsAtEnd}
-use Rattle.streams.specs.Counts.{count_after}
 use Rattle.streams.specs.Sinks.{Seen}
 use Rattle.streams.specs.Sources.{SourceSeen}
 use Rattle.script.specs.Characters.{is_newline}
 use Rattle.script.specs.Readings.{next_number, parse_line}
 use Rattle.script.specs.declared.bytes.LineEnd.{LineEnd}
-use Rattle.script.specs.declared.bytes.LineEnd.TheVariants.{Newline, ScriptEnd, ReadFailed}
+use Rattle.script.specs.declared.bytes.LineEnd.TheVariants.{Newline, ReadFailed}
 use Rattle.script.specs.declared.fault.TextFault.TheVariants.{LineTooLong}
 use Rattle.script.specs.declared.limits.TheConstants.{LONGEST_LINE}
 use Rattle.script.specs.steps.Bytes.{EndsLine, HasNoNewline, IsKept, ReadingEnds, ReadsToEnd, end_failed, has_newline, met_end}
@@ -48,17 +47,11 @@ none_reported out report written none = grind (arith, nothing_put)
 pub line_reported : (first old new : Seen) (before : Report) (lines : List (List ℕ)) (text : List ℕ) (faulty : ℕ) (is_put : Bool) → IsReported first old before lines
     → before.is_written ≡ true → faulty ≡ next_number before.faulty → PuttingEnds is_put old new text
     → IsReported first new (record { faulty = faulty; is_written = is_put }) (lines ++ text ∷ [])
-line_reported first old new before lines text faulty is_put r written more p = record {
-  put = rw (flat_more lines text) (put_after _ _ _ _ _ _ _ r.put written p);
-  faulty = more ∙ ap next_number r.faulty ∙ count_more lines text;
-}
+line_reported first old new before lines text faulty is_put r written more p = record { put = rw (flat_more lines text) (put_after _ _ _ _ _ _ _ r.put written p); faulty = grind (arith, count_more) }
 
 pub line_dropped : (first old : Seen) (before : Report) (lines : List (List ℕ)) (text : List ℕ) (faulty : ℕ) → IsReported first old before lines → before.is_written ≡ false
     → faulty ≡ next_number before.faulty → IsReported first old (record { faulty = faulty; is_written = false }) (lines ++ text ∷ [])
-line_dropped first old before lines text faulty r written more = record {
-  put = rw (flat_more lines text) (cut_before _ _ _ _ _ r.put written);
-  faulty = more ∙ ap next_number r.faulty ∙ count_more lines text;
-}
+line_dropped first old before lines text faulty r written more = record { put = rw (flat_more lines text) (cut_before _ _ _ _ _ r.put written); faulty = grind (arith, count_more) }
 
 -- ---- lines that are read
 
@@ -122,35 +115,21 @@ pub checking_next : (input r1 r2 : SourceSeen) (out o1 o2 : Seen) (unused left k
     → Checking input r1 out o1 unused n before → (r : ReadsToEnd r1 r2 unused left end) → IsKept is_kept r.line kept → end ≡ Newline
     → LineReadingEnds r1 r2 unused left end
     → ReportsMore o1 o2 before after (finding_of_read n kept is_kept end) → Checking input r2 out o2 left (next_number n) after
-checking_next input r1 r2 out o1 o2 unused left kept n before after is_kept end s r k is reading more =
-    let all : unused ++ r.bytes ≡ r.line ++ 10 ∷ left = rw is at r.ends in
-    let same = found_is n r.line kept is_kept end k (ap end_failed is) in
-    record {
-      text = s.text ++ r.bytes;
-      lines = s.lines ++ finding_of_read n kept is_kept end;
-      read = Consumes-trans _ _ _ _ _ s.read r.read;
-      met = reading.ended ∙ ap (λ e. met_end e || r1.met_end) is ∙ s.met;
-      read_once = λ unmet. reading.past (s.met ∙ unmet) ∙ s.read_once unmet;
-      failures = reading.failures ∙ ap (λ e. count_after (end_failed e) r1.failures) is ∙ s.failures;
-      reported = more out s.lines s.reported;
-      says = λ failed m.
-          ap (findings failed) (append_assoc s.text r.bytes m) ∙ s.says failed (r.bytes ++ m)
-          ∙ ap (λ l. s.lines ++ findings_from failed n (slice_split is_newline l)) (sym (append_assoc unused r.bytes m) ∙ ap (λ l. l ++ m) all ∙ append_assoc r.line (10 ∷ left) m)
-          ∙ ap (λ l. s.lines ++ l) (line_of_script failed n r.line (left ++ m) r.no_newline)
-          ∙ ap (λ l. s.lines ++ (l ++ findings_from failed (next_number n) (slice_split is_newline (left ++ m)))) (sym same)
-          ∙ sym (append_assoc s.lines (finding_of_read n kept is_kept end) (findings_from failed (next_number n) (slice_split is_newline (left ++ m))));
-    }
+checking_next input r1 r2 out o1 o2 unused left kept n before after is_kept end s r k is reading more = record {
+  text = s.text ++ r.bytes;
+  lines = s.lines ++ finding_of_read n kept is_kept end;
+  read = Consumes-trans _ _ _ _ _ s.read r.read;
+  met = grind arith;
+  read_once = grind arith;
+  failures = grind arith;
+  reported = more out s.lines s.reported;
+  says = λ failed m. grind (arith, append_assoc, found_is, s.says failed (r.bytes ++ m), line_of_script failed n r.line (left ++ m) r.no_newline);
+}
 
 -- the findings of the last line
 last_found : (end : LineEnd) (n : ℕ) (all line left kept : List ℕ) (is_kept : Bool) → has_newline end ≡ false → EndsLine end all line left → HasNoNewline line → IsKept is_kept line kept
     → findings_from (end_failed end) n (slice_split is_newline all) ≡ finding_of_read n kept is_kept end
-last_found Newline n all line left kept is_kept last e h k = cc
-last_found ScriptEnd n all line left kept is_kept last e h k =
-    ap (λ l. findings_from false n (slice_split is_newline l)) e.0 ∙ ap (findings_from false n) (slice_split_none is_newline line (no_newlines line h))
-    ∙ append-nil (finding_of n line (parse_line line)) ∙ sym (found_is n line kept is_kept ScriptEnd k refl)
-last_found ReadFailed n all line left kept is_kept last e h k =
-    ap (λ l. findings_from true n (slice_split is_newline l)) e.0 ∙ ap (findings_from true n) (slice_split_none is_newline line (no_newlines line h))
-    ∙ sym (found_is_rest n line kept is_kept k)
+last_found end n all line left kept is_kept last e h k = grind (arith, slice_split_none, no_newlines, append-nil, found_is, found_is_rest)
 
 failed_unless_whole : (end : LineEnd) → has_newline end ≡ false → end_failed end ≡ not (met_end end)
 failed_unless_whole end last = grind arith
@@ -164,19 +143,16 @@ pub checked : (input r1 r2 : SourceSeen) (out o1 o2 : Seen) (unused left kept : 
     → ReportsMore o1 o2 before after (finding_of_read n kept is_kept end) → ReportsScript input r2 out o2 is_whole after
 checked input r1 r2 out o1 o2 unused left kept n before after is_kept is_whole end s r k last whole reading more =
     let failed : end_failed end ≡ not is_whole = failed_unless_whole end last ∙ ap not whole in
-    let says : findings (not is_whole) (s.text ++ r.bytes) ≡ s.lines ++ finding_of_read n kept is_kept end =
-    s.says (not is_whole) r.bytes
-    ∙ ap (λ b. s.lines ++ findings_from b n (slice_split is_newline (unused ++ r.bytes))) (sym failed)
-    ∙ ap (λ l. s.lines ++ l) (last_found end n (unused ++ r.bytes) r.line left kept is_kept last r.ends r.no_newline k) in
+    let says : findings (not is_whole) (s.text ++ r.bytes) ≡ s.lines ++ finding_of_read n kept is_kept end = grind (arith, last_found, s.says (not is_whole) r.bytes) in
     record {
       text = s.text ++ r.bytes;
       reads = record {
         read = Consumes-trans _ _ _ _ _ s.read r.read;
-        whole = whole_at is_whole r2 (λ e. (reading.ended ∙ ap (λ b. b || r1.met_end) (whole ∙ e), r.at_end (whole ∙ e)));
-        failures = reading.failures ∙ ap (λ b. count_after b r1.failures) failed ∙ ap (count_after (not is_whole)) s.failures;
-        read_once = λ unmet. reading.past (s.met ∙ unmet) ∙ s.read_once unmet;
+        whole = whole_at is_whole r2 (grind arith);
+        failures = grind arith;
+        read_once = grind arith;
       };
-      reported = subst (IsReported out o2 after) (sym says) (more out s.lines s.reported);
+      reported = rw says (more out s.lines s.reported);
     }
 
 -- ---- the end of a report
@@ -193,7 +169,7 @@ pub reported_ends : (first old new : Seen) (before : Report) (lines : List (List
 reported_ends first old new before lines after true r written h = grind (arith, Appends-trans)
 reported_ends first old new before lines after false r written h = record {
   sent = length (flat lines) + h.sent;
-  within = omega (arith, h.within, length-append (flat lines) after);
+  within = grind (arith, length-append);
   taken = rw (take-append-add (flat lines) after h.sent) (Appends-trans _ _ _ _ _ (r.put.taken written) h.taken);
   failure = grind arith;
   flushes = grind (arith, nat_tests, length-append);

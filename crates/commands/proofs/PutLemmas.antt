@@ -1,5 +1,5 @@
 -- A text is written piece by piece.
-use Rattle.std.proofs.Common.{◌≡◌, ◌+◌, ℕ, Bool, true, false, not, List, [], ◌++◌, length, take, drop, Result, Ok, Err, refl, sym, ap, subst, ◌∙◌, arith, append_assoc}
+use Rattle.std.proofs.Common.{◌≡◌, ◌+◌, ℕ, Bool, true, false, List, [], ◌++◌, length, take, drop, Result, Ok, Err, refl, sym, ap, subst, ◌∙◌, arith, append_assoc}
 use Rattle.std.proofs.Common.{take-append-drop, length-append}
 use Rattle.std.proofs.lemmas.List.{take-append-le}
 use Rattle.std.proofs.Math.Seq.{take-append-add, take-length}
@@ -80,16 +80,6 @@ not_put old new text is_put p is = grind (arith, cut-unflushed)
 pub flushed_after : {T E : Type 0} (old mid new : Seen) (text : List ℕ) (is_put : Bool) (r : Result T E) → PuttingEnds is_put old mid text → is_put ≡ true
     → Keeps mid.taken new.taken → new.failures ≡ count_after (is_err r) mid.failures → new.flushes ≡ next_count mid.flushes
     → new.flushed ≡ flushed_after_flush mid.flushed r → WritingEnds (is_ok r) old new text
-flushed_after old mid new text is_put (Ok x) p is kept failure flush flushed = record {
-  taken = Appends-keeps old.taken mid.taken new.taken text (p.taken is) kept;
-  no_failure = failure ∙ p.failures ∙ ap (λ b. count_after (not b) old.failures) is;
-  flushes = flush ∙ ap next_count p.flushes;
-  flushed = flushed;
-}
-flushed_after old mid new text is_put (Err e) p is kept failure flush flushed = record {
-  sent = length text;
-  within = omega arith;
-  taken = rw (take-length text) (Appends-keeps old.taken mid.taken new.taken text (p.taken is) kept);
-  failure = failure ∙ ap next_count (p.failures ∙ ap (λ b. count_after (not b) old.failures) is);
-  flushes = flush ∙ ap next_count p.flushes ∙ sym (whole-flushed (length text) text old.flushes refl);
-}
+flushed_after old mid new text is_put (Ok x) p is kept failure flush flushed = grind (arith, Appends-keeps)
+flushed_after old mid new text is_put (Err e) p is kept failure flush flushed =
+    record { sent = length text; within = omega arith; taken = grind (arith, take-length, Appends-keeps); failure = grind arith; flushes = grind (arith, whole-flushed) }
