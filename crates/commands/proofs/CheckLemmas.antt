@@ -1,6 +1,5 @@
 -- The findings of a script, a line at a time.
-use Rattle.std.proofs.Common.{◌≡◌, ℕ, ◌+◌, ◌≤◌, ◌<◌, List, [], ◌∷◌, ◌++◌, length, Bool, true, false, not, Err, refl, ap, ◌∙◌, append-nil, append_assoc, length-append, arith}
-use Rattle.std.proofs.Common.{nat_lt, min, ◌==◌}
+use Rattle.std.proofs.Common.{◌≡◌, ℕ, ◌+◌, ◌<◌, List, [], ◌∷◌, ◌++◌, length, Bool, true, false, not, Err, refl, ap, ◌∙◌, append-nil, append_assoc, length-append, arith}
 use Rattle.std.proofs.lemmas.Bool.{both_ways, false_from_ne_true}
 use Rattle.std.proofs.lemmas.Bool.Decides.{nat_tests}
 use Rattle.std.proofs.lemmas.Grind.{flat_map-append}
@@ -35,11 +34,8 @@ flat lines = flat_map (λ line. line) lines
 flat_more : (lines : List (List ℕ)) (text : List ℕ) → flat (lines ++ text ∷ []) ≡ flat lines ++ text
 flat_more lines text = simp (flat_map-append, append-nil)
 
-min_more : (a m : ℕ) → min (min a m + 1) m ≡ min (a + 1) m
-min_more a m = grind (arith, nat_tests)
-
 count_more : (lines : List (List ℕ)) (text : List ℕ) → next_number (count_of lines) ≡ count_of (lines ++ text ∷ [])
-count_more lines text = grind (arith, min_more, length-append)
+count_more lines text = grind (arith, nat_tests, length-append)
 
 pub none_reported : (out : Seen) (report : Report) → report.is_written ≡ true → report.faulty ≡ 0 → IsReported out out report []
 none_reported out report written none = grind (arith, nothing_put)
@@ -65,12 +61,6 @@ line_first failed n line pieces some = grind arith
 line_of_script : (failed : Bool) (n : ℕ) (line left : List ℕ) → HasNoNewline line
     → findings_from failed n (slice_split is_newline (line ++ 10 ∷ left)) ≡ finding_of n line (parse_line line) ++ findings_from failed (next_number n) (slice_split is_newline left)
 line_of_script failed n line left h = grind (arith, slice_split_at, no_newlines, line_first, length-slice_split)
-
-long_test : (line : List ℕ) → LONGEST_LINE < length line → nat_lt LONGEST_LINE (length line) ≡ true
-long_test line h = grind (arith, nat_tests)
-
-short_test : (line : List ℕ) → length line ≤ LONGEST_LINE → nat_lt LONGEST_LINE (length line) ≡ false
-short_test line h = grind (arith, nat_tests)
 
 long_line : (line : List ℕ) → LONGEST_LINE < length line → parse_line line ≡ Err LineTooLong
 long_line line h = grind (arith, nat_tests)
@@ -160,9 +150,6 @@ checked input r1 r2 out o1 o2 unused left kept n before after is_kept is_whole e
 pub reported_fails : (first old : Seen) (before : Report) (lines : List (List ℕ)) (after : List ℕ) → IsReported first old before lines → before.is_written ≡ false
     → IsNotWritten first old (flat lines ++ after)
 reported_fails first old before lines after r written = grind (arith, not_put, cut_before)
-
-same_end : (a s b : ℕ) → (s == b) ≡ (a + s == a + b)
-same_end a s b = grind (arith, nat_tests)
 
 pub reported_ends : (first old new : Seen) (before : Report) (lines : List (List ℕ)) (after : List ℕ) (written : Bool) → IsReported first old before lines
     → before.is_written ≡ true → WritingEnds written old new after → WritingEnds written first new (flat lines ++ after)

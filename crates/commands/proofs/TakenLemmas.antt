@@ -143,11 +143,8 @@ abbrev first_byte : Text → ℕ
 first_byte [] = 0
 first_byte (byte ∷ bytes) = byte
 
-differ : (a b : Text) → (first_byte a == first_byte b) ≡ false → a ≡ b → ⊥
-differ a b other e = grind (arith, both_ways, eq-eqb)
-
 no_kind : (kind : Kind) → kind_text kind ≡ check_text → ⊥
-no_kind kind e = grind (arith, differ)
+no_kind kind e = grind (arith, both_ways, eq-eqb, ap first_byte e)
 
 named_kind : (words : List Text) (job : Job) → AsksIn (subcommand_of curspan words) job → NamesOne words → NamesKind words
 named_kind words job asked one = grind (arith, no_kind)
