@@ -1,5 +1,5 @@
 -- A run goes on by one call.
-use Rattle.std.proofs.Common.{◌≡◌, ℕ, ◌+◌, ◌≤◌, ◌++◌, List, [], ◌∷◌, length, take, drop, get_or, None, Some, ◌<◌, Ok, Err, refl, sym, ap, ◌∙◌, subst, count_by, sum_by, cond, add-zero}
+use Rattle.std.proofs.Common.{arith, ◌≡◌, ℕ, ◌+◌, ◌≤◌, ◌++◌, List, [], ◌∷◌, length, take, drop, get_or, None, Some, ◌<◌, Ok, Err, refl, sym, ap, ◌∙◌, subst, count_by, sum_by, cond, add-zero}
 use Rattle.std.proofs.Common.{append-nil, take-append-drop, take_all}
 use Rattle.std.proofs.lemmas.List.{drop_more, take_more}
 use Rattle.std.proofs.lemmas.List.Sums.{sum_by_push}
@@ -29,13 +29,7 @@ module _ {W : Type 0} (seen : W → Seen) where
 
   -- no call yet
   pub so_far_none : (old : ScreenOver W) → SoFar old [] old 0 0 0
-  so_far_none old = record {
-    outcomes = [];
-    makes = Makes-nothing seen old;
-    is_done = refl;
-    is_refused = refl;
-    is_composed = refl;
-  }
+  so_far_none old = record { outcomes = []; makes = Makes-nothing seen old; is_done = refl; is_refused = refl; is_composed = refl }
 
   -- one more call was accepted
   pub accepted_next : (old mid new : ScreenOver W) (calls : List Call) (d r c i : ℕ) (call : Call) (reply : Reply) → SoFar old (take i calls) mid d r c → i < length calls
