@@ -8,10 +8,7 @@ use Rattle.desk.proofs.StateLemmas.{is-kept}
 use Rattle.desk.specs.States.{IsWithin, state_of}
 use Rattle.script.specs.Words.{placeless}
 use Rattle.world.specs.declared.call.Call.{Call}
-use Rattle.world.specs.declared.call.Call.TheVariants.{Writing}
-use Rattle.world.specs.declared.call.Writing.TheVariants.{Addstr}
 use Rattle.world.specs.declared.call.Reply.{Reply}
-use Rattle.desk.specs.declared.screen.Fault.TheVariants.{Refused, Write}
 use Rattle.desk.specs.States.{ScreenOver}
 use Rattle.desk.specs.declared.screen.Fault.{Fault}
 use Rattle.desk.specs.Runs.{MayAnswer, state_after}

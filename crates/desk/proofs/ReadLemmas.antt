@@ -1,5 +1,5 @@
 -- How many cells a run reads.
-use Rattle.std.proofs.Common.{◌≡◌, ◌≤◌, ℕ, ◌+◌, List, [], ◌∷◌, Bool, false, Option, Some, None, Result, Ok, Err, refl, sym, subst, ap, ◌∙◌, sum_by, is_ok, arith}
+use Rattle.std.proofs.Common.{◌≡◌, ◌≤◌, ℕ, ◌+◌, List, [], ◌∷◌, Bool, false, Option, Result, Ok, refl, sym, subst, ap, ◌∙◌, sum_by, is_ok, arith}
 use Rattle.std.proofs.Math.Nat.{add-le-add}
 use Rattle.std.proofs.lemmas.List.Sums.{sum_by-cons}
 use Rattle.std.specs.Option.{option_map_or}

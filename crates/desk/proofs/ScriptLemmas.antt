@@ -1,6 +1,6 @@
 -- A script is run a line at a time.
 use Rattle.std.proofs.Common.{◌≡◌, ℕ, ◌≤◌, ◌<◌, List, [], ◌∷◌, ◌++◌, length, Bool, true, false, ◌||◌, take, Option, None, Some, Ok, Err, Result, refl, ap, subst, sym, ◌∙◌}
-use Rattle.std.proofs.Common.{append-nil, append_assoc, length-append, arith, nat_lt, is_some, not, if◌then◌else◌, inl, inr}
+use Rattle.std.proofs.Common.{append-nil, append_assoc, length-append, arith, nat_lt, is_some, not, if◌then◌else◌}
 use Rattle.std.proofs.lemmas.Bool.{false_from_ne_true, or_parts}
 use Rattle.std.proofs.lemmas.Bool.Decides.{nat_tests}
 use Rattle.world.specs.declared.call.Call.TheVariants.{Refresh}
@@ -29,7 +29,6 @@ use Rattle.desk.proofs.ShowingLemmas.{cut-keeps_size, makes-keep_size, shows-bro
 use Rattle.script.specs.Readings.{Reading, before_others, ends_with, next_number, reading, reading_of, parse_line}
 use Rattle.script.specs.Characters.{is_newline}
 use Rattle.script.specs.steps.Bytes.{HasNoNewline, ReadsLine}
-use Rattle.script.specs.Log.{log_line}
 use Rattle.desk.specs.ScriptEnds.{FlushFails, FlushSucceeds, LineEnds, LineStops, LogCloses, Logs, MayFollow, RunsLines, ScriptEnds, ScriptStops, calls_of, log_failed, log_lines, log_text}
 use Rattle.desk.specs.ScriptEnds.{numbered_call, write_fault}
 use Rattle.world.specs.declared.call.Call.{Call}

@@ -1,5 +1,5 @@
 -- No call of a run sends more than its bound.
-use Rattle.std.proofs.Common.{◌≡◌, ◌≤◌, ℕ, List, [], ◌∷◌, length, Result, Ok, Err, ap, arith}
+use Rattle.std.proofs.Common.{◌≡◌, ◌≤◌, ℕ, List, [], ◌∷◌, length, Result, Ok, Err, arith}
 use Rattle.cell.specs.declared.refusal.Refusal.{Refusal}
 use Rattle.desk.specs.States.{State}
 use Rattle.desk.specs.Runs.{Outcome, AreShort, MayAnswer, Run, most_sent, state_after}

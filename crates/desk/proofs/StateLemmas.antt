@@ -1,18 +1,18 @@
 -- States with more lines damaged: the outcomes that calls may have in one, they may have in the other.
-use Rattle.std.proofs.Common.{◌≡◌, ◌≤◌, ℕ, ◌||◌, if◌then◌else◌, Bool, true, false, cond, List, [], ◌∷◌, Some, Result, Ok, Err, ap, refl, sym, subst, ◌∙◌, arith}
+use Rattle.std.proofs.Common.{◌≡◌, ◌≤◌, ℕ, ◌||◌, if◌then◌else◌, Bool, true, false, cond, List, [], ◌∷◌, Result, Ok, Err, subst, arith}
 use Rattle.std.proofs.Math.Nat.{mul-le-mul_right}
 use Rattle.std.proofs.lemmas.List.Sums.{sum_by-le-sum_by}
-use Rattle.std.specs.List.{count_by, range_with_len}
+use Rattle.std.specs.List.{count_by}
 use Rattle.cell.specs.declared.refusal.Refusal.{Refusal}
 use Rattle.paint.specs.Updates.{PainterState}
 use Rattle.world.specs.Sound.{IsSound}
 use Rattle.world.specs.World.{World}
-use Rattle.world.specs.calls.Affected.{affected_after, affected_lines}
-use Rattle.world.specs.calls.Dispatch.{is_doupdate, is_update_panels}
+use Rattle.world.specs.calls.Affected.{affected_after}
+use Rattle.world.specs.calls.Dispatch.{is_doupdate}
 use Rattle.compose.specs.Calling.{MayRead}
 use Rattle.paint.specs.declared.changes.Stretch.{Stretch}
 use Rattle.compose.specs.Desks.{DeskTable, world}
-use Rattle.desk.specs.States.{HasOneSize, IsScreen, IsWithin, ScreenOver, State, after, state_of, wanted}
+use Rattle.desk.specs.States.{HasOneSize, IsScreen, IsWithin, ScreenOver, State, after, state_of}
 use Rattle.desk.specs.Runs.{MayAnswer, Outcome, Run, state_after, state_at_end}
 use Rattle.world.specs.declared.call.Call.{Call}
 use Rattle.world.specs.declared.call.Call.TheVariants as calls

@@ -1,18 +1,18 @@
 -- In which columns calls change the virtual screen.
-use Rattle.std.proofs.Common.{◌≡◌, ℕ, ◌+◌, ◌-◌, ◌<◌, ◌≤◌, ◌&&◌, Bool, true, false, inl, inr, nat_le, nat_lt, List, length, max, min, set, MatchOption, Option, Some, None, Result, Ok, Err, refl}
-use Rattle.std.proofs.Common.{sym, ap, ◌∙◌, subst, arith}
+use Rattle.std.proofs.Common.{◌≡◌, ℕ, ◌+◌, ◌-◌, ◌<◌, ◌≤◌, ◌&&◌, Bool, false, nat_le, nat_lt, List, length, max, min, set, MatchOption, Option, Some, None, Result, Ok, Err}
+use Rattle.std.proofs.Common.{sym, ap, ◌∙◌, arith}
 use Rattle.std.specs.Option.{option_and_then, option_map_or}
 use Rattle.std.proofs.lemmas.Bool.{cases_lt}
 use Rattle.std.proofs.lemmas.Bool.Decides.{nat_tests}
 use Rattle.cell.specs.Pictures.{HasSize, Picture, origin, picture_of, shown_at}
-use Rattle.cell.specs.Shown.{Shown, shown_blank}
+use Rattle.cell.specs.Shown.{Shown}
 use Rattle.cell.proofs.PictureLemmas.{HasSize-lines_from, cell_or-lines_from}
 use Rattle.paint.specs.Changes.{is_in, join, may_change, stretch_of}
 use Rattle.paint.specs.declared.changes.Stretch.{Stretch}
 use Rattle.paint.proofs.Changed.{not-added, not-before, out-of}
 use Rattle.paint.proofs.Copying.{same-outside}
-use Rattle.std.specs.Prelude.{⊤, if◌then◌else◌}
-use Rattle.world.specs.Panels.{cell_on_screen, holds_place, screen_place}
+use Rattle.std.specs.Prelude.{⊤}
+use Rattle.world.specs.Panels.{holds_place, screen_place}
 use Rattle.cell.specs.declared.refusal.Refusal.{Refusal}
 use Rattle.compose.specs.Calling.{Called}
 use Rattle.compose.specs.Desks.{DeskTable, world}
