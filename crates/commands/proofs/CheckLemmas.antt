@@ -1,6 +1,5 @@
 -- The findings of a script, a line at a time.
-use Rattle.std.proofs.Common.{◌≡◌, ℕ, ◌+◌, ◌≤◌, ◌<◌, List, [], ◌∷◌, ◌++◌, length, Bool, true, false, ◌||◌, not, Err, refl, ap, subst, sym, ◌∙◌, append-nil, append_assoc, length-append, arith}
-use Rattle.std.proofs.Common.{nat_lt, min, ◌==◌}
+use Rattle.std.proofs.Common.{◌≡◌, ℕ, ◌+◌, ◌<◌, List, [], ◌∷◌, ◌++◌, length, Bool, true, false, not, Err, refl, ap, ◌∙◌, append-nil, append_assoc, length-append, arith}
 use Rattle.std.proofs.lemmas.Bool.{both_ways, false_from_ne_true}
 use Rattle.std.proofs.lemmas.Bool.Decides.{nat_tests}
 use Rattle.std.proofs.lemmas.Grind.{flat_map-append}
@@ -10,13 +9,12 @@ use Rattle.std.proofs.Math.Seq.{take-append-add}
 use Rattle.std.proofs.KnownBytes.{Appends-trans, Consumes-nil, Consumes-trans}
 use Rattle.std.specs.List.{All, flat_map, slice_split}
 use Rattle.std.specs.Io.KnownBytes.{Consumes, IsAtEnd}
-use Rattle.streams.specs.Counts.{count_after, next_count}
 use Rattle.streams.specs.Sinks.{Seen}
 use Rattle.streams.specs.Sources.{SourceSeen}
 use Rattle.script.specs.Characters.{is_newline}
 use Rattle.script.specs.Readings.{next_number, parse_line}
 use Rattle.script.specs.declared.bytes.LineEnd.{LineEnd}
-use Rattle.script.specs.declared.bytes.LineEnd.TheVariants.{Newline, ScriptEnd, ReadFailed}
+use Rattle.script.specs.declared.bytes.LineEnd.TheVariants.{Newline, ReadFailed}
 use Rattle.script.specs.declared.fault.TextFault.TheVariants.{LineTooLong}
 use Rattle.script.specs.declared.limits.TheConstants.{LONGEST_LINE}
 use Rattle.script.specs.steps.Bytes.{EndsLine, HasNoNewline, IsKept, ReadingEnds, ReadsToEnd, end_failed, has_newline, met_end}
@@ -34,13 +32,10 @@ abbrev flat : List (List ℕ) → List ℕ
 flat lines = flat_map (λ line. line) lines
 
 flat_more : (lines : List (List ℕ)) (text : List ℕ) → flat (lines ++ text ∷ []) ≡ flat lines ++ text
-flat_more lines text = flat_map-append _ lines (text ∷ []) ∙ ap (λ l. flat lines ++ l) (append-nil text)
-
-min_more : (a m : ℕ) → min (min a m + 1) m ≡ min (a + 1) m
-min_more a m = grind (arith, nat_tests)
+flat_more lines text = simp (flat_map-append, append-nil)
 
 count_more : (lines : List (List ℕ)) (text : List ℕ) → next_number (count_of lines) ≡ count_of (lines ++ text ∷ [])
-count_more lines text = min_more (length lines) 18446744073709551615 ∙ ap (λ n. min n 18446744073709551615) (sym (length-append lines (text ∷ [])))
+count_more lines text = grind (arith, nat_tests, length-append)
 
 pub none_reported : (out : Seen) (report : Report) → report.is_written ≡ true → report.faulty ≡ 0 → IsReported out out report []
 none_reported out report written none = grind (arith, nothing_put)
@@ -48,53 +43,35 @@ none_reported out report written none = grind (arith, nothing_put)
 pub line_reported : (first old new : Seen) (before : Report) (lines : List (List ℕ)) (text : List ℕ) (faulty : ℕ) (is_put : Bool) → IsReported first old before lines
     → before.is_written ≡ true → faulty ≡ next_number before.faulty → PuttingEnds is_put old new text
     → IsReported first new (record { faulty = faulty; is_written = is_put }) (lines ++ text ∷ [])
-line_reported first old new before lines text faulty is_put r written more p = record {
-  put = rw (flat_more lines text) (put_after _ _ _ _ _ _ _ r.put written p);
-  faulty = more ∙ ap next_number r.faulty ∙ count_more lines text;
-}
+line_reported first old new before lines text faulty is_put r written more p = record { put = rw (flat_more lines text) (put_after _ _ _ _ _ _ _ r.put written p); faulty = grind (arith, count_more) }
 
 pub line_dropped : (first old : Seen) (before : Report) (lines : List (List ℕ)) (text : List ℕ) (faulty : ℕ) → IsReported first old before lines → before.is_written ≡ false
     → faulty ≡ next_number before.faulty → IsReported first old (record { faulty = faulty; is_written = false }) (lines ++ text ∷ [])
-line_dropped first old before lines text faulty r written more = record {
-  put = rw (flat_more lines text) (cut_before _ _ _ _ _ r.put written);
-  faulty = more ∙ ap next_number r.faulty ∙ count_more lines text;
-}
+line_dropped first old before lines text faulty r written more = record { put = rw (flat_more lines text) (cut_before _ _ _ _ _ r.put written); faulty = grind (arith, count_more) }
 
 -- ---- lines that are read
 
 no_newlines : (line : List ℕ) → HasNoNewline line → All (λ b. is_newline b ≡ false) line
-no_newlines line h = λ k d lt. false_from_ne_true _ (λ e. both_ways _ h (list_any_at is_newline line k d lt e))
+no_newlines line h = grind (arith, false_from_ne_true, both_ways, list_any_at)
 
 line_first : (failed : Bool) (n : ℕ) (line : List ℕ) (pieces : List (List ℕ)) → 0 < length pieces
     → findings_from failed n (line ∷ pieces) ≡ finding_of n line (parse_line line) ++ findings_from failed (next_number n) pieces
-line_first failed n line [] some = absurd (omega arith)
-line_first true n line (p ∷ ps) some = refl
-line_first false n line (p ∷ ps) some = refl
+line_first failed n line pieces some = grind arith
 
 line_of_script : (failed : Bool) (n : ℕ) (line left : List ℕ) → HasNoNewline line
     → findings_from failed n (slice_split is_newline (line ++ 10 ∷ left)) ≡ finding_of n line (parse_line line) ++ findings_from failed (next_number n) (slice_split is_newline left)
 line_of_script failed n line left h = grind (arith, slice_split_at, no_newlines, line_first, length-slice_split)
 
-long_test : (line : List ℕ) → LONGEST_LINE < length line → nat_lt LONGEST_LINE (length line) ≡ true
-long_test line h = grind (arith, nat_tests)
-
-short_test : (line : List ℕ) → length line ≤ LONGEST_LINE → nat_lt LONGEST_LINE (length line) ≡ false
-short_test line h = grind (arith, nat_tests)
-
 long_line : (line : List ℕ) → LONGEST_LINE < length line → parse_line line ≡ Err LineTooLong
-long_line line h = rw (long_test line h) refl
+long_line line h = grind (arith, nat_tests)
 
 -- the finding of a line, kept or not, is by what it says
 found_is : (n : ℕ) (line kept : List ℕ) (is_kept : Bool) (end : LineEnd) → IsKept is_kept line kept → end_failed end ≡ false
     → finding_of_read n kept is_kept end ≡ finding_of n line (parse_line line)
-found_is n line kept true Newline k e = ap (λ l. finding_of n l (parse_line l)) k.0
-found_is n line kept true ScriptEnd k e = ap (λ l. finding_of n l (parse_line l)) k.0
-found_is n line kept is_kept ReadFailed k e = cc
-found_is n line kept false end k e = sym (ap (finding_of n line) (long_line line k))
+found_is n line kept is_kept end k e = grind (arith, long_line)
 
 found_is_rest : (n : ℕ) (line kept : List ℕ) (is_kept : Bool) → IsKept is_kept line kept → finding_of_read n kept is_kept ReadFailed ≡ finding_of_rest n line
-found_is_rest n line kept true k = rw (short_test line k.1) refl
-found_is_rest n line kept false k = rw (long_test line k) refl
+found_is_rest n line kept is_kept k = grind (arith, nat_tests)
 
 -- The findings of the lines of a script that were read, and what is left of it.
 pub record Checking (input rest : SourceSeen) (out after : Seen) (unused : List ℕ) (number : ℕ) (report : Report) : Type 0 where
@@ -128,44 +105,27 @@ pub checking_next : (input r1 r2 : SourceSeen) (out o1 o2 : Seen) (unused left k
     → Checking input r1 out o1 unused n before → (r : ReadsToEnd r1 r2 unused left end) → IsKept is_kept r.line kept → end ≡ Newline
     → LineReadingEnds r1 r2 unused left end
     → ReportsMore o1 o2 before after (finding_of_read n kept is_kept end) → Checking input r2 out o2 left (next_number n) after
-checking_next input r1 r2 out o1 o2 unused left kept n before after is_kept end s r k is reading more =
-    let all : unused ++ r.bytes ≡ r.line ++ 10 ∷ left = rw is at r.ends in
-    let same = found_is n r.line kept is_kept end k (ap end_failed is) in
-    record {
-      text = s.text ++ r.bytes;
-      lines = s.lines ++ finding_of_read n kept is_kept end;
-      read = Consumes-trans _ _ _ _ _ s.read r.read;
-      met = reading.ended ∙ ap (λ e. met_end e || r1.met_end) is ∙ s.met;
-      read_once = λ unmet. reading.past (s.met ∙ unmet) ∙ s.read_once unmet;
-      failures = reading.failures ∙ ap (λ e. count_after (end_failed e) r1.failures) is ∙ s.failures;
-      reported = more out s.lines s.reported;
-      says = λ failed m.
-          ap (findings failed) (append_assoc s.text r.bytes m) ∙ s.says failed (r.bytes ++ m)
-          ∙ ap (λ l. s.lines ++ findings_from failed n (slice_split is_newline l)) (sym (append_assoc unused r.bytes m) ∙ ap (λ l. l ++ m) all ∙ append_assoc r.line (10 ∷ left) m)
-          ∙ ap (λ l. s.lines ++ l) (line_of_script failed n r.line (left ++ m) r.no_newline)
-          ∙ ap (λ l. s.lines ++ (l ++ findings_from failed (next_number n) (slice_split is_newline (left ++ m)))) (sym same)
-          ∙ sym (append_assoc s.lines (finding_of_read n kept is_kept end) (findings_from failed (next_number n) (slice_split is_newline (left ++ m))));
-    }
+checking_next input r1 r2 out o1 o2 unused left kept n before after is_kept end s r k is reading more = record {
+  text = s.text ++ r.bytes;
+  lines = s.lines ++ finding_of_read n kept is_kept end;
+  read = Consumes-trans _ _ _ _ _ s.read r.read;
+  met = grind arith;
+  read_once = grind arith;
+  failures = grind arith;
+  reported = more out s.lines s.reported;
+  says = λ failed m. grind (arith, append_assoc, found_is, s.says failed (r.bytes ++ m), line_of_script failed n r.line (left ++ m) r.no_newline);
+}
 
 -- the findings of the last line
 last_found : (end : LineEnd) (n : ℕ) (all line left kept : List ℕ) (is_kept : Bool) → has_newline end ≡ false → EndsLine end all line left → HasNoNewline line → IsKept is_kept line kept
     → findings_from (end_failed end) n (slice_split is_newline all) ≡ finding_of_read n kept is_kept end
-last_found Newline n all line left kept is_kept last e h k = cc
-last_found ScriptEnd n all line left kept is_kept last e h k =
-    ap (λ l. findings_from false n (slice_split is_newline l)) e.0 ∙ ap (findings_from false n) (slice_split_none is_newline line (no_newlines line h))
-    ∙ append-nil (finding_of n line (parse_line line)) ∙ sym (found_is n line kept is_kept ScriptEnd k refl)
-last_found ReadFailed n all line left kept is_kept last e h k =
-    ap (λ l. findings_from true n (slice_split is_newline l)) e.0 ∙ ap (findings_from true n) (slice_split_none is_newline line (no_newlines line h))
-    ∙ sym (found_is_rest n line kept is_kept k)
+last_found end n all line left kept is_kept last e h k = grind (arith, slice_split_none, no_newlines, append-nil, found_is, found_is_rest)
 
 failed_unless_whole : (end : LineEnd) → has_newline end ≡ false → end_failed end ≡ not (met_end end)
-failed_unless_whole Newline last = cc
-failed_unless_whole ScriptEnd last = refl
-failed_unless_whole ReadFailed last = refl
+failed_unless_whole end last = grind arith
 
 whole_at : (is_whole : Bool) (seen : SourceSeen) → (is_whole ≡ true → (seen.met_end ≡ true) × IsAtEnd seen.left) → IsWholeAt is_whole seen
-whole_at true seen h = h refl
-whole_at false seen h = tt
+whole_at is_whole seen h = grind arith
 
 pub checked : (input r1 r2 : SourceSeen) (out o1 o2 : Seen) (unused left kept : List ℕ) (n : ℕ) (before after : Report) (is_kept is_whole : Bool) (end : LineEnd)
     → Checking input r1 out o1 unused n before → (r : ReadsToEnd r1 r2 unused left end) → IsKept is_kept r.line kept → has_newline end ≡ false → met_end end ≡ is_whole
@@ -173,19 +133,16 @@ pub checked : (input r1 r2 : SourceSeen) (out o1 o2 : Seen) (unused left kept : 
     → ReportsMore o1 o2 before after (finding_of_read n kept is_kept end) → ReportsScript input r2 out o2 is_whole after
 checked input r1 r2 out o1 o2 unused left kept n before after is_kept is_whole end s r k last whole reading more =
     let failed : end_failed end ≡ not is_whole = failed_unless_whole end last ∙ ap not whole in
-    let says : findings (not is_whole) (s.text ++ r.bytes) ≡ s.lines ++ finding_of_read n kept is_kept end =
-    s.says (not is_whole) r.bytes
-    ∙ ap (λ b. s.lines ++ findings_from b n (slice_split is_newline (unused ++ r.bytes))) (sym failed)
-    ∙ ap (λ l. s.lines ++ l) (last_found end n (unused ++ r.bytes) r.line left kept is_kept last r.ends r.no_newline k) in
+    let says : findings (not is_whole) (s.text ++ r.bytes) ≡ s.lines ++ finding_of_read n kept is_kept end = grind (arith, last_found, s.says (not is_whole) r.bytes) in
     record {
       text = s.text ++ r.bytes;
       reads = record {
         read = Consumes-trans _ _ _ _ _ s.read r.read;
-        whole = whole_at is_whole r2 (λ e. (reading.ended ∙ ap (λ b. b || r1.met_end) (whole ∙ e), r.at_end (whole ∙ e)));
-        failures = reading.failures ∙ ap (λ b. count_after b r1.failures) failed ∙ ap (count_after (not is_whole)) s.failures;
-        read_once = λ unmet. reading.past (s.met ∙ unmet) ∙ s.read_once unmet;
+        whole = whole_at is_whole r2 (grind arith);
+        failures = grind arith;
+        read_once = grind arith;
       };
-      reported = subst (IsReported out o2 after) (sym says) (more out s.lines s.reported);
+      reported = rw says (more out s.lines s.reported);
     }
 
 -- ---- the end of a report
@@ -194,18 +151,15 @@ pub reported_fails : (first old : Seen) (before : Report) (lines : List (List �
     → IsNotWritten first old (flat lines ++ after)
 reported_fails first old before lines after r written = grind (arith, not_put, cut_before)
 
-same_end : (a s b : ℕ) → (s == b) ≡ (a + s == a + b)
-same_end a s b = grind (arith, nat_tests)
-
 pub reported_ends : (first old new : Seen) (before : Report) (lines : List (List ℕ)) (after : List ℕ) (written : Bool) → IsReported first old before lines
     → before.is_written ≡ true → WritingEnds written old new after → WritingEnds written first new (flat lines ++ after)
 reported_ends first old new before lines after true r written h = grind (arith, Appends-trans)
 reported_ends first old new before lines after false r written h = record {
   sent = length (flat lines) + h.sent;
-  within = omega (arith, h.within, length-append (flat lines) after);
+  within = grind (arith, length-append);
   taken = rw (take-append-add (flat lines) after h.sent) (Appends-trans _ _ _ _ _ (r.put.taken written) h.taken);
-  failure = h.failure ∙ ap next_count (r.put.failures ∙ ap (λ b. count_after (not b) first.failures) written);
-  flushes = grind (arith, same_end, length-append);
+  failure = grind arith;
+  flushes = grind (arith, nat_tests, length-append);
 }
 
 -- with how many lines after them

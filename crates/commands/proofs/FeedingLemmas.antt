@@ -1,5 +1,5 @@
 -- A stream is read into a terminal piece by piece.
-use Rattle.std.proofs.Common.{◌≡◌, ℕ, Bool, false, true, List, ◌++◌, refl, subst, append_assoc}
+use Rattle.std.proofs.Common.{◌≡◌, ℕ, Bool, false, true, List, ◌++◌, subst, append_assoc, arith}
 use Rattle.std.proofs.lemmas.Bool.{ne_eqb}
 use Rattle.std.specs.Prelude.{◌||◌, if◌then◌else◌}
 use Rattle.std.proofs.KnownBytes.{Consumes-trans}
@@ -25,8 +25,7 @@ more_fed old mid new before between after piece fed read follows = record {
 -- ---- a read that gave some bytes
 
 pub not_ended : (n : ℕ) (met : Bool) (buffer : List ℕ) → (n ≡ 0 → ⊥) → (if moved_nothing n buffer then true else met) ≡ met
-not_ended n met buffer h = rw (ne_eqb n 0 h) refl
+not_ended n met buffer h = grind (arith, ne_eqb)
 
 pub not_past : (past met : Bool) → met ≡ false → (past || met) ≡ past
-not_past true met e = refl
-not_past false met e = e
+not_past past met e = grind arith

@@ -1,5 +1,5 @@
 -- What clap says of this program's command line, and of the number of an option.
-use Rattle.std.proofs.Common.{◌≡◌, ℕ, List, [], Option, None, Some, Ok, Result, true, false, refl, sym, ap, ap₂, subst, ◌∙◌, arith}
+use Rattle.std.proofs.Common.{◌≡◌, ℕ, List, [], Option, None, Some, Ok, Result, true, false, refl, sym, ap, subst, ◌∙◌, arith}
 use Rattle.std.specs.Prelude.{MatchOption}
 use Rattle.std.specs.Str.Parse.{ParsesUnsigned}
 use Rattle.clap.specs.Words.{AddsSubcommand, App, HasKind, HasMatchesOf, Row, Text, app_of, fault_of, is_simple, is_simple_and_free, one_of, one_text, rows_of, subcommand_of, subcommand_rows_of}
@@ -25,7 +25,7 @@ curspan_is_free = refl
 -- what a subcommand adds to an application
 pub subcommand_added : (old sub new : Command) (a s : App) → app_of old ≡ a → app_of sub ≡ s → (out-Command sub).has_globals ≡ false → AddsSubcommand old sub new
     → app_of new ≡ with_subcommand a s.top
-subcommand_added old sub new a s old_is sub_is local adds = adds.shape local ∙ ap₂ with_subcommand old_is (ap (λ (x : App). x.top) sub_is)
+subcommand_added old sub new a s old_is sub_is local adds = grind arith
 
 -- what clap says of its errors, of this program's command line
 pub kinds_of_curspan : (a : App) (words : List Text) (e : Error) → a ≡ curspan → (is_simple_and_free a ≡ true → HasKind (fault_of a words) e)
@@ -37,7 +37,7 @@ no_fault_of_curspan a words is none = subst (λ b. fault_of b words ≡ []) is (
 
 -- the subcommand of its matches
 pub subcommand_of_curspan : (a : App) (words : List Text) (m : ArgMatches) → a ≡ curspan → HasMatchesOf a words m → subcommand_rows_of m ≡ subcommand_of curspan words
-subcommand_of_curspan a words m is has = (has (ap is_simple is ∙ curspan_is_simple)).1 ∙ ap (λ b. subcommand_of b words) is
+subcommand_of_curspan a words m is has = grind (arith, curspan_is_simple)
 
 module _ {E : Type 0} (gives : List ℕ → Result ℕ E → Type 0) (reads : (t : List ℕ) (r : Result ℕ E) → gives t r → ParsesUnsigned {E = E} 16 10 t r) where
   -- what was read of an option
@@ -56,4 +56,4 @@ module _ {E : Type 0} (gives : List ℕ → Result ℕ E → Type 0) (reads : (t
   -- what `get_one` reads
   pub number_read : (f : Found) (id : Text) (r : Option ℕ) → (one_text f id ≡ None → r ≡ None) → ((t : List ℕ) → one_text f id ≡ Some t → ReadsOne gives t r)
       → IsRead id (rows_of f) r
-  number_read f id r none value = number_of_text id (rows_of f) (one_text f id) r (sym (one_text-rows f id)) none value
+  number_read f id r none value = grind (arith, number_of_text, one_text-rows)

@@ -1,5 +1,5 @@
 -- Where clap refuses nothing of the words, each row that a subcommand's options leave holds a size of a screen.
-use Rattle.std.proofs.Common.{◌≡◌, ◌⊎◌, ◌++◌, ◌&&◌, ℕ, zero, suc, Bool, true, false, cond, List, [], ◌∷◌, drop, length, Option, Some, None, is_some, refl, sym, ap, subst, inl, inr}
+use Rattle.std.proofs.Common.{◌≡◌, ◌⊎◌, ◌++◌, ◌&&◌, ℕ, zero, suc, Bool, true, false, cond, List, [], ◌∷◌, drop, length, Option, Some, None, is_some, refl, sym, ap, subst, inl, inr, arith}
 use Rattle.std.specs.Prelude.{IfSome, encode_utf8, find, fold, pos, slice_get}
 use Rattle.std.specs.List.{All}
 use Rattle.std.specs.Option.{option_map_or}
@@ -8,14 +8,14 @@ use Rattle.std.proofs.lemmas.List.Elements.{All-append, All-cons, All-head, All-
 use Rattle.cell.specs.declared.limits.TheConstants.{LARGEST_SCREEN}
 use Rattle.clap.specs.Faults.{action_fault, bundle_fault, bundle_step_fault, check_fault, flag_word_fault, flags_fault, level_fault, long_fault, option_fault, other_fault, positional_fault}
 use Rattle.clap.specs.Faults.{react_fault, set_fault, settle_fault, short_fault, step_fault, stray_fault, turn_fault, use_fault, walk_fault, word_fault}
-use Rattle.clap.specs.Kinds.{Kinds, or_else, range_kinds, value_kinds}
+use Rattle.clap.specs.Kinds.{Kinds, or_else, value_kinds}
 use Rattle.clap.specs.Lexer.{long_of, short_of}
 use Rattle.clap.specs.Facts.{parser_of_value, unwrap_or_range}
 use Rattle.clap.specs.Simple.{Shape}
 use Rattle.clap.specs.ValueTests.{accepts}
 use Rattle.clap.specs.Values.{reading_of}
 use Rattle.clap.specs.Walk.{Held, Names, Outcome, Row, Rule, Step, Text, Waiting, Walk, action_of, after_flag, after_step, arg_by_id, arg_by_index, arg_by_long, arg_by_short, at_row}
-use Rattle.clap.specs.Walk.{attached_value, bundle_met, bundle_step, default_rows, done, finished, flag_met, has_row, idle, is_pending, long_met, long_or_other, more_values, most_values, next}
+use Rattle.clap.specs.Walk.{attached_value, bundle_met, bundle_step, done, finished, flag_met, has_row, idle, is_pending, long_met, long_or_other, more_values, next}
 use Rattle.clap.specs.Walk.{nothing_held, option, option_met, option_word, plain, plain_word, positional, reacted, reading_by, refused, settled, settled_rows, short_met, short_or_plain}
 use Rattle.clap.specs.Walk.{subcommand, subcommand_met, subcommand_or_other, takes_several, takes_values, to_positional, trailing, used, used_as, used_by_id, value, waits, walk, walk_from}
 use Rattle.clap.specs.Walk.{walked, walked_from, with_default, with_values, without, word_met}
@@ -51,21 +51,18 @@ abbrev pub HasSizes : List Row → Type 0
 HasSizes = All IsSizeRow
 
 pub both_none : (a b : Kinds) → or_else a b ≡ [] → (a ≡ []) × (b ≡ [])
-both_none [] b e = (refl, e)
-both_none (k ∷ ks) b e = cc
+both_none a b e = grind arith
 
 accepted : (b : Bool) (k : ErrorKind) → cond b [] (k ∷ []) ≡ [] → b ≡ true
-accepted true k e = refl
-accepted false k e = cc
+accepted b k e = grind arith
 
 module _ (P : Row → Type 0) (id : Text) (change : Row → List Row) (missing : List Row) (changed : (r : Row) → P r → All P (change r)) (new : All P missing) where
   all_at_row : (rows : List Row) → All P rows → All P (at_row id change missing rows)
   all_at_row [] h = new
-  all_at_row (r ∷ rs) h = go (bytes_eq r.id id) (all_at_row rs (All-tail P r rs h))
-    where
-      go : (b : Bool) → All P (at_row id change missing rs) → All P (cond b (change r ++ rs) (r ∷ at_row id change missing rs))
-      go true rest = All-append P (change r) rs (changed r (All-head P r rs h)) (All-tail P r rs h)
-      go false rest = All-cons P r _ (All-head P r rs h) rest
+  all_at_row (r ∷ rs) h = elim (bytes_eq r.id id) as (λ b. All P (cond b (change r ++ rs) (r ∷ at_row id change missing rs))) [
+    | true ↦ All-append P (change r) rs (changed r (All-head P r rs h)) (All-tail P r rs h)
+    | false ↦ All-cons P r _ (All-head P r rs h) (all_at_row rs (All-tail P r rs h))
+  ]
 
 one_row : (r : Row) → IsSizeRow r → HasSizes (r ∷ [])
 one_row r h = All-cons IsSizeRow r [] h (All-nil IsSizeRow)
@@ -73,10 +70,7 @@ one_row r h = All-cons IsSizeRow r [] h (All-nil IsSizeRow)
 -- ---- one use of an option
 
 used_size : (a : Rule) (again : Bool) (values : List Text) (rows : List Row) → IsSizeRule a → use_fault again a values rows ≡ [] → HasSizes rows → HasSizes (used a values rows)
-used_size a again [] rows s none h =
-    let range : range_kinds (unwrap_or_range a.range).start_inclusive (most_values a) 0 ≡ [] = (both_none _ _ none).0 in
-    let bad : kind.InvalidValue ∷ [] ≡ [] = rw s.least at range in
-    cc
+used_size a again [] rows s none h = grind (arith, both_none)
 used_size a again (v ∷ vs) rows s none h =
     let acts : action_fault (action_of a) again a (v ∷ vs) rows ≡ [] = (both_none _ _ none).1 in
     let set : set_fault again a (v ∷ vs) rows ≡ [] = rw s.action at acts in
@@ -86,32 +80,18 @@ used_size a again (v ∷ vs) rows s none h =
     record { first = v; others = vs; values = refl; reading = ap reading_of s.parser; passes = passes } in
     let gone = all_at_row IsSizeRow a.id (λ r. []) [] (λ r k. All-nil IsSizeRow) (All-nil IsSizeRow) rows h in
     let kept : HasSizes (with_values a.id (reading_by a) CommandLine (v ∷ vs) (without a.id rows)) =
-    all_at_row IsSizeRow a.id (more_values CommandLine (v ∷ vs)) _ (λ r k. one_row _ (record {
-      first = k.first;
-      others = k.others ++ v ∷ vs;
-      values = ap
-          (λ l. l ++ v ∷ vs) k.values;
-      reading = k.reading;
-      passes = k.passes;
-    }))
+    all_at_row IsSizeRow a.id (more_values CommandLine (v ∷ vs)) _
+    (λ r k. one_row _ (record { first = k.first; others = k.others ++ v ∷ vs; values = ap (λ l. l ++ v ∷ vs) k.values; reading = k.reading; passes = k.passes }))
     (one_row _ fresh) (without a.id rows) gone in
     subst (λ x. HasSizes (used_as x a.id (reading_by a) (v ∷ vs) rows)) (sym s.action) kept
 
 used_known : (a : Rule) (again : Bool) (values : List Text) (rows : List Row) → IsKnownRule a → use_fault again a values rows ≡ [] → HasSizes rows → HasSizes (used a values rows)
-used_known a again values rows k none h = go k.0
-  where
-    go : IsSizeRule a ⊎ (action_of a ≡ Help) → HasSizes (used a values rows)
-    go (inl s) = used_size a again values rows s none h
-    go (inr e) = rw e h
+used_known a again values rows k none h = elim k.0 [ inl s ↦ used_size a again values rows s none h | inr e ↦ rw e h ]
 
 module _ {X : Type 0} (P : X → Type 0) where
   pub found : (xs : List X) → All P xs → (test : X → Bool) → IfSome (find test xs) P
   found [] h test = tt
-  found (x ∷ xs) h test = go (test x) (found xs (All-tail P x xs h) test)
-    where
-      go : (b : Bool) → IfSome (find test xs) P → IfSome (cond b (Some x) (find test xs)) P
-      go true rest = All-head P x xs h
-      go false rest = rest
+  found (x ∷ xs) h test = grind (arith, All-head, (found xs (All-tail P x xs h) test))
 
 -- ---- the words of one level
 
@@ -124,11 +104,7 @@ pub record PassesLevel (s : Shape) (names : Names) (words : List Text) (has_subc
 
 pub level_passes : (s : Shape) (names : Names) (words : List Text) (has_subcommand : Bool) (below : Kinds) → level_fault s names nothing_held words has_subcommand below ≡ []
     → PassesLevel s names words has_subcommand below
-level_passes s names words has_subcommand below none =
-    let first = both_none _ _ none in
-    let second = both_none _ _ first.1 in
-    let third = both_none _ _ second.1 in
-    record { walks = first.0; below_passes = second.0; settles = third.0; checks = (both_none _ _ third.1).1 }
+level_passes s names words has_subcommand below none = grind (arith, both_none)
 
 module _ (s : Shape) (rules : All IsKnownRule s.rules) where
   abbrev again : Bool
@@ -160,8 +136,7 @@ module _ (s : Shape) (rules : All IsKnownRule s.rules) where
 
   flag_keeps : (a : Rule) → IsKnownRule a → (v : Option Text) (h : Held) → cond (is_some v) (kind.TooManyValues ∷ []) (react_fault s.rules again a [] h) ≡ []
       → HasSizes h.rows → HasSizes (flag_met s.rules a v h).0.rows
-  flag_keeps a known (Some v) h none rows = rows
-  flag_keeps a known None h none rows = reacted_keeps a known [] h none rows
+  flag_keeps a known v h none rows = grind (arith, reacted_keeps)
 
   long_keeps : (o : Option Rule) → IfSome o IsKnownRule → (v : Option Text) (h : Held) → long_fault s.rules again o v h ≡ [] → HasSizes h.rows
       → HasSizes (long_met s.rules o v h).0.rows
@@ -205,11 +180,7 @@ module _ (s : Shape) (rules : All IsKnownRule s.rules) where
   plain_rows : (w : Waiting) (word : Text) (h : Held) → HasSizes h.rows → HasSizes (plain_word s.rules w word h).0.rows
   plain_rows idle word h rows = rows
   plain_rows positional word h rows = rows
-  plain_rows (option id) word h rows = go (arg_by_id s.rules id)
-    where
-      go : (o : Option Rule) → HasSizes (option_word o id word h).0.rows
-      go None = rows
-      go (Some a) = rows
+  plain_rows (option id) word h rows = elim (arg_by_id s.rules id) as (λ o. HasSizes (option_word o id word h).0.rows) [ None ↦ rows | Some a ↦ rows ]
 
   flag_rows : (w : Waiting) (word : Text) (h : Held) (o : Outcome) → HasSizes h.rows → HasSizes (after_flag s.rules w word h o).0.rows
   flag_rows w word h done rows = rows
@@ -277,18 +248,12 @@ module _ (s : Shape) (rules : All IsKnownRule s.rules) where
       → HasSizes (fold (walked s.rules names) w words).held.rows
   unfolding walk_fault
   walk_keeps names [] w none rows = rows
-  walk_keeps names (word ∷ rest) w none rows =
-      let both = both_none _ _ none in
-      walk_keeps names rest _ both.1 (turn_keeps names w word both.0 rows)
+  walk_keeps names (word ∷ rest) w none rows = grind (arith, both_none, turn_keeps, (walk_keeps names rest (walked s.rules names w word)))
 
   defaults_keep : (c : List Rule) → All IsKnownRule c → (rows : List Row) → HasSizes rows → HasSizes (fold with_default rows c)
   defaults_keep [] known rows h = h
-  defaults_keep (a ∷ c) known rows h = defaults_keep c (All-tail IsKnownRule a c known) _ (go (has_row a.id rows) a.defaults (All-head IsKnownRule a c known).1)
-    where
-      go : (b : Bool) (defaults : List Text) → defaults ≡ [] → HasSizes (cond b rows (default_rows a.id (reading_by a) defaults rows))
-      go true defaults e = h
-      go false [] e = h
-      go false (v ∷ vs) e = cc
+  defaults_keep (a ∷ c) known rows h = defaults_keep c (All-tail IsKnownRule a c known) (with_default rows a)
+      (rw (All-head IsKnownRule a c known).1 (elim (has_row a.id rows) as (λ b. HasSizes (cond b rows rows)) [ true ↦ h | false ↦ h ]))
 
   -- the rows at the end of the level
   pub level_keeps : (names : Names) (words : List Text) (has_subcommand : Bool) (below : Kinds) → PassesLevel s names words has_subcommand below

@@ -1,5 +1,5 @@
 -- A text is written piece by piece.
-use Rattle.std.proofs.Common.{◌≡◌, ◌+◌, ℕ, Bool, true, false, not, List, [], ◌++◌, length, take, drop, Result, Ok, Err, refl, sym, ap, subst, ◌∙◌, arith, append_assoc}
+use Rattle.std.proofs.Common.{◌≡◌, ◌+◌, ℕ, Bool, true, false, List, [], ◌++◌, length, take, drop, Result, Ok, Err, refl, sym, ap, subst, ◌∙◌, arith, append_assoc}
 use Rattle.std.proofs.Common.{take-append-drop, length-append}
 use Rattle.std.proofs.lemmas.List.{take-append-le}
 use Rattle.std.proofs.Math.Seq.{take-append-add, take-length}
@@ -19,49 +19,29 @@ use Rattle.commands.specs.steps.Putting.{PuttingEnds}
 prefix_then : (old mid new : Seen) (prefix text : List ℕ) → Appends old.taken mid.taken prefix → TakesPrefix mid new text → TakesPrefix old new (prefix ++ text)
 prefix_then old mid new prefix text before h = record {
   sent = length prefix + h.sent;
-  within = omega (arith, h.within, length-append prefix text);
-  taken = rw (take-append-add prefix text h.sent) (Appends-trans _ _ _ _ _ before h.taken);
+  within = grind (arith, length-append);
+  taken = grind (arith, take-append-add, Appends-trans);
 }
 
 prefix_of : (old new : Seen) (text after : List ℕ) → TakesPrefix old new text → TakesPrefix old new (text ++ after)
-prefix_of old new text after h = record {
-  sent = h.sent;
-  within = omega (arith, h.within, length-append text after);
-  taken = rw (take-append-le h.sent text after (omega (arith, h.within))) h.taken;
-}
+prefix_of old new text after h = record { sent = h.sent; within = grind (arith, length-append); taken = grind (arith, take-append-le) }
 
 pub nothing_put : (old : Seen) → PuttingEnds true old old []
-nothing_put old = record { taken = λ e. Appends-nil old.taken; cut = λ e. cc; flushes = refl; failures = refl }
+nothing_put old = grind (arith, Appends-nil)
 
 -- what was written after another text, all of it
 pub put_after : (old mid new : Seen) (prefix text : List ℕ) (is_put written : Bool) → PuttingEnds is_put old mid prefix → is_put ≡ true → PuttingEnds written mid new text
     → PuttingEnds written old new (prefix ++ text)
-put_after old mid new prefix text is_put written before is p = record {
-  taken = λ e. Appends-trans _ _ _ _ _ (before.taken is) (p.taken e);
-  cut = λ e. prefix_then _ _ _ _ _ (before.taken is) (p.cut e);
-  flushes = p.flushes ∙ before.flushes;
-  failures = p.failures ∙ ap (count_after (not written)) (before.failures ∙ ap (λ b. count_after (not b) old.failures) is);
-}
+put_after old mid new prefix text is_put written before is p = grind (arith, Appends-trans, prefix_then)
 
 -- a text that was cut, and what was to come after it
 pub cut_before : (old new : Seen) (text after : List ℕ) (is_put : Bool) → PuttingEnds is_put old new text → is_put ≡ false → PuttingEnds false old new (text ++ after)
-cut_before old new text after is_put p is = record {
-  taken = λ e. cc;
-  cut = λ e. prefix_of _ _ _ _ (p.cut is);
-  flushes = p.flushes;
-  failures = p.failures ∙ ap (λ b. count_after (not b) old.failures) is;
-}
+cut_before old new text after is_put p is = grind (arith, prefix_of)
 
 -- ---- a text, piece by piece
 
 pub sent_piece : (old new : Seen) (piece : List ℕ) (r : Result ℕ WriteFault) → Sends old new 0 piece r → PuttingEnds (is_ok r) old new piece
-sent_piece old new piece (Ok n) s = record { taken = λ e. s.ends.1; cut = λ e. cc; flushes = s.flushes; failures = s.ends.2 }
-sent_piece old new piece (Err fault) s = record {
-  taken = λ e. cc;
-  cut = λ e. record { sent = s.ends.0; within = omega (arith, s.ends.1); taken = s.ends.3 };
-  flushes = s.flushes;
-  failures = s.ends.4;
-}
+sent_piece old new piece r s = grind arith
 
 -- A prefix of a text was written, in the form that bytes are written in, and the rest wasn't yet.
 pub record IsPartlyPut (form : List ℕ → List ℕ) (old new : Seen) (text rest : List ℕ) : Type 0 where
@@ -70,7 +50,7 @@ pub record IsPartlyPut (form : List ℕ → List ℕ) (old new : Seen) (text res
   pub put : PuttingEnds true old new (form prefix)
 
 through : (text prefix rest piece after : List ℕ) (at : ℕ) → text ≡ prefix ++ rest → piece ≡ take at rest → after ≡ drop at rest → text ≡ (prefix ++ piece) ++ after
-through text prefix rest piece after at whole is rest_is = grind (arith, whole, take-append-drop, append_assoc)
+through text prefix rest piece after at whole is rest_is = grind (arith, take-append-drop, append_assoc)
 
 module _ (form : List ℕ → List ℕ) (joins : (a b : List ℕ) → form (a ++ b) ≡ form a ++ form b) where
   piece_put : (old mid new : Seen) (text rest piece : List ℕ) (written : Bool) (p : IsPartlyPut form old mid text rest) → PuttingEnds written mid new (form piece)
@@ -95,29 +75,11 @@ module _ (form : List ℕ → List ℕ) (joins : (a b : List ℕ) → form (a ++
 -- ---- a text, and a flush after it
 
 pub not_put : (old new : Seen) (text : List ℕ) (is_put : Bool) → PuttingEnds is_put old new text → is_put ≡ false → IsNotWritten old new text
-not_put old new text is_put p is =
-    let prefix = p.cut is in
-    record {
-      sent = prefix.sent;
-      within = omega (arith, prefix.within);
-      taken = prefix.taken;
-      failure = p.failures ∙ ap (λ b. count_after (not b) old.failures) is;
-      flushes = p.flushes ∙ sym (cut-unflushed prefix.sent text old.flushes prefix.within);
-    }
+not_put old new text is_put p is = grind (arith, cut-unflushed)
 
 pub flushed_after : {T E : Type 0} (old mid new : Seen) (text : List ℕ) (is_put : Bool) (r : Result T E) → PuttingEnds is_put old mid text → is_put ≡ true
     → Keeps mid.taken new.taken → new.failures ≡ count_after (is_err r) mid.failures → new.flushes ≡ next_count mid.flushes
     → new.flushed ≡ flushed_after_flush mid.flushed r → WritingEnds (is_ok r) old new text
-flushed_after old mid new text is_put (Ok x) p is kept failure flush flushed = record {
-  taken = Appends-keeps old.taken mid.taken new.taken text (p.taken is) kept;
-  no_failure = failure ∙ p.failures ∙ ap (λ b. count_after (not b) old.failures) is;
-  flushes = flush ∙ ap next_count p.flushes;
-  flushed = flushed;
-}
-flushed_after old mid new text is_put (Err e) p is kept failure flush flushed = record {
-  sent = length text;
-  within = omega arith;
-  taken = rw (take-length text) (Appends-keeps old.taken mid.taken new.taken text (p.taken is) kept);
-  failure = failure ∙ ap next_count (p.failures ∙ ap (λ b. count_after (not b) old.failures) is);
-  flushes = flush ∙ ap next_count p.flushes ∙ sym (whole-flushed (length text) text old.flushes refl);
-}
+flushed_after old mid new text is_put (Ok x) p is kept failure flush flushed = grind (arith, Appends-keeps)
+flushed_after old mid new text is_put (Err e) p is kept failure flush flushed =
+    record { sent = length text; within = omega arith; taken = grind (arith, take-length, Appends-keeps); failure = grind arith; flushes = grind (arith, whole-flushed) }

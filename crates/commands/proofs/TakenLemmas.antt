@@ -96,9 +96,7 @@ pub record NamesKind (words : List Text) : Type 0 where
   pub cols : KeepsSize (codes "cols") rows
 
 both_given : (a b : Bool) → cond (not a || (not b || false)) (kind.MissingRequiredArgument ∷ []) [] ≡ [] → (a ≡ true) × (b ≡ true)
-both_given true true e = (refl, refl)
-both_given true false e = cc
-both_given false b e = cc
+both_given a b e = grind arith
 
 kind_taken : (kind : Kind) (words rest : List Text) → subcommand_of curspan words ≡ Some (kind_text kind, rows_after (leaf kind).rules [] rest)
     → level_fault (leaf kind) [] nothing_held rest false [] ≡ []
@@ -145,17 +143,11 @@ abbrev first_byte : Text → ℕ
 first_byte [] = 0
 first_byte (byte ∷ bytes) = byte
 
-differ : (a b : Text) → (first_byte a == first_byte b) ≡ false → a ≡ b → ⊥
-differ a b other e = both_ways _ other (eq-eqb _ _ (ap first_byte e))
-
 no_kind : (kind : Kind) → kind_text kind ≡ check_text → ⊥
-no_kind Run e = differ _ _ refl e
-no_kind Paint e = differ _ _ refl e
-no_kind Show e = differ _ _ refl e
+no_kind kind e = grind (arith, both_ways, eq-eqb, ap first_byte e)
 
 named_kind : (words : List Text) (job : Job) → AsksIn (subcommand_of curspan words) job → NamesOne words → NamesKind words
-named_kind words job asked (inl names) = names
-named_kind words job asked (inr check) = grind (arith, no_kind)
+named_kind words job asked one = grind (arith, no_kind)
 
 -- what the subcommand asks for has sizes
 pub sizes_of_job : (words : List Text) (job : Job) → IsTaken words → AsksIn (subcommand_of curspan words) job → Asks words job

@@ -1,5 +1,5 @@
 -- A call of a script is the call that its line says, wherever its text lies, and what it answered.
-use Rattle.std.proofs.Common.{ℕ, List, [], ◌∷◌, Ok, Err, Result, refl, subst, sym}
+use Rattle.std.proofs.Common.{arith, ℕ, List, [], ◌∷◌, Ok, Err, Result, refl, subst, sym}
 use Rattle.cell.specs.declared.refusal.Refusal.{Refusal}
 use Rattle.streams.specs.Sinks.{Seen}
 use Rattle.desk.specs.Ends.{CallEnds, Writes}
@@ -8,10 +8,7 @@ use Rattle.desk.proofs.StateLemmas.{is-kept}
 use Rattle.desk.specs.States.{IsWithin, state_of}
 use Rattle.script.specs.Words.{placeless}
 use Rattle.world.specs.declared.call.Call.{Call}
-use Rattle.world.specs.declared.call.Call.TheVariants.{Writing}
-use Rattle.world.specs.declared.call.Writing.TheVariants.{Addstr}
 use Rattle.world.specs.declared.call.Reply.{Reply}
-use Rattle.desk.specs.declared.screen.Fault.TheVariants.{Refused, Write}
 use Rattle.desk.specs.States.{ScreenOver}
 use Rattle.desk.specs.declared.screen.Fault.{Fault}
 use Rattle.desk.specs.Runs.{MayAnswer, state_after}
@@ -19,11 +16,7 @@ use Rattle.desk.specs.steps.Answers.{call_end}
 
 module _ {W : Type 0} (seen : W → Seen) where
   pub placeless_ends : (old : ScreenOver W) (call : Call) (r : Result Reply Fault) (new : ScreenOver W) → CallEnds seen old call r new → CallEnds seen old (placeless call) r new
-  placeless_ends old (Writing (Addstr win text)) (Ok reply) new h =
-      (h.0, (h.1.0, h.1.1, record { taken = h.1.2.taken; flushes = h.1.2.flushes; flushed = h.1.2.flushed }))
-  placeless_ends old (Writing (Addstr win text)) (Err (Refused refusal)) new h = h
-  placeless_ends old (Writing (Addstr win text)) (Err (Write fault)) new h = h
-  placeless_ends old call r new h = h
+  placeless_ends old call r new h = grind arith
 
   -- the state and the bytes after a call that wasn't cut short, whether it was accepted or refused
   abbrev pub Answered : ScreenOver W → Call → Result Reply Refusal → ScreenOver W → Type 0

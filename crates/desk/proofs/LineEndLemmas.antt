@@ -1,5 +1,5 @@
 -- How a line of a script ends.
-use Rattle.std.proofs.Common.{◌≡◌, ℕ, List, [], ◌∷◌, Bool, true, false, Option, None, Some, Ok, Err, Result, is_err, is_ok, not, refl, ap, sym, ◌∙◌, ◌||◌}
+use Rattle.std.proofs.Common.{arith, ◌≡◌, ℕ, List, [], ◌∷◌, Bool, true, false, Option, None, Some, Ok, Err, Result, is_err, is_ok, not, refl, sym, ◌∙◌}
 use Rattle.std.proofs.KnownBytes.{Appends-nil}
 use Rattle.std.proofs.Math.Bool.{or-false}
 use Rattle.streams.specs.Counts.{count_after}
@@ -25,11 +25,10 @@ use Rattle.script.specs.declared.fault.ScriptFault.TheVariants.{Write}
 use Rattle.desk.specs.declared.screen.Fault.TheVariants.{Write as Cut}
 
 the_doupdate : (call : Call) → is_doupdate call ≡ true → call ≡ Refresh Doupdate
-the_doupdate call h = each-call (λ call. is_doupdate call ≡ true → call ≡ Refresh Doupdate) (λ call other h. let no : false ≡ true = sym other ∙ h in cc) (λ h. refl) call h
+the_doupdate call h = grind (arith, each-call)
 
 refused_is : (answer : Result Reply Refusal) (r : Bool) → r ≡ is_err answer → r ≡ not (is_ok answer)
-refused_is (Ok reply) r e = e
-refused_is (Err refusal) r e = e
+refused_is answer r e = grind arith
 
 module _ {W : Type 0} (seen : W → Seen) where
   -- No call was made.
@@ -67,5 +66,4 @@ module _ {W : Type 0} (seen : W → Seen) where
   pub line_is_cut : (old new : ScreenOver W) (n : ℕ) (line : List ℕ) (log : Seen) (call : Call) (fault : WriteFault)
       → parse_line line ≡ Ok (Some call) → CallEnds seen old call (Err (Cut fault)) new
       → LineEnds seen old new n line log log (record { refused = false; fault = Some (Write n fault) })
-  line_is_cut old new n line log call fault said a =
-      line_without_call (Some (Write n fault)) (refl, said ∙ ap (λ c. Ok (Some c)) (the_doupdate call a.0), refl, a.1) (Appends-nil _) refl
+  line_is_cut old new n line log call fault said a = grind (arith, line_without_call, the_doupdate, Appends-nil)

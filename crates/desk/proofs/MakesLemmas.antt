@@ -1,5 +1,5 @@
 -- Calls that were made, and what they leave: none, one, and one list after another.
-use Rattle.std.proofs.Common.{◌≡◌, ℕ, List, [], ◌∷◌, ◌++◌, Result, refl, sym, subst, append-nil}
+use Rattle.std.proofs.Common.{arith, ◌≡◌, ℕ, List, [], ◌∷◌, ◌++◌, Result, refl, sym, subst, append-nil}
 use Rattle.std.proofs.lemmas.Grind.{flat_map-append}
 use Rattle.cell.specs.declared.refusal.Refusal.{Refusal}
 use Rattle.streams.specs.Sinks.{Seen}
@@ -29,23 +29,16 @@ module _ {W : Type 0} (seen : W → Seen) where
   -- what follows of a run
   Makes-run : {old new : ScreenOver W} {calls : List Call} {outcomes : List Outcome} → Run (state_of old) calls outcomes
       → IsWithin (state_of new) (state_at_end (state_of old) calls outcomes) → Writes seen old new calls (all_sent outcomes) → Makes seen old calls outcomes new
-  Makes-run {old} {new} {calls} {outcomes} run state writes = record {
-    run = run;
-    short = short-run (state_of old) calls outcomes run;
-    reads = reads-run (state_of old) calls outcomes run;
-    state = state;
-    writes = writes;
-  }
+  Makes-run {old} {new} {calls} {outcomes} run state writes = grind (arith, short-run, reads-run)
 
   pub Makes-nothing : (old : ScreenOver W) → Makes seen old [] [] old
-  Makes-nothing old = Makes-run tt (IsWithin-refl (state_of old)) (Writes-nothing seen old)
+  Makes-nothing old = grind (arith, Makes-run, IsWithin-refl, Writes-nothing)
 
   -- one call was made, and had this outcome
   pub Makes-one : (old new : ScreenOver W) (call : Call) (answer : Result Reply Refusal) (sent : List ℕ) → MayAnswer (state_of old) call answer sent
       → IsWithin (state_of new) (state_after (state_of old) call answer) → Writes seen old new (call ∷ []) sent
       → Makes seen old (call ∷ []) (record { answer = answer; sent = sent } ∷ []) new
-  Makes-one old new call answer sent may state writes =
-      Makes-run (may, tt) state (subst (Writes seen old new (call ∷ [])) (sym (append-nil sent)) writes)
+  Makes-one old new call answer sent may state writes = grind (arith, Makes-run, append-nil)
 
   pub Makes-append : {old mid new : ScreenOver W} {calls more : List Call} {outcomes others : List Outcome} → Makes seen old calls outcomes mid → Makes seen mid more others new
       → Makes seen old (calls ++ more) (outcomes ++ others) new

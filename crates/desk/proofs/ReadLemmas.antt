@@ -1,5 +1,5 @@
 -- How many cells a run reads.
-use Rattle.std.proofs.Common.{◌≡◌, ◌≤◌, ℕ, ◌+◌, List, [], ◌∷◌, Bool, false, Option, Some, None, Result, Ok, Err, refl, sym, subst, ap, ◌∙◌, sum_by, is_ok, arith}
+use Rattle.std.proofs.Common.{◌≡◌, ◌≤◌, ℕ, ◌+◌, List, [], ◌∷◌, Bool, false, Option, Result, Ok, refl, sym, subst, ap, ◌∙◌, sum_by, is_ok, arith}
 use Rattle.std.proofs.Math.Nat.{add-le-add}
 use Rattle.std.proofs.lemmas.List.Sums.{sum_by-cons}
 use Rattle.std.specs.Option.{option_map_or}
@@ -26,12 +26,10 @@ use Rattle.world.specs.declared.call.Stacking.TheVariants.{DelPanel}
 -- ---- only update_panels answers a number of cells
 
 pair-no_cells : (place : Option Place) → cells_of_reply (pair place) ≡ 0
-pair-no_cells None = refl
-pair-no_cells (Some p) = refl
+pair-no_cells place = grind arith
 
 cell-no_cells : (cell : Option Glyph) → cells_of_reply (option_map_or (λ c. Cell c) cell Nothing) ≡ 0
-cell-no_cells None = refl
-cell-no_cells (Some c) = refl
+cell-no_cells cell = grind arith
 
 -- what the effect of a call answers; a row with a call lets the last go through its group
 reply_of-no_cells : (w : World) (call : Call) → cells_of_reply (reply_of w call) ≡ 0
@@ -51,12 +49,10 @@ pub record CallReads (s : State) (call : Call) (cells : ℕ) : Type 0 where
   pub most : cells ≤ most_cells s.world s.damaged call
 
 reads-nothing : (s : State) (call : Call) (cells : ℕ) → is_update_panels call ≡ false → cells ≡ 0 → CallReads s call cells
-reads-nothing s call cells other none = rw none (record { least = rw other (omega arith); most = omega arith })
+reads-nothing s call cells other none = grind arith
 
 call-reads : (s : State) (call : Call) (reply : Reply) (sent : List ℕ) → MayAnswer s call (Ok reply) sent → CallReads s call (cells_of_reply reply)
-call-reads s (calls.Refresh UpdatePanels) reply sent may =
-    let read = may.1.1.1 in
-    rw may.1.1.2 (record { least = read.at_least; most = read.at_most })
+call-reads s (calls.Refresh UpdatePanels) reply sent may = grind arith
 call-reads s (calls.Refresh Doupdate) reply sent may = reads-nothing s (calls.Refresh Doupdate) _ refl (ap cells_of_reply may.1.1)
 call-reads s call reply sent may = reads-nothing s call _ refl (ap cells_of_reply may.1.1 ∙ reply_of-no_cells s.world call)
 
@@ -64,10 +60,7 @@ call-reads s call reply sent may = reads-nothing s call _ refl (ap cells_of_repl
 
 reads-next : (s : State) (call : Call) (answer : Result Reply Refusal) (sent : List ℕ) (others : List (Call × Bool)) (cells : ℕ) → MayAnswer s call answer sent
     → ReadsFew (state_after s call answer) others cells → ReadsFew s ((call, is_ok answer) ∷ others) (cells_of_answer answer + cells)
-reads-next s call (Ok reply) sent others cells may few =
-    let first = call-reads s call reply sent may in
-    record { at_least = add-le-add first.least few.at_least; at_most = add-le-add first.most few.at_most }
-reads-next s call (Err e) sent others cells may few = record { at_least = omega (arith, few.at_least); at_most = omega (arith, few.at_most) }
+reads-next s call answer sent others cells may few = grind (arith, call-reads, add-le-add)
 
 pub reads-run : (s : State) (calls : List Call) (outcomes : List Outcome) → Run s calls outcomes → ReadsFew s (with_acceptance calls outcomes) (sum_by cells_read outcomes)
 reads-run s [] [] run = record { at_least = omega arith; at_most = omega arith }

@@ -29,13 +29,7 @@ module _ {W : Type 0} (seen : W → Seen) where
 
   -- no call yet
   pub so_far_none : (old : ScreenOver W) → SoFar old [] old 0 0 0
-  so_far_none old = record {
-    outcomes = [];
-    makes = Makes-nothing seen old;
-    is_done = refl;
-    is_refused = refl;
-    is_composed = refl;
-  }
+  so_far_none old = record { outcomes = []; makes = Makes-nothing seen old; is_done = refl; is_refused = refl; is_composed = refl }
 
   -- one more call was accepted
   pub accepted_next : (old mid new : ScreenOver W) (calls : List Call) (d r c i : ℕ) (call : Call) (reply : Reply) → SoFar old (take i calls) mid d r c → i < length calls

@@ -1,6 +1,6 @@
 -- A script is run a line at a time.
 use Rattle.std.proofs.Common.{◌≡◌, ℕ, ◌≤◌, ◌<◌, List, [], ◌∷◌, ◌++◌, length, Bool, true, false, ◌||◌, take, Option, None, Some, Ok, Err, Result, refl, ap, subst, sym, ◌∙◌}
-use Rattle.std.proofs.Common.{append-nil, append_assoc, length-append, arith, nat_lt, is_some, not, if◌then◌else◌, inl, inr}
+use Rattle.std.proofs.Common.{append-nil, append_assoc, length-append, arith, nat_lt, is_some, not, if◌then◌else◌}
 use Rattle.std.proofs.lemmas.Bool.{false_from_ne_true, or_parts}
 use Rattle.std.proofs.lemmas.Bool.Decides.{nat_tests}
 use Rattle.world.specs.declared.call.Call.TheVariants.{Refresh}
@@ -29,7 +29,6 @@ use Rattle.desk.proofs.ShowingLemmas.{cut-keeps_size, makes-keep_size, shows-bro
 use Rattle.script.specs.Readings.{Reading, before_others, ends_with, next_number, reading, reading_of, parse_line}
 use Rattle.script.specs.Characters.{is_newline}
 use Rattle.script.specs.steps.Bytes.{HasNoNewline, ReadsLine}
-use Rattle.script.specs.Log.{log_line}
 use Rattle.desk.specs.ScriptEnds.{FlushFails, FlushSucceeds, LineEnds, LineStops, LogCloses, Logs, MayFollow, RunsLines, ScriptEnds, ScriptStops, calls_of, log_failed, log_lines, log_text}
 use Rattle.desk.specs.ScriptEnds.{numbered_call, write_fault}
 use Rattle.world.specs.declared.call.Call.{Call}
@@ -43,34 +42,29 @@ abbrev pub prepend : List (ℕ × Call) → Reading → Reading
 prepend calls r = record { calls = calls ++ r.calls; fault = r.fault }
 
 prepend_numbered : (n : ℕ) (call : Option Call) (r : Reading) → before_others n (Ok call) r ≡ prepend (numbered_call n call) r
-prepend_numbered n None r = refl
-prepend_numbered n (Some call) r = refl
+prepend_numbered n call r = grind arith
 
 prepend_twice : (a b : List (ℕ × Call)) (r : Reading) → prepend a (prepend b r) ≡ prepend (a ++ b) r
-prepend_twice a b r = ap (λ (calls : List (ℕ × Call)). let x : Reading = record { calls = calls; fault = r.fault } in x) (sym (append_assoc a b r.calls))
+prepend_twice a b r = grind (arith, append_assoc)
 
 -- a line before others
 line_first : (failed : Bool) (n : ℕ) (line : List ℕ) (pieces : List (List ℕ)) → 0 < length pieces
     → reading_of failed n (line ∷ pieces) ≡ before_others n (parse_line line) (reading_of failed (next_number n) pieces)
-line_first failed n line [] some = absurd (omega arith)
-line_first true n line (p ∷ ps) some = refl
-line_first false n line (p ∷ ps) some = refl
+line_first failed n line pieces some = grind arith
 
 short_line : (line : List ℕ) → length line ≤ LONGEST_LINE → nat_lt LONGEST_LINE (length line) ≡ false
 short_line line h = grind (arith, nat_tests)
 
 no_newlines : (line : List ℕ) → HasNoNewline line → All (λ b. is_newline b ≡ false) line
-no_newlines line h = λ k d lt. false_from_ne_true _ (λ found. let no : true ≡ false = sym (list_any_at is_newline line k d lt found) ∙ h in cc)
+no_newlines line h = grind (arith, false_from_ne_true, list_any_at)
 
 -- What a script says whose next line ends with a newline.
 line_of_script : (failed : Bool) (n : ℕ) (line left : List ℕ) → HasNoNewline line
     → reading_of failed n (slice_split is_newline (line ++ 10 ∷ left)) ≡ before_others n (parse_line line) (reading_of failed (next_number n) (slice_split is_newline left))
-line_of_script failed n line left h =
-    ap (reading_of failed n) (slice_split_at is_newline line 10 left (no_newlines line h) refl)
-    ∙ line_first failed n line (slice_split is_newline left) (omega (arith, length-slice_split is_newline left))
+line_of_script failed n line left h = grind (arith, slice_split_at, no_newlines, line_first, length-slice_split)
 
 long_line : (line : List ℕ) → LONGEST_LINE < length line → parse_line line ≡ Err LineTooLong
-long_line line h = let long : nat_lt LONGEST_LINE (length line) ≡ true = grind (arith, nat_tests) in rw long refl
+long_line line h = grind (arith, nat_tests)
 
 has_first : (pieces : List (List ℕ)) → 0 < length pieces → (head : List ℕ) × (tail : List (List ℕ)) × (pieces ≡ head ∷ tail)
 has_first [] h = absurd (omega arith)
@@ -95,14 +89,14 @@ too_long_says n line more b h e long =
 
 log_lines-append : (state : State) (calls more : List (ℕ × Call)) (outcomes others : List Outcome) → Run state (calls_of calls) outcomes
     → log_lines (calls ++ more) (outcomes ++ others) ≡ log_lines calls outcomes ++ log_lines more others
-log_lines-append state [] more [] others run = refl
-log_lines-append state (c ∷ cs) more (o ∷ os) others run = ap (λ l. log_line c.0 o.answer ∷ l) (log_lines-append (state_after state c.1 o.answer) cs more os others run.1)
-log_lines-append state calls more outcomes others run = absurd run
+log_lines-append state [] more outcomes others run = grind arith
+log_lines-append state (c ∷ cs) more [] others run = absurd run
+log_lines-append state (c ∷ cs) more (o ∷ os) others run = grind (arith, (log_lines-append (state_after state c.1 o.answer) cs more os others run.1))
 
 -- the text of the lines of both
 log_text-append : (state : State) (calls more : List (ℕ × Call)) (outcomes others : List Outcome) → Run state (calls_of calls) outcomes
     → log_text (log_lines (calls ++ more) (outcomes ++ others)) ≡ log_text (log_lines calls outcomes) ++ log_text (log_lines more others)
-log_text-append state calls more outcomes others run = ap log_text (log_lines-append state calls more outcomes others run) ∙ flat_map-append _ (log_lines calls outcomes) (log_lines more others)
+log_text-append state calls more outcomes others run = grind (arith, log_lines-append, flat_map-append)
 
 calls_of-append : (a b : List (ℕ × Call)) → calls_of (a ++ b) ≡ calls_of a ++ calls_of b
 calls_of-append a b = map-append _ a b
@@ -149,7 +143,7 @@ module _ {W : Type 0} (seen : W → Seen) where
   ReadsOnce old new = old.met_end ≡ false → new.read_past_end ≡ old.read_past_end
 
   still_once : (input r1 r2 : SourceSeen) → r1.met_end ≡ input.met_end → ReadsOnce input r1 → ReadsOnce r1 r2 → ReadsOnce input r2
-  still_once input r1 r2 met h k = λ unmet. k (met ∙ unmet) ∙ h unmet
+  still_once input r1 r2 met h k = grind arith
 
   -- What the script says up to a line that a newline ends.
   line_says : {old mid : ScreenOver W} {input r1 r2 : SourceSeen} {log l1 : Seen} {unused left line : List ℕ} {n : ℕ} {b : Bool}
@@ -165,8 +159,7 @@ module _ {W : Type 0} (seen : W → Seen) where
 
   says_call : (made : List (ℕ × Call)) (n : ℕ) (said : Result (Option Call) TextFault) (call : Option Call) (others : Reading) → said ≡ Ok call
       → prepend made (before_others n said others) ≡ prepend (made ++ numbered_call n call) others
-  says_call made n said call others e =
-      ap (λ t. prepend made (before_others n t others)) e ∙ ap (prepend made) (prepend_numbered n call others) ∙ prepend_twice made (numbered_call n call) others
+  says_call made n said call others e = grind (arith, prepend_numbered, prepend_twice)
 
   -- one more line
   pub so_far_next : (old mid now : ScreenOver W) (input r1 r2 : SourceSeen) (log l1 l2 : Seen) (unused left line : List ℕ) (n : ℕ) (b : Bool) (end : ScriptEnd)
@@ -223,8 +216,7 @@ module _ {W : Type 0} (seen : W → Seen) where
 
   all_logged : (old : State) (a b : List (ℕ × Call)) (xs ys : List Outcome) (log l1 l2 : Seen) → Run old (calls_of a) xs → Appends log.taken l1.taken (log_text (log_lines a xs))
       → Appends l1.taken l2.taken (log_text (log_lines b ys)) → Appends log.taken l2.taken (log_text (log_lines (a ++ b) (xs ++ ys)))
-  all_logged old a b xs ys log l1 l2 run first second =
-      subst (Appends log.taken l2.taken) (sym (log_text-append old a b xs ys run)) (Appends-trans _ _ _ _ _ first second)
+  all_logged old a b xs ys log l1 l2 run first second = grind (arith, log_text-append, Appends-trans)
 
   logs_after : (old : State) (a b : List (ℕ × Call)) (xs ys : List Outcome) (log l1 l2 : Seen) (fault : Option ScriptFault) → Run old (calls_of a) xs
       → Appends log.taken l1.taken (log_text (log_lines a xs)) → Logs l1 l2 (log_lines b ys) fault → Logs log l2 (log_lines (a ++ b) (xs ++ ys)) fault
@@ -336,33 +328,26 @@ module _ {W : Type 0} (seen : W → Seen) where
       )
 
 pub some_fault : (fault : Option ScriptFault) → true ≡ is_some fault → fault ≡ None → ⊥
-some_fault fault h e = let none : is_some fault ≡ false = ap is_some e in cc
+some_fault fault h e = grind arith
 
 pub no_fault : (fault : Option ScriptFault) → false ≡ is_some fault → fault ≡ None
-no_fault None h = refl
-no_fault (Some f) h = cc
+no_fault fault h = grind arith
 
 module _ {W : Type 0} (seen : W → Seen) where
   lines_show : (old at_stop new : ScreenOver W) (calls : List Call) (outcomes : List Outcome) (made : List (ℕ × Call)) (met_end : Bool) (text : List ℕ) (fault : Option ScriptFault)
       → Makes seen old calls outcomes at_stop → HasOneSize old.desk old.painter → ScriptStops seen met_end text made at_stop fault new → RunShows seen old new calls (write_fault fault)
-  lines_show old at_stop new calls outcomes made met_end text None makes one_size stop = shows-unbroken seen old at_stop new calls calls outcomes makes one_size refl stop.2
-  lines_show old at_stop new calls outcomes made met_end text (Some (Write line fault)) makes one_size stop = shows-broken seen old at_stop new calls calls outcomes makes one_size fault stop.1
-  lines_show old at_stop new calls outcomes made met_end text (Some fault) makes one_size stop = shows-unbroken seen old at_stop new calls calls outcomes makes one_size refl stop.1
+  lines_show old at_stop new calls outcomes made met_end text fault makes one_size stop = grind (arith, shows-unbroken, shows-broken)
 
   same_size : (at_stop new : ScreenOver W) → new ≡ at_stop → KeepsSize at_stop.desk new.desk
-  same_size at_stop new e = subst (λ s. KeepsSize at_stop.desk s.desk) (sym e) (record { lines = refl; columns = refl })
+  same_size at_stop new e = grind arith
 
   stops_keep_size : (at_stop new : ScreenOver W) (made : List (ℕ × Call)) (met_end : Bool) (text : List ℕ) (fault : Option ScriptFault) → ScriptStops seen met_end text made at_stop fault new
       → KeepsSize at_stop.desk new.desk
-  stops_keep_size at_stop new made met_end text None stop = same_size at_stop new stop.2
-  stops_keep_size at_stop new made met_end text (Some (Write line fault)) stop = cut-keeps_size seen at_stop new fault stop.1
-  stops_keep_size at_stop new made met_end text (Some fault) stop = same_size at_stop new stop.1
+  stops_keep_size at_stop new made met_end text fault stop = grind (arith, same_size, cut-keeps_size)
 
   pub lines_keep_size : {old now : ScreenOver W} {input rest : SourceSeen} {log logged : Seen} {end : ScriptEnd} → HasOneSize old.desk old.painter → RunsLines seen old now input rest log logged end
       → KeepsSize old.desk now.desk
-  lines_keep_size {old} {now} {rest} {end} one_size s =
-      then-keeps_size old.desk s.at_stop.desk now.desk (makes-keep_size seen old s.at_stop (calls_of s.made) s.outcomes one_size s.makes)
-      (stops_keep_size s.at_stop now s.made rest.met_end s.text end.fault s.stop)
+  lines_keep_size {old} {now} {rest} {end} one_size s = grind (arith, then-keeps_size, makes-keep_size, stops_keep_size)
 
   pub script_ends : {old now : ScreenOver W} {input rest : SourceSeen} {log logged written : Seen} {ended end : ScriptEnd} → HasOneSize old.desk old.painter
       → RunsLines seen old now input rest log logged ended → LogCloses ended.fault logged written end.fault → end.refused ≡ ended.refused → write_fault end.fault ≡ write_fault ended.fault
@@ -380,21 +365,16 @@ module _ {W : Type 0} (seen : W → Seen) where
 
 -- A write of the log had failed.
 pub closes_failed : (fault : Option ScriptFault) (logged : Seen) → true ≡ log_failed fault → LogCloses fault logged logged fault
-closes_failed (Some Log) logged h = (refl, refl)
-closes_failed fault logged h = cc
+closes_failed fault logged h = grind arith
 
 -- The flush succeeded.
 pub closes_flushed : (fault : Option ScriptFault) (logged written : Seen) → false ≡ log_failed fault → FlushSucceeds logged written → LogCloses fault logged written fault
-closes_flushed None logged written h f = inl (f, refl)
-closes_flushed (Some Log) logged written h f = cc
-closes_flushed (Some fault) logged written h f = (inl f, refl)
+closes_flushed fault logged written h f = grind arith
 
 -- The flush failed, after another fault.
 pub closes_after_fault : (fault : Option ScriptFault) (logged written : Seen) → false ≡ log_failed fault → is_some fault ≡ not false → FlushFails logged written → LogCloses fault logged written fault
-closes_after_fault None logged written h some f = cc
-closes_after_fault (Some Log) logged written h some f = cc
-closes_after_fault (Some fault) logged written h some f = (inr f, refl)
+closes_after_fault fault logged written h some f = grind arith
 
 -- The flush failed, and nothing else.
 pub closes_unflushed : (fault : Option ScriptFault) (logged written : Seen) → fault ≡ None → FlushFails logged written → LogCloses fault logged written (Some Log)
-closes_unflushed fault logged written none f = subst (λ f. LogCloses f logged written (Some Log)) (sym none) (inr (f, refl))
+closes_unflushed fault logged written none f = grind arith

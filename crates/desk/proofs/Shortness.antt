@@ -1,5 +1,5 @@
 -- No call of a run sends more than its bound.
-use Rattle.std.proofs.Common.{◌≡◌, ◌≤◌, ℕ, List, [], ◌∷◌, length, Result, Ok, Err, ap, arith}
+use Rattle.std.proofs.Common.{◌≡◌, ◌≤◌, ℕ, List, [], ◌∷◌, length, Result, Ok, Err, arith}
 use Rattle.cell.specs.declared.refusal.Refusal.{Refusal}
 use Rattle.desk.specs.States.{State}
 use Rattle.desk.specs.Runs.{Outcome, AreShort, MayAnswer, Run, most_sent, state_after}
@@ -8,7 +8,7 @@ use Rattle.world.specs.declared.call.Reply.{Reply}
 use Rattle.desk.specs.steps.Quiet.{each-call, quiet-reply}
 
 sends-nothing : (sent : List ℕ) (most : ℕ) → sent ≡ [] → length sent ≤ most
-sends-nothing sent most none = omega (arith, ap length none)
+sends-nothing sent most none = grind arith
 
 short-call : (s : State) (call : Call) (answer : Result Reply Refusal) (sent : List ℕ) → MayAnswer s call answer sent → length sent ≤ most_sent s call
 short-call s call (Err e) sent may = sends-nothing sent (most_sent s call) may.1

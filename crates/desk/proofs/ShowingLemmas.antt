@@ -1,5 +1,5 @@
 -- What a terminal shows after a run of calls.
-use Rattle.std.proofs.Common.{◌≡◌, ℕ, List, [], ◌∷◌, ◌++◌, take, Option, Some, None, Result, Ok, Err, is_some, refl, sym, ap, ◌∙◌, subst, append_assoc, append-nil}
+use Rattle.std.proofs.Common.{arith, ◌≡◌, ℕ, List, [], ◌∷◌, ◌++◌, take, Option, Some, None, Result, Ok, Err, is_some, refl, sym, ap, ◌∙◌, subst, append_assoc, append-nil}
 use Rattle.std.proofs.KnownBytes.{Appends-trans}
 use Rattle.std.specs.Prelude.{⊤, MatchOption}
 use Rattle.cell.specs.Shown.{shown, shown_blank}
@@ -58,30 +58,13 @@ pub record HasScreenSize (lines columns : ℕ) (s : State) : Type 0 where
   pub painter_columns : s.painter.columns ≡ columns
 
 still-sized : {lines columns : ℕ} {s t : State} → IsWithin s t → HasScreenSize lines columns t → HasScreenSize lines columns s
-still-sized same h = record {
-  lines_of = ap (λ (w : World). w.windows.lines) same.world ∙ h.lines_of;
-  columns_of = ap (λ (w : World). w.windows.columns) same.world ∙ h.columns_of;
-  painter_lines = ap (λ (p : PainterState). p.lines) same.painter ∙ h.painter_lines;
-  painter_columns = ap (λ (p : PainterState). p.columns) same.painter ∙ h.painter_columns;
-}
+still-sized same h = grind arith
 
 size-painter : (s : State) (call : Call) → ((after s call).painter.lines ≡ s.painter.lines) × ((after s call).painter.columns ≡ s.painter.columns)
-size-painter s call =
-    each-call (λ call. ((after s call).painter.lines ≡ s.painter.lines) × ((after s call).painter.columns ≡ s.painter.columns))
-    (λ call other. let same = painter-quiet s call other in (ap (λ (p : PainterState). p.lines) same, ap (λ (p : PainterState). p.columns) same))
-    (refl, refl) call
+size-painter s call = grind (arith, each-call, painter-quiet)
 
 size-after : (lines columns : ℕ) (s : State) (call : Call) (answer : Result Reply Refusal) → HasScreenSize lines columns s → HasScreenSize lines columns (state_after s call answer)
-size-after lines columns s call (Err e) h = h
-size-after lines columns s call (Ok r) h =
-    let windows = size-call s.world call in
-    let painter = size-painter s call in
-    record {
-      lines_of = windows.lines ∙ h.lines_of;
-      columns_of = windows.columns ∙ h.columns_of;
-      painter_lines = painter.0 ∙ h.painter_lines;
-      painter_columns = painter.1 ∙ h.painter_columns;
-    }
+size-after lines columns s call answer h = grind (arith, size-call, size-painter)
 
 pub size-at_end : (lines columns : ℕ) (s : State) (cs : List Call) (outcomes : List Outcome) → HasScreenSize lines columns s → HasScreenSize lines columns (state_at_end s cs outcomes)
 size-at_end lines columns s [] outcomes h = h
@@ -91,7 +74,7 @@ size-at_end lines columns s (c ∷ cs) (o ∷ os) h = size-at_end lines columns 
 -- ---- all that was sent agrees with the painter
 
 nothing-sent : (painter : PainterState) (stream sent : List ℕ) (t : Terminal) → sent ≡ [] → Agrees painter stream t → Agrees painter (stream ++ sent) t
-nothing-sent painter stream sent t e h = rw (e, append-nil) h
+nothing-sent painter stream sent t e h = grind (arith, append-nil)
 
 agrees-call : (lines columns : ℕ) (s : State) (call : Call) (answer : Result Reply Refusal) (sent stream : List ℕ) (t : Terminal) → HasScreenSize lines columns s → HasSize lines columns t.picture
     → MayAnswer s call answer sent → Agrees s.painter stream t → Agrees (state_after s call answer).painter (stream ++ sent) t
@@ -123,7 +106,7 @@ pub record LeadsOn (lines columns : ℕ) (painter : PainterState) (bytes : List 
 
 leads-nothing : (lines columns : ℕ) (painter : PainterState) (sent : List ℕ) (t : Terminal) → sent ≡ [] → HasSize lines columns t.picture → IsKnown painter.last t
     → LeadsOn lines columns painter sent t
-leads-nothing lines columns painter sent t e fits known = record { last = t; leads = rw e (Leads-nothing t); fits = fits; known = known }
+leads-nothing lines columns painter sent t e fits known = grind (arith, Leads-nothing)
 
 leads-call : (lines columns : ℕ) (s : State) (call : Call) (answer : Result Reply Refusal) (sent : List ℕ) (t : Terminal) → HasScreenSize lines columns s → HasSize lines columns t.picture
     → MayAnswer s call answer sent → IsKnown s.painter.last t → LeadsOn lines columns (state_after s call answer).painter sent t
@@ -158,11 +141,10 @@ abbrev pub VirtualIsKnown : State → Type 0
 VirtualIsKnown s = s.painter.last ≡ Some (wanted s.world)
 
 still-known : {s t : State} → IsWithin s t → VirtualIsKnown t → VirtualIsKnown s
-still-known same h = ap (λ (p : PainterState). p.last) same.painter ∙ h ∙ ap (λ w. Some (wanted w)) (sym same.world)
+still-known same h = grind arith
 
 one-doupdate : (s : State) (answer : Result Reply Refusal) (sent : List ℕ) → MayAnswer s (calls.Refresh Doupdate) answer sent → VirtualIsKnown (state_after s (calls.Refresh Doupdate) answer)
-one-doupdate s (Ok r) sent h = refl
-one-doupdate s (Err e) sent h = absurd (never-refused s.world Doupdate e refl refl h.0)
+one-doupdate s answer sent h = grind (arith, never-refused)
 
 pub virtual-known : (s : State) (others : List Call) (outcomes : List Outcome) → Run s (others ++ calls.Refresh Doupdate ∷ []) outcomes
     → VirtualIsKnown (state_at_end s (others ++ calls.Refresh Doupdate ∷ []) outcomes)
@@ -180,14 +162,12 @@ pub record EndsShown (s : State) : Type 0 where
   pub last_is : s.painter.last ≡ Some (wanted (after_update_panels before))
 
 still-shown : {s t : State} → IsWithin s t → EndsShown t → EndsShown s
-still-shown same h = record { before = h.before; world_is = same.world ∙ h.world_is; last_is = ap (λ (p : PainterState). p.last) same.painter ∙ h.last_is }
+still-shown same h = grind arith
 
 two-calls : (s : State) (one other : Result Reply Refusal) (sent more : List ℕ) → MayAnswer s (calls.Refresh UpdatePanels) one sent
     → MayAnswer (state_after s (calls.Refresh UpdatePanels) one) (calls.Refresh Doupdate) other more
     → EndsShown (state_after (state_after s (calls.Refresh UpdatePanels) one) (calls.Refresh Doupdate) other)
-two-calls s (Ok r) (Ok q) sent more h k = record { before = s.world; world_is = refl; last_is = refl }
-two-calls s (Ok r) (Err e) sent more h k = absurd (never-refused (after_update_panels s.world) Doupdate e refl refl k.0)
-two-calls s (Err e) other sent more h k = absurd (never-refused s.world UpdatePanels e refl refl h.0)
+two-calls s one other sent more h k = grind (arith, never-refused)
 
 pub ends-shown : (s : State) (others : List Call) (outcomes : List Outcome) → Run s (others ++ calls.Refresh UpdatePanels ∷ calls.Refresh Doupdate ∷ []) outcomes
     → EndsShown (state_at_end s (others ++ calls.Refresh UpdatePanels ∷ calls.Refresh Doupdate ∷ []) outcomes)
@@ -240,10 +220,7 @@ module _ {W : Type 0} (seen : W → Seen) (old at_stop new : ScreenOver W) (cs m
 
   leads-stop : old.painter.last ≡ None → (t : Terminal) → HasSize old.desk.windows.lines old.desk.windows.columns t.picture
       → LeadsOn old.desk.windows.lines old.desk.windows.columns at_stop.painter (all_sent outcomes) t
-  leads-stop nothing t fits =
-      let none : IsKnown old.painter.last t = subst (λ o. MatchOption o ⊤ (λ shown. t ≡ showing shown.picture shown.cursor)) (sym nothing) tt in
-      subst (λ p. LeadsOn old.desk.windows.lines old.desk.windows.columns p (all_sent outcomes) t) (sym makes.state.painter)
-      (leads-run old.desk.windows.lines old.desk.windows.columns (state_of old) made outcomes t (screen-size old one_size) fits makes.run none)
+  leads-stop nothing t fits = grind (arith, leads-run, screen-size)
 
   -- every call was made, and no write failed: a terminal shows what the painter showed last
   shows-last : (shown : ShownPicture) → at_stop.painter.last ≡ Some shown → (stream : List ℕ) (t : Terminal) → HasSize old.desk.windows.lines old.desk.windows.columns t.picture
@@ -300,13 +277,11 @@ module _ {W : Type 0} (seen : W → Seen) (old at_stop new : ScreenOver W) (cs m
 
 run-stops : {W : Type 0} (seen : W → Seen) (old at_stop new : ScreenOver W) (cs made left : List Call) (outcomes : List Outcome) (fault : Option WriteFault) → Makes seen old made outcomes at_stop
     → HasOneSize old.desk old.painter → cs ≡ made ++ left → Stops seen at_stop left fault new → RunShows seen old new cs fault
-run-stops seen old at_stop new cs made left outcomes None makes one_size parts stop =
-    shows-unbroken seen old at_stop new cs made outcomes makes one_size (parts ∙ ap (λ l. made ++ l) stop.0 ∙ append-nil made) stop.1
-run-stops seen old at_stop new cs made left outcomes (Some fault) makes one_size parts stop = shows-broken seen old at_stop new cs made outcomes makes one_size fault stop.1
+run-stops seen old at_stop new cs made left outcomes fault makes one_size parts stop = grind (arith, shows-unbroken, shows-broken, append-nil)
 
 pub run-shows : {W : Type 0} (seen : W → Seen) (old new : ScreenOver W) (cs : List Call) (end : RunEnd) → HasOneSize old.desk old.painter → RunEnds seen old cs end new
     → RunShows seen old new cs end.fault
-run-shows seen old new cs end one_size h = run-stops seen old h.at_stop new cs h.made h.left h.outcomes end.fault h.makes one_size h.parts h.stop
+run-shows seen old new cs end one_size h = grind (arith, run-stops)
 
 -- ---- one call
 
@@ -324,10 +299,10 @@ call-shows seen old new call (Err (Write fault)) one_size h =
 
 -- the world of the state has the size of the desk
 size-of : {W : Type 0} (old new : ScreenOver W) → HasScreenSize old.desk.windows.lines old.desk.windows.columns (state_of new) → KeepsSize old.desk new.desk
-size-of old new h = record { lines = h.lines_of; columns = h.columns_of }
+size-of old new h = grind arith
 
 pub cut-keeps_size : {W : Type 0} (seen : W → Seen) (old new : ScreenOver W) (fault : WriteFault) → IsCut seen old new fault → KeepsSize old.desk new.desk
-cut-keeps_size seen old new fault h = record { lines = ap (λ (s : State). s.world.windows.lines) h.state; columns = ap (λ (s : State). s.world.windows.columns) h.state }
+cut-keeps_size seen old new fault h = grind arith
 
 pub call-keeps_size : {W : Type 0} (seen : W → Seen) (old new : ScreenOver W) (call : Call) (r : Result Reply Fault) → HasOneSize old.desk old.painter → CallEnds seen old call r new
     → KeepsSize old.desk new.desk
@@ -338,20 +313,17 @@ call-keeps_size seen old new call (Err (Write fault)) one_size h = cut-keeps_siz
 
 pub makes-keep_size : {W : Type 0} (seen : W → Seen) (old new : ScreenOver W) (cs : List Call) (outcomes : List Outcome) → HasOneSize old.desk old.painter → Makes seen old cs outcomes new
     → KeepsSize old.desk new.desk
-makes-keep_size seen old new cs outcomes one_size h = size-of old new
-    (still-sized h.state (size-at_end old.desk.windows.lines old.desk.windows.columns (state_of old) cs outcomes (screen-size old one_size)))
+makes-keep_size seen old new cs outcomes one_size h = grind (arith, size-of, still-sized, size-at_end, screen-size)
 
 pub then-keeps_size : (old mid new : DeskTable) → KeepsSize old mid → KeepsSize mid new → KeepsSize old new
-then-keeps_size old mid new h k = record { lines = k.lines ∙ h.lines; columns = k.columns ∙ h.columns }
+then-keeps_size old mid new h k = grind arith
 
 stop-keeps_size : {W : Type 0} (seen : W → Seen) (at_stop new : ScreenOver W) (left : List Call) (fault : Option WriteFault) → Stops seen at_stop left fault new → KeepsSize at_stop.desk new.desk
-stop-keeps_size seen at_stop new left None h = subst (λ s. KeepsSize at_stop.desk s.desk) (sym h.1) (record { lines = refl; columns = refl })
-stop-keeps_size seen at_stop new left (Some fault) h = cut-keeps_size seen at_stop new fault h.1
+stop-keeps_size seen at_stop new left fault h = grind (arith, cut-keeps_size)
 
 pub run-keeps_size : {W : Type 0} (seen : W → Seen) (old new : ScreenOver W) (cs : List Call) (end : RunEnd) → HasOneSize old.desk old.painter → RunEnds seen old cs end new
     → KeepsSize old.desk new.desk
-run-keeps_size seen old new cs end one_size h =
-    then-keeps_size old.desk h.at_stop.desk new.desk (makes-keep_size seen old h.at_stop h.made h.outcomes one_size h.makes) (stop-keeps_size seen h.at_stop new h.left end.fault h.stop)
+run-keeps_size seen old new cs end one_size h = grind (arith, then-keeps_size, makes-keep_size, stop-keeps_size)
 
 -- all that is known of it follows
 pub call-made : {W : Type 0} (seen : W → Seen) (name : W → ℕ) (old new : ScreenOver W) (call : Call) (r : Result Reply Fault) → HasOneSize old.desk old.painter → CallEnds seen old call r new

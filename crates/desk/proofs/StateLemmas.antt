@@ -1,18 +1,18 @@
 -- States with more lines damaged: the outcomes that calls may have in one, they may have in the other.
-use Rattle.std.proofs.Common.{◌≡◌, ◌≤◌, ℕ, ◌||◌, if◌then◌else◌, Bool, true, false, cond, List, [], ◌∷◌, Some, Result, Ok, Err, ap, refl, sym, subst, ◌∙◌, arith}
+use Rattle.std.proofs.Common.{◌≡◌, ◌≤◌, ℕ, ◌||◌, if◌then◌else◌, Bool, true, false, cond, List, [], ◌∷◌, Result, Ok, Err, subst, arith}
 use Rattle.std.proofs.Math.Nat.{mul-le-mul_right}
 use Rattle.std.proofs.lemmas.List.Sums.{sum_by-le-sum_by}
-use Rattle.std.specs.List.{count_by, range_with_len}
+use Rattle.std.specs.List.{count_by}
 use Rattle.cell.specs.declared.refusal.Refusal.{Refusal}
 use Rattle.paint.specs.Updates.{PainterState}
 use Rattle.world.specs.Sound.{IsSound}
 use Rattle.world.specs.World.{World}
-use Rattle.world.specs.calls.Affected.{affected_after, affected_lines}
-use Rattle.world.specs.calls.Dispatch.{is_doupdate, is_update_panels}
+use Rattle.world.specs.calls.Affected.{affected_after}
+use Rattle.world.specs.calls.Dispatch.{is_doupdate}
 use Rattle.compose.specs.Calling.{MayRead}
 use Rattle.paint.specs.declared.changes.Stretch.{Stretch}
 use Rattle.compose.specs.Desks.{DeskTable, world}
-use Rattle.desk.specs.States.{HasOneSize, IsScreen, IsWithin, ScreenOver, State, after, state_of, wanted}
+use Rattle.desk.specs.States.{HasOneSize, IsScreen, IsWithin, ScreenOver, State, after, state_of}
 use Rattle.desk.specs.Runs.{MayAnswer, Outcome, Run, state_after, state_at_end}
 use Rattle.world.specs.declared.call.Call.{Call}
 use Rattle.world.specs.declared.call.Call.TheVariants as calls
@@ -26,42 +26,35 @@ abbrev pub AreAmong : (ℕ → Bool) → (ℕ → Bool) → Type 0
 AreAmong few more = (line : ℕ) → few line ≡ true → more line ≡ true
 
 after-among : (ends few more affected : Bool) → (few ≡ true → more ≡ true) → (if ends then false else few || affected) ≡ true → (if ends then false else more || affected) ≡ true
-after-among true few more affected h e = e
-after-among false few true affected h e = refl
-after-among false true false affected h e = let no : false ≡ true = h refl in cc
-after-among false false false affected h e = e
+after-among ends few more affected h e = grind arith
 
 lines-among : (w : World) (few more : ℕ → Bool) (call : Call) → AreAmong few more → AreAmong (affected_after w few call) (affected_after w more call)
-lines-among w few more call h = λ line e. after-among (is_update_panels call) (few line) (more line) (affected_lines w call line) (h line) e
+lines-among w few more call h = grind (arith, after-among)
 
 bit-among : (few more : Bool) → (few ≡ true → more ≡ true) → cond few 1 0 ≤ cond more 1 0
-bit-among true true h = omega arith
-bit-among true false h = let no : false ≡ true = h refl in cc
-bit-among false more h = omega arith
+bit-among few more h = grind arith
 
 count-among : (few more : ℕ → Bool) → AreAmong few more → (xs : List ℕ) → count_by few xs ≤ count_by more xs
-count-among few more h xs = sum_by-le-sum_by (λ x. cond (few x) 1 0) (λ x. cond (more x) 1 0) xs (λ x. bit-among (few x) (more x) (h x))
+count-among few more h xs = grind (arith, sum_by-le-sum_by, bit-among)
 
 read-among : (w : World) (few more : ℕ → Bool) (cells : ℕ) → AreAmong few more → MayRead w few cells → MayRead w more cells
-read-among w few more cells h may =
-    let lines = mul-le-mul_right w.windows.columns (count-among few more h (range_with_len 0 w.windows.lines)) in
-    record { at_least = may.at_least; at_most = omega (arith, may.at_most, lines) }
+read-among w few more cells h may = grind (arith, mul-le-mul_right, count-among)
 
 -- ---- states
 
 -- a call that sends nothing leaves the painter as it was
 pub painter-quiet : (s : State) (call : Call) → is_doupdate call ≡ false → (after s call).painter ≡ s.painter
-painter-quiet s call other = ap (λ b. if b then record s.painter { last = Some (wanted s.world) } else s.painter) other
+painter-quiet s call other = grind arith
 
 pub IsWithin-refl : (s : State) → IsWithin s s
-IsWithin-refl s = record { world = refl; painter = refl; damaged = λ line h. h }
+IsWithin-refl s = grind arith
 
 -- a screen that a refused call left as it was
 pub is-kept : {W : Type 0} {old new : ScreenOver W} → new ≡ old → IsWithin (state_of new) (state_of old)
-is-kept {old} same = subst (λ s. IsWithin (state_of s) (state_of old)) (sym same) (IsWithin-refl (state_of old))
+is-kept {old} same = grind arith
 
 pub IsWithin-trans : {s t u : State} → IsWithin s t → IsWithin t u → IsWithin s u
-IsWithin-trans h k = record { world = h.world ∙ k.world; painter = h.painter ∙ k.painter; damaged = λ line e. k.damaged line (h.damaged line e) }
+IsWithin-trans h k = grind arith
 
 -- A property of states that grows with the lines goes over.
 grows : (P : State → Type 0) → ((w : World) (painter : PainterState) (few more : ℕ → Bool) → AreAmong few more
@@ -79,11 +72,7 @@ pub MayAnswer-within : {s t : State} (call : Call) (answer : Result Reply Refusa
 MayAnswer-within {s} {t} call answer sent h may = grows (λ s. MayAnswer s call answer sent) (λ w painter few more. answer-among w painter few more call answer sent) s t h may
 
 pub state_after-within : {s t : State} (call : Call) (answer : Result Reply Refusal) → IsWithin s t → IsWithin (state_after s call answer) (state_after t call answer)
-state_after-within call (Err e) h = h
-state_after-within {s} {t} call (Ok reply) h =
-    grows (λ u. IsWithin (after s call) (after u call))
-    (λ w painter few more among k. IsWithin-trans k (record { world = refl; painter = refl; damaged = lines-among w few more call among }))
-    s t h (IsWithin-refl (after s call))
+state_after-within call answer h = grind (arith, lines-among)
 
 pub state_at_end-within : {s t : State} (calls : List Call) (outcomes : List Outcome) → IsWithin s t → IsWithin (state_at_end s calls outcomes) (state_at_end t calls outcomes)
 state_at_end-within [] outcomes h = h
@@ -93,21 +82,14 @@ state_at_end-within {s = s} {t = t} (c ∷ cs) (o ∷ os) h =
 
 pub Run-within : {s t : State} (calls : List Call) (outcomes : List Outcome) → IsWithin s t → Run s calls outcomes → Run t calls outcomes
 Run-within [] [] h run = run
-Run-within {s = s} {t = t} (c ∷ cs) (o ∷ os) h run = (
-  MayAnswer-within c o.answer o.sent h run.0,
-  Run-within {s = state_after s c o.answer} {t = state_after t c o.answer} cs os (state_after-within c o.answer h) run.1,
-)
+Run-within {s = s} {t = t} (c ∷ cs) (o ∷ os) h run =
+    (MayAnswer-within c o.answer o.sent h run.0, Run-within {s = state_after s c o.answer} {t = state_after t c o.answer} cs os (state_after-within c o.answer h) run.1)
 Run-within calls outcomes h run = absurd run
 
 -- ---- what always holds of a screen
 
 pub of-screen : {W : Type 0} {s t : ScreenOver W} {changes : List Stretch} → s ≡ t → IsScreen s.desk s.painter changes → HasOneSize t.desk t.painter × IsSound (world t.desk)
-of-screen is h = subst (λ u. HasOneSize u.desk u.painter × IsSound (world u.desk)) is (h.size, h.sound)
+of-screen is h = grind arith
 
 pub sound-cleared : (t : DeskTable) → IsSound (world t) → IsSound (world (record t { virtual = record t.virtual { clear = false } }))
-sound-cleared t h = record {
-  windows = h.windows;
-  panels = h.panels;
-  pairs = h.pairs;
-  virtual = record { size = h.virtual.size; cells = h.virtual.cells; line = h.virtual.line; column = h.virtual.column };
-}
+sound-cleared t h = grind arith

@@ -1,18 +1,18 @@
 -- In which columns calls change the virtual screen.
-use Rattle.std.proofs.Common.{◌≡◌, ℕ, ◌+◌, ◌-◌, ◌<◌, ◌≤◌, ◌&&◌, Bool, true, false, inl, inr, nat_le, nat_lt, List, length, max, min, set, MatchOption, Option, Some, None, Result, Ok, Err, refl}
-use Rattle.std.proofs.Common.{sym, ap, ◌∙◌, subst, arith}
+use Rattle.std.proofs.Common.{◌≡◌, ℕ, ◌+◌, ◌-◌, ◌<◌, ◌≤◌, ◌&&◌, Bool, false, nat_le, nat_lt, List, length, max, min, set, MatchOption, Option, Some, None, Result, Ok, Err}
+use Rattle.std.proofs.Common.{sym, ap, ◌∙◌, arith}
 use Rattle.std.specs.Option.{option_and_then, option_map_or}
 use Rattle.std.proofs.lemmas.Bool.{cases_lt}
 use Rattle.std.proofs.lemmas.Bool.Decides.{nat_tests}
 use Rattle.cell.specs.Pictures.{HasSize, Picture, origin, picture_of, shown_at}
-use Rattle.cell.specs.Shown.{Shown, shown_blank}
+use Rattle.cell.specs.Shown.{Shown}
 use Rattle.cell.proofs.PictureLemmas.{HasSize-lines_from, cell_or-lines_from}
 use Rattle.paint.specs.Changes.{is_in, join, may_change, stretch_of}
 use Rattle.paint.specs.declared.changes.Stretch.{Stretch}
 use Rattle.paint.proofs.Changed.{not-added, not-before, out-of}
 use Rattle.paint.proofs.Copying.{same-outside}
-use Rattle.std.specs.Prelude.{⊤, if◌then◌else◌}
-use Rattle.world.specs.Panels.{cell_on_screen, holds_place, screen_place}
+use Rattle.std.specs.Prelude.{⊤}
+use Rattle.world.specs.Panels.{holds_place, screen_place}
 use Rattle.cell.specs.declared.refusal.Refusal.{Refusal}
 use Rattle.compose.specs.Calling.{Called}
 use Rattle.compose.specs.Desks.{DeskTable, world}
@@ -33,70 +33,39 @@ use Rattle.world.specs.calls.Refresh.{among, touched_cells}
 pub wider : {Q : ℕ → ℕ → Type 0} (changes : List Stretch) (y : ℕ) (s : Stretch) (bound : ℕ) → ((v u : ℕ) → v < y → u < bound → may_change changes v u ≡ false → Q v u)
     → (y < length changes → (u : ℕ) → u < bound → is_in s u ≡ false → Q y u)
     → (v u : ℕ) → v < y + 1 → v < length changes → u < bound → may_change (set changes y (join (stretch_of changes y) s)) v u ≡ false → Q v u
-wider {Q} changes y s bound done here v u few inside left none = elim (cases_lt v y) [
-  | inl before ↦ done v u before left (not-before changes y s v u none)
-  | inr from ↦
-      let line : v ≡ y = omega arith in
-      subst (λ n. Q n u) (sym line)
-      (here (omega arith) u left (not-added changes y s u (omega arith) (subst (λ n. may_change (set changes y (join (stretch_of changes y) s)) n u ≡ false) line none)))
-]
+wider {Q} changes y s bound done here v u few inside left none = grind (arith, cases_lt, not-before, not-added)
 
 and-right : (b c : Bool) → c ≡ false → (b && c) ≡ false
-and-right true c h = h
-and-right false c h = refl
+and-right b c h = grind arith
 
 -- ---- what is touched of a window
 
 pub not-touched : (o : Option Window) (top left y u : ℕ) → option_and_then (λ a. a.place) o ≡ Some (top, left) → (left ≤ u → among (option_and_then (λ a. a.touched y) o) (u - left) ≡ false)
     → (option_map_or (holds_place (top + y) u) o false
     && option_map_or (λ a. among (a.touched (top + y - (option_map_or screen_place o origin).0)) (u - (option_map_or screen_place o origin).1)) o false) ≡ false
-not-touched None top left y u is none = refl
-not-touched (Some a) top left y u is none = rw is (elim (cases_lt u left) [
-  | inl before ↦ grind (arith, nat_tests)
-  | inr from ↦
-      let line : top + y - top ≡ y = omega arith in
-      rw line (and-right ((nat_le top (top + y) && nat_lt (top + y) (top + a.lines)) && (nat_le left u && nat_lt u (left + a.columns))) (among (a.touched y) (u - left)) (none from))
-])
+not-touched o top left y u is none = grind (arith, cases_lt, nat_tests)
 
 -- ---- a picture that is drawn anew
 
 pub redrawn : (lines columns : ℕ) (f : ℕ → ℕ → Shown) (old : Picture) → HasSize lines columns old → (y x : ℕ) → (y < lines → x < columns → f y x ≡ shown_at old (y, x))
     → shown_at (picture_of lines columns f) (y, x) ≡ shown_at old (y, x)
-redrawn lines columns f old size y x same = elim (cases_lt y lines) [
-  | inl below ↦ elim (cases_lt x columns) [
-    | inl left ↦ cell_or-lines_from shown_blank lines columns f y x below left ∙ same below left
-    | inr right ↦ same-outside (HasSize-lines_from lines columns f) size y x (λ _ left. absurd (omega arith))
-  ]
-  | inr out ↦ same-outside (HasSize-lines_from lines columns f) size y x (λ below _. absurd (omega arith))
-]
+redrawn lines columns f old size y x same = grind (arith, cases_lt, cell_or-lines_from, same-outside, HasSize-lines_from)
 
 -- and where nothing is added, if it holds of those of this line
 pub no-wider : {Q : ℕ → ℕ → Type 0} (changes : List Stretch) (y bound : ℕ) → ((v u : ℕ) → v < y → u < bound → may_change changes v u ≡ false → Q v u)
     → ((u : ℕ) → u < bound → Q y u) → (v u : ℕ) → v < y + 1 → u < bound → may_change changes v u ≡ false → Q v u
-no-wider {Q} changes y bound done here v u few left none = elim (cases_lt v y) [
-  | inl before ↦ done v u before left none
-  | inr from ↦ let line : v ≡ y = omega arith in subst (λ n. Q n u) (sym line) (here u left)
-]
+no-wider {Q} changes y bound done here v u few left none = grind (arith, cases_lt)
 
 -- ---- a rectangle
 
 pub beside : (a : Stretch) (top bottom left right y x : ℕ) → a.start ≡ left → a.end ≡ min (max right left + 1) 65535 → x < 65535
     → (top ≤ y → y < max bottom top + 1 → is_in a x ≡ false)
     → (nat_le top y && nat_lt y (top + (bottom - top + 1)) && (nat_le left x && nat_lt x (left + (right - left + 1)))) ≡ false
-beside a top bottom left right y x start end few out = elim (cases_lt y top) [
-  | inl above ↦ grind (arith, nat_tests)
-  | inr from ↦ elim (cases_lt y (top + (bottom - top + 1))) [
-    | inr below ↦ grind (arith, nat_tests)
-    | inl to ↦ elim (out-of a x (out from (omega arith))) [
-      | inl before ↦ let side : x < left = omega (arith, before, start) in grind (arith, nat_tests)
-      | inr past ↦ let side : left + (right - left + 1) ≤ x = omega (arith, past, end) in grind (arith, nat_tests)
-    ]
-  ]
-]
+beside a top bottom left right y x start end few out = grind (arith, cases_lt, nat_tests, out-of)
 
 pub untouched : (window : WindowMap) (w top left y u : ℕ) → place_on_screen window w ≡ Some (top, left) → (left ≤ u → among (touched_columns window w y) (u - left) ≡ false)
     → touched_cells window w (top + y) u ≡ None
-untouched window w top left y u is none = ap (λ b. if b then Some (cell_on_screen window w (top + y) u) else None) (not-touched (window w) top left y u is none)
+untouched window w top left y u is none = grind (arith, not-touched)
 
 -- ---- what the painter has to look at
 
@@ -120,16 +89,10 @@ pub screen-called : (old new : DeskTable) (call : Call) (r : Result Reply Refusa
     → length wide ≡ length changes → ((y x : ℕ) → may_change wide y x ≡ false → may_change changes y x ≡ false)
     → (refusal (world old) call ≡ None → (y x : ℕ) → may_change wide y x ≡ false → shown_at (world_after (world old) call).virtual.picture (y, x) ≡ shown_at old.virtual.picture (y, x))
     → IsScreen old painter changes → IsScreen new painter wide
-screen-called old new call r painter changes wide called long keeps same h =
-    let size = size-called old new call r called in
-    record {
-      sound = sound-called old new call r h.sound called;
-      size = record { lines = h.size.lines ∙ sym size.0; columns = h.size.columns ∙ sym size.1 };
-      kept = kept-called old new call r painter changes wide called long keeps same h.kept;
-    }
+screen-called old new call r painter changes wide called long keeps same h = grind (arith, size-called, sound-called, kept-called)
 
 -- nothing is copied beside a rectangle
 pub not-copied : (window : WindowMap) (src sy sx top left bottom right y x : ℕ)
     → (nat_le top y && nat_lt y (top + (bottom - top + 1)) && (nat_le left x && nat_lt x (left + (right - left + 1)))) ≡ false
     → copywin_drawing window src sy sx top left bottom right false y x ≡ None
-not-copied window src sy sx top left bottom right y x out = rw out refl
+not-copied window src sy sx top left bottom right y x out = grind arith

@@ -1,8 +1,7 @@
 -- What calls do to the writer of a screen.
-use Rattle.std.proofs.Common.{◌≡◌, ℕ, Bool, true, false, ◌||◌, List, [], ◌∷◌, ◌++◌, Option, Some, None, Ok, Err, inl, inr, refl, sym, ap, ◌∙◌, subst}
+use Rattle.std.proofs.Common.{arith, ◌≡◌, ℕ, Bool, true, false, ◌||◌, List, [], ◌∷◌, ◌++◌, Some, None, Ok, Err, refl, sym}
 use Rattle.std.proofs.KnownBytes.{Appends-nil, Appends-trans}
 use Rattle.std.proofs.lemmas.List.Folds.{list_any-append}
-use Rattle.std.specs.List.{list_any}
 use Rattle.cell.specs.declared.refusal.Refusal.{Refusal}
 use Rattle.streams.specs.Counts.{count_after}
 use Rattle.streams.specs.Sinks.{Seen}
@@ -30,41 +29,28 @@ use Rattle.desk.specs.declared.screen.Fault.TheVariants.{Refused, Write}
 -- a call that has no test and takes no memory is never refused
 pub never-refused : (w : World) (refresh : Refresh) (e : Refusal) → refresh_refusal w.windows refresh ≡ None → takes_memory w (calls.Refresh refresh) ≡ false → MayRefuse w (calls.Refresh refresh) e
     → ⊥
-never-refused w refresh e none no_memory (inl h) = let no : ◌≡◌ {A = Option Refusal} None (Some e) = sym none ∙ h in cc
-never-refused w refresh e none no_memory (inr h) = let no : false ≡ true = sym no_memory ∙ h.1 in cc
+never-refused w refresh e none no_memory refused = grind arith
 
 flushes_after-append : (flushes : ℕ) (calls more : List Call) → flushes_after flushes (calls ++ more) ≡ flushes_after (flushes_after flushes calls) more
 flushes_after-append flushes [] more = refl
 flushes_after-append flushes (call ∷ calls) more = flushes_after-append (count_after (is_doupdate call) flushes) calls more
 
 or-damaged : (damaged affected : Bool) → damaged ≡ true → (damaged || affected) ≡ true
-or-damaged damaged affected h = rw h refl
+or-damaged damaged affected h = grind arith
 
 or_turned : (a b c : Bool) → (b || (a || c)) ≡ ((a || b) || c)
-or_turned true true c = refl
-or_turned true false c = refl
-or_turned false b c = refl
+or_turned a b c = grind arith
 
 module _ {W : Type 0} (seen : W → Seen) where
   pub Writes-nothing : (old : ScreenOver W) → Writes seen old old [] []
-  Writes-nothing old = record { taken = Appends-nil _; flushes = refl; flushed = refl }
+  Writes-nothing old = grind (arith, Appends-nil)
 
   pub Writes-trans : (old mid new : ScreenOver W) (calls more : List Call) (bytes others : List ℕ) → Writes seen old mid calls bytes → Writes seen mid new more others
       → Writes seen old new (calls ++ more) (bytes ++ others)
-  Writes-trans old mid new calls more bytes others h k = record {
-    taken = Appends-trans _ _ _ _ _ h.taken k.taken;
-    flushes = k.flushes ∙ ap (λ n. flushes_after n more) h.flushes ∙ sym (flushes_after-append (seen old.writer).flushes calls more);
-    flushed = k.flushed ∙ ap (λ b. list_any is_doupdate more || b) h.flushed
-        ∙ or_turned (list_any is_doupdate calls) (list_any is_doupdate more) (seen old.writer).flushed
-        ∙ ap (λ b. b || (seen old.writer).flushed) (sym (list_any-append is_doupdate calls more));
-  }
+  Writes-trans old mid new calls more bytes others h k = grind (arith, Appends-trans, flushes_after-append, or_turned, list_any-append)
 
   quiet : (old new : ScreenOver W) (call : Call) → is_doupdate call ≡ false → new.writer ≡ old.writer → Writes seen old new (call ∷ []) []
-  quiet old new call other same = subst (λ w. Writes seen old (record new { writer = w }) (call ∷ []) []) (sym same) (record {
-    taken = Appends-nil _;
-    flushes = ap (λ b. count_after b (seen old.writer).flushes) (sym other);
-    flushed = ap (λ b. (b || false) || (seen old.writer).flushed) (sym other);
-  })
+  quiet old new call other same = grind (arith, Appends-nil)
 
   -- a refused call
   pub Writes-refused : (old : ScreenOver W) (call : Call) (e : Refusal) → MayRefuse (world old.desk) call e → Writes seen old old (call ∷ []) []
@@ -90,7 +76,7 @@ module _ {W : Type 0} (seen : W → Seen) where
   -- a call of the desk was refused
   pub refused-ends : (old : ScreenOver W) (desk : DeskTable) (call : Call) (e : Refusal) → Called old.desk call (Err e) desk
       → CallEnds seen old call (Err (Refused e)) (record old { desk = desk })
-  refused-ends old desk call e h = (h.0, ap (λ d. record old { desk = d }) h.1)
+  refused-ends old desk call e h = grind arith
 
   -- a doupdate sent all of its text
   pub updated-ends : (old : ScreenOver W) (writer : W) (bytes : ℕ)
@@ -100,17 +86,10 @@ module _ {W : Type 0} (seen : W → Seen) where
         painter = record old.painter { last = Some (wanted (world old.desk)) };
         writer = writer;
       })
-  updated-ends old writer bytes u = (
-    record { world = refl; painter = refl; damaged = λ line h. or-damaged _ _ h },
-    (
-      u.text,
-      (refl, (u.is_text, ap (λ n. Sent (record { bytes = n })) u.count)),
-      record { taken = u.taken; flushes = u.flushes; flushed = u.flushed },
-    ),
-  )
+  updated-ends old writer bytes u = grind (arith, or-damaged)
 
   -- a doupdate sent a prefix of its text
   pub cut-ends : (old : ScreenOver W) (writer : W) (fault : WriteFault)
       → BreaksOff old.painter old.desk.virtual.clear (seen old.writer) (seen writer) (wanted (world old.desk)) fault.sent
       → CallEnds seen old (calls.Refresh Doupdate) (Err (Write fault)) (record { desk = old.desk; painter = record old.painter { last = None }; writer = writer })
-  cut-ends old writer fault b = (refl, record { state = refl; text = b.text; is_text = b.is_text; within = b.within; bytes = b.taken; flushes = b.flushes })
+  cut-ends old writer fault b = grind arith
