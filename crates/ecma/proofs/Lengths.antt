@@ -22,10 +22,10 @@ length-codes [] h = omega arith
 length-codes (code ∷ codes) h = grind (arith, length-append, length-decimal-le, (length-codes codes h.1))
 
 pub two_digits : (first number : ℕ) (text : List ℕ) → first ≤ 40 → number ≤ LAST_COLOUR → text ≡ decimal (first + number) → length text ≤ 2
-two_digits first number text few small is = rw is (length-decimal-le 2 (first + number) (omega arith) (omega arith) (omega arith))
+two_digits first number text few small is = grind (arith, length-decimal-le)
 
 pub three_digits : (n : ℕ) (text : List ℕ) → n < LARGEST_SCREEN → text ≡ decimal (n + 1) → length text ≤ 3
-three_digits n text few is = rw is (length-decimal-le 3 (n + 1) (omega arith) (omega arith) (omega arith))
+three_digits n text few is = grind (arith, length-decimal-le)
 
 -- a separator and two digits
 pub length-colour : (first : ℕ) (colour : Option ℕ) → first ≤ 40 → IsColour colour → length (selection (code_of_colour first colour)) ≤ 3

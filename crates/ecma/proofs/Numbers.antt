@@ -25,7 +25,7 @@ number_or-digits : (default : ℕ) (digits : List ℕ) → 0 < length digits →
 number_or-digits default digits h = grind arith
 
 pub number_or-decimal : (default n : ℕ) → n < 2 ^ 64 → number_or default (decimal n) ≡ n
-number_or-decimal default n fits = number_or-digits default (decimal n) (decimal_nonempty n fits) ∙ digits_value-decimal numerals n fits
+number_or-decimal default n fits = grind (arith, number_or-digits, decimal_nonempty, numerals, digits_value-decimal)
 
 -- ---- codes of attributes
 
@@ -78,9 +78,7 @@ pub one_digit : (bits : ℕ) → bits < 64 → AllByRecursion (λ code. code < 1
 one_digit bits small = each_small (codes_of_attributes bits) (small_attributes bits small) where
   each_small : (codes : List ℕ) → list_all (λ code. nat_lt code 10) codes ≡ true → AllByRecursion (λ code. code < 10) codes
   each_small [] h = tt
-  each_small (code ∷ codes) h =
-      let parts = and_parts (nat_lt code 10) (list_all (λ code. nat_lt code 10) codes) h in
-      (ltb-true code 10 parts.0, each_small codes parts.1)
+  each_small (code ∷ codes) h = grind (arith, and_parts, ltb-true, (each_small codes))
 
 -- ---- codes of colours
 
@@ -100,7 +98,7 @@ then_append codes more o h = grind arith
 
 pub select_all-append : (codes more : List ℕ) (rendition : Rendition) → select_all (codes ++ more) rendition ≡ option_and_then (select_all more) (select_all codes rendition)
 select_all-append [] more rendition = refl
-select_all-append (code ∷ codes) more rendition = then_append codes more (select code rendition) (λ next. select_all-append codes more next)
+select_all-append (code ∷ codes) more rendition = grind (arith, (select_all-append codes more))
 
 pub select_all-codes_of : (rendition : Rendition) → IsRendition rendition → select_all (codes_of rendition) no_rendition ≡ Some rendition
 select_all-codes_of rendition h = grind (arith, select_all-append, select_all-attributes, select-foreground, select-background)

@@ -68,17 +68,9 @@ selected-next ended i parameter rendition selected h is e =
 pub selected-last : (digits : List (List ℕ)) (ended : List Parameter) (last : Parameter) (rendition selected : Rendition) → map parameter_of digits ≡ ended ++ last ∷ []
     → selected_by ended rendition ≡ Some selected
     → select_all (map (number_or 0) digits) rendition ≡ select (number_of 0 last) selected
-selected-last digits ended last rendition selected same e = select_all-kept digits (ended ++ last ∷ []) rendition same ∙ selected_by-push ended last rendition selected e
+selected-last digits ended last rendition selected same e = grind (arith, select_all-kept, selected_by-push)
 
 pub selected-none : (digits : List (List ℕ)) (ended : List Parameter) (last : Parameter) (i : ℕ) (rendition : Rendition) → map parameter_of digits ≡ ended ++ last ∷ [] → i < length ended
     → selected_by (take (i + 1) ended) rendition ≡ None
     → select_all (map (number_or 0) digits) rendition ≡ None
-selected-none digits ended last i rendition same h none =
-    let prefix = take (i + 1) ended in
-    let back = drop (i + 1) ended ++ last ∷ [] in
-    select_all-kept digits (ended ++ last ∷ []) rendition same
-    ∙ ap (λ (kept : List Parameter). selected_by kept rendition) (sym (ap (λ (kept : List Parameter). kept ++ last ∷ []) (take-append-drop (i + 1) ended))
-    ∙ append_assoc prefix (drop (i + 1) ended) (last ∷ []))
-    ∙ ap (λ (codes : List ℕ). select_all codes rendition) (map-append (number_of 0) prefix back)
-    ∙ select_all-append (map (number_of 0) prefix) (map (number_of 0) back) rendition
-    ∙ ap (option_and_then (select_all (map (number_of 0) back))) none
+selected-none digits ended last i rendition same h none = grind (arith, select_all-kept, (take-append-drop (i + 1) ended), append_assoc, map-append, select_all-append)
