@@ -134,11 +134,8 @@ current-short : (ended : List (List ℕ)) (current : List ℕ) (byte : ℕ) (mis
     → join_with_byte 59 (ended ++ current ∷ []) ++ byte ∷ missing ≡ join_with_byte 59 qs ++ final_byte function ∷ [] → length current < 3
 current-short [] current byte missing qs function h k short one digit e = current-first current byte missing qs function h.0 short one digit e
 current-short (a ∷ ended) current byte missing qs function h k short one digit e =
-    let next = others a (join_with_byte 59 (ended ++ current ∷ []) ++ byte ∷ missing) qs function h.0 k one
-    (sym (append_assoc a (59 ∷ join_with_byte 59 (ended ++ current ∷ [])) (byte ∷ missing)) ∙ sym (ap (λ (prefix : List ℕ). prefix ++ byte ∷ missing) (join-more a ended current)) ∙ e) in
-    let digits = subst AreDigits next.is k in
-    let lengths = subst AreShort next.is short in
-    current-short ended current byte missing next.rest function h.1 digits.1 lengths.1 next.some digit next.after
+    let next = others a (join_with_byte 59 (ended ++ current ∷ []) ++ byte ∷ missing) qs function h.0 k one (grind (arith, append_assoc, join-more)) in
+    grind (arith, (current-short ended current byte missing next.rest function))
 
 ended-few : (ended : List (List ℕ)) (current : List ℕ) (missing : List ℕ) (qs : List (List ℕ)) (function : Function) → AreDigits (ended ++ current ∷ []) → AreDigits qs → 1 ≤ length qs
     → join_with_byte 59 (ended ++ current ∷ []) ++ 59 ∷ missing ≡ join_with_byte 59 qs ++ final_byte function ∷ [] → length ended + 2 ≤ length qs

@@ -90,17 +90,14 @@ pub LeadsWithBreaks-append : (stream more : List ℕ) (t u v : Terminal) → Lea
 LeadsWithBreaks-append stream more t u v h k = record {
   items = h.items ++ k.items;
   splits = Splits-append (stream ++ more) h.items more k.items [] (Splits-ends_then stream h.items more h.splits h.ends_finished) k.splits;
-  ends_finished = EndsFinished-append_finished h.items k.items h.ends_finished k.finished;
-  have_effect = effects-then h.items k.items t u v h.have_effect k.have_effect;
+  ends_finished = grind (arith, EndsFinished-append_finished);
+  have_effect = grind (arith, effects-then);
 }
 
 -- what is in the profile goes on from a stream whose last item is finished
 pub LeadsWithBreaks-in_profile_then : (stream more : List ℕ) (t u v : Terminal) → LeadsWithBreaks stream t u → IsInProfile more u v → IsInProfile (stream ++ more) t v
-LeadsWithBreaks-in_profile_then stream more t u v h k = record {
-  items = h.items ++ k.items;
-  splits = Splits-append (stream ++ more) h.items more k.items [] (Splits-ends_then stream h.items more h.splits h.ends_finished) k.splits;
-  have_effect = effects-then h.items k.items t u v h.have_effect k.have_effect;
-}
+LeadsWithBreaks-in_profile_then stream more t u v h k =
+    let splits = Splits-append (stream ++ more) h.items more k.items [] (Splits-ends_then stream h.items more h.splits h.ends_finished) k.splits in grind (arith, effects-then)
 
 -- ---- repair: what begins with an escape goes on from anything that is in the profile
 
@@ -186,10 +183,8 @@ cut_at n bytes (item ∷ items) t v h f e =
     rw h.1 (elim (cases_lt n (length (bytes_of item))) [
       | inl lt ↦ rw (take-append-le n (bytes_of item) h.0 (omega arith)) (cut_in_item item n t h.2 f.0 lt)
       | inr le ↦
-          let split : length (bytes_of item) + (n - length (bytes_of item)) ≡ n = omega arith in
-          subst (λ (k : ℕ). Cut (take k (bytes_of item ++ h.0)) t) split
-          (cut_later item h.0 (n - length (bytes_of item)) t first.0 h.2 f.0 first.1
-          (cut_at (n - length (bytes_of item)) h.0 items first.0 v h.4 f.1 first.2))
+          let rest = n - length (bytes_of item) in
+          subst (λ (k : ℕ). Cut (take k (bytes_of item ++ h.0)) t) (omega arith) (cut_later item h.0 rest t first.0 h.2 f.0 first.1 (cut_at rest h.0 items first.0 v h.4 f.1 first.2))
     ])
 
 in_profile : (bytes : List ℕ) (t : Terminal) → Cut bytes t → (u : Terminal) × IsInProfile bytes t u

@@ -64,9 +64,7 @@ some_from_selected o bits small e = grind arith
 pub select_all-attributes : (bits : ℕ) → bits < 64 → select_all (codes_of_attributes bits) no_rendition ≡ Some (only bits)
 unfolding selected
 select_all-attributes bits small =
-    let parts = and_parts (list_all (λ code. nat_lt code 10) (codes_of_attributes bits) && nat_lt (length (codes_of_attributes bits)) 7) (has_only (selected (codes_of_attributes bits)) bits)
-    (is_spelled_below bits small) in
-    some_from_selected (select_all (codes_of_attributes bits) no_rendition) bits small (only_from (selected (codes_of_attributes bits)) bits parts.1)
+    let parts = and_parts _ _ (is_spelled_below bits small) in some_from_selected _ bits small (only_from (selected (codes_of_attributes bits)) bits parts.1)
 
 small_attributes : (bits : ℕ) → bits < 64 → list_all (λ code. nat_lt code 10) (codes_of_attributes bits) ≡ true
 small_attributes bits small = (and_parts _ _ (and_parts _ _ (is_spelled_below bits small)).0).0
@@ -105,9 +103,7 @@ select_all-codes_of rendition h = grind (arith, select_all-append, select_all-at
 
 pub codes_small : (rendition : Rendition) → IsRendition rendition → AllByRecursion (λ code. code < 100) (codes_of rendition)
 codes_small rendition h =
-    let small : AllByRecursion (λ code. code < 100) (codes_of_attributes rendition.attributes) =
-    each-weaker (λ code. code < 10) (λ code. code < 100) (λ code h. omega (arith, h)) (codes_of_attributes rendition.attributes) (one_digit rendition.attributes h.of_the_six) in
-    search (rules, each-append)
+    let small = each-weaker (λ code. code < 10) (λ code. code < 100) (λ code h. omega (arith, h)) _ (one_digit rendition.attributes h.of_the_six) in search (rules, each-append)
 
 length-colour : (first : ℕ) (colour : Option ℕ) → length (code_of_colour first colour) ≤ 1
 length-colour first colour = grind arith

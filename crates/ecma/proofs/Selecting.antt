@@ -61,9 +61,7 @@ selected_by-push parameters last rendition selected e = grind (arith, map_push, 
 pub selected-next : (ended : List Parameter) (i : ℕ) (parameter : Parameter) (rendition selected : Rendition) → i < length ended → parameter ≡ get_or ended i parameter
     → selected_by (take i ended) rendition ≡ Some selected
     → selected_by (take (i + 1) ended) rendition ≡ select (number_of 0 parameter) selected
-selected-next ended i parameter rendition selected h is e =
-    ap (λ (kept : List Parameter). selected_by kept rendition) (take_more ended i parameter h ∙ ap (λ (p : Parameter). take i ended ++ p ∷ []) (sym is))
-    ∙ selected_by-push (take i ended) parameter rendition selected e
+selected-next ended i parameter rendition selected h is e = let taken = take_more ended i parameter h in grind (arith, selected_by-push)
 
 pub selected-last : (digits : List (List ℕ)) (ended : List Parameter) (last : Parameter) (rendition selected : Rendition) → map parameter_of digits ≡ ended ++ last ∷ []
     → selected_by ended rendition ≡ Some selected

@@ -81,7 +81,7 @@ keeps-map : {A : Type 0} (lines columns : ℕ) (f : A → Terminal) (o : Option 
 keeps-map lines columns = grind (arith, keeps-none, keeps-some)
 
 keeps-then : {A : Type 0} (lines columns : ℕ) (f : A → Option Terminal) (o : Option A) → ((x : A) → Keeps lines columns (f x)) → Keeps lines columns (option_and_then f o)
-keeps-then lines columns f None h = keeps-none lines columns
+keeps-then lines columns f None h = grind arith
 keeps-then lines columns f (Some x) h = h x
 
 keeps-cond : (lines columns : ℕ) (b : Bool) (o : Option Terminal) → Keeps lines columns o → Keeps lines columns (cond b o None)

@@ -61,12 +61,7 @@ sgr rendition h =
     let fine : AreSmall (codes_of rendition) = codes_small rendition h in
     record {
       item = Control SGR ((48 ∷ []) ∷ map decimal (codes_of rendition));
-      well_formed = record {
-        one = omega arith;
-        most = omega (arith, codes_few rendition h, length-map (codes_of rendition) decimal);
-        digits = ((((omega arith), (omega arith)), tt), digits-decimals (codes_of rendition) fine);
-        short = (omega arith, short-decimals (codes_of rendition) fine);
-      };
+      well_formed = grind (arith, codes_few, length-map, digits-decimals, short-decimals);
       finished = tt;
       spelled = ap (λ (text : List ℕ). 27 ∷ 91 ∷ text ++ 109 ∷ []) (sym (joined-decimals (48 ∷ []) (codes_of rendition)));
       same_effect = λ t. rw (numbers-decimal (codes_of rendition) fine, select-zero t.rendition, select_all-codes_of rendition h) refl;

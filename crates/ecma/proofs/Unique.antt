@@ -75,7 +75,7 @@ prefix-inner (x ∷ p) [] m missing final h e =
     let tail : p ++ m ∷ missing ≡ [] = cc in
     let len : length (p ++ m ∷ missing) ≡ 0 = ap length tail in
     absurd (omega (arith, length-append p (m ∷ missing)))
-prefix-inner (x ∷ p) (y ∷ q) m missing final h e = grind (arith, (prefix-inner p q m missing final h.1))
+prefix-inner (x ∷ p) (y ∷ q) m missing final h e = (grind arith, prefix-inner p q m missing final h.1 cc)
 
 shape : (bytes missing : List ℕ) (function : Function) (parameters : List (List ℕ)) → 0 < length bytes → 0 < length missing → AreParameters parameters
     → bytes ++ missing ≡ bytes_of (Control function parameters)
@@ -105,15 +105,10 @@ control-control : (a : Function) (ps : List (List ℕ)) (b : Function) (qs : Lis
 control-control a [] b qs f g h k e = grind arith
 control-control a (p ∷ ps) b [] f g h k e = grind arith
 control-control a (p ∷ ps) b (q ∷ qs) f g h k e =
-    let split : join_with_byte 59 (p ∷ ps) ++ final_byte a ∷ f ≡ join_with_byte 59 (q ∷ qs) ++ final_byte b ∷ g =
-    sym (append_assoc (join_with_byte 59 (p ∷ ps)) (final_byte a ∷ []) f) ∙ e ∙ append_assoc (join_with_byte 59 (q ∷ qs)) (final_byte b ∷ []) g in
     let both = cut IsInner (join_with_byte 59 (p ∷ ps)) (join_with_byte 59 (q ∷ qs)) (final_byte a ∷ f) (final_byte b ∷ g) (joined-inner (p ∷ ps) h.digits) (joined-inner (q ∷ qs) k.digits)
-    (final-stops a f) (final-stops b g) split in
-    let after : final_byte a ∷ f ≡ final_byte b ∷ g = both.second in
-    let final : final_byte a ≡ final_byte b = cc in
+    (final-stops a f) (final-stops b g) (grind (arith, append_assoc)) in
     let parameters = same-parameters p ps q qs h.digits k.digits both.first in
-    let function = same-function a b final in
-    record { item = cc; rest = cc }
+    grind (arith, same-function)
 
 control-unfinished : (a : Function) (ps : List (List ℕ)) (begun f g : List ℕ) → AreParameters ps → EndsOrEscapes g → (begun ≡ 27 ∷ []) ⊎ Inner begun → bytes_of (Control a ps) ++ f ≡ begun ++ g → ⊥
 control-unfinished a ps begun f g h stop (inl lone) e = grind (arith, not-escape)
