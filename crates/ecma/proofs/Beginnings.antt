@@ -1,5 +1,5 @@
 -- What continues a control sequence, and what doesn't.
-use Rattle.std.proofs.Common.{◌≡◌, ℕ, ◌+◌, ◌<◌, ◌≤◌, List, [], ◌∷◌, ◌++◌, length, None, inl, inr, refl, sym, ap, ◌∙◌, subst, arith, append_assoc}
+use Rattle.std.proofs.Common.{◌≡◌, ℕ, ◌+◌, ◌<◌, ◌≤◌, List, [], ◌∷◌, ◌++◌, length, None, inl, inr, refl, ◌∙◌, subst, arith, append_assoc}
 use Rattle.std.specs.Prelude.{◌⊎◌, IsTrue}
 use Rattle.std.specs.List.{AllByRecursion, join_with_byte}
 use Rattle.std.proofs.lemmas.List.{append-nil}
@@ -63,27 +63,19 @@ module _ (ps : List (List ℕ)) (byte : ℕ) (t : Terminal) (h : AreParameters p
   none-begun : (inner following : List ℕ) → AllByRecursion IsInner inner → EndsOrEscapes following → IsBeginning (27 ∷ 91 ∷ inner) → join_with_byte 59 ps ++ byte ∷ [] ≡ inner ++ following
       → (IsInner byte → IsBeginning (27 ∷ 91 ∷ (join_with_byte 59 ps ++ byte ∷ [])) → ⊥) → ⊥
   none-begun inner [] each there begins e goes_on = grind (arith, append-nil, (each-back IsInner (join_with_byte 59 ps) (byte ∷ [])))
-  none-begun inner (x ∷ following) each there begins e goes_on = grind (arith, is_inner, all-inner, (each-back IsInner inner (x ∷ following)), (cut IsInner (join_with_byte 59 ps) inner (byte ∷ []) (x ∷ following)), joined-inner)
+  none-begun inner (x ∷ following) each there begins e goes_on =
+      grind (arith, is_inner, all-inner, (each-back IsInner inner (x ∷ following)), (cut IsInner (join_with_byte 59 ps) inner (byte ∷ []) (x ∷ following)), joined-inner)
 
   pub NoEffect-parameters : (IsInner byte → IsBeginning (27 ∷ 91 ∷ (join_with_byte 59 ps ++ byte ∷ [])) → ⊥)
       → ((function : Function) → byte ≡ final_byte function → effect (Control function ps) t ≡ None)
       → NoEffect ((introducer ++ join_with_byte 59 ps) ++ byte ∷ []) t
   NoEffect-parameters goes_on ends = record { each = none } where
     none : (item : Item) (following : List ℕ) → 27 ∷ 91 ∷ (join_with_byte 59 ps ++ byte ∷ []) ≡ bytes_of item ++ following → IsItem item → MayPrecede item following → effect item t ≡ None
-    none (Printable c) following e is p = absurd (let same : 27 ≡ c = cc in omega (arith, from_space c is))
+    none (Printable c) following e is p = grind (arith, from_space)
     none (Control function parameters) following e is p =
         let after : join_with_byte 59 ps ++ byte ∷ [] ≡ (join_with_byte 59 parameters ++ final_byte function ∷ []) ++ following = cc in
         none-control function parameters following is after (ends function)
-    none (Unfinished q) following e is p = elim (shape-of q is) [
-      | inl lone ↦
-          let whole : 27 ∷ 91 ∷ (join_with_byte 59 ps ++ byte ∷ []) ≡ 27 ∷ following = e ∙ ap (λ (prefix : List ℕ). prefix ++ following) lone in
-          let after : 91 ∷ (join_with_byte 59 ps ++ byte ∷ []) ≡ following = cc in
-          absurd (not-escape 91 (join_with_byte 59 ps ++ byte ∷ []) following (λ same. omega arith) after p)
-      | inr begins ↦
-          let whole : 27 ∷ 91 ∷ (join_with_byte 59 ps ++ byte ∷ []) ≡ 27 ∷ 91 ∷ (begins.inner ++ following) = e ∙ ap (λ (prefix : List ℕ). prefix ++ following) begins.is in
-          let after : join_with_byte 59 ps ++ byte ∷ [] ≡ begins.inner ++ following = cc in
-          absurd (none-begun begins.inner following begins.each p (subst IsBeginning begins.is is) after goes_on)
-    ]
+    none (Unfinished q) following e is p = let begins = shape-of q is in grind (arith, not-escape, none-begun)
 
 -- ---- too many digits, and too many parameters
 
@@ -127,7 +119,8 @@ current-first : (current : List ℕ) (byte : ℕ) (missing : List ℕ) (qs : Lis
     → current ++ byte ∷ missing ≡ join_with_byte 59 qs ++ final_byte function ∷ [] → length current < 3
 current-first current byte missing [] function h short one digit e = absurd (omega arith)
 current-first current byte missing (q ∷ []) function h short one digit e = omega (arith, short.0, digits-longer current byte missing q (final_byte function ∷ []) digit (final-no_digit function) e h)
-current-first current byte missing (q ∷ r ∷ qs) function h short one digit e = grind (arith, (digits-longer current byte missing q (59 ∷ (join_with_byte 59 (r ∷ qs) ++ final_byte function ∷ []))), not-digit, append_assoc)
+current-first current byte missing (q ∷ r ∷ qs) function h short one digit e =
+    grind (arith, (digits-longer current byte missing q (59 ∷ (join_with_byte 59 (r ∷ qs) ++ final_byte function ∷ []))), not-digit, append_assoc)
 
 current-short : (ended : List (List ℕ)) (current : List ℕ) (byte : ℕ) (missing : List ℕ) (qs : List (List ℕ)) (function : Function) → AreDigits (ended ++ current ∷ []) → AreDigits qs → AreShort qs
     → 1 ≤ length qs → IsDigit byte
@@ -140,7 +133,8 @@ current-short (a ∷ ended) current byte missing qs function h k short one digit
 ended-few : (ended : List (List ℕ)) (current : List ℕ) (missing : List ℕ) (qs : List (List ℕ)) (function : Function) → AreDigits (ended ++ current ∷ []) → AreDigits qs → 1 ≤ length qs
     → join_with_byte 59 (ended ++ current ∷ []) ++ 59 ∷ missing ≡ join_with_byte 59 qs ++ final_byte function ∷ [] → length ended + 2 ≤ length qs
 ended-few [] current missing qs function h k one e = let next = others current missing qs function h.0 k one e in grind arith
-ended-few (a ∷ ended) current missing qs function h k one e = grind (arith, (others a (join_with_byte 59 (ended ++ current ∷ []) ++ 59 ∷ missing)), append_assoc, join-more, (ended-few ended current missing))
+ended-few (a ∷ ended) current missing qs function h k one e =
+    grind (arith, (others a (join_with_byte 59 (ended ++ current ∷ []) ++ 59 ∷ missing)), append_assoc, join-more, (ended-few ended current missing))
 
 pub no-more_digits : (ended : List (List ℕ)) (current : List ℕ) (byte : ℕ) → AreParameters (ended ++ current ∷ []) → IsDigit byte → 3 ≤ length current
     → IsBeginning (27 ∷ 91 ∷ (join_with_byte 59 (ended ++ current ∷ []) ++ byte ∷ [])) → ⊥

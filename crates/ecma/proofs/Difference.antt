@@ -1,11 +1,11 @@
 -- Pictures that differ in no place are one.
-use Rattle.std.proofs.Common.{◌≡◌, ℕ, ◌+◌, true, false, List, [], ◌∷◌, length, inl, inr, refl, sym, ◌∙◌, arith}
+use Rattle.std.proofs.Common.{◌≡◌, ℕ, List, [], ◌∷◌, length, refl, sym, ◌∙◌, arith}
 use Rattle.std.specs.Prelude.{◌↔◌}
 use Rattle.std.specs.List.{AllByRecursion}
 use Rattle.std.proofs.lemmas.Bool.{cases_Bool}
 use Rattle.cell.specs.Shown.{Shown}
 use Rattle.cell.specs.Pictures.{Picture, HasSize}
-use Rattle.cell.specs.Differences.{same_shown, line_difference, difference}
+use Rattle.cell.specs.Differences.{line_difference, difference}
 pub use Rattle.cell.specs.EqualityLaws.{same_rendition-equal, same_shown-equal, same_shown-self}
 
 -- ---- lines
@@ -13,12 +13,6 @@ pub use Rattle.cell.specs.EqualityLaws.{same_rendition-equal, same_shown-equal, 
 pub line_difference-self : (line : List Shown) → line_difference line line ≡ 0
 line_difference-self [] = refl
 line_difference-self (a ∷ line) = grind (arith, same_shown-self, (line_difference-self line))
-
-pub line_difference-same : (a b : Shown) (old new : List Shown) → same_shown a b ≡ true → line_difference (a ∷ old) (b ∷ new) ≡ line_difference old new
-line_difference-same a b old new h = rw h (omega arith)
-
-pub line_difference-other : (a b : Shown) (old new : List Shown) → same_shown a b ≡ false → line_difference (a ∷ old) (b ∷ new) ≡ 1 + line_difference old new
-line_difference-other a b old new h = rw h refl
 
 pub line_difference-none : (old new : List Shown) → length old ≡ length new → line_difference old new ≡ 0 → old ≡ new
 line_difference-none [] [] long none = refl

@@ -27,20 +27,10 @@ two_digits first number text few small is = grind (arith, length-decimal-le)
 pub three_digits : (n : ℕ) (text : List ℕ) → n < LARGEST_SCREEN → text ≡ decimal (n + 1) → length text ≤ 3
 three_digits n text few is = grind (arith, length-decimal-le)
 
--- a separator and two digits
-pub length-colour : (first : ℕ) (colour : Option ℕ) → first ≤ 40 → IsColour colour → length (selection (code_of_colour first colour)) ≤ 3
-length-colour first None few h = omega arith
-length-colour first (Some number) few h =
-    omega (arith, length-append (59 ∷ decimal (first + number)) [], length-decimal-le 2 (first + number) (omega arith) (omega arith) (omega arith))
-
 -- what is sent of a rendition, part by part
 pub selection-codes_of : (rendition : Rendition) → selection (codes_of rendition)
     ≡ selection (codes_of_attributes rendition.attributes) ++ selection (code_of_colour first_foreground rendition.foreground) ++ selection (code_of_colour first_background rendition.background)
 selection-codes_of rendition = grind (arith, flat_map-append)
-
-pub length-sgr : (rendition : Rendition) → IsRendition rendition → length (spelling (Sgr rendition)) ≤ 22
-unfolding spelling
-length-sgr rendition h = grind (arith, selection-codes_of, length-append, length-codes, one_digit, few_attributes, length-colour)
 
 -- a separator and two digits for each colour that isn't the default
 abbrev colour_room : Option ℕ → ℕ
@@ -51,6 +41,10 @@ length-colour_room : (first : ℕ) (colour : Option ℕ) → first ≤ 40 → Is
 length-colour_room first None few h = omega arith
 length-colour_room first (Some number) few h =
     omega (arith, length-append (59 ∷ decimal (first + number)) [], length-decimal-le 2 (first + number) (omega arith) (omega arith) (omega arith))
+
+pub length-sgr : (rendition : Rendition) → IsRendition rendition → length (spelling (Sgr rendition)) ≤ 22
+unfolding spelling
+length-sgr rendition h = grind (arith, selection-codes_of, length-append, length-codes, one_digit, few_attributes, length-colour_room)
 
 -- a selection has at most 16 bytes, and 6 more where there is a colour
 pub length-selection : (rendition : Rendition) → IsRendition rendition → length (spelling (Sgr rendition)) ≤ 16 + (if has_colour rendition then 6 else 0)

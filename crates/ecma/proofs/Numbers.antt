@@ -1,5 +1,5 @@
 -- Numbers in parameters, and the codes of a set of attributes.
-use Rattle.std.proofs.Common.{◌≡◌, ℕ, ◌+◌, ◌^◌, ◌<◌, ◌≤◌, Bool, true, List, [], ◌∷◌, ◌++◌, length, length-append, Option, Some, None, refl, ◌∙◌, arith, rules}
+use Rattle.std.proofs.Common.{◌≡◌, ℕ, ◌+◌, ◌^◌, ◌<◌, ◌≤◌, Bool, true, List, [], ◌∷◌, ◌++◌, length, length-append, Option, Some, None, refl, arith, rules}
 use Rattle.std.specs.Prelude.{unwrap_or, is_none, ◌&&◌, ◌==◌, nat_lt, decimal}
 use Rattle.std.specs.List.{list_all, AllByRecursion}
 use Rattle.std.specs.Str.Parse.{digits_value}
@@ -89,10 +89,6 @@ unfolding select
 select-background number rendition small = grind (arith, nat_tests)
 
 -- ---- all codes
-
-then_append : (codes more : List ℕ) (o : Option Rendition) → ((next : Rendition) → select_all (codes ++ more) next ≡ option_and_then (select_all more) (select_all codes next))
-    → option_and_then (select_all (codes ++ more)) o ≡ option_and_then (select_all more) (option_and_then (select_all codes) o)
-then_append codes more o h = grind arith
 
 pub select_all-append : (codes more : List ℕ) (rendition : Rendition) → select_all (codes ++ more) rendition ≡ option_and_then (select_all more) (select_all codes rendition)
 select_all-append [] more rendition = refl

@@ -14,7 +14,7 @@ use Rattle.ecma.specs.declared.terminal.State.TheVariants.{Text, Escape, Paramet
 use Rattle.ecma.specs.Items.{Function, SGR, Printable, Control, Unfinished, IsDigit, AreParameters, IsBeginning, EndsOrEscapes, final_byte, control_sequence, escape, introducer}
 use Rattle.ecma.specs.Items.{separator}
 use Rattle.ecma.specs.Terminals.{Terminal, print, effect}
-use Rattle.ecma.specs.Streams.{FailsAt, IsInProfile, Leads, LeadsWithBreaks}
+use Rattle.ecma.specs.Streams.{FailsAt, IsInProfile, Leads}
 use Rattle.ecma.specs.Parameters.{Parameter, parameter_of}
 use Rattle.ecma.specs.steps.Parameters.{no_digits, longer, function_of}
 use Rattle.ecma.specs.Readers.{Reader, saturating_u64, InText, InItem, InParameters, HasFailed, HasReadIn, Follows}
