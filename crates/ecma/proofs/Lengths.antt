@@ -42,10 +42,6 @@ length-colour_room first None few h = omega arith
 length-colour_room first (Some number) few h =
     omega (arith, length-append (59 ∷ decimal (first + number)) [], length-decimal-le 2 (first + number) (omega arith) (omega arith) (omega arith))
 
-pub length-sgr : (rendition : Rendition) → IsRendition rendition → length (spelling (Sgr rendition)) ≤ 22
-unfolding spelling
-length-sgr rendition h = grind (arith, selection-codes_of, length-append, length-codes, one_digit, few_attributes, length-colour_room)
-
 -- a selection has at most 16 bytes, and 6 more where there is a colour
 pub length-selection : (rendition : Rendition) → IsRendition rendition → length (spelling (Sgr rendition)) ≤ 16 + (if has_colour rendition then 6 else 0)
 unfolding spelling
@@ -53,4 +49,4 @@ length-selection rendition h = grind (arith, selection-codes_of, length-append, 
 
 pub length-spelling : (token : Token) → IsToken token → length (spelling token) ≤ longest token
 unfolding spelling
-length-spelling token h = grind (arith, length-cup, length-sgr, length-append)
+length-spelling token h = grind (arith, length-cup, length-selection, length-append)

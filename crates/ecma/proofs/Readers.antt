@@ -134,18 +134,14 @@ module _ (t : Terminal) (ended : List Parameter) (current : Parameter) (at start
 
   pub digit-follows : (byte : ℕ) → IsDigit byte → current.digits < 3 → Follows (byte ∷ []) (reader_of t Parameters ended current at start)
       (reader_of t Parameters ended (longer current byte) (saturating_u64 (at + 1)) start)
-  digit-follows byte digit few stream first h =
-      let long : current.digits ≡ length h.current = ap (λ (p : Parameter). p.digits) h.current_kept in
-      record {
-        ended = h.ended;
-        current = h.current ++ byte ∷ [];
-        well_formed = with-digit h.ended h.current byte h.well_formed digit (omega arith);
-        in_item = goes-on stream first t Parameters Parameters ended ended current (longer current byte) at start byte (introducer ++ join_with_byte separator (h.ended ++ h.current ∷ []))
-            (introducer ++ join_with_byte separator (h.ended ++ (h.current ++ byte ∷ []) ∷ [])) h.in_item
-            (ap (λ (bytes : List ℕ). 27 ∷ 91 ∷ bytes) (join-longer h.ended h.current (byte ∷ [])));
-        ended_kept = h.ended_kept;
-        current_kept = ap (λ (p : Parameter). longer p byte) h.current_kept ∙ parameter_of-digit h.current byte digit;
-      }
+  digit-follows byte digit few stream first h = record {
+    ended = h.ended;
+    current = h.current ++ byte ∷ [];
+    well_formed = with-digit h.ended h.current byte h.well_formed digit (grind arith);
+    in_item = grind (arith, goes-on, join-longer);
+    ended_kept = h.ended_kept;
+    current_kept = grind (arith, parameter_of-digit);
+  }
 
   fails-here : (stream : List ℕ) (first : Terminal) (byte : ℕ) (h : InParameters stream first (reader_of t Parameters ended current at start)) → (byte ≡ 27 → ⊥)
       → (IsBeginning (27 ∷ 91 ∷ (join_with_byte 59 (h.ended ++ h.current ∷ []) ++ byte ∷ [])) → ⊥)
