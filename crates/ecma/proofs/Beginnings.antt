@@ -1,5 +1,5 @@
 -- What continues a control sequence, and what doesn't.
-use Rattle.std.proofs.Common.{◌≡◌, ℕ, ◌+◌, ◌<◌, ◌≤◌, List, [], ◌∷◌, ◌++◌, length, None, inl, inr, refl, sym, ap, ◌∙◌, subst, arith, append_assoc}
+use Rattle.std.proofs.Common.{◌≡◌, ℕ, ◌+◌, ◌<◌, ◌≤◌, List, [], ◌∷◌, ◌++◌, length, None, inl, inr, refl, ◌∙◌, subst, arith, append_assoc}
 use Rattle.std.specs.Prelude.{◌⊎◌, IsTrue}
 use Rattle.std.specs.List.{AllByRecursion, join_with_byte}
 use Rattle.std.proofs.lemmas.List.{append-nil}
@@ -14,10 +14,7 @@ use Rattle.ecma.proofs.Unique.{IsInner, Stops, cut, joined-each, joined-inner, f
 -- ---- in text
 
 escape-first : (byte : ℕ) (q following : List ℕ) → IsBeginning q → byte ∷ [] ≡ q ++ following → byte ≡ 27
-escape-first byte q following h e = elim (shape-of q h) [
-  | inl lone ↦ let whole : byte ∷ [] ≡ 27 ∷ following = e ∙ ap (λ (prefix : List ℕ). prefix ++ following) lone in cc
-  | inr begins ↦ let whole : byte ∷ [] ≡ 27 ∷ 91 ∷ (begins.inner ++ following) = e ∙ ap (λ (prefix : List ℕ). prefix ++ following) begins.is in cc
-]
+escape-first byte q following h e = let begins = shape-of q h in grind arith
 
 pub NoEffect-text : (byte : ℕ) (t : Terminal) → (byte ≡ 27 → ⊥) → (IsTrue (is_printable byte) → print byte t ≡ None) → NoEffect (byte ∷ []) t
 NoEffect-text byte t other prints = grind (arith, escape-first)
@@ -29,15 +26,7 @@ NoEffect-escape byte t other no_bracket = record { each = none } where
   none : (item : Item) (following : List ℕ) → 27 ∷ byte ∷ [] ≡ bytes_of item ++ following → IsItem item → MayPrecede item following → effect item t ≡ None
   none (Printable c) following e is p = absurd (let same : 27 ≡ c = cc in omega (arith, from_space c is))
   none (Control function parameters) following e is p = absurd (let same : byte ≡ 91 = cc in no_bracket same)
-  none (Unfinished q) following e is p = elim (shape-of q is) [
-    | inl lone ↦
-        let whole : 27 ∷ byte ∷ [] ≡ 27 ∷ following = e ∙ ap (λ (prefix : List ℕ). prefix ++ following) lone in
-        let after : byte ∷ [] ≡ following = cc in
-        absurd (not-escape byte [] following other after p)
-    | inr begins ↦
-        let whole : 27 ∷ byte ∷ [] ≡ 27 ∷ 91 ∷ (begins.inner ++ following) = e ∙ ap (λ (prefix : List ℕ). prefix ++ following) begins.is in
-        absurd (let same : byte ≡ 91 = cc in no_bracket same)
-  ]
+  none (Unfinished q) following e is p = let begins = shape-of q is in grind (arith, not-escape)
 
 -- ---- within parameters
 
@@ -45,8 +34,8 @@ is_inner : (byte : ℕ) → IsInner byte ⊎ (IsInner byte → ⊥)
 is_inner byte = grind arith
 
 same-joined : (ps qs : List (List ℕ)) → AreParameters ps → AreParameters qs → join_with_byte 59 ps ≡ join_with_byte 59 qs → ps ≡ qs
-same-joined [] qs h k e = absurd (omega (arith, h.one))
-same-joined (a ∷ ps) [] h k e = absurd (omega (arith, k.one))
+same-joined [] qs h k e = grind arith
+same-joined (a ∷ ps) [] h k e = grind arith
 same-joined (a ∷ ps) (b ∷ qs) h k e = same-parameters a ps b qs h.digits k.digits e
 
 module _ (ps : List (List ℕ)) (byte : ℕ) (t : Terminal) (h : AreParameters ps) (other : byte ≡ 27 → ⊥) where
@@ -74,47 +63,27 @@ module _ (ps : List (List ℕ)) (byte : ℕ) (t : Terminal) (h : AreParameters p
   none-begun : (inner following : List ℕ) → AllByRecursion IsInner inner → EndsOrEscapes following → IsBeginning (27 ∷ 91 ∷ inner) → join_with_byte 59 ps ++ byte ∷ [] ≡ inner ++ following
       → (IsInner byte → IsBeginning (27 ∷ 91 ∷ (join_with_byte 59 ps ++ byte ∷ [])) → ⊥) → ⊥
   none-begun inner [] each there begins e goes_on = grind (arith, append-nil, (each-back IsInner (join_with_byte 59 ps) (byte ∷ [])))
-  none-begun inner (x ∷ following) each there begins e goes_on = elim (is_inner byte) [
-    | inl here ↦
-        let last = each-back IsInner inner (x ∷ following) (subst (λ (bytes : List ℕ). AllByRecursion IsInner bytes) e (all-inner here)) in
-        omega (arith, last.0.0)
-    | inr stops ↦
-        let both = cut IsInner (join_with_byte 59 ps) inner (byte ∷ []) (x ∷ following) (joined-inner ps h.digits) each stops (λ last. omega (arith, last.0)) e in
-        let after : byte ∷ [] ≡ x ∷ following = both.second in
-        let same : byte ≡ x = cc in other (same ∙ there)
-  ]
+  none-begun inner (x ∷ following) each there begins e goes_on =
+      grind (arith, is_inner, all-inner, (each-back IsInner inner (x ∷ following)), (cut IsInner (join_with_byte 59 ps) inner (byte ∷ []) (x ∷ following)), joined-inner)
 
   pub NoEffect-parameters : (IsInner byte → IsBeginning (27 ∷ 91 ∷ (join_with_byte 59 ps ++ byte ∷ [])) → ⊥)
       → ((function : Function) → byte ≡ final_byte function → effect (Control function ps) t ≡ None)
       → NoEffect ((introducer ++ join_with_byte 59 ps) ++ byte ∷ []) t
   NoEffect-parameters goes_on ends = record { each = none } where
     none : (item : Item) (following : List ℕ) → 27 ∷ 91 ∷ (join_with_byte 59 ps ++ byte ∷ []) ≡ bytes_of item ++ following → IsItem item → MayPrecede item following → effect item t ≡ None
-    none (Printable c) following e is p = absurd (let same : 27 ≡ c = cc in omega (arith, from_space c is))
+    none (Printable c) following e is p = grind (arith, from_space)
     none (Control function parameters) following e is p =
         let after : join_with_byte 59 ps ++ byte ∷ [] ≡ (join_with_byte 59 parameters ++ final_byte function ∷ []) ++ following = cc in
         none-control function parameters following is after (ends function)
-    none (Unfinished q) following e is p = elim (shape-of q is) [
-      | inl lone ↦
-          let whole : 27 ∷ 91 ∷ (join_with_byte 59 ps ++ byte ∷ []) ≡ 27 ∷ following = e ∙ ap (λ (prefix : List ℕ). prefix ++ following) lone in
-          let after : 91 ∷ (join_with_byte 59 ps ++ byte ∷ []) ≡ following = cc in
-          absurd (not-escape 91 (join_with_byte 59 ps ++ byte ∷ []) following (λ same. omega arith) after p)
-      | inr begins ↦
-          let whole : 27 ∷ 91 ∷ (join_with_byte 59 ps ++ byte ∷ []) ≡ 27 ∷ 91 ∷ (begins.inner ++ following) = e ∙ ap (λ (prefix : List ℕ). prefix ++ following) begins.is in
-          let after : join_with_byte 59 ps ++ byte ∷ [] ≡ begins.inner ++ following = cc in
-          absurd (none-begun begins.inner following begins.each p (subst IsBeginning begins.is is) after goes_on)
-    ]
+    none (Unfinished q) following e is p = let begins = shape-of q is in grind (arith, not-escape, none-begun)
 
 -- ---- too many digits, and too many parameters
 
 digits-longer : (a : List ℕ) (byte : ℕ) (missing q stop : List ℕ) → IsDigit byte → Stops IsDigit stop → a ++ byte ∷ missing ≡ q ++ stop → AllByRecursion IsDigit a → length a < length q
-digits-longer [] byte missing [] [] digit stops e h = absurd cc
-digits-longer [] byte missing [] (s ∷ stop) digit stops e h = let same : byte ≡ s = cc in absurd (stops (subst IsDigit same digit))
+digits-longer [] byte missing [] stop digit stops e h = grind arith
 digits-longer [] byte missing (y ∷ q) stop digit stops e h = omega arith
-digits-longer (x ∷ a) byte missing [] [] digit stops e h = absurd cc
-digits-longer (x ∷ a) byte missing [] (s ∷ stop) digit stops e h = let same : x ≡ s = cc in absurd (stops (subst IsDigit same h.0))
-digits-longer (x ∷ a) byte missing (y ∷ q) stop digit stops e h =
-    let tail : a ++ byte ∷ missing ≡ q ++ stop = cc in
-    let less = digits-longer a byte missing q stop digit stops tail h.1 in omega arith
+digits-longer (x ∷ a) byte missing [] stop digit stops e h = grind arith
+digits-longer (x ∷ a) byte missing (y ∷ q) stop digit stops e h = grind (arith, (digits-longer a byte missing q stop digit stops))
 
 pub final-no_digit : (function : Function) → IsDigit (final_byte function) → ⊥
 final-no_digit function h = grind arith
@@ -133,16 +102,8 @@ record Others (qs : List (List ℕ)) (function : Function) (bytes : List ℕ) : 
 others : (a bytes : List ℕ) (qs : List (List ℕ)) (function : Function) → AllByRecursion IsDigit a → AllByRecursion (AllByRecursion IsDigit) qs → 1 ≤ length qs
     → a ++ 59 ∷ bytes ≡ join_with_byte 59 qs ++ final_byte function ∷ [] → Others qs function bytes
 others a bytes [] function h k one e = absurd (omega arith)
-others a bytes (q ∷ []) function h k one e =
-    let both = cut IsDigit a q (59 ∷ bytes) (final_byte function ∷ []) h k.0 not-digit (final-no_digit function) e in
-    let after : 59 ∷ bytes ≡ final_byte function ∷ [] = both.second in
-    let same : 59 ≡ final_byte function = cc in
-    absurd (final-no_separator function same)
-others a bytes (q ∷ r ∷ qs) function h k one e =
-    let both = cut IsDigit a q (59 ∷ bytes) (59 ∷ (join_with_byte 59 (r ∷ qs) ++ final_byte function ∷ [])) h k.0 not-digit not-digit
-    (e ∙ append_assoc q (59 ∷ join_with_byte 59 (r ∷ qs)) (final_byte function ∷ [])) in
-    let after : 59 ∷ bytes ≡ 59 ∷ (join_with_byte 59 (r ∷ qs) ++ final_byte function ∷ []) = both.second in
-    record { first = q; rest = r ∷ qs; is = refl; some = omega arith; after = cc }
+others a bytes (q ∷ []) function h k one e = grind (arith, not-digit, final-no_digit, (cut IsDigit a q (59 ∷ bytes) (final_byte function ∷ [])))
+others a bytes (q ∷ r ∷ qs) function h k one e = grind (arith, not-digit, append_assoc, (cut IsDigit a q (59 ∷ bytes) (59 ∷ (join_with_byte 59 (r ∷ qs) ++ final_byte function ∷ []))))
 
 pub join-more : (a : List ℕ) (ended : List (List ℕ)) (current : List ℕ) → join_with_byte 59 (a ∷ (ended ++ current ∷ [])) ≡ a ++ 59 ∷ join_with_byte 59 (ended ++ current ∷ [])
 join-more a [] current = refl
@@ -157,36 +118,23 @@ AreShort parameters = AllByRecursion (λ digits. length digits ≤ 3) parameters
 current-first : (current : List ℕ) (byte : ℕ) (missing : List ℕ) (qs : List (List ℕ)) (function : Function) → AllByRecursion IsDigit current → AreShort qs → 1 ≤ length qs → IsDigit byte
     → current ++ byte ∷ missing ≡ join_with_byte 59 qs ++ final_byte function ∷ [] → length current < 3
 current-first current byte missing [] function h short one digit e = absurd (omega arith)
-current-first current byte missing (q ∷ []) function h short one digit e =
-    let less = digits-longer current byte missing q (final_byte function ∷ []) digit (final-no_digit function) e h in omega (arith, short.0)
+current-first current byte missing (q ∷ []) function h short one digit e = omega (arith, short.0, digits-longer current byte missing q (final_byte function ∷ []) digit (final-no_digit function) e h)
 current-first current byte missing (q ∷ r ∷ qs) function h short one digit e =
-    let less = digits-longer current byte missing q (59 ∷ (join_with_byte 59 (r ∷ qs) ++ final_byte function ∷ [])) digit not-digit
-    (e ∙ append_assoc q (59 ∷ join_with_byte 59 (r ∷ qs)) (final_byte function ∷ [])) h in
-    omega (arith, short.0)
+    grind (arith, (digits-longer current byte missing q (59 ∷ (join_with_byte 59 (r ∷ qs) ++ final_byte function ∷ []))), not-digit, append_assoc)
 
 current-short : (ended : List (List ℕ)) (current : List ℕ) (byte : ℕ) (missing : List ℕ) (qs : List (List ℕ)) (function : Function) → AreDigits (ended ++ current ∷ []) → AreDigits qs → AreShort qs
     → 1 ≤ length qs → IsDigit byte
     → join_with_byte 59 (ended ++ current ∷ []) ++ byte ∷ missing ≡ join_with_byte 59 qs ++ final_byte function ∷ [] → length current < 3
 current-short [] current byte missing qs function h k short one digit e = current-first current byte missing qs function h.0 short one digit e
 current-short (a ∷ ended) current byte missing qs function h k short one digit e =
-    let next = others a (join_with_byte 59 (ended ++ current ∷ []) ++ byte ∷ missing) qs function h.0 k one
-    (sym (append_assoc a (59 ∷ join_with_byte 59 (ended ++ current ∷ [])) (byte ∷ missing)) ∙ sym (ap (λ (prefix : List ℕ). prefix ++ byte ∷ missing) (join-more a ended current)) ∙ e) in
-    let digits = subst AreDigits next.is k in
-    let lengths = subst AreShort next.is short in
-    current-short ended current byte missing next.rest function h.1 digits.1 lengths.1 next.some digit next.after
+    let next = others a (join_with_byte 59 (ended ++ current ∷ []) ++ byte ∷ missing) qs function h.0 k one (grind (arith, append_assoc, join-more)) in
+    grind (arith, (current-short ended current byte missing next.rest function))
 
 ended-few : (ended : List (List ℕ)) (current : List ℕ) (missing : List ℕ) (qs : List (List ℕ)) (function : Function) → AreDigits (ended ++ current ∷ []) → AreDigits qs → 1 ≤ length qs
     → join_with_byte 59 (ended ++ current ∷ []) ++ 59 ∷ missing ≡ join_with_byte 59 qs ++ final_byte function ∷ [] → length ended + 2 ≤ length qs
-ended-few [] current missing qs function h k one e =
-    let next = others current missing qs function h.0 k one e in
-    let long : length qs ≡ length (next.first ∷ next.rest) = ap length next.is in
-    let some = next.some in omega arith
+ended-few [] current missing qs function h k one e = let next = others current missing qs function h.0 k one e in grind arith
 ended-few (a ∷ ended) current missing qs function h k one e =
-    let next = others a (join_with_byte 59 (ended ++ current ∷ []) ++ 59 ∷ missing) qs function h.0 k one
-    (sym (append_assoc a (59 ∷ join_with_byte 59 (ended ++ current ∷ [])) (59 ∷ missing)) ∙ sym (ap (λ (prefix : List ℕ). prefix ++ 59 ∷ missing) (join-more a ended current)) ∙ e) in
-    let digits = subst AreDigits next.is k in
-    let long : length qs ≡ length (next.first ∷ next.rest) = ap length next.is in
-    let few = ended-few ended current missing next.rest function h.1 digits.1 next.some next.after in omega arith
+    grind (arith, (others a (join_with_byte 59 (ended ++ current ∷ []) ++ 59 ∷ missing)), append_assoc, join-more, (ended-few ended current missing))
 
 pub no-more_digits : (ended : List (List ℕ)) (current : List ℕ) (byte : ℕ) → AreParameters (ended ++ current ∷ []) → IsDigit byte → 3 ≤ length current
     → IsBeginning (27 ∷ 91 ∷ (join_with_byte 59 (ended ++ current ∷ []) ++ byte ∷ [])) → ⊥

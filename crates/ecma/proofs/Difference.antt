@@ -1,37 +1,24 @@
 -- Pictures that differ in no place are one.
-use Rattle.std.proofs.Common.{◌≡◌, ℕ, ◌+◌, true, false, List, [], ◌∷◌, length, inl, inr, refl, sym, ◌∙◌, arith}
+use Rattle.std.proofs.Common.{◌≡◌, ℕ, List, [], ◌∷◌, length, refl, sym, ◌∙◌, arith}
 use Rattle.std.specs.Prelude.{◌↔◌}
 use Rattle.std.specs.List.{AllByRecursion}
 use Rattle.std.proofs.lemmas.Bool.{cases_Bool}
 use Rattle.cell.specs.Shown.{Shown}
 use Rattle.cell.specs.Pictures.{Picture, HasSize}
-use Rattle.cell.specs.Differences.{same_shown, line_difference, difference}
+use Rattle.cell.specs.Differences.{line_difference, difference}
 pub use Rattle.cell.specs.EqualityLaws.{same_rendition-equal, same_shown-equal, same_shown-self}
 
 -- ---- lines
 
 pub line_difference-self : (line : List Shown) → line_difference line line ≡ 0
 line_difference-self [] = refl
-line_difference-self (a ∷ line) = rw (same_shown-self a) (omega (arith, line_difference-self line))
-
-pub line_difference-same : (a b : Shown) (old new : List Shown) → same_shown a b ≡ true → line_difference (a ∷ old) (b ∷ new) ≡ line_difference old new
-line_difference-same a b old new h = rw h (omega arith)
-
-pub line_difference-other : (a b : Shown) (old new : List Shown) → same_shown a b ≡ false → line_difference (a ∷ old) (b ∷ new) ≡ 1 + line_difference old new
-line_difference-other a b old new h = rw h refl
+line_difference-self (a ∷ line) = grind (arith, same_shown-self, (line_difference-self line))
 
 pub line_difference-none : (old new : List Shown) → length old ≡ length new → line_difference old new ≡ 0 → old ≡ new
 line_difference-none [] [] long none = refl
-line_difference-none [] (b ∷ new) long none = absurd (omega arith)
-line_difference-none (a ∷ old) [] long none = absurd (omega arith)
-line_difference-none (a ∷ old) (b ∷ new) long none =
-    elim (cases_Bool (same_shown a b)) [
-      | inl same ↦
-          let first : a ≡ b = same_shown-equal a b same in
-          let others : old ≡ new = line_difference-none old new (omega arith) (sym (line_difference-same a b old new same) ∙ none) in
-          cc
-      | inr other ↦ absurd (let one = line_difference-other a b old new other in omega arith)
-    ]
+line_difference-none [] (b ∷ new) long none = grind arith
+line_difference-none (a ∷ old) [] long none = grind arith
+line_difference-none (a ∷ old) (b ∷ new) long none = grind (arith, cases_Bool, same_shown-equal, (line_difference-none old new))
 
 -- ---- pictures
 
@@ -42,12 +29,11 @@ difference-self (line ∷ picture) = omega (arith, line_difference-self line, di
 lines-equal : (columns : ℕ) (old new : Picture) → length old ≡ length new → AllByRecursion (λ line. length line ≡ columns) old → AllByRecursion (λ line. length line ≡ columns) new
     → difference old new ≡ 0 → old ≡ new
 lines-equal columns [] [] long wide wide_new none = refl
-lines-equal columns [] (other ∷ new) long wide wide_new none = absurd (omega arith)
-lines-equal columns (line ∷ old) [] long wide wide_new none = absurd (omega arith)
+lines-equal columns [] (other ∷ new) long wide wide_new none = grind arith
+lines-equal columns (line ∷ old) [] long wide wide_new none = grind arith
 lines-equal columns (line ∷ old) (other ∷ new) long wide wide_new none =
-    let first : line ≡ other = line_difference-none line other (wide.0 ∙ sym wide_new.0) (omega arith) in
-    let others : old ≡ new = lines-equal columns old new (omega arith) wide.1 wide_new.1 (omega arith) in
-    cc
+    let first = line_difference-none line other (wide.0 ∙ sym wide_new.0) (omega arith) in
+    let others = lines-equal columns old new (omega arith) wide.1 wide_new.1 (omega arith) in cc
 
 pub difference-none : (lines columns : ℕ) (old new : Picture) → HasSize lines columns old → HasSize lines columns new → difference old new ≡ 0 → old ≡ new
 difference-none lines columns old new h k none = lines-equal columns old new (h.height ∙ sym k.height) h.width k.width none

@@ -22,25 +22,15 @@ length-codes [] h = omega arith
 length-codes (code ∷ codes) h = grind (arith, length-append, length-decimal-le, (length-codes codes h.1))
 
 pub two_digits : (first number : ℕ) (text : List ℕ) → first ≤ 40 → number ≤ LAST_COLOUR → text ≡ decimal (first + number) → length text ≤ 2
-two_digits first number text few small is = rw is (length-decimal-le 2 (first + number) (omega arith) (omega arith) (omega arith))
+two_digits first number text few small is = grind (arith, length-decimal-le)
 
 pub three_digits : (n : ℕ) (text : List ℕ) → n < LARGEST_SCREEN → text ≡ decimal (n + 1) → length text ≤ 3
-three_digits n text few is = rw is (length-decimal-le 3 (n + 1) (omega arith) (omega arith) (omega arith))
-
--- a separator and two digits
-pub length-colour : (first : ℕ) (colour : Option ℕ) → first ≤ 40 → IsColour colour → length (selection (code_of_colour first colour)) ≤ 3
-length-colour first None few h = omega arith
-length-colour first (Some number) few h =
-    omega (arith, length-append (59 ∷ decimal (first + number)) [], length-decimal-le 2 (first + number) (omega arith) (omega arith) (omega arith))
+three_digits n text few is = grind (arith, length-decimal-le)
 
 -- what is sent of a rendition, part by part
 pub selection-codes_of : (rendition : Rendition) → selection (codes_of rendition)
     ≡ selection (codes_of_attributes rendition.attributes) ++ selection (code_of_colour first_foreground rendition.foreground) ++ selection (code_of_colour first_background rendition.background)
 selection-codes_of rendition = grind (arith, flat_map-append)
-
-pub length-sgr : (rendition : Rendition) → IsRendition rendition → length (spelling (Sgr rendition)) ≤ 22
-unfolding spelling
-length-sgr rendition h = grind (arith, selection-codes_of, length-append, length-codes, one_digit, few_attributes, length-colour)
 
 -- a separator and two digits for each colour that isn't the default
 abbrev colour_room : Option ℕ → ℕ
@@ -59,4 +49,4 @@ length-selection rendition h = grind (arith, selection-codes_of, length-append, 
 
 pub length-spelling : (token : Token) → IsToken token → length (spelling token) ≤ longest token
 unfolding spelling
-length-spelling token h = grind (arith, length-cup, length-sgr, length-append)
+length-spelling token h = grind (arith, length-cup, length-selection, length-append)

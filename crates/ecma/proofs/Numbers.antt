@@ -1,5 +1,5 @@
 -- Numbers in parameters, and the codes of a set of attributes.
-use Rattle.std.proofs.Common.{◌≡◌, ℕ, ◌+◌, ◌^◌, ◌<◌, ◌≤◌, Bool, true, List, [], ◌∷◌, ◌++◌, length, length-append, Option, Some, None, refl, ◌∙◌, arith, rules}
+use Rattle.std.proofs.Common.{◌≡◌, ℕ, ◌+◌, ◌^◌, ◌<◌, ◌≤◌, Bool, true, List, [], ◌∷◌, ◌++◌, length, length-append, Option, Some, None, refl, arith, rules}
 use Rattle.std.specs.Prelude.{unwrap_or, is_none, ◌&&◌, ◌==◌, nat_lt, decimal}
 use Rattle.std.specs.List.{list_all, AllByRecursion}
 use Rattle.std.specs.Str.Parse.{digits_value}
@@ -25,7 +25,7 @@ number_or-digits : (default : ℕ) (digits : List ℕ) → 0 < length digits →
 number_or-digits default digits h = grind arith
 
 pub number_or-decimal : (default n : ℕ) → n < 2 ^ 64 → number_or default (decimal n) ≡ n
-number_or-decimal default n fits = number_or-digits default (decimal n) (decimal_nonempty n fits) ∙ digits_value-decimal numerals n fits
+number_or-decimal default n fits = grind (arith, number_or-digits, decimal_nonempty, numerals, digits_value-decimal)
 
 -- ---- codes of attributes
 
@@ -64,9 +64,7 @@ some_from_selected o bits small e = grind arith
 pub select_all-attributes : (bits : ℕ) → bits < 64 → select_all (codes_of_attributes bits) no_rendition ≡ Some (only bits)
 unfolding selected
 select_all-attributes bits small =
-    let parts = and_parts (list_all (λ code. nat_lt code 10) (codes_of_attributes bits) && nat_lt (length (codes_of_attributes bits)) 7) (has_only (selected (codes_of_attributes bits)) bits)
-    (is_spelled_below bits small) in
-    some_from_selected (select_all (codes_of_attributes bits) no_rendition) bits small (only_from (selected (codes_of_attributes bits)) bits parts.1)
+    let parts = and_parts _ _ (is_spelled_below bits small) in some_from_selected _ bits small (only_from (selected (codes_of_attributes bits)) bits parts.1)
 
 small_attributes : (bits : ℕ) → bits < 64 → list_all (λ code. nat_lt code 10) (codes_of_attributes bits) ≡ true
 small_attributes bits small = (and_parts _ _ (and_parts _ _ (is_spelled_below bits small)).0).0
@@ -78,9 +76,7 @@ pub one_digit : (bits : ℕ) → bits < 64 → AllByRecursion (λ code. code < 1
 one_digit bits small = each_small (codes_of_attributes bits) (small_attributes bits small) where
   each_small : (codes : List ℕ) → list_all (λ code. nat_lt code 10) codes ≡ true → AllByRecursion (λ code. code < 10) codes
   each_small [] h = tt
-  each_small (code ∷ codes) h =
-      let parts = and_parts (nat_lt code 10) (list_all (λ code. nat_lt code 10) codes) h in
-      (ltb-true code 10 parts.0, each_small codes parts.1)
+  each_small (code ∷ codes) h = grind (arith, and_parts, ltb-true, (each_small codes))
 
 -- ---- codes of colours
 
@@ -94,22 +90,16 @@ select-background number rendition small = grind (arith, nat_tests)
 
 -- ---- all codes
 
-then_append : (codes more : List ℕ) (o : Option Rendition) → ((next : Rendition) → select_all (codes ++ more) next ≡ option_and_then (select_all more) (select_all codes next))
-    → option_and_then (select_all (codes ++ more)) o ≡ option_and_then (select_all more) (option_and_then (select_all codes) o)
-then_append codes more o h = grind arith
-
 pub select_all-append : (codes more : List ℕ) (rendition : Rendition) → select_all (codes ++ more) rendition ≡ option_and_then (select_all more) (select_all codes rendition)
 select_all-append [] more rendition = refl
-select_all-append (code ∷ codes) more rendition = then_append codes more (select code rendition) (λ next. select_all-append codes more next)
+select_all-append (code ∷ codes) more rendition = grind (arith, (select_all-append codes more))
 
 pub select_all-codes_of : (rendition : Rendition) → IsRendition rendition → select_all (codes_of rendition) no_rendition ≡ Some rendition
 select_all-codes_of rendition h = grind (arith, select_all-append, select_all-attributes, select-foreground, select-background)
 
 pub codes_small : (rendition : Rendition) → IsRendition rendition → AllByRecursion (λ code. code < 100) (codes_of rendition)
 codes_small rendition h =
-    let small : AllByRecursion (λ code. code < 100) (codes_of_attributes rendition.attributes) =
-    each-weaker (λ code. code < 10) (λ code. code < 100) (λ code h. omega (arith, h)) (codes_of_attributes rendition.attributes) (one_digit rendition.attributes h.of_the_six) in
-    search (rules, each-append)
+    let small = each-weaker (λ code. code < 10) (λ code. code < 100) (λ code h. omega (arith, h)) _ (one_digit rendition.attributes h.of_the_six) in search (rules, each-append)
 
 length-colour : (first : ℕ) (colour : Option ℕ) → length (code_of_colour first colour) ≤ 1
 length-colour first colour = grind arith

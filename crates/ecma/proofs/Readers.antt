@@ -14,7 +14,7 @@ use Rattle.ecma.specs.declared.terminal.State.TheVariants.{Text, Escape, Paramet
 use Rattle.ecma.specs.Items.{Function, SGR, Printable, Control, Unfinished, IsDigit, AreParameters, IsBeginning, EndsOrEscapes, final_byte, control_sequence, escape, introducer}
 use Rattle.ecma.specs.Items.{separator}
 use Rattle.ecma.specs.Terminals.{Terminal, print, effect}
-use Rattle.ecma.specs.Streams.{FailsAt, IsInProfile, Leads, LeadsWithBreaks}
+use Rattle.ecma.specs.Streams.{FailsAt, IsInProfile, Leads}
 use Rattle.ecma.specs.Parameters.{Parameter, parameter_of}
 use Rattle.ecma.specs.steps.Parameters.{no_digits, longer, function_of}
 use Rattle.ecma.specs.Readers.{Reader, saturating_u64, InText, InItem, InParameters, HasFailed, HasReadIn, Follows}
@@ -34,24 +34,16 @@ next-read stream byte at h = omega (arith, length-append stream (byte ∷ []))
 
 -- what has at least its final byte missing
 sequence-begins : (parameters : List (List ℕ)) → AreParameters parameters → IsBeginning (introducer ++ join_with_byte separator parameters)
-sequence-begins parameters h = record {
-  begun = omega arith;
-  function = SGR;
-  parameters = parameters;
-  missing = final_byte SGR ∷ [];
-  well_formed = h;
-  not_finished = omega arith;
-  goes_on = refl;
-}
+sequence-begins parameters h = record { begun = omega arith; function = SGR; parameters = parameters; missing = final_byte SGR ∷ []; well_formed = h; not_finished = omega arith; goes_on = refl }
 
 one-empty : AreParameters ([] ∷ [])
-one-empty = record { one = omega arith; most = omega arith; digits = (tt, tt); short = (omega arith, tt) }
+one-empty = grind arith
 
 escape-begins : IsBeginning (escape ∷ [])
 escape-begins = record { begun = omega arith; function = SGR; parameters = [] ∷ []; missing = codes "[m"; well_formed = one-empty; not_finished = omega arith; goes_on = refl }
 
 begun-in_profile : (unfinished : List ℕ) (t : Terminal) → IsBeginning unfinished → IsInProfile unfinished t t
-begun-in_profile unfinished t h = record { items = Unfinished unfinished ∷ []; splits = ([], sym (append-nil unfinished), h, tt, refl); have_effect = refl }
+begun-in_profile unfinished t h = record { items = Unfinished unfinished ∷ []; splits = grind (arith, append-nil); have_effect = refl }
 
 pub in_item-in_profile : (stream : List ℕ) (first : Terminal) (reader : Reader) (unfinished : List ℕ) → InItem stream first reader unfinished → IsBeginning unfinished → EndsOrEscapes unfinished
     → IsInProfile stream first reader.terminal
@@ -107,29 +99,17 @@ fails-there : (stream : List ℕ) (first t : Terminal) (state : State) (ended : 
     → InItem stream first (reader_of t state ended current at start) unfinished → EndsOrEscapes (unfinished ++ byte ∷ []) → NoEffect (unfinished ++ byte ∷ []) t
     → HasFailed (stream ++ byte ∷ []) first t start
 fails-there stream first t state ended current at start byte unfinished h there none =
-    let some : 0 < length (unfinished ++ byte ∷ []) = omega (arith, length-append unfinished (byte ∷ [])) in
-    let whole : stream ++ byte ∷ [] ≡ h.prefix ++ (unfinished ++ byte ∷ []) = ap (λ (bytes : List ℕ). bytes ++ byte ∷ []) h.whole ∙ append_assoc h.prefix unfinished (byte ∷ []) in
-    record {
-      offset = length h.prefix;
-      fails = subst (λ (bytes : List ℕ). FailsAt bytes first (length h.prefix) t) (sym whole) (FailsAt-escape h.prefix (unfinished ++ byte ∷ []) first t h.in_profile there some none);
-      at_is = h.start;
-    }
+    let fails = FailsAt-escape h.prefix (unfinished ++ byte ∷ []) first t h.in_profile there (omega (arith, length-append unfinished (byte ∷ []))) none in
+    record { offset = length h.prefix; fails = grind (arith, append_assoc); at_is = h.start }
 
 module _ (t : Terminal) (ended : List Parameter) (current : Parameter) (at start : ℕ) where
   -- ---- in text
 
   pub printed-follows : (u : Terminal) (byte : ℕ) → IsTrue (is_printable byte) → print byte t ≡ Some u
       → Follows (byte ∷ []) (reader_of t Text ended current at start) (reader_of u Text ended current (saturating_u64 (at + 1)) start)
-  printed-follows u byte printable e stream first h = record {
-    leads = LeadsWithBreaks-append stream (byte ∷ []) first t u h.leads (record {
-      items = Printable byte ∷ [];
-      splits = ([], refl, printable, tt, refl);
-      finished =
-          (tt, tt);
-      have_effect = rw e refl;
-    });
-    read = next-read stream byte at h.read;
-  }
+  printed-follows u byte printable e stream first h =
+      let leads : Leads (byte ∷ []) t u = record { items = Printable byte ∷ []; splits = ([], refl, printable, tt, refl); finished = (tt, tt); have_effect = rw e refl } in
+      grind (arith, LeadsWithBreaks-append, next-read)
 
   pub unprinted-follows : (byte : ℕ) → (byte ≡ 27 → ⊥) → (IsTrue (is_printable byte) → print byte t ≡ None)
       → Follows (byte ∷ []) (reader_of t Text ended current at start) (reader_of t Failed ended current (saturating_u64 (at + 1)) at)
@@ -141,14 +121,7 @@ module _ (t : Terminal) (ended : List Parameter) (current : Parameter) (at start
   escape-follows stream first h = broken-off stream first t Escape ended current at start (escape ∷ []) h escape-begins refl
 
   pub bracket-follows : Follows (91 ∷ []) (reader_of t Escape ended current at start) (reader_of t Parameters [] no_digits (saturating_u64 (at + 1)) start)
-  bracket-follows stream first h = record {
-    ended = [];
-    current = [];
-    well_formed = one-empty;
-    in_item = goes-on stream first t Escape Parameters ended [] current no_digits at start 91 (escape ∷ []) introducer h refl;
-    ended_kept = refl;
-    current_kept = refl;
-  }
+  bracket-follows stream first h = record { ended = []; current = []; well_formed = one-empty; in_item = grind (arith, goes-on); ended_kept = refl; current_kept = refl }
 
   pub other-follows : (byte : ℕ) → (byte ≡ 27 → ⊥) → (byte ≡ 91 → ⊥)
       → Follows (byte ∷ []) (reader_of t Escape ended current at start) (reader_of t Failed ended current (saturating_u64 (at + 1)) start)
@@ -161,18 +134,14 @@ module _ (t : Terminal) (ended : List Parameter) (current : Parameter) (at start
 
   pub digit-follows : (byte : ℕ) → IsDigit byte → current.digits < 3 → Follows (byte ∷ []) (reader_of t Parameters ended current at start)
       (reader_of t Parameters ended (longer current byte) (saturating_u64 (at + 1)) start)
-  digit-follows byte digit few stream first h =
-      let long : current.digits ≡ length h.current = ap (λ (p : Parameter). p.digits) h.current_kept in
-      record {
-        ended = h.ended;
-        current = h.current ++ byte ∷ [];
-        well_formed = with-digit h.ended h.current byte h.well_formed digit (omega arith);
-        in_item = goes-on stream first t Parameters Parameters ended ended current (longer current byte) at start byte (introducer ++ join_with_byte separator (h.ended ++ h.current ∷ []))
-            (introducer ++ join_with_byte separator (h.ended ++ (h.current ++ byte ∷ []) ∷ [])) h.in_item
-            (ap (λ (bytes : List ℕ). 27 ∷ 91 ∷ bytes) (join-longer h.ended h.current (byte ∷ [])));
-        ended_kept = h.ended_kept;
-        current_kept = ap (λ (p : Parameter). longer p byte) h.current_kept ∙ parameter_of-digit h.current byte digit;
-      }
+  digit-follows byte digit few stream first h = record {
+    ended = h.ended;
+    current = h.current ++ byte ∷ [];
+    well_formed = with-digit h.ended h.current byte h.well_formed digit (grind arith);
+    in_item = grind (arith, goes-on, join-longer);
+    ended_kept = h.ended_kept;
+    current_kept = grind (arith, parameter_of-digit);
+  }
 
   fails-here : (stream : List ℕ) (first : Terminal) (byte : ℕ) (h : InParameters stream first (reader_of t Parameters ended current at start)) → (byte ≡ 27 → ⊥)
       → (IsBeginning (27 ∷ 91 ∷ (join_with_byte 59 (h.ended ++ h.current ∷ []) ++ byte ∷ [])) → ⊥)
@@ -212,8 +181,7 @@ module _ (t : Terminal) (ended : List Parameter) (current : Parameter) (at start
 
   ends-at : (stream : List ℕ) (first : Terminal) (byte : ℕ) (after : Option Terminal) (h : InParameters stream first (reader_of t Parameters ended current at start)) → Ends byte after
       → after ≡ option_and_then (λ function. effect (Control function (h.ended ++ h.current ∷ [])) t) (function_of byte)
-  ends-at stream first byte after h ends = ends (h.ended ++ h.current ∷ [])
-      (map_push parameter_of h.ended h.current ∙ ap (λ (ps : List Parameter). ps ++ parameter_of h.current ∷ []) (sym h.ended_kept) ∙ ap (λ (p : Parameter). ended ++ p ∷ []) (sym h.current_kept))
+  ends-at stream first byte after h ends = ends (h.ended ++ h.current ∷ []) (grind (arith, map_push))
 
   finished : (stream : List ℕ) (first u : Terminal) (byte : ℕ) (function : Function) (h : InParameters stream first (reader_of t Parameters ended current at start))
       → byte ≡ final_byte function → effect (Control function (h.ended ++ h.current ∷ [])) t ≡ Some u
@@ -222,14 +190,8 @@ module _ (t : Terminal) (ended : List Parameter) (current : Parameter) (at start
       let ps = h.ended ++ h.current ∷ [] in
       let sequence = control_sequence function (join_with_byte separator ps) in
       let leads : Leads sequence t u = record { items = Control function ps ∷ []; splits = ([], sym (append-nil sequence), h.well_formed, tt, refl); finished = (tt, tt); have_effect = rw e refl } in
-      let whole : stream ++ byte ∷ [] ≡ h.in_item.prefix ++ sequence =
-      ap (λ (bytes : List ℕ). bytes ++ byte ∷ []) h.in_item.whole
-      ∙ append_assoc h.in_item.prefix (introducer ++ join_with_byte separator ps) (byte ∷ [])
-      ∙ ap (λ (b : ℕ). h.in_item.prefix ++ ((introducer ++ join_with_byte separator ps) ++ b ∷ [])) is in
-      record {
-        leads = subst (λ (bytes : List ℕ). LeadsWithBreaks bytes first u) (sym whole) (Leads-repairs h.in_item.prefix sequence first t u h.in_item.in_profile leads (omega arith) refl);
-        read = next-read stream byte at h.in_item.read;
-      }
+      let repaired = Leads-repairs h.in_item.prefix sequence first t u h.in_item.in_profile leads (omega arith) refl in
+      grind (arith, append_assoc, next-read)
 
   pub ending-follows : (u : Terminal) (byte : ℕ) → Ends byte (Some u)
       → Follows (byte ∷ []) (reader_of t Parameters ended current at start) (reader_of u Text ended current (saturating_u64 (at + 1)) start)

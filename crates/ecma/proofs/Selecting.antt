@@ -1,6 +1,5 @@
 -- Renditions selected by the parameters of a control sequence.
-use Rattle.std.proofs.Common.{◌≡◌, ℕ, ◌+◌, ◌-◌, ◌<◌, List, [], ◌∷◌, ◌++◌, length, map, take, drop, get_or, Option, Some, None, refl, sym, ap, ◌∙◌, arith}
-use Rattle.std.specs.Option.{option_and_then}
+use Rattle.std.proofs.Common.{◌≡◌, ℕ, ◌+◌, ◌-◌, ◌<◌, List, [], ◌∷◌, ◌++◌, length, map, take, get_or, Option, Some, None, refl, ap, ◌∙◌, arith}
 use Rattle.std.specs.Int.RustNames.{bit_or}
 use Rattle.std.proofs.lemmas.Bool.{ne_eqb}
 use Rattle.std.proofs.lemmas.Nat.{and_mask, or_lt, and_le_l}
@@ -61,24 +60,14 @@ selected_by-push parameters last rendition selected e = grind (arith, map_push, 
 pub selected-next : (ended : List Parameter) (i : ℕ) (parameter : Parameter) (rendition selected : Rendition) → i < length ended → parameter ≡ get_or ended i parameter
     → selected_by (take i ended) rendition ≡ Some selected
     → selected_by (take (i + 1) ended) rendition ≡ select (number_of 0 parameter) selected
-selected-next ended i parameter rendition selected h is e =
-    ap (λ (kept : List Parameter). selected_by kept rendition) (take_more ended i parameter h ∙ ap (λ (p : Parameter). take i ended ++ p ∷ []) (sym is))
-    ∙ selected_by-push (take i ended) parameter rendition selected e
+selected-next ended i parameter rendition selected h is e = let taken = take_more ended i parameter h in grind (arith, selected_by-push)
 
 pub selected-last : (digits : List (List ℕ)) (ended : List Parameter) (last : Parameter) (rendition selected : Rendition) → map parameter_of digits ≡ ended ++ last ∷ []
     → selected_by ended rendition ≡ Some selected
     → select_all (map (number_or 0) digits) rendition ≡ select (number_of 0 last) selected
-selected-last digits ended last rendition selected same e = select_all-kept digits (ended ++ last ∷ []) rendition same ∙ selected_by-push ended last rendition selected e
+selected-last digits ended last rendition selected same e = grind (arith, select_all-kept, selected_by-push)
 
 pub selected-none : (digits : List (List ℕ)) (ended : List Parameter) (last : Parameter) (i : ℕ) (rendition : Rendition) → map parameter_of digits ≡ ended ++ last ∷ [] → i < length ended
     → selected_by (take (i + 1) ended) rendition ≡ None
     → select_all (map (number_or 0) digits) rendition ≡ None
-selected-none digits ended last i rendition same h none =
-    let prefix = take (i + 1) ended in
-    let back = drop (i + 1) ended ++ last ∷ [] in
-    select_all-kept digits (ended ++ last ∷ []) rendition same
-    ∙ ap (λ (kept : List Parameter). selected_by kept rendition) (sym (ap (λ (kept : List Parameter). kept ++ last ∷ []) (take-append-drop (i + 1) ended))
-    ∙ append_assoc prefix (drop (i + 1) ended) (last ∷ []))
-    ∙ ap (λ (codes : List ℕ). select_all codes rendition) (map-append (number_of 0) prefix back)
-    ∙ select_all-append (map (number_of 0) prefix) (map (number_of 0) back) rendition
-    ∙ ap (option_and_then (select_all (map (number_of 0) back))) none
+selected-none digits ended last i rendition same h none = grind (arith, select_all-kept, (take-append-drop (i + 1) ended), append_assoc, map-append, select_all-append)

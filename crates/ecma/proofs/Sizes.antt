@@ -1,5 +1,5 @@
 -- No effect changes the size of the picture.
-use Rattle.std.proofs.Common.{◌≡◌, ℕ, zero, suc, ◌+◌, ◌<◌, Bool, true, false, cond, List, [], ◌∷◌, length, set, take, drop, map, Option, Some, None, ◌∙◌, subst, arith, length-append}
+use Rattle.std.proofs.Common.{◌≡◌, ℕ, zero, suc, ◌+◌, ◌<◌, Bool, true, false, cond, List, [], ◌∷◌, length, set, take, drop, map, Option, Some, None, ◌∙◌, arith, length-append}
 use Rattle.std.proofs.Common.{length-take, length-drop}
 use Rattle.std.specs.Option.{option_map, option_and_then}
 use Rattle.std.specs.List.{AllByRecursion}
@@ -18,8 +18,8 @@ AreWide columns lines = AllByRecursion (λ line. length line ≡ columns) lines
 
 wide-set : (columns : ℕ) (lines : Picture) (line : ℕ) (row : List Shown) → AreWide columns lines → (line < length lines → length row ≡ columns) → AreWide columns (set lines line row)
 wide-set columns [] line row h e = tt
-wide-set columns (first ∷ lines) zero row h e = (e (omega arith), h.1)
-wide-set columns (first ∷ lines) (suc line) row h e = (h.0, wide-set columns lines line row h.1 (λ inside. e (omega arith)))
+wide-set columns (first ∷ lines) zero row h e = grind arith
+wide-set columns (first ∷ lines) (suc line) row h e = grind (arith, (wide-set columns lines line row h.1))
 
 wide-take : (columns n : ℕ) (lines : Picture) → AreWide columns lines → AreWide columns (take n lines)
 wide-take columns zero lines h = tt
@@ -36,7 +36,7 @@ wide-blank columns [] h = tt
 wide-blank columns (line ∷ lines) h = (length-map line (λ _. shown_blank) ∙ h.0, wide-blank columns lines h.1)
 
 pub line-wide : (columns : ℕ) (lines : Picture) (line : ℕ) → AreWide columns lines → line < length lines → length (line_of lines line) ≡ columns
-line-wide columns [] line h inside = absurd (omega arith)
+line-wide columns [] line h inside = grind arith
 line-wide columns (first ∷ lines) zero h inside = h.0
 line-wide columns (first ∷ lines) (suc line) h inside = line-wide columns lines line h.1 (omega arith)
 
@@ -72,16 +72,16 @@ abbrev Keeps : ℕ → ℕ → Option Terminal → Type 0
 Keeps lines columns o = (u : Terminal) → o ≡ Some u → HasSize lines columns u.picture
 
 keeps-some : (lines columns : ℕ) (t : Terminal) → HasSize lines columns t.picture → Keeps lines columns (Some t)
-keeps-some lines columns t h u e = let same : t ≡ u = cc in subst (λ (v : Terminal). HasSize lines columns v.picture) same h
+keeps-some lines columns t h u e = grind arith
 
 keeps-none : (lines columns : ℕ) → Keeps lines columns None
-keeps-none lines columns u e = absurd cc
+keeps-none lines columns u e = grind arith
 
 keeps-map : {A : Type 0} (lines columns : ℕ) (f : A → Terminal) (o : Option A) → ((x : A) → HasSize lines columns (f x).picture) → Keeps lines columns (option_map f o)
 keeps-map lines columns = grind (arith, keeps-none, keeps-some)
 
 keeps-then : {A : Type 0} (lines columns : ℕ) (f : A → Option Terminal) (o : Option A) → ((x : A) → Keeps lines columns (f x)) → Keeps lines columns (option_and_then f o)
-keeps-then lines columns f None h = keeps-none lines columns
+keeps-then lines columns f None h = grind arith
 keeps-then lines columns f (Some x) h = h x
 
 keeps-cond : (lines columns : ℕ) (b : Bool) (o : Option Terminal) → Keeps lines columns o → Keeps lines columns (cond b o None)
@@ -105,10 +105,10 @@ size-effect lines columns (Control EL parameters) t h = keeps-then lines columns
     (λ how. keeps-cond lines columns (is_empty t.rendition) _ (keeps-map lines columns (λ place. record t { picture = erased_at how place t.picture }) t.cursor
     (λ place. size-erased_at lines columns how place t.picture h)))
 size-effect lines columns (Control SGR parameters) t h = grind (arith, keeps-map)
-size-effect lines columns (Unfinished begun) t h = keeps-some lines columns t h
+size-effect lines columns (Unfinished begun) t h = grind (arith, keeps-some)
 
 pub size-effects : (lines columns : ℕ) (items : List Item) (t u : Terminal) → HasSize lines columns t.picture → effects items t ≡ Some u → HasSize lines columns u.picture
-size-effects lines columns [] t u h e = keeps-some lines columns t h u e
+size-effects lines columns [] t u h e = grind arith
 size-effects lines columns (item ∷ items) t u h e =
     let first = effects_first item items t u e in
     size-effects lines columns items first.0 u (size-effect lines columns item t h first.0 first.1) first.2

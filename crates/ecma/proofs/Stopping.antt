@@ -13,7 +13,7 @@ pub record NoEffect (bytes : List ℕ) (t : Terminal) : Type 0 where
   pub each : (item : Item) (following : List ℕ) → bytes ≡ bytes_of item ++ following → IsItem item → MayPrecede item following → effect item t ≡ None
 
 reaches_less : (rest : List ℕ) (more : List Item) (left : List ℕ) (last u : Terminal) → NoEffect rest last → Splits rest more left → effects more last ≡ Some u → length left < length rest → ⊥
-reaches_less rest [] left last u none h e less = let same : length rest ≡ length left = ap length h in omega arith
+reaches_less rest [] left last u none h e less = grind arith
 reaches_less rest (item ∷ more) left last u none h e less = grind (arith, effects_first)
 
 -- the stream fails at what is left of it
@@ -43,22 +43,16 @@ record Split (a b c d : List ℕ) : Type 0 where
 
 -- of two prefixes of one text the longer goes on from the shorter
 split : (a b c d : List ℕ) → a ++ b ≡ c ++ d → length c ≤ length a → Split a b c d
-split a b [] d e h = record { between = a; long = refl; after = sym e }
-split [] b (y ∷ c) d e h = absurd (omega arith)
-split (x ∷ a) b (y ∷ c) d e h =
-    let head : x ≡ y = cc in
-    let tail : a ++ b ≡ c ++ d = cc in
-    let rest = split a b c d tail (omega arith) in
-    let long : a ≡ c ++ rest.between = rest.long in
-    record { between = rest.between; long = cc; after = rest.after }
+split a b [] d e h = grind arith
+split [] b (y ∷ c) d e h = grind arith
+split (x ∷ a) b (y ∷ c) d e h = grind (arith, (split a b c d))
 
 MayPrecede-prefix : (item : Item) (bytes more : List ℕ) → MayPrecede item (bytes ++ more) → MayPrecede item bytes
 MayPrecede-prefix item bytes more h = grind arith
 
 -- what is shorter than an item is one itself
 beginning-of : (rest missing : List ℕ) (item : Item) → 0 < length rest → 0 < length missing → IsItem item → rest ++ missing ≡ bytes_of item → IsBeginning rest
-beginning-of rest missing (Printable byte) some more h e =
-    let long : length (rest ++ missing) ≡ 1 = ap length e in absurd (omega (arith, length-append rest missing))
+beginning-of rest missing (Printable byte) some more h e = let long : length (rest ++ missing) ≡ 1 = ap length e in grind (arith, length-append)
 beginning-of rest missing (Control function parameters) some more h e = grind arith
 beginning-of rest missing (Unfinished begun) some more h e = grind (arith, length-append, append_assoc)
 
@@ -78,7 +72,7 @@ NoEffect-append rest more t some none = record {
 }
 
 Splits-more : (bytes : List ℕ) (items : List Item) (rest more : List ℕ) → 0 < length rest → Splits bytes items rest → Splits (bytes ++ more) items (rest ++ more)
-Splits-more bytes [] rest more some h = ap (λ (prefix : List ℕ). prefix ++ more) h
+Splits-more bytes [] rest more some h = grind arith
 Splits-more bytes (item ∷ items) rest more some h = (
   h.0 ++ more,
   ap (λ (prefix : List ℕ). prefix ++ more) h.1 ∙ append_assoc (bytes_of item) h.0 more,
@@ -88,14 +82,11 @@ Splits-more bytes (item ∷ items) rest more some h = (
   Splits-more h.0 items rest more some h.4,
 ) where
   Splits-some : (bytes : List ℕ) (items : List Item) (rest : List ℕ) → 0 < length rest → Splits bytes items rest → 0 < length bytes
-  Splits-some bytes [] rest some h = let same : length bytes ≡ length rest = ap length h in omega arith
-  Splits-some bytes (item ∷ items) rest some h = rw h.1 (omega (arith, bytes_of_some item h.2, length-append (bytes_of item) h.0))
+  Splits-some bytes [] rest some h = grind arith
+  Splits-some bytes (item ∷ items) rest some h = grind (arith, bytes_of_some, length-append)
 
   MayPrecede-more : (item : Item) (following : List ℕ) → 0 < length following → MayPrecede item following → MayPrecede item (following ++ more)
-  MayPrecede-more (Printable byte) following some h = tt
-  MayPrecede-more (Control function parameters) following some h = tt
-  MayPrecede-more (Unfinished begun) [] some h = absurd (omega arith)
-  MayPrecede-more (Unfinished begun) (byte ∷ following) some h = h
+  MayPrecede-more item following some h = grind arith
 
 -- nothing beyond the failure has an effect
 NoEffect-failed : (stream : List ℕ) (offset : ℕ) (first last : Terminal) (h : FailsAt stream first offset last) → NoEffect h.reaches.rest last

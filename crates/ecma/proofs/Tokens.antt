@@ -20,8 +20,8 @@ AreSmall codes = AllByRecursion (λ code. code < 100) codes
 -- ---- the parameters of SGR
 
 joined-decimals : (first : List ℕ) (codes : List ℕ) → join_with_byte 59 (first ∷ map decimal codes) ≡ first ++ flat_map (λ code. 59 ∷ decimal code) codes
-joined-decimals first [] = sym (append-nil first)
-joined-decimals first (code ∷ codes) = ap (λ (rest : List ℕ). first ++ 59 ∷ rest) (joined-decimals (decimal code) codes)
+joined-decimals first [] = grind (arith, append-nil)
+joined-decimals first (code ∷ codes) = grind (arith, (joined-decimals (decimal code) codes))
 
 numbers-decimal : (codes : List ℕ) → AreSmall codes → map (number_or 0) (map decimal codes) ≡ codes
 numbers-decimal [] h = refl
@@ -43,19 +43,12 @@ place_from_one-suc line column = grind (arith, lt-ltb)
 cup : (line column : ℕ) → IsToken (Cup line column) → IsItemOf (spelling (Cup line column)) (Cup line column)
 unfolding spelling
 cup line column h =
-    let is_line : number_or 1 (decimal (line + 1)) ≡ line + 1 = number_or-decimal 1 (line + 1) (omega arith) in
-    let is_column : number_or 1 (decimal (column + 1)) ≡ column + 1 = number_or-decimal 1 (column + 1) (omega arith) in
     record {
       item = Control CUP (decimal (line + 1) ∷ decimal (column + 1) ∷ []);
-      well_formed = record {
-        one = omega arith;
-        most = omega arith;
-        digits = (are_digits-decimal (line + 1) (omega arith), (are_digits-decimal (column + 1) (omega arith), tt));
-        short = (length-decimal-le 3 (line + 1) (omega arith) (omega arith) (omega arith), (length-decimal-le 3 (column + 1) (omega arith) (omega arith) (omega arith), tt));
-      };
+      well_formed = grind (arith, are_digits-decimal, length-decimal-le);
       finished = tt;
       spelled = refl;
-      same_effect = λ t. rw (is_line, is_column, place_from_one-suc line column) refl;
+      same_effect = λ t. grind (arith, number_or-decimal, place_from_one-suc);
     }
 
 select-zero : (rendition : Rendition) → select 0 rendition ≡ Some no_rendition
@@ -68,12 +61,7 @@ sgr rendition h =
     let fine : AreSmall (codes_of rendition) = codes_small rendition h in
     record {
       item = Control SGR ((48 ∷ []) ∷ map decimal (codes_of rendition));
-      well_formed = record {
-        one = omega arith;
-        most = omega (arith, codes_few rendition h, length-map (codes_of rendition) decimal);
-        digits = ((((omega arith), (omega arith)), tt), digits-decimals (codes_of rendition) fine);
-        short = (omega arith, short-decimals (codes_of rendition) fine);
-      };
+      well_formed = grind (arith, codes_few, length-map, digits-decimals, short-decimals);
       finished = tt;
       spelled = ap (λ (text : List ℕ). 27 ∷ 91 ∷ text ++ 109 ∷ []) (sym (joined-decimals (48 ∷ []) (codes_of rendition)));
       same_effect = λ t. rw (numbers-decimal (codes_of rendition) fine, select-zero t.rendition, select_all-codes_of rendition h) refl;

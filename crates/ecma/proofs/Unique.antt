@@ -1,5 +1,5 @@
 -- A stream is one sequence of items at most, and so is each prefix of it.
-use Rattle.std.proofs.Common.{◌≡◌, ℕ, ◌<◌, ◌≤◌, List, [], ◌∷◌, ◌++◌, length, refl, sym, ap, ◌∙◌, subst, arith, append_assoc, length-append, inl, inr}
+use Rattle.std.proofs.Common.{◌≡◌, ℕ, ◌<◌, ◌≤◌, List, [], ◌∷◌, ◌++◌, length, refl, ap, arith, append_assoc, length-append, inl, inr}
 use Rattle.std.specs.Prelude.{◌⊎◌, ⊤}
 use Rattle.ecma.proofs.Each.{each-append, each-weaker}
 use Rattle.ecma.proofs.Joining.{bytes_of_some}
@@ -24,16 +24,9 @@ Stops P (byte ∷ bytes) = P byte → ⊥
 -- two texts of bytes that have P before a stop are one
 pub cut : (P : ℕ → Type 0) (a b f g : List ℕ) → AllByRecursion P a → AllByRecursion P b → Stops P f → Stops P g → a ++ f ≡ b ++ g → Same a b f g
 cut P [] [] f g ha hb hf hg e = record { first = refl; second = e }
-cut P [] (y ∷ b) [] g ha hb hf hg e = absurd cc
-cut P [] (y ∷ b) (x ∷ f) g ha hb hf hg e = let same : x ≡ y = cc in absurd (hf (rw same hb.0))
-cut P (x ∷ a) [] f [] ha hb hf hg e = absurd cc
-cut P (x ∷ a) [] f (y ∷ g) ha hb hf hg e = let same : y ≡ x = cc in absurd (hg (rw same ha.0))
-cut P (x ∷ a) (y ∷ b) f g ha hb hf hg e =
-    let head : x ≡ y = cc in
-    let tail : a ++ f ≡ b ++ g = cc in
-    let rest = cut P a b f g ha.1 hb.1 hf hg tail in
-    let first : a ≡ b = rest.first in
-    record { first = cc; second = rest.second }
+cut P [] (y ∷ b) f g ha hb hf hg e = grind arith
+cut P (x ∷ a) [] f g ha hb hf hg e = grind arith
+cut P (x ∷ a) (y ∷ b) f g ha hb hf hg e = grind (arith, (cut P a b f g ha.1 hb.1 hf hg))
 
 -- what holds of a separator and of digits holds of parameters one after another
 pub joined-each : (P : ℕ → Type 0) → P 59 → ((digit : ℕ) → IsDigit digit → P digit) → (parameters : List (List ℕ)) → AllByRecursion (AllByRecursion IsDigit) parameters
@@ -63,18 +56,10 @@ not-digit h = omega (arith, h.1)
 pub same-parameters : (a : List ℕ) (ps : List (List ℕ)) (b : List ℕ) (qs : List (List ℕ)) → AllByRecursion (AllByRecursion IsDigit) (a ∷ ps) → AllByRecursion (AllByRecursion IsDigit) (b ∷ qs)
     → join_with_byte 59 (a ∷ ps) ≡ join_with_byte 59 (b ∷ qs) → ◌≡◌ {A = List (List ℕ)} (a ∷ ps) (b ∷ qs)
 same-parameters a [] b [] ha hb e = cc
-same-parameters a [] b (d ∷ qs) ha hb e =
-    let both = cut IsDigit a b [] (59 ∷ join_with_byte 59 (d ∷ qs)) ha.0 hb.0 tt not-digit (append-nil a ∙ e) in
-    let never : ◌≡◌ {A = List ℕ} [] (59 ∷ join_with_byte 59 (d ∷ qs)) = both.second in absurd cc
-same-parameters a (c ∷ ps) b [] ha hb e =
-    let both = cut IsDigit a b (59 ∷ join_with_byte 59 (c ∷ ps)) [] ha.0 hb.0 not-digit tt (e ∙ sym (append-nil b)) in
-    let never : ◌≡◌ {A = List ℕ} (59 ∷ join_with_byte 59 (c ∷ ps)) [] = both.second in absurd cc
+same-parameters a [] b (d ∷ qs) ha hb e = grind (arith, append-nil, not-digit, (cut IsDigit a b [] (59 ∷ join_with_byte 59 (d ∷ qs))))
+same-parameters a (c ∷ ps) b [] ha hb e = grind (arith, append-nil, not-digit, (cut IsDigit a b (59 ∷ join_with_byte 59 (c ∷ ps)) []))
 same-parameters a (c ∷ ps) b (d ∷ qs) ha hb e =
-    let both = cut IsDigit a b (59 ∷ join_with_byte 59 (c ∷ ps)) (59 ∷ join_with_byte 59 (d ∷ qs)) ha.0 hb.0 not-digit not-digit e in
-    let first : a ≡ b = both.first in
-    let after : ◌≡◌ {A = List ℕ} (59 ∷ join_with_byte 59 (c ∷ ps)) (59 ∷ join_with_byte 59 (d ∷ qs)) = both.second in
-    let rest : join_with_byte 59 (c ∷ ps) ≡ join_with_byte 59 (d ∷ qs) = cc in
-    let others = same-parameters c ps d qs ha.1 hb.1 rest in cc
+    grind (arith, not-digit, (cut IsDigit a b (59 ∷ join_with_byte 59 (c ∷ ps)) (59 ∷ join_with_byte 59 (d ∷ qs))), (same-parameters c ps d qs ha.1 hb.1))
 
 -- ---- unfinished items
 
@@ -90,17 +75,14 @@ prefix-inner (x ∷ p) [] m missing final h e =
     let tail : p ++ m ∷ missing ≡ [] = cc in
     let len : length (p ++ m ∷ missing) ≡ 0 = ap length tail in
     absurd (omega (arith, length-append p (m ∷ missing)))
-prefix-inner (x ∷ p) (y ∷ q) m missing final h e =
-    let head : x ≡ y = cc in
-    let tail : p ++ m ∷ missing ≡ q ++ final ∷ [] = cc in
-    (rw head h.0, prefix-inner p q m missing final h.1 tail)
+prefix-inner (x ∷ p) (y ∷ q) m missing final h e = (grind arith, prefix-inner p q m missing final h.1 cc)
 
 shape : (bytes missing : List ℕ) (function : Function) (parameters : List (List ℕ)) → 0 < length bytes → 0 < length missing → AreParameters parameters
     → bytes ++ missing ≡ bytes_of (Control function parameters)
     → (bytes ≡ 27 ∷ []) ⊎ Inner bytes
 shape [] missing function parameters some more h e = absurd (omega arith)
 shape (x ∷ bytes) [] function parameters some more h e = absurd (omega arith)
-shape (x ∷ []) (m ∷ missing) function parameters some more h e = inl cc
+shape (x ∷ []) (m ∷ missing) function parameters some more h e = grind arith
 shape (x ∷ y ∷ p) (m ∷ missing) function parameters some more h e = grind (arith, prefix-inner, joined-inner)
 
 pub shape-of : (bytes : List ℕ) → IsBeginning bytes → (bytes ≡ 27 ∷ []) ⊎ Inner bytes
@@ -120,27 +102,18 @@ pub record SameItem (i j : Item) (f g : List ℕ) : Type 0 where
 
 control-control : (a : Function) (ps : List (List ℕ)) (b : Function) (qs : List (List ℕ)) (f g : List ℕ) → AreParameters ps → AreParameters qs
     → (join_with_byte 59 ps ++ final_byte a ∷ []) ++ f ≡ (join_with_byte 59 qs ++ final_byte b ∷ []) ++ g → SameItem (Control a ps) (Control b qs) f g
-control-control a [] b qs f g h k e = absurd (omega (arith, h.one))
-control-control a (p ∷ ps) b [] f g h k e = absurd (omega (arith, k.one))
+control-control a [] b qs f g h k e = grind arith
+control-control a (p ∷ ps) b [] f g h k e = grind arith
 control-control a (p ∷ ps) b (q ∷ qs) f g h k e =
-    let split : join_with_byte 59 (p ∷ ps) ++ final_byte a ∷ f ≡ join_with_byte 59 (q ∷ qs) ++ final_byte b ∷ g =
-    sym (append_assoc (join_with_byte 59 (p ∷ ps)) (final_byte a ∷ []) f) ∙ e ∙ append_assoc (join_with_byte 59 (q ∷ qs)) (final_byte b ∷ []) g in
     let both = cut IsInner (join_with_byte 59 (p ∷ ps)) (join_with_byte 59 (q ∷ qs)) (final_byte a ∷ f) (final_byte b ∷ g) (joined-inner (p ∷ ps) h.digits) (joined-inner (q ∷ qs) k.digits)
-    (final-stops a f) (final-stops b g) split in
-    let after : final_byte a ∷ f ≡ final_byte b ∷ g = both.second in
-    let final : final_byte a ≡ final_byte b = cc in
+    (final-stops a f) (final-stops b g) (grind (arith, append_assoc)) in
     let parameters = same-parameters p ps q qs h.digits k.digits both.first in
-    let function = same-function a b final in
-    record { item = cc; rest = cc }
+    grind (arith, same-function)
 
 control-unfinished : (a : Function) (ps : List (List ℕ)) (begun f g : List ℕ) → AreParameters ps → EndsOrEscapes g → (begun ≡ 27 ∷ []) ⊎ Inner begun → bytes_of (Control a ps) ++ f ≡ begun ++ g → ⊥
 control-unfinished a ps begun f g h stop (inl lone) e = grind (arith, not-escape)
 control-unfinished a ps begun f g h stop (inr begins) e =
-    let whole : 27 ∷ 91 ∷ ((join_with_byte 59 ps ++ final_byte a ∷ []) ++ f) ≡ 27 ∷ 91 ∷ (begins.inner ++ g) = e ∙ ap (λ (prefix : List ℕ). prefix ++ g) begins.is in
-    let after : (join_with_byte 59 ps ++ final_byte a ∷ []) ++ f ≡ begins.inner ++ g = cc in
-    let both = cut IsInner (join_with_byte 59 ps) begins.inner (final_byte a ∷ f) g (joined-inner ps h.digits) begins.each (final-stops a f) (escape-stops g stop)
-    (sym (append_assoc (join_with_byte 59 ps) (final_byte a ∷ []) f) ∙ after) in
-    not-escape (final_byte a) f g (not-final a) both.second stop
+    grind (arith, append_assoc, joined-inner, final-stops, escape-stops, not-escape, not-final, (cut IsInner (join_with_byte 59 ps) begins.inner (final_byte a ∷ f) g))
 
 unfinished-unfinished : (p q f g : List ℕ) → EndsOrEscapes f → EndsOrEscapes g → (p ≡ 27 ∷ []) ⊎ Inner p → (q ≡ 27 ∷ []) ⊎ Inner q → p ++ f ≡ q ++ g → SameItem (Unfinished p) (Unfinished q) f g
 unfinished-unfinished p q f g h k e h2 h3 = grind (arith, not-escape, cut, escape-stops)
@@ -154,11 +127,11 @@ same-first i j f g h k p q e = grind (arith, from_space, printable-unfinished, s
 -- ---- the items of a beginning
 
 Splits-shorter : (bytes : List ℕ) (items : List Item) (rest : List ℕ) → Splits bytes items rest → length rest ≤ length bytes
-Splits-shorter bytes [] rest h = let same : length bytes ≡ length rest = ap length h in omega arith
-Splits-shorter bytes (item ∷ items) rest h = let later = Splits-shorter h.0 items rest h.4 in rw h.1 (omega (arith, length-append (bytes_of item) h.0))
+Splits-shorter bytes [] rest h = grind arith
+Splits-shorter bytes (item ∷ items) rest h = grind (arith, length-append, (Splits-shorter h.0 items rest h.4))
 
 Splits-less : (bytes : List ℕ) (item : Item) (items : List Item) (rest : List ℕ) → Splits bytes (item ∷ items) rest → length rest < length bytes
-Splits-less bytes item items rest h = let later = Splits-shorter h.0 items rest h.4 in rw h.1 (omega (arith, bytes_of_some item h.2, length-append (bytes_of item) h.0))
+Splits-less bytes item items rest h = grind (arith, length-append, bytes_of_some, Splits-shorter)
 
 Splits-nothing : (bytes : List ℕ) (items : List Item) (rest : List ℕ) → Splits bytes items rest → length bytes ≤ length rest → items ≡ []
 Splits-nothing bytes [] rest h short = refl
@@ -167,14 +140,9 @@ Splits-nothing bytes (item ∷ items) rest h short = absurd (let less = Splits-l
 -- of two rows of items the one that leaves less goes on from the other
 pub Splits-prefix : (bytes : List ℕ) (items others : List Item) (rest left : List ℕ) → Splits bytes items rest → Splits bytes others left → length left ≤ length rest
     → (more : List Item) × (others ≡ items ++ more) × Splits rest more left
-Splits-prefix bytes [] others rest left h k less = (others, refl, subst (λ (prefix : List ℕ). Splits prefix others left) h k)
-Splits-prefix bytes (item ∷ items) [] rest left h k less = absurd (let shorter = Splits-less bytes item items rest h in let same : length bytes ≡ length left = ap length k in omega arith)
-Splits-prefix bytes (item ∷ items) (other ∷ others) rest left h k less =
-    let first = same-first item other h.0 k.0 h.2 k.2 h.3 k.3 (sym h.1 ∙ k.1) in
-    let after = Splits-prefix k.0 items others rest left (subst (λ (following : List ℕ). Splits following items rest) first.rest h.4) k.4 less in
-    let here : item ≡ other = first.item in
-    let those : others ≡ items ++ after.0 = after.1 in
-    (after.0, cc, after.2)
+Splits-prefix bytes [] others rest left h k less = grind arith
+Splits-prefix bytes (item ∷ items) [] rest left h k less = let shorter = Splits-less bytes item items rest h in grind arith
+Splits-prefix bytes (item ∷ items) (other ∷ others) rest left h k less = grind (arith, same-first, (Splits-prefix k.0 items others rest left))
 
 pub Splits-same : (bytes : List ℕ) (items others : List Item) (rest left : List ℕ) → Splits bytes items rest → Splits bytes others left → length rest ≡ length left → items ≡ others
 Splits-same bytes items others rest left h k same = grind (arith, Splits-prefix, rest, Splits-nothing, append-nil)
