@@ -17,24 +17,17 @@ use Rattle.world.specs.declared.call.Copying.TheVariants.{Overlay, Overwrite, Co
 use Rattle.world.specs.declared.call.Query.TheVariants.{Getyx, Getbegyx, Getmaxyx, Getparyx, Inch}
 use Rattle.world.specs.declared.call.Stacking.TheVariants.{NewPanel, DelPanel, ShowPanel, HidePanel, TopPanel, BottomPanel, MovePanel, ReplacePanel, PanelAbove, PanelBelow, PanelWindow, PanelHidden}
 use Rattle.world.specs.declared.call.Refresh.TheVariants.{Noutrefresh, Pnoutrefresh, UpdatePanels, Doupdate, InitPair}
-use Rattle.script.specs.declared.words.letters.TheConstants.{WORDS}
+use Rattle.script.specs.declared.words.TheConstants.{WORDS}
 use Rattle.script.specs.declared.words.Form.{Form}
 use Rattle.script.specs.declared.words.Form.TheVariants.{Number, NumberOrNone, Signed, Attributes, Flag, Character, Text}
 use Rattle.script.specs.declared.words.Word.{Word}
-use Rattle.script.specs.declared.words.Word.TheVariants.{Making as Making_word, Writing as Writing_word, Copying as Copying_word, Query as Query_word, Stacking as Stacking_word}
-use Rattle.script.specs.declared.words.Word.TheVariants.{Refresh as Refresh_word}
-use Rattle.script.specs.declared.words.making.MakingWord.{MakingWord}
-use Rattle.script.specs.declared.words.making.MakingWord.TheVariants as making
-use Rattle.script.specs.declared.words.writing.WritingWord.{WritingWord}
-use Rattle.script.specs.declared.words.writing.WritingWord.TheVariants as writing
-use Rattle.script.specs.declared.words.copying.CopyingWord.{CopyingWord}
-use Rattle.script.specs.declared.words.copying.CopyingWord.TheVariants as copying
-use Rattle.script.specs.declared.words.query.QueryWord.{QueryWord}
-use Rattle.script.specs.declared.words.query.QueryWord.TheVariants as query
-use Rattle.script.specs.declared.words.stacking.StackingWord.{StackingWord}
-use Rattle.script.specs.declared.words.stacking.StackingWord.TheVariants as stacking
-use Rattle.script.specs.declared.words.refresh.RefreshWord.{RefreshWord}
-use Rattle.script.specs.declared.words.refresh.RefreshWord.TheVariants as refresh
+use Rattle.script.specs.declared.words.Word.TheVariants as word
+use Rattle.script.specs.declared.words.MakingWord.TheVariants as making
+use Rattle.script.specs.declared.words.WritingWord.TheVariants as writing
+use Rattle.script.specs.declared.words.CopyingWord.TheVariants as copying
+use Rattle.script.specs.declared.words.QueryWord.TheVariants as query
+use Rattle.script.specs.declared.words.StackingWord.TheVariants as stacking
+use Rattle.script.specs.declared.words.RefreshWord.TheVariants as refresh
 
 -- What the arguments of a call say. Its numbers are in their order.
 pub record Arguments : Type 0 where
@@ -84,118 +77,101 @@ pub record Entry : Type 0 where
   pub forms : List Form
   pub call : Arguments → Call
 
+-- the entry of each word
+abbrev pub entry_of : Word → Entry
 -- making and placing
-abbrev pub making_entry : MakingWord → Entry
-making_entry making.Newwin = record { word = codes "newwin"; forms = Number ∷ Number ∷ Number ∷ Number ∷ []; call = λ a. Making (Newwin (number a 0) (number a 1) (number a 2) (number a 3)) }
-making_entry making.Subwin = record {
+entry_of (word.Making making.Newwin) = record { word = codes "newwin"; forms = Number ∷ Number ∷ Number ∷ Number ∷ []; call = λ a. Making (Newwin (number a 0) (number a 1) (number a 2) (number a 3)) }
+entry_of (word.Making making.Subwin) = record {
   word = codes "subwin";
   forms = Number ∷ Number ∷ Number ∷ Number ∷ Number ∷ [];
   call = λ a. Making
       (Subwin (window a) (number a 1) (number a 2) (number a 3) (number a 4));
 }
-making_entry making.Derwin = record {
+entry_of (word.Making making.Derwin) = record {
   word = codes "derwin";
   forms = Number ∷ Number ∷ Number ∷ Number ∷ Number ∷ [];
   call = λ a. Making
       (Derwin (window a) (number a 1) (number a 2) (number a 3) (number a 4));
 }
-making_entry making.Newpad = record { word = codes "newpad"; forms = Number ∷ Number ∷ []; call = λ a. Making (Newpad (number a 0) (number a 1)) }
-making_entry making.Subpad = record {
+entry_of (word.Making making.Newpad) = record { word = codes "newpad"; forms = Number ∷ Number ∷ []; call = λ a. Making (Newpad (number a 0) (number a 1)) }
+entry_of (word.Making making.Subpad) = record {
   word = codes "subpad";
   forms = Number ∷ Number ∷ Number ∷ Number ∷ Number ∷ [];
   call = λ a. Making
       (Subpad (window a) (number a 1) (number a 2) (number a 3) (number a 4));
 }
-making_entry making.Delwin = record { word = codes "delwin"; forms = Number ∷ []; call = λ a. Making (Delwin (window a)) }
-making_entry making.Mvwin = record { word = codes "mvwin"; forms = Number ∷ Number ∷ Number ∷ []; call = λ a. Making (Mvwin (window a) (number a 1) (number a 2)) }
-making_entry making.Mvderwin = record { word = codes "mvderwin"; forms = Number ∷ Number ∷ Number ∷ []; call = λ a. Making (Mvderwin (window a) (number a 1) (number a 2)) }
-
+entry_of (word.Making making.Delwin) = record { word = codes "delwin"; forms = Number ∷ []; call = λ a. Making (Delwin (window a)) }
+entry_of (word.Making making.Mvwin) = record { word = codes "mvwin"; forms = Number ∷ Number ∷ Number ∷ []; call = λ a. Making (Mvwin (window a) (number a 1) (number a 2)) }
+entry_of (word.Making making.Mvderwin) = record { word = codes "mvderwin"; forms = Number ∷ Number ∷ Number ∷ []; call = λ a. Making (Mvderwin (window a) (number a 1) (number a 2)) }
 -- writing
-abbrev pub writing_entry : WritingWord → Entry
-writing_entry writing.Move = record { word = codes "move"; forms = Number ∷ Number ∷ Number ∷ []; call = λ a. Writing (Move (window a) (number a 1) (number a 2)) }
-writing_entry writing.Addch = record { word = codes "addch"; forms = Number ∷ Character ∷ []; call = λ a. Writing (Addch (window a) (character a)) }
-writing_entry writing.Addstr = record { word = codes "addstr"; forms = Number ∷ Text ∷ []; call = λ a. Writing (Addstr (window a) (somewhere a.text)) }
-writing_entry writing.Insch = record { word = codes "insch"; forms = Number ∷ Character ∷ []; call = λ a. Writing (Insch (window a) (character a)) }
-writing_entry writing.Delch = record { word = codes "delch"; forms = Number ∷ []; call = λ a. Writing (Delch (window a)) }
-writing_entry writing.Insertln = record { word = codes "insertln"; forms = Number ∷ []; call = λ a. Writing (Insertln (window a)) }
-writing_entry writing.Deleteln = record { word = codes "deleteln"; forms = Number ∷ []; call = λ a. Writing (Deleteln (window a)) }
-writing_entry writing.Erase = record { word = codes "erase"; forms = Number ∷ []; call = λ a. Writing (Erase (window a)) }
-writing_entry writing.Clear = record { word = codes "clear"; forms = Number ∷ []; call = λ a. Writing (Clear (window a)) }
-writing_entry writing.Clrtoeol = record { word = codes "clrtoeol"; forms = Number ∷ []; call = λ a. Writing (Clrtoeol (window a)) }
-writing_entry writing.Clrtobot = record { word = codes "clrtobot"; forms = Number ∷ []; call = λ a. Writing (Clrtobot (window a)) }
-writing_entry writing.Scrl = record { word = codes "scrl"; forms = Number ∷ Signed ∷ []; call = λ a. Writing (Scrl (window a) a.signed) }
-writing_entry writing.Setscrreg = record { word = codes "setscrreg"; forms = Number ∷ Number ∷ Number ∷ []; call = λ a. Writing (Setscrreg (window a) (number a 1) (number a 2)) }
-writing_entry writing.Scrollok = record { word = codes "scrollok"; forms = Number ∷ Flag ∷ []; call = λ a. Writing (Scrollok (window a) a.flag) }
-writing_entry writing.Clearok = record { word = codes "clearok"; forms = Number ∷ Flag ∷ []; call = λ a. Writing (Clearok (window a) a.flag) }
-writing_entry writing.Attrset = record { word = codes "attrset"; forms = Number ∷ Attributes ∷ []; call = λ a. Writing (Attrset (window a) (attributes a)) }
-writing_entry writing.Attron = record { word = codes "attron"; forms = Number ∷ Attributes ∷ []; call = λ a. Writing (Attron (window a) (attributes a)) }
-writing_entry writing.Attroff = record { word = codes "attroff"; forms = Number ∷ Attributes ∷ []; call = λ a. Writing (Attroff (window a) (attributes a)) }
-writing_entry writing.Bkgdset = record { word = codes "bkgdset"; forms = Number ∷ Attributes ∷ Character ∷ []; call = λ a. Writing (Bkgdset (window a) (attributes a) (character a)) }
-writing_entry writing.ColorSet = record { word = codes "color_set"; forms = Number ∷ Number ∷ []; call = λ a. Writing (ColorSet (window a) (number a 1)) }
-writing_entry writing.Bkgdpair = record { word = codes "bkgdpair"; forms = Number ∷ Number ∷ []; call = λ a. Writing (Bkgdpair (window a) (number a 1)) }
-
+entry_of (word.Writing writing.Move) = record { word = codes "move"; forms = Number ∷ Number ∷ Number ∷ []; call = λ a. Writing (Move (window a) (number a 1) (number a 2)) }
+entry_of (word.Writing writing.Addch) = record { word = codes "addch"; forms = Number ∷ Character ∷ []; call = λ a. Writing (Addch (window a) (character a)) }
+entry_of (word.Writing writing.Addstr) = record { word = codes "addstr"; forms = Number ∷ Text ∷ []; call = λ a. Writing (Addstr (window a) (somewhere a.text)) }
+entry_of (word.Writing writing.Insch) = record { word = codes "insch"; forms = Number ∷ Character ∷ []; call = λ a. Writing (Insch (window a) (character a)) }
+entry_of (word.Writing writing.Delch) = record { word = codes "delch"; forms = Number ∷ []; call = λ a. Writing (Delch (window a)) }
+entry_of (word.Writing writing.Insertln) = record { word = codes "insertln"; forms = Number ∷ []; call = λ a. Writing (Insertln (window a)) }
+entry_of (word.Writing writing.Deleteln) = record { word = codes "deleteln"; forms = Number ∷ []; call = λ a. Writing (Deleteln (window a)) }
+entry_of (word.Writing writing.Erase) = record { word = codes "erase"; forms = Number ∷ []; call = λ a. Writing (Erase (window a)) }
+entry_of (word.Writing writing.Clear) = record { word = codes "clear"; forms = Number ∷ []; call = λ a. Writing (Clear (window a)) }
+entry_of (word.Writing writing.Clrtoeol) = record { word = codes "clrtoeol"; forms = Number ∷ []; call = λ a. Writing (Clrtoeol (window a)) }
+entry_of (word.Writing writing.Clrtobot) = record { word = codes "clrtobot"; forms = Number ∷ []; call = λ a. Writing (Clrtobot (window a)) }
+entry_of (word.Writing writing.Scrl) = record { word = codes "scrl"; forms = Number ∷ Signed ∷ []; call = λ a. Writing (Scrl (window a) a.signed) }
+entry_of (word.Writing writing.Setscrreg) = record { word = codes "setscrreg"; forms = Number ∷ Number ∷ Number ∷ []; call = λ a. Writing (Setscrreg (window a) (number a 1) (number a 2)) }
+entry_of (word.Writing writing.Scrollok) = record { word = codes "scrollok"; forms = Number ∷ Flag ∷ []; call = λ a. Writing (Scrollok (window a) a.flag) }
+entry_of (word.Writing writing.Clearok) = record { word = codes "clearok"; forms = Number ∷ Flag ∷ []; call = λ a. Writing (Clearok (window a) a.flag) }
+entry_of (word.Writing writing.Attrset) = record { word = codes "attrset"; forms = Number ∷ Attributes ∷ []; call = λ a. Writing (Attrset (window a) (attributes a)) }
+entry_of (word.Writing writing.Attron) = record { word = codes "attron"; forms = Number ∷ Attributes ∷ []; call = λ a. Writing (Attron (window a) (attributes a)) }
+entry_of (word.Writing writing.Attroff) = record { word = codes "attroff"; forms = Number ∷ Attributes ∷ []; call = λ a. Writing (Attroff (window a) (attributes a)) }
+entry_of (word.Writing writing.Bkgdset) = record { word = codes "bkgdset"; forms = Number ∷ Attributes ∷ Character ∷ []; call = λ a. Writing (Bkgdset (window a) (attributes a) (character a)) }
+entry_of (word.Writing writing.ColorSet) = record { word = codes "color_set"; forms = Number ∷ Number ∷ []; call = λ a. Writing (ColorSet (window a) (number a 1)) }
+entry_of (word.Writing writing.Bkgdpair) = record { word = codes "bkgdpair"; forms = Number ∷ Number ∷ []; call = λ a. Writing (Bkgdpair (window a) (number a 1)) }
 -- copies and marks
-abbrev pub copying_entry : CopyingWord → Entry
-copying_entry copying.Overlay = record { word = codes "overlay"; forms = Number ∷ Number ∷ []; call = λ a. Copying (Overlay (window a) (window_at a 1)) }
-copying_entry copying.Overwrite = record { word = codes "overwrite"; forms = Number ∷ Number ∷ []; call = λ a. Copying (Overwrite (window a) (window_at a 1)) }
-copying_entry copying.Copywin = record {
+entry_of (word.Copying copying.Overlay) = record { word = codes "overlay"; forms = Number ∷ Number ∷ []; call = λ a. Copying (Overlay (window a) (window_at a 1)) }
+entry_of (word.Copying copying.Overwrite) = record { word = codes "overwrite"; forms = Number ∷ Number ∷ []; call = λ a. Copying (Overwrite (window a) (window_at a 1)) }
+entry_of (word.Copying copying.Copywin) = record {
   word = codes "copywin";
   forms = Number ∷ Number ∷ Number ∷ Number ∷ Number ∷ Number ∷ Number ∷ Number ∷ Flag ∷ [];
   call = λ a. Copying
       (Copywin (window a) (window_at a 1) (number a 2) (number a 3) (number a 4) (number a 5) (number a 6) (number a 7) a.flag);
 }
-copying_entry copying.Touchwin = record { word = codes "touchwin"; forms = Number ∷ []; call = λ a. Copying (Touchwin (window a)) }
-copying_entry copying.Untouchwin = record { word = codes "untouchwin"; forms = Number ∷ []; call = λ a. Copying (Untouchwin (window a)) }
-copying_entry copying.Touchline = record { word = codes "touchline"; forms = Number ∷ Number ∷ Number ∷ []; call = λ a. Copying (Touchline (window a) (number a 1) (number a 2)) }
-copying_entry copying.Touchln = record { word = codes "touchln"; forms = Number ∷ Number ∷ Number ∷ Flag ∷ []; call = λ a. Copying (Touchln (window a) (number a 1) (number a 2) a.flag) }
-copying_entry copying.Syncup = record { word = codes "syncup"; forms = Number ∷ []; call = λ a. Copying (Syncup (window a)) }
-copying_entry copying.Syncdown = record { word = codes "syncdown"; forms = Number ∷ []; call = λ a. Copying (Syncdown (window a)) }
-copying_entry copying.IsLinetouched = record { word = codes "is_linetouched"; forms = Number ∷ Number ∷ []; call = λ a. Copying (IsLinetouched (window a) (number a 1)) }
-copying_entry copying.IsWintouched = record { word = codes "is_wintouched"; forms = Number ∷ []; call = λ a. Copying (IsWintouched (window a)) }
-
+entry_of (word.Copying copying.Touchwin) = record { word = codes "touchwin"; forms = Number ∷ []; call = λ a. Copying (Touchwin (window a)) }
+entry_of (word.Copying copying.Untouchwin) = record { word = codes "untouchwin"; forms = Number ∷ []; call = λ a. Copying (Untouchwin (window a)) }
+entry_of (word.Copying copying.Touchline) = record { word = codes "touchline"; forms = Number ∷ Number ∷ Number ∷ []; call = λ a. Copying (Touchline (window a) (number a 1) (number a 2)) }
+entry_of (word.Copying copying.Touchln) = record { word = codes "touchln"; forms = Number ∷ Number ∷ Number ∷ Flag ∷ []; call = λ a. Copying (Touchln (window a) (number a 1) (number a 2) a.flag) }
+entry_of (word.Copying copying.Syncup) = record { word = codes "syncup"; forms = Number ∷ []; call = λ a. Copying (Syncup (window a)) }
+entry_of (word.Copying copying.Syncdown) = record { word = codes "syncdown"; forms = Number ∷ []; call = λ a. Copying (Syncdown (window a)) }
+entry_of (word.Copying copying.IsLinetouched) = record { word = codes "is_linetouched"; forms = Number ∷ Number ∷ []; call = λ a. Copying (IsLinetouched (window a) (number a 1)) }
+entry_of (word.Copying copying.IsWintouched) = record { word = codes "is_wintouched"; forms = Number ∷ []; call = λ a. Copying (IsWintouched (window a)) }
 -- queries
-abbrev pub query_entry : QueryWord → Entry
-query_entry query.Getyx = record { word = codes "getyx"; forms = Number ∷ []; call = λ a. Query (Getyx (window a)) }
-query_entry query.Getbegyx = record { word = codes "getbegyx"; forms = Number ∷ []; call = λ a. Query (Getbegyx (window a)) }
-query_entry query.Getmaxyx = record { word = codes "getmaxyx"; forms = Number ∷ []; call = λ a. Query (Getmaxyx (window a)) }
-query_entry query.Getparyx = record { word = codes "getparyx"; forms = Number ∷ []; call = λ a. Query (Getparyx (window a)) }
-query_entry query.Inch = record { word = codes "inch"; forms = Number ∷ []; call = λ a. Query (Inch (window a)) }
-
+entry_of (word.Query query.Getyx) = record { word = codes "getyx"; forms = Number ∷ []; call = λ a. Query (Getyx (window a)) }
+entry_of (word.Query query.Getbegyx) = record { word = codes "getbegyx"; forms = Number ∷ []; call = λ a. Query (Getbegyx (window a)) }
+entry_of (word.Query query.Getmaxyx) = record { word = codes "getmaxyx"; forms = Number ∷ []; call = λ a. Query (Getmaxyx (window a)) }
+entry_of (word.Query query.Getparyx) = record { word = codes "getparyx"; forms = Number ∷ []; call = λ a. Query (Getparyx (window a)) }
+entry_of (word.Query query.Inch) = record { word = codes "inch"; forms = Number ∷ []; call = λ a. Query (Inch (window a)) }
 -- panels
-abbrev pub stacking_entry : StackingWord → Entry
-stacking_entry stacking.NewPanel = record { word = codes "new_panel"; forms = Number ∷ []; call = λ a. Stacking (NewPanel (window a)) }
-stacking_entry stacking.DelPanel = record { word = codes "del_panel"; forms = Number ∷ []; call = λ a. Stacking (DelPanel (panel a)) }
-stacking_entry stacking.ShowPanel = record { word = codes "show_panel"; forms = Number ∷ []; call = λ a. Stacking (ShowPanel (panel a)) }
-stacking_entry stacking.HidePanel = record { word = codes "hide_panel"; forms = Number ∷ []; call = λ a. Stacking (HidePanel (panel a)) }
-stacking_entry stacking.TopPanel = record { word = codes "top_panel"; forms = Number ∷ []; call = λ a. Stacking (TopPanel (panel a)) }
-stacking_entry stacking.BottomPanel = record { word = codes "bottom_panel"; forms = Number ∷ []; call = λ a. Stacking (BottomPanel (panel a)) }
-stacking_entry stacking.MovePanel = record { word = codes "move_panel"; forms = Number ∷ Number ∷ Number ∷ []; call = λ a. Stacking (MovePanel (panel a) (number a 1) (number a 2)) }
-stacking_entry stacking.ReplacePanel = record { word = codes "replace_panel"; forms = Number ∷ Number ∷ []; call = λ a. Stacking (ReplacePanel (panel a) (window_at a 1)) }
-stacking_entry stacking.PanelAbove = record { word = codes "panel_above"; forms = NumberOrNone ∷ []; call = λ a. Stacking (PanelAbove (panel_or_none a)) }
-stacking_entry stacking.PanelBelow = record { word = codes "panel_below"; forms = NumberOrNone ∷ []; call = λ a. Stacking (PanelBelow (panel_or_none a)) }
-stacking_entry stacking.PanelWindow = record { word = codes "panel_window"; forms = Number ∷ []; call = λ a. Stacking (PanelWindow (panel a)) }
-stacking_entry stacking.PanelHidden = record { word = codes "panel_hidden"; forms = Number ∷ []; call = λ a. Stacking (PanelHidden (panel a)) }
-
+entry_of (word.Stacking stacking.NewPanel) = record { word = codes "new_panel"; forms = Number ∷ []; call = λ a. Stacking (NewPanel (window a)) }
+entry_of (word.Stacking stacking.DelPanel) = record { word = codes "del_panel"; forms = Number ∷ []; call = λ a. Stacking (DelPanel (panel a)) }
+entry_of (word.Stacking stacking.ShowPanel) = record { word = codes "show_panel"; forms = Number ∷ []; call = λ a. Stacking (ShowPanel (panel a)) }
+entry_of (word.Stacking stacking.HidePanel) = record { word = codes "hide_panel"; forms = Number ∷ []; call = λ a. Stacking (HidePanel (panel a)) }
+entry_of (word.Stacking stacking.TopPanel) = record { word = codes "top_panel"; forms = Number ∷ []; call = λ a. Stacking (TopPanel (panel a)) }
+entry_of (word.Stacking stacking.BottomPanel) = record { word = codes "bottom_panel"; forms = Number ∷ []; call = λ a. Stacking (BottomPanel (panel a)) }
+entry_of (word.Stacking stacking.MovePanel) = record { word = codes "move_panel"; forms = Number ∷ Number ∷ Number ∷ []; call = λ a. Stacking (MovePanel (panel a) (number a 1) (number a 2)) }
+entry_of (word.Stacking stacking.ReplacePanel) = record { word = codes "replace_panel"; forms = Number ∷ Number ∷ []; call = λ a. Stacking (ReplacePanel (panel a) (window_at a 1)) }
+entry_of (word.Stacking stacking.PanelAbove) = record { word = codes "panel_above"; forms = NumberOrNone ∷ []; call = λ a. Stacking (PanelAbove (panel_or_none a)) }
+entry_of (word.Stacking stacking.PanelBelow) = record { word = codes "panel_below"; forms = NumberOrNone ∷ []; call = λ a. Stacking (PanelBelow (panel_or_none a)) }
+entry_of (word.Stacking stacking.PanelWindow) = record { word = codes "panel_window"; forms = Number ∷ []; call = λ a. Stacking (PanelWindow (panel a)) }
+entry_of (word.Stacking stacking.PanelHidden) = record { word = codes "panel_hidden"; forms = Number ∷ []; call = λ a. Stacking (PanelHidden (panel a)) }
 -- refresh
-abbrev pub refresh_entry : RefreshWord → Entry
-refresh_entry refresh.Noutrefresh = record { word = codes "noutrefresh"; forms = Number ∷ []; call = λ a. Refresh (Noutrefresh (window a)) }
-refresh_entry refresh.Pnoutrefresh = record {
+entry_of (word.Refresh refresh.Noutrefresh) = record { word = codes "noutrefresh"; forms = Number ∷ []; call = λ a. Refresh (Noutrefresh (window a)) }
+entry_of (word.Refresh refresh.Pnoutrefresh) = record {
   word = codes "pnoutrefresh";
   forms = Number ∷ Number ∷ Number ∷ Number ∷ Number ∷ Number ∷ Number ∷ [];
   call = λ a. Refresh
       (Pnoutrefresh (window a) (number a 1) (number a 2) (number a 3) (number a 4) (number a 5) (number a 6));
 }
-refresh_entry refresh.UpdatePanels = record { word = codes "update_panels"; forms = []; call = λ a. Refresh UpdatePanels }
-refresh_entry refresh.Doupdate = record { word = codes "doupdate"; forms = []; call = λ a. Refresh Doupdate }
-refresh_entry refresh.InitPair = record { word = codes "init_pair"; forms = Number ∷ Number ∷ Number ∷ []; call = λ a. Refresh (InitPair (number a 0) (number a 1) (number a 2)) }
-
-abbrev pub entry_of : Word → Entry
-entry_of (Making_word w) = making_entry w
-entry_of (Writing_word w) = writing_entry w
-entry_of (Copying_word w) = copying_entry w
-entry_of (Query_word w) = query_entry w
-entry_of (Stacking_word w) = stacking_entry w
-entry_of (Refresh_word w) = refresh_entry w
+entry_of (word.Refresh refresh.UpdatePanels) = record { word = codes "update_panels"; forms = []; call = λ a. Refresh UpdatePanels }
+entry_of (word.Refresh refresh.Doupdate) = record { word = codes "doupdate"; forms = []; call = λ a. Refresh Doupdate }
+entry_of (word.Refresh refresh.InitPair) = record { word = codes "init_pair"; forms = Number ∷ Number ∷ Number ∷ []; call = λ a. Refresh (InitPair (number a 0) (number a 1) (number a 2)) }
 
 -- every word, by their first letters
 abbrev pub words : List Word

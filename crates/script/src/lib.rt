@@ -9,7 +9,7 @@
 //! - `log`: the lines of the log
 //! - `numbers`: numbers, as digits
 //! - `text`: texts, with their escapes
-//! - `words`: the words, with a file for each group of calls
+//! - `words`: the words, with a table for each group of calls
 #![tactic(auto)]
 
 mod arguments;
