@@ -167,7 +167,8 @@ fn run_end(shown: &[Shown], wanted: &[Shown], start: usize, end: usize) -> usize
 }
 
 /// Draws the run of changed cells of one rendition that begins at a column, before an end, after a gap of cells that are shown already.
-/// It answers where the run ends.
+/// It answers where the run ends. It is inlined, as a picture of many renditions has many runs.
+#[inline(always)]
 pub fn paint_run<W: Sink>(
     pen: &mut Pen,
     sink: &mut W,
