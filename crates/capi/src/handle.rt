@@ -119,7 +119,7 @@ impl Handle {
     pub fn open(&mut self, alloc: Global, lines: u16, columns: u16) -> Answer
         ensures { Opened lines columns self.old.value result self.new.value }
     {
-        match boxed(alloc, lines, columns) {
+        match new_surface(alloc, lines, columns) {
             Ok(surface) => {
                 self.put(alloc, surface);
                 Answer::of(Ok(Reply::Nothing))
@@ -139,7 +139,7 @@ impl Handle {
                 self.put_back(surface);
                 answer
             }
-            None => Answer::closed(),
+            None => Answer::of_closed_handle(),
         }
     }
 
@@ -183,7 +183,7 @@ fn free_surface(loose: Loose<Surface, Global>) {
 }
 
 /// A blank screen in a box.
-fn boxed(alloc: Global, lines: u16, columns: u16) -> Result<Box<Surface>, Refusal>
+fn new_surface(alloc: Global, lines: u16, columns: u16) -> Result<Box<Surface>, Refusal>
     ensures blank { IfOk result (λ surface. IsBlank lines columns surface.value) }
     ensures refused { RefusedBy (new_refusal lines columns) result }
 {

@@ -1,4 +1,4 @@
-//! Curspan for C: a screen in a handle, and a function for each call.
+//! Curspan for C, its interface for C programs: a screen in a `Handle`, and a function for each call.
 //!
 //! - `answer`: what C gets for an answer
 //! - `exports`: an export for each call, a file for each group, `life`, which opens, takes and closes, and `ends`, the calls of which C only

@@ -200,7 +200,7 @@ impl Pairs {
     }
 
     /// How a cell is shown.
-    pub fn shown(&self, cell: Cell) -> Shown
+    pub fn show_cell(&self, cell: Cell) -> Shown
         ensures { result ≡ shown self.now cell }
     {
         let pair = self.pairs[usize::from(cell.pair().number())];
@@ -214,7 +214,7 @@ impl Pairs {
         ensures cells { AllByRecursion IsShown places.new }
     {
         for x in 0..cells.len() {
-            let shown = self.shown(cells[x]);
+            let shown = self.show_cell(cells[x]);
             prove!(shown.ch() >= b' ');
             places[x] = shown;
         }

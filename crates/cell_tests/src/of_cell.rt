@@ -1,3 +1,5 @@
+//! Grids, cells, colours, and what has a limit.
+
 ghost use Rattle.std.specs.Prelude.{length, ◌≡◌};
 
 use bitflags::Flags;
@@ -109,14 +111,14 @@ fn cells_are_shown_in_the_colours_of_their_pair(rt: HostRuntime) -> Result<(), F
     let cell = letter()?.with_pair(pair);
     let mut pairs = Pairs::new();
     let plain = Rendition::new(Attr::BOLD, ColourPair::DEFAULT);
-    assert_eq!(rt; Some(pairs.shown(cell)), Shown::new(b'A', plain));
+    assert_eq!(rt; Some(pairs.show_cell(cell)), Shown::new(b'A', plain));
     pairs.set(pair, Colour::RED, Colour::BLUE);
     let colours = ColourPair {
         foreground: Colour::new(1),
         background: Colour::new(4),
     };
     let coloured = Rendition::new(Attr::BOLD, colours);
-    assert_eq!(rt; Some(pairs.shown(cell)), Shown::new(b'A', coloured));
+    assert_eq!(rt; Some(pairs.show_cell(cell)), Shown::new(b'A', coloured));
     Ok(())
 }
 

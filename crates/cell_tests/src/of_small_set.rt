@@ -1,3 +1,5 @@
+//! Which numbers of a set are next, and which are absent.
+
 use small_set::SmallSet;
 
 /// What follows some numbers, in their order.

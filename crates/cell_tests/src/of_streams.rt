@@ -1,9 +1,11 @@
+//! Pieces that are sent and read, also where the stream takes few bytes, stops or fails.
+
 use faulty::{Halting, Pieces};
 use std::alloc::Global;
 use streams::{Counted, CountedReader, Discard, Sink, Source, WriteFault, send};
 
 /// What the sends of two pieces answer, and what the writer takes of them.
-fn sent(writer: Halting) -> ([Result<u32, WriteFault>; 2], Vec<u8>) {
+fn send_two(writer: Halting) -> ([Result<u32, WriteFault>; 2], Vec<u8>) {
     let mut sink = Counted::new(writer);
     let answers = [send(&mut sink, 5, b"abc"), send(&mut sink, 0, b"xyz")];
     (answers, sink.into_inner().taken)
@@ -15,35 +17,35 @@ fn pieces_are_sent_until_a_fault_and_again(rt: HostRuntime) {
     let second = [Err(WriteFault { sent: 7 }), Ok(3)];
     let writers = [
         (
-            Halting::taking(rt.alloc(), 100, false),
+            Halting::in_pieces(rt.alloc(), 100, false),
             all,
             b"abcxyz".as_slice(),
         ),
         (
-            Halting::taking(rt.alloc(), 1, false),
+            Halting::in_pieces(rt.alloc(), 1, false),
             all,
             b"abcxyz".as_slice(),
         ),
         (
-            Halting::stopping(rt.alloc(), 2, true),
+            Halting::until(rt.alloc(), 2, true),
             second,
             b"abxyz".as_slice(),
         ),
         (
-            Halting::stopping(rt.alloc(), 2, false),
+            Halting::until(rt.alloc(), 2, false),
             second,
             b"abxyz".as_slice(),
         ),
     ];
     for (writer, wanted, bytes) in writers {
-        let (answers, taken) = sent(writer);
+        let (answers, taken) = send_two(writer);
         assert!(rt; answers == wanted && taken.as_slice() == bytes);
     }
 }
 
 /// What is answered where nothing is sent, and where a piece is sent to a borrowed sink and to one that keeps nothing.
 fn sent_to_others(alloc: Global) -> ([Result<u32, WriteFault>; 3], usize) {
-    let mut sink = Counted::new(Halting::taking(alloc, 100, false));
+    let mut sink = Counted::new(Halting::in_pieces(alloc, 100, false));
     let answers = [
         send(&mut sink, 10, b""),
         send(&mut &mut sink, 2, b"c"),
@@ -59,7 +61,7 @@ fn pieces_are_sent_to_borrowed_sinks_and_to_none(rt: HostRuntime) {
 
 /// Whether flushes of a sink fail, also where it is borrowed.
 fn flushes_fail(alloc: Global, is_stuck: bool) -> [bool; 2] {
-    let mut sink = Counted::new(Halting::taking(alloc, 100, is_stuck));
+    let mut sink = Counted::new(Halting::in_pieces(alloc, 100, is_stuck));
     [sink.flush().is_err(), Sink::flush(&mut &mut sink).is_err()]
 }
 

@@ -25,7 +25,7 @@ use stack::Stack;
 use windows::Windows;
 use world::{Copying, Making, PanelId, Reply, Stacking, Writing};
 
-/// Makes a call of the table of making and placing.
+/// Makes a call that makes, places or deletes a window or pad, and adds what it damages.
 #[tactic(auto, unfolding(crate::specs::steps::Outcomes::Affects))]
 pub(crate) fn make_damaging(
     table: &mut Grids,
@@ -43,7 +43,7 @@ pub(crate) fn make_damaging(
     Ok(outcome.reply)
 }
 
-/// Makes a call of the table of writing.
+/// Makes a call that writes in a window, or sets how it is written in, and adds what it damages.
 #[inline(always)]
 #[tactic(auto, unfolding(crate::specs::steps::Outcomes::Affects))]
 pub(crate) fn write_damaging(
@@ -61,7 +61,7 @@ pub(crate) fn write_damaging(
     Ok(outcome.reply)
 }
 
-/// Makes a call of the table of copies and marks.
+/// Makes a call that copies cells or is on what is touched, and adds what it damages.
 #[inline(always)]
 #[tactic(auto, unfolding(crate::specs::steps::Outcomes::Affects))]
 pub(crate) fn copy_damaging(
@@ -79,7 +79,7 @@ pub(crate) fn copy_damaging(
     Ok(outcome.reply)
 }
 
-/// Makes a call of the table of panels.
+/// Makes a call on panels, and adds what it damages.
 #[tactic(auto, unfolding(crate::specs::steps::Outcomes::Rearranges))]
 pub(crate) fn arrange_damaging(
     table: &mut Grids,

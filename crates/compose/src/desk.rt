@@ -127,7 +127,7 @@ impl Desk {
     }
 
     /// The damaged columns of a line, or none: everywhere else the virtual screen shows what the search from the top finds.
-    pub fn damaged(&self, y: u16) -> Option<Columns>
+    pub fn damaged_columns(&self, y: u16) -> Option<Columns>
         requires { y < self.now.windows.lines }
         ensures columns { result ≡ damaged_columns self.now y }
         ensures shown { (x : ℕ) → x < self.now.windows.columns → among result x ≡ false
@@ -182,7 +182,7 @@ impl Desk {
         ensures { result ≡ picture (world self.now) y x }
     {
         let (_, columns) = self.size();
-        self.pairs.shown(cell_found(&self.windows.table, &self.stack, y, x, columns))
+        self.pairs.show_cell(cell_found(&self.windows.table, &self.stack, y, x, columns))
     }
 
     /// The panel that the search from the top finds at line `y` and column `x` of the screen, none for the standard screen, and the last

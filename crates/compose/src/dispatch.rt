@@ -1,7 +1,6 @@
 //! The calls on windows, by the group that they are in.
 
-ghost use Rattle.std.specs.Prelude.{◌≡◌, ℕ, IfOk, Option, None, false};
-ghost use Rattle.std.specs.Result.{result_err};
+ghost use Rattle.std.specs.Prelude.{◌≡◌, ℕ, Option, None, false};
 ghost use Rattle.cell.specs.Pictures.{Place};
 ghost use Rattle.cell.specs.declared.refusal.Refusal.{Refusal};
 ghost use Rattle.world.specs.Panels.{is_in_panel, Panels};
@@ -11,7 +10,6 @@ ghost use Rattle.world.specs.calls.Making.{making_refusal, making_change};
 ghost use Rattle.world.specs.calls.Stacking.{numbered_panel, panel_number, stacking_order};
 ghost use Rattle.world.specs.calls.Dispatch.{is_doupdate};
 ghost use Rattle.world.specs.calls.Writing.{writing_refusal, writing_edit};
-ghost use Rattle.world.specs.calls.Queries.{query_refusal, query_reply};
 ghost use Rattle.world.specs.Effects.{Change, asks, edits, makes, shifts, Edit, edit_window, order_reply};
 ghost use Rattle.world.specs.Windows.{Window};
 ghost use Rattle.world.specs.declared.call.Call.{Call};
@@ -22,7 +20,7 @@ ghost use Rattle.windows.specs.Calls.{Drew, its_frame, no_frame};
 ghost use Rattle.stack.specs.Calls.{its_panel};
 ghost use Rattle.stack.specs.Tables.{panels};
 ghost use Rattle.compose.specs.steps.Changes.{affected_by, named_panel, order_panel, ordered_panel};
-ghost use Rattle.compose.specs.steps.Outcomes.{Affects, AnswersCall, AnswersOrder, AnswersQuery, Rearranges};
+ghost use Rattle.compose.specs.steps.Outcomes.{Affects, Answered, AnswersCall, AnswersOrder, AnswersQuery, Rearranges};
 ghost use Rattle.compose.specs.Calling.{Called};
 
 use crate::damaging::Affected;
@@ -41,7 +39,7 @@ pub struct Outcome {
     pub affected: Option<Affected>,
 }
 
-/// Makes a call of the table of making and placing.
+/// Makes a call that makes, places or deletes a window or pad.
 #[rattlefmt::skip]
 pub(crate) fn make(table: &mut Grids, stack: &Stack, making: Making) -> Result<Outcome, Refusal>
     requires { AreSoundPanels (windows_of table.old).window (panels stack.now) }
@@ -60,7 +58,7 @@ pub(crate) fn make(table: &mut Grids, stack: &Stack, making: Making) -> Result<O
     }
 }
 
-/// Makes a call of the table of writing.
+/// Makes a call that writes in a window, or sets how it is written in.
 #[inline(always)]
 pub(crate) fn write(windows: &mut Windows, writing: Writing<'_>) -> Result<Outcome, Refusal>
     ensures { Affects windows.old.table (writing_refusal (windows_of windows.old.table) writing.entry)
@@ -93,7 +91,7 @@ pub(crate) fn write(windows: &mut Windows, writing: Writing<'_>) -> Result<Outco
     }
 }
 
-/// Makes a call of the table of copies and marks.
+/// Makes a call that copies cells or is on what is touched.
 #[rattlefmt::skip]
 pub(crate) fn copy(windows: &mut Windows, copying: Copying) -> Result<Outcome, Refusal>
     ensures { Affects windows.old.table (copying_refusal (windows_of windows.old.table) copying)
@@ -193,10 +191,9 @@ impl Outcome {
     }
 }
 
-/// Makes a call of the table of queries.
+/// Makes a call that asks about a window or pad.
 pub(crate) fn query(windows: &Windows, query: Query) -> Result<Reply, Refusal>
-    ensures refused { result_err result ≡ query_refusal (windows_of windows.now.table) query }
-    ensures reply { IfOk result (λ reply. reply ≡ query_reply (windows_of windows.now.table) query) }
+    ensures { Answered windows.now.table query result }
 {
     match query {
         Query::Getyx { win } => pair(windows.table.getyx(win)?),
@@ -207,7 +204,7 @@ pub(crate) fn query(windows: &Windows, query: Query) -> Result<Reply, Refusal>
     }
 }
 
-/// Makes a call of the table of panels.
+/// Makes a call on panels.
 #[rattlefmt::skip]
 pub(crate) fn arrange(table: &mut Grids, stack: &mut Stack, stacking: Stacking) -> Result<Reply, Refusal>
     requires { AreSoundPanels (windows_of table.old).window (panels stack.old) }
@@ -216,17 +213,17 @@ pub(crate) fn arrange(table: &mut Grids, stack: &mut Stack, stacking: Stacking) 
     prove!(table.has_window(WinId::STANDARD));
     match stacking {
         Stacking::NewPanel { win } => new_number(new_panel(table, stack, win)),
-        Stacking::DelPanel { panel } => done(stack.del(panel)),
-        Stacking::ShowPanel { panel } => done(stack.show(panel)),
-        Stacking::HidePanel { panel } => done(stack.hide(panel)),
-        Stacking::TopPanel { panel } => done(stack.top(panel)),
-        Stacking::BottomPanel { panel } => done(stack.bottom(panel)),
-        Stacking::MovePanel { panel, y, x } => done(move_panel(table, stack, panel, y, x)),
-        Stacking::ReplacePanel { panel, win } => done(replace_panel(table, stack, panel, win)),
+        Stacking::DelPanel { panel } => nothing(stack.del(panel)),
+        Stacking::ShowPanel { panel } => nothing(stack.show(panel)),
+        Stacking::HidePanel { panel } => nothing(stack.hide(panel)),
+        Stacking::TopPanel { panel } => nothing(stack.top(panel)),
+        Stacking::BottomPanel { panel } => nothing(stack.bottom(panel)),
+        Stacking::MovePanel { panel, y, x } => nothing(move_panel(table, stack, panel, y, x)),
+        Stacking::ReplacePanel { panel, win } => nothing(replace_panel(table, stack, panel, win)),
         Stacking::PanelAbove { panel: above } => panel(stack.above(above)),
         Stacking::PanelBelow { panel: below } => panel(stack.below(below)),
         Stacking::PanelWindow { panel } => number(stack.window(panel)),
-        Stacking::PanelHidden { panel } => flag(stack.hidden(panel)),
+        Stacking::PanelHidden { panel } => flag(stack.is_hidden(panel)),
     }
 }
 
@@ -266,7 +263,7 @@ pub(crate) fn changed_panel(stacking: Stacking, reply: &Reply) -> Option<PanelId
     }
 }
 
-/// Makes a call of the table of refreshing, which is any but `doupdate`.
+/// Makes a call that refreshes or sets the colours of a pair, which is any of them but `doupdate`.
 #[rattlefmt::skip]
 pub(crate) fn refresh(desk: &mut Desk, refresh: Refresh) -> Result<Reply, Refusal>
     requires { is_doupdate (Call.Refresh refresh) ≡ false }
@@ -284,7 +281,7 @@ pub(crate) fn refresh(desk: &mut Desk, refresh: Refresh) -> Result<Reply, Refusa
 
 /// The answer of a call that answers nothing.
 #[tactic(auto, unfolding(crate::specs::steps::Outcomes::Rearranges))]
-fn done(end: Result<(), Refusal>) -> Result<Reply, Refusal>
+fn nothing(end: Result<(), Refusal>) -> Result<Reply, Refusal>
     ensures made { AnswersCall no_answer end result }
     ensures reordered { AnswersOrder end result }
 {

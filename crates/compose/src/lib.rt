@@ -1,4 +1,5 @@
-//! Windows, panels, colour pairs and the virtual screen together: the `Desk`, with each call and what it damages of the screen.
+//! The `Desk`: windows, panels, colour pairs and the virtual screen together, with each call and what it damages of the screen. The crate is
+//! named for its chief work, which is to compose the picture.
 //!
 //! - `damaging_calls`: a call with what it damages
 //! - `damaging`: what a call damages

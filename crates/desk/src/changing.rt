@@ -76,7 +76,7 @@ fn widen_damaged(changes: &mut Changes, desk: &Desk, lines: u16)
 {
     let mut y = desk.next_damaged(0);
     while y < lines {
-        if let Some(columns) = desk.damaged(y) {
+        if let Some(columns) = desk.damaged_columns(y) {
             changes.widen(y, stretch(0, columns));
         }
         y = desk.next_damaged(y + 1);

@@ -1,4 +1,5 @@
-//! A screen over a writer: runs of calls and of script lines, with what they send and log.
+//! The `Screen`: a desk, for which the crate is named, with a painter over a writer; and runs of calls and of script lines, with what they
+//! send and log.
 //!
 //! - `changing`: in which columns a call may change the virtual screen
 //! - `run_script`: the calls of a script, with their log

@@ -13,7 +13,7 @@ pub mod Tokens
 pub mod Joining
 -- The loop over the attributes; for `append_codes`
 pub mod Codes
--- Where tokens lead
+-- Where tokens lead; for the strokes of `paint` and what a screen of `desk` shows
 pub mod Leading
 -- A stream is one sequence of items at most, and so is each prefix of it; for `one_row_of_items`
 pub mod Unique

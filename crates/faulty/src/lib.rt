@@ -40,7 +40,7 @@ pub struct Halting {
 
 impl Halting {
     /// A writer that takes all, at most so many bytes a call.
-    pub fn taking(alloc: Global, step: usize, is_stuck: bool) -> Halting {
+    pub fn in_pieces(alloc: Global, step: usize, is_stuck: bool) -> Halting {
         Halting {
             taken: Vec::new(alloc),
             writes: 0,
@@ -52,7 +52,7 @@ impl Halting {
     }
 
     /// A writer that stops once, where it has taken so many bytes.
-    pub fn stopping(alloc: Global, stop: usize, fails: bool) -> Halting {
+    pub fn until(alloc: Global, stop: usize, fails: bool) -> Halting {
         Halting {
             taken: Vec::new(alloc),
             writes: 0,

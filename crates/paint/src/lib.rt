@@ -1,4 +1,4 @@
-//! Sends pictures to a terminal.
+//! The `Painter`, which sends pictures to a terminal; the crate is named for what it does.
 //!
 //! - `changes`: of each line the columns in which a picture may differ from the last one, and a frame of both
 //! - `frame`: a frame, in one walk or in passes

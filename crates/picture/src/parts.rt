@@ -86,7 +86,7 @@ fn is_visible(stack: &Stack, panel: PanelId) -> bool
     requires { All (λ p. IsSome ((panels stack.now).window p)) (panels stack.now).visible }
     ensures { result ≡ list_any (λ q. q == panel.0) (panels stack.now).visible }
 {
-    match stack.hidden(panel) {
+    match stack.is_hidden(panel) {
         Ok(hidden) => !hidden,
         Err(_) => false,
     }

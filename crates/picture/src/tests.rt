@@ -1,3 +1,5 @@
+//! Lines that are composed of pieces of windows, and the columns that are left.
+
 ghost use Rattle.std.specs.Prelude.{IfOk};
 ghost use Rattle.cell.specs.Pictures.{HasSize};
 ghost use Rattle.world.specs.Sound.{AreSoundPanels};

@@ -23,7 +23,7 @@ fn screen_of(alloc: Global, lines: &str, columns: &str) -> io::Result<Screen<Dis
 ///
 /// # Errors
 /// `InvalidData` where the line has a fault. A refused call is none.
-fn composed(
+fn make_call(
     screen: &mut Screen<Discard>,
     line: &[u8],
     taken: &mut Arguments,
@@ -49,7 +49,7 @@ pub(crate) fn run(rt: &HostRuntime, lines: &str, columns: &str) -> io::Result<()
     let mut out = rt.stdout();
     let mut taken = Arguments::new();
     for line in text.split(|b| *b == b'\n') {
-        if let Some(cells) = composed(&mut screen, line, &mut taken)? {
+        if let Some(cells) = make_call(&mut screen, line, &mut taken)? {
             writeln!(out, "{}", cells)?;
         }
     }

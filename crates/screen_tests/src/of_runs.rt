@@ -141,7 +141,7 @@ fn a_later_update_that_fails_is_shown_all_again(rt: HostRuntime) -> Result<(), F
 }
 
 /// Whether a clear screen is wanted once it is asked for, after a `doupdate` that fails, and after one that doesn't.
-fn wanted(screen: &mut Tried) -> [bool; 3] {
+fn clear_wanted(screen: &mut Tried) -> [bool; 3] {
     let win = WinId::STANDARD;
     run(screen, &[Call::Writing(Writing::Clear { win }), UPDATE]);
     let asked = screen.desk().clear_wanted();
@@ -152,7 +152,7 @@ fn wanted(screen: &mut Tried) -> [bool; 3] {
 
 fn wanted_of_screen(alloc: Global) -> Result<[bool; 3], Refusal> {
     let mut screen = screen(alloc, 0)?;
-    Ok(wanted(&mut screen))
+    Ok(clear_wanted(&mut screen))
 }
 
 #[test]
@@ -176,7 +176,7 @@ fn ask(screen: &mut Tried, win: WinId) -> Result<Answers, Fault> {
 }
 
 /// What is asked of a window in a panel, which is shown.
-fn asked(screen: &mut Tried) -> Result<Answers, Fault> {
+fn ask_all(screen: &mut Tried) -> Result<Answers, Fault> {
     let win = panel_that_says_hi(screen)?;
     run(screen, &[UPDATE, SHOW]);
     ask(screen, win)
@@ -184,7 +184,7 @@ fn asked(screen: &mut Tried) -> Result<Answers, Fault> {
 
 fn asked_of_screen(alloc: Global) -> Result<(Result<Answers, Fault>, Vec<u8>), Refusal> {
     let mut screen = screen(alloc, usize::MAX)?;
-    let answers = asked(&mut screen);
+    let answers = ask_all(&mut screen);
     Ok((answers, stream(screen)))
 }
 
@@ -200,7 +200,7 @@ fn each_method_answers_what_its_call_does(rt: HostRuntime) -> Result<(), Fail> {
 fn shown_again(alloc: Global) -> Result<Vec<u8>, Refusal> {
     let mut screen = screen(alloc, usize::MAX)?;
     run(&mut screen, &[addstr(b"hi"), UPDATE, SHOW]);
-    let mut screen = screen.with_writer(Counted::new(Halting::taking(alloc, 1, false)));
+    let mut screen = screen.with_writer(Counted::new(Halting::in_pieces(alloc, 1, false)));
     run(&mut screen, &[SHOW]);
     Ok(stream(screen))
 }
@@ -222,7 +222,7 @@ fn fill(screen: &mut Tried) {
 
 /// How many writes that takes of so many lines of 400 columns.
 fn writes_of(alloc: Global, lines: u16) -> Result<u32, Refusal> {
-    let writer = Counted::new(Halting::taking(alloc, usize::MAX, false));
+    let writer = Counted::new(Halting::in_pieces(alloc, usize::MAX, false));
     let mut screen = Screen::new(alloc, lines, 400, writer)?;
     fill(&mut screen);
     Ok(screen.writer().get_ref().writes)

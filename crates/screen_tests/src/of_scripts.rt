@@ -30,7 +30,7 @@ type Outcome = (ScriptEnd, Vec<u8>, Vec<u8>);
 
 fn outcome(alloc: Global, bytes: &[u8], limits: &Limits) -> Result<Outcome, Refusal> {
     let mut screen = screen(alloc, limits.writer)?;
-    let mut log = Counted::new(Halting::stopping(alloc, limits.log, true));
+    let mut log = Counted::new(Halting::until(alloc, limits.log, true));
     let (step, fails) = (600, limits.fails);
     let end = run_script(&mut screen, Pieces { bytes, step, fails }, &mut log);
     show(&mut screen, &mut log);
@@ -99,7 +99,7 @@ fn a_script_ends_where_something_fails_and_another_goes_on(rt: HostRuntime) {
 
 /// How a script of two lines ends where a read fails after so many letters that a third one writes, if the first two calls were made,
 /// and no other.
-fn cut(alloc: Global, letters: usize) -> Result<Option<ScriptFault>, Refusal> {
+fn cut_after(alloc: Global, letters: usize) -> Result<Option<ScriptFault>, Refusal> {
     let mut text = [b'x'; 600];
     text[..31].copy_from_slice(b"addstr 0 h\naddstr 0 i\naddstr 0 ");
     let limits = Limits {
@@ -121,9 +121,9 @@ fn a_line_is_too_long_before_a_read_fails(rt: HostRuntime) {
     let (line, fault) = (3, TextFault::LineTooLong);
     let reading = Ok(Some(ScriptFault::Reading));
     let faults = [
-        cut(rt.alloc(), 1),
-        cut(rt.alloc(), 503),
-        cut(rt.alloc(), 504),
+        cut_after(rt.alloc(), 1),
+        cut_after(rt.alloc(), 503),
+        cut_after(rt.alloc(), 504),
     ];
     assert_eq!(rt;
         faults,

@@ -14,7 +14,7 @@ pub(crate) fn screen(alloc: Global, stop: usize) -> Result<Tried, Refusal> {
         alloc,
         4,
         10,
-        Counted::new(Halting::stopping(alloc, stop, true)),
+        Counted::new(Halting::until(alloc, stop, true)),
     )
 }
 

@@ -10,7 +10,7 @@ pub mod NumberLemmas
 pub mod LineLemmas
 -- arguments one after another, for take_all and next_argument
 pub mod ArgumentLemmas
--- a line gathered a byte at a time, for gather_line and skip_line
+-- a line gathered a byte at a time, for gather_line
 pub mod ByteLemmas
 -- the first newline, for first_newline
 pub mod NewlineLemmas

@@ -241,14 +241,29 @@ impl MakingWord {
     {
         let win = WinId(a.number(0));
         match self {
-            Self::Newwin => Row { word: b"newwin", forms: &[Number, Number, Number, Number], call: Call::Making(Making::Newwin { lines: a.number(0), columns: a.number(1), y: a.number(2), x: a.number(3) }) },
-            Self::Subwin => Row { word: b"subwin", forms: &[Number, Number, Number, Number, Number], call: Call::Making(Making::Subwin { win, lines: a.number(1), columns: a.number(2), y: a.number(3), x: a.number(4) }) },
-            Self::Derwin => Row { word: b"derwin", forms: &[Number, Number, Number, Number, Number], call: Call::Making(Making::Derwin { win, lines: a.number(1), columns: a.number(2), y: a.number(3), x: a.number(4) }) },
+            Self::Newwin => Row {
+                word: b"newwin", forms: &[Number, Number, Number, Number],
+                call: Call::Making(Making::Newwin { lines: a.number(0), columns: a.number(1), y: a.number(2), x: a.number(3) }),
+            },
+            Self::Subwin => Row {
+                word: b"subwin", forms: &[Number, Number, Number, Number, Number],
+                call: Call::Making(Making::Subwin { win, lines: a.number(1), columns: a.number(2), y: a.number(3), x: a.number(4) }),
+            },
+            Self::Derwin => Row {
+                word: b"derwin", forms: &[Number, Number, Number, Number, Number],
+                call: Call::Making(Making::Derwin { win, lines: a.number(1), columns: a.number(2), y: a.number(3), x: a.number(4) }),
+            },
             Self::Newpad => Row { word: b"newpad", forms: &[Number, Number], call: Call::Making(Making::Newpad { lines: a.number(0), columns: a.number(1) }) },
-            Self::Subpad => Row { word: b"subpad", forms: &[Number, Number, Number, Number, Number], call: Call::Making(Making::Subpad { pad: win, lines: a.number(1), columns: a.number(2), y: a.number(3), x: a.number(4) }) },
+            Self::Subpad => Row {
+                word: b"subpad", forms: &[Number, Number, Number, Number, Number],
+                call: Call::Making(Making::Subpad { pad: win, lines: a.number(1), columns: a.number(2), y: a.number(3), x: a.number(4) }),
+            },
             Self::Delwin => Row { word: b"delwin", forms: &[Number], call: Call::Making(Making::Delwin { win }) },
             Self::Mvwin => Row { word: b"mvwin", forms: &[Number, Number, Number], call: Call::Making(Making::Mvwin { win, y: a.number(1), x: a.number(2) }) },
-            Self::Mvderwin => Row { word: b"mvderwin", forms: &[Number, Number, Number], call: Call::Making(Making::Mvderwin { win, y: a.number(1), x: a.number(2) }) },
+            Self::Mvderwin => Row {
+                word: b"mvderwin", forms: &[Number, Number, Number],
+                call: Call::Making(Making::Mvderwin { win, y: a.number(1), x: a.number(2) }),
+            },
         }
     }
 }
@@ -274,13 +289,19 @@ impl WritingWord {
             Self::Clrtoeol => Row { word: b"clrtoeol", forms: &[Number], call: Call::Writing(Writing::Clrtoeol { win }) },
             Self::Clrtobot => Row { word: b"clrtobot", forms: &[Number], call: Call::Writing(Writing::Clrtobot { win }) },
             Self::Scrl => Row { word: b"scrl", forms: &[Number, Signed], call: Call::Writing(Writing::Scrl { win, n: a.signed() }) },
-            Self::Setscrreg => Row { word: b"setscrreg", forms: &[Number, Number, Number], call: Call::Writing(Writing::Setscrreg { win, top: a.number(1), bottom: a.number(2) }) },
+            Self::Setscrreg => Row {
+                word: b"setscrreg", forms: &[Number, Number, Number],
+                call: Call::Writing(Writing::Setscrreg { win, top: a.number(1), bottom: a.number(2) }),
+            },
             Self::Scrollok => Row { word: b"scrollok", forms: &[Number, Flag], call: Call::Writing(Writing::Scrollok { win, flag: a.flag() }) },
             Self::Clearok => Row { word: b"clearok", forms: &[Number, Flag], call: Call::Writing(Writing::Clearok { win, flag: a.flag() }) },
             Self::Attrset => Row { word: b"attrset", forms: &[Number, Attributes], call: Call::Writing(Writing::Attrset { win, attrs: a.attributes() }) },
             Self::Attron => Row { word: b"attron", forms: &[Number, Attributes], call: Call::Writing(Writing::Attron { win, attrs: a.attributes() }) },
             Self::Attroff => Row { word: b"attroff", forms: &[Number, Attributes], call: Call::Writing(Writing::Attroff { win, attrs: a.attributes() }) },
-            Self::Bkgdset => Row { word: b"bkgdset", forms: &[Number, Attributes, Character], call: Call::Writing(Writing::Bkgdset { win, attrs: a.attributes(), ch: a.character() }) },
+            Self::Bkgdset => Row {
+                word: b"bkgdset", forms: &[Number, Attributes, Character],
+                call: Call::Writing(Writing::Bkgdset { win, attrs: a.attributes(), ch: a.character() }),
+            },
             Self::ColorSet => Row { word: b"color_set", forms: &[Number, Number], call: Call::Writing(Writing::ColorSet { win, pair: a.number(1) }) },
             Self::Bkgdpair => Row { word: b"bkgdpair", forms: &[Number, Number], call: Call::Writing(Writing::Bkgdpair { win, pair: a.number(1) }) },
         }
@@ -297,15 +318,34 @@ impl CopyingWord {
         let win = WinId(a.number(0));
         match self {
             Self::Overlay => Row { word: b"overlay", forms: &[Number, Number], call: Call::Copying(Copying::Overlay { src: win, dst: WinId(a.number(1)) }) },
-            Self::Overwrite => Row { word: b"overwrite", forms: &[Number, Number], call: Call::Copying(Copying::Overwrite { src: win, dst: WinId(a.number(1)) }) },
-            Self::Copywin => Row { word: b"copywin", forms: &[Number, Number, Number, Number, Number, Number, Number, Number, Flag], call: Call::Copying(Copying::Copywin { src: win, dst: WinId(a.number(1)), sminrow: a.number(2), smincol: a.number(3), dminrow: a.number(4), dmincol: a.number(5), dmaxrow: a.number(6), dmaxcol: a.number(7), overlay: a.flag() }) },
+            Self::Overwrite => Row {
+                word: b"overwrite", forms: &[Number, Number],
+                call: Call::Copying(Copying::Overwrite { src: win, dst: WinId(a.number(1)) }),
+            },
+            Self::Copywin => Row {
+                word: b"copywin", forms: &[Number, Number, Number, Number, Number, Number, Number, Number, Flag],
+                call: Call::Copying(Copying::Copywin {
+                    src: win, dst: WinId(a.number(1)), sminrow: a.number(2), smincol: a.number(3),
+                    dminrow: a.number(4), dmincol: a.number(5), dmaxrow: a.number(6), dmaxcol: a.number(7),
+                    overlay: a.flag(),
+                }),
+            },
             Self::Touchwin => Row { word: b"touchwin", forms: &[Number], call: Call::Copying(Copying::Touchwin { win }) },
             Self::Untouchwin => Row { word: b"untouchwin", forms: &[Number], call: Call::Copying(Copying::Untouchwin { win }) },
-            Self::Touchline => Row { word: b"touchline", forms: &[Number, Number, Number], call: Call::Copying(Copying::Touchline { win, y: a.number(1), n: a.number(2) }) },
-            Self::Touchln => Row { word: b"touchln", forms: &[Number, Number, Number, Flag], call: Call::Copying(Copying::Touchln { win, y: a.number(1), n: a.number(2), flag: a.flag() }) },
+            Self::Touchline => Row {
+                word: b"touchline", forms: &[Number, Number, Number],
+                call: Call::Copying(Copying::Touchline { win, y: a.number(1), n: a.number(2) }),
+            },
+            Self::Touchln => Row {
+                word: b"touchln", forms: &[Number, Number, Number, Flag],
+                call: Call::Copying(Copying::Touchln { win, y: a.number(1), n: a.number(2), flag: a.flag() }),
+            },
             Self::Syncup => Row { word: b"syncup", forms: &[Number], call: Call::Copying(Copying::Syncup { win }) },
             Self::Syncdown => Row { word: b"syncdown", forms: &[Number], call: Call::Copying(Copying::Syncdown { win }) },
-            Self::IsLinetouched => Row { word: b"is_linetouched", forms: &[Number, Number], call: Call::Copying(Copying::IsLinetouched { win, y: a.number(1) }) },
+            Self::IsLinetouched => Row {
+                word: b"is_linetouched", forms: &[Number, Number],
+                call: Call::Copying(Copying::IsLinetouched { win, y: a.number(1) }),
+            },
             Self::IsWintouched => Row { word: b"is_wintouched", forms: &[Number], call: Call::Copying(Copying::IsWintouched { win }) },
         }
     }
@@ -344,8 +384,14 @@ impl StackingWord {
             Self::HidePanel => Row { word: b"hide_panel", forms: &[Number], call: Call::Stacking(Stacking::HidePanel { panel }) },
             Self::TopPanel => Row { word: b"top_panel", forms: &[Number], call: Call::Stacking(Stacking::TopPanel { panel }) },
             Self::BottomPanel => Row { word: b"bottom_panel", forms: &[Number], call: Call::Stacking(Stacking::BottomPanel { panel }) },
-            Self::MovePanel => Row { word: b"move_panel", forms: &[Number, Number, Number], call: Call::Stacking(Stacking::MovePanel { panel, y: a.number(1), x: a.number(2) }) },
-            Self::ReplacePanel => Row { word: b"replace_panel", forms: &[Number, Number], call: Call::Stacking(Stacking::ReplacePanel { panel, win: WinId(a.number(1)) }) },
+            Self::MovePanel => Row {
+                word: b"move_panel", forms: &[Number, Number, Number],
+                call: Call::Stacking(Stacking::MovePanel { panel, y: a.number(1), x: a.number(2) }),
+            },
+            Self::ReplacePanel => Row {
+                word: b"replace_panel", forms: &[Number, Number],
+                call: Call::Stacking(Stacking::ReplacePanel { panel, win: WinId(a.number(1)) }),
+            },
             Self::PanelAbove => Row { word: b"panel_above", forms: &[NumberOrNone], call: Call::Stacking(Stacking::PanelAbove { panel: a.panel_or_none() }) },
             Self::PanelBelow => Row { word: b"panel_below", forms: &[NumberOrNone], call: Call::Stacking(Stacking::PanelBelow { panel: a.panel_or_none() }) },
             Self::PanelWindow => Row { word: b"panel_window", forms: &[Number], call: Call::Stacking(Stacking::PanelWindow { panel }) },
@@ -364,10 +410,19 @@ impl RefreshWord {
         let win = WinId(a.number(0));
         match self {
             Self::Noutrefresh => Row { word: b"noutrefresh", forms: &[Number], call: Call::Refresh(Refresh::Noutrefresh { win }) },
-            Self::Pnoutrefresh => Row { word: b"pnoutrefresh", forms: &[Number, Number, Number, Number, Number, Number, Number], call: Call::Refresh(Refresh::Pnoutrefresh { pad: win, pminrow: a.number(1), pmincol: a.number(2), sminrow: a.number(3), smincol: a.number(4), smaxrow: a.number(5), smaxcol: a.number(6) }) },
+            Self::Pnoutrefresh => Row {
+                word: b"pnoutrefresh", forms: &[Number, Number, Number, Number, Number, Number, Number],
+                call: Call::Refresh(Refresh::Pnoutrefresh {
+                    pad: win, pminrow: a.number(1), pmincol: a.number(2), sminrow: a.number(3), smincol: a.number(4),
+                    smaxrow: a.number(5), smaxcol: a.number(6),
+                }),
+            },
             Self::UpdatePanels => Row { word: b"update_panels", forms: &[], call: Call::Refresh(Refresh::UpdatePanels) },
             Self::Doupdate => Row { word: b"doupdate", forms: &[], call: Call::Refresh(Refresh::Doupdate) },
-            Self::InitPair => Row { word: b"init_pair", forms: &[Number, Number, Number], call: Call::Refresh(Refresh::InitPair { pair: a.number(0), foreground: a.number(1), background: a.number(2) }) },
+            Self::InitPair => Row {
+                word: b"init_pair", forms: &[Number, Number, Number],
+                call: Call::Refresh(Refresh::InitPair { pair: a.number(0), foreground: a.number(1), background: a.number(2) }),
+            },
         }
     }
 }

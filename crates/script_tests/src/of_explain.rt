@@ -1,3 +1,5 @@
+//! What is said of faulty lines.
+
 use explain::finding;
 use script::{LONGEST_LINE, TextFault};
 use std::test::Fail;

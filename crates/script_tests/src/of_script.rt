@@ -1,3 +1,5 @@
+//! What lines of scripts say, how they are read from pieces, and the lines of the log.
+
 use cell::{Attr, Cell, Refusal, WinId};
 use faulty::{Halting, Pieces};
 use script::{
@@ -10,7 +12,7 @@ use streams::{Counted, CountedReader, Sent, WriteFault};
 use world::{Composed, PanelId, Reply};
 
 /// What a line says: its call, its fault, or nothing.
-fn said(alloc: Global, line: &str) -> Result<String, Fail> {
+fn meaning(alloc: Global, line: &str) -> Result<String, Fail> {
     if line.len() > LONGEST_LINE {
         return Err(Fail::new("the test's line is too long"));
     }
@@ -120,7 +122,7 @@ static OTHERS: [(&str, &[&str]); 5] = [
 #[test]
 fn words_make_their_calls(rt: HostRuntime) -> Result<(), Fail> {
     for (line, call) in &CALLS {
-        let answer = said(rt.alloc(), line)?;
+        let answer = meaning(rt.alloc(), line)?;
         assert_eq!(rt; answer.as_str(), *call, "at {line}");
     }
     Ok(())
@@ -130,7 +132,7 @@ fn words_make_their_calls(rt: HostRuntime) -> Result<(), Fail> {
 fn other_lines_have_their_faults(rt: HostRuntime) -> Result<(), Fail> {
     for (wanted, lines) in &OTHERS {
         for line in *lines {
-            let answer = said(rt.alloc(), line)?;
+            let answer = meaning(rt.alloc(), line)?;
             assert_eq!(rt; answer.as_str(), *wanted, "at {line}");
         }
     }
@@ -248,7 +250,7 @@ fn a_cell_is_logged_as_its_numbers(rt: HostRuntime) -> Result<(), Fail> {
 
 #[test]
 fn a_full_log_fails(rt: HostRuntime) {
-    let mut log = Counted::new(Halting::stopping(rt.alloc(), 6, true));
+    let mut log = Counted::new(Halting::until(rt.alloc(), 6, true));
     let answer = log_answer(&mut log, 4, Err(Refusal::HasDerived));
     assert_eq!(rt; answer, Err(WriteFault { sent: 6 }));
     assert_eq!(rt; log.get_ref().taken.as_slice(), b"line 4".as_slice());

@@ -68,7 +68,7 @@ pub fn has_derived(slots: &[Option<Slot>], win: u16) -> bool
     is_named(slots, win)
 }
 
-/// Whether a slot's window has this one as its parent.
+/// Whether some window has this one as its parent.
 fn is_named(slots: &[Option<Slot>], win: u16) -> bool
     ensures { result ≡ list_any (names_parent win) slots.now }
 {

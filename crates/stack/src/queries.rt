@@ -62,7 +62,7 @@ impl Stack {
     ///
     /// # Errors
     /// `NoSuchPanel`.
-    pub fn hidden(&self, panel: PanelId) -> Result<bool, Refusal>
+    pub fn is_hidden(&self, panel: PanelId) -> Result<bool, Refusal>
         ensures { Asked self.now (Stacking.PanelHidden panel) (is_hidden (panels self.now) panel.0) as_is result }
     {
         require_panel(&self.nodes, panel)?;

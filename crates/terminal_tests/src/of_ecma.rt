@@ -118,7 +118,7 @@ type Seen = (
     bool,
 );
 
-fn seen(terminal: &Terminal, y: u16, x: u16) -> Seen {
+fn cell_and_pen(terminal: &Terminal, y: u16, x: u16) -> Seen {
     (
         terminal.fault(),
         terminal.cursor(),
@@ -131,7 +131,7 @@ fn seen(terminal: &Terminal, y: u16, x: u16) -> Seen {
 fn seen_after(alloc: Global, pieces: [&[u8]; 2], y: u16, x: u16) -> Result<Seen, Fail> {
     let mut terminal = read(alloc, pieces[0])?;
     terminal.feed(pieces[1]);
-    Ok(seen(&terminal, y, x))
+    Ok(cell_and_pen(&terminal, y, x))
 }
 
 fn letter(ch: u8) -> Option<Shown> {

@@ -1,3 +1,5 @@
+//! What a painter sends, also after a write or a flush that failed.
+
 ghost use Rattle.std.specs.Prelude.{◌≡◌, IfOk, false};
 ghost use Rattle.cell.specs.Pictures.{HasSize};
 
@@ -64,7 +66,7 @@ fn colour(screen: &mut Plain) -> Result<(), Fail>
 }
 
 /// How many bytes are sent by a first update, one that draws two cells, one that moves the cursor, and one that shows all again.
-fn sent<W: Sink>(painter: &mut Painter, screen: &mut Plain, sink: &mut W) -> Result<[Sent; 4], Fail>
+fn update_four_times<W: Sink>(painter: &mut Painter, screen: &mut Plain, sink: &mut W) -> Result<[Sent; 4], Fail>
     requires lines { painter.old.lines ≡ 4 }
     requires columns { painter.old.columns ≡ 10 }
     requires size { HasSize 4 10 screen.old.picture }
@@ -85,7 +87,7 @@ fn stream(alloc: Global) -> Result<([Sent; 4], Vec<u8>), Fail> {
     let mut screen = greeting(alloc)?;
     let mut painter = Painter::new(alloc, 4, 10)?;
     let mut sink = Counted::new(Vec::new(alloc));
-    let sent = sent(&mut painter, &mut screen, &mut sink)?;
+    let sent = update_four_times(&mut painter, &mut screen, &mut sink)?;
     Ok((sent, sink.into_inner()))
 }
 
@@ -105,7 +107,7 @@ fn what_differs_is_drawn_and_all_where_nothing_is_known(rt: HostRuntime) -> Resu
 /// What a sink takes of two updates, and what each answers.
 type Taken = ([Result<Sent, WriteFault>; 2], Vec<u8>);
 
-fn taken(alloc: Global, writer: Halting) -> Result<Taken, Fail> {
+fn update_faulty(alloc: Global, writer: Halting) -> Result<Taken, Fail> {
     let screen = greeting(alloc)?;
     let mut painter = Painter::new(alloc, 4, 10)?;
     let mut sink = Counted::new(writer);
@@ -117,7 +119,7 @@ fn taken(alloc: Global, writer: Halting) -> Result<Taken, Fail> {
 #[test]
 fn all_is_shown_after_a_fault(rt: HostRuntime) -> Result<(), Fail> {
     for fails in [true, false] {
-        let (sent, stream) = taken(rt.alloc(), Halting::stopping(rt.alloc(), 5, fails))?;
+        let (sent, stream) = update_faulty(rt.alloc(), Halting::until(rt.alloc(), 5, fails))?;
         assert_eq!(rt; sent, [Err(WriteFault { sent: 5 }), Ok(Sent { bytes: 16 })]);
         assert_eq!(rt;
             stream.as_slice(),
@@ -129,7 +131,7 @@ fn all_is_shown_after_a_fault(rt: HostRuntime) -> Result<(), Fail> {
 
 #[test]
 fn a_flush_that_fails_is_a_fault(rt: HostRuntime) -> Result<(), Fail> {
-    let (sent, stream) = taken(rt.alloc(), Halting::taking(rt.alloc(), usize::MAX, true))?;
+    let (sent, stream) = update_faulty(rt.alloc(), Halting::in_pieces(rt.alloc(), usize::MAX, true))?;
     assert_eq!(rt; sent, [Err(WriteFault { sent: 16 }); 2]);
     assert_eq!(rt;
         stream.get(..16),

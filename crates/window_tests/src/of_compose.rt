@@ -100,7 +100,7 @@ fn pictures_are_taken(rt: HostRuntime) -> Result<(), Fail> {
 
 /// How many cells two updates read after a character was written, and whether a clear screen is wanted after each, once it is asked
 /// for, done, and no more asked for.
-fn updated(desk: &mut Desk, alloc: Global) -> Result<([Composed; 2], [bool; 2]), Fail> {
+fn update_twice(desk: &mut Desk, alloc: Global) -> Result<([Composed; 2], [bool; 2]), Fail> {
     run(desk, alloc, "addch 0 a\nclearok 0 on")?;
     let first = desk.update_panels()?;
     let asked = desk.clear_wanted();
@@ -112,7 +112,7 @@ fn updated(desk: &mut Desk, alloc: Global) -> Result<([Composed; 2], [bool; 2]),
 
 fn updated_screen(alloc: Global) -> Result<([Composed; 2], [bool; 2]), Fail> {
     let mut desk = Desk::new(alloc, 2, 5)?;
-    updated(&mut desk, alloc)
+    update_twice(&mut desk, alloc)
 }
 
 #[test]
@@ -127,7 +127,7 @@ fn an_update_reads_what_changed(rt: HostRuntime) -> Result<(), Fail> {
 /// which that is found.
 type Found = (u8, Option<PanelId>, u16);
 
-fn found(desk: &Desk, y: u16, x: u16) -> Option<Found> {
+fn find_at(desk: &Desk, y: u16, x: u16) -> Option<Found> {
     let (lines, columns) = desk.size();
     if y < lines && x < columns {
         let Span { panel, end } = desk.owner_span(y, x);
@@ -157,7 +157,7 @@ fn found_after(
     place: (u16, u16),
 ) -> Result<Option<Found>, Fail> {
     run(desk, alloc, script)?;
-    Ok(found(desk, place.0, place.1))
+    Ok(find_at(desk, place.0, place.1))
 }
 
 /// What is found on a new screen of 4 lines and 10 columns after a script.

@@ -5,7 +5,7 @@ use std::alloc::Global;
 use std::test::Fail;
 
 /// The touched columns of a line of a window.
-fn touched(grids: &Grids, win: WinId, y: u16) -> Result<Option<(u16, u16)>, Fail> {
+fn touched_columns(grids: &Grids, win: WinId, y: u16) -> Result<Option<(u16, u16)>, Fail> {
     let (lines, _) = grids.getmaxyx(win)?;
     if lines <= y {
         return Err("no such line".into());
@@ -37,16 +37,16 @@ fn cell(grids: &Grids, win: WinId, y: u16, x: u16) -> Result<Cell, Fail> {
 }
 
 /// Unmarks a window, and says what is touched then of its first line.
-fn unmarked(grids: &mut Grids, win: WinId) -> Result<Option<(u16, u16)>, Fail> {
+fn unmark(grids: &mut Grids, win: WinId) -> Result<Option<(u16, u16)>, Fail> {
     if !grids.has_window(win) {
         return Err("no such window".into());
     }
     grids.unmark(win);
-    touched(grids, win, 0)
+    touched_columns(grids, win, 0)
 }
 
 /// A window, one in it, and one in that.
-fn nested(grids: &mut Grids) -> Result<(WinId, WinId), Fail> {
+fn nest_windows(grids: &mut Grids) -> Result<(WinId, WinId), Fail> {
     let first = grids.newwin(3, 8, 0, 0)?;
     let second = grids.derwin(first, 2, 6, 1, 1)?;
     Ok((first, grids.derwin(second, 1, 3, 1, 2)?))
@@ -54,21 +54,21 @@ fn nested(grids: &mut Grids) -> Result<(WinId, WinId), Fail> {
 
 /// What is touched of the outermost of three windows once the innermost is written on, of the innermost once the outermost is, and
 /// after it is unmarked; and the cell that the outermost has then of the innermost.
-fn handed_on(grids: &mut Grids) -> Result<([Option<(u16, u16)>; 3], Cell), Fail> {
-    let (first, third) = nested(grids)?;
+fn sync_marks(grids: &mut Grids) -> Result<([Option<(u16, u16)>; 3], Cell), Fail> {
+    let (first, third) = nest_windows(grids)?;
     put(grids, third, 0, 1, b't')?;
     grids.wsyncup(third)?;
-    let up = touched(grids, first, 2)?;
+    let up = touched_columns(grids, first, 2)?;
     put(grids, first, 2, 3, b'f')?;
     grids.wsyncdown(third)?;
-    let down = touched(grids, third, 0)?;
-    let none = unmarked(grids, third)?;
+    let down = touched_columns(grids, third, 0)?;
+    let none = unmark(grids, third)?;
     Ok(([up, down, none], cell(grids, first, 2, 4)?))
 }
 
 fn handed_on_in_table(alloc: Global) -> Result<([Option<(u16, u16)>; 3], Cell), Fail> {
     let mut grids = Grids::new(alloc, 4, 10)?;
-    handed_on(&mut grids)
+    sync_marks(&mut grids)
 }
 
 #[test]
@@ -108,7 +108,7 @@ fn derives(grids: &Grids, low: WinId, high: WinId) -> bool {
 }
 
 /// Which places of one part of a window are places of another, whether the other derives from the window, and whether from the one.
-fn shared(grids: &mut Grids) -> Result<(Option<Rect>, [bool; 2]), Fail> {
+fn shared_places(grids: &mut Grids) -> Result<(Option<Rect>, [bool; 2]), Fail> {
     let [low, high, window] = two_parts(grids)?;
     let derived = [derives(grids, window, high), derives(grids, low, high)];
     Ok((seen_in(grids, low, high)?, derived))
@@ -116,7 +116,7 @@ fn shared(grids: &mut Grids) -> Result<(Option<Rect>, [bool; 2]), Fail> {
 
 fn shared_in_table(alloc: Global) -> Result<(Option<Rect>, [bool; 2]), Fail> {
     let mut grids = Grids::new(alloc, 4, 10)?;
-    shared(&mut grids)
+    shared_places(&mut grids)
 }
 
 #[test]

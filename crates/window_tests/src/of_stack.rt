@@ -44,7 +44,7 @@ fn thousand_panels_are_the_most(rt: HostRuntime) {
 }
 
 /// Whether the panels are those that were made, of which it answers how many.
-fn made(stack: &mut Stack) -> Option<usize> {
+fn count_made(stack: &mut Stack) -> Option<usize> {
     let mut made = 0;
     for win in 1..=20 {
         match new_panel(stack, win) {
@@ -63,5 +63,5 @@ fn made(stack: &mut Stack) -> Option<usize> {
 #[test]
 fn refused_panel_leaves_the_others(rt: HostRuntime) {
     let mut stack = Stack::new(rt.alloc());
-    assert!(rt; made(&mut stack) >= Some(19));
+    assert!(rt; count_made(&mut stack) >= Some(19));
 }

@@ -6,7 +6,7 @@ use std::test::Fail;
 const LONGEST: usize = 50;
 
 /// The first and the last column in which two lines differ.
-fn searched(old: &[Shown], new: &[Shown]) -> [Option<usize>; 2] {
+fn search_plainly(old: &[Shown], new: &[Shown]) -> [Option<usize>; 2] {
     let mut differences = [None; 2];
     for (x, (one, other)) in old.iter().zip(new).enumerate() {
         if one != other {
@@ -17,7 +17,7 @@ fn searched(old: &[Shown], new: &[Shown]) -> [Option<usize>; 2] {
     differences
 }
 
-fn found(old: &[Shown], new: &[Shown]) -> [Option<usize>; 2] {
+fn differences(old: &[Shown], new: &[Shown]) -> [Option<usize>; 2] {
     if old.len() == new.len() {
         [first_diff(old, new), last_diff(old, new)]
     } else {
@@ -39,7 +39,7 @@ fn agrees(length: usize, columns: [usize; 2], cell: Shown) -> bool {
     set(&mut line, columns[0], cell);
     set(&mut line, columns[1], cell);
     match (blank.get(..length), line.get(..length)) {
-        (Some(old), Some(new)) => found(old, new) == searched(old, new),
+        (Some(old), Some(new)) => differences(old, new) == search_plainly(old, new),
         _ => false,
     }
 }

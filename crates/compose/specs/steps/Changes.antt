@@ -1,7 +1,6 @@
 -- What a call affects of what windows show, and where one of them shows something of it.
 use Rattle.std.specs.Prelude.{ℕ, ◌≤◌, Bool, false, Option, Some, None, ⊤}
 use Rattle.std.specs.Option.{option_map}
-use Rattle.cell.specs.declared.window.WinId.{WinId}
 use Rattle.world.specs.Panels.{Panels}
 use Rattle.world.specs.Windows.{Windows, HasPlace, WindowMap}
 use Rattle.world.specs.Effects.{Change, asks, edits, marks, makes, deletes, moves, shifts, edit_frame, edit_window, Order, changes, adds, orders, carries}
@@ -36,9 +35,6 @@ abbrev pub any_shows_at : WindowMap → Panels → Option Affected → ℕ → �
 any_shows_at window panels None y x = false
 any_shows_at window panels (Some (Written win r)) y x = frame_shows_at window panels win.0 (Some r) y x
 any_shows_at window panels (Some (Moved win)) y x = move_shows_at window panels win.0 y x
-
-abbrev pub window_number : Option WinId → Option ℕ
-window_number win = option_map (λ w. w.0) win
 
 -- ---- panels
 

@@ -6,8 +6,10 @@ use Rattle.world.specs.Effects.{Change, asks, changes, order_reply, order_takes_
 use Rattle.world.specs.Panels.{Panels}
 use Rattle.world.specs.Sound.{AreSoundPanels, AreSoundWindows}
 use Rattle.world.specs.calls.Affected.{change_shows_at, order_shows_at}
+use Rattle.world.specs.calls.Queries.{query_refusal, query_reply}
 use Rattle.world.specs.calls.Refused.{Refused}
 use Rattle.world.specs.calls.Stacking.{after_stacking, stacking_order, stacking_refusal, stacking_tests}
+use Rattle.world.specs.declared.call.Query.{Query}
 use Rattle.world.specs.declared.call.Reply.{Reply}
 use Rattle.world.specs.declared.call.Stacking.{Stacking}
 use Rattle.world.specs.declared.settings.Columns.{Columns}
@@ -47,6 +49,11 @@ pub record Ordered {T : Type 0} (reply_of : T → Reply) (old : WindowTable) (ol
 -- It was, with this answer. Only the proofs of a kind of call, and of what is damaged, look into it.
 unfoldable pub Rearranges : WindowTable → PanelTable → Stacking → Result Reply Refusal → WindowTable → PanelTable → Type 0
 Rearranges old old_panels stacking r new new_panels = Ordered (λ (reply : Reply). reply) old old_panels stacking r new new_panels
+
+-- a query was refused exactly by its tests; else this is its answer
+pub record Answered (table : WindowTable) (query : Query) (r : Result Reply Refusal) : Type 0 where
+  pub refused : result_err r ≡ query_refusal (windows table) query
+  pub reply : IfOk r (λ reply. reply ≡ query_reply (windows table) query)
 
 -- this is the answer of any call on panels that a method made, whose answer is r
 abbrev pub AnswersCall : {T : Type 0} → (T → Reply) → Result T Refusal → Result Reply Refusal → Type 0

@@ -7,7 +7,7 @@ ghost use Rattle.std.specs.Result.{result_err};
 ghost use Rattle.cell.specs.Attributes.{bits_of};
 ghost use Rattle.world.specs.Drawings.{written_glyph};
 ghost use Rattle.world.specs.Sound.{AreSoundWindows};
-ghost use Rattle.world.specs.calls.Writing.{is_bad_character, after_writing, writing_frame, writing_refusal};
+ghost use Rattle.world.specs.calls.Writing.{is_bad_character, after_writing, writing_refusal};
 ghost use Rattle.world.specs.Typing.{to_next_line, next_line_frame, character_printed, character_frame, line_ended, line_ended_frame, typed_in, typed_frame};
 ghost use Rattle.world.specs.Typing.{after_text, text_frame};
 ghost use Rattle.world.specs.declared.call.Writing.{Writing};

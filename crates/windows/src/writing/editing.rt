@@ -3,7 +3,7 @@
 ghost use Rattle.std.specs.Prelude.{◌≡◌, IfOk, OnOk, OnErr};
 ghost use Rattle.std.specs.Result.{result_err};
 ghost use Rattle.world.specs.Sound.{AreSoundWindows};
-ghost use Rattle.world.specs.calls.Writing.{after_writing, writing_frame, writing_refusal};
+ghost use Rattle.world.specs.calls.Writing.{after_writing, writing_refusal};
 ghost use Rattle.world.specs.Effects.{sets};
 ghost use Rattle.world.specs.declared.call.Writing.{Writing};
 ghost use Rattle.grids.specs.Tables.{windows};

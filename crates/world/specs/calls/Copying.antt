@@ -10,7 +10,7 @@ use Rattle.world.specs.Windows.{Drawing, Window, WindowMap, Windows, ancestors, 
 use Rattle.world.specs.Panels.{cell_on_screen, holds, place_of}
 use Rattle.world.specs.Rows.{overlaid_cell}
 use Rattle.world.specs.Sharing.{shows_part_of}
-use Rattle.world.specs.Effects.{Change, asks, edits, draws, marks, after_change, change_frame}
+use Rattle.world.specs.Effects.{Change, asks, edits, draws, marks, after_change}
 use Rattle.world.specs.calls.Making.{is_pad}
 use Rattle.world.specs.calls.Missing.{missing_window}
 use Rattle.world.specs.calls.Writing.{lacks_place}
@@ -132,6 +132,3 @@ copying_refusal windows copying = first_of (copying_tests windows copying)
 
 abbrev pub after_copying : Windows → Copying → Windows
 after_copying windows copying = after_change windows (copying_change windows copying)
-
-abbrev pub copying_frame : Windows → Copying → Option Rect
-copying_frame windows copying = change_frame windows (copying_change windows copying)

@@ -14,7 +14,7 @@ use Rattle.world.specs.Windows.{Drawing, Window, WindowMap, Windows}
 use Rattle.world.specs.Settings.{with_cursor}
 use Rattle.world.specs.Drawings.{written_glyph, character_inserted, character_deleted, to_end_of_line, to_bottom, everywhere, lines_up, lines_down}
 use Rattle.world.specs.Typing.{backspace, carriage_return, newline}
-use Rattle.world.specs.Effects.{Edit, sets, draws, types, after_edit, edit_frame, edit_window}
+use Rattle.world.specs.Effects.{Edit, sets, draws, types, after_edit, edit_window}
 use Rattle.world.specs.calls.Missing.{missing_window}
 use Rattle.cell.specs.declared.window.Rect.{Rect}
 use Rattle.cell.specs.declared.refusal.Refusal.{Refusal}
@@ -157,6 +157,3 @@ writing_refusal windows writing = first_of (writing_tests windows writing)
 
 abbrev pub after_writing : Windows → Writing → Windows
 after_writing windows writing = after_edit windows (writing_edit windows writing)
-
-abbrev pub writing_frame : Windows → Writing → Option Rect
-writing_frame windows writing = edit_frame windows (writing_edit windows writing)

@@ -3,7 +3,7 @@ use Rattle.std.proofs.Common.{rules}
 use Rattle.stack.specs.Calls.{nothing}
 use Rattle.compose.specs.steps.Outcomes.{Ordered, Rearranges}
 use Rattle.compose.proofs.Arranging.{reordered}
-use Rattle.compose.proofs.dispatch.done.Goals as goal
+use Rattle.compose.proofs.dispatch.nothing.Goals as goal
 
 pub returns-clause-reordered : goal.returns-clause-reordered
 unfolding Rearranges
