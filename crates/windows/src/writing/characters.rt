@@ -1,18 +1,17 @@
 //! The calls that write characters.
 
-ghost use Rattle.std.specs.Prelude.{◌≡◌, ℕ, ◌+◌, ◌<◌, ◌≤◌, ◌==◌, if◌then◌else◌, length, slice_index, take, EachIndex, IsSome, Some, IfOk, OnOk, OnErr, false};
+ghost use Rattle.std.specs.Prelude.{◌≡◌, ℕ, ◌+◌, ◌<◌, ◌≤◌, ◌==◌, if◌then◌else◌, length, slice_index, take, EachIndex, IsSome, Some, false};
 ghost use Rattle.std.specs.Prelude.{◌&&◌, nat_lt, true};
 ghost use Rattle.std.specs.List.{list_all, list_any};
-ghost use Rattle.std.specs.Result.{result_err};
 ghost use Rattle.cell.specs.Attributes.{bits_of};
 ghost use Rattle.world.specs.Drawings.{written_glyph};
 ghost use Rattle.world.specs.Sound.{AreSoundWindows};
-ghost use Rattle.world.specs.calls.Writing.{is_bad_character, after_writing, writing_frame, writing_refusal};
+ghost use Rattle.world.specs.calls.Writing.{is_bad_character};
 ghost use Rattle.world.specs.Typing.{to_next_line, next_line_frame, line_ended, line_ended_frame, typed_in, typed_frame};
 ghost use Rattle.world.specs.declared.call.Writing.{Writing};
 ghost use Rattle.cell.specs.Glyphs.{is_printable};
 ghost use Rattle.grids.specs.Tables.{windows};
-ghost use Rattle.windows.specs.Calls.{Wrote, its_frame, no_frame};
+ghost use Rattle.windows.specs.Calls.{Wrote, its_frame};
 ghost use Rattle.windows.specs.steps.State.{IsStateOf, window_in_state};
 ghost use Rattle.windows.specs.steps.Writes.{CharacterPrinted, HasStateAndPlace, StepWrote, TextTyped};
 

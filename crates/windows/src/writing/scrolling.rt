@@ -1,9 +1,7 @@
 //! The scroll region of a window.
 
-ghost use Rattle.std.specs.Prelude.{◌≡◌, IfOk, OnOk, OnErr};
-ghost use Rattle.std.specs.Result.{result_err};
 ghost use Rattle.world.specs.Frames.{frame_of};
-ghost use Rattle.world.specs.calls.Writing.{scrl_drawing, after_writing, writing_frame, writing_refusal};
+ghost use Rattle.world.specs.calls.Writing.{scrl_drawing};
 ghost use Rattle.world.specs.Windows.{put};
 ghost use Rattle.world.specs.declared.call.Writing.{Writing};
 ghost use Rattle.grids.specs.Tables.{windows};
