@@ -8,7 +8,7 @@ pub mod States
 pub mod NextWrites
 -- what calls do to a window of a known state, for the calls that edit and the copies
 pub mod Calls
--- one character, for waddch and type_next
+-- one character, for waddch and type_first
 pub mod Typing
 -- one character after another, and that printed ones are accepted, for type_text and has_bad_character
 pub mod Texts

@@ -52,9 +52,6 @@ module _ (windows now new : Windows) (w : ℕ) (text rest : List ℕ) (count : �
       → next ≡ frame_of_two frame one → frame_of_two next (text_frame new w (drop count rest)) ≡ text_frame windows w text
   frame_goes_on frame one next before covered is = grind (arith, joined-joined, (frame-append (take count rest) (drop count rest) now w), take-append-drop)
 
-either-false : (s t : Bool) → (s || t) ≡ false → t ≡ false
-either-false s t h = grind arith
-
 pub rest_accepted : (count : ℕ) (rest : List ℕ) → list_any is_bad_character rest ≡ false → list_any is_bad_character (drop count rest) ≡ false
 rest_accepted count rest h = grind (arith, (list_any-append is_bad_character (take count rest) (drop count rest)), take-append-drop)
 

@@ -1,5 +1,5 @@
 -- Writing a character makes and deletes no window; and the rectangle of several characters.
-use Rattle.std.proofs.Common.{◌≡◌, ℕ, Bool, true, false, if◌then◌else◌, ◌||◌, not, Option, None, is_some, List, [], ◌∷◌}
+use Rattle.std.proofs.Common.{◌≡◌, ℕ, Bool, true, false, if◌then◌else◌, Option, None, is_some, List, [], ◌∷◌}
 use Rattle.std.proofs.Common.{arith, refl}
 use Rattle.std.specs.Option.{option_map}
 use Rattle.std.specs.List.{list_all, list_any}
@@ -61,9 +61,6 @@ pub joined-joined : (o p q : Option Rect) → frame_of_two (frame_of_two o p) q 
 joined-joined o p q = grind arith
 
 -- ---- a printed character is accepted
-
-accepted : (printable other bad : Bool) → printable ≡ true → bad ≡ false → (not (printable || other) || bad) ≡ false
-accepted printable other bad h none = grind arith
 
 pub none_bad : (text : List ℕ) → list_all is_printable text ≡ true → list_any is_bad_character text ≡ false
 none_bad [] all = refl

@@ -51,9 +51,6 @@ module _ (windows : Windows) (w : ℕ) (s : WindowState) (h : IsStateOf windows 
   -- ---- a printed character
 
   module _ (character : ℕ) where
-    glyph : Glyph
-    glyph = written_glyph s.settings character
-
     pub printed_inside : (now new : Windows) → s.settings.cursor.1 + 1 < s.columns → now ≡ put windows w (at_place s.settings.cursor (written_glyph s.settings character))
         → new ≡ set now w (with_cursor (s.settings.cursor.0, s.settings.cursor.1 + 1)) → new ≡ character_printed windows w character (window_in_state s)
     printed_inside now new inside drawn moved = grind (arith, if_true, lt-ltb)

@@ -3,11 +3,10 @@
 ghost use Rattle.std.specs.Prelude.{◌≡◌, ◌<◌, ◌≤◌, ◌+◌, ◌-◌, false};
 ghost use Rattle.world.specs.Windows.{put};
 ghost use Rattle.world.specs.Rows.{copied_cells, filled_cells};
-ghost use Rattle.world.specs.Sound.{AreSoundWindows};
 ghost use Rattle.world.specs.Drawings.{at_place, character_deleted, character_inserted, everywhere, lines_down, lines_up, to_bottom, to_end_of_line};
-ghost use Rattle.world.specs.calls.Writing.{after_clear};
 ghost use Rattle.grids.specs.Tables.{windows};
 ghost use Rattle.windows.specs.steps.State.{IsStateOf};
+ghost use Rattle.windows.specs.steps.Writes.{DrewInState, HasStateAndLines, HasStateAndPlace};
 
 use crate::state::WindowState;
 use cell::{Cell, WinId};
@@ -15,22 +14,16 @@ use grids::Grids;
 
 /// Sets one cell.
 pub fn set_cell(table: &mut Grids, win: WinId, state: &WindowState, y: u16, x: u16, cell: Cell)
-    requires state { IsStateOf (windows table.old) win.0 state.now }
-    requires line { y < state.now.lines }
-    requires column { x < state.now.columns }
-    ensures written { windows table.new ≡ put (windows table.old) win.0 (at_place (y, x) cell) }
-    ensures state { IsStateOf (windows table.new) win.0 state.now }
+    requires { HasStateAndPlace (windows table.old) win.0 state.now y x }
+    ensures { DrewInState (windows table.old) win.0 state.now (at_place (y, x) cell) (windows table.new) }
 {
     table.set_cell(win, y, x, cell);
 }
 
 /// Inserts a cell: those from its column on go one column right, and the last is lost.
 pub fn insert_cell(table: &mut Grids, win: WinId, state: &WindowState, y: u16, x: u16, cell: Cell)
-    requires state { IsStateOf (windows table.old) win.0 state.now }
-    requires line { y < state.now.lines }
-    requires column { x < state.now.columns }
-    ensures written { windows table.new ≡ put (windows table.old) win.0 (character_inserted (windows table.old).window win.0 (y, x) cell) }
-    ensures sound { AreSoundWindows (windows table.new) }
+    requires { HasStateAndPlace (windows table.old) win.0 state.now y x }
+    ensures { DrewInState (windows table.old) win.0 state.now (character_inserted (windows table.old).window win.0 (y, x) cell) (windows table.new) }
 {
     table.copy_row(win, y, x, win, y, x + 1, state.columns - 1 - x, false);
     table.fill(win, y, x, x, cell);
@@ -38,12 +31,9 @@ pub fn insert_cell(table: &mut Grids, win: WinId, state: &WindowState, y: u16, x
 
 /// Deletes a cell: those after its column go one column left, and the last is set to the background.
 pub fn delete_cell(table: &mut Grids, win: WinId, state: &WindowState, y: u16, x: u16)
-    requires state { IsStateOf (windows table.old) win.0 state.now }
-    requires line { y < state.now.lines }
-    requires column { x < state.now.columns }
-    ensures written { windows table.new ≡ put (windows table.old) win.0 (character_deleted (windows table.old).window win.0 (y, x)
-        (state.now.columns - 1) state.now.settings.background) }
-    ensures sound { AreSoundWindows (windows table.new) }
+    requires { HasStateAndPlace (windows table.old) win.0 state.now y x }
+    ensures { DrewInState (windows table.old) win.0 state.now
+        (character_deleted (windows table.old).window win.0 (y, x) (state.now.columns - 1) state.now.settings.background) (windows table.new) }
 {
     let last = state.columns - 1;
     table.copy_row(win, y, x + 1, win, y, x, last - x, false);
@@ -52,22 +42,16 @@ pub fn delete_cell(table: &mut Grids, win: WinId, state: &WindowState, y: u16, x
 
 /// Sets the cells from a column to the end of a line to the background.
 pub fn clear_rest(table: &mut Grids, win: WinId, state: &WindowState, y: u16, left: u16)
-    requires state { IsStateOf (windows table.old) win.0 state.now }
-    requires line { y < state.now.lines }
-    requires column { left < state.now.columns }
-    ensures written { windows table.new ≡ put (windows table.old) win.0 (to_end_of_line (y, left) state.now.settings.background) }
-    ensures state { IsStateOf (windows table.new) win.0 state.now }
+    requires { HasStateAndPlace (windows table.old) win.0 state.now y left }
+    ensures { DrewInState (windows table.old) win.0 state.now (to_end_of_line (y, left) state.now.settings.background) (windows table.new) }
 {
     table.fill(win, y, left, state.columns - 1, state.settings.background);
 }
 
 /// Sets the cells from a column to the end of a line, and all lines below, to the background.
 pub fn clear_below(table: &mut Grids, win: WinId, state: &WindowState, y: u16, left: u16)
-    requires state { IsStateOf (windows table.old) win.0 state.now }
-    requires line { y < state.now.lines }
-    requires column { left < state.now.columns }
-    ensures written { windows table.new ≡ put (windows table.old) win.0 (to_bottom (y, left) state.now.settings.background) }
-    ensures state { IsStateOf (windows table.new) win.0 state.now }
+    requires { HasStateAndPlace (windows table.old) win.0 state.now y left }
+    ensures { DrewInState (windows table.old) win.0 state.now (to_bottom (y, left) state.now.settings.background) (windows table.new) }
 {
     table.fill(win, y, left, state.columns - 1, state.settings.background);
     for line in y + 1..state.lines {
@@ -78,8 +62,7 @@ pub fn clear_below(table: &mut Grids, win: WinId, state: &WindowState, y: u16, l
 /// Sets all cells to the background.
 pub fn clear_all(table: &mut Grids, win: WinId, state: &WindowState)
     requires state { IsStateOf (windows table.old) win.0 state.now }
-    ensures written { windows table.new ≡ put (windows table.old) win.0 (everywhere state.now.settings.background) }
-    ensures state { IsStateOf (windows table.new) win.0 state.now }
+    ensures { DrewInState (windows table.old) win.0 state.now (everywhere state.now.settings.background) (windows table.new) }
 {
     for line in 0..state.lines {
         table.fill(win, line, 0, state.columns - 1, state.settings.background);
@@ -89,11 +72,9 @@ pub fn clear_all(table: &mut Grids, win: WinId, state: &WindowState)
 /// Moves the lines from `top` to `bottom`, both inclusive, up by `n` lines; those that come from below `bottom` are set to the
 /// background.
 pub fn move_up(table: &mut Grids, win: WinId, state: &WindowState, top: u16, bottom: u16, n: u16)
-    requires state { IsStateOf (windows table.old) win.0 state.now }
-    requires ordered { top ≤ bottom }
-    requires lines { bottom < state.now.lines }
-    ensures written { windows table.new ≡ put (windows table.old) win.0 (lines_up (windows table.old).window win.0 top bottom n state.now.settings.background) }
-    ensures state { IsStateOf (windows table.new) win.0 state.now }
+    requires { HasStateAndLines (windows table.old) win.0 state.now top bottom }
+    ensures { DrewInState (windows table.old) win.0 state.now
+        (lines_up (windows table.old).window win.0 top bottom n state.now.settings.background) (windows table.new) }
 {
     for line in top..bottom + 1 {
         take_below(table, win, state, line, bottom, n);
@@ -103,12 +84,9 @@ pub fn move_up(table: &mut Grids, win: WinId, state: &WindowState, top: u16, bot
 /// Moves the lines from `top` to `bottom`, both inclusive, down by `n` lines; those that come from above `top` are set to the
 /// background.
 pub fn move_down(table: &mut Grids, win: WinId, state: &WindowState, top: u16, bottom: u16, n: u16)
-    requires state { IsStateOf (windows table.old) win.0 state.now }
-    requires ordered { top ≤ bottom }
-    requires lines { bottom < state.now.lines }
-    ensures written { windows table.new ≡ put (windows table.old) win.0 (lines_down
-        (windows table.old).window win.0 top bottom n state.now.settings.background) }
-    ensures state { IsStateOf (windows table.new) win.0 state.now }
+    requires { HasStateAndLines (windows table.old) win.0 state.now top bottom }
+    ensures { DrewInState (windows table.old) win.0 state.now
+        (lines_down (windows table.old).window win.0 top bottom n state.now.settings.background) (windows table.new) }
 {
     for moved in 0..bottom + 1 - top {
         take_above(table, win, state, top, bottom - moved, n);
@@ -117,9 +95,7 @@ pub fn move_down(table: &mut Grids, win: WinId, state: &WindowState, top: u16, b
 
 /// Sets a line to the line `n` below it, or to the background if that is below `bottom`.
 fn take_below(table: &mut Grids, win: WinId, state: &WindowState, line: u16, bottom: u16, n: u16)
-    requires state { IsStateOf (windows table.old) win.0 state.now }
-    requires ordered { line ≤ bottom }
-    requires lines { bottom < state.now.lines }
+    requires { HasStateAndLines (windows table.old) win.0 state.now line bottom }
     ensures taken { line + n ≤ bottom → windows table.new ≡ put (windows table.old) win.0
         (copied_cells (windows table.old).window win.0 (line + n) 0 line 0 state.now.columns false) }
     ensures cleared { bottom < line + n → windows table.new ≡ put (windows table.old) win.0
@@ -135,9 +111,7 @@ fn take_below(table: &mut Grids, win: WinId, state: &WindowState, line: u16, bot
 
 /// Sets a line to the line `n` above it, or to the background if that is above `top`.
 fn take_above(table: &mut Grids, win: WinId, state: &WindowState, top: u16, line: u16, n: u16)
-    requires state { IsStateOf (windows table.old) win.0 state.now }
-    requires ordered { top ≤ line }
-    requires lines { line < state.now.lines }
+    requires { HasStateAndLines (windows table.old) win.0 state.now top line }
     ensures taken { top + n ≤ line → windows table.new ≡ put (windows table.old) win.0
         (copied_cells (windows table.old).window win.0 (line - n) 0 line 0 state.now.columns false) }
     ensures cleared { line < top + n → windows table.new ≡ put (windows table.old) win.0

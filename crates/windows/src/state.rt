@@ -7,6 +7,7 @@ ghost use Rattle.world.specs.Windows.{HasPlace};
 ghost use Rattle.world.specs.Sound.{AreSoundWindows};
 ghost use Rattle.grids.specs.Tables.{windows};
 ghost use Rattle.windows.specs.steps.State.{IsStateOf};
+ghost use Rattle.windows.specs.steps.Writes.{HasStateAndPlace};
 
 use cell::{Refusal, WinId};
 use grids::Grids;
@@ -37,9 +38,7 @@ pub fn state_of(table: &Grids, win: WinId) -> Result<WindowState, Refusal>
 
 /// Moves the cursor. The window must exist, have the given state, and hold the place.
 pub fn set_cursor(table: &mut Grids, win: WinId, state: &WindowState, y: u16, x: u16)
-    requires state { IsStateOf (windows table.old) win.0 state.now }
-    requires line { y < state.now.lines }
-    requires column { x < state.now.columns }
+    requires { HasStateAndPlace (windows table.old) win.0 state.now y x }
     ensures set { windows table.new ≡ set (windows table.old) win.0 (with_cursor (y, x)) }
     ensures sound { AreSoundWindows (windows table.new) }
 {

@@ -1,20 +1,19 @@
 //! The calls that write characters.
 
-ghost use Rattle.std.specs.Prelude.{◌≡◌, ℕ, ◌+◌, ◌<◌, ◌≤◌, ◌==◌, if◌then◌else◌, length, slice_index, take, EachIndex, IsSome, Some, IfOk, OnOk, OnErr, false};
+ghost use Rattle.std.specs.Prelude.{◌≡◌, ℕ, ◌+◌, ◌<◌, ◌≤◌, ◌==◌, if◌then◌else◌, length, slice_index, take, EachIndex, IsSome, Some, false};
 ghost use Rattle.std.specs.Prelude.{◌&&◌, nat_lt, true};
 ghost use Rattle.std.specs.List.{list_all, list_any};
-ghost use Rattle.std.specs.Result.{result_err};
 ghost use Rattle.cell.specs.Attributes.{bits_of};
 ghost use Rattle.world.specs.Drawings.{written_glyph};
 ghost use Rattle.world.specs.Sound.{AreSoundWindows};
-ghost use Rattle.world.specs.calls.Writing.{is_bad_character, after_writing, writing_refusal};
-ghost use Rattle.world.specs.Typing.{to_next_line, next_line_frame, character_printed, character_frame, line_ended, line_ended_frame, typed_in, typed_frame};
-ghost use Rattle.world.specs.Typing.{after_text, text_frame};
+ghost use Rattle.world.specs.calls.Writing.{is_bad_character};
+ghost use Rattle.world.specs.Typing.{to_next_line, next_line_frame, line_ended, line_ended_frame, typed_in, typed_frame};
 ghost use Rattle.world.specs.declared.call.Writing.{Writing};
 ghost use Rattle.cell.specs.Glyphs.{is_printable};
 ghost use Rattle.grids.specs.Tables.{windows};
-ghost use Rattle.windows.specs.Calls.{Wrote, its_frame, no_frame};
+ghost use Rattle.windows.specs.Calls.{Wrote, its_frame};
 ghost use Rattle.windows.specs.steps.State.{IsStateOf, window_in_state};
+ghost use Rattle.windows.specs.steps.Writes.{CharacterPrinted, HasStateAndPlace, StepWrote, TextTyped};
 
 use crate::drawing::{clear_rest, delete_cell, insert_cell, move_up, set_cell};
 use crate::frame::lines_from;
@@ -129,9 +128,7 @@ fn type_text(table: &mut Grids, win: WinId, text: &[u8]) -> Option<Rect>
     requires there { IsSome ((windows table.old).window win.0) }
     requires accepted { list_any is_bad_character text.now ≡ false }
     requires sound { AreSoundWindows (windows table.old) }
-    ensures written { windows table.new ≡ after_text (windows table.old) win.0 text.now }
-    ensures frame { result ≡ text_frame (windows table.old) win.0 text.now }
-    ensures sound { AreSoundWindows (windows table.new) }
+    ensures { TextTyped (windows table.old) win.0 text.now (windows table.new) result }
 {
     let mut frame = None;
     let mut rest = text;
@@ -151,10 +148,8 @@ fn type_first(table: &mut Grids, win: WinId, text: &[u8]) -> (usize, Option<Rect
     requires some { 0 < length text.now }
     ensures some { 0 < result.0 }
     ensures within { result.0 ≤ length text.now }
-    ensures written { windows table.new ≡ after_text (windows table.old) win.0 (take result.0 text.now) }
-    ensures frame { result.1 ≡ text_frame (windows table.old) win.0 (take result.0 text.now) }
+    ensures typed { TextTyped (windows table.old) win.0 (take result.0 text.now) (windows table.new) result.1 }
     ensures there { IsSome ((windows table.new).window win.0) }
-    ensures sound { AreSoundWindows (windows table.new) }
 {
     match state_of(table, win) {
         Ok(state) => {
@@ -197,9 +192,7 @@ fn print_run(table: &mut Grids, win: WinId, state: &WindowState, run: &[u8]) -> 
     requires some { 0 < length run.now }
     requires inside { state.now.settings.cursor.1 + length run.now < state.now.columns }
     requires printable { EachIndex run.now (λ k. is_printable (slice_index run.now k) ≡ true) }
-    ensures written { windows table.new ≡ after_text (windows table.old) win.0 run.now }
-    ensures frame { Some result ≡ text_frame (windows table.old) win.0 run.now }
-    ensures sound { AreSoundWindows (windows table.new) }
+    ensures { TextTyped (windows table.old) win.0 run.now (windows table.new) (Some result) }
 {
     let (y, x) = state.settings.cursor;
     let end = x + run.len() as u16;
@@ -224,9 +217,8 @@ fn is_bad_character(ch: u8) -> bool
 fn type_character(table: &mut Grids, win: WinId, state: &WindowState, ch: u8) -> Option<Rect>
     requires state { IsStateOf (windows table.old) win.0 state.now }
     requires accepted { is_bad_character ch ≡ false }
-    ensures written { windows table.new ≡ typed_in (windows table.old) win.0 ch (window_in_state state.now) }
-    ensures frame { result ≡ typed_frame (windows table.old) win.0 ch (window_in_state state.now) }
-    ensures sound { AreSoundWindows (windows table.new) }
+    ensures { StepWrote (typed_in (windows table.old) win.0 ch (window_in_state state.now))
+        (typed_frame (windows table.old) win.0 ch (window_in_state state.now)) (windows table.new) result }
 {
     let (y, x) = state.settings.cursor;
     if ch == NEWLINE {
@@ -249,9 +241,7 @@ fn print_inside(table: &mut Grids, win: WinId, state: &WindowState, ch: u8) -> R
     requires state { IsStateOf (windows table.old) win.0 state.now }
     requires printable { is_printable ch ≡ true }
     requires inside { state.now.settings.cursor.1 + 1 < state.now.columns }
-    ensures written { windows table.new ≡ character_printed (windows table.old) win.0 ch (window_in_state state.now) }
-    ensures frame { Some result ≡ character_frame (windows table.old) win.0 ch (window_in_state state.now) }
-    ensures sound { AreSoundWindows (windows table.new) }
+    ensures { CharacterPrinted (windows table.old) win.0 state.now ch (windows table.new) (Some result) }
 {
     let (y, x) = state.settings.cursor;
     set_cell(table, win, state, y, x, written_cell(&state.settings, ch));
@@ -263,9 +253,7 @@ fn print_inside(table: &mut Grids, win: WinId, state: &WindowState, ch: u8) -> R
 fn print(table: &mut Grids, win: WinId, state: &WindowState, ch: u8) -> Option<Rect>
     requires state { IsStateOf (windows table.old) win.0 state.now }
     requires printable { is_printable ch ≡ true }
-    ensures written { windows table.new ≡ character_printed (windows table.old) win.0 ch (window_in_state state.now) }
-    ensures frame { result ≡ character_frame (windows table.old) win.0 ch (window_in_state state.now) }
-    ensures sound { AreSoundWindows (windows table.new) }
+    ensures { CharacterPrinted (windows table.old) win.0 state.now ch (windows table.new) result }
 {
     let (y, x) = state.settings.cursor;
     if x + 1 < state.columns {
@@ -279,9 +267,8 @@ fn print(table: &mut Grids, win: WinId, state: &WindowState, ch: u8) -> Option<R
 /// Clears the rest of the cursor's line and goes to the next.
 fn end_line(table: &mut Grids, win: WinId, state: &WindowState) -> Option<Rect>
     requires state { IsStateOf (windows table.old) win.0 state.now }
-    ensures written { windows table.new ≡ line_ended (windows table.old) win.0 (window_in_state state.now) }
-    ensures frame { result ≡ line_ended_frame (windows table.old) win.0 (window_in_state state.now) }
-    ensures sound { AreSoundWindows (windows table.new) }
+    ensures { StepWrote (line_ended (windows table.old) win.0 (window_in_state state.now))
+        (line_ended_frame (windows table.old) win.0 (window_in_state state.now)) (windows table.new) result }
 {
     let (y, x) = state.settings.cursor;
     clear_rest(table, win, state, y, x);
@@ -291,12 +278,9 @@ fn end_line(table: &mut Grids, win: WinId, state: &WindowState) -> Option<Rect>
 
 /// Goes to the next line, or scrolls the region; at the end of a last line the cursor goes to the place (y, x) instead.
 fn to_next_line(table: &mut Grids, win: WinId, state: &WindowState, y: u16, x: u16) -> Option<Rect>
-    requires state { IsStateOf (windows table.old) win.0 state.now }
-    requires line { y < state.now.lines }
-    requires column { x < state.now.columns }
-    ensures written { windows table.new ≡ to_next_line (windows table.old) win.0 (window_in_state state.now) (y, x) }
-    ensures frame { result ≡ next_line_frame (windows table.old).window win.0 (window_in_state state.now) }
-    ensures sound { AreSoundWindows (windows table.new) }
+    requires { HasStateAndPlace (windows table.old) win.0 state.now y x }
+    ensures { StepWrote (to_next_line (windows table.old) win.0 (window_in_state state.now) (y, x))
+        (next_line_frame (windows table.old).window win.0 (window_in_state state.now)) (windows table.new) result }
 {
     let line = state.settings.cursor.0;
     let (top, bottom) = state.settings.region;

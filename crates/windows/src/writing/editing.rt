@@ -1,13 +1,7 @@
 //! The calls that clear a window or a part of it, and that insert and delete lines.
 
-ghost use Rattle.std.specs.Prelude.{◌≡◌, IfOk, OnOk, OnErr};
-ghost use Rattle.std.specs.Result.{result_err};
-ghost use Rattle.world.specs.Sound.{AreSoundWindows};
-ghost use Rattle.world.specs.calls.Writing.{after_writing, writing_refusal};
-ghost use Rattle.world.specs.Effects.{sets};
 ghost use Rattle.world.specs.declared.call.Writing.{Writing};
-ghost use Rattle.grids.specs.Tables.{windows};
-ghost use Rattle.windows.specs.Calls.{Wrote, its_frame, no_frame};
+ghost use Rattle.windows.specs.Calls.{Wrote, its_frame};
 
 use crate::drawing::{clear_all, clear_below, clear_rest, move_down, move_up};
 use crate::frame::lines_from;

@@ -1,13 +1,7 @@
 //! The cursor, the attributes, the colours and the background of a window, and whether it asks for a clear screen.
 
-ghost use Rattle.std.specs.Prelude.{◌≡◌, OnOk, OnErr};
-ghost use Rattle.std.specs.Result.{result_err};
-ghost use Rattle.cell.specs.Attributes.{bits_of};
-ghost use Rattle.world.specs.Sound.{AreSoundWindows};
-ghost use Rattle.world.specs.calls.Writing.{after_writing, writing_refusal};
 ghost use Rattle.world.specs.declared.call.Writing.{Writing};
-ghost use Rattle.grids.specs.Tables.{windows};
-ghost use Rattle.windows.specs.Calls.{Wrote, its_frame, no_frame};
+ghost use Rattle.windows.specs.Calls.{Wrote, no_frame};
 
 use crate::state::{set_cursor, set_settings, state_of};
 use crate::table::Windows;

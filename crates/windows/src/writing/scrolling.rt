@@ -1,15 +1,13 @@
 //! The scroll region of a window.
 
-ghost use Rattle.std.specs.Prelude.{◌≡◌, IfOk, OnOk, OnErr};
-ghost use Rattle.std.specs.Result.{result_err};
 ghost use Rattle.world.specs.Frames.{frame_of};
-ghost use Rattle.world.specs.calls.Writing.{scrl_drawing, after_writing, writing_refusal};
-ghost use Rattle.world.specs.Sound.{AreSoundWindows};
+ghost use Rattle.world.specs.calls.Writing.{scrl_drawing};
 ghost use Rattle.world.specs.Windows.{put};
 ghost use Rattle.world.specs.declared.call.Writing.{Writing};
 ghost use Rattle.grids.specs.Tables.{windows};
 ghost use Rattle.windows.specs.Calls.{Wrote, its_frame, no_frame};
 ghost use Rattle.windows.specs.steps.State.{IsStateOf, window_in_state};
+ghost use Rattle.windows.specs.steps.Writes.{StepWrote};
 
 use crate::drawing::{move_down, move_up};
 use crate::frame::lines_from;
@@ -74,9 +72,8 @@ impl Windows {
 /// Moves the lines of the scroll region up by `n`, or down by `-n`. The window must exist and have the given state.
 fn scroll(table: &mut Grids, win: WinId, state: &WindowState, n: i16) -> Option<Rect>
     requires state { IsStateOf (windows table.old) win.0 state.now }
-    ensures written { windows table.new ≡ put (windows table.old) win.0 (scrl_drawing (windows table.old).window win.0 n (window_in_state state.now)) }
-    ensures frame { result ≡ frame_of (window_in_state state.now) (scrl_drawing (windows table.old).window win.0 n (window_in_state state.now)) }
-    ensures sound { AreSoundWindows (windows table.new) }
+    ensures { StepWrote (put (windows table.old) win.0 (scrl_drawing (windows table.old).window win.0 n (window_in_state state.now)))
+        (frame_of (window_in_state state.now) (scrl_drawing (windows table.old).window win.0 n (window_in_state state.now))) (windows table.new) result }
 {
     if n == 0 {
         return None;

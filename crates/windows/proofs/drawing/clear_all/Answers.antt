@@ -15,5 +15,5 @@ loop-line-init c = record {
 pub loop-line-preserved : goal.loop-line-preserved
 loop-line-preserved c = search (rules, line_cleared, state-written)
 
-pub returns-clause-written : goal.returns-clause-written
-returns-clause-written c = search (rules, all_cleared)
+pub returns : goal.returns
+returns c = search (rules, all_cleared)

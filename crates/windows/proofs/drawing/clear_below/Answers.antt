@@ -22,5 +22,5 @@ loop-line-preserved c = record {
       c.fill-in-loop-line.ensures.sound;
 }
 
-pub returns-clause-written : goal.returns-clause-written
-returns-clause-written c = search (rules, bottom_cleared)
+pub returns : goal.returns
+returns c = search (rules, bottom_cleared)

@@ -4,8 +4,5 @@ use Rattle.windows.proofs.States.{state-written}
 use Rattle.windows.proofs.NextWrites.{rest_of_line}
 use Rattle.windows.proofs.drawing.clear_rest.Goals as goal
 
-pub returns-clause-written : goal.returns-clause-written
-returns-clause-written c = search (rules, rest_of_line)
-
-pub returns-clause-state : goal.returns-clause-state
-returns-clause-state c = search (rules, state-written)
+pub returns : goal.returns
+returns c = search (rules, rest_of_line, state-written)

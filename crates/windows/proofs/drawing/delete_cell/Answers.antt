@@ -1,5 +1,5 @@
 -- A copy of the rest of the line and a write of its last cell are one drawing.
-use Rattle.std.proofs.Common.{◌+◌, ◌-◌, false, arith}
+use Rattle.std.proofs.Common.{◌+◌, ◌-◌, false, arith, rules}
 use Rattle.world.specs.Rows.{copied_cells}
 use Rattle.grids.specs.Tables.{windows}
 use Rattle.windows.proofs.States.{state-written, has_place}
@@ -14,7 +14,10 @@ fill-requires-clause-there c =
     c.requires.state c.copy_row.ensures.written c.copy_row.ensures.sound)
     c.requires.line (omega arith)
 
-pub returns-clause-written : goal.returns-clause-written
-returns-clause-written c =
-    deleted (windows c.args.table.now) c.args.win.0 c.args.state.now c.requires.state (windows c.copy_row.new.self) (windows c.fill.new.self)
-    c.args.y c.args.x c.args.state.now.settings.background c.requires.column c.copy_row.ensures.written c.fill.ensures.written
+pub returns : goal.returns
+returns c = search (
+  rules,
+  state-written,
+  (deleted (windows c.args.table.now) c.args.win.0 c.args.state.now c.requires.state (windows c.copy_row.new.self) (windows c.fill.new.self)
+      c.args.y c.args.x c.args.state.now.settings.background c.requires.column c.copy_row.ensures.written c.fill.ensures.written),
+)

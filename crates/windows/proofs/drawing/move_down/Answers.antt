@@ -35,5 +35,5 @@ loop-moved-preserved c =
       state = c.take_above.ensures.state;
     }
 
-pub returns-clause-written : goal.returns-clause-written
-returns-clause-written c = grind (arith, down_ended)
+pub returns : goal.returns
+returns c = record { written = grind (arith, down_ended); state = c.loop-moved.invariant.state }

@@ -19,7 +19,9 @@ loop-line-preserved c = record {
   state = c.take_below.ensures.state;
 }
 
-pub returns-clause-written : goal.returns-clause-written
-returns-clause-written c =
-    up_ended (windows c.args.table.now) c.args.win.0 c.args.state.now c.requires.state c.args.top c.args.bottom c.args.n c.args.state.now.settings.background
-    c.requires.ordered c.requires.lines c.loop-line.line (windows c.loop-line.table) (omega arith) c.loop-line.invariant.moved
+pub returns : goal.returns
+returns c = record {
+  written = up_ended (windows c.args.table.now) c.args.win.0 c.args.state.now c.requires.state c.args.top c.args.bottom c.args.n c.args.state.now.settings.background
+      c.requires.ordered c.requires.lines c.loop-line.line (windows c.loop-line.table) (omega arith) c.loop-line.invariant.moved;
+  state = c.loop-line.invariant.state;
+}

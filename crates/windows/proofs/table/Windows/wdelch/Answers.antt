@@ -1,11 +1,16 @@
--- `wdelch`: the rectangle that it answers (`Calls`).
-use Rattle.std.proofs.Common.{rules}
+-- `wdelch`: what a call does to a window of a known state, and the rectangle that it answers (`Calls`).
+use Rattle.std.proofs.Common.{refl, sym, ◌∙◌, rules}
+use Rattle.world.specs.Windows.{put}
+use Rattle.world.specs.calls.Writing.{delch_drawing}
 use Rattle.grids.specs.Tables.{windows}
-use Rattle.windows.proofs.Calls.{character_deleted_frame, drew}
+use Rattle.windows.proofs.Calls.{call-is, character_deleted_frame, drew}
 use Rattle.windows.proofs.table.Windows.wdelch.Goals as goal
 
 pub returns : goal.returns
 returns c =
-    drew (search rules) (search rules)
-    (character_deleted_frame (windows c.args.self.now.table) c.args.win.0 c.in_ok-state.state c.in_ok-state.ensures.state c.lines_from.result
-    c.lines_from.ensures) (search rules)
+    let ws = windows c.args.self.now.table in
+    let w = c.args.win.0 in
+    let s = c.in_ok-state.state in
+    let h = c.in_ok-state.ensures.state in
+    drew (search rules) (c.delete_cell.ensures.written ∙ sym (call-is ws w s h (λ a. put ws w (delch_drawing ws.window w a)) refl))
+    (character_deleted_frame ws w s h c.lines_from.result c.lines_from.ensures) (search rules)

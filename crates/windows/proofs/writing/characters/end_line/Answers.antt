@@ -3,8 +3,5 @@ use Rattle.std.proofs.Common.{rules}
 use Rattle.windows.proofs.Typing.{ended, ended_frame}
 use Rattle.windows.proofs.writing.characters.end_line.Goals as goal
 
-pub returns-clause-written : goal.returns-clause-written
-returns-clause-written c = search (rules, ended)
-
-pub returns-clause-frame : goal.returns-clause-frame
-returns-clause-frame c = search (rules, ended_frame)
+pub returns : goal.returns
+returns c = search (rules, ended, ended_frame)

@@ -4,10 +4,10 @@ use Rattle.grids.specs.Tables.{windows}
 use Rattle.windows.proofs.Typing.{scrolled, scrolled_frame}
 use Rattle.windows.proofs.writing.characters.to_next_line.Goals as goal
 
-pub returns-then-line-bottom-clause-written : goal.returns-then-line-bottom-clause-written
-returns-then-line-bottom-clause-written c = search (rules, scrolled)
-
-pub returns-then-line-bottom-clause-frame : goal.returns-then-line-bottom-clause-frame
-returns-then-line-bottom-clause-frame c =
-    scrolled_frame (windows c.args.table.now) c.args.win.0 c.args.state.now c.requires.state c.lines_from.result c.if-state.true c.if-line-bottom.true
-    c.lines_from.ensures
+pub returns-then-line-bottom : goal.returns-then-line-bottom
+returns-then-line-bottom c = record {
+  written = search (rules, scrolled);
+  frame = scrolled_frame (windows c.args.table.now) c.args.win.0 c.args.state.now c.requires.state c.lines_from.result c.if-state.true c.if-line-bottom.true
+      c.lines_from.ensures;
+  sound = c.set_cursor.ensures.sound;
+}

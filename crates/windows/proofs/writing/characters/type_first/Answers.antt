@@ -6,20 +6,18 @@ use Rattle.windows.proofs.Typing.{added, added_frame}
 use Rattle.windows.proofs.Runs.{one_written, one_covered, text_keeps}
 use Rattle.windows.proofs.writing.characters.type_first.Goals as goal
 
-pub returns-then-count-eq0-clause-written : goal.returns-then-count-eq0-clause-written
-returns-then-count-eq0-clause-written c =
+pub returns-then-count-eq0-clause-typed : goal.returns-then-count-eq0-clause-typed
+returns-then-count-eq0-clause-typed c =
     let before = windows c.args.table.now in
     let after = windows c.type_character.new.table in
     let text = c.args.text.now in
-    one_written before after c.args.win.0 text c.requires.some
-    (added before c.args.win.0 c.in-Ok.state c.in-Ok.ensures.state after (get_or text 0 0) c.type_character.ensures.written)
-
-pub returns-then-count-eq0-clause-frame : goal.returns-then-count-eq0-clause-frame
-returns-then-count-eq0-clause-frame c =
-    let before = windows c.args.table.now in
-    let text = c.args.text.now in
-    one_covered before c.args.win.0 text c.type_character.result c.requires.some
-    (added_frame before c.args.win.0 c.in-Ok.state c.in-Ok.ensures.state c.type_character.result (get_or text 0 0) c.type_character.ensures.frame)
+    record {
+      written = one_written before after c.args.win.0 text c.requires.some
+          (added before c.args.win.0 c.in-Ok.state c.in-Ok.ensures.state after (get_or text 0 0) c.type_character.ensures.written);
+      frame = one_covered before c.args.win.0 text c.type_character.result c.requires.some
+          (added_frame before c.args.win.0 c.in-Ok.state c.in-Ok.ensures.state c.type_character.result (get_or text 0 0) c.type_character.ensures.frame);
+      sound = c.type_character.ensures.sound;
+    }
 
 pub returns-then-count-eq0-clause-there : goal.returns-then-count-eq0-clause-there
 returns-then-count-eq0-clause-there c =

@@ -12,10 +12,10 @@ loop-rest-preserved c =
     let count = c.type_first-count.result.0 in
     let first = c.type_first-count.ensures in
     rw c.split_at.ensures.back (record {
-      written = text_goes_on before now new c.args.win.0 c.args.text.now rest count first.written c.loop-rest.invariant.written;
-      frame = frame_goes_on before now new c.args.win.0 c.args.text.now rest count first.written c.loop-rest.frame c.type_first-count.result.1 c.frame_of_two-frame.result
-          c.loop-rest.invariant.frame first.frame c.frame_of_two-frame.ensures;
+      written = text_goes_on before now new c.args.win.0 c.args.text.now rest count first.typed.written c.loop-rest.invariant.written;
+      frame = frame_goes_on before now new c.args.win.0 c.args.text.now rest count first.typed.written c.loop-rest.frame c.type_first-count.result.1 c.frame_of_two-frame.result
+          c.loop-rest.invariant.frame first.typed.frame c.frame_of_two-frame.ensures;
       accepted = rest_accepted count rest c.loop-rest.invariant.accepted;
       there = first.there;
-      sound = first.sound;
+      sound = first.typed.sound;
     })

@@ -1,5 +1,5 @@
 -- The region moves by its lines, one way or the other, or not at all.
-use Rattle.std.proofs.Common.{ap, sym, ◌∙◌}
+use Rattle.std.proofs.Common.{ap, sym, ◌∙◌, rules}
 use Rattle.std.proofs.lemmas.Int.{to_z-of_z}
 use mir.Val.{of_z, to_z}
 use mir.Syntax.{w16}
@@ -7,15 +7,19 @@ use Rattle.grids.specs.Tables.{windows}
 use Rattle.windows.proofs.Scrolls.{still, still_frame, scrolled_lines}
 use Rattle.windows.proofs.writing.scrolling.scroll.Goals as goal
 
-pub returns-then-n-eq0-clause-written : goal.returns-then-n-eq0-clause-written
-returns-then-n-eq0-clause-written c =
-    still (windows c.args.table.now) c.args.win.0 c.args.state.now c.args.n (sym (to_z-of_z w16 c.args.n c.ranges.n) ∙ ap (to_z w16) c.if-n-eq0.true)
+pub returns-then-n-eq0 : goal.returns-then-n-eq0
+returns-then-n-eq0 c =
+    let none = sym (to_z-of_z w16 c.args.n c.ranges.n) ∙ ap (to_z w16) c.if-n-eq0.true in
+    record {
+      written = still (windows c.args.table.now) c.args.win.0 c.args.state.now c.args.n none;
+      frame = still_frame (windows c.args.table.now) c.args.win.0 c.args.state.now c.args.n none;
+      sound = c.requires.state.sound;
+    }
 
-pub returns-then-n-eq0-clause-frame : goal.returns-then-n-eq0-clause-frame
-returns-then-n-eq0-clause-frame c =
-    still_frame (windows c.args.table.now) c.args.win.0 c.args.state.now c.args.n (sym (to_z-of_z w16 c.args.n c.ranges.n) ∙ ap (to_z w16) c.if-n-eq0.true)
-
-pub returns-clause-frame : goal.returns-clause-frame
-returns-clause-frame c =
-    scrolled_lines (windows c.args.table.now) c.args.win.0 c.args.state.now c.args.n c.lines_from.result c.requires.state
-    (λ e. c.if-n-eq0.false (ap (of_z w16) e)) c.lines_from.ensures
+pub returns : goal.returns
+returns c = record {
+  written = search rules;
+  frame = scrolled_lines (windows c.args.table.now) c.args.win.0 c.args.state.now c.args.n c.lines_from.result c.requires.state
+      (λ e. c.if-n-eq0.false (ap (of_z w16) e)) c.lines_from.ensures;
+  sound = search rules;
+}
