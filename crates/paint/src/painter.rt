@@ -7,7 +7,7 @@ ghost use Rattle.cell.specs.declared.limits.TheConstants.{LARGEST_SCREEN};
 ghost use Rattle.cell.specs.Shown.{no_rendition};
 ghost use Rattle.streams.specs.Sinks.{Seen};
 ghost use Rattle.paint.specs.Changes.{DifferOnly};
-ghost use Rattle.paint.specs.Updates.{PainterState, ShownPicture, UpdateEnds, first_painter, known_picture, opening, start_from, wanted_of};
+ghost use Rattle.paint.specs.Updates.{CanShow, PainterState, ShownPicture, UpdateEnds, UpdateMade, first_painter, known_picture, opening, start_from};
 ghost use Rattle.paint.specs.steps.Gathering.{IsGathered};
 ghost use Rattle.paint.specs.steps.Holding.{HoldsUpdate, last_shown};
 
@@ -92,12 +92,8 @@ impl Painter {
         screen: &V,
         sink: &mut W,
     ) -> Result<Sent, WriteFault>
-        requires size { HasSize self.old.lines self.old.columns (V.shown screen.now).picture }
-        requires line { (V.shown screen.now).cursor.0 < self.old.lines }
-        requires column { (V.shown screen.now).cursor.1 < self.old.columns }
-        ensures text { UpdateEnds self.old (V.shown screen.now).clear (W.seen sink.old) (W.seen sink.new) (wanted_of (V.shown screen.now)) result }
-        ensures painter { self.new ≡ record self.old { last = (if is_ok result then Some (wanted_of (V.shown screen.now)) else None) } }
-        ensures same { W.name sink.new ≡ W.name sink.old }
+        requires { CanShow self.old (V.shown screen.now) }
+        ensures { UpdateMade W.seen W.name self.old sink.old (V.shown screen.now) result self.new sink.new }
     {
         let picture = screen.virtual_screen();
         let cursor = screen.wanted_cursor();
@@ -126,14 +122,10 @@ impl Painter {
         changes: &Changes,
         sink: &mut W,
     ) -> Result<Sent, WriteFault>
-        requires size { HasSize self.old.lines self.old.columns (V.shown screen.now).picture }
-        requires line { (V.shown screen.now).cursor.0 < self.old.lines }
-        requires column { (V.shown screen.now).cursor.1 < self.old.columns }
+        requires can { CanShow self.old (V.shown screen.now) }
         requires height { length changes.now ≡ self.old.lines }
         requires changes { MatchOption self.old.last ⊤ (λ shown. DifferOnly changes.now shown.picture (V.shown screen.now).picture) }
-        ensures text { UpdateEnds self.old (V.shown screen.now).clear (W.seen sink.old) (W.seen sink.new) (wanted_of (V.shown screen.now)) result }
-        ensures painter { self.new ≡ record self.old { last = (if is_ok result then Some (wanted_of (V.shown screen.now)) else None) } }
-        ensures same { W.name sink.new ≡ W.name sink.old }
+        ensures { UpdateMade W.seen W.name self.old sink.old (V.shown screen.now) result self.new sink.new }
     {
         if screen.clear_wanted() || self.cursor.is_none() {
             return self.doupdate(screen, sink);
