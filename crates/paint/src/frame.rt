@@ -2,6 +2,7 @@
 
 ghost use Rattle.std.specs.Prelude.{◌≡◌, ◌<◌, Some};
 ghost use Rattle.paint.specs.steps.Holding.{HoldsFrom};
+ghost use Rattle.paint.specs.steps.Strokes.{SameTerminals};
 
 use crate::changes::Frame;
 use crate::passes::{Order, order_of, paint};
@@ -23,8 +24,7 @@ pub fn draw_frame<W: Sink>(
     requires column { to.1 < frame.now.columns }
     ensures holds { HoldsFrom frame.now.lines frame.now.columns (Some (record { picture = frame.now.shown.now; cursor = from }))
         (record { picture = frame.now.wanted.now; cursor = to }) (W.seen sink.old) (W.seen sink.new) pen.new.outbox }
-    ensures columns { pen.new.columns ≡ pen.old.columns }
-    ensures same { W.name sink.new ≡ W.name sink.old }
+    ensures same { SameTerminals (W.name sink.old) (W.name sink.new) pen.old pen.new }
 {
     let walk = Order::new();
     let order = order_of(frame);
@@ -58,8 +58,7 @@ fn draw<W: Sink>(
     requires column { to.1 < frame.now.columns }
     ensures holds { HoldsFrom frame.now.lines frame.now.columns (Some (record { picture = frame.now.shown.now; cursor = from }))
         (record { picture = frame.now.wanted.now; cursor = to }) (W.seen sink.old) (W.seen sink.new) pen.new.outbox }
-    ensures columns { pen.new.columns ≡ pen.old.columns }
-    ensures same { W.name sink.new ≡ W.name sink.old }
+    ensures same { SameTerminals (W.name sink.old) (W.name sink.new) pen.old pen.new }
 {
     pen.begin(from);
     paint(pen, sink, frame, order);

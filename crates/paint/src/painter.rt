@@ -10,6 +10,7 @@ ghost use Rattle.paint.specs.Changes.{DifferOnly};
 ghost use Rattle.paint.specs.Updates.{CanShow, PainterState, ShownPicture, UpdateEnds, UpdateMade, first_painter, known_picture, opening, start_from};
 ghost use Rattle.paint.specs.steps.Gathering.{IsGathered};
 ghost use Rattle.paint.specs.steps.Holding.{HoldsUpdate, last_shown};
+ghost use Rattle.paint.specs.steps.Strokes.{SameTerminals};
 
 use crate::changes::{Changes, Frame};
 use crate::frame::draw_frame;
@@ -174,10 +175,9 @@ fn show<W: Sink>(
     ensures text { (painter : PainterState) (clear : Bool) → painter.lines ≡ size.0 → painter.columns ≡ size.1
         → last_shown shown.old known ≡ known_picture painter clear
         → UpdateEnds painter clear (W.seen sink.old) (W.seen sink.new) (record { picture = picture.now; cursor = cursor }) result }
-    ensures columns { pen.new.columns ≡ pen.old.columns }
     ensures shown { shown.new ≡ (start_from (first_painter size.0 size.1) (last_shown shown.old known)).picture }
     ensures size { HasSize size.0 size.1 shown.new }
-    ensures same { W.name sink.new ≡ W.name sink.old }
+    ensures same { SameTerminals (W.name sink.old) (W.name sink.new) pen.old pen.new }
 {
     let (lines, columns) = size;
     match known {
@@ -239,8 +239,7 @@ fn open<W: Sink>(pen: &mut Pen, sink: &mut W, shown: &mut Grid<Shown>)
     ensures picture { (lines columns : ℕ) → HasSize lines columns shown.old → shown.new ≡ blank_picture lines columns }
     ensures size { (lines columns : ℕ) → HasSize lines columns shown.old → HasSize lines columns shown.new }
     ensures rendition { pen.new.rendition ≡ no_rendition }
-    ensures columns { pen.new.columns ≡ pen.old.columns }
-    ensures same { W.name sink.new ≡ W.name sink.old }
+    ensures same { SameTerminals (W.name sink.old) (W.name sink.new) pen.old pen.new }
 {
     shown.clear();
     pen.begin((0, 0));
@@ -252,8 +251,7 @@ fn send_text<W: Sink>(pen: &mut Pen, sink: &mut W) -> Result<Sent, WriteFault>
     ensures text { (painter : PainterState) (clear : Bool) (wanted : ShownPicture) (start : Seen)
         → HoldsUpdate painter clear wanted start (W.seen sink.old) pen.old.outbox
         → UpdateEnds painter clear start (W.seen sink.new) wanted result }
-    ensures columns { pen.new.columns ≡ pen.old.columns }
-    ensures same { W.name sink.new ≡ W.name sink.old }
+    ensures same { SameTerminals (W.name sink.old) (W.name sink.new) pen.old pen.new }
 {
     let sent = pen.finish(sink)?;
     match sink.flush() {

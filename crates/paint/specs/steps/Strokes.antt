@@ -60,6 +60,11 @@ first_pen columns = record { outbox = empty_outbox; columns = columns; cursor = 
 abbrev pub under : Pen → Picture → Terminal
 under pen picture = record { picture = picture; cursor = pen.cursor; rendition = pen.rendition }
 
+-- What a step of drawing keeps: which sink it is, by its name, and how many columns the pen's terminals have.
+pub record SameTerminals (before after : ℕ) (old new : Pen) : Type 0 where
+  pub sink : after ≡ before
+  pub columns : new.columns ≡ old.columns
+
 -- The piece was put after what was gathered, and leads from the one picture to the other.
 pub record Draws (piece : List ℕ) (before after : Seen) (old new : Pen) (picture drawn : Picture) : Type 0 where
   pub gathers : Gathers before after old.outbox new.outbox piece
