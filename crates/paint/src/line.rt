@@ -3,10 +3,10 @@
 ghost use Rattle.std.specs.Prelude.{◌≡◌, ◌+◌, ◌<◌, ◌≤◌, ⊤, MatchOption, None, Some, false, length, slice_index_or, take};
 ghost use Rattle.cell.specs.Differences.{same_shown};
 ghost use Rattle.cell.specs.Pictures.{Picture, line_of};
-ghost use Rattle.cell.specs.Shown.{no_rendition, shown_blank};
+ghost use Rattle.cell.specs.Shown.{shown_blank};
 ghost use Rattle.cell.specs.declared.limits.TheConstants.{LARGEST_SCREEN};
 ghost use Rattle.streams.specs.Sinks.{Seen};
-ghost use Rattle.paint.specs.steps.Strokes.{SameTerminals, Strokes, line_bytes, reach_bytes, run_bytes, with_cells};
+ghost use Rattle.paint.specs.steps.Strokes.{IsPlainAt, SameTerminals, Strokes, line_bytes, reach_bytes, run_bytes, with_cells};
 ghost use Rattle.paint.specs.steps.Walks.{DifferWithin, IsLinePainted, IsReadyToErase, IsRun, StrokesLine, cells_between};
 
 use crate::gap::approach;
@@ -94,8 +94,7 @@ fn come_to<W: Sink>(pen: &mut Pen, sink: &mut W, row: &Row<'_>, gap: usize, colu
         → take column (line_of picture row.now.line) ≡ take column row.now.wanted.now
         → Strokes (reach_bytes pen.old.cursor pen.old.rendition row.now.line row.now.wanted.now gap column) (W.seen sink.old) (W.seen sink.new)
         pen.old pen.new picture picture }
-    ensures rendition { pen.new.rendition ≡ no_rendition }
-    ensures cursor { pen.new.cursor ≡ Some (row.now.line, column) }
+    ensures plain { IsPlainAt pen.new (row.now.line, column) }
     ensures same { SameTerminals (W.name sink.old) (W.name sink.new) pen.old pen.new }
 {
     let start = gap.min(column);

@@ -4,13 +4,12 @@ ghost use Rattle.std.specs.Prelude.{◌≡◌, ℕ, ◌<◌, ◌≤◌, ◌↔�
 ghost use Rattle.cell.specs.Pictures.{HasSize, blank_picture, origin};
 ghost use Rattle.cell.specs.Limits.{is_no_size};
 ghost use Rattle.cell.specs.declared.limits.TheConstants.{LARGEST_SCREEN};
-ghost use Rattle.cell.specs.Shown.{no_rendition};
 ghost use Rattle.streams.specs.Sinks.{Seen};
 ghost use Rattle.paint.specs.Changes.{DifferOnly};
 ghost use Rattle.paint.specs.Updates.{CanShow, PainterState, ShownPicture, UpdateEnds, UpdateMade, first_painter, known_picture, opening, start_from};
 ghost use Rattle.paint.specs.steps.Gathering.{IsGathered};
-ghost use Rattle.paint.specs.steps.Holding.{HoldsUpdate, last_shown};
-ghost use Rattle.paint.specs.steps.Strokes.{SameTerminals};
+ghost use Rattle.paint.specs.steps.Holding.{CanDraw, HoldsUpdate, last_shown};
+ghost use Rattle.paint.specs.steps.Strokes.{IsPlainAt, SameTerminals};
 
 use crate::changes::{Changes, Frame};
 use crate::frame::draw_frame;
@@ -163,13 +162,11 @@ fn show<W: Sink>(
     cursor: (u16, u16),
     changes: &Changes,
 ) -> Result<Sent, WriteFault>
-    requires width { pen.old.columns ≡ size.1 }
+    requires can { CanDraw pen.old size.0 size.1 cursor }
     requires lines { size.0 ≤ LARGEST_SCREEN }
     requires columns { size.1 ≤ LARGEST_SCREEN }
     requires shown { HasSize size.0 size.1 shown.old }
     requires wanted { HasSize size.0 size.1 picture.now }
-    requires line { cursor.0 < size.0 }
-    requires column { cursor.1 < size.1 }
     requires height { length changes.now ≡ size.0 }
     requires changes { DifferOnly changes.now (start_from (first_painter size.0 size.1) (last_shown shown.old known)).picture picture.now }
     ensures text { (painter : PainterState) (clear : Bool) → painter.lines ≡ size.0 → painter.columns ≡ size.1
@@ -235,10 +232,9 @@ fn known_cursor(cursor: Option<(u16, u16)>, clear: bool) -> Option<(u16, u16)>
 /// Begins a text that clears the terminal, which shows a blank picture then.
 fn open<W: Sink>(pen: &mut Pen, sink: &mut W, shown: &mut Grid<Shown>)
     ensures gathered { IsGathered (W.seen sink.old) (W.seen sink.new) pen.new.outbox opening }
-    ensures cursor { pen.new.cursor ≡ Some origin }
+    ensures plain { IsPlainAt pen.new origin }
     ensures picture { (lines columns : ℕ) → HasSize lines columns shown.old → shown.new ≡ blank_picture lines columns }
     ensures size { (lines columns : ℕ) → HasSize lines columns shown.old → HasSize lines columns shown.new }
-    ensures rendition { pen.new.rendition ≡ no_rendition }
     ensures same { SameTerminals (W.name sink.old) (W.name sink.new) pen.old pen.new }
 {
     shown.clear();

@@ -12,7 +12,7 @@ ghost use Rattle.streams.specs.Sending.{Sends};
 ghost use Rattle.streams.specs.Sinks.{Seen};
 ghost use Rattle.paint.specs.Updates.{opening};
 ghost use Rattle.paint.specs.steps.Gathering.{Gathers, IsGathered, gathered_bytes, holds_all};
-ghost use Rattle.paint.specs.steps.Strokes.{cursor_after, change, characters, first_pen, is_at, move_from, with_cells, within, ArePrinted, Draws, SameTerminals};
+ghost use Rattle.paint.specs.steps.Strokes.{cursor_after, change, characters, first_pen, is_at, move_from, with_cells, within, ArePrinted, Draws, IsPlainAt, SameTerminals};
 
 use crate::outbox::Outbox;
 use cell::{LARGEST_SCREEN, Rendition, Shown};
@@ -47,8 +47,7 @@ impl Pen {
     pub fn begin(&mut self, cursor: (u16, u16))
         ensures nothing { (seen : Seen) → IsGathered seen seen self.new.outbox [] }
         ensures columns { self.new.columns ≡ self.old.columns }
-        ensures cursor { self.new.cursor ≡ Some cursor }
-        ensures rendition { self.new.rendition ≡ no_rendition }
+        ensures plain { IsPlainAt self.new cursor }
     {
         self.outbox.begin();
         self.cursor = Some(cursor);
@@ -84,8 +83,7 @@ impl Pen {
     /// Clears the terminal, whatever it shows: no rendition, the page erased, the cursor at the origin.
     pub fn open<W: Sink>(&mut self, sink: &mut W)
         ensures gathers { Gathers (W.seen sink.old) (W.seen sink.new) self.old.outbox self.new.outbox opening }
-        ensures cursor { self.new.cursor ≡ Some origin }
-        ensures rendition { self.new.rendition ≡ no_rendition }
+        ensures plain { IsPlainAt self.new origin }
         ensures same { SameTerminals (W.name sink.old) (W.name sink.new) self.old self.new }
     {
         self.put(sink, Token::Sgr(Rendition::NONE));
@@ -245,8 +243,7 @@ impl Pen {
 
     /// Erases from the cursor, which is at this place, to the end of the line.
     pub fn erase_line<W: Sink>(&mut self, sink: &mut W, line: u16, column: u16)
-        requires cursor { self.old.cursor ≡ Some (line, column) }
-        requires rendition { self.old.rendition ≡ no_rendition }
+        requires { IsPlainAt self.old (line, column) }
         ensures draws { (picture : Picture) → Draws (spelling (El ToEnd)) (W.seen sink.old) (W.seen sink.new) self.old self.new picture
             (erased_at ToEnd (line, column) picture) }
         ensures rest { self.new ≡ record self.old { outbox = self.new.outbox } }
@@ -257,8 +254,7 @@ impl Pen {
 
     /// Erases from the cursor, which is at this place, to the end of the page.
     pub fn erase_page<W: Sink>(&mut self, sink: &mut W, line: u16, column: u16)
-        requires cursor { self.old.cursor ≡ Some (line, column) }
-        requires rendition { self.old.rendition ≡ no_rendition }
+        requires { IsPlainAt self.old (line, column) }
         ensures draws { (picture : Picture) → Draws (spelling (Ed ToEnd)) (W.seen sink.old) (W.seen sink.new) self.old self.new picture
             (erased_page ToEnd (line, column) picture) }
         ensures rest { self.new ≡ record self.old { outbox = self.new.outbox } }
@@ -274,8 +270,7 @@ impl Pen {
         ensures draws { (picture : Picture) → cursor.1 < length (line_of picture cursor.0)
             → Draws (change self.old.rendition no_rendition ++ move_from self.old.cursor cursor) (W.seen sink.old) (W.seen sink.new)
             self.old self.new picture picture }
-        ensures rendition { self.new.rendition ≡ no_rendition }
-        ensures cursor { self.new.cursor ≡ Some cursor }
+        ensures plain { IsPlainAt self.new cursor }
         ensures same { SameTerminals (W.name sink.old) (W.name sink.new) self.old self.new }
     {
         self.select(sink, Rendition::NONE);

@@ -60,6 +60,11 @@ first_pen columns = record { outbox = empty_outbox; columns = columns; cursor = 
 abbrev pub under : Pen → Picture → Terminal
 under pen picture = record { picture = picture; cursor = pen.cursor; rendition = pen.rendition }
 
+-- it is at a place, and prints with no rendition
+pub record IsPlainAt (pen : Pen) (place : Place) : Type 0 where
+  pub cursor : pen.cursor ≡ Some place
+  pub rendition : pen.rendition ≡ no_rendition
+
 -- What a step of drawing keeps: which sink it is, by its name, and how many columns the pen's terminals have.
 pub record SameTerminals (before after : ℕ) (old new : Pen) : Type 0 where
   pub sink : after ≡ before
