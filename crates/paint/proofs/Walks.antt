@@ -1,5 +1,5 @@
 -- The walk over the cells of a line, and over the lines of a picture.
-use Rattle.std.proofs.Common.{◌≡◌, ℕ, zero, suc, ◌+◌, ◌<◌, ◌≤◌, true, false, List, [], ◌∷◌, ◌++◌, length, get_or, set, take, drop, Some, inl, inr, ◌-◌, refl, sym, ap, ◌∙◌, subst, arith}
+use Rattle.std.proofs.Common.{◌≡◌, ℕ, zero, suc, ◌+◌, ◌<◌, ◌≤◌, true, false, List, [], ◌∷◌, ◌++◌, length, get_or, set, take, drop, inl, inr, ◌-◌, refl, sym, ap, ◌∙◌, subst, arith}
 use Rattle.std.proofs.lemmas.Bool.{cases_Bool}
 use Rattle.std.proofs.lemmas.List.{drop_all, drop-drop, drop_more, get_or-set_same, length-drop, length-take-le, set-set, set-get_or, take-append-drop, take-take}
 use Rattle.cell.specs.Shown.{Shown, no_rendition, shown_blank}

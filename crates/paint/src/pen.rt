@@ -12,7 +12,7 @@ ghost use Rattle.streams.specs.Sending.{Sends};
 ghost use Rattle.streams.specs.Sinks.{Seen};
 ghost use Rattle.paint.specs.Updates.{opening};
 ghost use Rattle.paint.specs.steps.Gathering.{Gathers, IsGathered, gathered_bytes, holds_all};
-ghost use Rattle.paint.specs.steps.Strokes.{cursor_after, change, characters, first_pen, is_at, move_from, with_cells, within, ArePrinted, Draws, IsPlainAt, SameTerminals};
+ghost use Rattle.paint.specs.steps.Strokes.{cursor_after, change, characters, first_pen, is_at, move_from, with_cells, within, ArePrinted, Draws, Erases, IsPlainAt, SameTerminals};
 
 use crate::outbox::Outbox;
 use cell::{LARGEST_SCREEN, Rendition, Shown};
@@ -244,10 +244,7 @@ impl Pen {
     /// Erases from the cursor, which is at this place, to the end of the line.
     pub fn erase_line<W: Sink>(&mut self, sink: &mut W, line: u16, column: u16)
         requires { IsPlainAt self.old (line, column) }
-        ensures draws { (picture : Picture) → Draws (spelling (El ToEnd)) (W.seen sink.old) (W.seen sink.new) self.old self.new picture
-            (erased_at ToEnd (line, column) picture) }
-        ensures rest { self.new ≡ record self.old { outbox = self.new.outbox } }
-        ensures same { W.name sink.new ≡ W.name sink.old }
+        ensures { Erases W.seen W.name (El ToEnd) (erased_at ToEnd (line, column)) self.old sink.old self.new sink.new }
     {
         self.put(sink, Token::El(Erase::ToEnd));
     }
@@ -255,10 +252,7 @@ impl Pen {
     /// Erases from the cursor, which is at this place, to the end of the page.
     pub fn erase_page<W: Sink>(&mut self, sink: &mut W, line: u16, column: u16)
         requires { IsPlainAt self.old (line, column) }
-        ensures draws { (picture : Picture) → Draws (spelling (Ed ToEnd)) (W.seen sink.old) (W.seen sink.new) self.old self.new picture
-            (erased_page ToEnd (line, column) picture) }
-        ensures rest { self.new ≡ record self.old { outbox = self.new.outbox } }
-        ensures same { W.name sink.new ≡ W.name sink.old }
+        ensures { Erases W.seen W.name (Ed ToEnd) (erased_page ToEnd (line, column)) self.old sink.old self.new sink.new }
     {
         self.put(sink, Token::Ed(Erase::ToEnd));
     }

@@ -8,6 +8,7 @@ use Rattle.ecma.specs.Difference.{line_colour_difference, colour_difference}
 use Rattle.ecma.specs.Spelling.{spelling}
 use Rattle.ecma.specs.Streams.{Leads}
 use Rattle.ecma.specs.Terminals.{Terminal}
+use Rattle.ecma.specs.declared.token.Token.{Token}
 use Rattle.ecma.specs.declared.token.Token.TheVariants.{Cup, Sgr}
 use Rattle.streams.specs.Sinks.{Seen}
 use Rattle.paint.specs.declared.pen.Pen.{Pen}
@@ -80,6 +81,13 @@ pub record Strokes (most : ℕ) (before after : Seen) (old new : Pen) (picture d
   pub piece : List ℕ
   pub draws : Draws piece before after old new picture drawn
   pub short : length piece ≤ most
+
+module _ {W : Type 0} (seen : W → Seen) (name : W → ℕ) where
+  -- An erasure was put after what was gathered, and changes every picture so. Nothing else of the pen changed, and the sink is the same.
+  pub record Erases (erasure : Token) (erased : Picture → Picture) (old : Pen) (before : W) (new : Pen) (after : W) : Type 0 where
+    pub draws : (picture : Picture) → Draws (spelling erasure) (seen before) (seen after) old new picture (erased picture)
+    pub rest : new ≡ record old { outbox = new.outbox }
+    pub same : name after ≡ name before
 
 -- ---- how many bytes they have
 
