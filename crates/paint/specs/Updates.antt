@@ -124,7 +124,8 @@ pub record CanShow (painter : PainterState) (virtual : VirtualScreen) : Type 0 w
 module _ {W : Type 0} (seen : W → Seen) (name : W → ℕ) where
   -- A doupdate was made, and ended so: all that is known of it. Where it succeeded, the painter knows what it showed, and else nothing. The sink
   -- is the same.
-  pub record UpdateMade (old : PainterState) (before : W) (virtual : VirtualScreen) (end : Result Sent WriteFault) (new : PainterState) (after : W) : Type 0 where
+  pub record UpdateMade (old : PainterState) (before : W) (virtual : VirtualScreen) (end : Result Sent WriteFault)
+      (new : PainterState) (after : W) : Type 0 where
     pub text : UpdateEnds old virtual.clear (seen before) (seen after) (wanted_of virtual) end
     pub painter : new ≡ record old { last = (if is_ok end then Some (wanted_of virtual) else None) }
     pub same : name after ≡ name before

@@ -1,6 +1,6 @@
 //! The walk over the cells of a line: a pen draws where the wanted one differs from the one that is shown.
 
-ghost use Rattle.std.specs.Prelude.{◌≡◌, ◌+◌, ◌<◌, ◌≤◌, ⊤, MatchOption, None, Some, false, length, slice_index_or, take};
+ghost use Rattle.std.specs.Prelude.{◌≡◌, ◌+◌, ◌<◌, ◌≤◌, ⊤, MatchOption, None, false, length, slice_index_or, take};
 ghost use Rattle.cell.specs.Differences.{same_shown};
 ghost use Rattle.cell.specs.Pictures.{Picture, line_of};
 ghost use Rattle.cell.specs.Shown.{shown_blank};

@@ -1,6 +1,6 @@
 //! Drawing in passes: of a picture first the cells of one rendition, then those of another, where that takes fewer bytes.
 
-ghost use Rattle.std.specs.Prelude.{◌≡◌, ◌+◌, ◌<◌, ◌≤◌, ◌==◌, ◌++◌, ◌∷◌, [], List, if◌then◌else◌, length, nat_lt};
+ghost use Rattle.std.specs.Prelude.{◌≡◌, ◌+◌, ◌≤◌, ◌==◌, ◌++◌, ◌∷◌, [], List, if◌then◌else◌, length, nat_lt};
 ghost use Rattle.cell.specs.Shown.{Rendition as AnyRendition};
 ghost use Rattle.paint.specs.steps.Passes.{HasNoted, changed_renditions, line_after, line_renditions, order_for, pass_of, picture_after, saturating_usize, selections, with_pass};
 ghost use Rattle.paint.specs.steps.Strokes.{SameTerminals, Strokes, all_have, line_bytes, picture_bytes};
