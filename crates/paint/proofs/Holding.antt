@@ -17,7 +17,7 @@ use Rattle.paint.specs.declared.pen.Pen.{Pen}
 use Rattle.paint.specs.Updates.{PainterState, ShownPicture, IsUpdateText, MayRead, known_picture, move, opening, opening_from, start_from, start_of_update}
 use Rattle.paint.specs.steps.Gathering.{IsGathered}
 use Rattle.paint.specs.steps.Holding.{HoldsUpdate}
-use Rattle.paint.specs.steps.Strokes.{change, move_from, under, Draws, Strokes, picture_bytes}
+use Rattle.paint.specs.steps.Strokes.{change, move_from, under, Draws, IsPlainAt, Strokes, picture_bytes}
 use Rattle.paint.proofs.Shows.{opening-leads}
 use Rattle.paint.proofs.Strokes.{length-ended, length-move}
 use Rattle.cell.specs.declared.limits.TheConstants.{LARGEST_SCREEN}
@@ -73,17 +73,17 @@ shows-from painter (Some shown) wanted rest lines columns shows t is = grind ari
 module _ (painter : PainterState) (clear : Bool) (wanted : ShownPicture) {a b c : Seen} {first drawn last : Pen} where
   -- a pen at the start drew the wanted picture, and went to its end
   pub is_update : 0 < painter.lines → 0 < painter.columns → wanted.cursor.0 < LARGEST_SCREEN → wanted.cursor.1 < LARGEST_SCREEN
-      → first.cursor ≡ Some (start_of_update painter clear).cursor → first.rendition ≡ no_rendition
+      → IsPlainAt first (start_of_update painter clear).cursor
       → (strokes : Strokes (picture_bytes (start_of_update painter clear).picture wanted.picture) a b first drawn (start_of_update painter clear).picture wanted.picture)
       → Draws (change drawn.rendition no_rendition ++ move_from drawn.cursor wanted.cursor) b c drawn last wanted.picture wanted.picture
-      → last.cursor ≡ Some wanted.cursor → last.rendition ≡ no_rendition
+      → IsPlainAt last wanted.cursor
       → IsUpdateText painter clear wanted (opening_from (known_picture painter clear) ++ (strokes.piece ++ (change drawn.rendition no_rendition ++ move_from drawn.cursor wanted.cursor)))
-  is_update lines columns few_lines few_columns cursor rendition strokes ending there none =
+  is_update lines columns few_lines few_columns begin strokes ending end =
       let ended = change drawn.rendition no_rendition ++ move_from drawn.cursor wanted.cursor in
       let rest = strokes.piece ++ ended in
       let begun : under first (start_of_update painter clear).picture ≡ showing (start_of_update painter clear).picture (start_of_update painter clear).cursor = λ i.
-      record { picture = (start_of_update painter clear).picture; cursor = cursor i; rendition = rendition i } in
-      let done : under last wanted.picture ≡ showing wanted.picture wanted.cursor = λ i. record { picture = wanted.picture; cursor = there i; rendition = none i } in
+      record { picture = (start_of_update painter clear).picture; cursor = begin.cursor i; rendition = begin.rendition i } in
+      let done : under last wanted.picture ≡ showing wanted.picture wanted.cursor = λ i. record { picture = wanted.picture; cursor = end.cursor i; rendition = end.rendition i } in
       let leads : Leads rest (showing (start_of_update painter clear).picture (start_of_update painter clear).cursor) (showing wanted.picture wanted.cursor) =
       subst (λ t. Leads rest t (showing wanted.picture wanted.cursor)) begun
       (subst (λ t. Leads rest (under first (start_of_update painter clear).picture) t) done
@@ -105,21 +105,21 @@ module _ (painter : PainterState) (clear : Bool) (wanted : ShownPicture) {a b c 
             let nothing : strokes.piece ≡ [] = nil_from_length strokes.piece (omega (arith, strokes.short, coloured (start_of_update painter clear).picture wanted.picture)) in
             let stays = Leads-empty (under first (start_of_update painter clear).picture) (under drawn wanted.picture)
             (subst (λ piece. Leads piece (under first (start_of_update painter clear).picture) (under drawn wanted.picture)) nothing strokes.draws.leads) in
-            let still : drawn.cursor ≡ Some (start_of_update painter clear).cursor = sym (ap (λ (t : Terminal). t.cursor) stays) ∙ cursor in
-            let plain : drawn.rendition ≡ no_rendition = sym (ap (λ (t : Terminal). t.rendition) stays) ∙ rendition in
+            let still : drawn.cursor ≡ Some (start_of_update painter clear).cursor = sym (ap (λ (t : Terminal). t.cursor) stays) ∙ begin.cursor in
+            let plain : drawn.rendition ≡ no_rendition = sym (ap (λ (t : Terminal). t.rendition) stays) ∙ begin.rendition in
             (λ i. nothing i ++ (change (plain i) no_rendition ++ move_from (still i) wanted.cursor)) ∙ moved (start_of_update painter clear).cursor wanted.cursor;
       }
 
   pub holds : painter.lines ≤ LARGEST_SCREEN → painter.columns ≤ LARGEST_SCREEN → 0 < painter.lines → 0 < painter.columns → wanted.cursor.0 < LARGEST_SCREEN → wanted.cursor.1 < LARGEST_SCREEN
       → HasSize painter.lines painter.columns (start_of_update painter clear).picture → {seen : Seen} → IsGathered seen a first.outbox (opening_from (known_picture painter clear))
-      → first.cursor ≡ Some (start_of_update painter clear).cursor → first.rendition ≡ no_rendition
+      → IsPlainAt first (start_of_update painter clear).cursor
       → Strokes (picture_bytes (start_of_update painter clear).picture wanted.picture) a b first drawn (start_of_update painter clear).picture wanted.picture
       → Draws (change drawn.rendition no_rendition ++ move_from drawn.cursor wanted.cursor) b c drawn last wanted.picture wanted.picture
-      → last.cursor ≡ Some wanted.cursor → last.rendition ≡ no_rendition
+      → IsPlainAt last wanted.cursor
       → HoldsUpdate painter clear wanted seen c last.outbox
-  holds most_lines most_columns lines columns few_lines few_columns size {seen} gathered cursor rendition strokes ending there none =
+  holds most_lines most_columns lines columns few_lines few_columns size {seen} gathered begin strokes ending end =
       let ended = change drawn.rendition no_rendition ++ move_from drawn.cursor wanted.cursor in
-      let is = is_update lines columns few_lines few_columns cursor rendition strokes ending there none in
+      let is = is_update lines columns few_lines few_columns begin strokes ending end in
       record {
         text = opening_from (known_picture painter clear) ++ (strokes.piece ++ ended);
         gathered = subst (IsGathered seen c last.outbox) (append_assoc (opening_from (known_picture painter clear)) strokes.piece ended)
@@ -139,16 +139,16 @@ module _ (painter : PainterState) (clear : Bool) (wanted : ShownPicture) {a b c 
   pub holds-from : painter.lines ≤ LARGEST_SCREEN → painter.columns ≤ LARGEST_SCREEN → HasSize painter.lines painter.columns wanted.picture → wanted.cursor.0 < painter.lines
       → wanted.cursor.1 < painter.columns
       → {shown : Picture} {from : Option ShownPicture} → from ≡ known_picture painter clear → shown ≡ (start_from painter from).picture → HasSize painter.lines painter.columns shown
-      → {seen : Seen} → IsGathered seen a first.outbox (opening_from from) → first.cursor ≡ Some (start_from painter from).cursor → first.rendition ≡ no_rendition
+      → {seen : Seen} → IsGathered seen a first.outbox (opening_from from) → IsPlainAt first (start_from painter from).cursor
       → Strokes (picture_bytes shown wanted.picture) a b first drawn shown wanted.picture
       → ((picture : Picture) → wanted.cursor.1 < length (line_of picture wanted.cursor.0) → Draws (change drawn.rendition no_rendition ++ move_from drawn.cursor wanted.cursor) b c drawn last
       picture picture)
-      → last.cursor ≡ Some wanted.cursor → last.rendition ≡ no_rendition
+      → IsPlainAt last wanted.cursor
       → HoldsUpdate painter clear wanted seen c last.outbox
-  holds-from most_lines most_columns wanted_size line column {shown} {from} is_known is_shown size {seen} gathered cursor rendition strokes ending there none =
+  holds-from most_lines most_columns wanted_size line column {shown} {from} is_known is_shown size {seen} gathered begin strokes ending end =
       let start : shown ≡ (start_of_update painter clear).picture = is_shown ∙ ap (λ last. (start_from painter last).picture) is_known in
       holds most_lines most_columns (omega arith) (omega arith) (omega arith) (omega arith) (subst (HasSize painter.lines painter.columns) start size)
       (subst (λ last. IsGathered seen a first.outbox (opening_from last)) is_known gathered)
-      (cursor ∙ ap (λ last. Some (start_from painter last).cursor) is_known) rendition
+      (subst (λ last. IsPlainAt first (start_from painter last).cursor) is_known begin)
       (subst (λ picture. Strokes (picture_bytes picture wanted.picture) a b first drawn picture wanted.picture) start strokes)
-      (ending wanted.picture (omega (arith, length-line wanted.cursor.0 wanted_size line))) there none
+      (ending wanted.picture (omega (arith, length-line wanted.cursor.0 wanted_size line))) end

@@ -23,7 +23,7 @@ use Rattle.paint.specs.declared.outbox.Outbox.{Outbox}
 use Rattle.paint.specs.declared.pen.Pen.{Pen}
 use Rattle.paint.specs.steps.Gathering.{Gathers}
 use Rattle.paint.specs.steps.Strokes.{cursor_after, all_have, change, is_at, is_printed_again, move_from, under}
-use Rattle.paint.specs.steps.Strokes.{ArePrinted, Draws, Strokes, again_bytes, approach_bytes, most_approach, moved_bytes, reach_bytes}
+use Rattle.paint.specs.steps.Strokes.{ArePrinted, Draws, IsPlainAt, Strokes, again_bytes, approach_bytes, most_approach, moved_bytes, reach_bytes}
 
 -- ---- one after another
 
@@ -174,15 +174,15 @@ printed-more {before} {mid} {chosen} {now} {old} {pen} {selected} {next} {line} 
 
 -- ---- erasing
 
-pub erases : {before after : Seen} (old new : Pen) (token : Token) (place : Place) (picture drawn : Picture) → old.cursor ≡ Some place → old.rendition ≡ no_rendition → IsToken token
+pub erases : {before after : Seen} (old new : Pen) (token : Token) (place : Place) (picture drawn : Picture) → IsPlainAt old place → IsToken token
     → token_effect token (record { picture = picture; cursor = Some place; rendition = no_rendition }) ≡ Some (record { picture = drawn; cursor = Some place; rendition = no_rendition })
     → Gathers before after old.outbox new.outbox (spelling token) → new ≡ record old { outbox = new.outbox } → Draws (spelling token) before after old new picture drawn
-erases old new token place picture drawn cursor plain is effect gathers rest =
+erases old new token place picture drawn at is effect gathers rest =
     Draws-token token picture drawn is gathers
-    (rw (cursor, plain) (effect ∙ (λ i. Some (record {
+    (rw (at.cursor, at.rendition) (effect ∙ (λ i. Some (record {
       picture = drawn;
-      cursor = (sym cursor ∙ sym (ap (λ (p : Pen). p.cursor) rest)) i;
-      rendition = (sym plain ∙ sym (ap (λ (p : Pen). p.rendition) rest)) i;
+      cursor = (sym at.cursor ∙ sym (ap (λ (p : Pen). p.cursor) rest)) i;
+      rendition = (sym at.rendition ∙ sym (ap (λ (p : Pen). p.rendition) rest)) i;
     }))))
 
 -- ---- the end: a move after what left the cursor where it was

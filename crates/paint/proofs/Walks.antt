@@ -1,5 +1,5 @@
 -- The walk over the cells of a line, and over the lines of a picture.
-use Rattle.std.proofs.Common.{◌≡◌, ℕ, zero, suc, ◌+◌, ◌<◌, ◌≤◌, true, false, List, [], ◌∷◌, ◌++◌, length, get_or, set, take, drop, Some, inl, inr, ◌-◌, refl, sym, ap, ◌∙◌, subst, arith}
+use Rattle.std.proofs.Common.{◌≡◌, ℕ, zero, suc, ◌+◌, ◌<◌, ◌≤◌, true, false, List, [], ◌∷◌, ◌++◌, length, get_or, set, take, drop, inl, inr, ◌-◌, refl, sym, ap, ◌∙◌, subst, arith}
 use Rattle.std.proofs.lemmas.Bool.{cases_Bool}
 use Rattle.std.proofs.lemmas.List.{drop_all, drop-drop, drop_more, get_or-set_same, length-drop, length-take-le, set-set, set-get_or, take-append-drop, take-take}
 use Rattle.cell.specs.Shown.{Shown, no_rendition, shown_blank}
@@ -13,7 +13,7 @@ use Rattle.ecma.specs.Terminals.{blank_line, erased_at, erased_line}
 use Rattle.ecma.specs.declared.token.Erase.TheVariants.{ToEnd}
 use Rattle.streams.specs.Sinks.{Seen}
 use Rattle.paint.specs.declared.pen.Pen.{Pen}
-use Rattle.paint.specs.steps.Strokes.{change, Draws, Strokes, cell_bytes, line_bytes, picture_bytes}
+use Rattle.paint.specs.steps.Strokes.{change, Draws, IsPlainAt, Strokes, cell_bytes, line_bytes, picture_bytes}
 use Rattle.paint.specs.steps.Walks.{cells_between, with_prefix, AreBlank, IsLinePainted, IsPicturePainted, IsReadyToErase}
 use Rattle.paint.proofs.Prefixes.{with_prefix-at, with_prefix-back, with_prefix-prefix, with_prefix-more, with_prefix-same, length-with_prefix, take-with_prefix}
 use Rattle.paint.proofs.Strokes.{Strokes-more, Strokes-nothing, Strokes-then, length-ended}
@@ -100,8 +100,8 @@ erased-line e x shown wanted same before few blank =
 pub line-ready : {before mid now : Seen} {old pen next : Pen} {line from x n : ℕ} {shown wanted : List Shown} → length shown ≡ length wanted → length shown ≡ old.columns
     → IsLinePainted before mid old pen line x shown wanted → from ≤ x → AreBlank (drop from wanted) → DiffersAt shown wanted x
     → ((picture : Picture) → length (line_of picture line) ≡ pen.columns → take from (line_of picture line) ≡ take from wanted → Strokes n mid now pen next picture picture) → n ≤ 23
-    → next.cursor ≡ Some (line, from) → next.rendition ≡ no_rendition → next.columns ≡ pen.columns → IsReadyToErase (line_bytes shown wanted) before now old next line from shown wanted
-line-ready {line} {from} {x} {n} {shown} {wanted} same wide h ordered blank changed strokes few cursor rendition columns = record {
+    → IsPlainAt next (line, from) → next.columns ≡ pen.columns → IsReadyToErase (line_bytes shown wanted) before now old next line from shown wanted
+line-ready {line} {from} {x} {n} {shown} {wanted} same wide h ordered blank changed strokes few plain columns = record {
   blank = blank;
   reached = x;
   beyond = ordered;
@@ -115,8 +115,7 @@ line-ready {line} {from} {x} {n} {shown} {wanted} same wide h ordered blank chan
       let prefix : take from row ≡ take from wanted =
       sym (take-take from x row ordered) ∙ ap (take from) (take-with_prefix x wanted shown (omega (arith, changed.inside))) ∙ take-take from x wanted ordered in
       Strokes-then (h.strokes picture high at) (strokes (set picture line row) long (ap (take from) here ∙ prefix));
-  cursor = cursor;
-  rendition = rendition;
+  plain = plain;
   columns = columns ∙ h.columns;
 }
 
@@ -124,9 +123,9 @@ line-ready {line} {from} {x} {n} {shown} {wanted} same wide h ordered blank chan
 pub line-at_cursor : {before mid now : Seen} {old pen next : Pen} {line from : ℕ} {shown wanted : List Shown} → length shown ≡ length wanted
     → ((picture : Picture) → line < length picture → line_of picture line ≡ shown → Strokes (line_bytes shown wanted) before mid old pen picture (set picture line wanted)) → pen.columns ≡ old.columns
     → AreBlank (drop from wanted) → from ≤ length wanted
-    → ((picture : Picture) → Draws (change pen.rendition no_rendition) mid now pen next picture picture) → next.cursor ≡ Some (line, from) → next.rendition ≡ no_rendition → next.columns ≡ pen.columns
+    → ((picture : Picture) → Draws (change pen.rendition no_rendition) mid now pen next picture picture) → IsPlainAt next (line, from) → next.columns ≡ pen.columns
     → IsReadyToErase (line_bytes shown wanted + 27) before now old next line from shown wanted
-line-at_cursor {before} {mid} {now} {old} {pen} {next} {line} {from} {shown} {wanted} same painted kept blank inside ending cursor rendition columns = record {
+line-at_cursor {before} {mid} {now} {old} {pen} {next} {line} {from} {shown} {wanted} same painted kept blank inside ending plain columns = record {
   blank = blank;
   reached = length wanted;
   beyond = inside;
@@ -143,8 +142,7 @@ line-at_cursor {before} {mid} {now} {old} {pen} {next} {line} {from} {shown} {wa
       } in
       Strokes-then (subst (λ row. Strokes (line_bytes shown wanted) before mid old pen picture (set picture line row)) (sym whole) (painted picture high at))
       (subst (λ row. Strokes 4 mid now pen next (set picture line row) (set picture line row)) (sym whole) ended);
-  cursor = cursor;
-  rendition = rendition;
+  plain = plain;
   columns = columns ∙ kept;
 }
 

@@ -1,6 +1,6 @@
 -- What a doupdate sends, what it leaves of the painter, and which streams agree with a painter.
 -- X/Open Curses Issue 7: doupdate, clearok.
-use Rattle.std.specs.Prelude.{◌≡◌, ℕ, ◌+◌, ◌*◌, ◌≤◌, ◌==◌, ◌&&◌, List, [], ◌∷◌, ◌++◌, Bool, true, length, take, codes, Option, Some, None, ⊤, MatchOption, Result, MatchResult, if◌then◌else◌}
+use Rattle.std.specs.Prelude.{◌≡◌, ℕ, ◌+◌, ◌*◌, ◌<◌, ◌≤◌, ◌==◌, ◌&&◌, List, [], ◌∷◌, ◌++◌, Bool, true, length, take, codes, Option, Some, None, ⊤, MatchOption, Result, MatchResult, if◌then◌else◌, is_ok}
 use Rattle.std.specs.Io.KnownBytes.{Appends}
 use Rattle.cell.specs.Pictures.{Picture, Place, HasSize, blank_picture, origin}
 use Rattle.ecma.specs.declared.token.Token.TheVariants.{Cup}
@@ -114,6 +114,21 @@ pub record BreaksOff (painter : PainterState) (clear : Bool) (old new : Seen) (w
 abbrev pub UpdateEnds : PainterState → Bool → Seen → Seen → ShownPicture → Result Sent WriteFault → Type 0
 UpdateEnds painter clear old new wanted result =
     MatchResult result (λ sent. Updates painter clear old new wanted sent.bytes) (λ fault. BreaksOff painter clear old new wanted fault.sent)
+
+-- a painter can show a virtual screen that has its size, and the cursor in it
+pub record CanShow (painter : PainterState) (virtual : VirtualScreen) : Type 0 where
+  pub size : HasSize painter.lines painter.columns virtual.picture
+  pub line : virtual.cursor.0 < painter.lines
+  pub column : virtual.cursor.1 < painter.columns
+
+module _ {W : Type 0} (seen : W → Seen) (name : W → ℕ) where
+  -- A doupdate was made, and ended so: all that is known of it. Where it succeeded, the painter knows what it showed, and else nothing. The sink
+  -- is the same.
+  pub record UpdateMade (old : PainterState) (before : W) (virtual : VirtualScreen) (end : Result Sent WriteFault)
+      (new : PainterState) (after : W) : Type 0 where
+    pub text : UpdateEnds old virtual.clear (seen before) (seen after) (wanted_of virtual) end
+    pub painter : new ≡ record old { last = (if is_ok end then Some (wanted_of virtual) else None) }
+    pub same : name after ≡ name before
 
 -- ---- streams that agree with a painter
 

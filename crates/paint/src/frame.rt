@@ -1,7 +1,7 @@
 //! A frame over what is shown: drawn in one walk or in passes, whichever takes fewer bytes.
 
-ghost use Rattle.std.specs.Prelude.{◌≡◌, ◌<◌, Some};
-ghost use Rattle.paint.specs.steps.Holding.{HoldsFrom};
+ghost use Rattle.paint.specs.steps.Holding.{CanDraw, HoldsFrame};
+ghost use Rattle.paint.specs.steps.Strokes.{SameTerminals};
 
 use crate::changes::Frame;
 use crate::passes::{Order, order_of, paint};
@@ -18,13 +18,9 @@ pub fn draw_frame<W: Sink>(
     from: (u16, u16),
     to: (u16, u16),
 )
-    requires width { pen.old.columns ≡ frame.now.columns }
-    requires line { to.0 < frame.now.lines }
-    requires column { to.1 < frame.now.columns }
-    ensures holds { HoldsFrom frame.now.lines frame.now.columns (Some (record { picture = frame.now.shown.now; cursor = from }))
-        (record { picture = frame.now.wanted.now; cursor = to }) (W.seen sink.old) (W.seen sink.new) pen.new.outbox }
-    ensures columns { pen.new.columns ≡ pen.old.columns }
-    ensures same { W.name sink.new ≡ W.name sink.old }
+    requires { CanDraw pen.old frame.now.lines frame.now.columns to }
+    ensures holds { HoldsFrame frame.now from to (W.seen sink.old) (W.seen sink.new) pen.new.outbox }
+    ensures same { SameTerminals (W.name sink.old) (W.name sink.new) pen.old pen.new }
 {
     let walk = Order::new();
     let order = order_of(frame);
@@ -53,13 +49,9 @@ fn draw<W: Sink>(
     to: (u16, u16),
     order: &Order,
 )
-    requires width { pen.old.columns ≡ frame.now.columns }
-    requires line { to.0 < frame.now.lines }
-    requires column { to.1 < frame.now.columns }
-    ensures holds { HoldsFrom frame.now.lines frame.now.columns (Some (record { picture = frame.now.shown.now; cursor = from }))
-        (record { picture = frame.now.wanted.now; cursor = to }) (W.seen sink.old) (W.seen sink.new) pen.new.outbox }
-    ensures columns { pen.new.columns ≡ pen.old.columns }
-    ensures same { W.name sink.new ≡ W.name sink.old }
+    requires { CanDraw pen.old frame.now.lines frame.now.columns to }
+    ensures holds { HoldsFrame frame.now from to (W.seen sink.old) (W.seen sink.new) pen.new.outbox }
+    ensures same { SameTerminals (W.name sink.old) (W.name sink.new) pen.old pen.new }
 {
     pen.begin(from);
     paint(pen, sink, frame, order);

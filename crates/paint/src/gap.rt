@@ -4,7 +4,7 @@ ghost use Rattle.std.specs.Prelude.{◌≡◌, ◌+◌, ◌<◌, ◌≤◌, Some
 ghost use Rattle.cell.specs.Pictures.{Picture, line_of};
 ghost use Rattle.ecma.specs.Spelling.{spelling};
 ghost use Rattle.ecma.specs.declared.token.Token.TheVariants.{Cup};
-ghost use Rattle.paint.specs.steps.Strokes.{Strokes, again_bytes, all_have, approach_bytes, change, is_printed_again, moved_bytes};
+ghost use Rattle.paint.specs.steps.Strokes.{SameTerminals, Strokes, again_bytes, all_have, approach_bytes, change, is_printed_again, moved_bytes};
 
 use crate::pen::Pen;
 use cell::{LARGEST_SCREEN, Rendition, Shown};
@@ -33,8 +33,7 @@ pub fn approach<W: Sink>(
         pen.old pen.new picture picture }
     ensures rendition { pen.new.rendition ≡ rendition }
     ensures cursor { pen.new.cursor ≡ Some (line, start + length gap.now) }
-    ensures columns { pen.new.columns ≡ pen.old.columns }
-    ensures same { W.name sink.new ≡ W.name sink.old }
+    ensures same { SameTerminals (W.name sink.old) (W.name sink.new) pen.old pen.new }
 {
     if is_printed_again(pen, line, start, gap, rendition) {
         pen.print_again(sink, line, start, gap);

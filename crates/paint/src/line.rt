@@ -1,12 +1,12 @@
 //! The walk over the cells of a line: a pen draws where the wanted one differs from the one that is shown.
 
-ghost use Rattle.std.specs.Prelude.{◌≡◌, ◌+◌, ◌<◌, ◌≤◌, ⊤, MatchOption, None, Some, false, length, slice_index_or, take};
+ghost use Rattle.std.specs.Prelude.{◌≡◌, ◌+◌, ◌<◌, ◌≤◌, ⊤, MatchOption, None, false, length, slice_index_or, take};
 ghost use Rattle.cell.specs.Differences.{same_shown};
 ghost use Rattle.cell.specs.Pictures.{Picture, line_of};
-ghost use Rattle.cell.specs.Shown.{no_rendition, shown_blank};
+ghost use Rattle.cell.specs.Shown.{shown_blank};
 ghost use Rattle.cell.specs.declared.limits.TheConstants.{LARGEST_SCREEN};
 ghost use Rattle.streams.specs.Sinks.{Seen};
-ghost use Rattle.paint.specs.steps.Strokes.{Strokes, line_bytes, reach_bytes, run_bytes, with_cells};
+ghost use Rattle.paint.specs.steps.Strokes.{IsPlainAt, SameTerminals, Strokes, line_bytes, reach_bytes, run_bytes, with_cells};
 ghost use Rattle.paint.specs.steps.Walks.{DifferWithin, IsLinePainted, IsReadyToErase, IsRun, StrokesLine, cells_between};
 
 use crate::gap::approach;
@@ -35,8 +35,7 @@ pub fn paint_line<W: Sink>(pen: &mut Pen, sink: &mut W, row: &Row<'_>, start: us
     requires part { DifferWithin start end row.now.shown.now row.now.wanted.now }
     ensures strokes { StrokesLine (line_bytes row.now.shown.now row.now.wanted.now) (W.seen sink.old) (W.seen sink.new) pen.old pen.new
         row.now.line row.now.shown.now row.now.wanted.now }
-    ensures columns { pen.new.columns ≡ pen.old.columns }
-    ensures same { W.name sink.new ≡ W.name sink.old }
+    ensures same { SameTerminals (W.name sink.old) (W.name sink.new) pen.old pen.new }
 {
     let (shown, wanted) = (row.shown, row.wanted);
     let Some(first) = first_changed(shown, wanted, start, end) else {
@@ -67,8 +66,7 @@ pub fn paint_last_line<W: Sink>(pen: &mut Pen, sink: &mut W, row: &Row<'_>) -> O
         row.now.line row.now.shown.now row.now.wanted.now }
     ensures ready { MatchOption result ⊤ (λ column. IsReadyToErase (line_bytes row.now.shown.now row.now.wanted.now + 27) (W.seen sink.old)
         (W.seen sink.new) pen.old pen.new row.now.line column row.now.shown.now row.now.wanted.now) }
-    ensures columns { pen.new.columns ≡ pen.old.columns }
-    ensures same { W.name sink.new ≡ W.name sink.old }
+    ensures same { SameTerminals (W.name sink.old) (W.name sink.new) pen.old pen.new }
 {
     let (shown, wanted) = (row.shown, row.wanted);
     let tail = tail_start(wanted);
@@ -96,10 +94,8 @@ fn come_to<W: Sink>(pen: &mut Pen, sink: &mut W, row: &Row<'_>, gap: usize, colu
         → take column (line_of picture row.now.line) ≡ take column row.now.wanted.now
         → Strokes (reach_bytes pen.old.cursor pen.old.rendition row.now.line row.now.wanted.now gap column) (W.seen sink.old) (W.seen sink.new)
         pen.old pen.new picture picture }
-    ensures rendition { pen.new.rendition ≡ no_rendition }
-    ensures cursor { pen.new.cursor ≡ Some (row.now.line, column) }
-    ensures columns { pen.new.columns ≡ pen.old.columns }
-    ensures same { W.name sink.new ≡ W.name sink.old }
+    ensures plain { IsPlainAt pen.new (row.now.line, column) }
+    ensures same { SameTerminals (W.name sink.old) (W.name sink.new) pen.old pen.new }
 {
     let start = gap.min(column);
     approach(
@@ -128,9 +124,8 @@ fn paint_cells<W: Sink>(
     requires inside { end ≤ length row.now.wanted.now }
     ensures painted { (before : Seen) (old : Pen) → IsLinePainted before (W.seen sink.old) old pen.old row.now.line start row.now.shown.now row.now.wanted.now
         → IsLinePainted before (W.seen sink.new) old pen.new row.now.line end row.now.shown.now row.now.wanted.now }
-    ensures columns { pen.new.columns ≡ pen.old.columns }
     ensures within { result ≤ end }
-    ensures same { W.name sink.new ≡ W.name sink.old }
+    ensures same { SameTerminals (W.name sink.old) (W.name sink.new) pen.old pen.new }
 {
     let (shown, wanted) = (row.shown, row.wanted);
     let mut gap = gap;
@@ -187,8 +182,7 @@ pub fn paint_run<W: Sink>(
         → cells_between gap start (line_of picture row.now.line) ≡ cells_between gap start row.now.wanted.now
         → Strokes (run_bytes (cells_between start result row.now.wanted.now)) (W.seen sink.old) (W.seen sink.new) pen.old pen.new picture
         (with_cells picture (row.now.line, start) (cells_between start result row.now.wanted.now)) }
-    ensures columns { pen.new.columns ≡ pen.old.columns }
-    ensures same { W.name sink.new ≡ W.name sink.old }
+    ensures same { SameTerminals (W.name sink.old) (W.name sink.new) pen.old pen.new }
 {
     let wanted = row.wanted;
     let stop = run_end(row.shown, wanted, start, end);

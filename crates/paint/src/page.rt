@@ -4,7 +4,7 @@ ghost use Rattle.std.specs.Prelude.{◌≡◌, ◌≢◌, ℕ, ◌-◌, ◌<◌,
 ghost use Rattle.cell.specs.Pictures.{line_of};
 ghost use Rattle.ecma.specs.Terminals.{blank_line};
 ghost use Rattle.paint.specs.Changes.{may_change};
-ghost use Rattle.paint.specs.steps.Strokes.{Strokes, picture_bytes};
+ghost use Rattle.paint.specs.steps.Strokes.{SameTerminals, Strokes, picture_bytes};
 
 use crate::changes::{Changes, Frame};
 use crate::line::{Row, paint_last_line, paint_line};
@@ -19,8 +19,7 @@ pub fn paint_picture<W: Sink>(pen: &mut Pen, sink: &mut W, frame: &Frame<'_>)
     requires { pen.old.columns ≡ frame.now.columns }
     ensures strokes { Strokes (picture_bytes frame.now.shown.now frame.now.wanted.now) (W.seen sink.old) (W.seen sink.new) pen.old pen.new
         frame.now.shown.now frame.now.wanted.now }
-    ensures columns { pen.new.columns ≡ pen.old.columns }
-    ensures same { W.name sink.new ≡ W.name sink.old }
+    ensures same { SameTerminals (W.name sink.old) (W.name sink.new) pen.old pen.new }
 {
     let changed = changed_lines(frame);
     let blank = page_end(frame.wanted, frame.lines, changed, frame.changes);

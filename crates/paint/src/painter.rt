@@ -1,15 +1,15 @@
 //! A painter: it sends pictures to terminals of one size.
 
-ghost use Rattle.std.specs.Prelude.{◌≡◌, ℕ, ◌<◌, ◌≤◌, ◌↔◌, ⊤, MatchOption, length, ◌⊎◌, ◌||◌, Bool, IfOk, IfErr, IsErrOf, IsTrue, Some, None, is_ok, if◌then◌else◌};
+ghost use Rattle.std.specs.Prelude.{◌≡◌, ℕ, ◌≤◌, ◌↔◌, ⊤, MatchOption, length, ◌⊎◌, ◌||◌, Bool, IfOk, IfErr, IsErrOf, IsTrue, None, if◌then◌else◌};
 ghost use Rattle.cell.specs.Pictures.{HasSize, blank_picture, origin};
 ghost use Rattle.cell.specs.Limits.{is_no_size};
 ghost use Rattle.cell.specs.declared.limits.TheConstants.{LARGEST_SCREEN};
-ghost use Rattle.cell.specs.Shown.{no_rendition};
 ghost use Rattle.streams.specs.Sinks.{Seen};
 ghost use Rattle.paint.specs.Changes.{DifferOnly};
-ghost use Rattle.paint.specs.Updates.{PainterState, ShownPicture, UpdateEnds, first_painter, known_picture, opening, start_from, wanted_of};
+ghost use Rattle.paint.specs.Updates.{CanShow, PainterState, ShownPicture, UpdateEnds, UpdateMade, first_painter, known_picture, opening, start_from};
 ghost use Rattle.paint.specs.steps.Gathering.{IsGathered};
-ghost use Rattle.paint.specs.steps.Holding.{HoldsUpdate, last_shown};
+ghost use Rattle.paint.specs.steps.Holding.{CanDraw, HoldsUpdate, last_shown};
+ghost use Rattle.paint.specs.steps.Strokes.{IsPlainAt, SameTerminals};
 
 use crate::changes::{Changes, Frame};
 use crate::frame::draw_frame;
@@ -92,12 +92,8 @@ impl Painter {
         screen: &V,
         sink: &mut W,
     ) -> Result<Sent, WriteFault>
-        requires size { HasSize self.old.lines self.old.columns (V.shown screen.now).picture }
-        requires line { (V.shown screen.now).cursor.0 < self.old.lines }
-        requires column { (V.shown screen.now).cursor.1 < self.old.columns }
-        ensures text { UpdateEnds self.old (V.shown screen.now).clear (W.seen sink.old) (W.seen sink.new) (wanted_of (V.shown screen.now)) result }
-        ensures painter { self.new ≡ record self.old { last = (if is_ok result then Some (wanted_of (V.shown screen.now)) else None) } }
-        ensures same { W.name sink.new ≡ W.name sink.old }
+        requires { CanShow self.old (V.shown screen.now) }
+        ensures { UpdateMade W.seen W.name self.old sink.old (V.shown screen.now) result self.new sink.new }
     {
         let picture = screen.virtual_screen();
         let cursor = screen.wanted_cursor();
@@ -126,14 +122,10 @@ impl Painter {
         changes: &Changes,
         sink: &mut W,
     ) -> Result<Sent, WriteFault>
-        requires size { HasSize self.old.lines self.old.columns (V.shown screen.now).picture }
-        requires line { (V.shown screen.now).cursor.0 < self.old.lines }
-        requires column { (V.shown screen.now).cursor.1 < self.old.columns }
+        requires can { CanShow self.old (V.shown screen.now) }
         requires height { length changes.now ≡ self.old.lines }
         requires changes { MatchOption self.old.last ⊤ (λ shown. DifferOnly changes.now shown.picture (V.shown screen.now).picture) }
-        ensures text { UpdateEnds self.old (V.shown screen.now).clear (W.seen sink.old) (W.seen sink.new) (wanted_of (V.shown screen.now)) result }
-        ensures painter { self.new ≡ record self.old { last = (if is_ok result then Some (wanted_of (V.shown screen.now)) else None) } }
-        ensures same { W.name sink.new ≡ W.name sink.old }
+        ensures { UpdateMade W.seen W.name self.old sink.old (V.shown screen.now) result self.new sink.new }
     {
         if screen.clear_wanted() || self.cursor.is_none() {
             return self.doupdate(screen, sink);
@@ -170,22 +162,19 @@ fn show<W: Sink>(
     cursor: (u16, u16),
     changes: &Changes,
 ) -> Result<Sent, WriteFault>
-    requires width { pen.old.columns ≡ size.1 }
+    requires can { CanDraw pen.old size.0 size.1 cursor }
     requires lines { size.0 ≤ LARGEST_SCREEN }
     requires columns { size.1 ≤ LARGEST_SCREEN }
     requires shown { HasSize size.0 size.1 shown.old }
     requires wanted { HasSize size.0 size.1 picture.now }
-    requires line { cursor.0 < size.0 }
-    requires column { cursor.1 < size.1 }
     requires height { length changes.now ≡ size.0 }
     requires changes { DifferOnly changes.now (start_from (first_painter size.0 size.1) (last_shown shown.old known)).picture picture.now }
     ensures text { (painter : PainterState) (clear : Bool) → painter.lines ≡ size.0 → painter.columns ≡ size.1
         → last_shown shown.old known ≡ known_picture painter clear
         → UpdateEnds painter clear (W.seen sink.old) (W.seen sink.new) (record { picture = picture.now; cursor = cursor }) result }
-    ensures columns { pen.new.columns ≡ pen.old.columns }
     ensures shown { shown.new ≡ (start_from (first_painter size.0 size.1) (last_shown shown.old known)).picture }
     ensures size { HasSize size.0 size.1 shown.new }
-    ensures same { W.name sink.new ≡ W.name sink.old }
+    ensures same { SameTerminals (W.name sink.old) (W.name sink.new) pen.old pen.new }
 {
     let (lines, columns) = size;
     match known {
@@ -243,12 +232,10 @@ fn known_cursor(cursor: Option<(u16, u16)>, clear: bool) -> Option<(u16, u16)>
 /// Begins a text that clears the terminal, which shows a blank picture then.
 fn open<W: Sink>(pen: &mut Pen, sink: &mut W, shown: &mut Grid<Shown>)
     ensures gathered { IsGathered (W.seen sink.old) (W.seen sink.new) pen.new.outbox opening }
-    ensures cursor { pen.new.cursor ≡ Some origin }
+    ensures plain { IsPlainAt pen.new origin }
     ensures picture { (lines columns : ℕ) → HasSize lines columns shown.old → shown.new ≡ blank_picture lines columns }
     ensures size { (lines columns : ℕ) → HasSize lines columns shown.old → HasSize lines columns shown.new }
-    ensures rendition { pen.new.rendition ≡ no_rendition }
-    ensures columns { pen.new.columns ≡ pen.old.columns }
-    ensures same { W.name sink.new ≡ W.name sink.old }
+    ensures same { SameTerminals (W.name sink.old) (W.name sink.new) pen.old pen.new }
 {
     shown.clear();
     pen.begin((0, 0));
@@ -260,8 +247,7 @@ fn send_text<W: Sink>(pen: &mut Pen, sink: &mut W) -> Result<Sent, WriteFault>
     ensures text { (painter : PainterState) (clear : Bool) (wanted : ShownPicture) (start : Seen)
         → HoldsUpdate painter clear wanted start (W.seen sink.old) pen.old.outbox
         → UpdateEnds painter clear start (W.seen sink.new) wanted result }
-    ensures columns { pen.new.columns ≡ pen.old.columns }
-    ensures same { W.name sink.new ≡ W.name sink.old }
+    ensures same { SameTerminals (W.name sink.old) (W.name sink.new) pen.old pen.new }
 {
     let sent = pen.finish(sink)?;
     match sink.flush() {

@@ -1,9 +1,9 @@
 //! Drawing in passes: of a picture first the cells of one rendition, then those of another, where that takes fewer bytes.
 
-ghost use Rattle.std.specs.Prelude.{◌≡◌, ◌+◌, ◌<◌, ◌≤◌, ◌==◌, ◌++◌, ◌∷◌, [], List, if◌then◌else◌, length, nat_lt};
+ghost use Rattle.std.specs.Prelude.{◌≡◌, ◌+◌, ◌≤◌, ◌==◌, ◌++◌, ◌∷◌, [], List, if◌then◌else◌, length, nat_lt};
 ghost use Rattle.cell.specs.Shown.{Rendition as AnyRendition};
 ghost use Rattle.paint.specs.steps.Passes.{HasNoted, changed_renditions, line_after, line_renditions, order_for, pass_of, picture_after, saturating_usize, selections, with_pass};
-ghost use Rattle.paint.specs.steps.Strokes.{Strokes, all_have, line_bytes, picture_bytes};
+ghost use Rattle.paint.specs.steps.Strokes.{SameTerminals, Strokes, all_have, line_bytes, picture_bytes};
 ghost use Rattle.paint.specs.steps.Walks.{DifferWithin, StrokesLine};
 
 use crate::changes::Frame;
@@ -109,8 +109,7 @@ fn paint_part<W: Sink>(
     ensures strokes { let before = line_after order.now pass row.now.shown.now row.now.wanted.now in
         let after = line_after order.now (pass + 1) row.now.shown.now row.now.wanted.now in
         StrokesLine (line_bytes before after) (W.seen sink.old) (W.seen sink.new) pen.old pen.new row.now.line before after }
-    ensures columns { pen.new.columns ≡ pen.old.columns }
-    ensures same { W.name sink.new ≡ W.name sink.old }
+    ensures same { SameTerminals (W.name sink.old) (W.name sink.new) pen.old pen.new }
 {
     let (shown, wanted) = (row.shown, row.wanted);
     let Some(first) = first_changed(shown, wanted, start, end) else {
@@ -145,8 +144,7 @@ fn paint_pass<W: Sink>(
     ensures strokes { let before = picture_after order.now pass frame.now.shown.now frame.now.wanted.now in
         let after = picture_after order.now (pass + 1) frame.now.shown.now frame.now.wanted.now in
         Strokes (picture_bytes before after) (W.seen sink.old) (W.seen sink.new) pen.old pen.new before after }
-    ensures columns { pen.new.columns ≡ pen.old.columns }
-    ensures same { W.name sink.new ≡ W.name sink.old }
+    ensures same { SameTerminals (W.name sink.old) (W.name sink.new) pen.old pen.new }
 {
     let end = frame.changes.lines().end;
     let mut line = frame.changes.next(0);
@@ -168,8 +166,7 @@ fn paint_passes<W: Sink>(pen: &mut Pen, sink: &mut W, frame: &Frame<'_>, order: 
     requires { pen.old.columns ≡ frame.now.columns }
     ensures strokes { Strokes (picture_bytes frame.now.shown.now frame.now.wanted.now) (W.seen sink.old) (W.seen sink.new) pen.old pen.new
         frame.now.shown.now frame.now.wanted.now }
-    ensures columns { pen.new.columns ≡ pen.old.columns }
-    ensures same { W.name sink.new ≡ W.name sink.old }
+    ensures same { SameTerminals (W.name sink.old) (W.name sink.new) pen.old pen.new }
 {
     let mut pass = 0;
     while pass <= order.len() {
@@ -183,8 +180,7 @@ pub fn paint<W: Sink>(pen: &mut Pen, sink: &mut W, frame: &Frame<'_>, order: &Or
     requires { pen.old.columns ≡ frame.now.columns }
     ensures strokes { Strokes (picture_bytes frame.now.shown.now frame.now.wanted.now) (W.seen sink.old) (W.seen sink.new) pen.old pen.new
         frame.now.shown.now frame.now.wanted.now }
-    ensures columns { pen.new.columns ≡ pen.old.columns }
-    ensures same { W.name sink.new ≡ W.name sink.old }
+    ensures same { SameTerminals (W.name sink.old) (W.name sink.new) pen.old pen.new }
 {
     if order.renditions().is_empty() {
         paint_picture(pen, sink, frame);

@@ -12,7 +12,7 @@ ghost use Rattle.streams.specs.Sending.{Sends};
 ghost use Rattle.streams.specs.Sinks.{Seen};
 ghost use Rattle.paint.specs.Updates.{opening};
 ghost use Rattle.paint.specs.steps.Gathering.{Gathers, IsGathered, gathered_bytes, holds_all};
-ghost use Rattle.paint.specs.steps.Strokes.{cursor_after, change, characters, first_pen, is_at, move_from, with_cells, within, ArePrinted, Draws};
+ghost use Rattle.paint.specs.steps.Strokes.{cursor_after, change, characters, first_pen, is_at, move_from, with_cells, within, ArePrinted, Draws, Erases, IsPlainAt, SameTerminals};
 
 use crate::outbox::Outbox;
 use cell::{LARGEST_SCREEN, Rendition, Shown};
@@ -47,8 +47,7 @@ impl Pen {
     pub fn begin(&mut self, cursor: (u16, u16))
         ensures nothing { (seen : Seen) → IsGathered seen seen self.new.outbox [] }
         ensures columns { self.new.columns ≡ self.old.columns }
-        ensures cursor { self.new.cursor ≡ Some cursor }
-        ensures rendition { self.new.rendition ≡ no_rendition }
+        ensures plain { IsPlainAt self.new cursor }
     {
         self.outbox.begin();
         self.cursor = Some(cursor);
@@ -74,8 +73,7 @@ impl Pen {
         requires { IsToken token }
         ensures gathers { Gathers (W.seen sink.old) (W.seen sink.new) self.old.outbox self.new.outbox (spelling token) }
         ensures rest { self.new ≡ record self.old { outbox = self.new.outbox } }
-        ensures columns { self.new.columns ≡ self.old.columns }
-        ensures same { W.name sink.new ≡ W.name sink.old }
+        ensures same { SameTerminals (W.name sink.old) (W.name sink.new) self.old self.new }
     {
         let mut text = [0; LONGEST_SPELLING];
         let length = spell(&token, &mut text);
@@ -85,10 +83,8 @@ impl Pen {
     /// Clears the terminal, whatever it shows: no rendition, the page erased, the cursor at the origin.
     pub fn open<W: Sink>(&mut self, sink: &mut W)
         ensures gathers { Gathers (W.seen sink.old) (W.seen sink.new) self.old.outbox self.new.outbox opening }
-        ensures columns { self.new.columns ≡ self.old.columns }
-        ensures cursor { self.new.cursor ≡ Some origin }
-        ensures rendition { self.new.rendition ≡ no_rendition }
-        ensures same { W.name sink.new ≡ W.name sink.old }
+        ensures plain { IsPlainAt self.new origin }
+        ensures same { SameTerminals (W.name sink.old) (W.name sink.new) self.old self.new }
     {
         self.put(sink, Token::Sgr(Rendition::NONE));
         self.put(sink, Token::Ed(Erase::All));
@@ -110,8 +106,7 @@ impl Pen {
             (W.seen sink.new) self.old self.new picture picture }
         ensures rendition { self.new.rendition ≡ rendition }
         ensures cursor { self.new.cursor ≡ self.old.cursor }
-        ensures columns { self.new.columns ≡ self.old.columns }
-        ensures same { W.name sink.new ≡ W.name sink.old }
+        ensures same { SameTerminals (W.name sink.old) (W.name sink.new) self.old self.new }
     {
         if rendition == self.rendition {
             return;
@@ -167,8 +162,7 @@ impl Pen {
             → Draws (move_from self.old.cursor (line, column)) (W.seen sink.old) (W.seen sink.new) self.old self.new picture picture }
         ensures rendition { self.new.rendition ≡ self.old.rendition }
         ensures cursor { self.new.cursor ≡ Some (line, column) }
-        ensures columns { self.new.columns ≡ self.old.columns }
-        ensures same { W.name sink.new ≡ W.name sink.old }
+        ensures same { SameTerminals (W.name sink.old) (W.name sink.new) self.old self.new }
     {
         if self.is_at(line, column) {
             return;
@@ -187,8 +181,7 @@ impl Pen {
             → Draws (cell.character ∷ []) (W.seen sink.old) (W.seen sink.new) self.old self.new picture (with_shown picture (line, column) cell) }
         ensures rendition { self.new.rendition ≡ self.old.rendition }
         ensures cursor { self.new.cursor ≡ cursor_after self.old.columns (line, column) }
-        ensures columns { self.new.columns ≡ self.old.columns }
-        ensures same { W.name sink.new ≡ W.name sink.old }
+        ensures same { SameTerminals (W.name sink.old) (W.name sink.new) self.old self.new }
     {
         self.outbox.put(sink, &[cell.ch()]);
         self.cursor = self.cursor_after(line, column);
@@ -215,8 +208,7 @@ impl Pen {
         requires columns { self.old.columns ≤ LARGEST_SCREEN }
         ensures draws { (picture : Picture) → length (line_of picture line) ≡ self.old.columns
             → Draws (characters cells.now) (W.seen sink.old) (W.seen sink.new) self.old self.new picture (with_cells picture (line, column) cells.now) }
-        ensures columns { self.new.columns ≡ self.old.columns }
-        ensures same { W.name sink.new ≡ W.name sink.old }
+        ensures same { SameTerminals (W.name sink.old) (W.name sink.new) self.old self.new }
     {
         self.outbox.put_characters(sink, cells);
         self.cursor = self.within(line, column + cells.len() as u16);
@@ -251,24 +243,16 @@ impl Pen {
 
     /// Erases from the cursor, which is at this place, to the end of the line.
     pub fn erase_line<W: Sink>(&mut self, sink: &mut W, line: u16, column: u16)
-        requires cursor { self.old.cursor ≡ Some (line, column) }
-        requires rendition { self.old.rendition ≡ no_rendition }
-        ensures draws { (picture : Picture) → Draws (spelling (El ToEnd)) (W.seen sink.old) (W.seen sink.new) self.old self.new picture
-            (erased_at ToEnd (line, column) picture) }
-        ensures rest { self.new ≡ record self.old { outbox = self.new.outbox } }
-        ensures same { W.name sink.new ≡ W.name sink.old }
+        requires { IsPlainAt self.old (line, column) }
+        ensures { Erases W.seen W.name (El ToEnd) (erased_at ToEnd (line, column)) self.old sink.old self.new sink.new }
     {
         self.put(sink, Token::El(Erase::ToEnd));
     }
 
     /// Erases from the cursor, which is at this place, to the end of the page.
     pub fn erase_page<W: Sink>(&mut self, sink: &mut W, line: u16, column: u16)
-        requires cursor { self.old.cursor ≡ Some (line, column) }
-        requires rendition { self.old.rendition ≡ no_rendition }
-        ensures draws { (picture : Picture) → Draws (spelling (Ed ToEnd)) (W.seen sink.old) (W.seen sink.new) self.old self.new picture
-            (erased_page ToEnd (line, column) picture) }
-        ensures rest { self.new ≡ record self.old { outbox = self.new.outbox } }
-        ensures same { W.name sink.new ≡ W.name sink.old }
+        requires { IsPlainAt self.old (line, column) }
+        ensures { Erases W.seen W.name (Ed ToEnd) (erased_page ToEnd (line, column)) self.old sink.old self.new sink.new }
     {
         self.put(sink, Token::Ed(Erase::ToEnd));
     }
@@ -280,10 +264,8 @@ impl Pen {
         ensures draws { (picture : Picture) → cursor.1 < length (line_of picture cursor.0)
             → Draws (change self.old.rendition no_rendition ++ move_from self.old.cursor cursor) (W.seen sink.old) (W.seen sink.new)
             self.old self.new picture picture }
-        ensures rendition { self.new.rendition ≡ no_rendition }
-        ensures cursor { self.new.cursor ≡ Some cursor }
-        ensures columns { self.new.columns ≡ self.old.columns }
-        ensures same { W.name sink.new ≡ W.name sink.old }
+        ensures plain { IsPlainAt self.new cursor }
+        ensures same { SameTerminals (W.name sink.old) (W.name sink.new) self.old self.new }
     {
         self.select(sink, Rendition::NONE);
         self.go(sink, cursor.0, cursor.1);
@@ -293,8 +275,7 @@ impl Pen {
     pub fn finish<W: Sink>(&mut self, sink: &mut W) -> Result<u32, WriteFault>
         ensures sends { (start : Seen) (text : List ℕ) → IsGathered start (W.seen sink.old) self.old.outbox text → length text < 2 ^ 32
             → Sends start (W.seen sink.new) 0 text result }
-        ensures columns { self.new.columns ≡ self.old.columns }
-        ensures same { W.name sink.new ≡ W.name sink.old }
+        ensures same { SameTerminals (W.name sink.old) (W.name sink.new) self.old self.new }
     {
         self.outbox.finish(sink)
     }

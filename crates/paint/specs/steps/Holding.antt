@@ -1,9 +1,11 @@
 -- The text of a doupdate, gathered in an outbox.
-use Rattle.std.specs.Prelude.{◌≡◌, ℕ, ◌<◌, ◌^◌, Bool, List, length, Option}
+use Rattle.std.specs.Prelude.{◌≡◌, ℕ, ◌<◌, ◌^◌, Bool, List, length, Option, Some}
 use Rattle.std.specs.Option.{option_map}
 use Rattle.cell.specs.Pictures.{Picture, Place}
 use Rattle.streams.specs.Sinks.{Seen}
+use Rattle.paint.specs.declared.changes.Frame.{Frame}
 use Rattle.paint.specs.declared.outbox.Outbox.{Outbox}
+use Rattle.paint.specs.declared.pen.Pen.{Pen}
 use Rattle.paint.specs.Updates.{PainterState, ShownPicture, IsUpdateText, known_picture}
 use Rattle.paint.specs.steps.Gathering.{IsGathered}
 
@@ -17,8 +19,15 @@ pub record HoldsUpdate (painter : PainterState) (clear : Bool) (wanted : ShownPi
   pub is_text : IsUpdateText painter clear wanted text
   pub few : length text < 2 ^ 32
 
--- that text, for whatever painter of the size to which this is known
-abbrev pub HoldsFrom : ℕ → ℕ → Option ShownPicture → ShownPicture → Seen → Seen → Outbox → Type 0
-HoldsFrom lines columns known wanted start now outbox =
-    (painter : PainterState) (clear : Bool) → painter.lines ≡ lines → painter.columns ≡ columns → known ≡ known_picture painter clear
-    → HoldsUpdate painter clear wanted start now outbox
+-- a pen can draw a picture of this size, and end at a place of it
+pub record CanDraw (pen : Pen) (lines columns : ℕ) (end : Place) : Type 0 where
+  pub width : pen.columns ≡ columns
+  pub line : end.0 < lines
+  pub column : end.1 < columns
+
+-- The text that draws a frame and leaves the cursor at a place, for whatever painter of its size that knows what it shows, and where the cursor is.
+abbrev pub HoldsFrame : Frame → Place → Place → Seen → Seen → Outbox → Type 0
+HoldsFrame frame from to start now outbox =
+    (painter : PainterState) (clear : Bool) → painter.lines ≡ frame.lines → painter.columns ≡ frame.columns
+    → last_shown frame.shown.now (Some from) ≡ known_picture painter clear
+    → HoldsUpdate painter clear (record { picture = frame.wanted.now; cursor = to }) start now outbox

@@ -8,6 +8,7 @@ use Rattle.ecma.specs.Difference.{line_colour_difference, colour_difference}
 use Rattle.ecma.specs.Spelling.{spelling}
 use Rattle.ecma.specs.Streams.{Leads}
 use Rattle.ecma.specs.Terminals.{Terminal}
+use Rattle.ecma.specs.declared.token.Token.{Token}
 use Rattle.ecma.specs.declared.token.Token.TheVariants.{Cup, Sgr}
 use Rattle.streams.specs.Sinks.{Seen}
 use Rattle.paint.specs.declared.pen.Pen.{Pen}
@@ -60,6 +61,16 @@ first_pen columns = record { outbox = empty_outbox; columns = columns; cursor = 
 abbrev pub under : Pen → Picture → Terminal
 under pen picture = record { picture = picture; cursor = pen.cursor; rendition = pen.rendition }
 
+-- it is at a place, and prints with no rendition
+pub record IsPlainAt (pen : Pen) (place : Place) : Type 0 where
+  pub cursor : pen.cursor ≡ Some place
+  pub rendition : pen.rendition ≡ no_rendition
+
+-- What a step of drawing keeps: which sink it is, by its name, and how many columns the pen's terminals have.
+pub record SameTerminals (before after : ℕ) (old new : Pen) : Type 0 where
+  pub sink : after ≡ before
+  pub columns : new.columns ≡ old.columns
+
 -- The piece was put after what was gathered, and leads from the one picture to the other.
 pub record Draws (piece : List ℕ) (before after : Seen) (old new : Pen) (picture drawn : Picture) : Type 0 where
   pub gathers : Gathers before after old.outbox new.outbox piece
@@ -70,6 +81,13 @@ pub record Strokes (most : ℕ) (before after : Seen) (old new : Pen) (picture d
   pub piece : List ℕ
   pub draws : Draws piece before after old new picture drawn
   pub short : length piece ≤ most
+
+module _ {W : Type 0} (seen : W → Seen) (name : W → ℕ) where
+  -- An erasure was put after what was gathered, and changes every picture so. Nothing else of the pen changed, and the sink is the same.
+  pub record Erases (erasure : Token) (erased : Picture → Picture) (old : Pen) (before : W) (new : Pen) (after : W) : Type 0 where
+    pub draws : (picture : Picture) → Draws (spelling erasure) (seen before) (seen after) old new picture (erased picture)
+    pub rest : new ≡ record old { outbox = new.outbox }
+    pub same : name after ≡ name before
 
 -- ---- how many bytes they have
 

@@ -1,13 +1,13 @@
 -- How far a pen has come in a line, and in a picture.
 use Rattle.std.specs.Prelude.{◌≡◌, ℕ, ◌+◌, ◌-◌, ◌<◌, ◌≤◌, false, List, ◌++◌, length, map, take, drop, slice_index_or, slice_set, Option, Some, None, ⊤}
-use Rattle.cell.specs.Shown.{Shown, no_rendition, shown_blank}
+use Rattle.cell.specs.Shown.{Shown, shown_blank}
 use Rattle.cell.specs.Pictures.{Picture, line_of}
 use Rattle.cell.specs.Differences.{DiffersAt, same_shown}
 use Rattle.streams.specs.Sinks.{Seen}
 use Rattle.paint.specs.declared.pen.Pen.{Pen}
 use Rattle.paint.specs.declared.changes.Stretch.{Stretch}
 use Rattle.paint.specs.Changes.{is_in}
-use Rattle.paint.specs.steps.Strokes.{Strokes, line_bytes, picture_bytes}
+use Rattle.paint.specs.steps.Strokes.{IsPlainAt, Strokes, line_bytes, picture_bytes}
 
 -- a list whose first items are those of another one
 abbrev pub with_prefix : {A : Type 0} → ℕ → List A → List A → List A
@@ -65,8 +65,7 @@ pub record IsReadyToErase (most : ℕ) (before now : Seen) (old pen : Pen) (line
   pub spent : ℕ
   pub within : spent + 4 ≤ most
   pub strokes : StrokesLine spent before now old pen line shown (with_prefix reached wanted shown)
-  pub cursor : pen.cursor ≡ Some (line, column)
-  pub rendition : pen.rendition ≡ no_rendition
+  pub plain : IsPlainAt pen (line, column)
   pub columns : pen.columns ≡ old.columns
 
 -- the first changed column from one on

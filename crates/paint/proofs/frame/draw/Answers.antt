@@ -10,5 +10,5 @@ returns-clause-holds g c = λ painter clear lines columns known.
     let wanted : ShownPicture = record { picture = c.args.frame.now.wanted.now; cursor = c.args.to } in
     holds-from painter clear wanted (rw lines f.few_lines) (rw columns f.few_columns) (rw (lines, columns) f.wanted)
     (rw lines c.requires.line) (rw columns c.requires.column) known refl (rw (lines, columns) f.shown)
-    (c.begin.ensures.nothing _) c.begin.ensures.cursor c.begin.ensures.rendition
-    c.paint.ensures.strokes c.end.ensures.draws c.end.ensures.cursor c.end.ensures.rendition
+    (c.begin.ensures.nothing _) c.begin.ensures.plain
+    c.paint.ensures.strokes c.end.ensures.draws c.end.ensures.plain

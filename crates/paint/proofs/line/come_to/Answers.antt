@@ -10,5 +10,5 @@ approach-requires-clause-inside g c = grind (arith, gap-ends)
 pub returns-clause-strokes : goal.returns-clause-strokes
 returns-clause-strokes g c = grind (arith, gap-shown, between)
 
-pub returns-clause-cursor : goal.returns-clause-cursor
-returns-clause-cursor g c = grind (arith, gap-ends)
+pub returns-clause-plain : goal.returns-clause-plain
+returns-clause-plain g c = grind (arith, gap-ends)

@@ -42,9 +42,9 @@ loop-x-preserved g c =
           line-run (cells_between x stop wanted) same run.some (omega (arith, long, run.some)) (omega (arith, inside, same)) so_far
           (c.args.row.now.same ∙ sym c.requires.width ∙ sym c.loop-x.invariant.columns ∙ so_far.columns) (λ k few. part-of x stop k wanted (omega (arith, long))) run.changed
           (λ picture wide prefix. c.paint_run-x.ensures.strokes picture wide (between c.loop-x.gap x (line_of picture c.args.row.now.line) wanted c.loop-x.invariant.gap prefix))
-          c.paint_run-x.ensures.columns;
+          c.paint_run-x.ensures.same.columns;
       gap = omega arith;
       within = run.within;
-      columns = c.paint_run-x.ensures.columns ∙ c.loop-x.invariant.columns;
-      same = c.paint_run-x.ensures.same ∙ c.loop-x.invariant.same;
+      columns = c.paint_run-x.ensures.same.columns ∙ c.loop-x.invariant.columns;
+      same = c.paint_run-x.ensures.same.sink ∙ c.loop-x.invariant.same;
     }

@@ -21,7 +21,7 @@ returns-in-Some-clause-ready g c =
     (omega (arith, c.erased_from-from.ensures.to, changed.inside)) c.args.row.now.few_columns in
     ready-more
     (line-ready same (c.args.row.now.same ∙ sym c.requires.width) painted c.erased_from-from.ensures.to blank changed
-    c.come_to.ensures.strokes few c.come_to.ensures.cursor c.come_to.ensures.rendition c.come_to.ensures.columns)
+    c.come_to.ensures.strokes few c.come_to.ensures.plain c.come_to.ensures.same.columns)
     (omega arith)
 
 pub returns-in_ok-column-in-None-clause-ready : goal.returns-in_ok-column-in-None-clause-ready
@@ -30,5 +30,5 @@ returns-in_ok-column-in-None-clause-ready g c =
     let wanted = c.args.row.now.wanted.now in
     let same : length c.args.row.now.shown.now ≡ length wanted = c.args.row.now.same in
     let blank : AreBlank (drop column wanted) = kept-later (λ _. shown_blank) c.tail_start-tail.result column wanted c.in_ok-column-in-None.ensures.1 c.tail_start-tail.ensures.blank in
-    line-at_cursor same c.paint_line.ensures.strokes c.paint_line.ensures.columns blank c.in_ok-column-in-None.ensures.2 c.select.ensures.draws
-    (c.select.ensures.cursor ∙ c.in_ok-column-in-None.ensures.0) c.select.ensures.rendition c.select.ensures.columns
+    line-at_cursor same c.paint_line.ensures.strokes c.paint_line.ensures.same.columns blank c.in_ok-column-in-None.ensures.2 c.select.ensures.draws
+    (record { cursor = c.select.ensures.cursor ∙ c.in_ok-column-in-None.ensures.0; rendition = c.select.ensures.rendition }) c.select.ensures.same.columns

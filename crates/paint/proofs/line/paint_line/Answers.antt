@@ -36,7 +36,7 @@ returns-then-is_erased-clause-strokes g c =
     (omega (arith, c.erased_from-from.ensures.to, changed.inside)) c.args.row.now.few_columns in
     line-erased same
     (line-ready same (c.args.row.now.same ∙ sym c.requires.width) painted c.erased_from-from.ensures.to blank changed
-    c.come_to.ensures.strokes few c.come_to.ensures.cursor c.come_to.ensures.rendition c.come_to.ensures.columns)
+    c.come_to.ensures.strokes few c.come_to.ensures.plain c.come_to.ensures.same.columns)
     c.erase_line.ensures.draws
 
 pub returns-clause-strokes : goal.returns-clause-strokes

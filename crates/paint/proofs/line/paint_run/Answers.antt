@@ -47,4 +47,4 @@ returns-clause-strokes g c = λ picture wide are.
     (c.rendition.ensures.value ∙ ap (λ (cell : Shown). cell.rendition) first)
     (approach-most c.args.pen.now.cursor c.args.pen.now.rendition (c.args.row.now.line, c.args.gap) gap c.rendition.result c.args.row.now.few_lines column) in
     run-strokes cells is some few (c.approach.ensures.strokes picture wide (gap-shown c.args.gap x wanted (line_of picture c.args.row.now.line) c.requires.gap (omega arith) are))
-    (c.print_run.ensures.draws picture (wide ∙ sym c.approach.ensures.columns))
+    (c.print_run.ensures.draws picture (wide ∙ sym c.approach.ensures.same.columns))

@@ -25,14 +25,14 @@ loop-line-preserved-then-line-blank g c =
     let inside : c.loop-line.line < length c.args.frame.now.shown.now = omega (arith, f.shown.height, c.loop-line-test.true, c.changed_lines-changed.ensures.within) in
     let shown = rw c.from-at.ensures at c.row-old.ensures.row in
     let wanted = rw c.from-at.ensures at c.row-new.ensures.row in
-    let drawn = picture-drawn same inside c.loop-line.invariant.painted (rw (shown, wanted) at c.paint_line.ensures.strokes) c.paint_line.ensures.columns in
+    let drawn = picture-drawn same inside c.loop-line.invariant.painted (rw (shown, wanted) at c.paint_line.ensures.strokes) c.paint_line.ensures.same.columns in
     let next = c.next_line-line-then-line-blank in
     let few : next.result ≤ c.args.frame.now.lines = omega (arith, next.ensures.inside (omega (arith, inside, f.shown.height, f.height)), f.height) in
     record {
       painted = picture-skipped next.result same next.ensures.from (omega (arith, few, f.shown.height)) drawn
           (λ y from to. line-alike f.shown f.wanted f.changes y (omega (arith, to, few)) (λ x left. next.ensures.none y x from to));
       inside = few;
-      same = c.paint_line.ensures.same ∙ c.loop-line.invariant.same;
+      same = c.paint_line.ensures.same.sink ∙ c.loop-line.invariant.same;
     }
 
 pub loop-line-preserved : goal.loop-line-preserved
@@ -42,14 +42,14 @@ loop-line-preserved g c =
     let inside : c.loop-line.line < length c.args.frame.now.shown.now = omega (arith, f.shown.height, c.loop-line-test.true, c.changed_lines-changed.ensures.within) in
     let shown = rw c.from-at.ensures at c.row-old.ensures.row in
     let wanted = rw c.from-at.ensures at c.row-new.ensures.row in
-    let drawn = picture-drawn same inside c.loop-line.invariant.painted (rw (shown, wanted) at (c.paint_last_line.ensures.strokes c.in_default.is)) c.paint_last_line.ensures.columns in
+    let drawn = picture-drawn same inside c.loop-line.invariant.painted (rw (shown, wanted) at (c.paint_last_line.ensures.strokes c.in_default.is)) c.paint_last_line.ensures.same.columns in
     let next = c.next_line-line-in-loop-line in
     let few : next.result ≤ c.args.frame.now.lines = omega (arith, next.ensures.inside (omega (arith, inside, f.shown.height, f.height)), f.height) in
     record {
       painted = picture-skipped next.result same next.ensures.from (omega (arith, few, f.shown.height)) drawn
           (λ y from to. line-alike f.shown f.wanted f.changes y (omega (arith, to, few)) (λ x left. next.ensures.none y x from to));
       inside = few;
-      same = c.paint_last_line.ensures.same ∙ c.loop-line.invariant.same;
+      same = c.paint_last_line.ensures.same.sink ∙ c.loop-line.invariant.same;
     }
 
 pub returns-in-Some-clause-strokes : goal.returns-in-Some-clause-strokes

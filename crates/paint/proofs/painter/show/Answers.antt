@@ -15,10 +15,10 @@ returns-in-None-clause-text g c = λ painter clear lines columns known.
     let size : HasSize painter.lines painter.columns c.args.picture.now = rw (lines, columns) c.requires.wanted in
     let new_size : HasSize painter.lines painter.columns c.open.new.shown = c.open.ensures.size _ _ shown_size in
     c.send_text-in-None.ensures.text painter clear wanted _
-    (holds-from painter clear wanted (rw lines c.requires.lines) (rw columns c.requires.columns) size (rw lines c.requires.line) (rw columns c.requires.column)
+    (holds-from painter clear wanted (rw lines c.requires.lines) (rw columns c.requires.columns) size (rw lines c.requires.can.line) (rw columns c.requires.can.column)
     (rw c.in-None.is at known) (c.open.ensures.picture _ _ shown_size) new_size
-    c.open.ensures.gathered c.open.ensures.cursor c.open.ensures.rendition
-    c.paint_picture.ensures.strokes c.end.ensures.draws c.end.ensures.cursor c.end.ensures.rendition)
+    c.open.ensures.gathered c.open.ensures.plain
+    c.paint_picture.ensures.strokes c.end.ensures.draws c.end.ensures.plain)
 
 pub returns-in-None-clause-size : goal.returns-in-None-clause-size
 returns-in-None-clause-size g c = c.open.ensures.size c.args.size.0 c.args.size.1 c.requires.shown

@@ -108,10 +108,10 @@ loop-x-preserved g c =
           (λ v from to. (λ i. same_shown (before v from to i) (after v from to i)) ∙ run.changed v from to)
           (λ picture columns prefix. c.paint_run-x.ensures.strokes picture columns
           (between gap x (line_of picture c.args.row.now.line) (line_after order (pass + 1) shown wanted) ordered prefix ∙ slice))
-          c.paint_run-x.ensures.columns;
+          c.paint_run-x.ensures.same.columns;
       gap = omega arith;
       kept = λ v from to. absurd (omega arith);
-      same = c.paint_run-x.ensures.same ∙ c.loop-x.invariant.same;
+      same = c.paint_run-x.ensures.same.sink ∙ c.loop-x.invariant.same;
     }
 
 pub returns-clause-strokes : goal.returns-clause-strokes

@@ -46,7 +46,7 @@ loop-line-preserved g c =
     let other = rw c.from-at.ensures at c.row-in-loop-line.ensures.row in
     let strokes = rw (row, other, ← before, ← after) at c.paint_part.ensures.strokes in
     let drawn = picture-drawn {shown = picture_after c.args.order.now c.args.pass c.args.frame.now.shown.now c.args.frame.now.wanted.now} heights (omega (arith, high, below, f.shown.height))
-    c.loop-line.invariant.painted strokes c.paint_part.ensures.columns in
+    c.loop-line.invariant.painted strokes c.paint_part.ensures.same.columns in
     let next = c.next-line-in-loop-line in
     let few : next.result ≤ c.args.frame.now.lines = omega (arith, next.ensures.inside (omega (arith, below, f.height)), f.height) in
     record {
@@ -54,7 +54,7 @@ loop-line-preserved g c =
           let there : z < c.args.frame.now.lines = omega (arith, to, few) in
           chosen-alike p q f.shown f.wanted z there (line-alike f.shown f.wanted f.changes z there (λ x left. next.ensures.none z x from to)));
       inside = few;
-      same = c.paint_part.ensures.same ∙ c.loop-line.invariant.same;
+      same = c.paint_part.ensures.same.sink ∙ c.loop-line.invariant.same;
     }
 
 pub returns-clause-strokes : goal.returns-clause-strokes

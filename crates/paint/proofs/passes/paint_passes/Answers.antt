@@ -21,10 +21,10 @@ loop-pass-preserved g c =
             (picture_after order (c.loop-pass.pass + 1) c.args.frame.now.shown.now c.args.frame.now.wanted.now);
         within = omega (arith, passed.within, left);
         strokes = Strokes-then passed.strokes c.paint_pass.ensures.strokes;
-        columns = c.paint_pass.ensures.columns ∙ passed.columns;
+        columns = c.paint_pass.ensures.same.columns ∙ passed.columns;
       };
       few = omega (arith, c.loop-pass-test.true);
-      same = c.paint_pass.ensures.same ∙ c.loop-pass.invariant.same;
+      same = c.paint_pass.ensures.same.sink ∙ c.loop-pass.invariant.same;
     }
 
 pub returns-clause-strokes : goal.returns-clause-strokes

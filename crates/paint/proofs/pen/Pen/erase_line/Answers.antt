@@ -6,7 +6,11 @@ use Rattle.ecma.specs.declared.token.Token.TheVariants.{El}
 use Rattle.paint.proofs.Strokes.{erases}
 use Rattle.paint.proofs.pen.Pen.erase_line.Goals as goal
 
-pub returns-clause-draws : goal.returns-clause-draws
-returns-clause-draws g c = λ picture.
-    erases c.args.self.now c.put.new.self (El ToEnd) (c.args.line, c.args.column) picture (erased_at ToEnd (c.args.line, c.args.column) picture) c.requires.cursor c.requires.rendition tt refl
-    c.put.ensures.gathers c.put.ensures.rest
+pub returns : goal.returns
+returns g c = record {
+  draws = λ picture.
+      erases c.args.self.now c.put.new.self (El ToEnd) (c.args.line, c.args.column) picture (erased_at ToEnd (c.args.line, c.args.column) picture) c.requires tt refl
+      c.put.ensures.gathers c.put.ensures.rest;
+  rest = c.put.ensures.rest;
+  same = c.put.ensures.same.sink;
+}

@@ -20,7 +20,7 @@ loop-i-preserved g c =
     subst (λ r. Draws (change c.loop-i.self.rendition r) (g.W.Sink.seen c.loop-i.sink) (g.W.Sink.seen c.select.new.sink) c.loop-i.self c.select.new.self picture picture) c.rendition.ensures.value
     (c.select.ensures.draws picture) in
     record {
-      printed = printed-more c.index-cells-i.result c.loop-i.invariant.printed inside cell c.requires.inside selects c.select.ensures.columns c.print.ensures.draws
-          (c.print.ensures.rendition ∙ c.select.ensures.rendition ∙ c.rendition.ensures.value) c.print.ensures.cursor c.print.ensures.columns;
-      same = c.print.ensures.same ∙ c.select.ensures.same ∙ c.loop-i.invariant.same;
+      printed = printed-more c.index-cells-i.result c.loop-i.invariant.printed inside cell c.requires.inside selects c.select.ensures.same.columns c.print.ensures.draws
+          (c.print.ensures.rendition ∙ c.select.ensures.rendition ∙ c.rendition.ensures.value) c.print.ensures.cursor c.print.ensures.same.columns;
+      same = c.print.ensures.same.sink ∙ c.select.ensures.same.sink ∙ c.loop-i.invariant.same;
     }
