@@ -25,17 +25,17 @@ loop-y-preserved c =
     let h = c.loop-y.invariant in
     let y = c.loop-y.y in
     let desk = c.args.desk.now in
-    let now = c.match-damaged.changes in
-    let height : length now ≡ length c.args.changes.now = elim c.match-damaged.branch [
+    let now = c.match-damaged_columns.changes in
+    let height : length now ≡ length c.args.changes.now = elim c.match-damaged_columns.branch [
       | in-Some w ↦ rw (w.changes-is, w.widen.ensures) (length-set c.loop-y.changes y (join (stretch_of c.loop-y.changes y) w.stretch.result) ∙ h.height)
       | in_default w ↦ rw w.changes-is h.height
     ] in
-    let keeps : (v u : ℕ) → may_change now v u ≡ false → may_change c.args.changes.now v u ≡ false = elim c.match-damaged.branch [
+    let keeps : (v u : ℕ) → may_change now v u ≡ false → may_change c.args.changes.now v u ≡ false = elim c.match-damaged_columns.branch [
       | in-Some w ↦ rw (w.changes-is, w.widen.ensures) (λ v u none. h.keeps v u (not-before c.loop-y.changes y w.stretch.result v u none))
       | in_default w ↦ rw w.changes-is h.keeps
     ] in
     let shown : (v u : ℕ) → v < y + 1 → u < desk.windows.columns → may_change now v u ≡ false → shown_at desk.virtual.picture (v, u) ≡ picture (world desk) v u =
-    elim c.match-damaged.branch [
+    elim c.match-damaged_columns.branch [
       | in-Some w ↦
           let changes = c.loop-y.changes in
           let s = w.stretch.result in
