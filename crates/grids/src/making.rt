@@ -158,7 +158,7 @@ impl Grids {
         ensures { Made nothing self.old (Making.Mvwin win y x) result self.new }
     {
         let slot = self.slot(win)?;
-        if win.0 == 0 {
+        if win == WinId::STANDARD {
             return Err(Refusal::StandardScreen);
         }
         if slot.place().is_none() {
@@ -202,7 +202,7 @@ impl Grids {
         ensures { Made nothing self.old (Making.Delwin win) result self.new }
     {
         self.slot(win)?;
-        if win.0 == 0 {
+        if win == WinId::STANDARD {
             return Err(Refusal::StandardScreen);
         }
         if has_derived(&self.slots, win.0) {
