@@ -1,6 +1,6 @@
 //! Reading a line of a window, and the writes of one line of which every write is made.
 
-ghost use Rattle.std.specs.Prelude.{◌≡◌, ℕ, ◌<◌, ◌≤◌, ◌+◌, ◌-◌, is_some, length, map, slice_index, EachIndex, true, false};
+ghost use Rattle.std.specs.Prelude.{◌≡◌, ◌<◌, ◌≤◌, ◌+◌, ◌-◌, is_some, length, map, slice_index, EachIndex, true, false};
 ghost use Rattle.std.specs.List.{AllByRecursion};
 ghost use Rattle.cell.specs.Glyphs.{IsCell, is_printable};
 ghost use Rattle.slots.specs.Inks.{printed_cell};
