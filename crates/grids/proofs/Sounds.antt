@@ -1,11 +1,12 @@
 -- The windows of a table are sound.
-use Rattle.std.proofs.Common.{◌≡◌, ℕ, ◌<◌, Option, IsSomeAnd, MatchOption, List, arith, subst}
+use Rattle.std.proofs.Common.{ℕ, ◌<◌, Option, IsSomeAnd, MatchOption, List, arith}
+use Rattle.std.specs.Prelude.{⊤}
 use Rattle.std.specs.Option.{option_map}
 use Rattle.std.specs.List.{AllByRecursion}
 use Rattle.std.proofs.lemmas.List.Elements.{All-from_recursion, All-get_or}
 use Rattle.cell.specs.Glyphs.{IsCell, blank}
 use Rattle.cell.specs.Pictures.{Sheet, line_of, glyph_at, AreCells, HasSize}
-use Rattle.world.specs.Sound.{HasCells, IsPartOf, AreSoundWindows}
+use Rattle.world.specs.Sound.{HasCells, IsPartOf, IsSoundWindow, AreSoundWindows}
 use Rattle.cell.proofs.PictureLemmas.{length-line}
 use Rattle.slots.specs.declared.slot.Part.{Part}
 use Rattle.slots.specs.declared.slot.Cells.{Cells}
@@ -32,6 +33,6 @@ cells_of slots k (Shared part) grid chained = parent_fits k part (slot_at slots 
 pub sound : (t : WindowTable) → IsWindowTable t → AreSoundWindows (windows t)
 sound t s = grind (arith, each_at, slot_below, cells_of, chain_ends)
 
--- of the table that is shown
-pub sound_shown : (t u : WindowTable) → t ≡ u → IsWindowTable t → AreSoundWindows (windows u)
-sound_shown t u is h = subst (λ (t : WindowTable). AreSoundWindows (windows t)) is (sound t h)
+-- each window of a table is sound
+pub each_sound : (t : WindowTable) (w : ℕ) → IsWindowTable t → MatchOption (window_map t.slots w) ⊤ (IsSoundWindow (windows t) w)
+each_sound t w h = (sound t h).each w

@@ -36,7 +36,6 @@ impl Grids {
         let number = free_number(&self.slots).ok_or(Refusal::TooMany)?;
         let slot = Slot::with_grid(self.alloc, number, lines, columns, Some((begin_y, begin_x)))?;
         fill_slot_at(&mut self.slots, number, slot)?;
-        prove!(self.has_window(WinId::STANDARD));
         Ok(WinId(number))
     }
 
@@ -54,7 +53,6 @@ impl Grids {
         let number = free_number(&self.slots).ok_or(Refusal::TooMany)?;
         let slot = Slot::with_grid(self.alloc, number, nlines, ncols, None)?;
         fill_slot_at(&mut self.slots, number, slot)?;
-        prove!(self.has_window(WinId::STANDARD));
         Ok(WinId(number))
     }
 
@@ -146,7 +144,6 @@ impl Grids {
         };
         let slot = Slot::with_parent(self.alloc, lines, columns, place, part, depth, origin)?;
         fill_slot_at(&mut self.slots, number, slot)?;
-        prove!(self.has_window(WinId::STANDARD));
         Ok(WinId(number))
     }
 
@@ -158,7 +155,7 @@ impl Grids {
         ensures { Made nothing self.old (Making.Mvwin win y x) result self.new }
     {
         let slot = self.slot(win)?;
-        if win.0 == 0 {
+        if win == WinId::STANDARD {
             return Err(Refusal::StandardScreen);
         }
         if slot.place().is_none() {
@@ -168,7 +165,6 @@ impl Grids {
             return Err(Refusal::OffScreen);
         }
         place_slot(&mut self.slots, win.0, y, x);
-        prove!(self.has_window(WinId::STANDARD));
         Ok(())
     }
 
@@ -190,7 +186,6 @@ impl Grids {
         }
         shift_slot(&mut self.slots, win.0, par_y, par_x);
         settle(&mut self.slots);
-        prove!(self.has_window(WinId::STANDARD));
         Ok(())
     }
 
@@ -202,7 +197,7 @@ impl Grids {
         ensures { Made nothing self.old (Making.Delwin win) result self.new }
     {
         self.slot(win)?;
-        if win.0 == 0 {
+        if win == WinId::STANDARD {
             return Err(Refusal::StandardScreen);
         }
         if has_derived(&self.slots, win.0) {

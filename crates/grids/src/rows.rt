@@ -1,6 +1,6 @@
 //! Reading a line of a window, and the writes of one line of which every write is made.
 
-ghost use Rattle.std.specs.Prelude.{◌≡◌, ℕ, ◌<◌, ◌≤◌, ◌+◌, ◌-◌, is_some, length, map, slice_index, EachIndex, true, false};
+ghost use Rattle.std.specs.Prelude.{◌≡◌, ◌<◌, ◌≤◌, ◌+◌, ◌-◌, is_some, length, map, slice_index, EachIndex, true, false};
 ghost use Rattle.std.specs.List.{AllByRecursion};
 ghost use Rattle.cell.specs.Glyphs.{IsCell, is_printable};
 ghost use Rattle.slots.specs.Inks.{printed_cell};
@@ -18,6 +18,7 @@ use slots::list::{columns_of, fill_row, origin_of, print_row, put_row, row_in, t
 
 impl Grids {
     /// The cells of line `y` of a window, from left to right, without copying them. The line must exist.
+    #[tactic(auto, using(crate::proofs::Sounds::each_sound))]
     pub fn row(&self, win: WinId, y: u16) -> &[Cell]
         requires { HasPlace (windows self.now).window win.0 y 0 }
         ensures row { result.now ≡ line_shown (windows self.now).window win.0 y }

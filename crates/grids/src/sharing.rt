@@ -20,6 +20,7 @@ use world::Columns;
 impl Grids {
     /// The rectangle of window `to` at whose places it shows a cell that `from` shows in a rectangle of it, ends inclusive; none if
     /// there is no such place. Both windows must exist, and `from` must hold the rectangle.
+    #[tactic(auto, using(crate::proofs::Sounds::each_sound))]
     pub fn seen_in(&self, from: WinId, frame: Rect, to: WinId) -> Option<Rect>
         requires ordered_lines { frame.top ≤ frame.bottom }
         requires ordered_columns { frame.left ≤ frame.right }
@@ -28,7 +29,6 @@ impl Grids {
         ensures seen { AreRectangle (SharesPart (windows self.now).window from.0 frame to.0) result }
         ensures sound { AreSoundWindows (windows self.now) }
     {
-        prove!(self.has_window(WinId::STANDARD));
         let source = origin_of(&self.slots, from.0);
         if from == to {
             return Some(frame);

@@ -67,6 +67,7 @@ impl Grids {
     }
 
     /// The slot of a window.
+    #[tactic(auto, using(crate::proofs::Sounds::each_sound))]
     pub(crate) fn slot(&self, win: WinId) -> Result<&Slot, Refusal>
         ensures found { MatchResult result (λ s. slot_at self.now.slots win.0 ≡ Some s.now)
             (λ e. (slot_at self.now.slots win.0 ≡ None) × (e ≡ Refusal.NoSuchWindow)) }

@@ -15,6 +15,7 @@ use Rattle.grids.specs.Tables.{windows}
 use Rattle.slots.proofs.Chain.{depth_below}
 use Rattle.grids.proofs.NewWindows.{IsWindowTable-added, windows-added, extent-is, derived_in, placed_derived, made_derived}
 use Rattle.slots.proofs.Origins.{origin-derived}
+use Rattle.grids.proofs.Sounds.{sound}
 use Rattle.grids.proofs.table.Grids.derive.Goals as goal
 
 pub overflow_add-depth : goal.overflow_add-depth
@@ -67,5 +68,5 @@ returns c = record {
       ∙ ap (under_number (windows t) n) (made_derived (window_map t.slots) p a.win.0 a.nlines a.ncols a.y a.x c.in_ok-lines.lines c.in_ok-columns.columns
       (ap (option_map window_of) e) lines.given columns.given));
   unchanged = tt;
-  sound = search rules;
+  sound = sound _ (invariant_of-self-2 c);
 }

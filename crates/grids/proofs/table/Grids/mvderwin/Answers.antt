@@ -3,6 +3,7 @@ use Rattle.std.proofs.Common.{arith, rules, refl}
 use Rattle.std.proofs.lemmas.Grind.{common_steps}
 use Rattle.grids.specs.contracts.table.Grids.{the_view}
 use Rattle.grids.proofs.Shifts.{IsWindowTable-shifted, chained-shifted, windows-shifted}
+use Rattle.grids.proofs.Sounds.{sound}
 use Rattle.grids.proofs.table.Grids.mvderwin.Goals as goal
 
 pub settle-requires-clause-chained : goal.settle-requires-clause-chained
@@ -26,5 +27,5 @@ returns c = record {
       rw (← c.self.view_is)
       (windows-shifted (the_view c.self.inside) c.shift_slot.new.slots.items c.args.win.0 c.args.par_y c.args.par_x c.self.invariant c.shift_slot.ensures c.settle.new.slots.items c.settle.ensures);
   unchanged = tt;
-  sound = search rules;
+  sound = sound _ (invariant_of-self c);
 }

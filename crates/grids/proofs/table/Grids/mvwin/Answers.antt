@@ -5,6 +5,7 @@ use Rattle.std.proofs.lemmas.Bool.Decides.{nat_tests}
 use Rattle.world.specs.Effects.{with_place}
 use Rattle.grids.specs.contracts.table.Grids.{the_view}
 use Rattle.grids.proofs.Changes.{IsWindowTable-moved, windows-changed}
+use Rattle.grids.proofs.Sounds.{sound}
 use Rattle.grids.proofs.table.Grids.mvwin.Goals as goal
 
 pub invariant_of-self : goal.invariant_of-self
@@ -19,5 +20,5 @@ returns c = record {
   changed =
       rw (← c.self.view_is) (windows-changed (the_view c.self.inside) c.place_slot.new.slots.items c.args.win.0 (with_place c.args.y c.args.x) c.self.invariant c.place_slot.ensures);
   unchanged = tt;
-  sound = search rules;
+  sound = sound _ (invariant_of-self c);
 }

@@ -8,6 +8,7 @@ use Rattle.grids.specs.Tables.{windows}
 use Rattle.grids.specs.contracts.table.Grids.{the_view}
 use Rattle.grids.proofs.NewWindows.{IsWindowTable-added, windows-added, alone_in, placed_pad}
 use Rattle.slots.proofs.Origins.{origin-alone}
+use Rattle.grids.proofs.Sounds.{sound}
 use Rattle.grids.proofs.table.Grids.newpad.Goals as goal
 
 pub invariant_of-self-2 : goal.invariant_of-self-2
@@ -32,5 +33,5 @@ returns c = record {
       (windows-added t c.fill_slot_at.new.slots.items c.in_ok-number.number c.in_ok-slot.slot c.in_ok-fill_slot_at.ensures.set
       (new_window c.args.nlines c.args.ncols None blank_grid) c.in_ok-slot.ensures.window);
   unchanged = tt;
-  sound = search rules;
+  sound = sound _ (invariant_of-self-2 c);
 }

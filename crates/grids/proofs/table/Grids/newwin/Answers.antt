@@ -9,6 +9,7 @@ use Rattle.grids.specs.Tables.{windows}
 use Rattle.grids.specs.contracts.table.Grids.{the_view}
 use Rattle.grids.proofs.NewWindows.{IsWindowTable-added, windows-added, alone_in, extent-is, placed_new}
 use Rattle.slots.proofs.Origins.{origin-alone}
+use Rattle.grids.proofs.Sounds.{sound}
 use Rattle.grids.proofs.table.Grids.newwin.Goals as goal
 
 pub invariant_of-self-2 : goal.invariant_of-self-2
@@ -42,5 +43,5 @@ returns c = record {
       (windows-added t c.fill_slot_at.new.slots.items n c.in_ok-slot.slot c.in_ok-fill_slot_at.ensures.set (made (extent a.nlines t.lines a.begin_y) (extent a.ncols t.columns a.begin_x))
       (c.in_ok-slot.ensures.window ∙ found));
   unchanged = tt;
-  sound = search rules;
+  sound = sound _ (invariant_of-self-2 c);
 }

@@ -1,7 +1,6 @@
 -- The row is the line that the window shows.
 use Rattle.grids.specs.contracts.table.Grids.{the_view}
 use Rattle.grids.proofs.Showing.{row-read}
-use Rattle.grids.proofs.Sounds.{sound_shown}
 use Rattle.grids.proofs.table.Grids.row.Goals as goal
 
 pub returns-clause-row : goal.returns-clause-row
@@ -14,6 +13,3 @@ returns-clause-row c =
     let there = rw (← c.self.view_is) at c.requires in
     rw (← c.self.view_is) (row-read t.slots c.args.win.0 c.args.y c.columns_of-columns.result _ c.row_in.result.now
     there columns leads read)
-
-pub returns-clause-sound : goal.returns-clause-sound
-returns-clause-sound c = sound_shown _ _ c.self.view_is c.self.invariant
