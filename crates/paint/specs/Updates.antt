@@ -1,6 +1,7 @@
 -- What a doupdate sends, what it leaves of the painter, and which streams agree with a painter.
 -- X/Open Curses Issue 7: doupdate, clearok.
-use Rattle.std.specs.Prelude.{◌≡◌, ℕ, ◌+◌, ◌*◌, ◌<◌, ◌≤◌, ◌==◌, ◌&&◌, List, [], ◌∷◌, ◌++◌, Bool, true, length, take, codes, Option, Some, None, ⊤, MatchOption, Result, MatchResult, if◌then◌else◌, is_ok}
+use Rattle.std.specs.Prelude.{◌≡◌, ℕ, ◌+◌, ◌*◌, ◌<◌, ◌≤◌, ◌==◌, ◌&&◌, List, [], ◌∷◌, ◌++◌, Bool, true, length, take, codes}
+use Rattle.std.specs.Prelude.{Option, Some, None, ⊤, MatchOption, Result, MatchResult, if◌then◌else◌, is_ok}
 use Rattle.std.specs.Io.KnownBytes.{Appends}
 use Rattle.cell.specs.Pictures.{Picture, Place, HasSize, blank_picture, origin}
 use Rattle.ecma.specs.declared.token.Token.TheVariants.{Cup}
