@@ -16,7 +16,6 @@ use Rattle.world.specs.Drawings.{written_glyph, character_inserted, character_de
 use Rattle.world.specs.Typing.{backspace, carriage_return, newline}
 use Rattle.world.specs.Effects.{Edit, sets, draws, types, after_edit, edit_window}
 use Rattle.world.specs.calls.Missing.{missing_window}
-use Rattle.cell.specs.declared.window.Rect.{Rect}
 use Rattle.cell.specs.declared.refusal.Refusal.{Refusal}
 use Rattle.cell.specs.declared.refusal.Refusal.TheVariants.{OutsideWindow, BadRegion, BadCharacter, BadPair, ScrollingOff}
 use Rattle.world.specs.declared.call.Writing.{Writing}
