@@ -66,7 +66,11 @@ fn colour(screen: &mut Plain) -> Result<(), Fail>
 }
 
 /// How many bytes are sent by a first update, one that draws two cells, one that moves the cursor, and one that shows all again.
-fn update_four_times<W: Sink>(painter: &mut Painter, screen: &mut Plain, sink: &mut W) -> Result<[Sent; 4], Fail>
+fn update_four_times<W: Sink>(
+    painter: &mut Painter,
+    screen: &mut Plain,
+    sink: &mut W,
+) -> Result<[Sent; 4], Fail>
     requires lines { painter.old.lines ≡ 4 }
     requires columns { painter.old.columns ≡ 10 }
     requires size { HasSize 4 10 screen.old.picture }
@@ -131,7 +135,10 @@ fn all_is_shown_after_a_fault(rt: HostRuntime) -> Result<(), Fail> {
 
 #[test]
 fn a_flush_that_fails_is_a_fault(rt: HostRuntime) -> Result<(), Fail> {
-    let (sent, stream) = update_faulty(rt.alloc(), Halting::in_pieces(rt.alloc(), usize::MAX, true))?;
+    let (sent, stream) = update_faulty(
+        rt.alloc(),
+        Halting::in_pieces(rt.alloc(), usize::MAX, true),
+    )?;
     assert_eq!(rt; sent, [Err(WriteFault { sent: 16 }); 2]);
     assert_eq!(rt;
         stream.get(..16),
