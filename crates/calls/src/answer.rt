@@ -1,9 +1,9 @@
 //! What a call answers, as the type that all its answers have.
 
 ghost use Rattle.std.specs.Prelude.{◌≡◌, IsSomeAnd};
+ghost use Rattle.world.specs.Replies.{its_panel, no_answer, two_numbers};
 ghost use Rattle.world.specs.declared.call.Reply.{Reply};
 ghost use Rattle.calls.specs.Kinds.{IsOfKind, Kind, cell, composed, flag, neighbour, new_panel, nothing, number, pair};
-ghost use Rattle.calls.specs.Methods.{no_answer, one_panel, two_numbers};
 
 use cell::{Cell, WinId};
 use world::{Composed, PanelId, Reply};
@@ -91,7 +91,7 @@ impl Answer for bool {
 impl Answer for PanelId {
     ghost kind = { new_panel };
 
-    ghost reply_of = { one_panel };
+    ghost reply_of = { its_panel };
 
     fn of(reply: Reply) -> Option<PanelId> {
         match reply {

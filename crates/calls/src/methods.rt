@@ -6,7 +6,8 @@ ghost use Rattle.world.specs.calls.Dispatch.{is_doupdate};
 ghost use Rattle.world.specs.declared.call.Call.{Call};
 ghost use Rattle.world.specs.declared.call.Reply.{Reply};
 ghost use Rattle.calls.specs.Kinds.{IsAnswerTo, kind_of};
-ghost use Rattle.calls.specs.Methods.{no_answer, one_panel, as_reply, two_numbers};
+ghost use Rattle.world.specs.Replies.{its_panel, no_answer, two_numbers};
+ghost use Rattle.calls.specs.Methods.{as_reply};
 
 use crate::answer::Answer;
 use cell::{Attr, Cell, WinId};
@@ -528,7 +529,7 @@ pub trait Calls {
     /// # Errors
     /// `NoSuchWindow`, `StandardScreen`, `IsPad`, `InPanel`, `TooMany`, `NoMemory`.
     final fn new_panel(&mut self, win: WinId) -> Result<PanelId, Self::Error>
-        ensures { made self.old (Call.Stacking (Stacking.NewPanel win)) (as_reply one_panel result) self.new }
+        ensures { made self.old (Call.Stacking (Stacking.NewPanel win)) (as_reply its_panel result) self.new }
     {
         self.ask(&Call::Stacking(Stacking::NewPanel { win }))
     }

@@ -16,7 +16,8 @@ use Rattle.world.specs.declared.settings.Columns.{Columns}
 use Rattle.world.proofs.PlaceLaws.{has_place, keeps-moved, panels-kept}
 use Rattle.world.proofs.Sizes.{SameSize, size-order}
 use Rattle.grids.specs.Tables.{WindowTable, windows}
-use Rattle.stack.specs.Calls.{Arranged, nothing}
+use Rattle.world.specs.Replies.{no_answer}
+use Rattle.stack.specs.Calls.{Arranged}
 use Rattle.stack.specs.Tables.{PanelTable, panels}
 use Rattle.compose.specs.Calling.{Called}
 use Rattle.compose.specs.Covers.{IsDesk}
@@ -52,9 +53,9 @@ module _ (table : WindowTable) (ps : PanelTable) (sound : AreSoundWindows (windo
             record { refused = rw (← same) a.refused; reply = tt; changed = tt; arranged = tt; unchanged = refl; unordered = a.unchanged; sound = sound; sound_panels = sound_panels }
 
   -- it gives no panel a window
-  pub reordered : (stacking : Stacking) (r : Result (Unit {0}) Refusal) (new : PanelTable) → Arranged nothing (stacking_tests (windows table) (panels ps) stacking) ps stacking r new
+  pub reordered : (stacking : Stacking) (r : Result (Unit {0}) Refusal) (new : PanelTable) → Arranged no_answer (stacking_tests (windows table) (panels ps) stacking) ps stacking r new
       → windows_after (windows table) (panels ps) (stacking_order (panels ps) stacking) ≡ windows table
-      → ((p v : ℕ) → (after_stacking (panels ps) stacking).window p ≡ Some v → (panels ps).window p ≡ Some v) → Ordered nothing table ps stacking r table new
+      → ((p v : ℕ) → (after_stacking (panels ps) stacking).window p ≡ Some v → (panels ps).window p ≡ Some v) → Ordered no_answer table ps stacking r table new
   reordered stacking r new a still kept = grind (arith, ordered, window-of)
 
   -- it gives one panel a window

@@ -17,7 +17,7 @@ mod DamageCovers
 mod Visible
 -- What a change damages, in terms of the windows before it; for `copy_damaging`, `make_damaging`, `write_damaging`
 mod AffectedDamages
--- How many cells update_panels reads: as many as there are damaged columns; for `Updating`
+-- How many cells update_panels reads: as many as there are damaged columns; for `CellsRead`
 mod Reading
 -- The touched columns of a window are damaged line by line; for `damage_touched`
 mod Touching
@@ -31,6 +31,6 @@ pub mod Parting
 -- The rectangle of the screen to which a pad's cells are copied is what the copy draws; for `refresh_pad`
 pub mod Padding
 -- What update_panels reads: no less than it changes, and no more than all of the damaged lines; for `compose`
-pub mod Updating
+pub mod CellsRead
 -- A call on windows, made on a desk: it leaves a desk, and was made; for `call`
 mod WindowCalls

@@ -14,10 +14,10 @@ ghost use Rattle.world.specs.Effects.{Change, asks, edits, makes, shifts, Edit, 
 ghost use Rattle.world.specs.Windows.{Window};
 ghost use Rattle.world.specs.declared.call.Call.{Call};
 ghost use Rattle.world.specs.declared.call.Reply.{Reply};
-ghost use Rattle.grids.specs.Calls.{Changed, its_flag, its_number, nothing as no_answer};
+ghost use Rattle.grids.specs.Calls.{Changed};
 ghost use Rattle.grids.specs.Tables.{WindowTable, windows as windows_of};
 ghost use Rattle.windows.specs.Calls.{Drew, its_frame, no_frame};
-ghost use Rattle.stack.specs.Calls.{its_panel};
+ghost use Rattle.world.specs.Replies.{its_flag, its_number, its_panel, no_answer};
 ghost use Rattle.stack.specs.Tables.{panels};
 ghost use Rattle.compose.specs.steps.Changes.{affected_by, named_panel, order_panel, ordered_panel};
 ghost use Rattle.compose.specs.steps.Outcomes.{Affects, Answered, AnswersCall, AnswersOrder, AnswersQuery, Rearranges};

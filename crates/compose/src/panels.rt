@@ -4,14 +4,14 @@ ghost use Rattle.std.specs.Prelude.{◌≡◌};
 ghost use Rattle.std.specs.Result.{result_err};
 ghost use Rattle.cell.specs.Refusals.{first_of};
 ghost use Rattle.world.specs.Panels.{is_in_panel};
+ghost use Rattle.world.specs.Replies.{its_panel, no_answer};
 ghost use Rattle.world.specs.Sound.{AreSoundPanels};
 ghost use Rattle.world.specs.calls.Stacking.{window_tests};
 ghost use Rattle.world.specs.calls.Making.{making_change, making_refusal};
 ghost use Rattle.world.specs.declared.call.Making.{Making};
 ghost use Rattle.world.specs.declared.call.Stacking.{Stacking};
-ghost use Rattle.grids.specs.Calls.{Changed, nothing};
+ghost use Rattle.grids.specs.Calls.{Changed};
 ghost use Rattle.grids.specs.Tables.{windows as windows_of};
-ghost use Rattle.stack.specs.Calls.{its_panel};
 ghost use Rattle.stack.specs.Tables.{panels};
 ghost use Rattle.compose.specs.steps.Outcomes.{Ordered};
 
@@ -44,7 +44,7 @@ pub(crate) fn replace_panel(
     win: WinId,
 ) -> Result<(), Refusal>
     requires { AreSoundPanels (windows_of table.now).window (panels stack.old) }
-    ensures { Ordered nothing table.now stack.old (Stacking.ReplacePanel panel win) result table.now stack.new }
+    ensures { Ordered no_answer table.now stack.old (Stacking.ReplacePanel panel win) result table.now stack.new }
 {
     prove!(table.has_window(WinId::STANDARD));
     stack.window(panel)?;
@@ -64,7 +64,7 @@ pub(crate) fn move_panel(
     x: u16,
 ) -> Result<(), Refusal>
     requires { AreSoundPanels (windows_of table.old).window (panels stack.now) }
-    ensures { Ordered nothing table.old stack.now (Stacking.MovePanel panel y x) result table.new stack.now }
+    ensures { Ordered no_answer table.old stack.now (Stacking.MovePanel panel y x) result table.new stack.now }
 {
     prove!(table.has_window(WinId::STANDARD));
     let win = stack.window(panel)?;
@@ -83,7 +83,7 @@ pub(crate) fn move_window(
     x: u16,
 ) -> Result<(), Refusal>
     requires { AreSoundPanels (windows_of table.old).window (panels stack.now) }
-    ensures { Changed nothing table.old (making_refusal (windows_of table.old) (is_in_panel (panels stack.now)) (Making.Mvwin win y x))
+    ensures { Changed no_answer table.old (making_refusal (windows_of table.old) (is_in_panel (panels stack.now)) (Making.Mvwin win y x))
         (making_change (windows_of table.old) (Making.Mvwin win y x)) result table.new }
 {
     prove!(table.has_window(WinId::STANDARD));
@@ -99,7 +99,7 @@ pub(crate) fn move_window(
 /// `NoSuchWindow`, `StandardScreen`, `InPanel`, `HasDerived`.
 pub(crate) fn delete_window(table: &mut Grids, stack: &Stack, win: WinId) -> Result<(), Refusal>
     requires { AreSoundPanels (windows_of table.old).window (panels stack.now) }
-    ensures { Changed nothing table.old (making_refusal (windows_of table.old) (is_in_panel (panels stack.now)) (Making.Delwin win))
+    ensures { Changed no_answer table.old (making_refusal (windows_of table.old) (is_in_panel (panels stack.now)) (Making.Delwin win))
         (making_change (windows_of table.old) (Making.Delwin win)) result table.new }
 {
     prove!(table.has_window(WinId::STANDARD));

@@ -1,2 +1,2 @@
 -- What is printed, by whether a script ended with a fault; for `paint_screen`
-pub mod PictureLemmas
+pub mod PrintedPictures

@@ -16,7 +16,7 @@ use Rattle.ecma.specs.Terminals.{Terminal}
 use Rattle.ecma.specs.Streams.{Leads, LeadsWithBreaks, showing}
 use Rattle.ecma.proofs.Joining.{Leads-append}
 use Rattle.ecma.proofs.Leading.{Leads-nothing}
-use Rattle.ecma.proofs.Sizes.{size-effects}
+use Rattle.ecma.proofs.PictureSizes.{size-effects}
 use Rattle.streams.specs.Counts.{count_after}
 use Rattle.streams.specs.Sinks.{Seen}
 use Rattle.paint.specs.Updates.{Agrees, PainterState, ShownPicture}

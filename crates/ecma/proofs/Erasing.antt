@@ -11,7 +11,7 @@ use Rattle.cell.proofs.PictureLemmas.{length-line, same_pictures}
 use Rattle.ecma.specs.declared.token.Erase.{Erase}
 use Rattle.ecma.specs.declared.token.Erase.TheVariants.{ToEnd, FromStart, All}
 use Rattle.ecma.specs.Terminals.{blank_line, erased_line, erased_at}
-use Rattle.ecma.proofs.Sizes.{size-erased_at}
+use Rattle.ecma.proofs.PictureSizes.{size-erased_at}
 
 -- ---- one line
 

@@ -10,7 +10,7 @@ use Rattle.ecma.specs.declared.token.Token.{Token}
 use Rattle.ecma.specs.declared.token.Token.TheVariants.{Cup, Sgr}
 use Rattle.ecma.specs.Terminals.{first_foreground, first_background}
 use Rattle.ecma.specs.Spelling.{spelling, selection, codes_of, codes_of_attributes, code_of_colour, longest, IsToken}
-use Rattle.ecma.proofs.Numbers.{one_digit, few_attributes}
+use Rattle.ecma.proofs.ParameterNumbers.{one_digit, few_attributes}
 
 pub length-cup : (line column : ℕ) → line < LARGEST_SCREEN → column < LARGEST_SCREEN → length (spelling (Cup line column)) ≤ 10
 unfolding spelling

@@ -1,9 +1,9 @@
 -- Worked streams on a terminal of 4 by 10, for a reader of the definitions
 pub mod Examples
--- A fact of each item of a list; for `Beginnings`, `Joining`, `Numbers` and others
+-- A fact of each item of a list; for `Beginnings`, `Joining`, `ParameterNumbers` and others
 pub mod Each
 -- Numbers in parameters, and the codes of a set of attributes; for `Beginnings`, `Lengths`, `Selecting` and others
-pub mod Numbers
+pub mod ParameterNumbers
 -- A cell can hold what is from the space to the tilde; for `Beginnings`, `Unique`
 pub mod Printing
 -- The spelling of a token is one item, with the token's effect; for `spell`, `spelled_item`
@@ -20,7 +20,7 @@ pub mod Unique
 -- What a stream reaches, and where it fails; for `one_failure`, `one_terminal_reached`
 pub mod Failing
 -- No effect changes the size of the picture; for `erase_lines`, `size_stays`
-pub mod Sizes
+pub mod PictureSizes
 -- How many bytes a token has; for `append_colour`, `spell`
 pub mod Lengths
 -- Pictures that differ in no place are one; for `no_difference`

@@ -10,7 +10,7 @@ use Rattle.cell.specs.declared.colour.ColourPair.{ColourPair}
 use Rattle.ecma.specs.Parameters.{Parameter, parameter_of}
 use Rattle.ecma.specs.steps.Parameters.{number_of}
 use Rattle.ecma.specs.Terminals.{number_or, select, select_all, with_on, with_off}
-use Rattle.ecma.proofs.Numbers.{select_all-append}
+use Rattle.ecma.proofs.ParameterNumbers.{select_all-append}
 
 -- ---- attributes
 

@@ -12,7 +12,7 @@ use Rattle.ecma.specs.declared.token.Token.TheVariants.{Print, Cup, Sgr, El, Ed}
 use Rattle.ecma.specs.Items.{Printable, Control, CUP, ED, EL, SGR, IsDigit, AreParameters}
 use Rattle.ecma.specs.Terminals.{number_or, select, erasure_of, place_from_one}
 use Rattle.ecma.specs.Spelling.{codes_of, spelling, erasure_spelling, IsToken, IsItemOf}
-use Rattle.ecma.proofs.Numbers.{are_digits-decimal, number_or-decimal, select_all-codes_of, codes_small, codes_few}
+use Rattle.ecma.proofs.ParameterNumbers.{are_digits-decimal, number_or-decimal, select_all-codes_of, codes_small, codes_few}
 
 abbrev AreSmall : List ℕ → Type 0
 AreSmall codes = AllByRecursion (λ code. code < 100) codes

@@ -1,8 +1,7 @@
 -- A call made on a table of windows.
-use Rattle.std.specs.Prelude.{◌≡◌, Bool, IfOk, OnErr, OnOk, Option, Result, Some}
+use Rattle.std.specs.Prelude.{◌≡◌, IfOk, OnErr, OnOk, Option, Result, Some}
 use Rattle.std.specs.Result.{result_err}
 use Rattle.cell.specs.declared.refusal.Refusal.{Refusal}
-use Rattle.cell.specs.declared.window.WinId.{WinId}
 use Rattle.world.specs.Effects.{Change, after_change, change_reply, change_takes_memory}
 use Rattle.world.specs.Sound.{AreSoundWindows}
 use Rattle.world.specs.calls.Copying.{copying_change, copying_refusal}
@@ -13,7 +12,6 @@ use Rattle.world.specs.declared.call.Copying.{Copying}
 use Rattle.world.specs.declared.call.Making.{Making}
 use Rattle.world.specs.declared.call.Query.{Query}
 use Rattle.world.specs.declared.call.Reply.{Reply}
-use Rattle.world.specs.declared.call.Reply.TheVariants.{Flag, Nothing, Number}
 use Rattle.grids.specs.Tables.{WindowTable, windows}
 
 -- it was refused by its tests, and then nothing changed; else the answer and the windows are those of its effect
@@ -32,16 +30,6 @@ Made reply_of old making r new = Changed reply_of old (making_refusal (windows o
 -- of copies and marks
 abbrev pub Marked : {T : Type 0} → (T → Reply) → WindowTable → Copying → Result T Refusal → WindowTable → Type 0
 Marked reply_of old copying r new = Changed reply_of old (copying_refusal (windows old) copying) (copying_change (windows old) copying) r new
-
--- what it answers: nothing, the window that it made, or yes or no
-abbrev pub nothing : Unit {0} → Reply
-nothing done = Nothing
-
-abbrev pub its_number : WinId → Reply
-its_number win = Number win
-
-abbrev pub its_flag : Bool → Reply
-its_flag flag = Flag flag
 
 -- a query was refused exactly by its tests; else this is its answer
 pub record Asked {T : Type 0} (table : WindowTable) (query : Query) (value : Option T) (r : Result T Refusal) : Type 0 where

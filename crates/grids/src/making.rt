@@ -4,8 +4,9 @@ ghost use Rattle.std.specs.Prelude.{◌≡◌, ◌<◌, ◌+◌, ◌^◌, Some, 
 ghost use Rattle.cell.specs.Refusals.{first_of};
 ghost use Rattle.world.specs.calls.Making.{is_inside, extent, place_from, part_tests, derived_from, next_window};
 ghost use Rattle.world.specs.Effects.{makes};
+ghost use Rattle.world.specs.Replies.{its_number, no_answer};
 ghost use Rattle.world.specs.declared.call.Making.{Making};
-ghost use Rattle.grids.specs.Calls.{Changed, Made, its_number, nothing};
+ghost use Rattle.grids.specs.Calls.{Changed, Made};
 ghost use Rattle.grids.specs.Tables.{windows};
 
 use crate::table::Grids;
@@ -152,7 +153,7 @@ impl Grids {
     /// # Errors
     /// `NoSuchWindow`, `StandardScreen`, `IsPad`, `OffScreen`.
     pub fn mvwin(&mut self, win: WinId, y: u16, x: u16) -> Result<(), Refusal>
-        ensures { Made nothing self.old (Making.Mvwin win y x) result self.new }
+        ensures { Made no_answer self.old (Making.Mvwin win y x) result self.new }
     {
         let slot = self.slot(win)?;
         if win == WinId::STANDARD {
@@ -174,7 +175,7 @@ impl Grids {
     /// # Errors
     /// `NoSuchWindow`, `NotDerived`, `OutsideParent`.
     pub fn mvderwin(&mut self, win: WinId, par_y: u16, par_x: u16) -> Result<(), Refusal>
-        ensures { Made nothing self.old (Making.Mvderwin win par_y par_x) result self.new }
+        ensures { Made no_answer self.old (Making.Mvderwin win par_y par_x) result self.new }
     {
         let slot = self.slot(win)?;
         let part = slot.part().ok_or(Refusal::NotDerived)?;
@@ -194,7 +195,7 @@ impl Grids {
     /// # Errors
     /// `NoSuchWindow`, `StandardScreen`, `HasDerived`.
     pub fn delwin(&mut self, win: WinId) -> Result<(), Refusal>
-        ensures { Made nothing self.old (Making.Delwin win) result self.new }
+        ensures { Made no_answer self.old (Making.Delwin win) result self.new }
     {
         self.slot(win)?;
         if win == WinId::STANDARD {

@@ -6,8 +6,9 @@ ghost use Rattle.world.specs.Windows.{HasPlace, with_change};
 ghost use Rattle.world.specs.calls.Copying.{lines_marked};
 ghost use Rattle.world.specs.calls.Queries.{touched_columns};
 ghost use Rattle.world.specs.Effects.{without_marks};
+ghost use Rattle.world.specs.Replies.{its_flag, no_answer};
 ghost use Rattle.world.specs.declared.call.Copying.{Copying};
-ghost use Rattle.grids.specs.Calls.{Marked, its_flag, nothing};
+ghost use Rattle.grids.specs.Calls.{Marked};
 ghost use Rattle.grids.specs.Tables.{windows};
 
 use crate::table::Grids;
@@ -42,7 +43,7 @@ impl Grids {
     /// # Errors
     /// `NoSuchWindow`.
     pub fn touchwin(&mut self, win: WinId) -> Result<(), Refusal>
-        ensures { Marked nothing self.old (Copying.Touchwin win) result self.new }
+        ensures { Marked no_answer self.old (Copying.Touchwin win) result self.new }
     {
         let lines = self.slot(win)?.lines();
         self.mark(win, 0, lines, true);
@@ -54,7 +55,7 @@ impl Grids {
     /// # Errors
     /// `NoSuchWindow`.
     pub fn untouchwin(&mut self, win: WinId) -> Result<(), Refusal>
-        ensures { Marked nothing self.old (Copying.Untouchwin win) result self.new }
+        ensures { Marked no_answer self.old (Copying.Untouchwin win) result self.new }
     {
         let lines = self.slot(win)?.lines();
         self.mark(win, 0, lines, false);
@@ -66,7 +67,7 @@ impl Grids {
     /// # Errors
     /// `NoSuchWindow`; `OutsideWindow` if the window hasn't line `y`, or not `n` lines from it on.
     pub fn touchline(&mut self, win: WinId, y: u16, n: u16) -> Result<(), Refusal>
-        ensures { Marked nothing self.old (Copying.Touchline win y n) result self.new }
+        ensures { Marked no_answer self.old (Copying.Touchline win y n) result self.new }
     {
         self.wtouchln(win, y, n, true)
     }
@@ -76,7 +77,7 @@ impl Grids {
     /// # Errors
     /// `NoSuchWindow`; `OutsideWindow` if the window hasn't line `y`, or not `n` lines from it on.
     pub fn wtouchln(&mut self, win: WinId, y: u16, n: u16, flag: bool) -> Result<(), Refusal>
-        ensures { Marked nothing self.old (Copying.Touchln win y n flag) result self.new }
+        ensures { Marked no_answer self.old (Copying.Touchln win y n flag) result self.new }
     {
         let lines = self.slot(win)?.lines();
         if y >= lines || n > lines - y {

@@ -2,11 +2,12 @@
 
 ghost use Rattle.std.specs.Prelude.{◌≡◌, ◌≢◌, ℕ, ◌<◌, ◌≤◌, ◌+◌, ◌-◌, ◌&&◌, nat_le, ⊤, IsSome, IsSomeAnd, MatchOption};
 ghost use Rattle.cell.specs.declared.limits.TheConstants.{LARGEST_PAD};
+ghost use Rattle.world.specs.Replies.{no_answer};
 ghost use Rattle.world.specs.Sound.{AreColumnsWithin};
 ghost use Rattle.world.specs.Windows.{HasPlace, with_change};
 ghost use Rattle.world.specs.calls.Copying.{with_touches, after_copying};
 ghost use Rattle.world.specs.declared.call.Copying.{Copying};
-ghost use Rattle.grids.specs.Calls.{Marked, nothing};
+ghost use Rattle.grids.specs.Calls.{Marked};
 ghost use Rattle.grids.specs.Tables.{windows};
 ghost use Rattle.slots.specs.Changes.{with_touched};
 ghost use Rattle.slots.specs.Slots.{depth_at};
@@ -24,7 +25,7 @@ impl Grids {
     /// # Errors
     /// `NoSuchWindow`.
     pub fn wsyncup(&mut self, win: WinId) -> Result<(), Refusal>
-        ensures { Marked nothing self.old (Copying.Syncup win) result self.new }
+        ensures { Marked no_answer self.old (Copying.Syncup win) result self.new }
     {
         self.slot(win)?;
         self.hand_up(win.0);
@@ -37,7 +38,7 @@ impl Grids {
     /// # Errors
     /// `NoSuchWindow`.
     pub fn wsyncdown(&mut self, win: WinId) -> Result<(), Refusal>
-        ensures { Marked nothing self.old (Copying.Syncdown win) result self.new }
+        ensures { Marked no_answer self.old (Copying.Syncdown win) result self.new }
     {
         self.slot(win)?;
         self.take_down(win.0);

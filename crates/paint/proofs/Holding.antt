@@ -19,7 +19,7 @@ use Rattle.paint.specs.steps.Gathering.{IsGathered}
 use Rattle.paint.specs.steps.Holding.{HoldsUpdate}
 use Rattle.paint.specs.steps.Strokes.{change, move_from, under, Draws, IsPlainAt, Strokes, picture_bytes}
 use Rattle.paint.proofs.Shows.{opening-leads}
-use Rattle.paint.proofs.Strokes.{length-ended, length-move}
+use Rattle.paint.proofs.PenStrokes.{length-ended, length-move}
 use Rattle.cell.specs.declared.limits.TheConstants.{LARGEST_SCREEN}
 
 -- ---- an empty text

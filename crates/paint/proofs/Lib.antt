@@ -1,7 +1,7 @@
 -- A text that is gathered, appended to, and passed on; for `draw_frame`, `hand_on`
 pub mod Gathering
 -- The strokes of a pen, one after another, and what each shows; for `approach`, `change_length`, `end` and others
-pub mod Strokes
+pub mod PenStrokes
 -- A list whose first items are those of another one; for `paint_picture`
 pub mod Prefixes
 -- The walk over the cells of a line, and over the lines of a picture; for `come_to`, `paint_cells`, `paint_last_line` and others
@@ -15,12 +15,12 @@ pub mod Pages
 -- The strokes of a doupdate make a text of it; for `draw`, `show`
 pub mod Holding
 -- What a text that was sent means for a painter; for `send_text`
-pub mod Updating
+pub mod SentTexts
 -- The text of a doupdate after a stream that agrees with the painter: where it clears, it doesn't matter what was sent before; for
 -- `agrees_after_fault`, `agrees_after_update`, `shows_after_update` and others
 pub mod Repair
 -- Runs of cells: printed one after another, and drawn in a line; for `are_all`, `paint_cells`, `paint_run` and others
-pub mod Runs
+pub mod CellRuns
 -- Columns in which a picture may differ from another; for `changed_lines`, `clear`, `copy_changes` and others
 pub mod Changed
 -- Lines that are the same before one column and from another one on; for `changed_tail`, `first_changed`, `last_changed`
@@ -32,4 +32,4 @@ pub mod Copying
 -- A picture is drawn in passes, and what each may cost; for `is_drawn_in`, `paint_part`, `paint_pass` and others
 pub mod Choices
 -- The order of the passes for renditions as they come; for `note_cells`, `note_part`, `order_of` and others
-pub mod Orders
+pub mod PassOrders

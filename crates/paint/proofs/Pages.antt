@@ -15,7 +15,7 @@ use Rattle.paint.specs.steps.Strokes.{Draws, Strokes, line_bytes, picture_bytes}
 use Rattle.paint.specs.steps.Walks.{with_prefix, AreBlank, IsPicturePainted, IsReadyToErase}
 use Rattle.paint.proofs.Prefixes.{drop-with_prefix, length-with_prefix, with_prefix-at, with_prefix-more, take-with_prefix}
 use Rattle.paint.proofs.Shows.{blank_line-all}
-use Rattle.paint.proofs.Strokes.{Strokes-more, Strokes-then}
+use Rattle.paint.proofs.PenStrokes.{Strokes-more, Strokes-then}
 use Rattle.paint.proofs.Tails.{kept-later}
 use Rattle.paint.proofs.Walks.{erased-with_prefix, line_bytes-changed, picture_bytes-later}
 

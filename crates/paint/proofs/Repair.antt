@@ -6,7 +6,7 @@ use Rattle.cell.specs.Pictures.{HasSize}
 use Rattle.ecma.specs.Items.{EndsOrEscapes}
 use Rattle.ecma.specs.Terminals.{Terminal}
 use Rattle.ecma.specs.Streams.{IsInProfile, LeadsWithBreaks, Shows, showing}
-use Rattle.ecma.proofs.Sizes.{size-effects}
+use Rattle.ecma.proofs.PictureSizes.{size-effects}
 use Rattle.ecma.proofs.Joining.{Leads-repairs, Leads-take, InProfile-append, LeadsWithBreaks-append, LeadsWithBreaks-in_profile, LeadsWithBreaks-in_profile_then}
 use Rattle.paint.specs.Updates.{PainterState, ShownPicture, IsUpdateText, MayRead, Agrees, known_picture, opening, opening_from}
 

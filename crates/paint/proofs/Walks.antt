@@ -16,7 +16,7 @@ use Rattle.paint.specs.declared.pen.Pen.{Pen}
 use Rattle.paint.specs.steps.Strokes.{change, Draws, IsPlainAt, Strokes, cell_bytes, line_bytes, picture_bytes}
 use Rattle.paint.specs.steps.Walks.{cells_between, with_prefix, AreBlank, IsLinePainted, IsPicturePainted, IsReadyToErase}
 use Rattle.paint.proofs.Prefixes.{with_prefix-at, with_prefix-back, with_prefix-prefix, with_prefix-more, with_prefix-same, length-with_prefix, take-with_prefix}
-use Rattle.paint.proofs.Strokes.{Strokes-more, Strokes-nothing, Strokes-then, length-ended}
+use Rattle.paint.proofs.PenStrokes.{Strokes-more, Strokes-nothing, Strokes-then, length-ended}
 
 -- ---- what the cells of a line may cost
 

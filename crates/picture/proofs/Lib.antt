@@ -11,7 +11,7 @@ pub mod Standard
 -- the search along a line, for owner_span and cell_found
 pub mod Searching
 -- a line made run by run, for compose_row
-pub mod Runs
+pub mod PictureRuns
 -- the search from the bottom, for find_owners
 pub mod OwnerLaws
 -- a picture made line by line, for show_damaged and compose_row

@@ -11,6 +11,6 @@ pub mod OneSlot
 -- the origins set one by one, for settle
 pub mod Settling
 -- the search for a number, for free_number
-pub mod Numbers
+pub mod FreeNumbers
 -- a test of each slot, for has_derived and is_touched
 pub mod Derived

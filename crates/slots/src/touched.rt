@@ -71,13 +71,6 @@ impl Touched {
         requires { first ≤ last }
         ensures { result ≡ joined_columns self first last }
     {
-        if self.last < self.first {
-            Touched { first, last }
-        } else {
-            Touched {
-                first: self.first.min(first),
-                last: self.last.max(last),
-            }
-        }
+        Touched::new(Some(Columns::join(self.columns(), first, last)))
     }
 }

@@ -4,7 +4,7 @@ use mathlib.Core.List.{reverse_aux}
 use Rattle.std.specs.List.{AllByRecursion}
 use Rattle.std.proofs.lemmas.Bool.{ne_eqb}
 use Rattle.stack.specs.Nodes.{AreOnce, IsChain, IsOut, way}
-use Rattle.stack.proofs.Orders.{out-back, out-prefix}
+use Rattle.stack.proofs.DistinctNumbers.{out-back, out-prefix}
 
 -- ---- a chain alone
 

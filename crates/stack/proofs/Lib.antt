@@ -1,7 +1,7 @@
 -- nodes that name one another, for take_out, put_on_top and put_at_bottom
 pub mod Chains
 -- lists without duplicates, for take_out
-pub mod Orders
+pub mod DistinctNumbers
 -- the order through the nodes, for take_out, put_on_top, put_at_bottom and visible
 pub mod Threads
 -- who is right above and below, for above, below and hidden

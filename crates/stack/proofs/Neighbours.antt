@@ -8,7 +8,7 @@ use Rattle.world.specs.calls.Stacking.{first_in, next_in}
 use Rattle.stack.specs.Nodes.{above_at, below_at, AreOnce, IsChain, IsPanel, IsThreaded}
 use Rattle.stack.specs.declared.nodes.Node.{Node}
 use Rattle.stack.proofs.Chains.{chain-back, chain-prefix, chain-reverse, not-first}
-use Rattle.stack.proofs.Orders.{Split, any-split, any_is-out, each-back, each-prefix, each-reverse, next_in-split, once-after, once-before, out-reverse, out_or_in}
+use Rattle.stack.proofs.DistinctNumbers.{Split, any-split, any_is-out, each-back, each-prefix, each-reverse, next_in-split, once-after, once-before, out-reverse, out_or_in}
 use Rattle.stack.proofs.Threads.{panel-below, positive}
 
 -- a node's number, but for the end

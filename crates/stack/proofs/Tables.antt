@@ -16,7 +16,7 @@ use Rattle.stack.specs.Tables.{panels, table_of, IsPanelTable, PanelTable}
 use Rattle.stack.specs.steps.Entries.{Entered, IsFree, NodeMade, Windowed}
 use Rattle.stack.specs.steps.Links.{Reordered}
 use Rattle.stack.specs.declared.nodes.Node.{Node}
-use Rattle.stack.proofs.Orders.{distinct-once, out-each}
+use Rattle.stack.proofs.DistinctNumbers.{distinct-once, out-each}
 use Rattle.stack.proofs.Threads.{from_bottom-is, panel-below, panel-same}
 use Rattle.stack.proofs.Windows.{given-other, panels-are, threaded-windowed, window-is, threaded-pushed, window-free, given-same}
 

@@ -9,8 +9,8 @@ use Rattle.stack.specs.Nodes.{node_at, above_at, below_at, IsAlone, IsChain, IsO
 use Rattle.stack.specs.steps.Links.{Linked, Reordered, SameWindows}
 use Rattle.stack.specs.declared.nodes.Node.{Node}
 use Rattle.stack.proofs.Chains.{Inserted, Removed, chain-back, chain-prefix, chain-pushed, chain-put, chain-removed, chain-reverse, first-each, last-each, not-first, not-last, way-chain}
-use Rattle.stack.proofs.Orders.{each-append, each-back, each-prefix, each-reverse, each-weaker, length-once, once-after, once-before, once-push, once-without, out-append, out-back, out-each}
-use Rattle.stack.proofs.Orders.{out-prefix, out_or_in, without-out, without-split}
+use Rattle.stack.proofs.DistinctNumbers.{each-append, each-back, each-prefix, each-reverse, each-weaker, length-once, once-after, once-before, once-push, once-without, out-append, out-back, out-each}
+use Rattle.stack.proofs.DistinctNumbers.{out-prefix, out_or_in, without-out, without-split}
 
 -- ---- the order is what is threaded
 

@@ -9,7 +9,7 @@ use Rattle.stack.specs.Tables.{panels, table_of}
 use Rattle.stack.specs.steps.Entries.{Windowed}
 use Rattle.stack.specs.declared.nodes.Node.{Node}
 use Rattle.stack.proofs.Chains.{chain-same}
-use Rattle.stack.proofs.Orders.{each-weaker}
+use Rattle.stack.proofs.DistinctNumbers.{each-weaker}
 use Rattle.stack.proofs.Threads.{panel-below, threaded-kept}
 
 pub window-is : (nodes : List Node) (p : ℕ) → slice_index_or (map window_in nodes) p None ≡ window_at nodes p

@@ -9,9 +9,7 @@ use Rattle.world.specs.calls.Refused.{Refused}
 use Rattle.world.specs.Windows.{Windows}
 use Rattle.world.specs.calls.Stacking.{IsSoundOrder, after_stacking, stacking_order, stacking_refusal}
 use Rattle.world.specs.declared.call.Reply.{Reply}
-use Rattle.world.specs.declared.call.Reply.TheVariants.{Nothing, Panel}
 use Rattle.world.specs.declared.call.Stacking.{Stacking}
-use Rattle.world.specs.declared.panel.PanelId.{PanelId}
 use Rattle.stack.specs.Tables.{PanelTable, panels}
 
 -- it was refused by its tests of panels, and then nothing changed; else the answer and the panels are those of its effect
@@ -22,14 +20,6 @@ pub record Arranged {T : Type 0} (reply_of : T → Reply) (tests : List (Bool ×
   pub arranged : OnOk r (panels new ≡ after_stacking (panels old) stacking)
   pub unchanged : OnErr r (new ≡ old)
   pub sound : IsSoundOrder (panels new)
-
--- of a call that answers nothing
-abbrev pub nothing : Unit {0} → Reply
-nothing done = Nothing
-
--- of one that answers its panel
-abbrev pub its_panel : PanelId → Reply
-its_panel panel = Panel (Some panel)
 
 -- the tests of a query speak of no window, so they are the same where there is none
 abbrev pub no_windows : Windows

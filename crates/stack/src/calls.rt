@@ -1,8 +1,9 @@
 //! The calls that make panels, delete them and change their order.
 
+ghost use Rattle.world.specs.Replies.{its_panel, no_answer};
 ghost use Rattle.world.specs.calls.Stacking.{new_panel_tests, panel_tests, replace_panel_tests, visible_tests};
 ghost use Rattle.world.specs.declared.call.Stacking.{Stacking};
-ghost use Rattle.stack.specs.Calls.{Arranged, its_panel, nothing};
+ghost use Rattle.stack.specs.Calls.{Arranged};
 ghost use Rattle.stack.specs.Tables.{panels};
 
 use crate::entries::{enter, free_number, holder, require_panel, require_visible};
@@ -34,7 +35,7 @@ impl Stack {
     /// # Errors
     /// `NoSuchPanel`.
     pub fn del(&mut self, panel: PanelId) -> Result<(), Refusal>
-        ensures { Arranged nothing (panel_tests (panels self.old) panel.0) self.old (Stacking.DelPanel panel) result self.new }
+        ensures { Arranged no_answer (panel_tests (panels self.old) panel.0) self.old (Stacking.DelPanel panel) result self.new }
     {
         require_panel(&self.nodes, panel)?;
         take_out(&mut self.nodes, panel.0);
@@ -47,7 +48,7 @@ impl Stack {
     /// # Errors
     /// `NoSuchPanel`.
     pub fn show(&mut self, panel: PanelId) -> Result<(), Refusal>
-        ensures { Arranged nothing (panel_tests (panels self.old) panel.0) self.old (Stacking.ShowPanel panel) result self.new }
+        ensures { Arranged no_answer (panel_tests (panels self.old) panel.0) self.old (Stacking.ShowPanel panel) result self.new }
     {
         require_panel(&self.nodes, panel)?;
         move_to_top(&mut self.nodes, panel.0);
@@ -59,7 +60,7 @@ impl Stack {
     /// # Errors
     /// `NoSuchPanel`, `Hidden`.
     pub fn hide(&mut self, panel: PanelId) -> Result<(), Refusal>
-        ensures { Arranged nothing (visible_tests (panels self.old) panel.0) self.old (Stacking.HidePanel panel) result self.new }
+        ensures { Arranged no_answer (visible_tests (panels self.old) panel.0) self.old (Stacking.HidePanel panel) result self.new }
     {
         require_visible(&self.nodes, panel)?;
         take_out(&mut self.nodes, panel.0);
@@ -71,7 +72,7 @@ impl Stack {
     /// # Errors
     /// `NoSuchPanel`, `Hidden`.
     pub fn top(&mut self, panel: PanelId) -> Result<(), Refusal>
-        ensures { Arranged nothing (visible_tests (panels self.old) panel.0) self.old (Stacking.TopPanel panel) result self.new }
+        ensures { Arranged no_answer (visible_tests (panels self.old) panel.0) self.old (Stacking.TopPanel panel) result self.new }
     {
         require_visible(&self.nodes, panel)?;
         self.show(panel)
@@ -82,7 +83,7 @@ impl Stack {
     /// # Errors
     /// `NoSuchPanel`, `Hidden`.
     pub fn bottom(&mut self, panel: PanelId) -> Result<(), Refusal>
-        ensures { Arranged nothing (visible_tests (panels self.old) panel.0) self.old (Stacking.BottomPanel panel) result self.new }
+        ensures { Arranged no_answer (visible_tests (panels self.old) panel.0) self.old (Stacking.BottomPanel panel) result self.new }
     {
         require_visible(&self.nodes, panel)?;
         move_to_bottom(&mut self.nodes, panel.0);
@@ -94,7 +95,7 @@ impl Stack {
     /// # Errors
     /// `NoSuchPanel`, `InPanel`.
     pub fn replace(&mut self, panel: PanelId, win: WinId) -> Result<(), Refusal>
-        ensures { Arranged nothing (replace_panel_tests (panels self.old) panel.0 win.0) self.old (Stacking.ReplacePanel panel win) result self.new }
+        ensures { Arranged no_answer (replace_panel_tests (panels self.old) panel.0 win.0) self.old (Stacking.ReplacePanel panel win) result self.new }
     {
         require_panel(&self.nodes, panel)?;
         if holder(&self.nodes, win).is_some() {

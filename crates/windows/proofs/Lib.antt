@@ -1,5 +1,5 @@
 -- the drawings of calls, made of writes of one line, for clear_all, clear_below, move_up and move_down
-pub mod Strokes
+pub mod LineDrawings
 -- the rectangles of the drawings, for the frames that calls answer
 pub mod Rectangles
 -- what a window of a known state keeps, for state_of and what writes a line
@@ -13,7 +13,7 @@ pub mod Typing
 -- one character after another, and that printed ones are accepted, for type_text and has_bad_character
 pub mod Texts
 -- a run of characters that stay inside a line is one drawing, for type_text
-pub mod Runs
+pub mod CharacterRuns
 -- the lines of a region, for scroll
 pub mod Scrolls
 -- two small windows worked out, for a reader of the definitions

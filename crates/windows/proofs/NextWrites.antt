@@ -9,8 +9,8 @@ use Rattle.world.specs.Drawings.{at_place, character_inserted, character_deleted
 use Rattle.windows.specs.steps.State.{IsStateOf}
 use Rattle.windows.specs.declared.state.WindowState.{WindowState}
 use Rattle.windows.proofs.States.{spot-of}
-use Rattle.windows.proofs.Strokes.{above, from, put-none_above, put-all_above, put-none_from, put-all_from, put-line, put-line_before, put-line_up, put-line_down, filled-line, put-filled_rest}
-use Rattle.windows.proofs.Strokes.{put-filled_place, put-inserted, put-deleted, to_bottom-first, to_bottom-above, up-copied, up-cleared, up-outside, down-copied, down-cleared, down-outside}
+use Rattle.windows.proofs.LineDrawings.{above, from, put-none_above, put-all_above, put-none_from, put-all_from, put-line, put-line_before, put-line_up, put-line_down, filled-line, put-filled_rest}
+use Rattle.windows.proofs.LineDrawings.{put-filled_place, put-inserted, put-deleted, to_bottom-first, to_bottom-above, up-copied, up-cleared, up-outside, down-copied, down-cleared, down-outside}
 
 with_map : (windows : Windows) (u v : WindowMap) → u ≡ v → record windows { window = u } ≡ record windows { window = v }
 with_map windows u v e = λ i. record windows { window = e i }

@@ -9,4 +9,5 @@ pub mod Frames
 pub mod Sharing
 pub mod Typing
 pub mod Effects
+pub mod Replies
 pub mod calls

@@ -6,6 +6,7 @@ use Rattle.std.specs.Option.{option_map_or}
 use Rattle.cell.specs.Glyphs.{Glyph}
 use Rattle.cell.specs.Pictures.{Place, origin}
 use Rattle.cell.specs.declared.limits.TheConstants.{MOST_PANELS}
+use Rattle.cell.specs.declared.window.TheConstants.WinId.{STANDARD}
 use Rattle.world.specs.Windows.{Window, WindowMap, any_below, cell_at}
 
 -- the visible panels from bottom to top, and the window of each panel, which is hidden where the list lacks it
@@ -27,7 +28,7 @@ is_in_panel panels w = any_below panel_limit (λ p. option_map_or (λ u. u == w)
 
 -- the number of the standard screen
 abbrev pub standard_screen : ℕ
-standard_screen = 0
+standard_screen = STANDARD.0
 
 -- the windows of the visible panels, the topmost first
 abbrev pub windows_from_top : Panels → List ℕ

@@ -4,6 +4,7 @@ use Rattle.std.specs.Result.{result_err}
 use Rattle.cell.specs.declared.refusal.Refusal.{Refusal}
 use Rattle.world.specs.Effects.{Change, asks, changes, order_reply, order_takes_memory, windows_after}
 use Rattle.world.specs.Panels.{Panels}
+use Rattle.world.specs.Replies.{no_answer}
 use Rattle.world.specs.Sound.{AreSoundPanels, AreSoundWindows}
 use Rattle.world.specs.calls.Affected.{change_shows_at, order_shows_at}
 use Rattle.world.specs.calls.Queries.{query_refusal, query_reply}
@@ -15,7 +16,7 @@ use Rattle.world.specs.declared.call.Stacking.{Stacking}
 use Rattle.world.specs.declared.settings.Columns.{Columns}
 use Rattle.grids.specs.Calls.{Changed}
 use Rattle.grids.specs.Tables.{WindowTable, windows}
-use Rattle.stack.specs.Calls.{Arranged, nothing}
+use Rattle.stack.specs.Calls.{Arranged}
 use Rattle.stack.specs.Tables.{PanelTable, panels}
 use Rattle.picture.specs.Damages.{Damages}
 use Rattle.compose.specs.declared.dispatch.Outcome.{Outcome}
@@ -64,7 +65,7 @@ AnswersCall reply_of r answer =
 abbrev pub AnswersOrder : Result (Unit {0}) Refusal → Result Reply Refusal → Type 0
 AnswersOrder r answer =
     (table : WindowTable) (ps after : PanelTable) (stacking : Stacking) → AreSoundWindows (windows table) → AreSoundPanels (windows table).window (panels ps)
-    → Arranged nothing (stacking_tests (windows table) (panels ps) stacking) ps stacking r after
+    → Arranged no_answer (stacking_tests (windows table) (panels ps) stacking) ps stacking r after
     → windows_after (windows table) (panels ps) (stacking_order (panels ps) stacking) ≡ windows table
     → ((p w : ℕ) → (after_stacking (panels ps) stacking).window p ≡ Some w → (panels ps).window p ≡ Some w) → Rearranges table ps stacking answer table after
 

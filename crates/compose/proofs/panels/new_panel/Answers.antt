@@ -3,7 +3,7 @@ use Rattle.std.proofs.Common.{rules, refl, sym, ◌≡◌, None}
 use Rattle.cell.specs.Refusals.{first_of}
 use Rattle.world.specs.calls.Stacking.{new_panel_tests, next_panel, window_tests}
 use Rattle.grids.specs.Tables.{windows}
-use Rattle.stack.specs.Calls.{its_panel}
+use Rattle.world.specs.Replies.{its_panel}
 use Rattle.stack.specs.Tables.{panels}
 use Rattle.compose.proofs.Arranging.{first-after, ordered-given}
 use Rattle.compose.proofs.SoundPanels.{may-be-in}

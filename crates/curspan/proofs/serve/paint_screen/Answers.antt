@@ -1,7 +1,7 @@
--- `paint_screen`: a picture that was written, or could not be, or none (`PictureLemmas`).
+-- `paint_screen`: a picture that was written, or could not be, or none (`PrintedPictures`).
 use Rattle.std.proofs.Common.{◌≡◌, false, true, Some, ap, inl, inr, refl, subst, sym, ◌∙◌}
 use Rattle.std.specs.Prelude.{is_some}
-use Rattle.curspan.proofs.PictureLemmas.{of-some, without}
+use Rattle.curspan.proofs.PrintedPictures.{of-some, without}
 use Rattle.world.specs.World.{World}
 use Rattle.cell.specs.Shown.{no_rendition}
 use Rattle.commands.specs.Printing.{printed_picture}

@@ -1,6 +1,6 @@
--- `approach`: the strokes of a pen, one after another, and what each shows (`Strokes`).
+-- `approach`: the strokes of a pen, one after another, and what each shows (`PenStrokes`).
 use Rattle.std.proofs.Common.{◌+◌, ◌∙◌, length, sym, arith}
-use Rattle.paint.proofs.Strokes.{again-at, approach-again, approach-move, approach-moved, approach-printed, is_at-known}
+use Rattle.paint.proofs.PenStrokes.{again-at, approach-again, approach-move, approach-moved, approach-printed, is_at-known}
 use Rattle.paint.proofs.gap.approach.Goals as goal
 
 pub print_again-requires-clause-cursor : goal.print_again-requires-clause-cursor

@@ -1,6 +1,6 @@
--- `approach_length`: a gap is printed again, or left by a move (`Strokes`).
+-- `approach_length`: a gap is printed again, or left by a move (`PenStrokes`).
 use Rattle.std.proofs.Common.{◌∙◌, sym}
-use Rattle.paint.proofs.Strokes.{again-few, approach-moved}
+use Rattle.paint.proofs.PenStrokes.{again-few, approach-moved}
 use Rattle.paint.proofs.gap.approach_length.Goals as goal
 
 pub again_length-requires : goal.again_length-requires

@@ -1,5 +1,5 @@
 use Rattle.std.proofs.Common.{sym, ap, length, ◌∙◌}
-use Rattle.paint.proofs.Strokes.{change-other, change-same}
+use Rattle.paint.proofs.PenStrokes.{change-other, change-same}
 use Rattle.paint.proofs.gap.change_length.Goals as goal
 
 pub returns-then-eq-clause-exact : goal.returns-then-eq-clause-exact

@@ -1,4 +1,4 @@
-use Rattle.paint.proofs.Strokes.{again-long}
+use Rattle.paint.proofs.PenStrokes.{again-long}
 use Rattle.std.proofs.Common.{sym}
 use Rattle.paint.proofs.gap.is_printed_again.Goals as goal
 

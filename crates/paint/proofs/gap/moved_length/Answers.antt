@@ -1,6 +1,6 @@
--- `moved_length`: the strokes of a pen, one after another, and what each shows (`Strokes`).
+-- `moved_length`: the strokes of a pen, one after another, and what each shows (`PenStrokes`).
 use Rattle.std.proofs.Common.{arith}
-use Rattle.paint.proofs.Strokes.{length-go, length-stay}
+use Rattle.paint.proofs.PenStrokes.{length-go, length-stay}
 use Rattle.paint.proofs.gap.moved_length.Goals as goal
 
 pub returns-then-is_at-clause-exact : goal.returns-then-is_at-clause-exact

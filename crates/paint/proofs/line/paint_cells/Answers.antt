@@ -1,10 +1,10 @@
--- `paint_cells`: runs of cells: printed one after another, and drawn in a line (`Runs`); the walk over the cells of a line, and over the lines of a
+-- `paint_cells`: runs of cells: printed one after another, and drawn in a line (`CellRuns`); the walk over the cells of a line, and over the lines of a
 -- picture (`Walks`).
 use Rattle.std.proofs.Common.{◌≡◌, ◌<◌, ◌≤◌, ◌∙◌, length, sym, arith}
 use Rattle.cell.specs.Pictures.{line_of}
 use Rattle.paint.specs.steps.Walks.{cells_between}
 use Rattle.paint.proofs.Prefixes.{between}
-use Rattle.paint.proofs.Runs.{same_shown-at, line-run, part-of}
+use Rattle.paint.proofs.CellRuns.{same_shown-at, line-run, part-of}
 use Rattle.paint.proofs.Walks.{length-between, line-kept}
 use Rattle.paint.proofs.line.paint_cells.Goals as goal
 

@@ -1,9 +1,9 @@
--- `paint_last_line`: the strokes of a pen, one after another, and what each shows (`Strokes`); the blank end of a line (`Tails`); the walk over the
+-- `paint_last_line`: the strokes of a pen, one after another, and what each shows (`PenStrokes`); the blank end of a line (`Tails`); the walk over the
 -- cells of a line, and over the lines of a picture (`Walks`).
 use Rattle.std.proofs.Common.{◌≡◌, ◌∙◌, length, drop, sym, arith}
 use Rattle.cell.specs.Shown.{shown_blank}
 use Rattle.paint.specs.steps.Walks.{AreBlank}
-use Rattle.paint.proofs.Strokes.{reach-most}
+use Rattle.paint.proofs.PenStrokes.{reach-most}
 use Rattle.paint.proofs.Tails.{kept-later}
 use Rattle.paint.proofs.Walks.{line-begun, line-ready, line-at_cursor, ready-more}
 use Rattle.paint.proofs.line.paint_last_line.Goals as goal

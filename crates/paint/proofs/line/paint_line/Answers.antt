@@ -1,9 +1,9 @@
--- `paint_line`: the strokes of a pen, one after another, and what each shows (`Strokes`); the blank end of a line (`Tails`); the walk over the cells
+-- `paint_line`: the strokes of a pen, one after another, and what each shows (`PenStrokes`); the blank end of a line (`Tails`); the walk over the cells
 -- of a line, and over the lines of a picture (`Walks`).
 use Rattle.std.proofs.Common.{◌≡◌, ◌∙◌, length, drop, refl, sym, arith}
 use Rattle.cell.specs.Shown.{shown_blank}
 use Rattle.paint.specs.steps.Walks.{AreBlank}
-use Rattle.paint.proofs.Strokes.{reach-most}
+use Rattle.paint.proofs.PenStrokes.{reach-most}
 use Rattle.paint.proofs.Tails.{differs-before, kept-later}
 use Rattle.paint.proofs.Walks.{line-begun, line-erased, line-painted, line-ready}
 use Rattle.paint.proofs.line.paint_line.Goals as goal

@@ -1,5 +1,5 @@
--- `paint_run`: runs of cells: printed one after another, and drawn in a line (`Runs`); the strokes of a pen, one after another, and what each shows
--- (`Strokes`); the walk over the cells of a line (`Walks`).
+-- `paint_run`: runs of cells: printed one after another, and drawn in a line (`CellRuns`); the strokes of a pen, one after another, and what each shows
+-- (`PenStrokes`); the walk over the cells of a line (`Walks`).
 use Rattle.std.proofs.Common.{◌≡◌, ◌+◌, ◌<◌, ◌≤◌, ◌∙◌, get_or, length, sym, ap, subst, arith}
 use Rattle.std.proofs.lemmas.List.{get_or_default}
 use Rattle.cell.specs.Shown.{IsRendition, Shown, shown_blank}
@@ -7,8 +7,8 @@ use Rattle.cell.specs.Pictures.{line_of}
 use Rattle.cell.specs.declared.limits.TheConstants.{LARGEST_SCREEN}
 use Rattle.paint.specs.steps.Strokes.{approach_bytes, most_approach}
 use Rattle.paint.specs.steps.Walks.{cells_between}
-use Rattle.paint.proofs.Runs.{part-of, run-strokes}
-use Rattle.paint.proofs.Strokes.{approach-most}
+use Rattle.paint.proofs.CellRuns.{part-of, run-strokes}
+use Rattle.paint.proofs.PenStrokes.{approach-most}
 use Rattle.paint.proofs.Walks.{gap-ends, gap-shown, length-between}
 use Rattle.paint.proofs.line.paint_run.Goals as goal
 

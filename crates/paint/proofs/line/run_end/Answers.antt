@@ -1,10 +1,10 @@
--- `run_end`: runs of cells: printed one after another, and drawn in a line (`Runs`).
+-- `run_end`: runs of cells: printed one after another, and drawn in a line (`CellRuns`).
 use Rattle.std.proofs.Common.{◌≡◌, ◌<◌, ◌∙◌, get_or, inl, inr, length, sym, ap, arith}
 use Rattle.std.proofs.lemmas.Bool.{cases_lt}
 use Rattle.std.proofs.lemmas.List.{get_or_default}
 use Rattle.cell.specs.Shown.{Shown, shown_blank}
 use Rattle.ecma.proofs.Difference.{same_rendition-equal}
-use Rattle.paint.proofs.Runs.{same_shown-at, not-other}
+use Rattle.paint.proofs.CellRuns.{same_shown-at, not-other}
 use Rattle.paint.proofs.line.run_end.Goals as goal
 
 pub loop-x-init : goal.loop-x-init

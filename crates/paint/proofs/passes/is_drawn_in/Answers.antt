@@ -2,7 +2,7 @@
 use Rattle.std.proofs.Common.{◌∙◌, ap, sym}
 use Rattle.cell.specs.Differences.{same_rendition}
 use Rattle.paint.proofs.Choices.{not-drawn}
-use Rattle.paint.proofs.Runs.{not-same}
+use Rattle.paint.proofs.CellRuns.{not-same}
 use Rattle.paint.proofs.passes.is_drawn_in.Goals as goal
 
 pub returns-then-ne : goal.returns-then-ne

@@ -1,11 +1,11 @@
--- `order_of`: only a line that may differ has renditions of changed cells, and only in the columns that may (`Alike`, `Orders`).
+-- `order_of`: only a line that may differ has renditions of changed cells, and only in the columns that may (`Alike`, `PassOrders`).
 use Rattle.std.proofs.Common.{◌≡◌, ◌+◌, ◌<◌, ◌≤◌, ◌∙◌, ◌++◌, inr, length, take, sym, ap, subst, arith}
 use Rattle.cell.specs.Pictures.{line_of}
 use Rattle.paint.specs.steps.Passes.{HasNoted, changed_renditions, line_renditions}
 use Rattle.paint.specs.steps.Walks.{cells_between}
 use Rattle.paint.proofs.Alike.{line-alike, line-none, line-part}
 use Rattle.paint.proofs.Changed.{is_out}
-use Rattle.paint.proofs.Orders.{noted-order, picture-next, picture-passed, picture-whole, renditions-part}
+use Rattle.paint.proofs.PassOrders.{noted-order, picture-next, picture-passed, picture-whole, renditions-part}
 use Rattle.paint.proofs.passes.order_of.Goals as goal
 
 pub loop-line-init : goal.loop-line-init

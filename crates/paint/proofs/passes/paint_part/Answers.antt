@@ -1,4 +1,4 @@
--- `paint_part`: a cell is left where it is shown already, or another pass draws it, and else drawn in a run (`Choices`, `Runs`, `Walks`).
+-- `paint_part`: a cell is left where it is shown already, or another pass draws it, and else drawn in a run (`Choices`, `CellRuns`, `Walks`).
 use Rattle.std.proofs.Common.{◌≡◌, ℕ, ◌+◌, ◌<◌, ◌≤◌, ◌∙◌, length, get_or, inl, inr, refl, sym, ap, subst, arith}
 use Rattle.std.proofs.lemmas.Bool.{cases_lt, eqb-false, eqb-true}
 use Rattle.std.proofs.lemmas.List.{get_or_default}
@@ -10,7 +10,7 @@ use Rattle.paint.specs.steps.Passes.{is_drawn, line_after, pass_of as pass_in}
 use Rattle.paint.specs.steps.Walks.{cells_between}
 use Rattle.paint.proofs.Choices.{choices-alike, choices-back, choices-prefix, get-alike, get-in, get-kept, get-out, length-choose, not-yet, now-drawn, other-pass, part-kept, same-cells}
 use Rattle.paint.proofs.Prefixes.{between, drop-later}
-use Rattle.paint.proofs.Runs.{same_shown-at, line-run, part-of}
+use Rattle.paint.proofs.CellRuns.{same_shown-at, line-run, part-of}
 use Rattle.paint.proofs.Walks.{length-between, line-begun, line-kept, line-painted}
 use Rattle.paint.proofs.passes.paint_part.Goals as goal
 

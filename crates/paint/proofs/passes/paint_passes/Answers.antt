@@ -3,7 +3,7 @@ use Rattle.std.proofs.Common.{◌≡◌, ◌+◌, ◌∙◌, length, subst, arit
 use Rattle.paint.specs.steps.Passes.{is_drawn, picture_after}
 use Rattle.paint.specs.steps.Strokes.{Strokes, picture_bytes}
 use Rattle.paint.proofs.Choices.{all-after, lines-all, lines-left, lines-none, none-before, once-drawn}
-use Rattle.paint.proofs.Strokes.{Strokes-more, Strokes-nothing, Strokes-then}
+use Rattle.paint.proofs.PenStrokes.{Strokes-more, Strokes-nothing, Strokes-then}
 use Rattle.paint.proofs.passes.paint_passes.Goals as goal
 
 pub loop-pass-init : goal.loop-pass-init

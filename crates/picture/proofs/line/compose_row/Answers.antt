@@ -7,7 +7,7 @@ use Rattle.stack.specs.Tables.{panels}
 use Rattle.picture.specs.Counts.{GrewBy}
 use Rattle.picture.specs.steps.Owners.{KnowsOwners}
 use Rattle.picture.proofs.Lines.{LineShown}
-use Rattle.picture.proofs.Runs.{IsRead, held_run, run-between, run-grew, run-line, run-no-pad, run-place}
+use Rattle.picture.proofs.PictureRuns.{IsRead, held_run, run-between, run-grew, run-line, run-no-pad, run-place}
 use Rattle.picture.proofs.line.compose_row.Goals as goal
 
 pub loop-owners-init : goal.loop-owners-init

@@ -4,7 +4,7 @@ use Rattle.std.specs.Option.{is_none}
 use Rattle.std.proofs.lemmas.Grind.{common_steps}
 use Rattle.std.proofs.lemmas.List.{get_or_read}
 use Rattle.slots.specs.Slots.{slot_at}
-use Rattle.slots.proofs.Numbers.{search_from, search-more, search-here, search-past, search-end}
+use Rattle.slots.proofs.FreeNumbers.{search_from, search-more, search-here, search-past, search-end}
 use Rattle.slots.proofs.list.free_number.Goals as goal
 
 pub returns-then-is_none-clause-number : goal.returns-then-is_none-clause-number

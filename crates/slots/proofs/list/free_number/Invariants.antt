@@ -1,7 +1,7 @@
 use Rattle.std.proofs.Common.{◌≡◌}
 use Rattle.world.specs.calls.Making.{new_number}
 use Rattle.slots.specs.Slots.{window_map}
-use Rattle.slots.proofs.Numbers.{search_from}
+use Rattle.slots.proofs.FreeNumbers.{search_from}
 use Rattle.slots.proofs.list.free_number.Given as goal
 
 -- the search goes on from n

@@ -4,7 +4,7 @@ use Rattle.world.specs.Rows.{filled_cells}
 use Rattle.world.specs.Drawings.{to_bottom}
 use Rattle.grids.specs.Tables.{windows}
 use Rattle.windows.proofs.States.{state-written}
-use Rattle.windows.proofs.Strokes.{to_bottom-below}
+use Rattle.windows.proofs.LineDrawings.{to_bottom-below}
 use Rattle.windows.proofs.NextWrites.{bottom_started, line_cleared, bottom_cleared}
 use Rattle.windows.proofs.drawing.clear_below.Goals as goal
 

@@ -3,7 +3,7 @@ use Rattle.std.proofs.Common.{◌≡◌, ◌+◌, ◌-◌, arith, subst}
 use Rattle.world.specs.Windows.{put}
 use Rattle.world.specs.Drawings.{lines_down}
 use Rattle.grids.specs.Tables.{windows}
-use Rattle.windows.proofs.Strokes.{from}
+use Rattle.windows.proofs.LineDrawings.{from}
 use Rattle.windows.proofs.NextWrites.{down_started, down_more, down_ended}
 use Rattle.windows.proofs.drawing.move_down.Goals as goal
 

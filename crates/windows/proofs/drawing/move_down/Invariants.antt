@@ -3,7 +3,7 @@ use Rattle.world.specs.Windows.{put}
 use Rattle.world.specs.Drawings.{lines_down}
 use Rattle.grids.specs.Tables.{windows}
 use Rattle.windows.specs.steps.State.{IsStateOf}
-use Rattle.windows.proofs.Strokes.{from}
+use Rattle.windows.proofs.LineDrawings.{from}
 use Rattle.windows.proofs.drawing.move_down.Given as goal
 
 -- so many lines have moved, the last ones first

@@ -3,7 +3,7 @@ use Rattle.world.specs.Windows.{put}
 use Rattle.world.specs.Drawings.{lines_up}
 use Rattle.grids.specs.Tables.{windows}
 use Rattle.windows.specs.steps.State.{IsStateOf}
-use Rattle.windows.proofs.Strokes.{above}
+use Rattle.windows.proofs.LineDrawings.{above}
 use Rattle.windows.proofs.drawing.move_up.Given as goal
 
 -- the lines above this one have moved

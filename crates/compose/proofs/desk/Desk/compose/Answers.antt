@@ -1,4 +1,4 @@
--- `compose`: what is composed is a desk, which reads no less than it changes, and no more than all of the damaged lines (`Updating`).
+-- `compose`: what is composed is a desk, which reads no less than it changes, and no more than all of the damaged lines (`CellsRead`).
 use Rattle.std.proofs.Common.{rules, ◌≡◌, ◌<◌, ◌||◌, ℕ, Ok, false, refl, sym, ap, subst, ◌∙◌}
 use Rattle.cell.specs.Pictures.{HasSize, picture_of, shown_at}
 use Rattle.cell.specs.Shown.{shown}
@@ -16,7 +16,7 @@ use Rattle.compose.specs.Calling.{Called}
 use Rattle.compose.specs.Covers.{IsDesk}
 use Rattle.compose.specs.Desks.{DeskTable, world}
 use Rattle.compose.specs.contracts.desk.Desk.{the_view}
-use Rattle.compose.proofs.Updating.{update-made}
+use Rattle.compose.proofs.CellsRead.{update-made}
 use Rattle.compose.proofs.desk.Desk.compose.Goals as goal
 
 abbrev new : goal.After-unmark_composed → DeskTable

@@ -1,11 +1,11 @@
--- `note_cells`: a cell that is shown already, or has the last rendition, needs no note (`Orders`).
+-- `note_cells`: a cell that is shown already, or has the last rendition, needs no note (`PassOrders`).
 use Rattle.std.proofs.Common.{◌≡◌, ◌+◌, ◌<◌, ◌≤◌, ◌∙◌, [], ◌∷◌, ◌++◌, true, false, length, get_or, take, sym, ap, subst, refl, arith, append_assoc}
 use Rattle.std.proofs.lemmas.List.{get_or_default, take_all}
 use Rattle.cell.specs.Differences.{same_rendition}
 use Rattle.cell.specs.Shown.{Rendition, Shown, shown_blank}
 use Rattle.paint.specs.steps.Passes.{HasNoted, line_renditions, with_pass}
-use Rattle.paint.proofs.Orders.{noted-all, noted-cell, noted-shown, renditions-next}
-use Rattle.paint.proofs.Runs.{same_shown-at, not-other, not-same}
+use Rattle.paint.proofs.PassOrders.{noted-all, noted-cell, noted-shown, renditions-next}
+use Rattle.paint.proofs.CellRuns.{same_shown-at, not-other, not-same}
 use Rattle.paint.proofs.passes.Renditions.note_cells.Goals as goal
 use Rattle.paint.proofs.passes.Renditions.note_cells.Goals.{then-ne+then-ne-2, else-ne, else-ne-via-then-ne+else-ne-2, else-ne-via-else-ne}
 

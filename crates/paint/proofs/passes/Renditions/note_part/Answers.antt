@@ -1,8 +1,8 @@
--- `note_part`: cells that all have the last rendition need no note (`Orders`).
+-- `note_part`: cells that all have the last rendition need no note (`PassOrders`).
 use Rattle.std.proofs.Common.{◌-◌, ◌≤◌, ◌∙◌, ◌++◌, length, take, drop, sym, ap, subst, arith, append_assoc}
 use Rattle.std.proofs.lemmas.List.{take_all}
 use Rattle.paint.specs.steps.Passes.{HasNoted, line_renditions}
-use Rattle.paint.proofs.Orders.{noted-all, renditions-between}
+use Rattle.paint.proofs.PassOrders.{noted-all, renditions-between}
 use Rattle.paint.proofs.passes.Renditions.note_part.Goals as goal
 
 pub loop-start-preserved-then-not-all_have : goal.loop-start-preserved-then-not-all_have

@@ -1,9 +1,9 @@
--- `erase_line`: what the erasure draws, from what an erasure draws (`Strokes`).
+-- `erase_line`: what the erasure draws, from what an erasure draws (`PenStrokes`).
 use Rattle.std.proofs.Common.{refl}
 use Rattle.ecma.specs.Terminals.{erased_at}
 use Rattle.ecma.specs.declared.token.Erase.TheVariants.{ToEnd}
 use Rattle.ecma.specs.declared.token.Token.TheVariants.{El}
-use Rattle.paint.proofs.Strokes.{erases}
+use Rattle.paint.proofs.PenStrokes.{erases}
 use Rattle.paint.proofs.pen.Pen.erase_line.Goals as goal
 
 pub returns : goal.returns

@@ -1,6 +1,6 @@
--- `go`: the strokes of a pen, one after another, and what each shows (`Strokes`).
+-- `go`: the strokes of a pen, one after another, and what each shows (`PenStrokes`).
 use Rattle.std.proofs.Common.{sym, ◌∙◌}
-use Rattle.paint.proofs.Strokes.{goes, goes-nowhere, is_at-known}
+use Rattle.paint.proofs.PenStrokes.{goes, goes-nowhere, is_at-known}
 use Rattle.paint.proofs.pen.Pen.go.Goals as goal
 
 pub returns-then-is_at-clause-draws : goal.returns-then-is_at-clause-draws

@@ -1,5 +1,5 @@
 use Rattle.std.proofs.Common.{refl}
-use Rattle.paint.proofs.Strokes.{prints}
+use Rattle.paint.proofs.PenStrokes.{prints}
 use Rattle.paint.proofs.pen.Pen.print.Goals as goal
 
 pub returns-clause-draws : goal.returns-clause-draws

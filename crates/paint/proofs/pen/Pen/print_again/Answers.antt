@@ -1,10 +1,10 @@
--- `print_again`: the strokes of a pen, one after another, and what each shows (`Strokes`).
+-- `print_again`: the strokes of a pen, one after another, and what each shows (`PenStrokes`).
 use Rattle.std.proofs.Common.{◌<◌, ◌∙◌, length, subst, arith}
 use Rattle.std.proofs.lemmas.List.{get_or_default}
 use Rattle.cell.specs.Pictures.{Picture}
 use Rattle.cell.specs.Shown.{shown_blank}
 use Rattle.paint.specs.steps.Strokes.{change, Draws}
-use Rattle.paint.proofs.Strokes.{printed-more, printed-none}
+use Rattle.paint.proofs.PenStrokes.{printed-more, printed-none}
 use Rattle.paint.proofs.pen.Pen.print_again.Goals as goal
 
 pub loop-i-init : goal.loop-i-init

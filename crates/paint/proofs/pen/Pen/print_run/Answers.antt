@@ -1,5 +1,5 @@
 use Rattle.std.proofs.Common.{refl}
-use Rattle.paint.proofs.Runs.{prints-run}
+use Rattle.paint.proofs.CellRuns.{prints-run}
 use Rattle.paint.proofs.pen.Pen.print_run.Goals as goal
 
 pub returns-clause-draws : goal.returns-clause-draws

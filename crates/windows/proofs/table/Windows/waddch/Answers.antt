@@ -1,8 +1,8 @@
--- A printed character is typed (`Runs`), in a window of a known state (`Typing`); any other is a text of one.
+-- A printed character is typed (`CharacterRuns`), in a window of a known state (`Typing`); any other is a text of one.
 use Rattle.std.proofs.Common.{rules}
 use Rattle.std.proofs.lemmas.Bool.{and_parts}
 use Rattle.windows.proofs.Calls.{drew}
-use Rattle.windows.proofs.Runs.{typed-printed, frame-printed}
+use Rattle.windows.proofs.CharacterRuns.{typed-printed, frame-printed}
 use Rattle.windows.proofs.Texts.{joined-none}
 use Rattle.windows.proofs.Typing.{added, added_frame}
 use Rattle.windows.proofs.table.Windows.waddch.Goals as goal

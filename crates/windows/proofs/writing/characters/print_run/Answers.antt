@@ -1,9 +1,9 @@
--- `print_run`: characters that are printed in one line, before its last column, are one write of that line (`Runs`); a window keeps its
+-- `print_run`: characters that are printed in one line, before its last column, are one write of that line (`CharacterRuns`); a window keeps its
 -- size and its settings where something is written; and other settings are one change of it (`States`).
 use Rattle.std.proofs.Common.{◌+◌, ◌-◌, length, refl, rules}
 use Rattle.grids.specs.Tables.{windows}
 use Rattle.windows.proofs.States.{state-written}
-use Rattle.windows.proofs.Runs.{run_printed, run_frame}
+use Rattle.windows.proofs.CharacterRuns.{run_printed, run_frame}
 use Rattle.windows.proofs.writing.characters.print_run.Goals as goal
 
 pub set_cursor-requires : goal.set_cursor-requires

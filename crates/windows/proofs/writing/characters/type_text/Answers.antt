@@ -1,6 +1,6 @@
--- `type_text`: characters that are printed in one line, before its last column, are one write of that line (`Runs`).
+-- `type_text`: characters that are printed in one line, before its last column, are one write of that line (`CharacterRuns`).
 use Rattle.grids.specs.Tables.{windows}
-use Rattle.windows.proofs.Runs.{text_goes_on, frame_goes_on, rest_accepted}
+use Rattle.windows.proofs.CharacterRuns.{text_goes_on, frame_goes_on, rest_accepted}
 use Rattle.windows.proofs.writing.characters.type_text.Goals as goal
 
 pub loop-rest-preserved : goal.loop-rest-preserved

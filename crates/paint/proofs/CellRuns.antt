@@ -20,7 +20,7 @@ use Rattle.paint.specs.steps.Gathering.{Gathers}
 use Rattle.paint.specs.steps.Strokes.{Draws, Strokes, cell_bytes, characters, line_bytes, most_approach, run_bytes, with_cells, within}
 use Rattle.paint.specs.steps.Walks.{cells_between, with_prefix, IsLinePainted}
 use Rattle.paint.proofs.Prefixes.{length-with_prefix, take-with_prefix}
-use Rattle.paint.proofs.Strokes.{Draws-then, Strokes-then, spelled-print}
+use Rattle.paint.proofs.PenStrokes.{Draws-then, Strokes-then, spelled-print}
 use Rattle.paint.proofs.Walks.{left, line_bytes-other, one-drawn}
 
 -- ---- what a terminal shows after a run
