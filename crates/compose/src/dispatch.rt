@@ -1,4 +1,4 @@
-//! The calls on windows, by the group that they are in.
+//! The calls, by the group that they are in.
 
 ghost use Rattle.std.specs.Prelude.{◌≡◌, ℕ, Option, None, false};
 ghost use Rattle.cell.specs.Pictures.{Place};

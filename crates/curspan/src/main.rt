@@ -1,6 +1,6 @@
 //! Runs scripts of calls on a screen of windows, and prints the pictures that they leave.
 //!
-//! `serve` has help, `run` and `paint`; the command line and what needs no screen is in the library `commands`.
+//! `serve` has `run` and `paint`; the command line and what needs no screen is in the library `commands`.
 #![tactic(auto)]
 
 mod serve;

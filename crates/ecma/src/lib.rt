@@ -1,7 +1,7 @@
 //! Control sequences of ECMA-48: how they are spelled, and what a terminal does with them.
 //!
 //! - `laws`: laws of streams
-//! - `page`: what functions do to the picture
+//! - `page`: what control functions do to the picture
 //! - `parameter`: parameters of a control sequence
 //! - `selection`: SGR
 //! - `spelling`: the bytes of a token

@@ -6,7 +6,7 @@
 //! - `marks`: lines are touched and untouched
 //! - `queries`: queries about a window
 //! - `rectangle`: a copy of several lines
-//! - `rows`: a line is read, filled or copied
+//! - `rows`: a line is read, filled, printed in or copied
 //! - `sharing`: which windows share cells
 //! - `sync`: what is touched goes to ancestors and comes from them
 //! - `table`: the table

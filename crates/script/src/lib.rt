@@ -3,13 +3,13 @@
 //! - `arguments`: its arguments
 //! - `bytes`: lines, however the reader cuts them
 //! - `fault`: faults of a text, and how a script ends
-//! - `laws`: no word is missing
+//! - `laws`: no word is missing, and the limits in numerals
 //! - `limits`: the greatest lengths and numbers
 //! - `line`: what a line says
 //! - `log`: the lines of the log
 //! - `numbers`: numbers, as digits
 //! - `text`: texts, with their escapes
-//! - `words`: the words, with a table for each group of calls
+//! - `words`: the words, listed by first letter, with a row for each call
 #![tactic(auto)]
 
 mod arguments;

@@ -1,4 +1,4 @@
-//! The calls by their script words: a table for each group of calls, with a line for each call.
+//! The calls by their script words: lists by first letter, and a row for each call.
 
 ghost use Rattle.std.specs.Prelude.{◌≡◌, ◌≤◌, ◌<◌, [], length, map, slice_index_or};
 ghost use Rattle.script.specs.Words.{entry_of, placeless, word_of};

@@ -1,4 +1,4 @@
--- A call that writes in a window, or sets how it is written in, made on a table of windows.
+-- A call that writes in a window, copies to it, or sets how it is written in, made on a table of windows.
 use Rattle.std.specs.Prelude.{◌≡◌, IfOk, None, OnErr, OnOk, Option, Result}
 use Rattle.std.specs.Result.{result_err}
 use Rattle.cell.specs.declared.refusal.Refusal.{Refusal}

@@ -1,4 +1,4 @@
--- The cells of one line of a window: what is read, and the two writes of which each call's write is made.
+-- The cells of one line of a window: what is read, and the three writes of which each call's write is made.
 -- X/Open Curses Issue 7: "Characters"; copywin, overlay.
 use Rattle.std.specs.Prelude.{ℕ, ◌+◌, ◌-◌, Bool, if◌then◌else◌, ◌==◌, nat_lt, nat_le, ◌&&◌, Option, Some, None, List, [], length, slice_index_or, map}
 use Rattle.std.specs.List.{range_with_len}

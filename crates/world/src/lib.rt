@@ -1,5 +1,5 @@
-//! The world that calls change: windows, panels and the virtual screen, and each call as data. Its definitions are in
-//! `specs/`: when a call is refused, what it changes and what it answers.
+//! The world that calls change: windows, panels, colour pairs and the virtual screen, and each call as data. Its
+//! definitions are in `specs/`: when a call is refused, what it changes and what it answers.
 //!
 //! - `call`: calls and answers
 //! - `laws`: the laws, each the contract of a function

@@ -1,6 +1,5 @@
 -- Each call is two rows: its tests, in their order, and its effect. All else about a call follows from the two.
--- X/Open Curses Issue 7: newwin to mvderwin, addch to bkgdset, overlay to is_wintouched, getyx to inch, doupdate. NetBSD panel(3): new_panel
--- to panel_hidden, update_panels.
+-- X/Open Curses Issue 7 and NetBSD panel(3); the file of each group names its calls.
 use Rattle.std.specs.Prelude.{Bool, true, false, Option, List}
 use Rattle.cell.specs.Refusals.{first_of}
 use Rattle.world.specs.Panels.{is_in_panel}
