@@ -1,4 +1,4 @@
--- The sound worlds: those that there can be. Every call on a sound world leaves a sound world.
+-- The sound worlds: those that there can be. The world of a desk is sound, and every call leaves it so.
 use Rattle.std.specs.Prelude.{◌≡◌, ◌≢◌, ℕ, ◌+◌, ◌<◌, ◌≤◌, Option, Some, None, is_some, IsSome, IsSomeAnd, MatchOption, ⊤, All, AllPairs}
 use Rattle.cell.specs.Attributes.{bits_of}
 use Rattle.cell.specs.Glyphs.{Glyph, IsCell}
