@@ -119,14 +119,6 @@ impl PairId {
     {
         self.0
     }
-
-    /// Always true: what it ensures is what is known of each pair.
-    pub fn is_sound(self) -> bool
-        ensures yes { result ≡ true }
-        ensures sound { self ≤ LAST_PAIR }
-    {
-        self.0 <= LAST_PAIR
-    }
 }
 
 /// The foreground and the background of a pair. `None` is the terminal's default.
@@ -182,21 +174,14 @@ impl Pairs {
 
     /// Gives a pair a foreground and a background.
     pub fn set(&mut self, at: PairId, foreground: Colour, background: Colour)
-        ensures { self.new ≡ slice_set self.old at (record { foreground = Some foreground; background = Some background }) }
+        ensures set { self.new ≡ slice_set self.old at (record { foreground = Some foreground; background = Some background }) }
+        ensures sound { ArePairs self.new }
     {
         let pair = ColourBits::new(ColourPair {
             foreground: Some(foreground),
             background: Some(background),
         });
         self.pairs[usize::from(at.number())] = pair;
-    }
-
-    /// Always true: what it ensures is what is known of each table.
-    pub fn is_sound(&self) -> bool
-        ensures yes { result ≡ true }
-        ensures sound { ArePairs self.now }
-    {
-        !self.pairs.as_slice().is_empty()
     }
 
     /// How a cell is shown.

@@ -24,9 +24,9 @@ pub trait Element: Copy {
     fn blank() -> Self
         ensures { result ≡ blank };
 
-    /// Always true: what it ensures is what is known of each.
-    fn is_sound(self) -> bool
-        ensures yes { result ≡ true }
+    /// Its character.
+    fn character(self) -> u8
+        ensures printable { 32 ≤ result }
         ensures sound { Is self };
 
     ghost clones_are_equal: { (x y : Self) → Self.is_clone x y → y ≡ x };
@@ -43,8 +43,8 @@ impl Element for Cell {
         Cell::BLANK
     }
 
-    fn is_sound(self) -> bool {
-        self.ch() >= b' '
+    fn character(self) -> u8 {
+        self.ch()
     }
 }
 
@@ -59,8 +59,8 @@ impl Element for Shown {
         Shown::BLANK
     }
 
-    fn is_sound(self) -> bool {
-        self.ch() >= b' '
+    fn character(self) -> u8 {
+        self.ch()
     }
 }
 
@@ -94,7 +94,7 @@ impl<T: Element> Grid<T> {
         let lines = usize::from(lines);
         let columns = usize::from(columns);
         let blank = T::blank();
-        prove!(blank.is_sound());
+        prove!(blank.character() >= b' ');
         Ok(Grid {
             lines,
             columns,
@@ -118,7 +118,7 @@ impl<T: Element> Grid<T> {
         requires column { x < length (line_of self.old y) }
         ensures { self.new ≡ with_cell self.old (y, x) cell }
     {
-        prove!(cell.is_sound());
+        prove!(cell.character() >= b' ');
         self.cells[y * self.columns + x] = cell;
     }
 
@@ -134,7 +134,7 @@ impl<T: Element> Grid<T> {
         ensures size { (lines columns : ℕ) → HasSize lines columns self.old → HasSize lines columns self.new }
         ensures cells { EachCell T.Is self.old → EachCell T.Is self.new }
     {
-        prove!(cell.is_sound());
+        prove!(cell.character() >= b' ');
         for x in start..end {
             self.set(y, x, cell);
         }
@@ -159,7 +159,7 @@ impl<T: Element> Grid<T> {
         ensures { (lines columns : ℕ) → HasSize lines columns self.old → self.new ≡ all_of T.blank lines columns }
     {
         let blank = T::blank();
-        prove!(blank.is_sound());
+        prove!(blank.character() >= b' ');
         fill_cells(&mut self.cells, blank);
     }
 

@@ -75,6 +75,7 @@ impl Rendition {
     pub fn attrs(self) -> Attr
         ensures value { bits_of result ≡ self.attributes }
         ensures of_the_six { bits_of result < 64 }
+        ensures sound { IsRendition self }
     {
         Attr::from_bits_retain((self.bits / 256 % 256) as u8)
     }
@@ -84,14 +85,6 @@ impl Rendition {
         ensures { result ≡ record { foreground = self.foreground; background = self.background } }
     {
         ColourBits::of_bits(self.bits).pair()
-    }
-
-    /// Always true: what it ensures is what is known of each rendition.
-    pub fn is_sound(self) -> bool
-        ensures yes { result ≡ true }
-        ensures sound { IsRendition self }
-    {
-        self.bits % 256 == 0
     }
 }
 

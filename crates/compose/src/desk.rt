@@ -162,7 +162,6 @@ impl Desk {
     {
         let (at, foreground, background) = colours_for(pair, foreground, background)?;
         self.pairs.set(at, foreground, background);
-        prove!(self.pairs.is_sound());
         let part = window_part(&self.windows.table, WinId::STANDARD);
         damage_part(&mut self.damage, part);
         Ok(Reply::Nothing)

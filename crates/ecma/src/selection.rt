@@ -54,7 +54,6 @@ fn with_on(rendition: Rendition, attrs: Attr) -> Rendition
     requires { bits_of attrs < 64 }
     ensures { result ≡ with_on (bits_of attrs) rendition }
 {
-    prove!(rendition.is_sound());
     Rendition::new(rendition.attrs().union(attrs), rendition.colours())
 }
 
@@ -62,14 +61,12 @@ fn with_on(rendition: Rendition, attrs: Attr) -> Rendition
 fn with_off(rendition: Rendition, attrs: Attr) -> Rendition
     ensures { result ≡ with_off (bits_of attrs) rendition }
 {
-    prove!(rendition.is_sound());
     Rendition::new(rendition.attrs().difference(attrs), rendition.colours())
 }
 
 fn with_foreground(rendition: Rendition, colour: Option<Colour>) -> Rendition
     ensures { result ≡ record rendition { foreground = colour } }
 {
-    prove!(rendition.is_sound());
     let pair = ColourPair {
         foreground: colour,
         background: rendition.colours().background,
@@ -80,7 +77,6 @@ fn with_foreground(rendition: Rendition, colour: Option<Colour>) -> Rendition
 fn with_background(rendition: Rendition, colour: Option<Colour>) -> Rendition
     ensures { result ≡ record rendition { background = colour } }
 {
-    prove!(rendition.is_sound());
     let pair = ColourPair {
         foreground: rendition.colours().foreground,
         background: colour,

@@ -7,6 +7,7 @@ ghost use Rattle.ecma.specs.declared.token.Token.TheVariants.{Cup};
 ghost use Rattle.paint.specs.steps.Strokes.{SameTerminals, Strokes, again_bytes, all_have, approach_bytes, change, is_printed_again, moved_bytes};
 
 use crate::pen::Pen;
+use bitflags::Flags;
 use cell::{LARGEST_SCREEN, Rendition, Shown};
 use ecma::{LONGEST_SPELLING, Token, spell};
 use streams::Sink;
@@ -137,7 +138,7 @@ fn change_length(old: Rendition, new: Rendition) -> usize
     if new == old {
         return 0;
     }
-    prove!(new.is_sound());
+    prove!(new.attrs().bits() < 64);
     let mut text = [0; LONGEST_SPELLING];
     spell(&Token::Sgr(new), &mut text)
 }

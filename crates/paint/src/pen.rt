@@ -15,6 +15,7 @@ ghost use Rattle.paint.specs.steps.Gathering.{Gathers, IsGathered, gathered_byte
 ghost use Rattle.paint.specs.steps.Strokes.{cursor_after, change, characters, first_pen, is_at, move_from, with_cells, within, ArePrinted, Draws, Erases, IsPlainAt, SameTerminals};
 
 use crate::outbox::Outbox;
+use bitflags::Flags;
 use cell::{LARGEST_SCREEN, Rendition, Shown};
 use ecma::{Erase, LONGEST_SPELLING, Token, spell};
 use std::alloc::{AllocError, Global};
@@ -111,7 +112,7 @@ impl Pen {
         if rendition == self.rendition {
             return;
         }
-        prove!(rendition.is_sound());
+        prove!(rendition.attrs().bits() < 64);
         self.put(sink, Token::Sgr(rendition));
         self.rendition = rendition;
     }

@@ -7,7 +7,7 @@ ghost use Rattle.cell.specs.declared.limits.TheConstants.{LARGEST_PAD};
 ghost use Rattle.cell.specs.Pictures.{EachCell, HasSize, cell_or, line_of};
 ghost use Rattle.slots.specs.Inks.{printed_cell};
 
-use cell::{Cell, Element, Grid};
+use cell::{Cell, Grid};
 
 /// Prints characters in line `y` of a grid, from column `x` on.
 pub(crate) fn print_in(grid: &mut Grid<Cell>, y: usize, x: usize, text: &[u8], pen: Cell)
@@ -32,7 +32,7 @@ fn printed_cell(pen: Cell, ch: u8) -> Cell
     ensures value { result ≡ printed_cell pen ch }
     ensures sound { IsCell result }
 {
-    prove!(pen.is_sound());
+    prove!(pen.ch() >= b' ');
     if ch == b' ' {
         return pen;
     }

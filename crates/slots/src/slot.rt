@@ -18,7 +18,7 @@ ghost use Rattle.slots.specs.Changes.{with_touched, with_drawing, SameShape, wit
 
 use crate::ink::print_in;
 use crate::touched::Touched;
-use cell::{Attr, Cell, Grid, LARGEST_PAD, PairId};
+use cell::{Attr, Cell, Grid, LARGEST_PAD, LAST_PAIR, PairId};
 use std::alloc::{AllocError, Global};
 use std::marker::Model;
 use world::{Columns, Settings};
@@ -250,7 +250,7 @@ impl Slot {
         ensures window { window_of self.new ≡ with_settings settings (window_of self.old) }
         ensures place { StaysInPlace self.old self.new }
     {
-        prove!(settings.background.ch() >= b' ' && settings.pair.is_sound());
+        prove!(settings.background.ch() >= b' ' && settings.pair.number() <= LAST_PAIR);
         self.settings = Settings {
             attrs: settings.attrs.valid_attributes(),
             ..settings

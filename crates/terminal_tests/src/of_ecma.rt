@@ -27,7 +27,7 @@ fn is_spelled(token: Token, bytes: &[u8]) -> bool {
                 && has_spelling(Token::Cup(line, column), bytes)
         }
         Token::Sgr(rendition) => {
-            rendition.is_sound() && has_spelling(Token::Sgr(rendition), bytes)
+            rendition.attrs().bits() < 64 && has_spelling(Token::Sgr(rendition), bytes)
         }
         Token::El(how) => has_spelling(Token::El(how), bytes),
         Token::Ed(how) => has_spelling(Token::Ed(how), bytes),

@@ -37,7 +37,7 @@ made c =
     (damages-as t.columns (part_holds part) (λ y x. true) d.damage c.damage_part.new.damage
     (c.damage_part.ensures.damaged t.columns (part-right t.lines t.columns part c.window_part-part.ensures.within))
     (λ y x below inside is. c.window_part-part.ensures.holds y x ∙ standard-holds (windows_of t) y x h.sound.windows (subst (λ n. y < n) h.covered.height below) inside)
-    (λ y x left is. refl)) Nothing refl (record { windows = h.sound.windows; panels = h.sound.panels; pairs = c.is_sound.ensures.sound; virtual = h.sound.virtual })
+    (λ y x left is. refl)) Nothing refl (record { windows = h.sound.windows; panels = h.sound.panels; pairs = c.set.ensures.sound; virtual = h.sound.virtual })
 
 pub invariant_of-self : goal.invariant_of-self
 invariant_of-self c = (made c).0

@@ -7,4 +7,4 @@ returns-then-eq-clause-draws g c = λ picture. selects-nothing _ c.args.self.now
 
 pub returns-clause-draws : goal.returns-clause-draws
 returns-clause-draws g c = λ picture.
-    selects c.args.self.now c.put.new.self c.args.rendition picture (sym c.if-eq.ensures) c.is_sound.ensures.sound c.put.ensures.gathers c.put.ensures.rest
+    selects c.args.self.now c.put.new.self c.args.rendition picture (sym c.if-eq.ensures) c.attrs.ensures.sound c.put.ensures.gathers c.put.ensures.rest
