@@ -186,7 +186,8 @@ impl Pairs {
 
     /// How a cell is shown.
     pub fn show_cell(&self, cell: Cell) -> Shown
-        ensures { result ≡ shown self.now cell }
+        ensures value { result ≡ shown self.now cell }
+        ensures sound { ArePairs self.now }
     {
         let pair = self.pairs[usize::from(cell.pair().number())];
         Shown::of_cell(cell, pair)
