@@ -17,7 +17,7 @@ use Rattle.script.specs.declared.bytes.LineEnd.{LineEnd}
 use Rattle.script.specs.declared.bytes.LineEnd.TheVariants.{Newline, ReadFailed}
 use Rattle.script.specs.declared.fault.TextFault.TheVariants.{LineTooLong}
 use Rattle.script.specs.declared.limits.TheConstants.{LONGEST_LINE}
-use Rattle.script.specs.steps.Bytes.{EndsLine, HasNoNewline, IsKept, ReadingEnds, ReadsToEnd, end_failed, has_newline, met_end}
+use Rattle.script.specs.Lines.{EndsLine, HasNoNewline, IsKept, ReadingEnds, ReadsToEnd, end_failed, has_newline, met_end}
 use Rattle.commands.specs.Checks.{count_line, count_of, report, findings, findings_from, finding_of, finding_of_rest}
 use Rattle.commands.specs.Shows.{IsWholeAt}
 use Rattle.commands.specs.Written.{IsNotWritten, WritingEnds}

@@ -1,4 +1,5 @@
 pub mod Desks
 pub mod Calling
 pub mod Covers
+pub mod KindLaws
 pub mod steps

@@ -1,3 +1,2 @@
 pub mod Changes
-pub mod KindLaws
 pub mod Outcomes

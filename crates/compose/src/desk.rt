@@ -245,7 +245,7 @@ impl VirtualScreen for Desk {
 }
 
 impl Calls for Desk {
-    ghost use Rattle.compose.specs.steps.KindLaws.{answers-called};
+    ghost use Rattle.compose.specs.KindLaws.{answers-called};
 
     type Error = Refusal;
 

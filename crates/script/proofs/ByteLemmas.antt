@@ -13,7 +13,8 @@ use Rattle.script.specs.Characters.{is_newline, newline}
 use Rattle.script.specs.declared.bytes.TheConstants.{LONGEST_PIECE}
 use Rattle.script.specs.declared.limits.TheConstants.{LONGEST_LINE}
 use Rattle.streams.specs.Sources.{SourceSeen}
-use Rattle.script.specs.steps.Bytes.{HasNoNewline, ReadingEnds, ReadsByte, ReadsLine, ReadsWhole, work_left}
+use Rattle.script.specs.Lines.{HasNoNewline, ReadingEnds, ReadsLine, ReadsWhole, work_left}
+use Rattle.script.specs.steps.Bytes.{ReadsByte}
 use Rattle.script.specs.declared.bytes.LineEnd.{LineEnd}
 use Rattle.script.specs.declared.bytes.LineEnd.TheVariants.{Newline, ScriptEnd, ReadFailed}
 use Rattle.script.specs.declared.bytes.Next.TheVariants.{Byte, End, Failed}

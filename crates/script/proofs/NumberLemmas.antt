@@ -1,6 +1,5 @@
 -- Lemmas on numbers in digits.
-use Rattle.std.proofs.Common.{Bool, false, None, [], ◌∷◌, ◌≡◌, ℕ, ◌+◌, ◌-◌, ◌*◌, ◌<◌, ◌≤◌, true, List}
-use Rattle.std.proofs.Common.{drop, nat_lt, length-take, below_more, length, get_or, take, refl, add-one, pow-suc, arith}
+use Rattle.std.proofs.Common.{Bool, false, None, [], ◌∷◌, ◌≡◌, ℕ, ◌+◌, ◌-◌, ◌*◌, ◌<◌, ◌≤◌, true, List, drop, nat_lt, length-take, below_more, length, get_or, take, refl, add-one, pow-suc, arith}
 use Rattle.std.specs.List.{after_first, before_first, list_all, position_or_len, slice_split}
 use Rattle.std.specs.Char.{is_ascii_digit}
 use Rattle.std.proofs.lemmas.Bool.Decides.{nat_tests}

@@ -1,6 +1,5 @@
 -- A word is searched for among those of its first letter, one after another.
-use Rattle.std.proofs.Common.{◌≡◌, ℕ, ◌+◌, ◌<◌, Bool, true, false, Option, Some, List, [], ◌∷◌, length, drop, get_or, find, add-one, drop-cons, map, ◌%◌, arith}
-use Rattle.std.proofs.Common.{slice_get, slice_index_or}
+use Rattle.std.proofs.Common.{◌≡◌, ℕ, ◌+◌, ◌<◌, Bool, true, false, Option, Some, List, [], ◌∷◌, length, drop, get_or, find, add-one, drop-cons, map, ◌%◌, arith, slice_get, slice_index_or}
 use Rattle.script.specs.declared.words.TheConstants.{WORDS}
 use Rattle.script.specs.steps.Rows.{words_like}
 

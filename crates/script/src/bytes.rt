@@ -2,7 +2,8 @@
 
 ghost use Rattle.std.specs.Prelude.{◌≡◌, ◌≤◌, ◌<◌, ◌+◌, ◌∷◌, ℕ, [], length, slice_index, take, drop, position, IfSome, true, false};
 ghost use Rattle.script.specs.Characters.{is_newline};
-ghost use Rattle.script.specs.steps.Bytes.{ReadingEnds, ReadsByte, ReadsLine, ReadsWhole, byte_ended, byte_failed, end_failed, goes_on, has_newline, is_byte, line_ended, line_failed, met_end};
+ghost use Rattle.script.specs.Lines.{ReadingEnds, ReadsLine, ReadsWhole, end_failed, goes_on, has_newline, line_ended, line_failed, met_end};
+ghost use Rattle.script.specs.steps.Bytes.{ReadsByte, byte_ended, byte_failed, is_byte};
 
 use crate::limits::LONGEST_LINE;
 use arrayvec::ArrayVec;
@@ -201,7 +202,7 @@ pub struct Lines {
 
 impl Model for Lines {
     ghost use Rattle.std.specs.Prelude.{◌≤◌, ◌-◌, ◌==◌, length, take, drop, if◌then◌else◌};
-    ghost use Rattle.script.specs.steps.Bytes.{Held};
+    ghost use Rattle.script.specs.Lines.{Held};
     ghost use Rattle.script.specs.declared.bytes.TheConstants.{LONGEST_PIECE};
 
     ghost Value = { Held };

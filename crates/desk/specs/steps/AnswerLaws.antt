@@ -6,7 +6,7 @@ use Rattle.world.specs.declared.call.Call.{Call}
 use Rattle.world.specs.declared.call.Reply.{Reply}
 use Rattle.compose.specs.Desks.{is_damaged_line, world}
 use Rattle.calls.specs.Kinds.{IsAnswerTo}
-use Rattle.compose.specs.steps.KindLaws.{kind-of-answer}
+use Rattle.compose.specs.KindLaws.{kind-of-answer}
 use Rattle.desk.specs.Methods.{CallMade}
 use Rattle.desk.specs.States.{ScreenOver, state_of}
 use Rattle.desk.specs.steps.Quiet.{quiet-reply}

@@ -1,6 +1,6 @@
 -- `report_lines`: the findings of a script, a line at a time (`CheckLemmas`).
 use Rattle.std.proofs.Common.{ap, refl, sym}
-use Rattle.script.specs.steps.Bytes.{Held, has_newline, met_end}
+use Rattle.script.specs.Lines.{Held, has_newline, met_end}
 use Rattle.commands.proofs.CheckLemmas.{checked, checking_next, checking_none}
 use Rattle.commands.proofs.check.report_lines.Goals as goal
 

@@ -1,4 +1,4 @@
-use Rattle.script.specs.steps.Bytes.{work_left}
+use Rattle.script.specs.Lines.{work_left}
 use Rattle.commands.proofs.CheckLemmas.{Checking}
 use Rattle.commands.proofs.check.report_lines.Given as goal
 

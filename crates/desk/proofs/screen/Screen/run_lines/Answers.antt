@@ -1,7 +1,7 @@
 -- `run_lines`: a script is run a line at a time (`ScriptLemmas`).
 use Rattle.std.proofs.Common.{refl, ap, is_some, ◌∙◌}
 use Rattle.desk.specs.ScriptEnds.{write_fault}
-use Rattle.script.specs.steps.Bytes.{Held}
+use Rattle.script.specs.Lines.{Held}
 use Rattle.streams.specs.Counts.{count_after}
 use Rattle.desk.proofs.ScriptLemmas.{ends_in_failed_read, ends_in_last_line, ends_in_line, ends_too_long, no_fault, some_fault, so_far_next, so_far_none}
 use Rattle.desk.proofs.screen.Screen.run_lines.Goals as goal
