@@ -37,9 +37,6 @@ line-isnt : {A : Type 0} (line rest : Bool) (one other : A) → line ≡ false �
 line-isnt line rest one other h = rw h refl
 
 module _ (pairs : Pairs) (f : Drawing) (lines columns : ℕ) (old : Picture) where
-  pub laid-none : (y : ℕ) → HasSize lines columns old → ((v : ℕ) → v < y → IsBare f columns v) → LaidAbove pairs f lines columns old y old
-  laid-none y size bare = grind (arith, shown-bare)
-
   -- one line more, on which the drawing has nothing
   pub laid-bare : (y : ℕ) (now : Picture) → LaidAbove pairs f lines columns old y now → IsBare f columns y → LaidAbove pairs f lines columns old (y + 1) now
   laid-bare y now h bare = grind (arith, cases_eq, shown-bare)

@@ -1,9 +1,5 @@
 -- What a desk keeps, and the world that it represents, call by call; for `DamageCovers`, `WindowCalls`, `Arranging` and others
 pub mod DeskLemmas
--- The virtual screen stays sound where it takes the picture of windows and panels; for `compose`, `refresh_pad`, `refresh_window`
-pub mod Composed
--- Panels stay sound: each has a window that is there, and is neither a pad nor the standard screen; for `arrange`, `new_panel`, `replace_panel`
-pub mod SoundPanels
 -- A drawing is laid over a picture line by line; for `show_rectangle`, `show_touched`
 pub mod Laying
 -- What noutrefresh and pnoutrefresh draw on each line of the screen; for `damage_touched`, `refresh_pad`, `show_rectangle` and others

@@ -1,48 +1,32 @@
 -- What a call on panels damages: the part of the panel that it names, as it was, and that of the panel that it changed or made, as it is.
-use Rattle.std.proofs.Common.{◌≡◌, ℕ, ◌+◌, Bool, true, false, ◌&&◌, ◌||◌, Option, Some, None, List, [], ◌∷◌, refl, sym, ap, subst, ◌∙◌, arith}
-use Rattle.std.specs.Prelude.{MatchOption, ⊤, find, if◌then◌else◌, is_none, not, ◌==◌, unwrap_or}
+use Rattle.std.proofs.Common.{◌≡◌, ℕ, ◌+◌, Bool, true, false, ◌||◌, Option, Some, None, List, [], ◌∷◌, refl, arith}
+use Rattle.std.specs.Prelude.{MatchOption, ⊤, find, is_none, ◌==◌, unwrap_or}
 use Rattle.std.specs.Option.{option_map, option_map_or}
 use Rattle.std.proofs.lemmas.Bool.{true≢false}
 use Rattle.cell.specs.declared.window.Rect.{Rect}
 use Rattle.cell.specs.declared.window.WinId.{WinId}
-use Rattle.world.specs.Panels.{Panels, panel_holds}
+use Rattle.world.specs.Panels.{Panels}
 use Rattle.world.specs.Windows.{WindowMap, Windows}
-use Rattle.world.specs.Sound.{AreSoundPanels, IsSoundPanel}
+use Rattle.world.specs.Sound.{AreSoundPanels}
 use Rattle.world.specs.Effects.{Order, orders, panels_after, windows_after}
 use Rattle.world.specs.calls.Affected.{order_shows_at, panel_shows_at, stays_on_top}
 use Rattle.world.specs.calls.Stacking.{new_panel_number, next_panel, stacking_order}
 use Rattle.world.specs.declared.call.Stacking.{Stacking}
-use Rattle.world.specs.declared.call.Stacking.TheVariants.{NewPanel}
 use Rattle.picture.specs.Parts.{IsFrameWithin}
 use Rattle.picture.proofs.VisiblePanels.{absent-hidden}
 use Rattle.compose.specs.steps.Changes.{named_panel, order_panel, ordered_panel, top_window}
 
-none-is : (o : Option ℕ) → is_none o ≡ true → o ≡ None
-none-is o h = grind arith
-
 find-free : (window : ℕ → Option ℕ) (ps : List ℕ) (p : ℕ) → find (λ q. is_none (window q)) ps ≡ Some p → window p ≡ None
 find-free window [] p is = cc
-find-free window (q ∷ ps) p is = by_test (is_none (window q)) refl (λ rest. find-free window ps p rest) where
-  by_test : (b : Bool) → is_none (window q) ≡ b → (find (λ q. is_none (window q)) ps ≡ Some p → window p ≡ None) → window p ≡ None
-  by_test true free later =
-      let same : (if true then Some q else find (λ q. is_none (window q)) ps) ≡ Some p = subst (λ (b : Bool). (if b then Some q else find (λ q. is_none (window q)) ps) ≡ Some p) free is in
-      let equal : q ≡ p = cc in
-      subst (λ r. window r ≡ None) equal (none-is (window q) free)
-  by_test false taken later = later (subst (λ (b : Bool). (if b then Some q else find (λ q. is_none (window q)) ps) ≡ Some p) taken is)
-
--- no panel has the number 0
-no-panel : (window : WindowMap) (ps : Panels) (o : Option ℕ) → ps.window 0 ≡ o → MatchOption o ⊤ (IsSoundPanel window ps 0) → o ≡ None
-no-panel window ps o is h = grind arith
+find-free window (q ∷ ps) p is = grind (arith, (find-free window ps))
 
 next-free : (window : WindowMap) (ps : Panels) (o : Option ℕ) → AreSoundPanels window ps → new_panel_number ps ≡ o → ps.window (unwrap_or o 0) ≡ None
-next-free window ps None sound is = no-panel window ps (ps.window 0) refl (sound.each 0)
+next-free window ps None sound is = let none = sound.each 0 in grind arith
 next-free window ps (Some p) sound is = find-free ps.window _ p is
 
 -- a new panel wasn't visible
 next-hidden : (window : WindowMap) (ps : Panels) (y x : ℕ) → AreSoundPanels window ps → panel_shows_at window ps (next_panel ps) y x ≡ false
-next-hidden window ps y x sound =
-    ap (λ b. b && panel_holds window ps y x (next_panel ps))
-    (sym (absent-hidden ps.window (next_panel ps) ps.visible sound.visible (next-free window ps (new_panel_number ps) sound refl)))
+next-hidden window ps y x sound = rw (← absent-hidden ps.window (next_panel ps) ps.visible sound.visible (next-free window ps (new_panel_number ps) sound refl)) refl
 
 -- where the panel p holds the place, if it is one
 abbrev pub part_shows : Windows → Panels → ℕ → ℕ → Option ℕ → Bool
@@ -53,28 +37,15 @@ abbrev pub order_stays : Panels → Order → Bool
 order_stays ps (orders p order) = stays_on_top ps order p
 order_stays ps _ = false
 
-same-window : (one other : Option WinId) → option_map_or (λ w. option_map_or (λ u. u.0 == w.0) other false) one false
-    ≡ option_map_or (λ w. option_map_or (λ u. u == w) (option_map (λ (u : WinId). u.0) other) false) (option_map (λ (u : WinId). u.0) one) false
-same-window one other = grind arith
-
 -- it does so where the window on top is the same one before and after
 pub stays-where-same : (ps : Panels) (order : Order) (one other : Option WinId) → option_map (λ (u : WinId). u.0) one ≡ top_window ps (ordered_panel order)
     → option_map (λ (u : WinId). u.0) other ≡ top_window (panels_after ps order) (ordered_panel order)
     → option_map_or (λ w. option_map_or (λ u. u.0 == w.0) other false) one false ≡ order_stays ps order
-stays-where-same ps order one other was is = grind (arith, same-window)
+stays-where-same ps order one other was is = grind arith
 
 -- where a panel stays on top, no place is affected
 pub unseen-where-same : (ws : Windows) (ps : Panels) (order : Order) (y x : ℕ) → order_stays ps order ≡ true → order_shows_at ws ps order y x ≡ false
 unseen-where-same ws ps order y x stays = grind (arith, true≢false)
-
--- Of the changed panel, before or after, it is that of the named one before, or that of the changed one after, but where the panel stays on
--- top.
-both-parts : (ws : Windows) (ps : Panels) (stacking : Stacking) (y x : ℕ) → AreSoundPanels ws.window ps
-    → (let order = stacking_order ps stacking in order_shows_at ws ps order y x
-    ≡ (not (order_stays ps order) && (part_shows ws ps y x (named_panel stacking) || part_shows (windows_after ws ps order) (panels_after ps order) y x (order_panel order))))
-both-parts ws ps (NewPanel win) y x sound = let order = stacking_order ps (NewPanel win) in
-    ap (λ b. b || part_shows (windows_after ws ps order) (panels_after ps order) y x (order_panel order)) (next-hidden ws.window ps y x sound)
-both-parts ws ps stacking y x sound = refl
 
 -- The part before the call and the part after it make up what the call changes, where they hold what the panel had that it names, and
 -- what the panel has that it changed, and the panel doesn't stay on top.
@@ -82,12 +53,7 @@ pub stacking-parts : (ws new : Windows) (ps rest : Panels) (stacking : Stacking)
     → new ≡ windows_after ws ps (stacking_order ps stacking) → rest ≡ panels_after ps (stacking_order ps stacking) → order_stays ps (stacking_order ps stacking) ≡ false
     → named ≡ named_panel stacking → changed ≡ order_panel (stacking_order ps stacking) → before ≡ part_shows ws ps y x named → after ≡ part_shows new rest y x changed
     → order_shows_at ws ps (stacking_order ps stacking) y x ≡ (before || after)
-stacking-parts ws new ps rest stacking named changed before after y x sound is are moves name change was will =
-    let order = stacking_order ps stacking in
-    let named_is : before ≡ part_shows ws ps y x (named_panel stacking) = was ∙ ap (part_shows ws ps y x) name in
-    let changed_is : after ≡ part_shows (windows_after ws ps order) (panels_after ps order) y x (order_panel order) =
-    will ∙ (λ i. part_shows (is i) (are i) y x (change i)) in
-    both-parts ws ps stacking y x sound ∙ (λ i. not (moves i) && (sym named_is i || sym changed_is i))
+stacking-parts ws new ps rest stacking named changed before after y x sound is are moves name change was will = grind (arith, (next-hidden ws.window ps y x))
 
 pub part-within : (lines columns height : ℕ) (part : Option Rect) → MatchOption part ⊤ (IsFrameWithin lines columns) → lines ≡ height → MatchOption part ⊤ (λ r. IsFrameWithin height (r.right + 1) r)
 part-within lines columns height part h same = grind arith

@@ -1,9 +1,9 @@
 -- The damage of one window after another.
-use Rattle.std.proofs.Common.{◌≡◌, ℕ, Bool, false, ◌||◌, Option, List, [], ◌∷◌, refl, ◌∙◌, arith}
+use Rattle.std.proofs.Common.{◌≡◌, ℕ, Bool, false, ◌||◌, Option, List, ◌∷◌, refl, ◌∙◌, arith}
 use Rattle.std.specs.List.{list_any}
 use Rattle.world.specs.declared.settings.Columns.{Columns}
 use Rattle.picture.specs.Damages.{Damages}
-use Rattle.picture.proofs.DamageLaws.{damages-as, damages-none, damages-then}
+use Rattle.picture.proofs.DamageLaws.{damages-none, damages-then}
 
 or-together : (a b c : Bool) → ((a || b) || c) ≡ (a || (b || c))
 or-together a b c = grind arith
@@ -27,6 +27,3 @@ module _ (columns : ℕ) (P : ℕ → ℕ → ℕ → Bool) (all : List ℕ) (ol
     damages = damages-then columns h.places (λ y x. P y x u) old now new h.damages more;
     same = λ y x. or-together (h.places y x) (P y x u) (list_any (P y x) rest) ∙ h.same y x;
   }
-
-  pub damaged-all : (now : List (Option Columns)) → DamagedBut [] now → Damages columns (λ y x. list_any (P y x) all) old now
-  damaged-all now h = grind (arith, damages-as, or-none)

@@ -3,7 +3,6 @@
 ghost use Rattle.std.specs.Prelude.{◌≡◌, ◌∷◌, []};
 ghost use Rattle.std.specs.List.{list_any};
 ghost use Rattle.world.specs.Panels.{standard_screen, windows_from_top};
-ghost use Rattle.world.specs.Sound.{AreSoundWindows};
 ghost use Rattle.world.specs.Effects.{asks_for_clear, with_unmarked};
 ghost use Rattle.grids.specs.Tables.{windows as windows_of};
 ghost use Rattle.stack.specs.Tables.{panels};
@@ -28,11 +27,10 @@ pub(crate) fn clear_asked(table: &Grids, stack: &Stack) -> bool
 
 /// Clears the touched columns and clear flags of the standard screen and of the windows of visible panels.
 pub(crate) fn unmark_composed(table: &mut Grids, stack: &Stack)
-    ensures unmarked { windows_of table.new ≡ record (windows_of table.old) {
+    ensures { windows_of table.new ≡ record (windows_of table.old) {
       window = with_unmarked (windows_of table.old).window
           (standard_screen ∷ windows_from_top (panels stack.now));
     } }
-    ensures sound { AreSoundWindows (windows_of table.new) }
 {
     unmark(table, WinId::STANDARD);
     for panel in stack.visible_from_top() {
@@ -51,8 +49,7 @@ pub(crate) fn asks(table: &Grids, win: WinId) -> bool
 
 /// Clears the touched columns and the clear flag of a window, if there is one.
 fn unmark(table: &mut Grids, win: WinId)
-    ensures unmarked { windows_of table.new ≡ record (windows_of table.old) { window = with_unmarked (windows_of table.old).window (win.0 ∷ []) } }
-    ensures sound { AreSoundWindows (windows_of table.new) }
+    ensures { windows_of table.new ≡ record (windows_of table.old) { window = with_unmarked (windows_of table.old).window (win.0 ∷ []) } }
 {
     if table.has_window(win) {
         table.unmark(win);

@@ -25,7 +25,6 @@ use world::PanelId;
 /// # Errors
 /// `NoSuchWindow`, `StandardScreen`, `IsPad`, `InPanel`, `TooMany`, `NoMemory`.
 pub(crate) fn new_panel(table: &Grids, stack: &mut Stack, win: WinId) -> Result<PanelId, Refusal>
-    requires { AreSoundPanels (windows_of table.now).window (panels stack.old) }
     ensures { Ordered its_panel table.now stack.old (Stacking.NewPanel win) result table.now stack.new }
 {
     prove!(table.has_window(WinId::STANDARD));
@@ -43,7 +42,6 @@ pub(crate) fn replace_panel(
     panel: PanelId,
     win: WinId,
 ) -> Result<(), Refusal>
-    requires { AreSoundPanels (windows_of table.now).window (panels stack.old) }
     ensures { Ordered no_answer table.now stack.old (Stacking.ReplacePanel panel win) result table.now stack.new }
 {
     prove!(table.has_window(WinId::STANDARD));

@@ -2,7 +2,7 @@
 
 ghost use Rattle.std.specs.Prelude.{◌≡◌, ◌<◌, ◌≤◌, ◌+◌, ◌-◌, ◌==◌, ◌&&◌, ◌^◌, ℕ, None, Some, IsSomeAnd, false, if◌then◌else◌, nat_le, nat_lt};
 ghost use Rattle.std.specs.Result.{result_err};
-ghost use Rattle.cell.specs.Pictures.{AreShown, HasSize, picture_of, shown_at};
+ghost use Rattle.cell.specs.Pictures.{HasSize, picture_of, shown_at};
 ghost use Rattle.cell.specs.Shown.{shown};
 ghost use Rattle.world.specs.Sound.{AreSoundWindows};
 ghost use Rattle.world.specs.calls.Copying.{copywin_drawing};
@@ -107,9 +107,8 @@ fn show_touched(
     requires windows { AreSoundWindows (windows_of table.now) }
     requires place { place_on_screen (windows_of table.now).window win.0 ≡ Some (top, left) }
     requires size { HasSize table.now.lines table.now.columns picture.old }
-    ensures shown { picture.new ≡ picture_of table.now.lines table.now.columns (shown_over pairs.now picture.old
+    ensures { picture.new ≡ picture_of table.now.lines table.now.columns (shown_over pairs.now picture.old
         (touched_cells (windows_of table.now).window win.0)) }
-    ensures cells { AreShown picture.new }
 {
     let Ok((lines, _)) = table.getmaxyx(win) else {
         unreachable!();
@@ -132,8 +131,6 @@ fn show_touched(
             );
         }
     }
-    // Reading a line shows the proof that each cell can be printed.
-    prove!(!picture.row(0).is_empty());
 }
 
 /// Copies a rectangle of a pad to lines and columns of a picture of the screen's size.
@@ -148,9 +145,8 @@ fn show_rectangle(
     requires accepted { refresh_refusal (windows_of table.now) (Refresh.Pnoutrefresh source.win source.line source.column frame.top frame.left frame.bottom
         frame.right) ≡ None }
     requires size { HasSize table.now.lines table.now.columns picture.old }
-    ensures shown { picture.new ≡ picture_of table.now.lines table.now.columns (shown_over pairs.now picture.old
+    ensures { picture.new ≡ picture_of table.now.lines table.now.columns (shown_over pairs.now picture.old
         (copywin_drawing (windows_of table.now).window source.win.0 source.line source.column frame.top frame.left frame.bottom frame.right false)) }
-    ensures cells { AreShown picture.new }
 {
     let columns = frame.right - frame.left + 1;
     for y in 0..frame.bottom - frame.top + 1 {
@@ -168,7 +164,6 @@ fn show_rectangle(
             picture,
         );
     }
-    prove!(!picture.row(0).is_empty());
 }
 
 /// Tests that a rectangle of a pad may be copied to these lines and columns of the screen.
@@ -199,9 +194,8 @@ fn require_rectangle(table: &Grids, source: Place, frame: Rect) -> Result<(), Re
 /// Untouches some lines of a window, which must exist, and clears its clear flag.
 fn unmark_lines(windows: &mut Windows, win: WinId, first: u16, n: u16)
     requires { IsSomeAnd ((windows_of windows.old.table).window win.0) (λ a. (first < a.lines) × (first + n ≤ a.lines)) }
-    ensures unmarked { windows_of windows.new.table ≡ record (windows_of windows.old.table)
+    ensures { windows_of windows.new.table ≡ record (windows_of windows.old.table)
         { window = with_change (windows_of windows.old.table).window win.0 (unmarked_lines (among_lines first n)) } }
-    ensures sound { AreSoundWindows (windows_of windows.new.table) }
 {
     match windows.table.wtouchln(win, first, n, false) {
         Ok(()) => {}

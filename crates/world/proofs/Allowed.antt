@@ -28,7 +28,7 @@ passed test e rest h = grind arith
 
 -- ---- a free number
 
-free-number : (n k : ℕ) (window : WindowMap) (w : ℕ) → free_among n k window ≡ Some w → window w ≡ None
+pub free-number : (n k : ℕ) (window : WindowMap) (w : ℕ) → free_among n k window ≡ Some w → window w ≡ None
 free-number zero k window w is = cc
 free-number (suc n) k window w is = grind (arith, (free-number n (k + 1) window w))
 

@@ -2,8 +2,7 @@
 use Rattle.std.proofs.Common.{◌≡◌, ℕ, zero, suc, false, ◌==◌, Option, Some, refl, arith}
 use Rattle.std.specs.List.{list_any}
 use Rattle.std.proofs.lemmas.Bool.{eqb-false}
-use Rattle.world.specs.Windows.{Window, WindowMap, Windows, GridPlace, ancestors_within, cell_at, derives, own_within}
-use Rattle.world.specs.Windows.{with_window, window_limit}
+use Rattle.world.specs.Windows.{Window, WindowMap, Windows, GridPlace, ancestors_within, cell_at, derives, own_within, with_window, window_limit}
 use Rattle.world.specs.Effects.{shifted_to}
 
 pub replaced-off : (window : WindowMap) (w : ℕ) (o : Option Window) (v : ℕ) → (v ≡ w → ⊥) → with_window window w o v ≡ window v

@@ -42,3 +42,19 @@ pub mod PanelExamples
 pub mod CopyExamples
 -- What noutrefresh and pnoutrefresh do to small screens, for a reader of the definitions
 pub mod RefreshExamples
+-- what each effect requires so that it leaves a sound world, for worlds_stay_sound, as the files below
+pub mod Fits
+-- that what windows show and drawings have are cells
+pub mod SoundCells
+-- that the tests of the calls that write and copy ensure what their effects require
+pub mod FitsCalls
+-- that edits and marks leave sound windows
+pub mod SoundEdits
+-- that making, deleting, moving and shifting do
+pub mod SoundMaking
+-- that orders leave sound panels
+pub mod SoundOrders
+-- that refreshing leaves a sound virtual screen
+pub mod SoundScreens
+-- that effects and calls leave sound worlds
+pub mod SoundCalls

@@ -69,7 +69,7 @@ module _ (window : WindowMap) (w : ℕ) (none : (v : ℕ) → option_map_or (λ 
   underived zero u = refl
   underived (suc n) u = grind (arith, or_from, (none u), (underived n))
 
-no-part : (windows : Windows) (w : ℕ) → AreSoundWindows windows → has_derived windows.window w ≡ false
+pub no-part : (windows : Windows) (w : ℕ) → AreSoundWindows windows → has_derived windows.window w ≡ false
     → (v : ℕ) → option_map_or (λ a. is_part_of w a.backing) (windows.window v) false ≡ false
 unfolding window_limit
 no-part windows w sound none v = false_from_ne_true _ (λ derives_v.

@@ -1,13 +1,11 @@
 -- No effect changes the size of the screen, and so no call.
-use Rattle.std.proofs.Common.{arith}
-use Rattle.std.proofs.Common.{◌≡◌, ℕ, Option, List, [], ◌∷◌}
+use Rattle.std.proofs.Common.{arith, ◌≡◌, ℕ, Option, List, [], ◌∷◌}
 use Rattle.std.specs.Option.{option_map_or}
 use Rattle.world.specs.Windows.{Window, Windows}
 use Rattle.world.specs.Panels.{Panels}
 use Rattle.world.specs.World.{World}
 use Rattle.world.specs.Typing.{after_text}
-use Rattle.world.specs.Effects.{Change, Edit, Effect, Order, after, after_change, after_edit}
-use Rattle.world.specs.Effects.{windows_after}
+use Rattle.world.specs.Effects.{Change, Edit, Effect, Order, after, after_change, after_edit, windows_after}
 use Rattle.world.specs.calls.Dispatch.{world_after}
 use Rattle.world.specs.declared.call.Call.{Call}
 
@@ -35,7 +33,7 @@ size-change windows change = grind (arith, size-edit)
 pub size-order : (windows : Windows) (panels : Panels) (order : Order) → SameSize (windows_after windows panels order) windows
 size-order windows panels order = grind (arith, size-change)
 
-size-effect : (world : World) (effect : Effect) → SameSize (after world effect).windows world.windows
+pub size-effect : (world : World) (effect : Effect) → SameSize (after world effect).windows world.windows
 size-effect world effect = grind (arith, size-text)
 
 pub size-call : (world : World) (call : Call) → SameSize (world_after world call).windows world.windows

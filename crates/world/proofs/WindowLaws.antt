@@ -1,6 +1,5 @@
 -- Laws of windows that share cells.
-use Rattle.std.proofs.Common.{◌≡◌, ℕ, zero, suc, ◌+◌, ◌<◌, Bool, false, if◌then◌else◌, ◌==◌, ◌&&◌, ◌||◌, nat_lt, Option, Some, None, is_some, IsSome}
-use Rattle.std.proofs.Common.{ap, arith, refl, sym, ◌∙◌}
+use Rattle.std.proofs.Common.{◌≡◌, ℕ, zero, suc, ◌+◌, ◌<◌, Bool, false, if◌then◌else◌, ◌==◌, ◌&&◌, ◌||◌, nat_lt, Option, Some, None, is_some, IsSome, ap, arith, refl, sym, ◌∙◌}
 use Rattle.std.specs.Prelude.{option_and_then}
 use Rattle.std.specs.Option.{option_map}
 use mathlib.Core.Path.{fun_ext}
@@ -86,10 +85,6 @@ nothing-at w a spot f u o h = grind (arith, touched-nothing)
 
 pub put-nothing : (window : WindowMap) (w : ℕ) (f : Drawing) → ((y x : ℕ) → f y x ≡ None) → put_windows window w f ≡ window
 put-nothing window w f h = grind (arith, nothing-at)
-
--- a write leaves each window its size
-pub HasPlace-put : (window : WindowMap) (w : ℕ) (f : Drawing) (u y x : ℕ) → HasPlace window u y x → HasPlace (put_windows window w f) u y x
-HasPlace-put window w f u y x h = grind arith
 
 -- a chain ends in a window with a grid of its own
 abbrev pub Ends : WindowMap → GridPlace → Type 0

@@ -22,7 +22,7 @@ use Rattle.world.specs.declared.settings.Settings.{Settings}
 
 -- ---- what stays
 
-put-view : (window : WindowMap) (w : ℕ) (f : Drawing) → SameView (put_windows window w f) window
+pub put-view : (window : WindowMap) (w : ℕ) (f : Drawing) → SameView (put_windows window w f) window
 put-view window w f = grind (arith, (outline-put window w f), (own-put window w f))
 
 -- ---- a frame lies in its window

@@ -1,4 +1,4 @@
--- The sound worlds: those that there can be. The world of a desk is sound, and every call leaves it so.
+-- The sound worlds: those that there can be. Each call leaves a sound world sound.
 use Rattle.std.specs.Prelude.{◌≡◌, ◌≢◌, ℕ, ◌+◌, ◌<◌, ◌≤◌, Option, Some, None, is_some, IsSome, IsSomeAnd, MatchOption, ⊤, All, AllPairs}
 use Rattle.cell.specs.Attributes.{bits_of}
 use Rattle.cell.specs.Glyphs.{Glyph, IsCell}

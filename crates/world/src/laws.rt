@@ -152,3 +152,8 @@ pub fn unmarked_picture()
     ensures cursor { (window : WindowMap) (ws : List ℕ) (panels : Panels)
         → cursor_of_topmost (with_unmarked window ws) panels ≡ cursor_of_topmost window panels }
 {}
+
+/// Each call that isn't refused leaves a sound world sound.
+pub fn worlds_stay_sound()
+    ensures { (world : World) (call : Call) → IsSound world → refusal world call ≡ None → IsSound (world_after world call) }
+{}

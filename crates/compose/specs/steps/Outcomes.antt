@@ -1,11 +1,11 @@
 -- A call made on windows, with what it affects of what is shown, and one with what it damages; and a call on panels.
-use Rattle.std.specs.Prelude.{◌≡◌, ℕ, IfOk, OnErr, OnOk, Option, Some, List, Result}
+use Rattle.std.specs.Prelude.{◌≡◌, IfOk, OnErr, OnOk, Option, List, Result}
 use Rattle.std.specs.Result.{result_err}
 use Rattle.cell.specs.declared.refusal.Refusal.{Refusal}
 use Rattle.world.specs.Effects.{Change, asks, changes, order_reply, order_takes_memory, windows_after}
 use Rattle.world.specs.Panels.{Panels}
 use Rattle.world.specs.Replies.{no_answer}
-use Rattle.world.specs.Sound.{AreSoundPanels, AreSoundWindows}
+use Rattle.world.specs.Sound.{AreSoundWindows}
 use Rattle.world.specs.calls.Affected.{change_shows_at, order_shows_at}
 use Rattle.world.specs.calls.Queries.{query_refusal, query_reply}
 use Rattle.world.specs.calls.Refused.{Refused}
@@ -45,7 +45,6 @@ pub record Ordered {T : Type 0} (reply_of : T → Reply) (old : WindowTable) (ol
   pub unchanged : OnErr r (new ≡ old)
   pub unordered : OnErr r (new_panels ≡ old_panels)
   pub sound : AreSoundWindows (windows new)
-  pub sound_panels : AreSoundPanels (windows new).window (panels new_panels)
 
 -- It was, with this answer. Only the proofs of a kind of call, and of what is damaged, look into it.
 unfoldable pub Rearranges : WindowTable → PanelTable → Stacking → Result Reply Refusal → WindowTable → PanelTable → Type 0
@@ -61,18 +60,17 @@ abbrev pub AnswersCall : {T : Type 0} → (T → Reply) → Result T Refusal →
 AnswersCall reply_of r answer =
     (old new : WindowTable) (ps after : PanelTable) (stacking : Stacking) → Ordered reply_of old ps stacking r new after → Rearranges old ps stacking answer new after
 
--- of one that a stack of panels made alone, and that gave no panel a window
+-- of one that a stack of panels made alone
 abbrev pub AnswersOrder : Result (Unit {0}) Refusal → Result Reply Refusal → Type 0
 AnswersOrder r answer =
-    (table : WindowTable) (ps after : PanelTable) (stacking : Stacking) → AreSoundWindows (windows table) → AreSoundPanels (windows table).window (panels ps)
+    (table : WindowTable) (ps after : PanelTable) (stacking : Stacking) → AreSoundWindows (windows table)
     → Arranged no_answer (stacking_tests (windows table) (panels ps) stacking) ps stacking r after
-    → windows_after (windows table) (panels ps) (stacking_order (panels ps) stacking) ≡ windows table
-    → ((p w : ℕ) → (after_stacking (panels ps) stacking).window p ≡ Some w → (panels ps).window p ≡ Some w) → Rearranges table ps stacking answer table after
+    → windows_after (windows table) (panels ps) (stacking_order (panels ps) stacking) ≡ windows table → Rearranges table ps stacking answer table after
 
 -- of one that asks about panels
 abbrev pub AnswersQuery : {T : Type 0} → (T → Reply) → Result T Refusal → Result Reply Refusal → Type 0
 AnswersQuery reply_of r answer =
-    (table : WindowTable) (ps : PanelTable) (query : Stacking) → AreSoundWindows (windows table) → AreSoundPanels (windows table).window (panels ps)
+    (table : WindowTable) (ps : PanelTable) (query : Stacking) → AreSoundWindows (windows table)
     → result_err r ≡ stacking_refusal (windows table) (panels ps) query → stacking_order (panels ps) query ≡ changes (asks (order_reply (stacking_order (panels ps) query)))
     → IfOk r (λ t. reply_of t ≡ order_reply (stacking_order (panels ps) query)) → Rearranges table ps query answer table ps
 

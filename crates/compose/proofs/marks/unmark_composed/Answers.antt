@@ -16,8 +16,7 @@ loop-panel-init c =
     record {
       can_next = tt;
       is_finite = tt;
-      sound = c.unmark.ensures.sound;
-      left = still-left (windows c.args.table.now) (windows c.unmark.new.table) standard_screen (windows_from_top ps) c.unmark.ensures.unmarked
+      left = still-left (windows c.args.table.now) (windows c.unmark.new.table) standard_screen (windows_from_top ps) c.unmark.ensures
           ∙ ap (λ (order : List ℕ). record (windows c.unmark.new.table) { window = with_unmarked (windows c.unmark.new.table).window (filter_map ps.window order) }) (sym is);
     }
 
@@ -32,8 +31,7 @@ loop-panel-preserved-in-Ok c =
     record {
       can_next = tt;
       is_finite = tt;
-      sound = c.unmark-in-Ok.ensures.sound;
       left = c.loop-panel.invariant.left
           ∙ ap (λ (left : List ℕ). record now { window = with_unmarked now.window left }) ws
-          ∙ still-left now new c.in-Ok.win.0 (filter_map ps.window c.next.new.self) c.unmark-in-Ok.ensures.unmarked;
+          ∙ still-left now new c.in-Ok.win.0 (filter_map ps.window c.next.new.self) c.unmark-in-Ok.ensures;
     }

@@ -1,7 +1,6 @@
 use Rattle.std.proofs.Common.{◌≡◌, ◌∷◌}
 use Rattle.std.specs.List.{filter_map}
 use Rattle.world.specs.Panels.{standard_screen, windows_from_top}
-use Rattle.world.specs.Sound.{AreSoundWindows}
 use Rattle.world.specs.Effects.{with_unmarked}
 use Rattle.grids.specs.Tables.{windows}
 use Rattle.stack.specs.Tables.{panels}
@@ -12,7 +11,6 @@ abbrev pub invariant-loop-panel : goal.invariant-loop-panel
 invariant-loop-panel l = record {
   can_next : (goal.iterator-loop-panel).can_next l.panel-iterator;
   is_finite : (goal.iterator-loop-panel).is_finite l.panel-iterator;
-  sound : AreSoundWindows (windows l.table);
   left : record (windows l.fn.table) { window = with_unmarked (windows l.fn.table).window (standard_screen ∷ windows_from_top (panels l.stack)) }
       ≡ record (windows l.table) { window = with_unmarked (windows l.table).window (filter_map (panels l.stack).window l.panel-iterator) };
 }

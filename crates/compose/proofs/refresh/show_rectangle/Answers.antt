@@ -42,8 +42,8 @@ loop-y-preserved c =
     (pad-piece ws w a.source.line a.source.column a.frame.top a.frame.left a.frame.bottom a.frame.right h y c.loop-y-test.true)
     c.show_piece.ensures.shown c.show_piece.ensures.size)
 
-pub returns-clause-shown : goal.returns-clause-shown
-returns-clause-shown c =
+pub returns : goal.returns
+returns c =
     let a = c.args in
     let table = a.table.now in
     let ws = windows table in

@@ -34,8 +34,8 @@ loop-y-preserved c =
           (bare-untouched ws w (a.top, a.left) c.in-Ok.lines placed y (sym s.in_default-touched_columns.ensures.columns)))
     ])
 
-pub returns-clause-shown : goal.returns-clause-shown
-returns-clause-shown c =
+pub returns : goal.returns
+returns c =
     let a = c.args in
     let table = a.table.now in
     let ws = windows table in

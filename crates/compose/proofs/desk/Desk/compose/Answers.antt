@@ -28,34 +28,14 @@ new c = record (the_view c.self.inside) {
 
 pub show_damaged-cells-requires : goal.show_damaged-cells-requires
 show_damaged-cells-requires c κs =
-    let d = c.self.inside in
-    let h = c.self.invariant in
-    let ps = panels d.stack in
-    let back = sym c.of-rows.ensures.windows in
-    let lines = ap (λ (ws : Windows). ws.lines) back in
-    let columns = ap (λ (ws : Windows). ws.columns) back in (
-      (refl, record {}),
-      (
-        subst AreSoundWindows back h.sound.windows,
-        (
-          subst (λ (ws : Windows). AreSoundPanels ws.window ps) back h.sound.panels,
-          (
-            ap (λ (p : ℕ × ℕ). p.0) c.screen_size-lines.ensures ∙ lines,
-            (
-              h.covered.height ∙ lines,
-              (
-                λ y. subst (λ n. AreColumnsWithin n (columns_of d.damage y)) columns (h.covered.within y),
-                (
-                  subst (λ (ws : Windows). HasSize ws.lines ws.columns d.picture) back h.sound.virtual.size,
-                  subst (λ (ws : Windows). (y x : ℕ) → y < ws.lines → x < ws.columns → has_damage_at d.damage y x ≡ false
-                      → shown_at d.picture (y, x) ≡ shown d.pairs (found_from_top ws.window ps y x)) back h.covered.shown,
-                ),
-              ),
-            ),
-          ),
-        ),
-      ),
-    )
+    let d = c.self.inside in let h = c.self.invariant in let back = sym c.of-rows.ensures.windows in let lines = ap (λ (ws : Windows). ws.lines) back in
+    let stacked = subst (λ (ws : Windows). AreSoundPanels ws.window (panels d.stack)) back h.sound.panels in
+    let within = λ (y : ℕ). subst (λ (ws : Windows). AreColumnsWithin ws.columns (columns_of d.damage y)) back (h.covered.within y) in
+    let size = subst (λ (ws : Windows). HasSize ws.lines ws.columns d.picture) back h.sound.virtual.size in
+    let shows = subst (λ (ws : Windows). (y x : ℕ) → y < ws.lines → x < ws.columns → has_damage_at d.damage y x ≡ false
+    → shown_at d.picture (y, x) ≡ shown d.pairs (found_from_top ws.window (panels d.stack) y x)) back h.covered.shown in
+    let high = ap (λ (p : ℕ × ℕ). p.0) c.screen_size-lines.ensures ∙ lines in
+    ((refl, record {}), (subst AreSoundWindows back h.sound.windows, (stacked, (high, (h.covered.height ∙ lines, (within, (size, shows)))))))
 
 left : (c : goal.After-unmark_composed) → world (new c) ≡ world_after (world (the_view c.self.inside)) (calls.Refresh UpdatePanels)
 left c =
@@ -69,10 +49,9 @@ left c =
 made : (c : goal.After-unmark_composed)
     → IsDesk (new c) × Called (the_view c.self.inside) (calls.Refresh UpdatePanels) (Ok (Composed (record { cells = c.show_damaged-cells.result }))) (new c)
 made c =
-    let was = c.of-rows.ensures.windows in
-    update-made (the_view c.self.inside) (new c) c.show_damaged-cells.result c.self.invariant (left c) c.unmark_composed.ensures.sound c.show_damaged-cells.ensures.cells
-    (c.show_damaged-cells.ensures.height ∙ ap (λ (ws : Windows). ws.lines) was) c.show_damaged-cells.ensures.none
-    (c.show_damaged-cells.ensures.read ∙ ap (λ (ws : Windows). cells_above c.self.inside.damage ws.lines) was)
+    let done = c.show_damaged-cells.ensures in let was = c.of-rows.ensures.windows in
+    update-made (the_view c.self.inside) (new c) c.show_damaged-cells.result c.self.invariant (left c) (done.height ∙ ap (λ (ws : Windows). ws.lines) was) done.none
+    (done.read ∙ ap (λ (ws : Windows). cells_above c.self.inside.damage ws.lines) was)
 
 pub invariant_of-self : goal.invariant_of-self
 invariant_of-self c = (made c).0

@@ -1,5 +1,5 @@
 -- `owner_span`: lemmas of std alone.
-use Rattle.std.proofs.Common.{ℕ, refl, ap, sym, subst, arith}
+use Rattle.std.proofs.Common.{refl, sym, subst, arith}
 use Rattle.world.specs.Windows.{Windows}
 use Rattle.grids.specs.Tables.{windows as windows_of}
 use Rattle.stack.specs.Tables.{panels}
@@ -9,13 +9,6 @@ use Rattle.compose.proofs.desk.Desk.owner_span.Goals as goal
 
 pub owner_span-requires : goal.owner_span-requires
 owner_span-requires c κs =
-    let d = c.self.inside in
-    let ps = panels d.stack in
-    let inside = c.requires.column in
-    let columns = ap (λ (p : ℕ × ℕ). p.1) c.size-columns.ensures.size in (
-      (refl, record {}),
-      (
-        subst (λ (ws : Windows). HasPanelWindows ws.window ps) (sym c.of-rows.ensures.windows) (sound-windows (windows_of d.windows.table).window ps c.self.invariant.sound.panels),
-        omega (arith, inside, columns),
-      ),
-    )
+    let d = c.self.inside in let ps = panels d.stack in let inside = c.requires.column in let size = c.size-columns.ensures.size in
+    let owned = subst (λ (ws : Windows). HasPanelWindows ws.window ps) (sym c.of-rows.ensures.windows) (sound-windows (windows_of d.windows.table).window ps c.self.invariant.sound.panels) in
+    ((refl, record {}), (owned, grind (arith, inside, size)))

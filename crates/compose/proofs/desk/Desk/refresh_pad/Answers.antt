@@ -1,11 +1,7 @@
--- `refresh_pad`: the virtual screen stays sound (`Composed`), and the rectangle that is damaged is what the copy draws (`Padding`), which
--- covers what the call may change (`DamageCovers`).
-use Rattle.std.proofs.Common.{rules, ◌≡◌, ◌-◌, ◌+◌, ◌||◌, false, Ok, None, refl}
+-- `refresh_pad`: the rectangle that is damaged is what the copy draws (`Padding`), which covers what the call may change (`DamageCovers`).
+use Rattle.std.proofs.Common.{rules, ◌≡◌, ◌||◌, Ok, None, refl}
 use Rattle.cell.specs.declared.window.Rect.{Rect}
-use Rattle.world.specs.Windows.{Drawing}
-use Rattle.world.specs.calls.Copying.{copywin_drawing}
-use Rattle.world.specs.calls.Dispatch.{world_after}
-use Rattle.world.specs.calls.Refresh.{among_lines, refresh_refusal}
+use Rattle.world.specs.calls.Refresh.{refresh_refusal}
 use Rattle.world.specs.declared.call.Call.TheVariants as calls
 use Rattle.world.specs.declared.call.Refresh.{Refresh}
 use Rattle.world.specs.declared.call.Refresh.TheVariants.{Pnoutrefresh}
@@ -13,9 +9,8 @@ use Rattle.world.specs.declared.call.Reply.TheVariants.{Nothing}
 use Rattle.grids.specs.Tables.{windows}
 use Rattle.compose.specs.Calling.{Called}
 use Rattle.compose.specs.Covers.{IsDesk}
-use Rattle.compose.specs.Desks.{DeskTable, world}
+use Rattle.compose.specs.Desks.{DeskTable}
 use Rattle.compose.specs.contracts.desk.Desk.{the_view}
-use Rattle.compose.proofs.Composed.{sound-refreshed}
 use Rattle.compose.proofs.DamageCovers.{call-accepted}
 use Rattle.compose.proofs.Padding.{pad-damages}
 use Rattle.compose.proofs.RefreshedLines.{of-pad}
@@ -31,26 +26,15 @@ new c = record (the_view c.self.inside) {
 abbrev refresh : goal.After-unmark_lines → Refresh
 refresh c = Pnoutrefresh c.args.pad c.args.pminrow c.args.pmincol c.args.sminrow c.args.smincol c.args.smaxrow c.args.smaxcol
 
-accepted : (c : goal.After-unmark_lines) → refresh_refusal (windows c.self.inside.windows.table) (refresh c) ≡ None
-accepted c = search rules
-
-left : (c : goal.After-unmark_lines) → world (new c) ≡ world_after (world (the_view c.self.inside)) (calls.Refresh (refresh c))
-left c = search rules
-
 made : (c : goal.After-unmark_lines) → IsDesk (new c) × Called (the_view c.self.inside) (calls.Refresh (refresh c)) (Ok Nothing) (new c)
 made c =
-    let a = c.args in
-    let h = c.self.invariant in
-    let old : DeskTable = the_view c.self.inside in
-    let ws = windows c.self.inside.windows.table in
+    let a = c.args in let h = c.self.invariant in let ws = windows c.self.inside.windows.table in
     let frame : Rect = record { top = a.sminrow; left = a.smincol; bottom = a.smaxrow; right = a.smaxcol } in
-    let drawing : Drawing = copywin_drawing ws.window a.pad.0 a.pminrow a.pmincol a.sminrow a.smincol a.smaxrow a.smaxcol false in
-    let of = of-pad ws a.pad.0 a.pminrow a.pmincol a.sminrow a.smincol a.smaxrow a.smaxcol h.sound.windows (accepted c) in
-    call-accepted old (new c) (calls.Refresh (refresh c)) h (accepted c) refl (left c)
-    (pad-damages ws a.pad.0 a.pminrow a.pmincol a.sminrow a.smincol a.smaxrow a.smaxcol of frame refl refl refl refl c.self.inside.damage c.damage_part.new.damage
-    (c.damage_part.ensures.damaged ws.columns of.on_column)) Nothing refl
-    (sound-refreshed (world old) (world (new c)) a.pad.0 (among_lines a.pminrow (a.smaxrow - a.sminrow + 1)) drawing c.self.inside.cursor h.sound (left c) c.unmark_lines.ensures.sound
-    c.show_rectangle.ensures.cells (h.sound.virtual.line, h.sound.virtual.column))
+    let accepted : refresh_refusal ws (refresh c) ≡ None = search rules in
+    let of = of-pad ws a.pad.0 a.pminrow a.pmincol a.sminrow a.smincol a.smaxrow a.smaxcol h.sound.windows accepted in
+    let damaged = c.damage_part.ensures.damaged ws.columns of.on_column in
+    call-accepted (the_view c.self.inside) (new c) (calls.Refresh (refresh c)) h accepted refl (search rules)
+    (pad-damages ws a.pad.0 a.pminrow a.pmincol a.sminrow a.smincol a.smaxrow a.smaxcol of frame refl refl refl refl c.self.inside.damage c.damage_part.new.damage damaged) Nothing refl
 
 pub invariant_of-self : goal.invariant_of-self
 invariant_of-self c = (made c).0

@@ -1,8 +1,5 @@
 -- `set_colours`: the whole screen is damaged, which covers what the call may change (`DamageCovers`).
-use Rattle.std.proofs.Common.{rules, ◌≡◌, ◌<◌, true, Ok, None, refl, subst, ◌∙◌}
-use Rattle.cell.specs.Refusals.{first_of}
-use Rattle.world.specs.calls.Dispatch.{world_after}
-use Rattle.world.specs.calls.Refresh.{colour_tests}
+use Rattle.std.proofs.Common.{rules, ◌<◌, true, Ok, refl, subst, ◌∙◌}
 use Rattle.world.specs.declared.call.Call.{Call}
 use Rattle.world.specs.declared.call.Call.TheVariants as calls
 use Rattle.world.specs.declared.call.Refresh.TheVariants.{InitPair}
@@ -13,7 +10,7 @@ use Rattle.picture.proofs.DamageLaws.{damages-as, part-right}
 use Rattle.picture.proofs.Standard.{standard-holds}
 use Rattle.compose.specs.Calling.{Called}
 use Rattle.compose.specs.Covers.{IsDesk}
-use Rattle.compose.specs.Desks.{DeskTable, world}
+use Rattle.compose.specs.Desks.{DeskTable}
 use Rattle.compose.specs.contracts.desk.Desk.{the_view}
 use Rattle.compose.proofs.DamageCovers.{call-accepted}
 use Rattle.compose.proofs.desk.Desk.set_colours.Goals as goal
@@ -26,18 +23,10 @@ call c = calls.Refresh (InitPair c.args.pair c.args.foreground c.args.background
 
 made : (c : goal.After-damage_part) → IsDesk (new c) × Called (the_view c.self.inside) (call c) (Ok Nothing) (new c)
 made c =
-    let d = c.self.inside in
-    let a = c.args in
-    let h = c.self.invariant in
-    let t = d.windows.table in
-    let part = c.window_part-part.result in
-    let accepted : first_of (colour_tests a.pair a.foreground a.background) ≡ None = search rules in
-    let left : world (new c) ≡ world_after (world (the_view d)) (call c) = search rules in
-    call-accepted (the_view d) (new c) (call c) h accepted refl left
-    (damages-as t.columns (part_holds part) (λ y x. true) d.damage c.damage_part.new.damage
-    (c.damage_part.ensures.damaged t.columns (part-right t.lines t.columns part c.window_part-part.ensures.within))
-    (λ y x below inside is. c.window_part-part.ensures.holds y x ∙ standard-holds (windows_of t) y x h.sound.windows (subst (λ n. y < n) h.covered.height below) inside)
-    (λ y x left is. refl)) Nothing refl (record { windows = h.sound.windows; panels = h.sound.panels; pairs = c.set.ensures.sound; virtual = h.sound.virtual })
+    let d = c.self.inside in let h = c.self.invariant in let t = d.windows.table in let part = c.window_part-part.result in let is = c.window_part-part.ensures in
+    call-accepted (the_view d) (new c) (call c) h (search rules) refl (search rules)
+    (damages-as t.columns (part_holds part) (λ y x. true) d.damage c.damage_part.new.damage (c.damage_part.ensures.damaged t.columns (part-right t.lines t.columns part is.within))
+    (λ y x below inside shown. is.holds y x ∙ standard-holds (windows_of t) y x h.sound.windows (subst (λ n. y < n) h.covered.height below) inside) (λ y x left held. refl)) Nothing refl
 
 pub invariant_of-self : goal.invariant_of-self
 invariant_of-self c = (made c).0

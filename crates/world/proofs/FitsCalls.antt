@@ -1,0 +1,34 @@
+-- The tests of the calls that write and copy ensure what their effects require.
+use Rattle.std.proofs.Common.{◌≡◌, ℕ, true, Some, None, arith}
+use Rattle.std.proofs.lemmas.Bool.Decides.{nat_tests}
+use Rattle.std.proofs.lemmas.Nat.{and_le_l, and_le_r}
+use Rattle.cell.specs.Glyphs.{IsCell, is_printable}
+use Rattle.world.specs.Drawings.{written_glyph}
+use Rattle.world.specs.Windows.{Window, Windows}
+use Rattle.world.specs.Sound.{AreSettingsWithin, AreSoundWindows}
+use Rattle.world.specs.calls.Copying.{copying_change, copying_refusal}
+use Rattle.world.specs.calls.Writing.{writing_edit, writing_refusal}
+use Rattle.world.proofs.Allowed.{passed}
+use Rattle.world.proofs.Fits.{FitsChange, FitsEdit}
+use Rattle.world.proofs.SoundCells.{IsCell-written, attributes-or, copied-cells, held-cell, overlaid, shown, touched-within}
+use Rattle.world.specs.declared.call.Copying.{Copying}
+use Rattle.world.specs.declared.call.Writing.{Writing}
+use Rattle.world.specs.declared.call.Writing.TheVariants.{Insch}
+
+-- ---- the calls that write
+
+module _ (windows : Windows) (sound : AreSoundWindows windows) (w : ℕ) (a : Window) (there : windows.window w ≡ Some a) where
+  within : AreSettingsWithin a.lines a.columns a.settings
+  within = let here = sound.each w in grind arith
+
+  written : (character : ℕ) → is_printable character ≡ true → IsCell (written_glyph a.settings character)
+  written character printable = IsCell-written _ _ a.settings character within printable
+
+pub fits-writing : (windows : Windows) (writing : Writing) → AreSoundWindows windows → writing_refusal windows writing ≡ None → FitsEdit windows (writing_edit windows writing)
+fits-writing windows (Insch win character) sound accepted = grind (arith, nat_tests, passed, shown, written)
+fits-writing windows writing sound accepted = grind (arith, nat_tests, passed, attributes-or, and_le_l, and_le_r, within, shown)
+
+-- ---- the calls that copy and mark
+
+pub fits-copying : (windows : Windows) (copying : Copying) → AreSoundWindows windows → copying_refusal windows copying ≡ None → FitsChange windows (copying_change windows copying)
+fits-copying windows copying sound accepted = grind (arith, passed, held-cell, overlaid, touched-within, copied-cells)

@@ -1,0 +1,84 @@
+-- Refreshing leaves a sound virtual screen sound, and so does each other effect.
+use Rattle.std.proofs.Common.{◌≡◌, ℕ, ◌<◌, Bool, true, false, Option, Some, None, List, [], ◌∷◌, map, arith, zero-add}
+use Rattle.std.specs.Prelude.{if◌then◌else◌, MatchOption, ◌&&◌, find, ⊤}
+use Rattle.std.specs.Option.{option_map_or}
+use Rattle.std.specs.List.{AllByRecursion, range_with_len}
+use Rattle.std.proofs.lemmas.Bool.Decides.{nat_tests}
+use Rattle.std.proofs.lemmas.List.{length-set}
+use Rattle.std.proofs.lemmas.List.Elements.{All-from_recursion, All-from_get_or, All-get_or, recursion_from_All}
+use Rattle.std.proofs.lemmas.List.FromFn.{length-map-range_with_len, get_or-map-range_with_len}
+use Rattle.cell.specs.Glyphs.{Glyph, IsCell}
+use Rattle.cell.specs.Pictures.{Picture, Place, origin, AreShown, HasSize, picture_of, shown_at}
+use Rattle.cell.specs.Shown.{ArePairs, IsShown, Pairs, Shown, shown}
+use Rattle.cell.proofs.PictureLemmas.{HasSize-lines_from, each-set, length-line}
+use Rattle.world.specs.Windows.{Window, WindowMap, Windows}
+use Rattle.world.specs.World.{World, picture}
+use Rattle.world.specs.Panels.{Panels, cursor_from, found_from_top, holds, panel_holds, screen_place, standard_screen, window_or_standard}
+use Rattle.world.specs.Sound.{IsSound, IsSoundVirtual, IsSoundWindow}
+use Rattle.world.specs.Effects.{Effect, after, composes, refreshes, shown_over}
+use Rattle.world.specs.calls.Refresh.{refresh_effect, refresh_refusal}
+use Rattle.world.specs.declared.call.Refresh.{Refresh}
+use Rattle.world.specs.declared.call.Refresh.TheVariants.{Pnoutrefresh}
+use Rattle.world.proofs.Fits.{FitsEffect}
+use Rattle.world.proofs.PictureLaws.{standard-holds}
+use Rattle.world.proofs.SoundCells.{copied-cells, held-cell}
+use Rattle.world.proofs.PlaceLaws.{has_place, there-true}
+
+-- ---- what is shown
+
+shown-is : (pairs : Pairs) (glyph : Glyph) → ArePairs pairs → IsCell glyph → IsShown (shown pairs glyph)
+shown-is pairs glyph h cell = search (arith, All-get_or, All-from_recursion)
+
+over-is : (lines columns : ℕ) (pairs : Pairs) (picture : Picture) (o : Option Glyph) (y x : ℕ) → ArePairs pairs → HasSize lines columns picture → AreShown picture
+    → MatchOption o ⊤ IsCell → y < lines → x < columns → IsShown (option_map_or (shown pairs) o (shown_at picture (y, x)))
+over-is lines columns pairs picture None y x h size old cell below left = search (arith, All-get_or, All-from_recursion, length-line)
+over-is lines columns pairs picture (Some glyph) y x h size old cell below left = shown-is pairs glyph h cell
+
+each-below : {X : Type 0} (P : X → Type 0) (f : ℕ → X) (n : ℕ) → ((k : ℕ) → k < n → P (f k)) → AllByRecursion P (map f (range_with_len 0 n))
+each-below P f n h = search (arith, recursion_from_All, All-from_get_or, length-map-range_with_len, get_or-map-range_with_len, zero-add)
+
+abbrev IsWithin : Windows → Place → Type 0
+IsWithin windows place = (place.0 < windows.lines) × (place.1 < windows.columns)
+
+-- each cell is shown, and the cursor is in the screen
+screen-of : (windows : Windows) (f : ℕ → ℕ → Shown) (cursor : Place) (clear : Bool) → ((y x : ℕ) → y < windows.lines → x < windows.columns → IsShown (f y x)) → IsWithin windows cursor
+    → IsSoundVirtual windows.lines windows.columns (record { picture = picture_of windows.lines windows.columns f; cursor = cursor; clear = clear })
+screen-of windows f cursor clear each within = search (arith, HasSize-lines_from, each-below)
+
+-- ---- the cursor
+
+-- that of a window that is on the screen
+cursor-in : (windows : Windows) (w : ℕ) (o : Option Window) → MatchOption o ⊤ (IsSoundWindow windows w) → has_place o ≡ true
+    → IsWithin windows (option_map_or (cursor_from (option_map_or screen_place o origin)) o origin)
+cursor-in windows w o h there = grind arith
+
+-- ---- the cells
+
+-- the search stops at a window that holds the place
+found-holds : (window : WindowMap) (panels : Panels) (y x : ℕ) (ps : List ℕ) → holds window standard_screen y x ≡ true
+    → holds window (window_or_standard panels (find (panel_holds window panels y x) ps)) y x ≡ true
+found-holds window panels y x [] h = h
+found-holds window panels y x (p ∷ ps) h = grind (arith, (found-holds window panels y x ps))
+
+found-cell : (world : World) → IsSound world → (y x : ℕ) → y < world.windows.lines → x < world.windows.columns
+    → IsCell (found_from_top world.windows.window world.panels y x)
+found-cell world h y x below left = grind (arith, held-cell, found-holds, standard-holds)
+
+-- ---- each effect
+
+pub sound-virtual : (world : World) (effect : Effect) → IsSound world → FitsEffect world effect
+    → IsSoundVirtual world.windows.lines world.windows.columns (after world effect).virtual
+sound-virtual world (refreshes w test drawing cursor) h fits = screen-of world.windows (shown_over world.pairs world.virtual.picture drawing) cursor _
+    (λ y x below left. over-is _ _ world.pairs world.virtual.picture (drawing y x) y x h.pairs h.virtual.size h.virtual.cells (fits.0 y x) below left) (fits.1, fits.2)
+sound-virtual world composes h fits = screen-of world.windows (picture world) _ _
+    (λ y x below left. shown-is world.pairs _ h.pairs (found-cell world h y x below left)) (grind (arith, cursor-in, there-true))
+sound-virtual world effect h fits = grind arith
+
+-- ---- each call
+
+cell-if : (here touched : Bool) (glyph : Glyph) → (here ≡ true → IsCell glyph) → MatchOption (if here && touched then Some glyph else None) ⊤ IsCell
+cell-if here touched glyph h = grind arith
+
+pub fits-refresh : (world : World) (refresh : Refresh) → IsSound world → refresh_refusal world.windows refresh ≡ None → FitsEffect world (refresh_effect world refresh)
+fits-refresh world (Pnoutrefresh pad y x top left bottom right) h accepted = grind (arith, nat_tests, (copied-cells world.windows pad.0 y x top left bottom right false))
+fits-refresh world refresh h accepted = grind (arith, nat_tests, cursor-in, cell-if, held-cell, length-set, each-set)
