@@ -19,10 +19,10 @@ abbrev pub requirement : Form → List ℕ
 requirement Number = codes "a number from 0 to 65535"
 requirement NumberOrNone = codes "a number from 0 to 65535, or none"
 requirement Signed = codes "a number from -32767 to 32767"
-requirement Attributes = codes "two hexadecimal digits from 00 to 3f"
+requirement Attributes = codes "two hexadecimal digits in lower case from 00 to 3f"
 requirement Flag = codes "on or off"
-requirement Character = codes "one character, or one of the escapes \\n, \\r, \\b, \\\\ and \\xHH"
-requirement Text = codes "a text with no escapes but \\n, \\r, \\b, \\\\ and \\xHH"
+requirement Character = codes "one character, or one of the escapes \\n, \\r, \\b, \\\\ and \\xhh in lower case"
+requirement Text = codes "a text with no escapes but \\n, \\r, \\b, \\\\ and \\xhh in lower case"
 
 -- why digits are no number
 abbrev pub digits_reason : List ℕ → List ℕ

@@ -14,6 +14,7 @@ pub fn limits_in_texts()
     ensures none { numeral_in 19 (requirement NumberOrNone) ≡ GREATEST_NUMBER }
     ensures negative { numeral_in 15 (requirement Signed) ≡ GREATEST_SIGNED }
     ensures signed { numeral_in 24 (requirement Signed) ≡ GREATEST_SIGNED }
-    ensures attributes { requirement Attributes ≡ codes "two hexadecimal digits from " ++ hex_digits 0 ++ codes " to " ++ hex_digits ALL_ATTRIBUTES }
+    ensures attributes { requirement Attributes
+        ≡ codes "two hexadecimal digits in lower case from " ++ hex_digits 0 ++ codes " to " ++ hex_digits ALL_ATTRIBUTES }
     ensures line { numeral_in 24 (explanation LineTooLong []) ≡ LONGEST_LINE }
 {}

@@ -27,10 +27,11 @@ pub fn requirement(form: Form) -> &'static [u8]
         Form::Number => b"a number from 0 to 65535",
         Form::NumberOrNone => b"a number from 0 to 65535, or none",
         Form::Signed => b"a number from -32767 to 32767",
-        Form::Attributes => b"two hexadecimal digits from 00 to 3f",
+        Form::Attributes => b"two hexadecimal digits in lower case from 00 to 3f",
         Form::Flag => b"on or off",
-        Form::Character => b"one character, or one of the escapes \\n, \\r, \\b, \\\\ and \\xHH",
-        Form::Text => b"a text with no escapes but \\n, \\r, \\b, \\\\ and \\xHH",
+        Form::Character =>
+            b"one character, or one of the escapes \\n, \\r, \\b, \\\\ and \\xhh in lower case",
+        Form::Text => b"a text with no escapes but \\n, \\r, \\b, \\\\ and \\xhh in lower case",
     }
 }
 
